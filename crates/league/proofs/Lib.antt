@@ -1,0 +1,8 @@
+mod Below
+mod Items
+mod MadeLeagues
+pub mod OnLiterals
+mod Rows
+mod Tables
+mod Texts
+mod Worked

@@ -1,0 +1,51 @@
+-- The leagues that are made are leagues.
+use Rattle.std.proofs.Common.{◌≡◌, ℕ, ◌+◌, ◌%◌, ◌<◌, ◌≤◌, ◌&&◌, ◌==◌, nat_le, List, [], ◌∷◌, length, map, Bool, true, sym, ◌∙◌, zero-add, arith}
+use Rattle.std.proofs.lemmas.Bool.{and_parts, leb-true}
+use Rattle.std.proofs.lemmas.Bool.Decides.{nat_tests}
+use Rattle.std.proofs.lemmas.List.FromFn.{get_or-map-range_with_len, length-map-range_with_len}
+use Rattle.std.specs.List.{range_with_len}
+use Rattle.league.specs.declared.made.Layout.{Layout}
+use Rattle.league.specs.declared.made.Layout.TheVariants.{Circular, Constant}
+use Rattle.league.specs.Limits.{distance_of, is_team_count, IsTable}
+use Rattle.league.specs.League.{league_data, IsLeague}
+use Rattle.league.specs.Made.{apart, made_name, made_names, made_row, made_rows}
+use Rattle.league.proofs.Tables.{HasColumns, IsTable-from_within}
+
+columns : (layout : Layout) (n : ℕ) (places : List ℕ) → HasColumns n (map (made_row layout n) places)
+columns layout n [] = tt
+columns layout n (a ∷ places) = (length-map-range_with_len (apart layout n a) 0 n, columns layout n places)
+
+distance_of-made_rows : (layout : Layout) (n a b : ℕ) → a < n → b < n → distance_of (made_rows layout n) a b ≡ apart layout n a b
+distance_of-made_rows layout n a b a_below b_below =
+    rw (get_or-map-range_with_len (made_row layout n) 0 n a a [] a_below (zero-add a)) (get_or-map-range_with_len (apart layout n a) 0 n b b 0 b_below (zero-add b))
+
+near : (layout : Layout) (n a b : ℕ) → n ≤ 40 → apart layout n a b ≤ 1000000
+unfolding apart
+near Circular n a b most = omega arith
+near Constant n a b most = grind (arith, nat_tests)
+
+diagonal : (layout : Layout) (n a : ℕ) → apart layout n a a ≡ 0
+unfolding apart
+diagonal Circular n a = omega arith
+diagonal Constant n a = grind (arith, nat_tests)
+
+symmetric : (layout : Layout) (n a b : ℕ) → apart layout n a b ≡ apart layout n b a
+unfolding apart
+symmetric Circular n a b = omega arith
+symmetric Constant n a b = grind (arith, nat_tests)
+
+IsTable-made_rows : (layout : Layout) (n : ℕ) → is_team_count n ≡ true → IsTable n (made_rows layout n)
+IsTable-made_rows layout n counted =
+    IsTable-from_within n (made_rows layout n) counted (length-map-range_with_len (made_row layout n) 0 n) (columns layout n (range_with_len 0 n))
+    (λ a b a_below b_below. rw (distance_of-made_rows layout n a b a_below b_below) (near layout n a b (leb-true n 40 (and_parts (nat_le 4 n) (nat_le n 40) (and_parts (n % 2 == 0) (nat_le 4 n && nat_le n 40) counted).1).1)))
+    (λ a below. distance_of-made_rows layout n a a below below ∙ diagonal layout n a)
+    (λ a b a_below b_below. distance_of-made_rows layout n a b a_below b_below ∙ symmetric layout n a b ∙ sym (distance_of-made_rows layout n b a b_below a_below))
+
+pub IsLeague-made : (layout : Layout) (n : ℕ) → is_team_count n ≡ true → IsLeague (league_data (made_names n) (made_rows layout n) 3 100)
+IsLeague-made layout n counted = record {
+  table = rw (length-map-range_with_len made_name 0 n) (IsTable-made_rows layout n counted);
+  at_most_least = omega arith;
+  at_most_most = omega arith;
+  weight_least = omega arith;
+  weight_most = omega arith;
+}

@@ -1,0 +1,105 @@
+-- Worked leagues and faults, by computation.
+use Rattle.std.proofs.Common.{◌≡◌, ℕ, List, [], ◌∷◌, ◌++◌, take, Ok, Err, refl}
+use Rattle.std.specs.Prelude.{codes}
+use Rattle.league.specs.declared.fault.Field.TheVariants.{Whole, Format, Teams, AtMost, Rules}
+use Rattle.league.specs.declared.fault.LeagueFault.TheVariants.{NotJson, MissingField, WrongKind, TeamCount, DistanceShape, DistanceRange, Diagonal, Asymmetric, RuleClass}
+use Rattle.league.specs.League.{league_data, league_of}
+use Rattle.league.specs.Made.{circular_of, constant_of}
+use Rattle.league.proofs.OnLiterals.{league_on_literals}
+
+abbrev four_names : List (List ℕ)
+four_names = codes "T1" ∷ codes "T2" ∷ codes "T3" ∷ codes "T4" ∷ []
+
+pub circular_of-four : circular_of 4 ≡ Ok (league_data four_names
+    ((0 ∷ 1 ∷ 2 ∷ 1 ∷ []) ∷ (1 ∷ 0 ∷ 1 ∷ 2 ∷ []) ∷ (2 ∷ 1 ∷ 0 ∷ 1 ∷ []) ∷ (1 ∷ 2 ∷ 1 ∷ 0 ∷ []) ∷ []) 3 100)
+unfolding league_on_literals
+circular_of-four = refl
+
+pub constant_of-four : constant_of 4 ≡ Ok (league_data four_names
+    ((0 ∷ 1 ∷ 1 ∷ 1 ∷ []) ∷ (1 ∷ 0 ∷ 1 ∷ 1 ∷ []) ∷ (1 ∷ 1 ∷ 0 ∷ 1 ∷ []) ∷ (1 ∷ 1 ∷ 1 ∷ 0 ∷ []) ∷ []) 3 100)
+unfolding league_on_literals
+constant_of-four = refl
+
+pub circular_of-none : circular_of 0 ≡ Err TeamCount
+unfolding league_on_literals
+circular_of-none = refl
+
+pub constant_of-five : constant_of 5 ≡ Err TeamCount
+unfolding league_on_literals
+constant_of-five = refl
+
+pub circular_of-forty_two : circular_of 42 ≡ Err TeamCount
+unfolding league_on_literals
+circular_of-forty_two = refl
+
+-- the text of four teams with these distances and further members
+abbrev four_teams : List ℕ → List ℕ → List ℕ
+four_teams distances more = codes "{\"format\":1,\"teams\":[\"T1\",\"T2\",\"T3\",\"T4\"],\"distances\":" ++ distances ++ more ++ codes "}"
+
+abbrev circle : List ℕ
+circle = codes "[[0,1,2,1],[1,0,1,2],[2,1,0,1],[1,2,1,0]]"
+
+pub league_of-four : league_of (four_teams circle []) ≡ circular_of 4
+unfolding league_on_literals
+league_of-four = refl
+
+pub league_of-far : league_of (four_teams (codes "[[0,1000000,0,0],[1000000,0,0,0],[0,0,0,0],[0,0,0,0]]") (codes ",\"at_most\":78,\"hard_weight\":1000000")) ≡ Ok (league_data four_names
+    ((0 ∷ 1000000 ∷ 0 ∷ 0 ∷ []) ∷ (1000000 ∷ 0 ∷ 0 ∷ 0 ∷ []) ∷ (0 ∷ 0 ∷ 0 ∷ 0 ∷ []) ∷ (0 ∷ 0 ∷ 0 ∷ 0 ∷ []) ∷ []) 78 1000000)
+unfolding league_on_literals
+league_of-far = refl
+
+pub league_of-nothing : league_of [] ≡ Err NotJson
+unfolding league_on_literals
+league_of-nothing = refl
+
+pub league_of-cut : league_of (take 50 (four_teams circle [])) ≡ Err NotJson
+unfolding league_on_literals
+league_of-cut = refl
+
+pub league_of-array : league_of (codes "[]") ≡ Err (WrongKind Whole)
+unfolding league_on_literals
+league_of-array = refl
+
+pub league_of-format_three : league_of (codes "{\"format\":3}") ≡ Err (WrongKind Format)
+unfolding league_on_literals
+league_of-format_three = refl
+
+pub league_of-fraction : league_of (codes "{\"format\":1.0}") ≡ Err (WrongKind Format)
+unfolding league_on_literals
+league_of-fraction = refl
+
+pub league_of-no_teams : league_of (codes "{\"format\":1,\"distances\":[]}") ≡ Err (MissingField Teams)
+unfolding league_on_literals
+league_of-no_teams = refl
+
+pub league_of-three_teams : league_of (codes "{\"format\":1,\"teams\":[\"A\",\"B\",\"C\"],\"distances\":[[0,1,1],[1,0,1],[1,1,0]]}") ≡ Err TeamCount
+unfolding league_on_literals
+league_of-three_teams = refl
+
+pub league_of-three_rows : league_of (four_teams (codes "[[0,1,2,1],[1,0,1,2],[2,1,0,1]]") []) ≡ Err DistanceShape
+unfolding league_on_literals
+league_of-three_rows = refl
+
+pub league_of-too_far : league_of (four_teams (codes "[[0,1000001,2,1],[1000001,0,1,2],[2,1,0,1],[1,2,1,0]]") []) ≡ Err DistanceRange
+unfolding league_on_literals
+league_of-too_far = refl
+
+pub league_of-diagonal : league_of (four_teams (codes "[[1,1,2,1],[1,0,1,2],[2,1,0,1],[1,2,1,0]]") []) ≡ Err Diagonal
+unfolding league_on_literals
+league_of-diagonal = refl
+
+pub league_of-one_way : league_of (four_teams (codes "[[0,2,2,1],[1,0,1,2],[2,1,0,1],[1,2,1,0]]") []) ≡ Err Asymmetric
+unfolding league_on_literals
+league_of-one_way = refl
+
+pub league_of-fraction_at_most : league_of (four_teams circle (codes ",\"at_most\":3.0")) ≡ Err (WrongKind AtMost)
+unfolding league_on_literals
+league_of-fraction_at_most = refl
+
+pub league_of-number_as_rule : league_of (four_teams circle (codes ",\"rules\":[1]")) ≡ Err (WrongKind Rules)
+unfolding league_on_literals
+league_of-number_as_rule = refl
+
+pub league_of-rule : league_of (four_teams circle (codes ",\"rules\":[{}]")) ≡ Err (RuleClass 0)
+unfolding league_on_literals
+league_of-rule = refl

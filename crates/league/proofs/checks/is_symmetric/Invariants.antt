@@ -1,0 +1,8 @@
+-- The rows above row a pass.
+use Rattle.std.proofs.Common.{◌≡◌, true}
+use Rattle.league.specs.Limits.{all_below, is_mirrored_at}
+use Rattle.league.specs.Views.{rows}
+use Rattle.league.proofs.checks.is_symmetric.Given as goal
+
+abbrev pub invariant-loop-a : goal.invariant-loop-a
+invariant-loop-a l = all_below l.a (is_mirrored_at (rows l.table) l.n) ≡ true

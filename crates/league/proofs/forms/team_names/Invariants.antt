@@ -1,0 +1,11 @@
+-- The names so far, and those of the items that are left, are the names of the whole array.
+use Rattle.std.proofs.Common.{◌≡◌, drop}
+use Rattle.serde_json.specs.View.{items_view}
+use Rattle.league.specs.Json.{all_items}
+use Rattle.league.specs.Members.{team_name}
+use Rattle.league.specs.Views.{texts}
+use Rattle.league.proofs.Items.{with_front}
+use Rattle.league.proofs.forms.team_names.Given as goal
+
+abbrev pub invariant-loop-item : goal.invariant-loop-item
+invariant-loop-item l = with_front (texts l.names.items) (all_items team_name (items_view (drop l.item-index l.item-items))) ≡ all_items team_name (items_view l.item-items)

@@ -1,0 +1,7 @@
+pub mod Json
+pub mod Reading
+pub mod Views
+pub mod Members
+pub mod Limits
+pub mod League
+pub mod Made

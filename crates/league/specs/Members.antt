@@ -1,0 +1,46 @@
+-- The members of a league's text, in the order of their checks.
+use Rattle.std.specs.Prelude.{ℕ, ◌&&◌, ◌==◌, List, codes, length, Bool, not, nat_le, Option, option_and_then, Result}
+use Rattle.std.specs.List.{list_all}
+use Rattle.serde_json.specs.Data.{Data}
+use Rattle.serde_json.specs.Find.{get, as_str}
+use Rattle.league.specs.declared.fault.Field.TheVariants.{Format, Teams, Distances, AtMost, HardWeight, Rules}
+use Rattle.league.specs.declared.fault.LeagueFault.{LeagueFault}
+use Rattle.league.specs.Json.{only_if, whole_number, number_within, array_of, object_count}
+use Rattle.league.specs.Reading.{needed, optional}
+
+-- no control byte: neither below 32 nor 127
+abbrev pub is_name_byte : ℕ → Bool
+is_name_byte b = nat_le 32 b && not (b == 127)
+
+abbrev pub is_team_name : List ℕ → Bool
+is_team_name name = nat_le 1 (length name) && nat_le (length name) 40 && list_all is_name_byte name
+
+abbrev pub team_name : Data → Option (List ℕ)
+team_name d = option_and_then (λ name. only_if (is_team_name name) name) (as_str d)
+
+abbrev pub team_names : Data → Option (List (List ℕ))
+team_names = array_of team_name
+
+abbrev pub distance_row : Data → Option (List ℕ)
+distance_row = array_of whole_number
+
+abbrev pub distance_rows : Data → Option (List (List ℕ))
+distance_rows = array_of distance_row
+
+abbrev pub format_of : Data → Result ℕ LeagueFault
+format_of d = needed Format (number_within 1 1) (get (codes "format") d)
+
+abbrev pub teams_of : Data → Result (List (List ℕ)) LeagueFault
+teams_of d = needed Teams team_names (get (codes "teams") d)
+
+abbrev pub distances_of : Data → Result (List (List ℕ)) LeagueFault
+distances_of d = needed Distances distance_rows (get (codes "distances") d)
+
+abbrev pub at_most_of : Data → Result ℕ LeagueFault
+at_most_of d = optional AtMost (number_within 1 78) 3 (get (codes "at_most") d)
+
+abbrev pub hard_weight_of : Data → Result ℕ LeagueFault
+hard_weight_of d = optional HardWeight (number_within 1 1000000) 100 (get (codes "hard_weight") d)
+
+abbrev pub rule_count_of : Data → Result ℕ LeagueFault
+rule_count_of d = optional Rules object_count 0 (get (codes "rules") d)

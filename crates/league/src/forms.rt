@@ -1,0 +1,109 @@
+//! The forms of JSON values that a league is made of.
+
+ghost use Rattle.std.specs.Prelude.{◌≡◌, IfOk, option_map};
+ghost use Rattle.std.specs.List.{list_all};
+ghost use Rattle.serde_json.specs.View.{view, items_view};
+ghost use Rattle.league.specs.Json.{number_within, object_count, all_objects};
+ghost use Rattle.league.specs.Members.{is_name_byte, is_team_name, team_name, team_names, distance_row, distance_rows};
+ghost use Rattle.league.specs.Views.{texts, rows};
+
+use serde_json::Value;
+use std::alloc::{AllocError, Global};
+
+/// A whole number from `low` to `high`.
+pub fn number_within(value: &Value, low: u64, high: u64) -> Option<u64>
+    ensures { result ≡ number_within low high (view value.now) }
+{
+    value
+        .as_u64()
+        .filter(|number| (low..=high).contains(number))
+}
+
+fn has_name_bytes(name: &[u8]) -> bool
+    ensures { result ≡ list_all is_name_byte name.now }
+{
+    name.iter().all(|b| *b >= 32 && *b != 127)
+}
+
+fn is_team_name(name: &str) -> bool
+    ensures { result ≡ is_team_name name.now }
+{
+    (1..=40).contains(&name.len()) && has_name_bytes(name.as_bytes())
+}
+
+fn team_name(value: &Value) -> Option<&str>
+    ensures { option_map (λ name. name.now) result ≡ team_name (view value.now) }
+{
+    value.as_str().filter(|name| is_team_name(name))
+}
+
+/// The names of an array of team names.
+pub fn team_names(alloc: Global, value: &Value) -> Result<Option<Vec<String>>, AllocError>
+    ensures { IfOk result (λ o. option_map (λ names. texts names.items) o ≡ team_names (view value.now)) }
+{
+    let Some(list) = value.as_array() else {
+        return Ok(None);
+    };
+    let mut names = Vec::with_capacity(alloc, list.len())?;
+    for item in list {
+        let Some(name) = team_name(item) else {
+            return Ok(None);
+        };
+        names.push(String::from_str(alloc, name)?)?;
+    }
+    Ok(Some(names))
+}
+
+fn distance_row(alloc: Global, value: &Value) -> Result<Option<Vec<u64>>, AllocError>
+    ensures { IfOk result (λ o. option_map (λ row. row.items) o ≡ distance_row (view value.now)) }
+{
+    let Some(list) = value.as_array() else {
+        return Ok(None);
+    };
+    let mut row = Vec::with_capacity(alloc, list.len())?;
+    for item in list {
+        let Some(distance) = item.as_u64() else {
+            return Ok(None);
+        };
+        row.push(distance)?;
+    }
+    Ok(Some(row))
+}
+
+/// The numbers of an array of arrays of whole numbers.
+pub fn distance_rows(alloc: Global, value: &Value) -> Result<Option<Vec<Vec<u64>>>, AllocError>
+    ensures { IfOk result (λ o. option_map (λ table. rows table.items) o ≡ distance_rows (view value.now)) }
+{
+    let Some(list) = value.as_array() else {
+        return Ok(None);
+    };
+    let mut table = Vec::with_capacity(alloc, list.len())?;
+    for item in list {
+        let Some(row) = distance_row(alloc, item)? else {
+            return Ok(None);
+        };
+        table.push(row)?;
+    }
+    Ok(Some(table))
+}
+
+fn all_objects(items: &[Value]) -> bool
+    ensures { result ≡ all_objects (items_view items.now) }
+{
+    for item in items {
+        if !item.is_object() {
+            return false;
+        }
+    }
+    true
+}
+
+/// How many items an array of objects has.
+pub fn object_count(value: &Value) -> Option<usize>
+    ensures { result ≡ object_count (view value.now) }
+{
+    value
+        .as_array()
+        .filter(|items| all_objects(items))
+        .map(|items| items.len())
+}

@@ -1,0 +1,79 @@
+//! The members of a league's text. One that has to be there is MissingField where it is absent, and each is
+//! WrongKind where it is not of its form.
+
+ghost use Rattle.std.specs.Prelude.{◌≡◌, ◌≤◌, IfOk};
+ghost use Rattle.serde_json.specs.View.{view};
+ghost use Rattle.league.specs.Reading.{Gives};
+ghost use Rattle.league.specs.Members.{format_of, teams_of, distances_of, at_most_of, hard_weight_of, rule_count_of};
+ghost use Rattle.league.specs.Views.{texts, rows};
+
+use crate::fault::{Field, LeagueFault};
+use crate::forms::{distance_rows, number_within, object_count, team_names};
+use crate::leagues::{DEFAULT_AT_MOST, DEFAULT_HARD_WEIGHT};
+use serde_json::Value;
+use std::alloc::Global;
+
+pub fn format_of(object: &Value) -> Result<u64, LeagueFault>
+    ensures { result ≡ format_of (view object.now) }
+{
+    let member = object
+        .get("format")
+        .ok_or(LeagueFault::MissingField(Field::Format))?;
+    number_within(member, 1, 1).ok_or(LeagueFault::WrongKind(Field::Format))
+}
+
+pub fn teams_of(alloc: Global, object: &Value) -> Result<Vec<String>, LeagueFault>
+    ensures { Gives (λ names. texts names.items) result (teams_of (view object.now)) }
+{
+    let member = object
+        .get("teams")
+        .ok_or(LeagueFault::MissingField(Field::Teams))?;
+    team_names(alloc, member)?.ok_or(LeagueFault::WrongKind(Field::Teams))
+}
+
+pub fn distances_of(alloc: Global, object: &Value) -> Result<Vec<Vec<u64>>, LeagueFault>
+    ensures { Gives (λ table. rows table.items) result (distances_of (view object.now)) }
+{
+    let member = object
+        .get("distances")
+        .ok_or(LeagueFault::MissingField(Field::Distances))?;
+    distance_rows(alloc, member)?.ok_or(LeagueFault::WrongKind(Field::Distances))
+}
+
+pub fn at_most_of(object: &Value) -> Result<u8, LeagueFault>
+    ensures value { result ≡ at_most_of (view object.now) }
+    ensures least { IfOk result (λ n. 1 ≤ n) }
+    ensures most { IfOk result (λ n. n ≤ 78) }
+{
+    let Some(member) = object.get("at_most") else {
+        return Ok(DEFAULT_AT_MOST);
+    };
+    match number_within(member, 1, 78) {
+        Some(number) => Ok(number as u8),
+        None => Err(LeagueFault::WrongKind(Field::AtMost)),
+    }
+}
+
+pub fn hard_weight_of(object: &Value) -> Result<u32, LeagueFault>
+    ensures value { result ≡ hard_weight_of (view object.now) }
+    ensures least { IfOk result (λ n. 1 ≤ n) }
+    ensures most { IfOk result (λ n. n ≤ 1000000) }
+{
+    let Some(member) = object.get("hard_weight") else {
+        return Ok(DEFAULT_HARD_WEIGHT);
+    };
+    match number_within(member, 1, 1_000_000) {
+        Some(number) => Ok(number as u32),
+        None => Err(LeagueFault::WrongKind(Field::HardWeight)),
+    }
+}
+
+/// How many rules there are: none where the member is absent.
+pub fn rule_count_of(object: &Value) -> Result<usize, LeagueFault>
+    ensures { result ≡ rule_count_of (view object.now) }
+{
+    let Some(member) = object.get("rules") else {
+        return Ok(0);
+    };
+    object_count(member).ok_or(LeagueFault::WrongKind(Field::Rules))
+}

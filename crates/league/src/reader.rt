@@ -1,0 +1,77 @@
+//! The reader of a league's JSON text.
+
+ghost use Rattle.std.specs.Prelude.{◌≡◌, [], IfOk};
+ghost use Rattle.serde_json.specs.View.{view};
+ghost use Rattle.league.specs.Json.{json_of};
+ghost use Rattle.league.specs.Reading.{Gives, or_fault};
+ghost use Rattle.league.specs.League.{league_of_data, league_of, IsLeague};
+ghost use Rattle.league.specs.declared.fault.LeagueFault.TheVariants.{NotJson};
+
+use crate::checks::check;
+use crate::fault::{Field, LeagueFault};
+use crate::leagues::League;
+use crate::members::{
+    at_most_of, distances_of, format_of, hard_weight_of, rule_count_of, teams_of,
+};
+use serde_json::{Category, Value};
+use std::alloc::Global;
+
+fn json_of(alloc: Global, bytes: &[u8]) -> Result<Value, LeagueFault>
+    ensures exact { Gives view result (or_fault NotJson (json_of bytes.now)) }
+    ensures empty { bytes.now ≡ [] → result ≡ Err LeagueFault.NotJson }
+{
+    match Value::from_slice(alloc, bytes) {
+        Ok(value) => Ok(value),
+        Err(error) => match error.classify() {
+            Category::Memory => Err(LeagueFault::Memory),
+            _ => Err(LeagueFault::NotJson),
+        },
+    }
+}
+
+#[tactic(auto, unfolding(crate::specs::League::league_of_data))]
+fn league_of_data(alloc: Global, value: &Value) -> Result<League, LeagueFault>
+    ensures exact { Gives (λ l. l) result (league_of_data (view value.now)) }
+    ensures limits { IfOk result IsLeague }
+{
+    if !value.is_object() {
+        return Err(LeagueFault::WrongKind(Field::Whole));
+    }
+    format_of(value)?;
+    let names = teams_of(alloc, value)?;
+    let distances = distances_of(alloc, value)?;
+    let at_most = at_most_of(value)?;
+    let hard_weight = hard_weight_of(value)?;
+    let rules = rule_count_of(value)?;
+    check(names.len(), &distances, rules)?;
+    if rules > 0 {
+        return Err(LeagueFault::RuleClass(0));
+    }
+    Ok(League::new(names, distances, at_most, hard_weight))
+}
+
+/// Reads a league from its JSON text, an object with these members:
+///
+/// - `format`: the whole number 1;
+/// - `teams`: an array of names, each of 1 to 40 bytes and none of them a control byte (0 to 31 and 127);
+/// - `distances`: an array with a row for each team, of a whole number up to 1,000,000 for each team;
+/// - `at_most`, or 3 where it is absent: a whole number from 1 to 78;
+/// - `hard_weight`, or 100 where it is absent: a whole number from 1 to 1,000,000;
+/// - `rules`, or none where it is absent: an array of at most 256 objects. No class of rule is known yet, so the
+///   first rule is answered by RuleClass.
+///
+/// A whole number fits 64 bits and has no fraction or exponent: `3.0` is none. Other members are ignored, and of a
+/// member that is given twice the last counts.
+///
+/// The first fault is answered, in this order: NotJson; WrongKind where the text is no object; MissingField or
+/// WrongKind for each member in the order above; then the others in the order of [`LeagueFault`]. Memory may come in
+/// place of any answer, but for an empty input.
+#[tactic(auto, unfolding(crate::specs::League::league_of))]
+pub fn read_league(alloc: Global, bytes: &[u8]) -> Result<League, LeagueFault>
+    ensures exact { Gives (λ l. l) result (league_of bytes.now) }
+    ensures limits { IfOk result IsLeague }
+    ensures empty { bytes.now ≡ [] → result ≡ Err LeagueFault.NotJson }
+{
+    let value = json_of(alloc, bytes)?;
+    league_of_data(alloc, &value)
+}

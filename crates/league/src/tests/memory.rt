@@ -1,0 +1,130 @@
+//! Each call that takes memory, with ample memory and with any one allocation refused.
+//!
+//! `rt try --test --fail-alloc N` refuses the Nth allocation of each test. A test `.._tells_refused_memory` passes at
+//! every N; `.._succeeds` fails while N is among its allocations.
+
+use super::FOUR_TEAMS;
+use crate::{League, LeagueFault, circular, constant, read_league};
+use std::alloc::AllocError;
+use std::process::Abort;
+use std::test::Fail;
+
+const ASYMMETRIC: &str =
+    r#"{"format":1,"teams":["T1","T2","T3","T4"],"distances":[[0,2,2,1],[1,0,1,2],[2,1,0,1],[1,2,1,0]]}"#;
+
+fn check_table_of_four(rt: &impl Abort, league: &League, distances: &[[u32; 4]; 4]) {
+    assert_eq!(rt; league.teams(), 4);
+    let names = ["T1", "T2", "T3", "T4"];
+    for a in 0..4 {
+        assert_eq!(rt; league.name(a), names[usize::from(a)]);
+        for b in 0..4 {
+            let distance = distances[usize::from(a)][usize::from(b)];
+            assert_eq!(rt; league.distance(a, b), distance, "from {a} to {b}");
+        }
+    }
+    assert_eq!(rt; league.at_most(), 3);
+    assert_eq!(rt; league.hard_weight(), 100);
+}
+
+fn check_circle_of_four(rt: &impl Abort, league: &League) {
+    check_table_of_four(
+        rt,
+        league,
+        &[[0, 1, 2, 1], [1, 0, 1, 2], [2, 1, 0, 1], [1, 2, 1, 0]],
+    );
+}
+
+fn check_constant_of_four(rt: &impl Abort, league: &League) {
+    check_table_of_four(
+        rt,
+        league,
+        &[[0, 1, 1, 1], [1, 0, 1, 1], [1, 1, 0, 1], [1, 1, 1, 0]],
+    );
+}
+
+// the league, or memory was refused
+fn told(rt: &impl Abort, answer: Result<League, LeagueFault>) -> Option<League> {
+    match answer {
+        Ok(league) => Some(league),
+        Err(fault) => {
+            assert_eq!(rt; fault, LeagueFault::Memory);
+            None
+        }
+    }
+}
+
+#[test]
+fn read_league_succeeds(rt: HostRuntime) -> Result<(), Fail> {
+    check_circle_of_four(&rt, &read_league(rt.alloc(), FOUR_TEAMS.as_bytes())?);
+    Ok(())
+}
+
+#[test]
+fn read_league_tells_refused_memory(rt: HostRuntime) {
+    if let Some(league) = told(&rt, read_league(rt.alloc(), FOUR_TEAMS.as_bytes())) {
+        check_circle_of_four(&rt, &league);
+    }
+}
+
+#[test]
+fn read_league_tells_refused_memory_before_a_later_fault(rt: HostRuntime) {
+    let fault = read_league(rt.alloc(), ASYMMETRIC.as_bytes()).err();
+    assert!(rt; matches!(fault, Some(LeagueFault::Asymmetric | LeagueFault::Memory)));
+}
+
+#[test]
+fn circular_succeeds(rt: HostRuntime) -> Result<(), Fail> {
+    check_circle_of_four(&rt, &circular(rt.alloc(), 4)?);
+    Ok(())
+}
+
+#[test]
+fn circular_tells_refused_memory(rt: HostRuntime) {
+    if let Some(league) = told(&rt, circular(rt.alloc(), 4)) {
+        check_circle_of_four(&rt, &league);
+    }
+}
+
+#[test]
+fn constant_succeeds(rt: HostRuntime) -> Result<(), Fail> {
+    check_constant_of_four(&rt, &constant(rt.alloc(), 4)?);
+    Ok(())
+}
+
+#[test]
+fn constant_tells_refused_memory(rt: HostRuntime) {
+    if let Some(league) = told(&rt, constant(rt.alloc(), 4)) {
+        check_constant_of_four(&rt, &league);
+    }
+}
+
+#[test]
+fn duplicate_succeeds(rt: HostRuntime) -> Result<(), Fail> {
+    let league = circular(rt.alloc(), 4)?;
+    check_circle_of_four(&rt, &league.duplicate(rt.alloc())?);
+    check_circle_of_four(&rt, &league);
+    Ok(())
+}
+
+#[test]
+fn duplicate_tells_refused_memory(rt: HostRuntime) {
+    if let Some(league) = told(&rt, circular(rt.alloc(), 4)) {
+        match league.duplicate(rt.alloc()) {
+            Ok(copy) => check_circle_of_four(&rt, &copy),
+            Err(AllocError) => {}
+        }
+        check_circle_of_four(&rt, &league);
+    }
+}
+
+#[test]
+fn refusals_without_memory(rt: HostRuntime) {
+    for n in [0, 5, 42] {
+        assert_eq!(rt; circular(rt.alloc(), n).err(), Some(LeagueFault::TeamCount));
+        assert_eq!(rt; constant(rt.alloc(), n).err(), Some(LeagueFault::TeamCount));
+    }
+    assert_eq!(rt;
+        read_league(rt.alloc(), b"").err(),
+        Some(LeagueFault::NotJson)
+    );
+}

@@ -1,0 +1,17 @@
+use Rattle.std.proofs.Common.{arith, inl}
+use Rattle.streams.specs.declared.ends.Step.TheVariants.{Moved}
+use Rattle.streams.proofs.Counts.{NotBelow-call}
+use Rattle.streams.proofs.Sendings.{AppendsAllBut-moved}
+use Rattle.streams.proofs.writing.write_all.Goals as goal
+
+pub loop-rest-preserved-in-Moved : goal.loop-rest-preserved-in-Moved
+loop-rest-preserved-in-Moved g c =
+    let i = c.loop-rest.invariant in
+    let counted = (c.in-Moved.ensures).counted in
+    record {
+      progress = rw c.split_at.ensures.back (AppendsAllBut-moved _ _ _ _ _ _ i.progress (c.in-Moved.ensures).bytes.1);
+      counts = NotBelow-call _ _ _ (Moved c.in-Moved.n) i.counts counted;
+      few = omega arith;
+      in_a_row = omega arith;
+      interruptions = inl (rw counted (omega (arith, i.counts.again)));
+    }

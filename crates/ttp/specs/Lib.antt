@@ -1,0 +1,4 @@
+pub mod CommandLine
+pub mod Sheet
+pub mod Start
+pub mod Fault

@@ -1,0 +1,52 @@
+//! Each call that takes memory, with ample memory and with any one allocation refused.
+//!
+//! `rt try --test --fail-alloc N` refuses the Nth allocation of each test. A test
+//! `.._tells_refused_memory` passes at every N; `.._succeeds` fails while N is among its allocations.
+
+use super::{CIRCLE, SHEET};
+use crate::command_line::{Job, args};
+use crate::fault::ProgramFault;
+use crate::start::start;
+use clap::error::ErrorKind;
+use std::test::Fail;
+use streams::{MemorySink, MemorySource};
+
+#[test]
+fn start_succeeds(rt: HostRuntime) -> Result<(), Fail> {
+    let mut room = [0; 1000];
+    let mut sink = MemorySink::new(&mut room);
+    start(rt.alloc(), MemorySource::new(CIRCLE.as_bytes()), &mut sink)?;
+    assert_eq!(rt; sink.held(), SHEET.as_bytes());
+    Ok(())
+}
+
+#[test]
+fn start_tells_refused_memory(rt: HostRuntime) {
+    let mut room = [0; 1000];
+    let mut sink = MemorySink::new(&mut room);
+    match start(rt.alloc(), MemorySource::new(CIRCLE.as_bytes()), &mut sink) {
+        Ok(()) => assert_eq!(rt; sink.held(), SHEET.as_bytes()),
+        Err(fault) => {
+            assert_eq!(rt; fault, ProgramFault::Memory);
+            assert_eq!(rt; sink.tally().calls, 0);
+        }
+    }
+}
+
+#[test]
+fn args_succeeds(rt: HostRuntime) -> Result<(), Fail> {
+    let words = super::words(rt.alloc(), &["ttp", "start"])?;
+    assert_eq!(rt; args(rt.alloc(), &words)?, Job::Start);
+    Ok(())
+}
+
+#[test]
+fn args_tells_refused_memory(rt: HostRuntime) {
+    let Ok(words) = super::words(rt.alloc(), &["ttp", "start"]) else {
+        return;
+    };
+    match args(rt.alloc(), &words) {
+        Ok(job) => assert_eq!(rt; job, Job::Start),
+        Err(error) => assert_eq!(rt; error.kind(), ErrorKind::OutOfMemory),
+    }
+}
