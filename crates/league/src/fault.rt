@@ -1,7 +1,8 @@
 //! Why there is no league.
 
-ghost use Rattle.std.specs.Prelude.{◌≡◌, ◌+◌};
+ghost use Rattle.std.specs.Prelude.{◌≡◌, ◌+◌, Some};
 ghost use Rattle.league.specs.declared.fault.LeagueFault.TheVariants.{Memory};
+ghost use Rattle.league.specs.Messages.{member_name, wrong_kind_message};
 
 use std::alloc::{AllocError, AllocFailed};
 use std::fmt;
@@ -21,6 +22,8 @@ pub enum Field {
 
 /// Writes the member's JSON name.
 impl fmt::Display for Field {
+    ghost output = { λ field. Some (member_name field) };
+
     fn fmt<W: fmt::Write>(&self, f: &mut fmt::Formatter<W>) -> fmt::Result {
         f.write_str(match self {
             Field::Whole => "text",
@@ -44,7 +47,7 @@ pub enum LeagueFault {
     #[error("league lacks {0}")]
     MissingField(Field),
     /// A member is not of its form, or the whole text is no object.
-    #[error("{}", Wrong(.0))]
+    #[error("{}", Wrong(*.0))]
     WrongKind(Field),
     /// The number of teams is odd, below 4 or above 40.
     #[error("team count must be even, 4 to 40")]
@@ -93,10 +96,12 @@ impl<T: Drop> From<AllocFailed<T>> for LeagueFault {
 }
 
 // What is wrong where a field is not of its form.
-#[derive(Drop)]
-struct Wrong<'a>(&'a Field);
+#[derive(Clone, Copy)]
+struct Wrong(Field);
 
-impl fmt::Display for Wrong<'_> {
+impl fmt::Display for Wrong {
+    ghost output = { λ wrong. Some (wrong_kind_message wrong.0) };
+
     fn fmt<W: fmt::Write>(&self, f: &mut fmt::Formatter<W>) -> fmt::Result {
         match self.0 {
             Field::Whole => f.write_str("league is no object"),

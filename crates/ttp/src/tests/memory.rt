@@ -1,7 +1,7 @@
 //! Each call that takes memory, with ample memory and with any one allocation refused.
 //!
 //! `rt try --test --fail-alloc N` refuses the Nth allocation of each test. A test
-//! `.._tells_refused_memory` passes at every N; `.._succeeds` fails while N is among its allocations.
+//! `.._tells_refused_memory` passes at every N; `.._with_ample_memory` fails while N is among its allocations.
 
 use super::{CIRCLE, SHEET};
 use crate::command_line::{Job, args};
@@ -12,7 +12,7 @@ use std::test::Fail;
 use streams::{MemorySink, MemorySource};
 
 #[test]
-fn start_succeeds(rt: HostRuntime) -> Result<(), Fail> {
+fn start_succeeds_with_ample_memory(rt: HostRuntime) -> Result<(), Fail> {
     let mut room = [0; 1000];
     let mut sink = MemorySink::new(&mut room);
     start(rt.alloc(), MemorySource::new(CIRCLE.as_bytes()), &mut sink)?;
@@ -34,7 +34,7 @@ fn start_tells_refused_memory(rt: HostRuntime) {
 }
 
 #[test]
-fn args_succeeds(rt: HostRuntime) -> Result<(), Fail> {
+fn args_succeeds_with_ample_memory(rt: HostRuntime) -> Result<(), Fail> {
     let words = super::words(rt.alloc(), &["ttp", "start"])?;
     assert_eq!(rt; args(rt.alloc(), &words)?, Job::Start);
     Ok(())
