@@ -163,14 +163,23 @@ fn reads_from_a_reader(rt: HostRuntime) -> Result<(), Fail> {
     Ok(())
 }
 
-/// With ample memory the answer is the text. Where an allocation fails it is `Memory` or the text.
+// The next two tests are run with each allocation refused in turn: the first passes whichever is, the second where
+// none is.
 #[test]
-fn answers_memory_where_none_is_left(rt: HostRuntime) {
+fn read_all_tells_refused_memory(rt: HostRuntime) {
     let bytes = [7; 20_000];
     match read_all(rt.alloc(), &mut MemorySource::in_pieces(&bytes, 1000)) {
         Ok(text) => assert_eq!(rt; text.as_slice(), bytes.as_slice()),
         Err(fault) => assert_eq!(rt; fault, ReadFault::Memory),
     }
+}
+
+#[test]
+fn read_all_succeeds_with_ample_memory(rt: HostRuntime) -> Result<(), Fail> {
+    let bytes = [7; 20_000];
+    let text = read_all(rt.alloc(), &mut MemorySource::in_pieces(&bytes, 1000))?;
+    assert_eq!(rt; text.as_slice(), bytes.as_slice());
+    Ok(())
 }
 
 #[test]

@@ -74,7 +74,9 @@ fn words_not_taken<R: Runtime>(rt: &R, error: clap::Error) -> ExitCode
 }
 
 /// Memory ran out, or a word is no text.
-fn words_not_had<R: Runtime>(rt: &R, error: io::Error) -> ExitCode {
+fn words_not_had<R: Runtime>(rt: &R, error: io::Error) -> ExitCode
+    ensures { exit_status result ≢ 0 }
+{
     if error.kind() == io::ErrorKind::OutOfMemory {
         return failure(rt, ProgramFault::Memory);
     }

@@ -1,7 +1,7 @@
 //! Each call that takes memory, with ample memory and with any one allocation refused.
 //!
 //! `rt try --test --fail-alloc N` refuses the Nth allocation of each test. A test `.._tells_refused_memory` passes at
-//! every N; `.._succeeds` fails while N is among its allocations.
+//! every N; `.._with_ample_memory` fails while N is among its allocations.
 
 use super::FOUR_TEAMS;
 use crate::{League, LeagueFault, circular, constant, read_league};
@@ -54,7 +54,7 @@ fn told(rt: &impl Abort, answer: Result<League, LeagueFault>) -> Option<League> 
 }
 
 #[test]
-fn read_league_succeeds(rt: HostRuntime) -> Result<(), Fail> {
+fn read_league_succeeds_with_ample_memory(rt: HostRuntime) -> Result<(), Fail> {
     check_circle_of_four(&rt, &read_league(rt.alloc(), FOUR_TEAMS.as_bytes())?);
     Ok(())
 }
@@ -73,7 +73,7 @@ fn read_league_tells_refused_memory_before_a_later_fault(rt: HostRuntime) {
 }
 
 #[test]
-fn circular_succeeds(rt: HostRuntime) -> Result<(), Fail> {
+fn circular_succeeds_with_ample_memory(rt: HostRuntime) -> Result<(), Fail> {
     check_circle_of_four(&rt, &circular(rt.alloc(), 4)?);
     Ok(())
 }
@@ -86,7 +86,7 @@ fn circular_tells_refused_memory(rt: HostRuntime) {
 }
 
 #[test]
-fn constant_succeeds(rt: HostRuntime) -> Result<(), Fail> {
+fn constant_succeeds_with_ample_memory(rt: HostRuntime) -> Result<(), Fail> {
     check_constant_of_four(&rt, &constant(rt.alloc(), 4)?);
     Ok(())
 }
@@ -99,7 +99,7 @@ fn constant_tells_refused_memory(rt: HostRuntime) {
 }
 
 #[test]
-fn duplicate_succeeds(rt: HostRuntime) -> Result<(), Fail> {
+fn duplicate_succeeds_with_ample_memory(rt: HostRuntime) -> Result<(), Fail> {
     let league = circular(rt.alloc(), 4)?;
     check_circle_of_four(&rt, &league.duplicate(rt.alloc())?);
     check_circle_of_four(&rt, &league);

@@ -1,4 +1,4 @@
-use Rattle.std.proofs.Common.{rules, arith, ◌≡◌, length, vec_len}
+use Rattle.std.proofs.Common.{rules, ◌≡◌, length, vec_len}
 use Rattle.ttp.proofs.start.start_from.Goals as goal
 
 pub returns-in_err-sheet-clause-write : goal.returns-in_err-sheet-clause-write
