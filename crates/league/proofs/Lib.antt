@@ -1,8 +1,10 @@
-mod Below
+pub mod Bits
+mod GameLists
 mod Items
 mod MadeLeagues
 pub mod OnLiterals
 mod Rows
+pub mod Sums
 mod Tables
 mod Texts
 mod Worked

@@ -41,11 +41,13 @@ IsTable-made_rows layout n counted =
     (λ a below. distance_of-made_rows layout n a a below below ∙ diagonal layout n a)
     (λ a b a_below b_below. distance_of-made_rows layout n a b a_below b_below ∙ symmetric layout n a b ∙ sym (distance_of-made_rows layout n b a b_below a_below))
 
-pub IsLeague-made : (layout : Layout) (n : ℕ) → is_team_count n ≡ true → IsLeague (league_data (made_names n) (made_rows layout n) 3 100)
+pub IsLeague-made : (layout : Layout) (n : ℕ) → is_team_count n ≡ true → IsLeague (league_data (made_names n) (made_rows layout n) 3 100 [])
 IsLeague-made layout n counted = record {
   table = rw (length-map-range_with_len made_name 0 n) (IsTable-made_rows layout n counted);
   at_most_least = omega arith;
   at_most_most = omega arith;
   weight_least = omega arith;
   weight_most = omega arith;
+  rule_count = omega arith;
+  rules = tt;
 }

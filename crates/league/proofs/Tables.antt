@@ -4,7 +4,7 @@ use Rattle.std.proofs.lemmas.Bool.{and_parts, cases_lt, eqb-true, leb-true}
 use Rattle.std.proofs.lemmas.List.{get_or_past}
 use Rattle.std.specs.List.{list_all, AllByRecursion}
 use Rattle.league.specs.Limits.{distance_of, is_team_count, has_columns, is_square, is_in_range, has_zero_diagonal, is_mirrored_at, is_symmetric, IsTable}
-use Rattle.league.proofs.Below.{all_below-passes}
+use Rattle.league.proofs.Sums.{all_below_passes}
 
 abbrev pub HasColumns : ℕ → List (List ℕ) → Type 0
 HasColumns n = AllByRecursion (λ row. length row ≡ n)
@@ -74,6 +74,6 @@ unfolding has_zero_diagonal is_symmetric is_mirrored_at
 IsTable-from_tests n table counted square ranged zeroed mirrored =
     IsTable-from_within n table counted (length-is_square n table square) (columns-is_square n table square)
     (λ a b _ _. near table a b ranged)
-    (λ a below. eqb-true (distance_of table a a) 0 (all_below-passes n (λ k. distance_of table k k == 0) zeroed a below))
+    (λ a below. eqb-true (distance_of table a a) 0 (all_below_passes n (λ k. distance_of table k k == 0) zeroed a below))
     (λ a b a_below b_below. eqb-true (distance_of table a b) (distance_of table b a)
-    (all_below-passes n (λ k. distance_of table a k == distance_of table k a) (all_below-passes n (is_mirrored_at table n) mirrored a a_below) b b_below))
+    (all_below_passes n (λ k. distance_of table a k == distance_of table k a) (all_below_passes n (is_mirrored_at table n) mirrored a a_below) b b_below))

@@ -2,8 +2,12 @@
 use Rattle.std.proofs.Common.{◌≡◌, ℕ, List, [], ◌∷◌, ◌++◌, take, Ok, Err, refl}
 use Rattle.std.specs.Prelude.{codes}
 use Rattle.league.specs.declared.fault.Field.TheVariants.{Whole, Format, Teams, AtMost, Rules}
-use Rattle.league.specs.declared.fault.LeagueFault.TheVariants.{NotJson, MissingField, WrongKind, TeamCount, DistanceShape, DistanceRange, Diagonal, Asymmetric, RuleClass}
-use Rattle.league.specs.League.{league_data, league_of}
+use Rattle.league.specs.declared.fault.LeagueFault.TheVariants.{NotJson, MissingField, WrongKind, TeamCount, DistanceShape, DistanceRange, Diagonal, Asymmetric, RuleClass, RuleValue}
+use Rattle.league.specs.declared.rule.Rule.{Rule}
+use Rattle.league.specs.declared.rule.RuleBody.TheVariants.{Ca1, Ga1}
+use Rattle.league.specs.declared.rule.Side.TheVariants.{Away}
+use Rattle.league.specs.declared.rule.Weight.TheVariants.{Hard, Soft}
+use Rattle.league.specs.League.{LeagueData, league_data, league_of}
 use Rattle.league.specs.Made.{circular_of, constant_of}
 use Rattle.league.proofs.OnLiterals.{league_on_literals}
 
@@ -11,12 +15,12 @@ abbrev four_names : List (List ℕ)
 four_names = codes "T1" ∷ codes "T2" ∷ codes "T3" ∷ codes "T4" ∷ []
 
 pub circular_of-four : circular_of 4 ≡ Ok (league_data four_names
-    ((0 ∷ 1 ∷ 2 ∷ 1 ∷ []) ∷ (1 ∷ 0 ∷ 1 ∷ 2 ∷ []) ∷ (2 ∷ 1 ∷ 0 ∷ 1 ∷ []) ∷ (1 ∷ 2 ∷ 1 ∷ 0 ∷ []) ∷ []) 3 100)
+    ((0 ∷ 1 ∷ 2 ∷ 1 ∷ []) ∷ (1 ∷ 0 ∷ 1 ∷ 2 ∷ []) ∷ (2 ∷ 1 ∷ 0 ∷ 1 ∷ []) ∷ (1 ∷ 2 ∷ 1 ∷ 0 ∷ []) ∷ []) 3 100 [])
 unfolding league_on_literals
 circular_of-four = refl
 
 pub constant_of-four : constant_of 4 ≡ Ok (league_data four_names
-    ((0 ∷ 1 ∷ 1 ∷ 1 ∷ []) ∷ (1 ∷ 0 ∷ 1 ∷ 1 ∷ []) ∷ (1 ∷ 1 ∷ 0 ∷ 1 ∷ []) ∷ (1 ∷ 1 ∷ 1 ∷ 0 ∷ []) ∷ []) 3 100)
+    ((0 ∷ 1 ∷ 1 ∷ 1 ∷ []) ∷ (1 ∷ 0 ∷ 1 ∷ 1 ∷ []) ∷ (1 ∷ 1 ∷ 0 ∷ 1 ∷ []) ∷ (1 ∷ 1 ∷ 1 ∷ 0 ∷ []) ∷ []) 3 100 [])
 unfolding league_on_literals
 constant_of-four = refl
 
@@ -44,7 +48,7 @@ unfolding league_on_literals
 league_of-four = refl
 
 pub league_of-far : league_of (four_teams (codes "[[0,1000000,0,0],[1000000,0,0,0],[0,0,0,0],[0,0,0,0]]") (codes ",\"at_most\":78,\"hard_weight\":1000000")) ≡ Ok (league_data four_names
-    ((0 ∷ 1000000 ∷ 0 ∷ 0 ∷ []) ∷ (1000000 ∷ 0 ∷ 0 ∷ 0 ∷ []) ∷ (0 ∷ 0 ∷ 0 ∷ 0 ∷ []) ∷ (0 ∷ 0 ∷ 0 ∷ 0 ∷ []) ∷ []) 78 1000000)
+    ((0 ∷ 1000000 ∷ 0 ∷ 0 ∷ []) ∷ (1000000 ∷ 0 ∷ 0 ∷ 0 ∷ []) ∷ (0 ∷ 0 ∷ 0 ∷ 0 ∷ []) ∷ (0 ∷ 0 ∷ 0 ∷ 0 ∷ []) ∷ []) 78 1000000 [])
 unfolding league_on_literals
 league_of-far = refl
 
@@ -103,3 +107,34 @@ league_of-number_as_rule = refl
 pub league_of-rule : league_of (four_teams circle (codes ",\"rules\":[{}]")) ≡ Err (RuleClass 0)
 unfolding league_on_literals
 league_of-rule = refl
+
+-- the text of four teams in a circle with these rules
+abbrev with_rules : List ℕ → List ℕ
+with_rules rules = four_teams circle (codes ",\"rules\":[" ++ rules ++ codes "]")
+
+abbrev circle_with : List Rule → LeagueData
+circle_with rules = league_data four_names ((0 ∷ 1 ∷ 2 ∷ 1 ∷ []) ∷ (1 ∷ 0 ∷ 1 ∷ 2 ∷ []) ∷ (2 ∷ 1 ∷ 0 ∷ 1 ∷ []) ∷ (1 ∷ 2 ∷ 1 ∷ 0 ∷ []) ∷ []) 3 100 rules
+
+-- team 4 away in rounds 1, 3 and 5: as sets 2^3, and 2^0 + 2^2 + 2^4
+pub league_of-CA1 : league_of (with_rules (codes "{\"class\":\"CA1\",\"kind\":\"hard\",\"teams\":[4],\"mode\":\"A\",\"slots\":[1,3,5,3],\"max\":1}"))
+    ≡ Ok (circle_with (record { weight = Hard; body = Ca1 8 Away 21 1 } ∷ []))
+unfolding league_on_literals
+league_of-CA1 = refl
+
+-- all rounds where no slots are given, and a game given twice once
+pub league_of-GA1 : league_of (with_rules (codes "{\"class\":\"GA1\",\"kind\":\"soft\",\"weight\":10,\"games\":[[1,2],[2,1],[1,2]],\"min\":1,\"max\":1}"))
+    ≡ Ok (circle_with (record { weight = Soft 10; body = Ga1 (record { home = 0; away = 1 } ∷ record { home = 1; away = 0 } ∷ []) 63 1 1 } ∷ []))
+unfolding league_on_literals
+league_of-GA1 = refl
+
+pub league_of-too_many_breaks : league_of (with_rules (codes "{\"class\":\"BR2\",\"kind\":\"hard\",\"teams\":[1,2],\"intp\":10001}")) ≡ Err (RuleValue 0)
+unfolding league_on_literals
+league_of-too_many_breaks = refl
+
+pub league_of-second_class : league_of (with_rules (codes "{\"class\":\"SE1\",\"kind\":\"hard\",\"teams\":[1,4],\"min\":3},{\"class\":\"XX1\"}")) ≡ Err (RuleClass 1)
+unfolding league_on_literals
+league_of-second_class = refl
+
+pub league_of-FA2 : league_of (with_rules (codes "{\"class\":\"FA2\",\"kind\":\"hard\",\"teams\":[1],\"slots\":[1],\"intp\":1}")) ≡ Err (RuleClass 0)
+unfolding league_on_literals
+league_of-FA2 = refl

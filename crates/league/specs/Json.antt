@@ -4,7 +4,6 @@ use Rattle.std.specs.Str.{is_utf8}
 use Rattle.serde_json.specs.Data.{Data, Items, no_items, item}
 use Rattle.serde_json.specs.Read.{read}
 use Rattle.serde_json.specs.Find.{as_number, as_u64, as_array, as_object}
-use Rattle.serde_json.specs.Events.{items_len}
 
 -- the value that the bytes stand for, where they are UTF-8 and JSON
 abbrev pub json_of : List ℕ → Option Data
@@ -38,6 +37,6 @@ abbrev pub all_objects : Items → Bool
 all_objects no_items = true
 all_objects (item d ds) = is_object d && all_objects ds
 
--- how many items an array of objects has
-abbrev pub object_count : Data → Option ℕ
-object_count d = option_and_then (λ items. only_if (all_objects items) (items_len items)) (as_array d)
+-- an array of objects
+abbrev pub objects : Data → Option Items
+objects d = option_and_then (λ items. only_if (all_objects items) items) (as_array d)

@@ -1,22 +1,28 @@
 -- A league, without where it lies in memory, and the league that a text stands for.
-use Rattle.std.specs.Prelude.{ℕ, ◌≤◌, ◌==◌, List, [], length, slice_index_or, Result, Ok}
-use Rattle.serde_json.specs.Data.{Data}
+use Rattle.std.specs.Prelude.{ℕ, ◌≤◌, ◌+◌, List, [], ◌∷◌, length, slice_index_or, Result, Ok}
+use Rattle.std.specs.List.{AllByRecursion}
+use Rattle.serde_json.specs.Data.{Data, Items, no_items, item}
+use Rattle.serde_json.specs.Events.{items_len}
 use Rattle.league.specs.declared.fault.Field.TheVariants.{Whole}
 use Rattle.league.specs.declared.fault.LeagueFault.{LeagueFault}
-use Rattle.league.specs.declared.fault.LeagueFault.TheVariants.{NotJson, WrongKind, RuleClass}
+use Rattle.league.specs.declared.fault.LeagueFault.TheVariants.{NotJson, WrongKind, RuleClass, RuleValue}
+use Rattle.league.specs.declared.rule.Rule.{Rule}
 use Rattle.league.specs.Json.{json_of, is_object}
 use Rattle.league.specs.Reading.{◌>>=◌, or_fault, unless}
-use Rattle.league.specs.Members.{format_of, teams_of, distances_of, at_most_of, hard_weight_of, rule_count_of}
+use Rattle.league.specs.Members.{format_of, teams_of, distances_of, at_most_of, hard_weight_of, rules_of}
 use Rattle.league.specs.Limits.{distance_of, checked, IsTable}
+use Rattle.league.specs.RuleLimits.{IsRuleFor}
+use Rattle.league.specs.Rules.{class_of, rule_of_class}
 
 pub record LeagueData : Type 0 where
   pub names : List (List ℕ)
   pub distances : List (List ℕ)
   pub at_most : ℕ
   pub hard_weight : ℕ
+  pub rules : List Rule
 
-abbrev pub league_data : List (List ℕ) → List (List ℕ) → ℕ → ℕ → LeagueData
-league_data names distances at_most hard_weight = record { names = names; distances = distances; at_most = at_most; hard_weight = hard_weight }
+abbrev pub league_data : List (List ℕ) → List (List ℕ) → ℕ → ℕ → List Rule → LeagueData
+league_data names distances at_most hard_weight rules = record { names = names; distances = distances; at_most = at_most; hard_weight = hard_weight; rules = rules }
 
 -- how many teams there are
 abbrev pub teams : LeagueData → ℕ
@@ -37,8 +43,24 @@ pub record IsLeague (l : LeagueData) : Type 0 where
   pub at_most_most : l.at_most ≤ 78
   pub weight_least : 1 ≤ l.hard_weight
   pub weight_most : l.hard_weight ≤ 1000000
+  pub rule_count : length l.rules ≤ 256
+  pub rules : AllByRecursion (IsRuleFor (length l.names)) l.rules
 
--- The members in their order, then the checks of the whole. No class of rule is known, so a first rule has none.
+-- the rule at an index, among n teams
+unfoldable pub rule_of : ℕ → ℕ → Data → Result Rule LeagueFault
+rule_of n i d = do
+  class ← or_fault (RuleClass i) (class_of d)
+  or_fault (RuleValue i) (rule_of_class n d class)
+
+-- the rules from an index on
+abbrev pub rules_from : ℕ → ℕ → Items → Result (List Rule) LeagueFault
+rules_from n i no_items = Ok []
+rules_from n i (item d ds) = do
+  rule ← rule_of n i d
+  rules ← rules_from n (i + 1) ds
+  Ok (rule ∷ rules)
+
+-- The members in their order, then the checks of the whole, then the rules one by one.
 unfoldable pub league_of_data : Data → Result LeagueData LeagueFault
 league_of_data d = do
   object ← unless (is_object d) (WrongKind Whole)
@@ -47,10 +69,10 @@ league_of_data d = do
   distances ← distances_of d
   at_most ← at_most_of d
   hard_weight ← hard_weight_of d
-  rules ← rule_count_of d
-  sound ← checked (length names) distances rules
-  classed ← unless (rules == 0) (RuleClass 0)
-  Ok (league_data names distances at_most hard_weight)
+  items ← rules_of d
+  sound ← checked (length names) distances (items_len items)
+  rules ← rules_from (length names) 0 items
+  Ok (league_data names distances at_most hard_weight rules)
 
 -- the league that the bytes stand for, or the first fault
 unfoldable pub league_of : List ℕ → Result LeagueData LeagueFault

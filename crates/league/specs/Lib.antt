@@ -4,5 +4,11 @@ pub mod Views
 pub mod Members
 pub mod Messages
 pub mod Limits
+pub mod Sums
+pub mod Sets
+pub mod Games
+pub mod RuleLimits
+pub mod RuleMembers
+pub mod Rules
 pub mod League
 pub mod Made

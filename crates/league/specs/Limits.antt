@@ -1,14 +1,10 @@
 -- The limits of a league, each a test of its parts, and what they leave true of a table of distances.
-use Rattle.std.specs.Prelude.{◌≡◌, ℕ, zero, suc, ◌%◌, ◌≤◌, ◌&&◌, ◌==◌, List, [], length, slice_index, slice_index_or, Bool, true, nat_le, Result, ⊤}
+use Rattle.std.specs.Prelude.{◌≡◌, ℕ, ◌%◌, ◌≤◌, ◌&&◌, ◌==◌, List, [], length, slice_index, slice_index_or, Bool, nat_le, Result, ⊤}
 use Rattle.std.specs.List.{list_all, AllByRecursion}
 use Rattle.league.specs.declared.fault.LeagueFault.{LeagueFault}
 use Rattle.league.specs.declared.fault.LeagueFault.TheVariants.{TeamCount, DistanceShape, DistanceRange, Diagonal, Asymmetric, TooManyRules}
 use Rattle.league.specs.Reading.{◌>>=◌, unless}
-
--- every number below n passes
-abbrev pub all_below : ℕ → (ℕ → Bool) → Bool
-all_below zero test = true
-all_below (suc n) test = test n && all_below n test
+use Rattle.league.specs.Sums.{all_below}
 
 -- the number at column b of row a, or 0 beyond the table
 abbrev pub distance_of : List (List ℕ) → ℕ → ℕ → ℕ

@@ -1,11 +1,11 @@
 -- The members of a league's text, in the order of their checks.
 use Rattle.std.specs.Prelude.{ℕ, ◌&&◌, ◌==◌, List, codes, length, Bool, not, nat_le, Option, option_and_then, Result}
 use Rattle.std.specs.List.{list_all}
-use Rattle.serde_json.specs.Data.{Data}
+use Rattle.serde_json.specs.Data.{Data, Items, no_items}
 use Rattle.serde_json.specs.Find.{get, as_str}
 use Rattle.league.specs.declared.fault.Field.TheVariants.{Format, Teams, Distances, AtMost, HardWeight, Rules}
 use Rattle.league.specs.declared.fault.LeagueFault.{LeagueFault}
-use Rattle.league.specs.Json.{only_if, whole_number, number_within, array_of, object_count}
+use Rattle.league.specs.Json.{only_if, whole_number, number_within, array_of, objects}
 use Rattle.league.specs.Reading.{needed, optional}
 
 -- no control byte: neither below 32 nor 127
@@ -42,5 +42,5 @@ at_most_of d = optional AtMost (number_within 1 78) 3 (get (codes "at_most") d)
 abbrev pub hard_weight_of : Data → Result ℕ LeagueFault
 hard_weight_of d = optional HardWeight (number_within 1 1000000) 100 (get (codes "hard_weight") d)
 
-abbrev pub rule_count_of : Data → Result ℕ LeagueFault
-rule_count_of d = optional Rules object_count 0 (get (codes "rules") d)
+abbrev pub rules_of : Data → Result Items LeagueFault
+rules_of d = optional Rules objects no_items (get (codes "rules") d)

@@ -1,6 +1,6 @@
 //! The checks of a league as a whole, in their order.
 
-ghost use Rattle.std.specs.Prelude.{◌≡◌, ◌<◌, [], length, slice_index_or, nat_le, OnOk, IsTrue};
+ghost use Rattle.std.specs.Prelude.{◌≡◌, ◌<◌, ◌≤◌, [], length, slice_index_or, nat_le, OnOk, IsTrue};
 ghost use Rattle.std.specs.List.{list_all};
 ghost use Rattle.league.specs.Limits.{distance_of, is_team_count, is_square, is_in_range, has_zero_diagonal, is_mirrored_at, is_symmetric, checked, IsTable};
 ghost use Rattle.league.specs.Views.{rows};
@@ -58,7 +58,7 @@ fn is_in_range(table: &[Vec<u64>]) -> bool
     true
 }
 
-#[tactic(auto, unfolding(crate::specs::Limits::has_zero_diagonal))]
+#[tactic(auto, using(crate::proofs::Sums::all_below_none, crate::proofs::Sums::all_below_more), unfolding(crate::specs::Limits::has_zero_diagonal))]
 fn has_zero_diagonal(n: usize, table: &[Vec<u64>]) -> bool
     requires { IsTrue (is_square n (rows table.now)) }
     ensures { result ≡ has_zero_diagonal n (rows table.now) }
@@ -71,7 +71,7 @@ fn has_zero_diagonal(n: usize, table: &[Vec<u64>]) -> bool
     true
 }
 
-#[tactic(auto, unfolding(crate::specs::Limits::is_mirrored_at))]
+#[tactic(auto, using(crate::proofs::Sums::all_below_none, crate::proofs::Sums::all_below_more), unfolding(crate::specs::Limits::is_mirrored_at))]
 fn is_mirrored_at(n: usize, table: &[Vec<u64>], a: usize) -> bool
     requires square { IsTrue (is_square n (rows table.now)) }
     requires row { a < n }
@@ -85,7 +85,7 @@ fn is_mirrored_at(n: usize, table: &[Vec<u64>], a: usize) -> bool
     true
 }
 
-#[tactic(auto, unfolding(crate::specs::Limits::is_symmetric))]
+#[tactic(auto, using(crate::proofs::Sums::all_below_none, crate::proofs::Sums::all_below_more), unfolding(crate::specs::Limits::is_symmetric))]
 fn is_symmetric(n: usize, table: &[Vec<u64>]) -> bool
     requires { IsTrue (is_square n (rows table.now)) }
     ensures { result ≡ is_symmetric n (rows table.now) }
@@ -103,6 +103,7 @@ fn is_symmetric(n: usize, table: &[Vec<u64>]) -> bool
 pub fn check(n: usize, table: &[Vec<u64>], rules: usize) -> Result<(), LeagueFault>
     ensures value { result ≡ checked n (rows table.now) rules }
     ensures table { OnOk result (IsTable n (rows table.now)) }
+    ensures count { OnOk result (rules ≤ 256) }
 {
     if !is_team_count(n) {
         return Err(LeagueFault::TeamCount);

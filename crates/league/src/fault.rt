@@ -71,7 +71,6 @@ pub enum LeagueFault {
     #[error("rule {} has no known class", place(.0))]
     RuleClass(u8),
     /// The rule at this index has a known class, and lacks a member or has one that is not of its form.
-    /// No class is known yet, so nothing answers this yet.
     #[error("rule {} has a wrong value", place(.0))]
     RuleValue(u8),
     /// Memory ran out.

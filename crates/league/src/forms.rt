@@ -1,9 +1,10 @@
 //! The forms of JSON values that a league is made of.
 
-ghost use Rattle.std.specs.Prelude.{◌≡◌, IfOk, option_map};
+ghost use Rattle.std.specs.Prelude.{◌≡◌, length, IfOk, option_map};
 ghost use Rattle.std.specs.List.{list_all};
+ghost use Rattle.serde_json.specs.Events.{items_len};
 ghost use Rattle.serde_json.specs.View.{view, items_view};
-ghost use Rattle.league.specs.Json.{number_within, object_count, all_objects};
+ghost use Rattle.league.specs.Json.{number_within, objects, all_objects};
 ghost use Rattle.league.specs.Members.{is_name_byte, is_team_name, team_name, team_names, distance_row, distance_rows};
 ghost use Rattle.league.specs.Views.{texts, rows};
 
@@ -98,12 +99,21 @@ fn all_objects(items: &[Value]) -> bool
     true
 }
 
-/// How many items an array of objects has.
-pub fn object_count(value: &Value) -> Option<usize>
-    ensures { result ≡ object_count (view value.now) }
+/// The items of an array of objects.
+pub fn objects(value: &Value) -> Option<&[Value]>
+    ensures { option_map (λ items. items_view items.now) result ≡ objects (view value.now) }
 {
     value
         .as_array()
+        .map(|items| items.as_slice())
         .filter(|items| all_objects(items))
-        .map(|items| items.len())
+}
+
+/// How many items there are.
+#[tactic(auto, using(crate::proofs::Items::items_len_same))]
+pub fn item_count(items: &[Value]) -> usize
+    ensures value { result ≡ items_len (items_view items.now) }
+    ensures length { result ≡ length items.now }
+{
+    items.len()
 }

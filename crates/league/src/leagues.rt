@@ -1,9 +1,10 @@
 //! A league in memory.
 
-ghost use Rattle.std.specs.Prelude.{◌≡◌, ◌<◌, ◌≤◌, ◌%◌, IfOk};
+ghost use Rattle.std.specs.Prelude.{◌≡◌, ◌<◌, ◌≤◌, ◌%◌, Some, length, slice_get, IfOk};
 ghost use Rattle.league.specs.Views.{texts, rows};
 
 use crate::checks::distance_at;
+use crate::rule::Rule;
 use std::alloc::{AllocError, Global};
 use std::marker::Model;
 
@@ -12,7 +13,7 @@ pub(crate) const DEFAULT_AT_MOST: u8 = 3;
 /// The hard weight of a league that does not say.
 pub(crate) const DEFAULT_HARD_WEIGHT: u32 = 100;
 
-/// Teams, the distances between their homes, and the limits of a schedule. Teams are numbered from 0.
+/// Teams, the distances between their homes, the limits of a schedule and the rules on it. Teams are numbered from 0.
 #[derive(Debug, Drop)]
 pub struct League {
     names: Vec<String>,
@@ -20,6 +21,7 @@ pub struct League {
     distances: Vec<Vec<u64>>,
     at_most: u8,
     hard_weight: u32,
+    rules: Vec<Rule>,
 }
 
 impl Model for League {
@@ -28,28 +30,31 @@ impl Model for League {
 
     ghost Value = { LeagueData };
 
-    ghost view = { λ l. league_data (texts l.names.items) (rows l.distances.items) l.at_most l.hard_weight };
+    ghost view = { λ l. league_data (texts l.names.items) (rows l.distances.items) l.at_most l.hard_weight l.rules.items };
 
-    ghost invariant = { λ l. IsLeague (league_data (texts l.names.items) (rows l.distances.items) l.at_most l.hard_weight) };
+    ghost invariant = { λ l. IsLeague (league_data (texts l.names.items) (rows l.distances.items) l.at_most l.hard_weight l.rules.items) };
 }
 
 impl League {
     ghost use Rattle.league.specs.League.{league_data, teams, name_of, distance, IsLeague};
+    ghost use Rattle.league.specs.RuleLimits.{IsRuleFor};
 
     pub(crate) fn new(
         names: Vec<String>,
         distances: Vec<Vec<u64>>,
         at_most: u8,
         hard_weight: u32,
+        rules: Vec<Rule>,
     ) -> League
-        requires { IsLeague (league_data (texts names.items) (rows distances.items) at_most hard_weight) }
-        ensures { result ≡ league_data (texts names.items) (rows distances.items) at_most hard_weight }
+        requires { IsLeague (league_data (texts names.items) (rows distances.items) at_most hard_weight rules.items) }
+        ensures { result ≡ league_data (texts names.items) (rows distances.items) at_most hard_weight rules.items }
     {
         League {
             names,
             distances,
             at_most,
             hard_weight,
+            rules,
         }
     }
 
@@ -100,13 +105,31 @@ impl League {
         self.hard_weight
     }
 
+    /// How many rules there are.
+    pub fn rule_count(&self) -> usize
+        ensures value { result ≡ length self.now.rules }
+        ensures most { result ≤ 256 }
+    {
+        self.rules.len()
+    }
+
+    /// The rule at an index from 0.
+    pub fn rule(&self, i: usize) -> &Rule
+        requires { i < length self.now.rules }
+        ensures value { slice_get self.now.rules i ≡ Some result.now }
+        ensures range { IsRuleFor (teams self.now) result.now }
+    {
+        &self.rules[i]
+    }
+
     /// An equal league with memory of its own.
     pub fn duplicate(&self, alloc: Global) -> Result<League, AllocError>
         ensures { IfOk result (λ l. l ≡ self.now) }
     {
         let names = duplicate_names(alloc, &self.names)?;
         let distances = duplicate_rows(alloc, &self.distances)?;
-        Ok(League::new(names, distances, self.at_most, self.hard_weight))
+        let rules = duplicate_rules(alloc, &self.rules)?;
+        Ok(League::new(names, distances, self.at_most, self.hard_weight, rules))
     }
 }
 
@@ -126,6 +149,16 @@ fn duplicate_rows(alloc: Global, table: &[Vec<u64>]) -> Result<Vec<Vec<u64>>, Al
     let mut copy = Vec::with_capacity(alloc, table.len())?;
     for row in table {
         copy.push(Vec::from_slice(alloc, row)?)?;
+    }
+    Ok(copy)
+}
+
+fn duplicate_rules(alloc: Global, rules: &[Rule]) -> Result<Vec<Rule>, AllocError>
+    ensures { IfOk result (λ copy. copy.items ≡ rules.now) }
+{
+    let mut copy = Vec::with_capacity(alloc, rules.len())?;
+    for rule in rules {
+        copy.push(rule.clone()?)?;
     }
     Ok(copy)
 }

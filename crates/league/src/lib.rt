@@ -1,5 +1,5 @@
 //! Leagues of the Travelling Tournament Problem (Easton, Nemhauser, Trick 2001): the teams, the distances
-//! between their homes and the limits of a schedule, as read from a JSON text or made for n teams.
+//! between their homes, the limits of a schedule and the rules on it, as read from a JSON text or made for n teams.
 #![tactic(auto)]
 
 mod checks;
@@ -9,6 +9,10 @@ mod leagues;
 mod made;
 mod members;
 mod reader;
+mod rule;
+mod rule_members;
+mod rules;
+mod sets;
 #[cfg(test)]
 mod tests;
 
@@ -16,3 +20,5 @@ pub use fault::{Field, LeagueFault};
 pub use leagues::League;
 pub use made::{circular, constant};
 pub use reader::read_league;
+pub use rule::{GameList, Pairing, Rule, RuleBody, Side, Weight};
+pub use sets::{SlotSet, TeamSet};

@@ -2,13 +2,13 @@
 //! WrongKind where it is not of its form.
 
 ghost use Rattle.std.specs.Prelude.{◌≡◌, ◌≤◌, IfOk};
-ghost use Rattle.serde_json.specs.View.{view};
-ghost use Rattle.league.specs.Reading.{Gives};
-ghost use Rattle.league.specs.Members.{format_of, teams_of, distances_of, at_most_of, hard_weight_of, rule_count_of};
+ghost use Rattle.serde_json.specs.View.{view, items_view};
+ghost use Rattle.league.specs.Reading.{Gives, seen};
+ghost use Rattle.league.specs.Members.{format_of, teams_of, distances_of, at_most_of, hard_weight_of, rules_of};
 ghost use Rattle.league.specs.Views.{texts, rows};
 
 use crate::fault::{Field, LeagueFault};
-use crate::forms::{distance_rows, number_within, object_count, team_names};
+use crate::forms::{distance_rows, number_within, objects, team_names};
 use crate::leagues::{DEFAULT_AT_MOST, DEFAULT_HARD_WEIGHT};
 use serde_json::Value;
 use std::alloc::Global;
@@ -68,12 +68,12 @@ pub fn hard_weight_of(object: &Value) -> Result<u32, LeagueFault>
     }
 }
 
-/// How many rules there are: none where the member is absent.
-pub fn rule_count_of(object: &Value) -> Result<usize, LeagueFault>
-    ensures { result ≡ rule_count_of (view object.now) }
+/// The rules, none where the member is absent.
+pub fn rules_of(object: &Value) -> Result<&[Value], LeagueFault>
+    ensures { seen (λ items. items_view items.now) result ≡ rules_of (view object.now) }
 {
     let Some(member) = object.get("rules") else {
-        return Ok(0);
+        return Ok(&[]);
     };
-    object_count(member).ok_or(LeagueFault::WrongKind(Field::Rules))
+    objects(member).ok_or(LeagueFault::WrongKind(Field::Rules))
 }

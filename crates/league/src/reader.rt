@@ -9,10 +9,10 @@ ghost use Rattle.league.specs.declared.fault.LeagueFault.TheVariants.{NotJson};
 
 use crate::checks::check;
 use crate::fault::{Field, LeagueFault};
+use crate::forms::item_count;
 use crate::leagues::League;
-use crate::members::{
-    at_most_of, distances_of, format_of, hard_weight_of, rule_count_of, teams_of,
-};
+use crate::members::{at_most_of, distances_of, format_of, hard_weight_of, rules_of, teams_of};
+use crate::rules::read_rules;
 use serde_json::{Category, Value};
 use std::alloc::Global;
 
@@ -42,12 +42,10 @@ fn league_of_data(alloc: Global, value: &Value) -> Result<League, LeagueFault>
     let distances = distances_of(alloc, value)?;
     let at_most = at_most_of(value)?;
     let hard_weight = hard_weight_of(value)?;
-    let rules = rule_count_of(value)?;
-    check(names.len(), &distances, rules)?;
-    if rules > 0 {
-        return Err(LeagueFault::RuleClass(0));
-    }
-    Ok(League::new(names, distances, at_most, hard_weight))
+    let items = rules_of(value)?;
+    check(names.len(), &distances, item_count(items))?;
+    let rules = read_rules(alloc, items, names.len() as u8)?;
+    Ok(League::new(names, distances, at_most, hard_weight, rules))
 }
 
 /// Reads a league from its JSON text, an object with these members:
@@ -57,15 +55,17 @@ fn league_of_data(alloc: Global, value: &Value) -> Result<League, LeagueFault>
 /// - `distances`: an array with a row for each team, of a whole number up to 1,000,000 for each team;
 /// - `at_most`, or 3 where it is absent: a whole number from 1 to 78;
 /// - `hard_weight`, or 100 where it is absent: a whole number from 1 to 1,000,000;
-/// - `rules`, or none where it is absent: an array of at most 256 objects. No class of rule is known yet, so the
-///   first rule is answered by RuleClass.
+/// - `rules`, or none where it is absent: an array of at most 256 objects, each a rule.
+///
+/// A rule has the members `class`, `kind` (`"hard"`, or `"soft"` with a `weight` from 1 to 1,000,000) and those of its
+/// class; docs/rules.md has them all. Teams and rounds count from 1 there.
 ///
 /// A whole number fits 64 bits and has no fraction or exponent: `3.0` is none. Other members are ignored, and of a
 /// member that is given twice the last counts.
 ///
 /// The first fault is answered, in this order: NotJson; WrongKind where the text is no object; MissingField or
-/// WrongKind for each member in the order above; then the others in the order of [`LeagueFault`]. Memory may come in
-/// place of any answer, but for an empty input.
+/// WrongKind for each member in the order above; then the others in the order of [`LeagueFault`] up to TooManyRules;
+/// then, rule by rule, RuleClass or RuleValue. Memory may come in place of any answer, but for an empty input.
 #[tactic(auto, unfolding(crate::specs::League::league_of))]
 pub fn read_league(alloc: Global, bytes: &[u8]) -> Result<League, LeagueFault>
     ensures exact { Gives (λ l. l) result (league_of bytes.now) }

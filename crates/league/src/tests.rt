@@ -1,4 +1,6 @@
 mod memory;
+mod rules;
+mod sets;
 
 use crate::{Field, LeagueFault, circular, constant, read_league};
 use std::alloc::{AllocError, Global};

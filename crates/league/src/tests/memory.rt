@@ -4,13 +4,21 @@
 //! every N; `.._with_ample_memory` fails while N is among its allocations.
 
 use super::FOUR_TEAMS;
-use crate::{League, LeagueFault, circular, constant, read_league};
+use crate::{League, LeagueFault, RuleBody, Weight, circular, constant, read_league};
 use std::alloc::AllocError;
 use std::process::Abort;
 use std::test::Fail;
 
 const ASYMMETRIC: &str =
     r#"{"format":1,"teams":["T1","T2","T3","T4"],"distances":[[0,2,2,1],[1,0,1,2],[2,1,0,1],[1,2,1,0]]}"#;
+
+const WITH_RULES: &str = r#"{
+    "format":1,"teams":["T1","T2","T3","T4"],"distances":[[0,1,2,1],[1,0,1,2],[2,1,0,1],[1,2,1,0]],
+    "rules":[
+        {"class":"GA1","kind":"soft","weight":10,"games":[[1,2],[2,1]],"slots":[2],"min":1,"max":1},
+        {"class":"BR2","kind":"hard","teams":[1,2,3,4],"intp":4}
+    ]
+}"#;
 
 fn check_table_of_four(rt: &impl Abort, league: &League, distances: &[[u32; 4]; 4]) {
     assert_eq!(rt; league.teams(), 4);
@@ -70,6 +78,36 @@ fn read_league_tells_refused_memory(rt: HostRuntime) {
 fn read_league_tells_refused_memory_before_a_later_fault(rt: HostRuntime) {
     let fault = read_league(rt.alloc(), ASYMMETRIC.as_bytes()).err();
     assert!(rt; matches!(fault, Some(LeagueFault::Asymmetric | LeagueFault::Memory)));
+}
+
+fn check_rules(rt: &impl Abort, league: &League) {
+    assert_eq!(rt; league.rule_count(), 2);
+    assert_eq!(rt; league.rule(0).weight, Weight::Soft(10));
+    assert!(rt; matches!(&league.rule(0).body, RuleBody::Ga1 { games, .. } if games.len() == 2));
+    assert_eq!(rt; league.rule(1).weight, Weight::Hard);
+    assert!(rt; matches!(league.rule(1).body, RuleBody::Br2 { most: 4, .. }));
+}
+
+#[test]
+fn read_league_with_rules_succeeds_with_ample_memory(rt: HostRuntime) -> Result<(), Fail> {
+    let league = read_league(rt.alloc(), WITH_RULES.as_bytes())?;
+    check_circle_of_four(&rt, &league);
+    check_rules(&rt, &league);
+    let copy = league.duplicate(rt.alloc())?;
+    check_circle_of_four(&rt, &copy);
+    check_rules(&rt, &copy);
+    Ok(())
+}
+
+#[test]
+fn read_league_with_rules_tells_refused_memory(rt: HostRuntime) {
+    if let Some(league) = told(&rt, read_league(rt.alloc(), WITH_RULES.as_bytes())) {
+        check_rules(&rt, &league);
+        if let Ok(copy) = league.duplicate(rt.alloc()) {
+            check_rules(&rt, &copy);
+        }
+        check_rules(&rt, &league);
+    }
 }
 
 #[test]

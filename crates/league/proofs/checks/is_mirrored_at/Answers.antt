@@ -1,9 +1,9 @@
 use Rattle.std.proofs.Common.{sym, arith}
 use Rattle.std.proofs.lemmas.Bool.Decides.{nat_tests}
 use Rattle.league.specs.Limits.{is_mirrored_at}
-use Rattle.league.proofs.Below.{all_below-fails}
+use Rattle.league.proofs.Sums.{all_below_fails}
 use Rattle.league.proofs.checks.is_mirrored_at.Goals as goal
 
 pub returns-then-distance_at : goal.returns-then-distance_at
 unfolding is_mirrored_at
-returns-then-distance_at c = sym (all_below-fails c.args.n _ c.loop-b.b c.loop-b-test.true (grind (arith, nat_tests)))
+returns-then-distance_at c = sym (all_below_fails c.args.n _ c.loop-b.b c.loop-b-test.true (grind (arith, nat_tests)))

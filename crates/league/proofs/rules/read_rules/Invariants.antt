@@ -1,0 +1,15 @@
+-- The rules so far, with those of the items that are left, are the rules of the whole array.
+use Rattle.std.proofs.Common.{◌≡◌, length, drop}
+use Rattle.std.specs.List.{AllByRecursion}
+use Rattle.serde_json.specs.View.{items_view}
+use Rattle.league.specs.League.{rules_from}
+use Rattle.league.specs.RuleLimits.{IsRuleFor}
+use Rattle.league.proofs.Items.{with_front_or_fault}
+use Rattle.league.proofs.rules.read_rules.Given as goal
+
+abbrev pub invariant-loop-index : goal.invariant-loop-index
+invariant-loop-index l = record {
+  read : with_front_or_fault l.rules.items (rules_from l.teams l.index (items_view (drop l.index l.items))) ≡ rules_from l.teams 0 (items_view l.items);
+  range : AllByRecursion (IsRuleFor l.teams) l.rules.items;
+  count : length l.rules.items ≡ l.index;
+}

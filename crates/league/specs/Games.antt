@@ -1,0 +1,29 @@
+-- Lists of games, each once.
+use Rattle.std.specs.Prelude.{◌≢◌, ℕ, ◌<◌, ◌&&◌, ◌==◌, List, [], ◌∷◌, ◌++◌, Bool, if◌then◌else◌}
+use Rattle.std.specs.List.{list_any, AllByRecursion, IsDistinct}
+use Rattle.league.specs.declared.rule.Pairing.{Pairing}
+
+-- two distinct teams of n
+pub record IsGameFor (n : ℕ) (game : Pairing) : Type 0 where
+  pub home : game.home < n
+  pub away : game.away < n
+  pub distinct : game.home ≢ game.away
+
+abbrev pub is_same_game : Pairing → Pairing → Bool
+is_same_game p q = (p.home == q.home) && (p.away == q.away)
+
+-- games of distinct teams, each once; no league has more than 40 teams
+pub record IsGameList (games : List Pairing) : Type 0 where
+  pub each_once : IsDistinct is_same_game games
+  pub fit : AllByRecursion (IsGameFor 40) games
+
+abbrev pub has_game : List Pairing → Pairing → Bool
+has_game games game = list_any (λ other. is_same_game other game) games
+
+-- the games, and this one where it is new
+abbrev pub with_game : List Pairing → Pairing → List Pairing
+with_game games game = if has_game games game then games else games ++ game ∷ []
+
+abbrev pub with_games : List Pairing → List Pairing → List Pairing
+with_games games [] = games
+with_games games (game ∷ more) = with_games (with_game games game) more

@@ -1,0 +1,111 @@
+-- The rules of a league's text, by class, among n teams.
+use Rattle.std.specs.Prelude.{ℕ, List, codes, nat_le, Option, Some, None, option_and_then, if◌then◌else◌}
+use Rattle.std.specs.Str.{bytes_eq}
+use Rattle.serde_json.specs.Data.{Data}
+use Rattle.league.specs.declared.rule.Rule.{Rule}
+use Rattle.league.specs.declared.rule.RuleBody.{RuleBody}
+use Rattle.league.specs.declared.rule.RuleBody.TheVariants.{Ca1, Ca2, Ca3, Ca4, Ga1, Br1, Br2, Se1}
+use Rattle.league.specs.declared.rules.Class.{Class}
+use Rattle.league.specs.declared.rules.Class.TheVariants as class
+use Rattle.league.specs.Json.{only_if}
+use Rattle.league.specs.RuleMembers.{text_member, teams_member, opponents_member, slots_member, count_member, window_member, one_side_member, any_side_member, each_member, games_member, weight_of}
+
+infixl 10 ◌>>=◌
+abbrev pub ◌>>=◌ : {A B : Type 0} → Option A → (A → Option B) → Option B
+o >>= f = option_and_then f o
+
+-- the class that a name stands for
+abbrev pub class_named : List ℕ → Option Class
+class_named name =
+    if bytes_eq name (codes "CA1") then Some class.Ca1 else
+    (if bytes_eq name (codes "CA2") then Some class.Ca2 else
+    (if bytes_eq name (codes "CA3") then Some class.Ca3 else
+    (if bytes_eq name (codes "CA4") then Some class.Ca4 else
+    (if bytes_eq name (codes "GA1") then Some class.Ga1 else
+    (if bytes_eq name (codes "BR1") then Some class.Br1 else
+    (if bytes_eq name (codes "BR2") then Some class.Br2 else
+    (if bytes_eq name (codes "SE1") then Some class.Se1 else None)))))))
+
+abbrev pub class_of : Data → Option Class
+class_of d = option_and_then class_named (text_member (codes "class") d)
+
+unfoldable pub ca1_of : ℕ → Data → Option RuleBody
+ca1_of n d = do
+  teams ← teams_member n (codes "teams") d
+  side ← one_side_member d
+  slots ← slots_member n d
+  max ← count_member (codes "max") d
+  Some (Ca1 teams side slots max)
+
+unfoldable pub ca2_of : ℕ → Data → Option RuleBody
+ca2_of n d = do
+  teams1 ← teams_member n (codes "teams1") d
+  side ← any_side_member d
+  teams2 ← opponents_member n d
+  slots ← slots_member n d
+  max ← count_member (codes "max") d
+  Some (Ca2 teams1 side teams2 slots max)
+
+unfoldable pub ca3_of : ℕ → Data → Option RuleBody
+ca3_of n d = do
+  teams1 ← teams_member n (codes "teams1") d
+  side ← any_side_member d
+  teams2 ← opponents_member n d
+  window ← window_member n d
+  max ← count_member (codes "max") d
+  Some (Ca3 teams1 side teams2 window max)
+
+unfoldable pub ca4_of : ℕ → Data → Option RuleBody
+ca4_of n d = do
+  teams1 ← teams_member n (codes "teams1") d
+  side ← any_side_member d
+  teams2 ← opponents_member n d
+  slots ← slots_member n d
+  each ← each_member d
+  max ← count_member (codes "max") d
+  Some (Ca4 teams1 side teams2 slots each max)
+
+unfoldable pub ga1_of : ℕ → Data → Option RuleBody
+ga1_of n d = do
+  games ← games_member n d
+  slots ← slots_member n d
+  min ← count_member (codes "min") d
+  max ← count_member (codes "max") d
+  only_if (nat_le min max) (Ga1 games slots min max)
+
+unfoldable pub br1_of : ℕ → Data → Option RuleBody
+br1_of n d = do
+  teams ← teams_member n (codes "teams") d
+  side ← any_side_member d
+  slots ← slots_member n d
+  most ← count_member (codes "intp") d
+  Some (Br1 teams side slots most)
+
+unfoldable pub br2_of : ℕ → Data → Option RuleBody
+br2_of n d = do
+  teams ← teams_member n (codes "teams") d
+  slots ← slots_member n d
+  most ← count_member (codes "intp") d
+  Some (Br2 teams slots most)
+
+unfoldable pub se1_of : ℕ → Data → Option RuleBody
+se1_of n d = do
+  teams ← teams_member n (codes "teams") d
+  min ← count_member (codes "min") d
+  Some (Se1 teams min)
+
+abbrev pub body_of : ℕ → Data → Class → Option RuleBody
+body_of n d class.Ca1 = ca1_of n d
+body_of n d class.Ca2 = ca2_of n d
+body_of n d class.Ca3 = ca3_of n d
+body_of n d class.Ca4 = ca4_of n d
+body_of n d class.Ga1 = ga1_of n d
+body_of n d class.Br1 = br1_of n d
+body_of n d class.Br2 = br2_of n d
+body_of n d class.Se1 = se1_of n d
+
+abbrev pub rule_of_class : ℕ → Data → Class → Option Rule
+rule_of_class n d class = do
+  weight ← weight_of d
+  body ← body_of n d class
+  Some (record { weight = weight; body = body })

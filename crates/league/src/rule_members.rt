@@ -1,0 +1,214 @@
+//! The members of a rule's text. Each answer is None where the member is absent or not of its form. Teams and rounds
+//! count from 1 in the text, and from 0 in what is read.
+
+ghost use Rattle.std.specs.Prelude.{◌≡◌, ◌≢◌, ◌≤◌, IfOk, IfSome, length, option_map};
+ghost use Rattle.std.specs.List.{AllByRecursion};
+ghost use Rattle.serde_json.specs.View.{view};
+ghost use Rattle.league.specs.declared.rule.Side.TheVariants.{Any};
+ghost use Rattle.league.specs.Games.{IsGameFor};
+ghost use Rattle.league.specs.RuleLimits.{rounds_of, IsCount, IsWeight};
+ghost use Rattle.league.specs.RuleMembers.{text_member, number_set, teams_member, opponents_member, slots_member, count_member, window_member, one_side, one_side_member, any_side_member, each_member, game_of, games_member, soft_weight, weight_of};
+ghost use Rattle.league.specs.Sets.{IsBelow};
+
+use crate::forms::number_within;
+use crate::rule::{GameList, Pairing, Side, Weight};
+use crate::sets::{SlotSet, TeamSet};
+use serde_json::Value;
+use std::alloc::{AllocError, Global};
+
+const MAX_COUNT: u64 = 10_000;
+
+const MAX_WEIGHT: u64 = 1_000_000;
+
+/// A member that is a string.
+pub fn text_member<'a>(rule: &'a Value, name: &str) -> Option<&'a str>
+    ensures { option_map (λ text. text.now) result ≡ text_member name.now (view rule.now) }
+{
+    rule.get(name).and_then(|member| member.as_str())
+}
+
+// an array of numbers from 1 to the number of teams
+fn team_set(value: &Value, teams: u8) -> Option<TeamSet>
+    requires { teams ≤ 40 }
+    ensures value { result ≡ number_set teams (view value.now) }
+    ensures range { IfSome result (λ set. IsBelow teams set) }
+{
+    let mut set = TeamSet::empty();
+    for item in value.as_array()? {
+        let number = number_within(item, 1, teams.into())?;
+        set = set.with(number as u8 - 1);
+    }
+    Some(set)
+}
+
+// an array of numbers from 1 to the number of rounds
+fn slot_set(value: &Value, rounds: u8) -> Option<SlotSet>
+    requires { rounds ≤ 78 }
+    ensures value { result ≡ number_set rounds (view value.now) }
+    ensures range { IfSome result (λ set. IsBelow rounds set) }
+{
+    let mut set = SlotSet::empty();
+    for item in value.as_array()? {
+        let number = number_within(item, 1, rounds.into())?;
+        set = set.with(number as u8 - 1);
+    }
+    Some(set)
+}
+
+/// A set of teams.
+pub fn teams_member(rule: &Value, name: &str, teams: u8) -> Option<TeamSet>
+    requires { teams ≤ 40 }
+    ensures value { result ≡ teams_member teams name.now (view rule.now) }
+    ensures range { IfSome result (λ set. IsBelow teams set) }
+{
+    team_set(rule.get(name)?, teams)
+}
+
+/// The opponents that count: all teams where the member is absent.
+pub fn opponents_member(rule: &Value, teams: u8) -> Option<TeamSet>
+    requires { teams ≤ 40 }
+    ensures value { result ≡ opponents_member teams (view rule.now) }
+    ensures range { IfSome result (λ set. IsBelow teams set) }
+{
+    match rule.get("teams2") {
+        Some(member) => team_set(member, teams),
+        None => Some(TeamSet::first(teams)),
+    }
+}
+
+/// The rounds that count: all rounds where the member is absent.
+pub fn slots_member(rule: &Value, teams: u8) -> Option<SlotSet>
+    requires least { 1 ≤ teams }
+    requires most { teams ≤ 40 }
+    ensures value { result ≡ slots_member teams (view rule.now) }
+    ensures range { IfSome result (λ set. IsBelow (rounds_of teams) set) }
+{
+    let rounds = 2 * (teams - 1);
+    match rule.get("slots") {
+        Some(member) => slot_set(member, rounds),
+        None => Some(SlotSet::first(rounds)),
+    }
+}
+
+/// A number from 0 to 10,000.
+pub fn count_member(rule: &Value, name: &str) -> Option<u32>
+    ensures value { result ≡ count_member name.now (view rule.now) }
+    ensures range { IfSome result IsCount }
+{
+    let number = number_within(rule.get(name)?, 0, MAX_COUNT)?;
+    Some(number as u32)
+}
+
+/// A number of rounds in a row, from 1 to all.
+pub fn window_member(rule: &Value, teams: u8) -> Option<u32>
+    requires least { 1 ≤ teams }
+    requires most { teams ≤ 40 }
+    ensures value { result ≡ window_member teams (view rule.now) }
+    ensures least { IfSome result (λ window. 1 ≤ window) }
+    ensures most { IfSome result (λ window. window ≤ rounds_of teams) }
+{
+    let rounds = 2 * (teams - 1);
+    let number = number_within(rule.get("intp")?, 1, rounds.into())?;
+    Some(number as u32)
+}
+
+fn one_side(mode: &str) -> Option<Side>
+    ensures value { result ≡ one_side mode.now }
+    ensures one { IfSome result (λ side. side ≢ Any) }
+{
+    match mode {
+        "H" => Some(Side::Home),
+        "A" => Some(Side::Away),
+        _ => None,
+    }
+}
+
+/// Home or away.
+pub fn one_side_member(rule: &Value) -> Option<Side>
+    ensures value { result ≡ one_side_member (view rule.now) }
+    ensures one { IfSome result (λ side. side ≢ Any) }
+{
+    one_side(text_member(rule, "mode")?)
+}
+
+/// Home, away or both.
+pub fn any_side_member(rule: &Value) -> Option<Side>
+    ensures { result ≡ any_side_member (view rule.now) }
+{
+    match text_member(rule, "mode")? {
+        "HA" => Some(Side::Any),
+        mode => one_side(mode),
+    }
+}
+
+/// Whether each slot is limited, and not all of them together.
+pub fn each_member(rule: &Value) -> Option<bool>
+    ensures { result ≡ each_member (view rule.now) }
+{
+    match text_member(rule, "mode2")? {
+        "EVERY" => Some(true),
+        "GLOBAL" => Some(false),
+        _ => None,
+    }
+}
+
+// two numbers of distinct teams, the home team first
+#[tactic(auto, using(crate::proofs::Items::game_of_items_none))]
+fn game_of(value: &Value, teams: u8) -> Option<Pairing>
+    requires { teams ≤ 40 }
+    ensures value { result ≡ game_of teams (view value.now) }
+    ensures range { IfSome result (IsGameFor teams) }
+{
+    let [home, away] = value.as_array()?.as_slice() else {
+        return None;
+    };
+    let home = number_within(home, 1, teams.into())?;
+    let away = number_within(away, 1, teams.into())?;
+    if home == away {
+        return None;
+    }
+    Some(Pairing {
+        home: home as u8 - 1,
+        away: away as u8 - 1,
+    })
+}
+
+/// A list of games, each once.
+pub fn games_member(alloc: Global, rule: &Value, teams: u8) -> Result<Option<GameList>, AllocError>
+    requires { teams ≤ 40 }
+    ensures value { IfOk result (λ games. games ≡ games_member teams (view rule.now)) }
+    ensures range { IfOk result (λ games. IfSome games (AllByRecursion (IsGameFor teams))) }
+    ensures most { IfOk result (λ games. IfSome games (λ list. length list ≤ 1600)) }
+{
+    let Some(list) = rule.get("games").and_then(|member| member.as_array()) else {
+        return Ok(None);
+    };
+    let mut games = GameList::new(alloc);
+    for item in list {
+        let Some(game) = game_of(item, teams) else {
+            return Ok(None);
+        };
+        games.add(game)?;
+    }
+    Ok(Some(games))
+}
+
+fn soft_weight(rule: &Value) -> Option<Weight>
+    ensures value { result ≡ soft_weight (view rule.now) }
+    ensures range { IfSome result IsWeight }
+{
+    let number = number_within(rule.get("weight")?, 1, MAX_WEIGHT)?;
+    Some(Weight::Soft(number as u32))
+}
+
+/// The weight by the rule's kind, hard or soft.
+pub fn weight_of(rule: &Value) -> Option<Weight>
+    ensures value { result ≡ weight_of (view rule.now) }
+    ensures range { IfSome result IsWeight }
+{
+    match text_member(rule, "kind")? {
+        "hard" => Some(Weight::Hard),
+        "soft" => soft_weight(rule),
+        _ => None,
+    }
+}

@@ -1,0 +1,247 @@
+//! The rules of a league's text, by class.
+
+ghost use Rattle.std.specs.Prelude.{◌≡◌, ◌≤◌, length, IfOk, IfSome};
+ghost use Rattle.std.specs.List.{AllByRecursion};
+ghost use Rattle.serde_json.specs.View.{view, items_view};
+ghost use Rattle.league.specs.Reading.{Gives};
+ghost use Rattle.league.specs.RuleLimits.{IsBodyFor, IsRuleFor};
+ghost use Rattle.league.specs.Rules.{class_of, ca1_of, ca2_of, ca3_of, ca4_of, ga1_of, br1_of, br2_of, se1_of, body_of, rule_of_class};
+ghost use Rattle.league.specs.League.{rule_of, rules_from};
+
+use crate::fault::LeagueFault;
+use crate::rule::{Rule, RuleBody};
+use crate::rule_members::{
+    any_side_member, count_member, each_member, games_member, one_side_member, opponents_member,
+    slots_member, teams_member, text_member, weight_of, window_member,
+};
+use serde_json::Value;
+use std::alloc::{AllocError, Global};
+
+/// The classes of rules.
+#[derive(Clone, Copy)]
+pub(crate) enum Class {
+    Ca1,
+    Ca2,
+    Ca3,
+    Ca4,
+    Ga1,
+    Br1,
+    Br2,
+    Se1,
+}
+
+fn class_of(rule: &Value) -> Option<Class>
+    ensures { result ≡ class_of (view rule.now) }
+{
+    match text_member(rule, "class")? {
+        "CA1" => Some(Class::Ca1),
+        "CA2" => Some(Class::Ca2),
+        "CA3" => Some(Class::Ca3),
+        "CA4" => Some(Class::Ca4),
+        "GA1" => Some(Class::Ga1),
+        "BR1" => Some(Class::Br1),
+        "BR2" => Some(Class::Br2),
+        "SE1" => Some(Class::Se1),
+        _ => None,
+    }
+}
+
+#[tactic(auto, unfolding(crate::specs::Rules::ca1_of))]
+fn ca1_of(rule: &Value, teams: u8) -> Option<RuleBody>
+    requires least { 1 ≤ teams }
+    requires most { teams ≤ 40 }
+    ensures value { result ≡ ca1_of teams (view rule.now) }
+    ensures range { IfSome result (IsBodyFor teams) }
+{
+    Some(RuleBody::Ca1 {
+        teams: teams_member(rule, "teams", teams)?,
+        side: one_side_member(rule)?,
+        slots: slots_member(rule, teams)?,
+        max: count_member(rule, "max")?,
+    })
+}
+
+#[tactic(auto, unfolding(crate::specs::Rules::ca2_of))]
+fn ca2_of(rule: &Value, teams: u8) -> Option<RuleBody>
+    requires least { 1 ≤ teams }
+    requires most { teams ≤ 40 }
+    ensures value { result ≡ ca2_of teams (view rule.now) }
+    ensures range { IfSome result (IsBodyFor teams) }
+{
+    Some(RuleBody::Ca2 {
+        teams1: teams_member(rule, "teams1", teams)?,
+        side: any_side_member(rule)?,
+        teams2: opponents_member(rule, teams)?,
+        slots: slots_member(rule, teams)?,
+        max: count_member(rule, "max")?,
+    })
+}
+
+#[tactic(auto, unfolding(crate::specs::Rules::ca3_of))]
+fn ca3_of(rule: &Value, teams: u8) -> Option<RuleBody>
+    requires least { 1 ≤ teams }
+    requires most { teams ≤ 40 }
+    ensures value { result ≡ ca3_of teams (view rule.now) }
+    ensures range { IfSome result (IsBodyFor teams) }
+{
+    Some(RuleBody::Ca3 {
+        teams1: teams_member(rule, "teams1", teams)?,
+        side: any_side_member(rule)?,
+        teams2: opponents_member(rule, teams)?,
+        window: window_member(rule, teams)?,
+        max: count_member(rule, "max")?,
+    })
+}
+
+#[tactic(auto, unfolding(crate::specs::Rules::ca4_of))]
+fn ca4_of(rule: &Value, teams: u8) -> Option<RuleBody>
+    requires least { 1 ≤ teams }
+    requires most { teams ≤ 40 }
+    ensures value { result ≡ ca4_of teams (view rule.now) }
+    ensures range { IfSome result (IsBodyFor teams) }
+{
+    Some(RuleBody::Ca4 {
+        teams1: teams_member(rule, "teams1", teams)?,
+        side: any_side_member(rule)?,
+        teams2: opponents_member(rule, teams)?,
+        slots: slots_member(rule, teams)?,
+        each: each_member(rule)?,
+        max: count_member(rule, "max")?,
+    })
+}
+
+#[tactic(auto, unfolding(crate::specs::Rules::ga1_of))]
+fn ga1_of(alloc: Global, rule: &Value, teams: u8) -> Result<Option<RuleBody>, AllocError>
+    requires least { 1 ≤ teams }
+    requires most { teams ≤ 40 }
+    ensures value { IfOk result (λ body. body ≡ ga1_of teams (view rule.now)) }
+    ensures range { IfOk result (λ body. IfSome body (IsBodyFor teams)) }
+{
+    let Some(games) = games_member(alloc, rule, teams)? else {
+        return Ok(None);
+    };
+    let Some(slots) = slots_member(rule, teams) else {
+        return Ok(None);
+    };
+    let (Some(min), Some(max)) = (count_member(rule, "min"), count_member(rule, "max")) else {
+        return Ok(None);
+    };
+    if min > max {
+        return Ok(None);
+    }
+    Ok(Some(RuleBody::Ga1 {
+        games,
+        slots,
+        min,
+        max,
+    }))
+}
+
+#[tactic(auto, unfolding(crate::specs::Rules::br1_of))]
+fn br1_of(rule: &Value, teams: u8) -> Option<RuleBody>
+    requires least { 1 ≤ teams }
+    requires most { teams ≤ 40 }
+    ensures value { result ≡ br1_of teams (view rule.now) }
+    ensures range { IfSome result (IsBodyFor teams) }
+{
+    Some(RuleBody::Br1 {
+        teams: teams_member(rule, "teams", teams)?,
+        side: any_side_member(rule)?,
+        slots: slots_member(rule, teams)?,
+        most: count_member(rule, "intp")?,
+    })
+}
+
+#[tactic(auto, unfolding(crate::specs::Rules::br2_of))]
+fn br2_of(rule: &Value, teams: u8) -> Option<RuleBody>
+    requires least { 1 ≤ teams }
+    requires most { teams ≤ 40 }
+    ensures value { result ≡ br2_of teams (view rule.now) }
+    ensures range { IfSome result (IsBodyFor teams) }
+{
+    Some(RuleBody::Br2 {
+        teams: teams_member(rule, "teams", teams)?,
+        slots: slots_member(rule, teams)?,
+        most: count_member(rule, "intp")?,
+    })
+}
+
+#[tactic(auto, unfolding(crate::specs::Rules::se1_of))]
+fn se1_of(rule: &Value, teams: u8) -> Option<RuleBody>
+    requires { teams ≤ 40 }
+    ensures value { result ≡ se1_of teams (view rule.now) }
+    ensures range { IfSome result (IsBodyFor teams) }
+{
+    Some(RuleBody::Se1 {
+        teams: teams_member(rule, "teams", teams)?,
+        min: count_member(rule, "min")?,
+    })
+}
+
+fn body_of(
+    alloc: Global,
+    rule: &Value,
+    teams: u8,
+    class: Class,
+) -> Result<Option<RuleBody>, AllocError>
+    requires least { 1 ≤ teams }
+    requires most { teams ≤ 40 }
+    ensures value { IfOk result (λ body. body ≡ body_of teams (view rule.now) class) }
+    ensures range { IfOk result (λ body. IfSome body (IsBodyFor teams)) }
+{
+    match class {
+        Class::Ca1 => Ok(ca1_of(rule, teams)),
+        Class::Ca2 => Ok(ca2_of(rule, teams)),
+        Class::Ca3 => Ok(ca3_of(rule, teams)),
+        Class::Ca4 => Ok(ca4_of(rule, teams)),
+        Class::Ga1 => ga1_of(alloc, rule, teams),
+        Class::Br1 => Ok(br1_of(rule, teams)),
+        Class::Br2 => Ok(br2_of(rule, teams)),
+        Class::Se1 => Ok(se1_of(rule, teams)),
+    }
+}
+
+fn rule_of_class(
+    alloc: Global,
+    rule: &Value,
+    teams: u8,
+    class: Class,
+) -> Result<Option<Rule>, AllocError>
+    requires least { 1 ≤ teams }
+    requires most { teams ≤ 40 }
+    ensures value { IfOk result (λ rule'. rule' ≡ rule_of_class teams (view rule.now) class) }
+    ensures range { IfOk result (λ rule'. IfSome rule' (IsRuleFor teams)) }
+{
+    let Some(weight) = weight_of(rule) else {
+        return Ok(None);
+    };
+    let body = body_of(alloc, rule, teams, class)?;
+    Ok(body.map(|body| Rule { weight, body }))
+}
+
+#[tactic(auto, unfolding(crate::specs::League::rule_of))]
+fn rule_of(alloc: Global, rule: &Value, teams: u8, index: u8) -> Result<Rule, LeagueFault>
+    requires least { 1 ≤ teams }
+    requires most { teams ≤ 40 }
+    ensures exact { Gives (λ r. r) result (rule_of teams index (view rule.now)) }
+    ensures range { IfOk result (IsRuleFor teams) }
+{
+    let class = class_of(rule).ok_or(LeagueFault::RuleClass(index))?;
+    rule_of_class(alloc, rule, teams, class)?.ok_or(LeagueFault::RuleValue(index))
+}
+
+/// Reads the rules of a league of so many teams, or tells the first fault.
+pub fn read_rules(alloc: Global, items: &[Value], teams: u8) -> Result<Vec<Rule>, LeagueFault>
+    requires least { 1 ≤ teams }
+    requires most { teams ≤ 40 }
+    requires count { length items.now ≤ 256 }
+    ensures exact { Gives (λ rules. rules.items) result (rules_from teams 0 (items_view items.now)) }
+    ensures range { IfOk result (λ rules. AllByRecursion (IsRuleFor teams) rules.items) }
+    ensures count { IfOk result (λ rules. length rules.items ≤ 256) }
+{
+    let mut rules = Vec::with_capacity(alloc, items.len())?;
+    for (index, item) in items.iter().enumerate() {
+        rules.push(rule_of(alloc, item, teams, index as u8)?)?;
+    }
+    Ok(rules)
+}
