@@ -1,0 +1,15 @@
+use Rattle.std.proofs.Common.{◌≡◌, ◌-◌, ◌^◌, false}
+use Rattle.league.specs.Sets.{has, IsBelow}
+use Rattle.moves.proofs.Added.{with_added}
+use Rattle.moves.proofs.RoundChain.{IsRoundChain}
+use Rattle.moves.proofs.chains.moved_rounds.Given as goal
+
+abbrev pub invariant-loop-found : goal.invariant-loop-found
+invariant-loop-found l = record {
+  chain : IsRoundChain l.schedule l.i l.j l.k l.round (with_added l.round (has l.found));
+  fresh : has l.found l.round ≡ false;
+  below : IsBelow 78 l.found;
+}
+
+abbrev pub decreases-loop-found : goal.decreases-loop-found
+decreases-loop-found l = 2 ^ 78 - l.found

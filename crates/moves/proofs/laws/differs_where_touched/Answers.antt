@@ -1,0 +1,5 @@
+use Rattle.moves.proofs.EachMove.{each-differs}
+use Rattle.moves.proofs.laws.differs_where_touched.Goals as goal
+
+pub returns : goal.returns
+returns c = each-differs

@@ -1,0 +1,21 @@
+//! The laws of the moves. The functions do nothing: what is known of the moves is in their contracts, each of which
+//! speaks of all double round robins and all moves that can be made there.
+
+ghost use Rattle.moves.specs.Laws.{OfEachMove, IsItsOwnInverse, StaysDoubleRoundRobin, DiffersWhereTouched};
+
+/// Each move is its own inverse: it can be made on the schedule that it gives, and gives the first one back. The
+/// teams or rounds that have to follow, and those that are touched, are the same both times.
+pub fn moves_back()
+    ensures { OfEachMove IsItsOwnInverse }
+{}
+
+/// After a move the schedule is a double round robin.
+pub fn stays_double_round_robin()
+    ensures { OfEachMove StaysDoubleRoundRobin }
+{}
+
+/// What a team does in a round is the same before a move and after it, unless both the team and the round are
+/// touched.
+pub fn differs_where_touched()
+    ensures { OfEachMove DiffersWhereTouched }
+{}

@@ -1,0 +1,24 @@
+//! The moves between double round robins for the Travelling Tournament Problem (Anagnostopoulos, Michel,
+//! Van Hentenryck, Vergados 2006): which can be made on a schedule, which teams or rounds a partial move takes
+//! along, and which cells a move changes.
+//!
+//! Teams and rounds are numbered from 0. No call takes memory.
+#![tactic(auto)]
+
+mod chains;
+mod changes;
+mod effects;
+mod fault;
+mod laws;
+mod moves;
+mod refusals;
+#[cfg(test)]
+mod tests;
+
+pub use chains::{moved_rounds, moved_teams};
+pub use changes::would_change;
+pub use effects::{apply, touched};
+pub use fault::MoveFault;
+pub use laws::{differs_where_touched, moves_back, stays_double_round_robin};
+pub use moves::Move;
+pub use refusals::check;

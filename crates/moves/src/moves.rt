@@ -1,0 +1,18 @@
+//! The five moves.
+
+/// A move of a schedule. Teams and rounds are numbered from 0. Each move exchanges two things, so made a second
+/// time it gives the schedule back. A partial move exchanges them in a part of the schedule: the least that has to
+/// follow so that a double round robin is left.
+#[derive(Clone, Copy, Debug, PartialEq, Eq)]
+pub enum Move {
+    /// The two games between teams `i` and `j` exchange their rounds.
+    Homes { i: u8, j: u8 },
+    /// Rounds `k` and `l` are exchanged.
+    Rounds { k: u8, l: u8 },
+    /// Teams `i` and `j` are exchanged in all games but the two between them.
+    Teams { i: u8, j: u8 },
+    /// Rounds `k` and `l` are exchanged for team `i` and the teams that have to follow.
+    PartRounds { i: u8, k: u8, l: u8 },
+    /// Teams `i` and `j` are exchanged in round `k` and the rounds that have to follow.
+    PartTeams { i: u8, j: u8, k: u8 },
+}

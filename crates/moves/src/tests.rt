@@ -1,0 +1,3 @@
+mod chains;
+mod effects;
+mod refusals;
