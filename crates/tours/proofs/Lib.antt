@@ -1,0 +1,5 @@
+pub mod Stops
+pub mod Stretches
+pub mod HigherTeams
+pub mod RunWindows
+mod Worked

@@ -1,0 +1,87 @@
+-- Worked costs of four teams whose homes lie in a circle: of the Berger start, and of what some moves make of it.
+-- Teams and rounds are numbered from 0 here.
+use Rattle.std.proofs.Common.{◌≡◌, ℕ, true, List, [], ◌∷◌, map, refl}
+use Rattle.std.specs.List.{range_with_len}
+use Rattle.league.specs.League.{LeagueData, league_data}
+use Rattle.league.specs.Sums.{sum_below, all_below}
+use Rattle.fixtures.specs.Games.{Games}
+use Rattle.fixtures.specs.Berger.{berger_games}
+use Rattle.fixtures.specs.Edits.{homes_exchanged, rounds_exchanged, all_games_exchanged}
+use Rattle.tours.specs.Tours.{place, tour, leg, travel_of, travel}
+use Rattle.tours.specs.Runs.{is_home, is_run, runs_of, runs_over}
+use Rattle.tours.specs.Repeats.{meets, repeats_after, repeats}
+
+-- the league of four teams with these distances
+abbrev four_teams : List (List ℕ) → LeagueData
+four_teams distances = league_data [] distances 3 100
+
+abbrev circle : LeagueData
+circle = four_teams ((0 ∷ 1 ∷ 2 ∷ 1 ∷ []) ∷ (1 ∷ 0 ∷ 1 ∷ 2 ∷ []) ∷ (2 ∷ 1 ∷ 0 ∷ 1 ∷ []) ∷ (1 ∷ 2 ∷ 1 ∷ 0 ∷ []) ∷ [])
+
+-- the league of four teams, each so far from each other
+abbrev equal_distances : ℕ → LeagueData
+equal_distances d = four_teams ((0 ∷ d ∷ d ∷ d ∷ []) ∷ (d ∷ 0 ∷ d ∷ d ∷ []) ∷ (d ∷ d ∷ 0 ∷ d ∷ []) ∷ (d ∷ d ∷ d ∷ 0 ∷ []) ∷ [])
+
+abbrev start : Games
+start = berger_games 4
+
+-- how far each of four teams travels
+abbrev tours_of : Games → List ℕ
+tours_of g = map (travel_of circle g) (range_with_len 0 4)
+
+first_tour_of_the_start : tour start 0 ≡ 0 ∷ 0 ∷ 0 ∷ 2 ∷ 3 ∷ 1 ∷ 0 ∷ 0 ∷ []
+unfolding place
+first_tour_of_the_start = refl
+
+tours_of_the_start : tours_of start ≡ 6 ∷ 8 ∷ 8 ∷ 8 ∷ []
+unfolding sum_below place leg travel_of
+tours_of_the_start = refl
+
+travel_of_the_start : travel circle start ≡ 30
+unfolding sum_below place leg travel_of travel
+travel_of_the_start = refl
+
+tours_with_homes_exchanged : tours_of (homes_exchanged start 0 1) ≡ 4 ∷ 6 ∷ 8 ∷ 8 ∷ []
+unfolding sum_below place leg travel_of
+tours_with_homes_exchanged = refl
+
+tours_with_teams_exchanged : tours_of (all_games_exchanged start 0 1) ≡ 6 ∷ 6 ∷ 6 ∷ 8 ∷ []
+unfolding sum_below place leg travel_of
+tours_with_teams_exchanged = refl
+
+tours_with_last_two_rounds_exchanged : tours_of (rounds_exchanged start 4 5 (λ _. true)) ≡ 6 ∷ 6 ∷ 8 ∷ 8 ∷ []
+unfolding sum_below place leg travel_of
+tours_with_last_two_rounds_exchanged = refl
+
+travel_with_first_and_third_round_exchanged : travel circle (rounds_exchanged start 0 2 (λ _. true)) ≡ 32
+unfolding sum_below place leg travel_of travel
+travel_with_first_and_third_round_exchanged = refl
+
+travel_at_distance_one : travel (equal_distances 1) start ≡ 21
+unfolding sum_below place leg travel_of travel
+travel_at_distance_one = refl
+
+travel_at_the_greatest_distance : travel (equal_distances 1000000) start ≡ 21000000
+unfolding sum_below place leg travel_of travel
+travel_at_the_greatest_distance = refl
+
+runs_of_the_start : map (runs_over start) (1 ∷ 2 ∷ 3 ∷ 5 ∷ 6 ∷ 78 ∷ []) ≡ 6 ∷ 2 ∷ 0 ∷ 0 ∷ 0 ∷ 0 ∷ []
+unfolding sum_below all_below is_home is_run runs_of runs_over
+runs_of_the_start = refl
+
+repeats_of_the_start : repeats start ≡ 0
+unfolding sum_below meets repeats_after repeats
+repeats_of_the_start = refl
+
+repeats_with_second_and_fourth_round_exchanged : repeats (rounds_exchanged start 1 3 (λ _. true)) ≡ 4
+unfolding sum_below meets repeats_after repeats
+repeats_with_second_and_fourth_round_exchanged = refl
+
+-- the third round is the last of the first half
+repeats_in_the_middle_of_the_season : repeats_after (rounds_exchanged start 0 2 (λ _. true)) 2 ≡ 2
+unfolding sum_below meets repeats_after
+repeats_in_the_middle_of_the_season = refl
+
+repeats_with_first_and_third_round_exchanged : repeats (rounds_exchanged start 0 2 (λ _. true)) ≡ 2
+unfolding sum_below meets repeats_after repeats
+repeats_with_first_and_third_round_exchanged = refl

@@ -1,0 +1,3 @@
+pub mod Tours
+pub mod Runs
+pub mod Repeats

@@ -1,0 +1,23 @@
+-- Long stretches at home or away.
+use Rattle.std.specs.Prelude.{ℕ, ◌+◌, ◌-◌, ◌||◌, not, Bool}
+use Rattle.league.specs.Sums.{sum_below, count_where, all_below}
+use Rattle.fixtures.specs.Games.{Games, round_count, cell}
+
+unfoldable pub is_home : Games → ℕ → ℕ → Bool
+is_home g team round = (cell g team round).home
+
+-- whether a team is at home in all of the consecutive rounds, or away in all
+unfoldable pub is_run : Games → ℕ → ℕ → ℕ → Bool
+is_run g team first rounds =
+    all_below rounds (λ k. is_home g team (first + k)) || all_below rounds (λ k. not (is_home g team (first + k)))
+
+-- how many windows of so many consecutive rounds there are: none where they are more than all rounds
+abbrev pub windows : Games → ℕ → ℕ
+windows g rounds = round_count g.teams + 1 - rounds
+
+-- the windows of one round more than allowed that a team spends at home or away
+unfoldable pub runs_of : Games → ℕ → ℕ → ℕ
+runs_of g at_most team = count_where (windows g (at_most + 1)) (λ first. is_run g team first (at_most + 1))
+
+unfoldable pub runs_over : Games → ℕ → ℕ
+runs_over g at_most = sum_below g.teams (runs_of g at_most)

@@ -1,0 +1,15 @@
+//! What a double round robin costs its teams: how far they travel, their long stretches at home or away, and the
+//! pairs of teams that meet twice in a row (Easton, Nemhauser, Trick 2001).
+//!
+//! Each call counts over the whole schedule and takes no memory. Teams and rounds are numbered from 0.
+#![tactic(auto)]
+
+mod legs;
+mod meetings;
+mod runs;
+#[cfg(test)]
+mod tests;
+
+pub use legs::{travel, travel_of};
+pub use meetings::repeats;
+pub use runs::runs_over;
