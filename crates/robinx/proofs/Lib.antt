@@ -1,0 +1,3 @@
+pub mod AllTeams
+pub mod GameCounts
+mod Worked

@@ -1,0 +1,74 @@
+//! The deviation of a schedule from a rule of any class.
+
+ghost use Rattle.std.specs.Prelude.{◌≡◌, ◌≤◌};
+ghost use Rattle.league.specs.RuleLimits.{IsRuleFor};
+ghost use Rattle.robinx.specs.Deviations.{deviation};
+
+use crate::break_rules::{br1, br2};
+use crate::capacity_rules::{ca1, ca2, ca3, ca4_every, ca4_global};
+use crate::game_rules::ga1;
+use crate::separation_rules::se1;
+use fixtures::Schedule;
+use league::{Rule, RuleBody};
+
+/// By how much the schedule breaks the rule, whatever the rule's weight: 0 where it keeps it. What each class
+/// counts stands in `specs/Deviations.antt`. The numbers of the rule have to be in range for the schedule's
+/// teams, as those of each rule of a league are for the league's teams.
+pub fn deviation(schedule: &Schedule, rule: &Rule) -> u64
+    requires { IsRuleFor schedule.now.teams rule.now }
+    ensures value { result ≡ deviation schedule.now rule.now.body }
+    ensures most { result ≤ 10000000 }
+{
+    match &rule.body {
+        RuleBody::Ca1 {
+            teams,
+            side,
+            slots,
+            max,
+        } => ca1(schedule, *teams, *side, *slots, *max),
+        RuleBody::Ca2 {
+            teams1,
+            side,
+            teams2,
+            slots,
+            max,
+        } => ca2(schedule, *teams1, *side, *teams2, *slots, *max),
+        RuleBody::Ca3 {
+            teams1,
+            side,
+            teams2,
+            window,
+            max,
+        } => ca3(schedule, *teams1, *side, *teams2, *window, *max),
+        RuleBody::Ca4 {
+            teams1,
+            side,
+            teams2,
+            slots,
+            each: false,
+            max,
+        } => ca4_global(schedule, *teams1, *side, *teams2, *slots, *max),
+        RuleBody::Ca4 {
+            teams1,
+            side,
+            teams2,
+            slots,
+            each: true,
+            max,
+        } => ca4_every(schedule, *teams1, *side, *teams2, *slots, *max),
+        RuleBody::Ga1 {
+            games,
+            slots,
+            min,
+            max,
+        } => ga1(schedule, games, *slots, *min, *max),
+        RuleBody::Br1 {
+            teams,
+            side,
+            slots,
+            most,
+        } => br1(schedule, *teams, *side, *slots, *most),
+        RuleBody::Br2 { teams, slots, most } => br2(schedule, *teams, *slots, *most),
+        RuleBody::Se1 { teams, min } => se1(schedule, *teams, *min),
+    }
+}

@@ -1,0 +1,17 @@
+//! Rules in the manner of RobinX (Van Bulck, Goossens, Schönberger, Guajardo 2020): how far a schedule is from
+//! each. The names of the classes are RobinX's; what each means, and how it is counted, is this project's own.
+//!
+//! Teams and rounds are numbered from 0. Nothing here takes memory.
+#![tactic(auto)]
+
+mod break_rules;
+mod capacity_rules;
+mod counts;
+mod deviations;
+mod game_rules;
+mod separation_rules;
+#[cfg(test)]
+mod tests;
+
+pub use break_rules::breaks;
+pub use deviations::deviation;
