@@ -1,0 +1,8 @@
+use Rattle.std.proofs.Common.{◌≤◌}
+use Rattle.bench.proofs.measure.measure.Given as goal
+
+-- each move adds one at most
+abbrev pub invariant-loop-index : goal.invariant-loop-index
+invariant-loop-index l = record {
+  counted : l.made ≤ l.index;
+}
