@@ -13,7 +13,7 @@ use Rattle.tours.specs.Repeats.{meets, repeats_after, repeats}
 
 -- the league of four teams with these distances
 abbrev four_teams : List (List ℕ) → LeagueData
-four_teams distances = league_data [] distances 3 100
+four_teams distances = league_data [] distances 3 100 []
 
 abbrev circle : LeagueData
 circle = four_teams ((0 ∷ 1 ∷ 2 ∷ 1 ∷ []) ∷ (1 ∷ 0 ∷ 1 ∷ 2 ∷ []) ∷ (2 ∷ 1 ∷ 0 ∷ 1 ∷ []) ∷ (1 ∷ 2 ∷ 1 ∷ 0 ∷ []) ∷ [])
