@@ -1,0 +1,13 @@
+pub mod OneMore
+pub mod Least
+pub mod Deviations
+pub mod Scores
+pub mod Stand
+pub mod Start
+pub mod Next
+pub mod Sound
+pub mod Script
+pub mod PinTable
+pub mod Keeps
+pub mod Reasons
+mod Worked

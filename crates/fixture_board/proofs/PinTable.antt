@@ -1,0 +1,288 @@
+-- The table of pins, and the pinned games that it stands for.
+use Rattle.std.proofs.Common.{◌≡◌, ◌≢◌, ℕ, ◌+◌, ◌*◌, ◌<◌, ◌≤◌, Bool, true, false, not, cond, if◌then◌else◌, ◌&&◌, ◌||◌, ◌==◌, inl, inr, List, [], ◌∷◌, length, filter, replicate, nat_lt, slice_set, true≢false, refl, sym, ◌∙◌, ap, subst, arith}
+use Rattle.std.specs.List.{list_any}
+use Rattle.std.proofs.lemmas.Bool.{cases_eq, or_cases, and_parts, not-true, eq-eqb, ne_eqb, eqb-true, eqb-false, ltb-true}
+use Rattle.std.proofs.Math.Bool.{and-false, or-true}
+use Rattle.std.proofs.lemmas.List.{get_or-set_same, get_or-set_other, get_or-replicate}
+use Rattle.fixtures.specs.declared.game.Game.{Game}
+use Rattle.fixtures.specs.Games.{Games, round_of, round_count, IsPair, IsDoubleRoundRobin}
+use Rattle.fixture_board.specs.History.{is_game, has_game, is_pinned, is_in_range, is_there, moves_pin, AllStand}
+use Rattle.fixture_board.specs.Kept.{pin_at, ArePinsAt}
+
+-- what is read after a write
+
+pub pin_at-same : (table : List ℕ) (home away round : ℕ) → home < 40 → away < 40 → length table ≡ 1600 →
+    pin_at (slice_set table (home * 40 + away) round) home away ≡ round
+pin_at-same table home away round home_in away_in size = get_or-set_same table (home * 40 + away) round 0 (omega arith)
+
+pub pin_at-other : (table : List ℕ) (home away round h a : ℕ) → away < 40 → a < 40 → (h ≡ home → a ≡ away → ⊥) →
+    pin_at (slice_set table (home * 40 + away) round) h a ≡ pin_at table h a
+pin_at-other table home away round h a away_in a_in other =
+    get_or-set_other table (home * 40 + away) (h * 40 + a) round 0
+    (λ same. other (omega (arith, same)) (omega (arith, same)))
+
+-- one pin and one game, that both stand
+
+pair_of : (home away : ℕ) (pin : Game) → (pin.home == home && pin.away == away) ≡ true → (pin.home ≡ home) × (pin.away ≡ away)
+pair_of home away pin is =
+    let parts = and_parts (pin.home == home) (pin.away == away) is in
+    (eqb-true pin.home home parts.0, eqb-true pin.away away parts.1)
+
+pair-other : (home away h a : ℕ) → (h ≡ home → a ≡ away → ⊥) → (home == h && away == a) ≡ false
+pair-other home away h a other = elim (cases_eq home h) [
+  | inl same ↦ elim (cases_eq away a) [
+    | inl both ↦ absurd (other (sym same) (sym both))
+    | inr apart ↦ ap (λ b. (home == h) && b) (ne_eqb away a apart) ∙ and-false (home == h)
+  ]
+  | inr apart ↦ ap (λ b. b && (away == a)) (ne_eqb home h apart)
+]
+
+eqb-swap : (a b : ℕ) → (a == b) ≡ (b == a)
+eqb-swap a b = elim (cases_eq a b) [
+  | inl same ↦ eq-eqb a b same ∙ sym (eq-eqb b a (sym same))
+  | inr apart ↦ ne_eqb a b apart ∙ sym (ne_eqb b a (λ same. apart (sym same)))
+]
+
+all_three : (round home away : Bool) → (home ≡ true → away ≡ true → round ≡ true) → (round && home && away) ≡ (home && away)
+all_three true home away follows = refl
+all_three false true true follows = follows refl refl
+all_three false true false follows = refl
+all_three false false away follows = refl
+
+-- a pin is the game where it is of the same pair
+is_game-pair : (g : Games) (game pin : Game) → is_there g game ≡ true → is_there g pin ≡ true →
+    is_game game pin ≡ (pin.home == game.home && pin.away == game.away)
+is_game-pair g game pin there pin_there =
+    all_three (game.round == pin.round) (game.home == pin.home) (game.away == pin.away)
+    (λ homes aways.
+    eq-eqb game.round pin.round
+    (sym (eqb-true (round_of g game.home game.away) game.round there) ∙
+    ap (λ h. round_of g h game.away) (eqb-true game.home pin.home homes) ∙
+    ap (λ a. round_of g pin.home a) (eqb-true game.away pin.away aways) ∙
+    eqb-true (round_of g pin.home pin.away) pin.round pin_there)) ∙
+    ap (λ b. b && (game.away == pin.away)) (eqb-swap game.home pin.home) ∙
+    ap (λ b. (pin.home == game.home) && b) (eqb-swap game.away pin.away)
+
+-- the range of a game's numbers
+
+pub IsPair-in_range : (g : Games) (game : Game) → is_in_range g game ≡ true → IsPair g.teams game.home game.away
+IsPair-in_range g game range =
+    let round : Bool = nat_lt game.round (round_count g.teams) in
+    let home : Bool = nat_lt game.home g.teams in
+    let away : Bool = nat_lt game.away g.teams in
+    let first = and_parts (round && home && away) (not (game.home == game.away)) range in
+    let second = and_parts (round && home) away first.0 in
+    let third = and_parts round home second.0 in
+    record {
+      home_in = ltb-true game.home g.teams third.1;
+      away_in = ltb-true game.away g.teams second.1;
+      distinct = eqb-false game.home game.away (not-true (game.home == game.away) first.1);
+    }
+
+pub has_game-pinned : (g : Games) (pins : List Game) (game : Game) → AllStand g pins → is_there g game ≡ true →
+    has_game pins game ≡ is_pinned pins game.home game.away
+has_game-pinned g [] game all there = refl
+has_game-pinned g (pin ∷ pins) game all there =
+    ap (λ b. b || has_game pins game) (is_game-pair g game pin there all.0.1) ∙
+    ap (λ b. (pin.home == game.home && pin.away == game.away) || b) (has_game-pinned g pins game all.1 there)
+
+-- the rounds of a pinned pair, where the pins stand in two schedules
+pub rounds_of-pinned : (g other : Games) (pins : List Game) (h a : ℕ) → AllStand g pins → AllStand other pins →
+    is_pinned pins h a ≡ true → round_of g h a ≡ round_of other h a
+rounds_of-pinned g other [] h a all all_other is = absurd (true≢false (sym is))
+rounds_of-pinned g other (pin ∷ pins) h a all all_other is =
+    elim (or_cases (pin.home == h && pin.away == a) (is_pinned pins h a) is) [
+      | inl first ↦
+          let pair = pair_of h a pin first in
+          let here : round_of g pin.home pin.away ≡ pin.round = eqb-true (round_of g pin.home pin.away) pin.round all.0.1 in
+          let there : round_of other pin.home pin.away ≡ pin.round =
+          eqb-true (round_of other pin.home pin.away) pin.round all_other.0.1 in
+          rw (← pair.0, ← pair.1) (here ∙ sym there)
+      | inr later ↦ rounds_of-pinned g other pins h a all.1 all_other.1 later
+    ]
+
+-- the table where the games change, and no pinned one
+
+ArePinsAt-if : (pinned : Bool) (x y p : ℕ) → (pinned ≡ true → x ≡ y) → p ≡ (if pinned then x else 255) →
+    p ≡ (if pinned then y else 255)
+ArePinsAt-if true x y p same is = is ∙ same refl
+ArePinsAt-if false x y p same is = is
+
+pub ArePinsAt-games : (g other : Games) (pins : List Game) (table : List ℕ) → other.teams ≡ g.teams → AllStand g pins →
+    AllStand other pins → ArePinsAt g pins table → ArePinsAt other pins table
+ArePinsAt-games g other pins table teams all all_other are h a pair =
+    ArePinsAt-if (is_pinned pins h a) (round_of g h a) (round_of other h a) (pin_at table h a)
+    (rounds_of-pinned g other pins h a all all_other) (are h a (subst (λ n. IsPair n h a) teams pair))
+
+-- the table where one pair is written
+
+ArePinsAt-written : (g : Games) (pins next : List Game) (table : List ℕ) (home away round : ℕ) → home < 40 → away < 40 →
+    g.teams ≤ 40 → length table ≡ 1600 → ArePinsAt g pins table →
+    round ≡ (if is_pinned next home away then round_of g home away else 255) →
+    ((h a : ℕ) → (h ≡ home → a ≡ away → ⊥) → is_pinned next h a ≡ is_pinned pins h a) →
+    ArePinsAt g next (slice_set table (home * 40 + away) round)
+ArePinsAt-written g pins next table home away round home_in away_in forty size are own others h a pair =
+    let a_in : a < 40 = omega (arith, pair.away_in) in
+    let elsewhere : (h ≡ home → a ≡ away → ⊥) →
+    pin_at (slice_set table (home * 40 + away) round) h a ≡ (if is_pinned next h a then round_of g h a else 255) =
+    λ other.
+    pin_at-other table home away round h a away_in a_in other ∙
+    are h a pair ∙
+    ap (λ b. if b then round_of g h a else 255) (sym (others h a other)) in
+    elim (cases_eq h home) [
+      | inl same_home ↦ elim (cases_eq a away) [
+        | inl same_away ↦ rw (same_home, same_away) (pin_at-same table home away round home_in away_in size ∙ own)
+        | inr apart ↦ elsewhere (λ _ same. apart same)
+      ]
+      | inr apart ↦ elsewhere (λ same _. apart same)
+    ]
+
+is_pinned-first : (pins : List Game) (game : Game) → is_pinned (game ∷ pins) game.home game.away ≡ true
+is_pinned-first pins game =
+    ap (λ b. (b && (game.away == game.away)) || is_pinned pins game.home game.away) (eq-eqb game.home game.home refl) ∙
+    ap (λ b. b || is_pinned pins game.home game.away) (eq-eqb game.away game.away refl)
+
+is_pinned-rest : (pins : List Game) (game : Game) (h a : ℕ) → (h ≡ game.home → a ≡ game.away → ⊥) →
+    is_pinned (game ∷ pins) h a ≡ is_pinned pins h a
+is_pinned-rest pins game h a other = ap (λ b. b || is_pinned pins h a) (pair-other game.home game.away h a other)
+
+-- the pins without one
+abbrev pub without : Game → List Game → List Game
+without game pins = filter (λ pin. not (is_game game pin)) pins
+
+without_it-if : (test : Game → Bool) (pin : Game) (rest : List Game) (is : Bool) → is ≡ test pin → list_any test rest ≡ false →
+    list_any test (cond (not is) (pin ∷ rest) rest) ≡ false
+without_it-if test pin rest true same none = none
+without_it-if test pin rest false same none = ap (λ b. b || list_any test rest) (sym same) ∙ none
+
+is_pinned-without_it : (g : Games) (pins : List Game) (game : Game) → AllStand g pins → is_there g game ≡ true →
+    is_pinned (without game pins) game.home game.away ≡ false
+is_pinned-without_it g [] game all there = refl
+is_pinned-without_it g (pin ∷ pins) game all there =
+    without_it-if (λ p. p.home == game.home && p.away == game.away) pin (without game pins) (is_game game pin)
+    (is_game-pair g game pin there all.0.1) (is_pinned-without_it g pins game all.1 there)
+
+without_other-if : (test : Game → Bool) (pin : Game) (kept rest : List Game) (is : Bool) → (is ≡ true → test pin ≡ false) →
+    list_any test kept ≡ list_any test rest → list_any test (cond (not is) (pin ∷ kept) kept) ≡ list_any test (pin ∷ rest)
+without_other-if test pin kept rest true never same = same ∙ sym (ap (λ b. b || list_any test rest) (never refl))
+without_other-if test pin kept rest false never same = ap (λ b. test pin || b) same
+
+is_pinned-without_other : (pins : List Game) (game : Game) (h a : ℕ) → (h ≡ game.home → a ≡ game.away → ⊥) →
+    is_pinned (without game pins) h a ≡ is_pinned pins h a
+is_pinned-without_other [] game h a other = refl
+is_pinned-without_other (pin ∷ pins) game h a other =
+    without_other-if (λ p. p.home == h && p.away == a) pin (without game pins) pins (is_game game pin)
+    (λ is.
+    let parts = and_parts (game.round == pin.round && game.home == pin.home) (game.away == pin.away) is in
+    let first = and_parts (game.round == pin.round) (game.home == pin.home) parts.0 in
+    let homes : game.home ≡ pin.home = eqb-true game.home pin.home first.1 in
+    let aways : game.away ≡ pin.away = eqb-true game.away pin.away parts.1 in
+    pair-other pin.home pin.away h a (λ home away. other (home ∙ sym homes) (away ∙ sym aways)))
+    (is_pinned-without_other pins game h a other)
+
+module _ (g : Games) (pins : List Game) (table : List ℕ) (game : Game) (forty : g.teams ≤ 40) (size : length table ≡ 1600)
+    (range : is_in_range g game ≡ true) (there : is_there g game ≡ true) where
+  home_below : game.home < 40
+  home_below = omega (arith, (IsPair-in_range g game range).home_in)
+
+  away_below : game.away < 40
+  away_below = omega (arith, (IsPair-in_range g game range).away_in)
+
+  round_is : game.round ≡ round_of g game.home game.away
+  round_is = sym (eqb-true (round_of g game.home game.away) game.round there)
+
+  pub ArePinsAt-pin : ArePinsAt g pins table → ArePinsAt g (game ∷ pins) (slice_set table (game.home * 40 + game.away) game.round)
+  ArePinsAt-pin are =
+      ArePinsAt-written g pins (game ∷ pins) table game.home game.away game.round home_below away_below forty size are
+      (round_is ∙ sym (ap (λ b. if b then round_of g game.home game.away else 255) (is_pinned-first pins game)))
+      (is_pinned-rest pins game)
+
+  pub ArePinsAt-unpin : AllStand g pins → ArePinsAt g pins table →
+      ArePinsAt g (without game pins) (slice_set table (game.home * 40 + game.away) 255)
+  ArePinsAt-unpin all are =
+      ArePinsAt-written g pins (without game pins) table game.home game.away 255 home_below away_below forty size are
+      (sym (ap (λ b. if b then round_of g game.home game.away else 255) (is_pinned-without_it g pins game all there)))
+      (is_pinned-without_other pins game)
+
+  pub ArePinsAt-pin_back : AllStand g pins → has_game pins game ≡ false → ArePinsAt g (game ∷ pins) table →
+      ArePinsAt g pins (slice_set table (game.home * 40 + game.away) 255)
+  ArePinsAt-pin_back all few are =
+      ArePinsAt-written g (game ∷ pins) pins table game.home game.away 255 home_below away_below forty size are
+      (sym (ap (λ b. if b then round_of g game.home game.away else 255) (sym (has_game-pinned g pins game all there) ∙ few)))
+      (λ h a other. sym (is_pinned-rest pins game h a other))
+
+  pub ArePinsAt-unpin_back : AllStand g pins → has_game pins game ≡ true → ArePinsAt g (without game pins) table →
+      ArePinsAt g pins (slice_set table (game.home * 40 + game.away) game.round)
+  ArePinsAt-unpin_back all has are =
+      ArePinsAt-written g (without game pins) pins table game.home game.away game.round home_below away_below forty size are
+      (round_is ∙
+      sym (ap (λ b. if b then round_of g game.home game.away else 255) (sym (has_game-pinned g pins game all there) ∙ has)))
+      (λ h a other. sym (is_pinned-without_other pins game h a other))
+
+-- no game is pinned
+pub ArePinsAt-none : (g : Games) → g.teams ≤ 40 → ArePinsAt g [] (replicate 1600 255)
+ArePinsAt-none g forty h a pair = get_or-replicate 1600 (h * 40 + a) 255 0 (omega (arith, pair.home_in, pair.away_in))
+
+-- what the table tells of a pair
+
+told-if : (pinned : Bool) (round place : ℕ) → round < 255 → place ≡ (if pinned then round else 255) → not (place == 255) ≡ pinned
+told-if true round place below is = ap not (ne_eqb place 255 (λ same. omega (arith, same, is)))
+told-if false round place below is = ap not (eq-eqb place 255 is)
+
+pub is_pinned-told : (g : Games) (pins : List Game) (table : List ℕ) (h a : ℕ) → IsDoubleRoundRobin g → ArePinsAt g pins table →
+    IsPair g.teams h a → not (pin_at table h a == 255) ≡ is_pinned pins h a
+is_pinned-told g pins table h a robin are pair =
+    told-if (is_pinned pins h a) (round_of g h a) (pin_at table h a) (omega (arith, robin.in_range h a pair, robin.forty)) (are h a pair)
+
+-- whether a pinned game has another round, by the table
+
+-- the pinned pairs have their rounds in another schedule too
+abbrev KeepsPinned : Games → Games → List Game → Type 0
+KeepsPinned g other pins = (h a : ℕ) → IsPair g.teams h a → is_pinned pins h a ≡ true → round_of other h a ≡ round_of g h a
+
+moves_pin-kept : (g other : Games) (pins : List Game) → AllStand g pins → KeepsPinned g other pins → moves_pin other pins ≡ false
+moves_pin-kept g other [] all keeps = refl
+moves_pin-kept g other (pin ∷ pins) all keeps =
+    let pair : IsPair g.teams pin.home pin.away = IsPair-in_range g pin all.0.0 in
+    let there : is_there other pin ≡ true =
+    eq-eqb (round_of other pin.home pin.away) pin.round
+    (keeps pin.home pin.away pair (is_pinned-first pins pin) ∙ eqb-true (round_of g pin.home pin.away) pin.round all.0.1) in
+    let later : KeepsPinned g other pins =
+    λ h a p is. keeps h a p (ap (λ b. (pin.home == h && pin.away == a) || b) is ∙ or-true (pin.home == h && pin.away == a)) in
+    ap (λ b. not b || moves_pin other pins) there ∙ moves_pin-kept g other pins all.1 later
+
+moves_pin-moved : (g other : Games) (pins : List Game) (h a : ℕ) → AllStand g pins → is_pinned pins h a ≡ true →
+    (round_of other h a ≡ round_of g h a → ⊥) → moves_pin other pins ≡ true
+moves_pin-moved g other [] h a all is apart = absurd (true≢false (sym is))
+moves_pin-moved g other (pin ∷ pins) h a all is apart =
+    elim (or_cases (pin.home == h && pin.away == a) (is_pinned pins h a) is) [
+      | inl first ↦
+          let pair = pair_of h a pin first in
+          let here : round_of g pin.home pin.away ≡ pin.round = eqb-true (round_of g pin.home pin.away) pin.round all.0.1 in
+          let back : round_of other pin.home pin.away ≡ round_of g pin.home pin.away → ⊥ = rw (pair.0, pair.1) apart in
+          ap (λ b. not b || moves_pin other pins)
+          (ne_eqb (round_of other pin.home pin.away) pin.round (λ same. back (same ∙ sym here)))
+      | inr later ↦
+          ap (λ b. not (is_there other pin) || b) (moves_pin-moved g other pins h a all.1 later apart) ∙
+          or-true (not (is_there other pin))
+    ]
+
+-- what a pinned pair has in the table
+place_of-pinned : (pinned : Bool) (round place : ℕ) → place ≡ (if pinned then round else 255) → place ≢ 255 →
+    (pinned ≡ true) × (place ≡ round)
+place_of-pinned true round place is pin = (refl, is)
+place_of-pinned false round place is pin = absurd (pin is)
+
+pub moves_pin-none : (g other : Games) (pins : List Game) (table : List ℕ) → IsDoubleRoundRobin g → AllStand g pins → ArePinsAt g pins table →
+    ((h a : ℕ) → IsPair g.teams h a → pin_at table h a ≢ 255 → round_of other h a ≡ pin_at table h a) → moves_pin other pins ≡ false
+moves_pin-none g other pins table robin all are none =
+    moves_pin-kept g other pins all
+    (λ h a pair is.
+    let place : pin_at table h a ≡ round_of g h a = are h a pair ∙ ap (λ b. if b then round_of g h a else 255) is in
+    none h a pair (λ same. omega (arith, same, place, robin.in_range h a pair, robin.forty)) ∙ place)
+
+pub moves_pin-some : (g other : Games) (pins : List Game) (table : List ℕ) (h a : ℕ) → AllStand g pins → ArePinsAt g pins table →
+    IsPair g.teams h a → pin_at table h a ≢ 255 → round_of other h a ≢ pin_at table h a → moves_pin other pins ≡ true
+moves_pin-some g other pins table h a all are pair pin apart =
+    let told = place_of-pinned (is_pinned pins h a) (round_of g h a) (pin_at table h a) (are h a pair) pin in
+    moves_pin-moved g other pins h a all told.0 (λ same. apart (same ∙ sym told.1))

@@ -1,0 +1,171 @@
+-- No schedule of a league scores more than 10,000,000,000,000,000.
+use Rattle.std.proofs.Common.{◌≡◌, ℕ, ◌+◌, ◌-◌, ◌*◌, ◌^◌, ◌<◌, ◌≤◌, if◌then◌else◌, ◌&&◌, List, [], ◌∷◌, length, slice_get, Option, Some, None, refl, sym, ◌∙◌, subst, le_refl, arith}
+use Rattle.std.proofs.lemmas.List.Elements.{All-from_recursion, All-get_or}
+use Rattle.std.proofs.lemmas.Option.{slice_get_within, get_or_from_slice_get}
+use Rattle.std.proofs.Math.Nat.{mul-le-mul}
+use Rattle.league.specs.League.{LeagueData, teams, IsLeague}
+use Rattle.league.specs.RuleLimits.{IsRuleFor, IsWeight}
+use Rattle.league.specs.declared.rule.Rule.{Rule}
+use Rattle.league.specs.declared.rule.Weight.{Weight}
+use Rattle.league.specs.declared.rule.Weight.TheVariants.{Hard, Soft}
+use Rattle.league.proofs.Sums.{sum_below_le, sum_of_pairs_le, count_where_le}
+use Rattle.fixtures.specs.Games.{Games, round_count}
+use Rattle.moves.specs.declared.moves.Move.{Move}
+use Rattle.moves.specs.declared.moves.Move.TheVariants.{Homes, Rounds, Teams, PartRounds, PartTeams}
+use Rattle.moves.specs.Moves.{moved}
+use Rattle.tours.specs.Tours.{leg_count, leg, travel_of, travel}
+use Rattle.tours.specs.Runs.{windows, is_run, runs_of, runs_over}
+use Rattle.tours.specs.Repeats.{meets, repeats_after, repeats}
+use Rattle.robinx.specs.Deviations.{deviation}
+use Rattle.fixture_board.specs.Costs.{hard_share, soft_share, share_of, sum_over_rules, cost_of, score_of}
+use Rattle.fixture_board.specs.declared.change.Change.{Change}
+use Rattle.fixture_board.specs.declared.change.Change.TheVariants.{Shift, Pin, Unpin, Undo}
+use Rattle.fixture_board.specs.declared.change.Entry.{Entry}
+use Rattle.fixture_board.specs.History.{effective, shifted, games_after, start_of, games_of, cost_at}
+use Rattle.fixture_board.proofs.Deviations.{if_le, deviation_le}
+
+-- the schedule of a history is of the league's teams
+
+pub moved-teams : (g : Games) (mv : Move) → (moved g mv).teams ≡ g.teams
+moved-teams g (Homes i j) = refl
+moved-teams g (Rounds k l) = refl
+moved-teams g (Teams i j) = refl
+moved-teams g (PartRounds i k l) = refl
+moved-teams g (PartTeams i j k) = refl
+
+shifted-teams : (g : Games) (change : Change) → (shifted g change).teams ≡ g.teams
+shifted-teams g (Shift mv) = moved-teams g mv
+shifted-teams g (Pin game) = refl
+shifted-teams g (Unpin game) = refl
+shifted-teams g Undo = refl
+
+games_after-teams : (g : Games) (changes : List Change) → (games_after g changes).teams ≡ g.teams
+unfolding games_after
+games_after-teams g [] = refl
+games_after-teams g (change ∷ changes) = games_after-teams (shifted g change) changes ∙ shifted-teams g change
+
+pub games_of-teams : (league : LeagueData) (h : List Entry) → (games_of league h).teams ≡ teams league
+unfolding games_of
+games_of-teams league h = games_after-teams (start_of league) (effective h)
+
+-- the parts of the cost
+
+travel_le : (l : LeagueData) (g : Games) → IsLeague l → g.teams ≤ 40 → travel l g ≤ 3160000000
+unfolding travel travel_of leg
+travel_le l g is forty =
+    omega (
+      arith,
+      sum_below_le g.teams 79000000 (travel_of l g)
+          (λ t under.
+          omega (arith, sum_below_le (leg_count g) 1000000 (leg l g t) (λ r below. is.table.near _ _))),
+    )
+
+runs_over_le : (g : Games) (at_most : ℕ) → g.teams ≤ 40 → runs_over g at_most ≤ 3160
+unfolding runs_over runs_of
+runs_over_le g at_most forty =
+    omega (
+      arith,
+      sum_below_le g.teams 79 (runs_of g at_most)
+          (λ t under.
+          omega (arith, count_where_le (windows g (at_most + 1)) (λ first. is_run g t first (at_most + 1)))),
+    )
+
+repeats_after_le : (g : Games) (round : ℕ) → g.teams ≤ 40 → repeats_after g round ≤ 1600
+unfolding repeats_after
+repeats_after_le g round forty =
+    omega (
+      arith,
+      mul-le-mul forty forty,
+      sum_of_pairs_le g.teams 1 (λ low high. if meets g high low round && meets g high low (round + 1) then 1 else 0)
+          (λ low high below under. if_le (meets g high low round && meets g high low (round + 1)) 1 1 (omega arith)),
+    )
+
+repeats_le : (g : Games) → g.teams ≤ 40 → repeats g ≤ 123200
+unfolding repeats
+repeats_le g forty =
+    omega (
+      arith,
+      sum_below_le (round_count g.teams - 1) 1600 (repeats_after g) (λ r under. repeats_after_le g r forty),
+    )
+
+hard_share_le : (weight : Weight) (deviation : ℕ) → hard_share weight deviation ≤ deviation
+hard_share_le Hard deviation = omega arith
+hard_share_le (Soft weight) deviation = omega arith
+
+soft_share_le : (weight : Weight) (deviation : ℕ) → IsWeight weight → deviation ≤ 16000000 →
+    soft_share weight deviation ≤ 16000000000000
+soft_share_le Hard deviation is few = omega arith
+soft_share_le (Soft weight) deviation is few = omega (arith, mul-le-mul is.1 few)
+
+-- the sum over the rules, where no rule adds more than this
+share_le : (l : LeagueData) (g : Games) (share : Weight → ℕ → ℕ) (most : ℕ) → IsLeague l →
+    ((rule : Rule) → IsRuleFor (teams l) rule → share rule.weight (deviation g rule.body) ≤ most) →
+    (i : ℕ) (rule : Option Rule) → slice_get l.rules i ≡ rule → share_of share g rule ≤ most
+share_le l g share most is each i None at = omega arith
+share_le l g share most is each i (Some rule) at =
+    each rule
+    (subst (IsRuleFor (teams l)) (get_or_from_slice_get l.rules i rule rule at)
+    (All-get_or (IsRuleFor (teams l)) l.rules i rule (slice_get_within l.rules i rule at)
+    (All-from_recursion (IsRuleFor (teams l)) l.rules is.rules)))
+
+sum_over_rules_le : (l : LeagueData) (g : Games) (share : Weight → ℕ → ℕ) (most : ℕ) → IsLeague l →
+    ((rule : Rule) → IsRuleFor (teams l) rule → share rule.weight (deviation g rule.body) ≤ most) →
+    sum_over_rules share l.rules g ≤ 256 * most
+unfolding sum_over_rules
+sum_over_rules_le l g share most is each =
+    omega (
+      arith,
+      mul-le-mul is.rule_count (le_refl most),
+      sum_below_le (length l.rules) most (λ i. share_of share g (slice_get l.rules i))
+          (λ i under. share_le l g share most is each i (slice_get l.rules i) refl),
+    )
+
+deviation_of : (l : LeagueData) (g : Games) (rule : Rule) → g.teams ≡ teams l → g.teams ≤ 40 → IsRuleFor (teams l) rule →
+    deviation g rule.body ≤ 16000000
+deviation_of l g rule same forty is =
+    let own : IsRuleFor g.teams rule = subst (λ n. IsRuleFor n rule) (sym same) is in
+    deviation_le g rule.body forty own.body
+
+-- hard limits count by the league's weight
+hard_le : (l : LeagueData) (g : Games) → IsLeague l → g.teams ≡ teams l → g.teams ≤ 40 → (cost_of l g).hard ≤ 4096126360
+unfolding cost_of
+hard_le l g is same forty =
+    omega (
+      arith,
+      runs_over_le g l.at_most forty,
+      repeats_le g forty,
+      sum_over_rules_le l g hard_share 16000000 is
+          (λ rule for. omega (arith, hard_share_le rule.weight (deviation g rule.body), deviation_of l g rule same forty for)),
+    )
+
+soft_le : (l : LeagueData) (g : Games) → IsLeague l → g.teams ≡ teams l → g.teams ≤ 40 → (cost_of l g).soft ≤ 4096000000000000
+unfolding cost_of
+soft_le l g is same forty =
+    omega (
+      arith,
+      sum_over_rules_le l g soft_share 16000000000000 is
+          (λ rule for. soft_share_le rule.weight (deviation g rule.body) for.weight (deviation_of l g rule same forty for)),
+    )
+
+cost_travel : (l : LeagueData) (g : Games) → (cost_of l g).travel ≡ travel l g
+unfolding cost_of
+cost_travel l g = refl
+
+pub score_le : (l : LeagueData) (g : Games) → IsLeague l → g.teams ≡ teams l → score_of l (cost_of l g) ≤ 10000000000000000
+score_le l g is same =
+    let forty : g.teams ≤ 40 = omega (arith, is.table.most) in
+    omega (
+      arith,
+      cost_travel l g,
+      travel_le l g is forty,
+      soft_le l g is same forty,
+      mul-le-mul is.weight_most (hard_le l g is same forty),
+    )
+
+-- the scores of the league's schedules are at most the greatest slack
+abbrev pub IsScored : LeagueData → Type 0
+IsScored league = (h : List Entry) → score_of league (cost_at league h) < 2 ^ 64
+
+pub IsScored-league : (league : LeagueData) → IsLeague league → IsScored league
+unfolding cost_at
+IsScored-league league is h = omega (arith, score_le league (games_of league h) is (games_of-teams league h))

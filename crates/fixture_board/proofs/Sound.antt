@@ -1,0 +1,87 @@
+-- The schedule of a legal history is a double round robin and has the pinned games.
+use Rattle.std.proofs.Common.{◌≡◌, ℕ, List, [], ◌∷◌, ◌++◌, Ok, sym, subst, append_assoc, append-nil}
+use Rattle.league.specs.League.{LeagueData, teams, IsLeague}
+use Rattle.fixtures.specs.declared.game.Game.{Game}
+use Rattle.fixtures.specs.Games.{Games, IsDoubleRoundRobin}
+use Rattle.moves.specs.declared.moves.Move.{Move}
+use Rattle.moves.specs.Moves.{moved, fault_of}
+use Rattle.fixture_board.specs.declared.change.Change.{Change}
+use Rattle.fixture_board.specs.declared.change.Change.TheVariants.{Shift, Pin, Unpin, Undo}
+use Rattle.fixture_board.specs.declared.change.Entry.{Entry}
+use Rattle.fixture_board.specs.History.{effective, shifted, games_after, start_of, games_of, pinned, pins_after, AllStand, legal_after, IsLegal, Fits}
+use Rattle.fixture_board.specs.Laws.{IsSound}
+use Rattle.fixture_board.proofs.Start.{IsDoubleRoundRobin-berger}
+use Rattle.fixture_board.proofs.Stand.{Fit, FitFrom, FitFrom-more, AllStand-after, AllStand-fit}
+
+-- the changes in effect of a legal history fit
+
+FitFrom-after : (league : LeagueData) (room : ℕ) (before h : List Entry) → FitFrom league (effective before) →
+    legal_after league room before h → FitFrom league (effective (before ++ h))
+FitFrom-after league room before [] all legal = subst (λ b. FitFrom league (effective b)) (sym (append-nil before)) all
+FitFrom-after league room before (e ∷ h) all legal =
+    subst (λ b. FitFrom league (effective b)) (append_assoc before (e ∷ []) h)
+    (FitFrom-after league room (before ++ e ∷ []) h (FitFrom-more league before e all legal.0.1) legal.1)
+
+pub FitFrom-legal : (league : LeagueData) (room : ℕ) (h : List Entry) → IsLegal league room h → FitFrom league (effective h)
+unfolding IsLegal effective
+FitFrom-legal league room h legal = FitFrom-after league room [] h tt legal
+
+-- a move keeps the double round robin
+abbrev pub MovesKeep : Type 0
+MovesKeep = (g : Games) (mv : Move) → IsDoubleRoundRobin g → fault_of g mv ≡ Ok tt → IsDoubleRoundRobin (moved g mv)
+
+IsDoubleRoundRobin-change : MovesKeep → (g : Games) (pins : List Game) (change : Change) → IsDoubleRoundRobin g →
+    Fits g pins change → IsDoubleRoundRobin (shifted g change)
+IsDoubleRoundRobin-change keep g pins (Shift mv) robin fits = keep g mv robin fits.0
+IsDoubleRoundRobin-change keep g pins (Pin game) robin fits = robin
+IsDoubleRoundRobin-change keep g pins (Unpin game) robin fits = robin
+IsDoubleRoundRobin-change keep g pins Undo robin fits = robin
+
+pub IsDoubleRoundRobin-after : MovesKeep → (g : Games) (pins : List Game) (changes : List Change) → IsDoubleRoundRobin g →
+    Fit g pins changes → IsDoubleRoundRobin (games_after g changes)
+unfolding games_after
+IsDoubleRoundRobin-after keep g pins [] robin all = robin
+IsDoubleRoundRobin-after keep g pins (change ∷ changes) robin all =
+    IsDoubleRoundRobin-after keep (shifted g change) (pinned pins change) changes
+    (IsDoubleRoundRobin-change keep g pins change robin all.0) all.1
+
+pub IsDoubleRoundRobin-start : (league : LeagueData) → IsLeague league → IsDoubleRoundRobin (start_of league)
+IsDoubleRoundRobin-start league is = IsDoubleRoundRobin-berger (teams league) is.table.even is.table.least is.table.most
+
+pub IsSound-legal : MovesKeep → (league : LeagueData) (room : ℕ) (h : List Entry) → IsLeague league → IsLegal league room h →
+    IsSound league h
+unfolding games_of
+IsSound-legal keep league room h is legal =
+    let all : FitFrom league (effective h) = FitFrom-legal league room h legal in
+    record {
+      robin = IsDoubleRoundRobin-after keep (start_of league) [] (effective h) (IsDoubleRoundRobin-start league is) all;
+      stand = AllStand-fit league h all;
+    }
+
+-- the change that was the last in effect, by the games and the pins before it
+pub record IsLastMade (league : LeagueData) (front : List Change) (change : Change) : Type 0 where
+  pub robin : IsDoubleRoundRobin (games_after (start_of league) front)
+  pub stand : AllStand (games_after (start_of league) front) (pins_after [] front)
+  pub fits : Fits (games_after (start_of league) front) (pins_after [] front) change
+
+Fit-front : (g : Games) (pins : List Game) (changes : List Change) (change : Change) → Fit g pins (changes ++ change ∷ []) →
+    Fit g pins changes
+Fit-front g pins [] change all = tt
+Fit-front g pins (x ∷ changes) change all = (all.0, Fit-front (shifted g x) (pinned pins x) changes change all.1)
+
+Fit-last : (g : Games) (pins : List Game) (changes : List Change) (change : Change) → Fit g pins (changes ++ change ∷ []) →
+    Fits (games_after g changes) (pins_after pins changes) change
+unfolding games_after pins_after
+Fit-last g pins [] change all = all.0
+Fit-last g pins (x ∷ changes) change all = Fit-last (shifted g x) (pinned pins x) changes change all.1
+
+pub IsLastMade-legal : MovesKeep → (league : LeagueData) (room : ℕ) (h : List Entry) (front : List Change) (change : Change) →
+    IsLeague league → IsLegal league room h → effective h ≡ front ++ change ∷ [] → IsLastMade league front change
+IsLastMade-legal keep league room h front change is legal last =
+    let all : FitFrom league (front ++ change ∷ []) = subst (FitFrom league) last (FitFrom-legal league room h legal) in
+    let before : FitFrom league front = Fit-front (start_of league) [] front change all in
+    record {
+      robin = IsDoubleRoundRobin-after keep (start_of league) [] front (IsDoubleRoundRobin-start league is) before;
+      stand = AllStand-after (start_of league) [] front tt before;
+      fits = Fit-last (start_of league) [] front change all;
+    }

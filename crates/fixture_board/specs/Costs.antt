@@ -1,0 +1,48 @@
+-- What a schedule costs in a league.
+use Rattle.std.specs.Prelude.{ℕ, ◌+◌, ◌*◌, List, length, slice_get, Option, Some, None}
+use Rattle.league.specs.League.{LeagueData}
+use Rattle.league.specs.Sums.{sum_below}
+use Rattle.league.specs.declared.rule.Rule.{Rule}
+use Rattle.league.specs.declared.rule.Weight.{Weight}
+use Rattle.league.specs.declared.rule.Weight.TheVariants.{Hard, Soft}
+use Rattle.fixtures.specs.Games.{Games}
+use Rattle.tours.specs.Tours.{travel}
+use Rattle.tours.specs.Runs.{runs_over}
+use Rattle.tours.specs.Repeats.{repeats}
+use Rattle.robinx.specs.Deviations.{deviation}
+use Rattle.fixture_board.specs.declared.cost.Cost.{Cost}
+
+-- what a deviation of a rule of this weight adds to hard
+abbrev pub hard_share : Weight → ℕ → ℕ
+hard_share Hard deviation = deviation
+hard_share (Soft weight) deviation = 0
+
+-- what it adds to soft
+abbrev pub soft_share : Weight → ℕ → ℕ
+soft_share Hard deviation = 0
+soft_share (Soft weight) deviation = weight * deviation
+
+-- what one rule adds, where there is one
+abbrev pub share_of : (Weight → ℕ → ℕ) → Games → Option Rule → ℕ
+share_of share g None = 0
+share_of share g (Some rule) = share rule.weight (deviation g rule.body)
+
+-- the sum over the rules, by their places
+unfoldable pub sum_over_rules : (Weight → ℕ → ℕ) → List Rule → Games → ℕ
+sum_over_rules share rules g = sum_below (length rules) (λ i. share_of share g (slice_get rules i))
+
+-- travel as it is; hard: runs, repeats and the deviations of hard rules; soft: the weighted deviations of soft rules
+unfoldable pub cost_of : LeagueData → Games → Cost
+cost_of l g = record {
+  travel = travel l g;
+  hard = runs_over g l.at_most + repeats g + sum_over_rules hard_share l.rules g;
+  soft = sum_over_rules soft_share l.rules g;
+}
+
+-- what is compared where hard limits may be broken
+abbrev pub score_of : LeagueData → Cost → ℕ
+score_of l cost = cost.travel + cost.soft + l.hard_weight * cost.hard
+
+-- what is compared among schedules that break none
+abbrev pub total_of : Cost → ℕ
+total_of cost = cost.travel + cost.soft

@@ -1,0 +1,7 @@
+pub mod Costs
+pub mod History
+pub mod Replies
+pub mod Record
+pub mod Replay
+pub mod Kept
+pub mod Laws

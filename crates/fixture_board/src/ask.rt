@@ -1,0 +1,25 @@
+//! What is asked of a board.
+
+use fixtures::Game;
+use moves::Move;
+
+/// A move, and what its caller knows of the board.
+#[derive(Clone, Copy, Debug, PartialEq, Eq)]
+pub struct Proposal {
+    /// The version that the move was found for. Where it is old, the move is judged anew and the claim ignored.
+    pub version: u64,
+    pub mv: Move,
+    /// The score after the move as the caller counts it, where it tells one.
+    pub claim: Option<u64>,
+    /// By how much the score may rise.
+    pub slack: u64,
+}
+
+/// What is asked of a board, and for which version.
+#[derive(Clone, Copy, Debug, PartialEq, Eq)]
+pub enum Ask {
+    Shift(Proposal),
+    Pin { version: u64, game: Game },
+    Unpin { version: u64, game: Game },
+    Undo { version: u64 },
+}

@@ -1,0 +1,28 @@
+//! The fixture board of one thread: one double round robin of a league, changed on request, with its history, its
+//! pinned games, and the cheapest feasible schedule met so far.
+//!
+//! Teams and rounds are numbered from 0. Only `Board::new` takes memory.
+#![tactic(auto)]
+
+mod ask;
+mod best;
+mod board;
+mod change;
+mod cost;
+mod laws;
+mod pins;
+mod refusals;
+mod reply;
+mod rule_costs;
+#[cfg(test)]
+mod tests;
+
+pub use ask::{Ask, Proposal};
+pub use board::{Board, BoardFault, NewRefused};
+pub use change::{Change, Entry};
+pub use cost::{Best, Cost};
+pub use laws::{
+    answer_tells_history, best_is_least, best_never_rises, empty_history_is_legal,
+    legal_history_is_sound, next_history_is_legal, replay,
+};
+pub use reply::{Reply, Why};

@@ -1,0 +1,113 @@
+//! Which games are pinned to their rounds.
+
+ghost use Rattle.std.specs.Prelude.{◌≡◌, ◌≢◌, ℕ, ◌+◌, ◌*◌, ◌<◌, ◌&&◌, ◌==◌, not, true, false, replicate, slice_set, length, IfOk};
+ghost use Rattle.fixtures.specs.Games.{round_of, IsPair, IsDoubleRoundRobin};
+ghost use Rattle.fixture_board.specs.Kept.{pin_at};
+
+use fixtures::{Game, Schedule};
+use std::alloc::{AllocError, Global};
+use std::marker::Model;
+
+/// What the table has of a game that isn't pinned.
+const FREE: u8 = 255;
+
+const TEAM_PLACES: usize = 40;
+
+/// The round in which the game of a pair is pinned, or `FREE`, for each of 40 teams as the team at home and the team
+/// away.
+#[derive(Drop)]
+pub(crate) struct Pins {
+    rounds: Vec<u8>,
+}
+
+impl Model for Pins {
+    ghost use Rattle.std.specs.Prelude.{◌≡◌, ℕ, List, length};
+
+    ghost Value = { List ℕ };
+
+    ghost view = { λ p. p.rounds.items };
+
+    ghost invariant = { λ p. length p.rounds.items ≡ 1600 };
+}
+
+impl Pins {
+    /// No game is pinned.
+    pub(crate) fn none(alloc: Global) -> Result<Pins, AllocError>
+        ensures { IfOk result (λ p. p ≡ replicate 1600 255) }
+    {
+        Ok(Pins {
+            rounds: vec![in alloc; FREE; TEAM_PLACES * TEAM_PLACES]?,
+        })
+    }
+
+    /// Whether the game of the pair is pinned.
+    pub(crate) fn has(&self, home: u8, away: u8) -> bool
+        requires home { home < 40 }
+        requires away { away < 40 }
+        ensures { result ≡ not (pin_at self.now home away == 255) }
+    {
+        self.rounds[place(home, away)] != FREE
+    }
+
+    /// Pins the game to its round.
+    pub(crate) fn pin(&mut self, game: Game)
+        requires home { game.home < 40 }
+        requires away { game.away < 40 }
+        ensures { self.new ≡ slice_set self.old (game.home * 40 + game.away) game.round }
+    {
+        self.rounds[place(game.home, game.away)] = game.round;
+    }
+
+    /// Lets the game get another round again.
+    pub(crate) fn unpin(&mut self, game: Game)
+        requires home { game.home < 40 }
+        requires away { game.away < 40 }
+        ensures { self.new ≡ slice_set self.old (game.home * 40 + game.away) 255 }
+    {
+        self.rounds[place(game.home, game.away)] = FREE;
+    }
+
+    /// Whether a pinned game has another round in the schedule.
+    pub(crate) fn are_moved_in(&self, schedule: &Schedule) -> bool
+        ensures none { result ≡ false → (h a : ℕ) → IsPair schedule.now.teams h a → pin_at self.now h a ≢ 255 → round_of schedule.now h a ≡ pin_at self.now h a }
+        ensures some { result ≡ true → (h : ℕ) × (a : ℕ) × IsPair schedule.now.teams h a × (pin_at self.now h a ≢ 255) × (round_of schedule.now h a ≢ pin_at self.now h a) }
+    {
+        for home in 0..schedule.teams() {
+            if self.are_moved_of(schedule, home) {
+                return true;
+            }
+        }
+        false
+    }
+
+    /// Whether a pinned home game of the team has another round in the schedule.
+    fn are_moved_of(&self, schedule: &Schedule, home: u8) -> bool
+        requires { home < schedule.now.teams }
+        ensures none { result ≡ false → (a : ℕ) → IsPair schedule.now.teams home a → pin_at self.now home a ≢ 255 → round_of schedule.now home a ≡ pin_at self.now home a }
+        ensures some { result ≡ true → (a : ℕ) × IsPair schedule.now.teams home a × (pin_at self.now home a ≢ 255) × (round_of schedule.now home a ≢ pin_at self.now home a) }
+    {
+        for away in 0..schedule.teams() {
+            if home != away && self.is_moved(schedule, home, away) {
+                return true;
+            }
+        }
+        false
+    }
+
+    /// Whether the game of the pair is pinned to another round than it has in the schedule.
+    fn is_moved(&self, schedule: &Schedule, home: u8, away: u8) -> bool
+        requires { IsPair schedule.now.teams home away }
+        ensures { result ≡ (not (pin_at self.now home away == 255) && not (pin_at self.now home away == round_of schedule.now home away)) }
+    {
+        let round = schedule.round_of(home, away);
+        let pinned = self.rounds[place(home, away)];
+        pinned != FREE && pinned != round
+    }
+}
+
+/// The place of a pair in the table.
+fn place(home: u8, away: u8) -> usize
+    ensures { result ≡ home * 40 + away }
+{
+    usize::from(home) * TEAM_PLACES + usize::from(away)
+}
