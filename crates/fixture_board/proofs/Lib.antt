@@ -1,9 +1,7 @@
 pub mod OneMore
 pub mod Least
-pub mod Deviations
 pub mod Scores
 pub mod Stand
-pub mod Start
 pub mod Next
 pub mod Sound
 pub mod Script

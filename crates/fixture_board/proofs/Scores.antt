@@ -22,7 +22,7 @@ use Rattle.fixture_board.specs.declared.change.Change.{Change}
 use Rattle.fixture_board.specs.declared.change.Change.TheVariants.{Shift, Pin, Unpin, Undo}
 use Rattle.fixture_board.specs.declared.change.Entry.{Entry}
 use Rattle.fixture_board.specs.History.{effective, shifted, games_after, start_of, games_of, cost_at}
-use Rattle.fixture_board.proofs.Deviations.{if_le, deviation_le}
+use Rattle.robinx.proofs.DeviationLimits.{if_le, deviation_le}
 
 -- the schedule of a history is of the league's teams
 

@@ -10,7 +10,7 @@ use Rattle.fixture_board.specs.declared.change.Change.TheVariants.{Shift, Pin, U
 use Rattle.fixture_board.specs.declared.change.Entry.{Entry}
 use Rattle.fixture_board.specs.History.{effective, shifted, games_after, start_of, games_of, pinned, pins_after, AllStand, legal_after, IsLegal, Fits}
 use Rattle.fixture_board.specs.Laws.{IsSound}
-use Rattle.fixture_board.proofs.Start.{IsDoubleRoundRobin-berger}
+use Rattle.fixtures.proofs.BergerRoundRobin.{IsDoubleRoundRobin-berger}
 use Rattle.fixture_board.proofs.Stand.{Fit, FitFrom, FitFrom-more, AllStand-after, AllStand-fit}
 
 -- the changes in effect of a legal history fit

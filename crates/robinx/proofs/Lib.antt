@@ -1,3 +1,4 @@
 pub mod AllTeams
 pub mod GameCounts
+pub mod DeviationLimits
 mod Worked
