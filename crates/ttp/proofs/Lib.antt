@@ -1,1 +1,8 @@
 mod CommandLineWorked
+pub mod Digits
+pub mod Splitting
+pub mod Parts
+pub mod Answering
+pub mod RoomLemmas
+pub mod PlayWords
+pub mod NamedJob

@@ -3,8 +3,10 @@ use Rattle.streams.specs.declared.reading.ReadFault.{ReadFault}
 use Rattle.streams.specs.declared.reading.ReadFault.TheVariants as read
 use Rattle.league.specs.declared.fault.LeagueFault.{LeagueFault}
 use Rattle.league.specs.declared.fault.LeagueFault.TheVariants as league
+use Rattle.fixture_board.specs.declared.board.BoardFault.{BoardFault}
+use Rattle.fixture_board.specs.declared.board.BoardFault.TheVariants as board
 use Rattle.ttp.specs.declared.fault.ProgramFault.{ProgramFault}
-use Rattle.ttp.specs.declared.fault.ProgramFault.TheVariants.{Read, TooLong, League, Memory}
+use Rattle.ttp.specs.declared.fault.ProgramFault.TheVariants.{Read, TooLong, League, Room, Memory}
 
 abbrev pub of_reading : ReadFault → ProgramFault
 of_reading read.Read = Read
@@ -15,3 +17,7 @@ of_reading read.Memory = Memory
 abbrev pub of_league : LeagueFault → ProgramFault
 of_league league.Memory = Memory
 of_league fault = League fault
+
+abbrev pub of_board : BoardFault → ProgramFault
+of_board board.RoomRange = Room
+of_board board.Memory = Memory

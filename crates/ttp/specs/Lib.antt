@@ -2,3 +2,9 @@ pub mod CommandLine
 pub mod Sheet
 pub mod Start
 pub mod Fault
+pub mod Words
+pub mod Input
+pub mod Number
+pub mod Command
+pub mod PlayText
+pub mod Play

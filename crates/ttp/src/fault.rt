@@ -2,8 +2,9 @@
 
 ghost use Rattle.std.specs.Prelude.{◌≡◌};
 ghost use Rattle.ttp.specs.declared.fault.ProgramFault.TheVariants.{Write, Memory};
-ghost use Rattle.ttp.specs.Fault.{of_reading, of_league};
+ghost use Rattle.ttp.specs.Fault.{of_board, of_reading, of_league};
 
+use fixture_board::BoardFault;
 use league::LeagueFault;
 use std::alloc::AllocError;
 use streams::{ReadFault, WriteFault};
@@ -21,6 +22,9 @@ pub enum ProgramFault {
     /// The input is no league.
     #[error("{0}")]
     League(LeagueFault),
+    /// The room is over that of any board.
+    #[error("room is over 1048576")]
+    Room,
     /// A write failed, took no byte or was interrupted too often in a row.
     #[error("output cannot be written")]
     Write,
@@ -48,6 +52,17 @@ impl From<LeagueFault> for ProgramFault {
         match fault {
             LeagueFault::Memory => ProgramFault::Memory,
             fault => ProgramFault::League(fault),
+        }
+    }
+}
+
+impl From<BoardFault> for ProgramFault {
+    ghost from_gives = { λ fault gives. gives ≡ of_board fault };
+
+    fn from(fault: BoardFault) -> ProgramFault {
+        match fault {
+            BoardFault::RoomRange => ProgramFault::Room,
+            BoardFault::Memory => ProgramFault::Memory,
         }
     }
 }

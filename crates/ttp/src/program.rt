@@ -6,6 +6,7 @@ ghost use Rattle.clap.specs.Words.{kind_of};
 
 use crate::command_line::{Job, args};
 use crate::fault::ProgramFault;
+use crate::play::play;
 use crate::start::start;
 use clap::error::ErrorKind;
 use std::process::ExitCode;
@@ -42,6 +43,12 @@ fn perform<R: Runtime + AllocGlobal>(rt: &R, job: Job) -> Result<(), ProgramFaul
             rt.alloc(),
             ReaderSource::new(rt.reader()),
             &mut WriterSink::new(io::writer(rt)),
+        ),
+        Job::Play { room } => play(
+            rt.alloc(),
+            ReaderSource::new(rt.reader()),
+            &mut WriterSink::new(io::writer(rt)),
+            room,
         ),
     }
 }

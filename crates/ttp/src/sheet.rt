@@ -31,7 +31,7 @@ pub fn sheet<W: Sink>(schedule: &Schedule, league: &League, sink: &mut W) -> Res
     out.flush()
 }
 
-fn write_sheet<W: Sink>(
+pub(crate) fn write_sheet<W: Sink>(
     out: &mut BufferedSink<'_, W>,
     schedule: &Schedule,
     league: &League,

@@ -1,14 +1,15 @@
-//! What no clause says: a known sheet, faults on known leagues and their texts, clap's texts and exit
-//! statuses.
+//! What no clause says: a known sheet, faults on known leagues and their texts.
 
+mod command_line;
 mod memory;
+mod play;
+mod script;
+mod worked;
 
-use crate::command_line::{Job, args};
 use crate::fault::ProgramFault;
 use crate::start::{start, start_from};
-use clap::error::ErrorKind;
 use league::{Field, LeagueFault};
-use std::alloc::{AllocError, Global};
+use std::alloc::Global;
 use std::test::Fail;
 use streams::{MemorySink, MemorySource, RehearsedSink, RehearsedSource, Step};
 
@@ -160,45 +161,6 @@ fn start_stops_at_a_full_sink(rt: HostRuntime) {
     assert_eq!(rt; sink.held(), b"league 4 teams 6 rounds\n".as_slice());
 }
 
-/// Owned words, as the system gives them.
-fn words(alloc: Global, given: &[&str]) -> Result<Vec<String>, AllocError> {
-    let mut words = Vec::new(alloc);
-    for word in given {
-        words.push(String::from_str(alloc, word)?)?;
-    }
-    Ok(words)
-}
-
-#[test]
-fn command_line_asks_for_the_start(rt: HostRuntime) -> Result<(), Fail> {
-    let words = words(rt.alloc(), &["ttp", "start"])?;
-    assert_eq!(rt; args(rt.alloc(), &words)?, Job::Start);
-    Ok(())
-}
-
-#[test]
-fn wrong_command_lines_end_with_two_and_help_with_zero(rt: HostRuntime) -> Result<(), Fail> {
-    let cases: [(&[&str], ErrorKind, i32); 6] = [
-        (&["ttp"], ErrorKind::MissingSubcommand, 2),
-        (&["ttp", "stop"], ErrorKind::InvalidSubcommand, 2),
-        (&["ttp", "start", "now"], ErrorKind::UnknownArgument, 2),
-        (
-            &["ttp", "start", "--room", "3"],
-            ErrorKind::UnknownArgument,
-            2,
-        ),
-        (&["ttp", "--help"], ErrorKind::DisplayHelp, 0),
-        (&["ttp", "start", "--help"], ErrorKind::DisplayHelp, 0),
-    ];
-    for (given, kind, status) in cases {
-        let words = words(rt.alloc(), given)?;
-        let error = args(rt.alloc(), &words).err().ok_or("the words pass")?;
-        assert_eq!(rt; error.kind(), kind, "{given:?}");
-        assert_eq!(rt; error.exit_code(), status, "{given:?}");
-    }
-    Ok(())
-}
-
 #[test]
 fn faults_have_their_texts(rt: HostRuntime) -> Result<(), Fail> {
     let cases = [
@@ -212,6 +174,7 @@ fn faults_have_their_texts(rt: HostRuntime) -> Result<(), Fail> {
             ProgramFault::League(LeagueFault::WrongKind(Field::Whole)),
             "league is no object",
         ),
+        (ProgramFault::Room, "room is over 1048576"),
         (ProgramFault::Write, "output cannot be written"),
         (ProgramFault::Memory, "out of memory"),
     ];

@@ -3,9 +3,12 @@
 //! `rt try --test --fail-alloc N` refuses the Nth allocation of each test. A test
 //! `.._tells_refused_memory` passes at every N; `.._with_ample_memory` fails while N is among its allocations.
 
+use super::command_line::words;
+use super::play::{AFTER_UNDO, input};
 use super::{CIRCLE, SHEET};
 use crate::command_line::{Job, args};
 use crate::fault::ProgramFault;
+use crate::play::play;
 use crate::start::start;
 use clap::error::ErrorKind;
 use std::test::Fail;
@@ -34,15 +37,41 @@ fn start_tells_refused_memory(rt: HostRuntime) {
 }
 
 #[test]
+fn play_succeeds_with_ample_memory(rt: HostRuntime) -> Result<(), Fail> {
+    let input = input(rt.alloc(), CIRCLE, b"homes 1 2\nundo\n")?;
+    let mut room = [0; 2000];
+    let mut sink = MemorySink::new(&mut room);
+    play(rt.alloc(), MemorySource::new(&input), &mut sink, 8)?;
+    assert_eq!(rt; sink.held(), AFTER_UNDO.as_bytes());
+    Ok(())
+}
+
+#[test]
+fn play_tells_refused_memory(rt: HostRuntime) {
+    let Ok(input) = input(rt.alloc(), CIRCLE, b"homes 1 2\nundo\n") else {
+        return;
+    };
+    let mut room = [0; 2000];
+    let mut sink = MemorySink::new(&mut room);
+    match play(rt.alloc(), MemorySource::new(&input), &mut sink, 8) {
+        Ok(()) => assert_eq!(rt; sink.held(), AFTER_UNDO.as_bytes()),
+        Err(fault) => {
+            assert_eq!(rt; fault, ProgramFault::Memory);
+            assert_eq!(rt; sink.tally().calls, 0);
+        }
+    }
+}
+
+#[test]
 fn args_succeeds_with_ample_memory(rt: HostRuntime) -> Result<(), Fail> {
-    let words = super::words(rt.alloc(), &["ttp", "start"])?;
+    let words = words(rt.alloc(), &["ttp", "start"])?;
     assert_eq!(rt; args(rt.alloc(), &words)?, Job::Start);
     Ok(())
 }
 
 #[test]
 fn args_tells_refused_memory(rt: HostRuntime) {
-    let Ok(words) = super::words(rt.alloc(), &["ttp", "start"]) else {
+    let Ok(words) = words(rt.alloc(), &["ttp", "start"]) else {
         return;
     };
     match args(rt.alloc(), &words) {
