@@ -24,7 +24,7 @@ first_part : {X : Type 0} (parts : List X) → 0 < length parts → (part : X) �
 first_part [] some = absurd (omega arith)
 first_part (part ∷ more) some = (part, more, refl)
 
-parts_of : (p : ℕ → Bool) (bs : List ℕ) → (part : List ℕ) × (more : List (List ℕ)) × (slice_split p bs ≡ part ∷ more)
+pub parts_of : (p : ℕ → Bool) (bs : List ℕ) → (part : List ℕ) × (more : List (List ℕ)) × (slice_split p bs ≡ part ∷ more)
 parts_of p bs = first_part (slice_split p bs) (omega (arith, length-slice_split p bs))
 
 -- nothing passes, so all is one part
@@ -118,7 +118,7 @@ pub no_word : (text : List ℕ) → length text ≤ 0 → words_of text ≡ []
 no_word [] none = refl
 no_word (b ∷ bs) none = absurd (omega arith)
 
-word_kept : (word : List ℕ) (more : List (List ℕ)) → 0 < length word → filter is_word (word ∷ more) ≡ word ∷ filter is_word more
+pub word_kept : (word : List ℕ) (more : List (List ℕ)) → 0 < length word → filter is_word (word ∷ more) ≡ word ∷ filter is_word more
 word_kept word more some = rw (is_word-some word some) refl
 
 -- the first word goes to the first blank, or to the end

@@ -6,7 +6,7 @@ use Rattle.league.specs.League.{LeagueData, league_of}
 use Rattle.streams.specs.declared.reading.TheConstants.{INPUT_LIMIT}
 use Rattle.streams.specs.Sending.{AppendsFront}
 use Rattle.ttp.specs.Input.{league_text, script_lines}
-use Rattle.ttp.specs.PlayText.{play_text}
+use Rattle.ttp.specs.PlayText.{IsPlayedAgain, play_text}
 
 -- A source with these bytes left was read to its end, no further than the limit, and what the
 -- league's text stands for is the answer: a league, or the first fault of the text.
@@ -23,12 +23,14 @@ pub record ReadsOverRoom {R : Type 0} (left : R → Option (List ℕ)) (old new 
   pub reads : ReadsInput left old new (Ok league)
   pub over : 1048576 < room
 
--- a league and its script were read, and the play text was written
+-- a league and its script were read, and the play text was written. The history in it, given as a script, leads to
+-- the same history
 pub record WritesPlay {R W : Type 0} (left : R → Option (List ℕ)) (held : W → Option (List ℕ)) (old new : R) (before after : W) (room : ℕ) : Type 0 where
   pub league : LeagueData
   pub reads : ReadsInput left old new (Ok league)
   pub room_is : room ≤ 1048576
   pub writes : Appends (held before) (held after) (play_text league room (script_lines reads.bytes))
+  pub again : IsPlayedAgain league room (script_lines reads.bytes)
 
 -- a league and its script were read, and a front of the play text was written
 pub record WritesPlayFront {R W : Type 0} (left : R → Option (List ℕ)) (held : W → Option (List ℕ)) (old new : R) (before after : W) (room : ℕ) : Type 0 where

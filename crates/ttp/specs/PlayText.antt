@@ -1,6 +1,7 @@
 -- The play text: what a board answers to a script, and what it is then. Teams and rounds are numbered from 0 here,
 -- and from 1 in the text.
-use Rattle.std.specs.Prelude.{ℕ, ◌+◌, List, [], ◌∷◌, ◌++◌, length, Option, Some, None, codes, decimal}
+use Rattle.std.specs.Prelude.{◌≡◌, ℕ, ◌+◌, List, [], ◌∷◌, ◌++◌, length, Option, Some, None, codes, decimal}
+use Rattle.std.specs.Str.Lines.{lines}
 use Rattle.league.specs.League.{LeagueData}
 use Rattle.moves.specs.declared.moves.Move.{Move}
 use Rattle.moves.specs.declared.moves.Move.TheVariants.{Homes, Rounds, Teams, PartRounds, PartTeams}
@@ -135,6 +136,11 @@ module _ (league : LeagueData) (room : ℕ) where
   -- its answers
   unfoldable pub answers : List (List ℕ) → List ℕ
   answers script = answers_from [] 18446744073709551615 1 script
+
+-- the history that a script leads to, written and given as a script itself, leads to the same history
+abbrev pub IsPlayedAgain : LeagueData → ℕ → List (List ℕ) → Type 0
+IsPlayedAgain league room script =
+    played league room (lines (change_lines (played league room script))) ≡ played league room script
 
 -- a board after its history: the history, the sheet of its schedule and the best version
 unfoldable pub closing_text : LeagueData → List Entry → List ℕ

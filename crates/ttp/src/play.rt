@@ -15,7 +15,8 @@ use std::alloc::Global;
 use streams::{INPUT_LIMIT, READ_LIMIT, Sink, Source, WRITE_LIMIT, read_all};
 
 /// Reads a league and a script to the end of the source, plays the script on a board of that room, and writes the
-/// play text. Nothing is written before all other faults are past, and no memory is taken from then on.
+/// play text. The history in it, given as a script, leads to the same history. Nothing is written before all other
+/// faults are past, and no memory is taken from then on.
 ///
 /// The clauses are those of [`play_from`], where what the source became is some later state.
 pub fn play<R: Source + Drop, W: Sink>(

@@ -1,4 +1,5 @@
 use Rattle.std.proofs.Common.{rules, ◌≡◌, length, vec_len}
+use Rattle.ttp.proofs.PlayedAgain.{played_again}
 use Rattle.ttp.proofs.play.play_from.Goals as goal
 
 pub returns-in_err-play_on-clause-write : goal.returns-in_err-play_on-clause-write
@@ -31,4 +32,5 @@ returns-clause-ok g c =
       };
       room_is = (c.in-Ok.ensures).within;
       writes = rw ((c.in-Ok.ensures).ok, c.split_input.ensures.script, c.deref.ensures.value) at c.in_ok-play_on.ensures.ok;
+      again = played_again c.in_ok-league.league _ _ c.in_ok-league.ensures.limits;
     }
