@@ -1,6 +1,8 @@
 //! The program around its commands: words in, texts and an exit status out.
 
 ghost use Rattle.std.specs.Prelude.{◌≡◌, ◌≢◌};
+ghost use Rattle.std.specs.IoError.{error_kind};
+ghost use Rattle.std.specs.declared.io.ErrorKind.TheVariants.{OutOfMemory};
 ghost use Rattle.std.specs.Process.{exit_status};
 ghost use Rattle.clap.specs.Words.{kind_of};
 
@@ -82,7 +84,8 @@ fn words_not_taken<R: Runtime>(rt: &R, error: clap::Error) -> ExitCode
 
 /// Memory ran out, or a word is no text.
 fn words_not_had<R: Runtime>(rt: &R, error: io::Error) -> ExitCode
-    ensures { exit_status result ≢ 0 }
+    ensures memory { error_kind error ≡ OutOfMemory → exit_status result ≡ 1 }
+    ensures mistake { error_kind error ≢ OutOfMemory → exit_status result ≡ 2 }
 {
     if error.kind() == io::ErrorKind::OutOfMemory {
         return failure(rt, ProgramFault::Memory);
