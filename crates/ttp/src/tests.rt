@@ -4,6 +4,7 @@ mod command_line;
 mod memory;
 mod play;
 mod script;
+mod session;
 mod worked;
 
 use crate::fault::ProgramFault;
