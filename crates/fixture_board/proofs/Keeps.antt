@@ -13,7 +13,8 @@ use Rattle.fixture_board.specs.declared.change.Change.TheVariants.{Shift, Pin, U
 use Rattle.fixture_board.specs.declared.change.Entry.{Entry}
 use Rattle.fixture_board.specs.declared.ask.Ask.TheVariants as ask
 use Rattle.fixture_board.specs.declared.ask.Proposal.{Proposal}
-use Rattle.fixture_board.specs.History.{effect, effective, shifted, games_after, start_of, games_of, pinned, pins_after, pins_of, is_in_range, is_there, moves_pin, AllStand, Fits, May, IsLegal, cost_at, better, best_prefix, best_at, as_best, best_of}
+use Rattle.fixtures.specs.Start.{start_of}
+use Rattle.fixture_board.specs.History.{effect, effective, shifted, games_after, games_of, pinned, pins_after, pins_of, is_in_range, is_there, moves_pin, AllStand, Fits, May, IsLegal, cost_at, better, best_prefix, best_at, as_best, best_of}
 use Rattle.fixture_board.specs.Kept.{pin_at, ArePinsAt, IsLeader, IsKept, CanTakeBack, taken_back, leads, led_by}
 use Rattle.fixture_board.specs.Laws.{IsSound}
 use Rattle.fixture_board.specs.Replies.{refusal, entry}

@@ -13,7 +13,8 @@ use Rattle.fixture_board.specs.declared.change.Entry.{Entry}
 use Rattle.fixture_board.specs.declared.ask.Ask.{Ask}
 use Rattle.fixture_board.specs.declared.reply.Why.{Why}
 use Rattle.fixture_board.specs.declared.reply.Reply.TheVariants.{Done, No}
-use Rattle.fixture_board.specs.History.{effect, effective, effective_after, shifted, games_after, start_of, games_of, pinned, pins_after, pins_of, May, legal_after, IsLegal, cost_at, better, best_after, best_prefix}
+use Rattle.fixtures.specs.Start.{start_of}
+use Rattle.fixture_board.specs.History.{effect, effective, effective_after, shifted, games_after, games_of, pinned, pins_after, pins_of, May, legal_after, IsLegal, cost_at, better, best_after, best_prefix}
 use Rattle.fixture_board.specs.Replies.{first_of, refusal, entry, next_of, reply_of}
 
 -- the empty history

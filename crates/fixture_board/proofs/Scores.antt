@@ -9,19 +9,20 @@ use Rattle.league.specs.declared.rule.Rule.{Rule}
 use Rattle.league.specs.declared.rule.Weight.{Weight}
 use Rattle.league.specs.declared.rule.Weight.TheVariants.{Hard, Soft}
 use Rattle.league.proofs.Sums.{sum_below_le, sum_of_pairs_le, count_where_le}
-use Rattle.fixtures.specs.Games.{Games, round_count}
+use Rattle.fixtures.specs.Games.{Games, round_count, meets}
 use Rattle.moves.specs.declared.moves.Move.{Move}
 use Rattle.moves.specs.declared.moves.Move.TheVariants.{Homes, Rounds, Teams, PartRounds, PartTeams}
 use Rattle.moves.specs.Moves.{moved}
 use Rattle.tours.specs.Tours.{leg_count, leg, travel_of, travel}
 use Rattle.tours.specs.Runs.{windows, is_run, runs_of, runs_over}
-use Rattle.tours.specs.Repeats.{meets, repeats_after, repeats}
+use Rattle.tours.specs.Repeats.{repeats_after, repeats}
 use Rattle.robinx.specs.Deviations.{deviation}
 use Rattle.fixture_board.specs.Costs.{hard_share, soft_share, share_of, sum_over_rules, cost_of, score_of}
 use Rattle.fixture_board.specs.declared.change.Change.{Change}
 use Rattle.fixture_board.specs.declared.change.Change.TheVariants.{Shift, Pin, Unpin, Undo}
 use Rattle.fixture_board.specs.declared.change.Entry.{Entry}
-use Rattle.fixture_board.specs.History.{effective, shifted, games_after, start_of, games_of, cost_at}
+use Rattle.fixtures.specs.Start.{start_of}
+use Rattle.fixture_board.specs.History.{effective, shifted, games_after, games_of, cost_at}
 use Rattle.robinx.proofs.DeviationLimits.{if_le, deviation_le}
 
 -- the schedule of a history is of the league's teams

@@ -8,7 +8,8 @@ use Rattle.moves.specs.Moves.{moved, fault_of}
 use Rattle.fixture_board.specs.declared.change.Change.{Change}
 use Rattle.fixture_board.specs.declared.change.Change.TheVariants.{Shift, Pin, Unpin, Undo}
 use Rattle.fixture_board.specs.declared.change.Entry.{Entry}
-use Rattle.fixture_board.specs.History.{effective, shifted, games_after, start_of, games_of, pinned, pins_after, AllStand, legal_after, IsLegal, Fits}
+use Rattle.fixtures.specs.Start.{start_of}
+use Rattle.fixture_board.specs.History.{effective, shifted, games_after, games_of, pinned, pins_after, AllStand, legal_after, IsLegal, Fits}
 use Rattle.fixture_board.specs.Laws.{IsSound}
 use Rattle.fixtures.proofs.BergerRoundRobin.{IsDoubleRoundRobin-berger}
 use Rattle.fixture_board.proofs.Stand.{Fit, FitFrom, FitFrom-more, AllStand-after, AllStand-fit}

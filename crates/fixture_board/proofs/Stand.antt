@@ -9,7 +9,8 @@ use Rattle.moves.specs.Moves.{moved}
 use Rattle.fixture_board.specs.declared.change.Change.{Change}
 use Rattle.fixture_board.specs.declared.change.Change.TheVariants.{Shift, Pin, Unpin, Undo}
 use Rattle.fixture_board.specs.declared.change.Entry.{Entry}
-use Rattle.fixture_board.specs.History.{effect, effective, shifted, games_after, start_of, games_of, is_game, has_game, pinned, pins_after, pins_of, is_in_range, is_there, moves_pin, AllStand, Fits, May}
+use Rattle.fixtures.specs.Start.{start_of}
+use Rattle.fixture_board.specs.History.{effect, effective, shifted, games_after, games_of, is_game, has_game, pinned, pins_after, pins_of, is_in_range, is_there, moves_pin, AllStand, Fits, May}
 use Rattle.fixture_board.proofs.OneMore.{effective-more}
 use Rattle.fixture_board.proofs.Scores.{moved-teams}
 

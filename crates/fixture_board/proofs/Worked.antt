@@ -11,9 +11,10 @@ use Rattle.league.specs.declared.rule.Side.TheVariants as side
 use Rattle.fixtures.specs.declared.game.Game.{Game}
 use Rattle.moves.specs.declared.moves.Move.{Move}
 use Rattle.moves.specs.declared.moves.Move.TheVariants.{Homes, Rounds, Teams, PartTeams}
-use Rattle.tours.specs.Tours.{place, leg, travel_of, travel}
-use Rattle.tours.specs.Runs.{is_home, is_run, runs_of, runs_over}
-use Rattle.tours.specs.Repeats.{meets, repeats_after, repeats}
+use Rattle.tours.specs.Tours.{leg, travel_of, travel}
+use Rattle.tours.specs.Runs.{is_run, runs_of, runs_over}
+use Rattle.fixtures.specs.Games.{place, is_home, meets}
+use Rattle.tours.specs.Repeats.{repeats_after, repeats}
 use Rattle.robinx.specs.Deviations.{counts, count_in, count_in_window, is_break, breaks, rounds_between, games_in, over_in_windows, short_pairs, deviation}
 use Rattle.fixture_board.specs.Costs.{sum_over_rules, cost_of}
 use Rattle.fixture_board.specs.declared.cost.Cost.{Cost}

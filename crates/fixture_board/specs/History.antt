@@ -3,10 +3,10 @@ use Rattle.std.specs.Prelude.{◌≡◌, ◌≢◌, ℕ, ◌-◌, ◌<◌, ◌�
 use Rattle.std.specs.List.{list_any}
 use Rattle.fixtures.specs.declared.game.Game.{Game}
 use Rattle.fixtures.specs.Games.{Games, round_of, round_count}
-use Rattle.fixtures.specs.Berger.{berger_games}
+use Rattle.fixtures.specs.Start.{start_of}
 use Rattle.moves.specs.Moves.{moved, fault_of}
 use Rattle.fixture_board.specs.declared.cost.Cost.{Cost}
-use Rattle.league.specs.League.{LeagueData, teams}
+use Rattle.league.specs.League.{LeagueData}
 use Rattle.fixture_board.specs.Costs.{cost_of, total_of}
 use Rattle.fixture_board.specs.declared.change.Change.{Change}
 use Rattle.fixture_board.specs.declared.change.Change.TheVariants.{Shift, Pin, Unpin, Undo}
@@ -34,10 +34,6 @@ shifted g _ = g
 unfoldable pub games_after : Games → List Change → Games
 games_after g [] = g
 games_after g (change ∷ changes) = games_after (shifted g change) changes
-
--- the schedule of a league's first version
-abbrev pub start_of : LeagueData → Games
-start_of league = berger_games (teams league)
 
 -- the start with the moves in effect made in order
 unfoldable pub games_of : LeagueData → List Entry → Games

@@ -4,8 +4,7 @@ use Rattle.std.specs.Prelude.{◌==◌, nat_lt, if◌then◌else◌}
 use Rattle.std.proofs.lemmas.Bool.Decides.{nat_tests}
 use Rattle.league.specs.Sums.{sum_below, count_where}
 use Rattle.fixtures.specs.declared.game.Cell.{Cell}
-use Rattle.fixtures.specs.Games.{Games, cell}
-use Rattle.tours.specs.Repeats.{meets}
+use Rattle.fixtures.specs.Games.{Games, cell, meets}
 
 one_more : (n a b s : ℕ) → s ≡ (if nat_lt a n && a == b then 1 else 0) →
     s + (if a == n && b == n then 1 else 0) ≡ (if nat_lt a (suc n) && a == b then 1 else 0)

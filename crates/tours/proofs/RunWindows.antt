@@ -5,8 +5,8 @@ use Rattle.std.proofs.lemmas.Bool.{cases_lt}
 use Rattle.std.proofs.lemmas.Bool.Decides.{nat_tests}
 use Rattle.league.specs.Sums.{sum_below, count_where}
 use Rattle.league.proofs.Sums.{sum_below_more}
-use Rattle.fixtures.specs.Games.{Games}
-use Rattle.tours.specs.Runs.{is_home, is_run}
+use Rattle.fixtures.specs.Games.{Games, is_home}
+use Rattle.tours.specs.Runs.{is_run}
 use Rattle.tours.proofs.Stretches.{stretch, stretch_none, stretch_more, stretch_le, all_below-stretch}
 
 abbrev pub is_away : Games → ℕ → ℕ → Bool

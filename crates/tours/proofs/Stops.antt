@@ -6,8 +6,8 @@ use Rattle.std.proofs.lemmas.List.{get_or_append_left, get_or_at}
 use Rattle.std.proofs.lemmas.List.FromFn.{get_or-map-range_with_len, length-map-range_with_len}
 use Rattle.league.specs.League.{LeagueData, distance}
 use Rattle.league.proofs.Sums.{sum_below_none, sum_below_more}
-use Rattle.fixtures.specs.Games.{Games, round_count}
-use Rattle.tours.specs.Tours.{place, tour, leg}
+use Rattle.fixtures.specs.Games.{Games, round_count, place}
+use Rattle.tours.specs.Tours.{tour, leg}
 
 -- after a round the team is at the place of its game
 pub tour_at_round : (g : Games) (team r : ℕ) → r < round_count g.teams → get_or (tour g team) (r + 1) 0 ≡ place g team r

@@ -4,12 +4,12 @@ use Rattle.std.proofs.Common.{◌≡◌, ℕ, true, List, [], ◌∷◌, map, re
 use Rattle.std.specs.List.{range_with_len}
 use Rattle.league.specs.League.{LeagueData, league_data}
 use Rattle.league.specs.Sums.{sum_below, all_below}
-use Rattle.fixtures.specs.Games.{Games}
+use Rattle.fixtures.specs.Games.{Games, place, is_home, meets}
 use Rattle.fixtures.specs.Berger.{berger_games}
 use Rattle.fixtures.specs.Edits.{homes_exchanged, rounds_exchanged, all_games_exchanged}
-use Rattle.tours.specs.Tours.{place, tour, leg, travel_of, travel}
-use Rattle.tours.specs.Runs.{is_home, is_run, runs_of, runs_over}
-use Rattle.tours.specs.Repeats.{meets, repeats_after, repeats}
+use Rattle.tours.specs.Tours.{tour, leg, travel_of, travel}
+use Rattle.tours.specs.Runs.{is_run, runs_of, runs_over}
+use Rattle.tours.specs.Repeats.{repeats_after, repeats}
 
 -- the league of four teams with these distances
 abbrev four_teams : List (List ℕ) → LeagueData

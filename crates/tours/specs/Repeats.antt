@@ -1,10 +1,7 @@
 -- Pairs of teams that meet twice in a row.
-use Rattle.std.specs.Prelude.{ℕ, ◌+◌, ◌-◌, ◌&&◌, ◌==◌, Bool, if◌then◌else◌}
+use Rattle.std.specs.Prelude.{ℕ, ◌+◌, ◌-◌, ◌&&◌, if◌then◌else◌}
 use Rattle.league.specs.Sums.{sum_below, sum_of_pairs}
-use Rattle.fixtures.specs.Games.{Games, round_count, cell}
-
-unfoldable pub meets : Games → ℕ → ℕ → ℕ → Bool
-meets g team other round = (cell g team round).opponent == other
+use Rattle.fixtures.specs.Games.{Games, round_count, meets}
 
 -- how many pairs of teams meet both in a round and in the next
 unfoldable pub repeats_after : Games → ℕ → ℕ

@@ -1,10 +1,7 @@
 -- Long stretches at home or away.
 use Rattle.std.specs.Prelude.{ℕ, ◌+◌, ◌-◌, ◌||◌, not, Bool}
 use Rattle.league.specs.Sums.{sum_below, count_where, all_below}
-use Rattle.fixtures.specs.Games.{Games, round_count, cell}
-
-unfoldable pub is_home : Games → ℕ → ℕ → Bool
-is_home g team round = (cell g team round).home
+use Rattle.fixtures.specs.Games.{Games, round_count, is_home}
 
 -- whether a team is at home in all of the consecutive rounds, or away in all
 unfoldable pub is_run : Games → ℕ → ℕ → ℕ → Bool

@@ -1,13 +1,9 @@
 -- The tour of each team, and how far the teams travel (Easton, Nemhauser, Trick 2001).
-use Rattle.std.specs.Prelude.{ℕ, ◌+◌, List, [], ◌∷◌, ◌++◌, map, slice_index, if◌then◌else◌}
+use Rattle.std.specs.Prelude.{ℕ, ◌+◌, List, [], ◌∷◌, ◌++◌, map, slice_index}
 use Rattle.std.specs.List.{range_with_len}
 use Rattle.league.specs.League.{LeagueData, distance}
 use Rattle.league.specs.Sums.{sum_below}
-use Rattle.fixtures.specs.Games.{Games, round_count, cell}
-
--- where a team plays in a round: at its own place at home, at its opponent's place away
-unfoldable pub place : Games → ℕ → ℕ → ℕ
-place g team round = if (cell g team round).home then team else (cell g team round).opponent
+use Rattle.fixtures.specs.Games.{Games, round_count, place}
 
 -- a team's places, from its home to its home
 abbrev pub tour : Games → ℕ → List ℕ

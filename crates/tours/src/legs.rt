@@ -2,8 +2,8 @@
 
 ghost use Rattle.std.specs.Prelude.{◌≡◌, ◌*◌, ◌<◌, ◌≤◌};
 ghost use Rattle.league.specs.League.{teams};
-ghost use Rattle.fixtures.specs.Games.{round_count};
-ghost use Rattle.tours.specs.Tours.{place, travel_of, travel};
+ghost use Rattle.fixtures.specs.Games.{round_count, place};
+ghost use Rattle.tours.specs.Tours.{travel_of, travel};
 
 use fixtures::Schedule;
 use league::League;
@@ -42,7 +42,7 @@ pub fn travel_of(schedule: &Schedule, league: &League, team: u8) -> u64
 }
 
 /// The team at whose home `team` plays in `round`.
-#[tactic(auto, unfolding(crate::specs::Tours::place))]
+#[tactic(auto, unfolding(fixtures::specs::Games::place))]
 fn place(schedule: &Schedule, team: u8, round: u8) -> u8
     requires team { team < schedule.now.teams }
     requires round { round < round_count schedule.now.teams }

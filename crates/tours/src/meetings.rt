@@ -2,8 +2,8 @@
 
 ghost use Rattle.std.specs.Prelude.{◌≡◌, ◌+◌, ◌*◌, ◌<◌, ◌≤◌, ◌&&◌, if◌then◌else◌};
 ghost use Rattle.league.specs.Sums.{sum_below};
-ghost use Rattle.fixtures.specs.Games.{round_count};
-ghost use Rattle.tours.specs.Repeats.{meets, repeats_after, repeats};
+ghost use Rattle.fixtures.specs.Games.{round_count, meets};
+ghost use Rattle.tours.specs.Repeats.{repeats_after, repeats};
 
 use fixtures::Schedule;
 

@@ -24,7 +24,7 @@ pub fn runs_over(schedule: &Schedule, league: &League) -> u64
 }
 
 /// How many windows of one round more than `at_most` a team spends at home throughout or away throughout.
-#[tactic(auto, using(crate::proofs::RunWindows::run_steps), unfolding(crate::specs::Runs::is_home, crate::specs::Runs::runs_of))]
+#[tactic(auto, using(crate::proofs::RunWindows::run_steps), unfolding(fixtures::specs::Games::is_home, crate::specs::Runs::runs_of))]
 fn runs_of(schedule: &Schedule, at_most: u8, team: u8) -> u64
     requires { team < schedule.now.teams }
     ensures value { result ≡ runs_of schedule.now at_most team }

@@ -1,7 +1,7 @@
 use Rattle.std.proofs.Common.{◌≡◌, ◌+◌, ◌&&◌, ◌≤◌}
 use Rattle.std.specs.Prelude.{if◌then◌else◌}
 use Rattle.league.specs.Sums.{sum_of_pairs}
-use Rattle.tours.specs.Repeats.{meets}
+use Rattle.fixtures.specs.Games.{meets}
 use Rattle.tours.proofs.meetings.repeats_after.Given as goal
 
 abbrev pub invariant-loop-team : goal.invariant-loop-team

@@ -1,5 +1,5 @@
 use Rattle.std.proofs.Common.{◌≡◌, ◌-◌, ◌≤◌}
-use Rattle.tours.specs.Runs.{is_home}
+use Rattle.fixtures.specs.Games.{is_home}
 use Rattle.tours.proofs.Stretches.{stretch}
 use Rattle.tours.proofs.RunWindows.{is_away, runs_among}
 use Rattle.tours.proofs.runs.runs_of.Given as goal
