@@ -1,12 +1,14 @@
 -- The laws of the moves, of each move.
-use Rattle.std.proofs.Common.{◌≡◌, ◌⊎◌, inl, inr, ℕ, Bool, Ok, sym, subst}
+use Rattle.std.proofs.Common.{◌≡◌, ◌⊎◌, inl, inr, ℕ, Bool, Ok, refl, sym, ◌∙◌, ap, subst}
 use Rattle.std.proofs.Math.Path.{fun_ext}
 use Rattle.league.specs.Sets.{has}
 use Rattle.fixtures.specs.Games.{Games, IsDoubleRoundRobin}
 use Rattle.fixtures.specs.Changes.{DiffersOnlyIn}
+use Rattle.fixtures.specs.TouchedCells.{TouchedCells}
 use Rattle.moves.specs.declared.moves.Move.{Move}
 use Rattle.moves.specs.declared.moves.Move.TheVariants.{Homes, Rounds, Teams, PartRounds, PartTeams}
 use Rattle.moves.specs.Moves.{fault_of, moved, touched_team, touched_round}
+use Rattle.moves.specs.MainCells.{main_team, AreMainCells}
 use Rattle.moves.specs.Laws.{OfEachMove, IsItsOwnInverse, StaysDoubleRoundRobin, DiffersWhereTouched}
 use Rattle.moves.proofs.Checked.{at_variant, homes-checked, rounds-checked, teams-checked, part_rounds-checked, part_teams-checked}
 use Rattle.moves.proofs.Exchanges.{ExchangesRounds, ExchangesTeams}
@@ -52,33 +54,58 @@ differs-by_sets g mv rr checked teams rounds same_teams same_rounds =
     (subst (λ (test : ℕ → Bool). DiffersOnlyIn g (moved g mv) (touched_team g mv) test) (sym (fun_ext same_rounds))
     (each-differs g mv rr checked))
 
--- a move of rounds or of a part of them exchanges them for the teams that it touches
-pub each-exchanges_rounds : (g : Games) (mv : Move) → IsDoubleRoundRobin g → fault_of g mv ≡ Ok tt → (k l : ℕ) →
-    (mv ≡ Rounds k l) ⊎ ((i : ℕ) × (mv ≡ PartRounds i k l)) → (set : ℕ) → ((t : ℕ) → has set t ≡ touched_team g mv t) →
-    ExchangesRounds g mv k l (has set)
-each-exchanges_rounds g mv rr checked k l is set same =
-    subst (ExchangesRounds g mv k l) (sym (fun_ext same)) (by_variant is)
+-- a move of rounds or of a part of them exchanges them for its main teams
+pub each-exchanges_rounds : (g : Games) (mv : Move) (cells : TouchedCells) → AreMainCells g mv cells → (k l : ℕ) →
+    (mv ≡ Rounds k l) ⊎ ((i : ℕ) × (mv ≡ PartRounds i k l)) → ExchangesRounds g mv k l (has cells.teams)
+each-exchanges_rounds g mv cells main k l is =
+    subst (ExchangesRounds g mv k l) (sym (fun_ext main.teams)) (by_variant is)
   where
-    by_variant : (mv ≡ Rounds k l) ⊎ ((i : ℕ) × (mv ≡ PartRounds i k l)) → ExchangesRounds g mv k l (touched_team g mv)
+    by_variant : (mv ≡ Rounds k l) ⊎ ((i : ℕ) × (mv ≡ PartRounds i k l)) → ExchangesRounds g mv k l (main_team g mv)
     by_variant (inl e) =
-        subst (λ (m : Move). ExchangesRounds g m k l (touched_team g m)) (sym e)
-        (ExchangesRounds-rounds g rr k l (rounds-checked g k l (at_variant g mv (Rounds k l) e checked)))
+        subst (λ (m : Move). ExchangesRounds g m k l (main_team g m)) (sym e)
+        (ExchangesRounds-rounds g main.round_robin k l (rounds-checked g k l (at_variant g mv (Rounds k l) e main.checked)))
     by_variant (inr e) =
-        let known = part_rounds-checked g e.0 k l (at_variant g mv (PartRounds e.0 k l) e.1 checked) in
-        subst (λ (m : Move). ExchangesRounds g m k l (touched_team g m)) (sym e.1)
-        (ExchangesRounds-part_rounds g rr e.0 k l known.0 known.1)
+        let known = part_rounds-checked g e.0 k l (at_variant g mv (PartRounds e.0 k l) e.1 main.checked) in
+        subst (λ (m : Move). ExchangesRounds g m k l (main_team g m)) (sym e.1)
+        (ExchangesRounds-part_rounds g main.round_robin e.0 k l known.0 known.1)
 
 -- a move of teams or of a part of them exchanges them in the rounds that it touches
-pub each-exchanges_teams : (g : Games) (mv : Move) → IsDoubleRoundRobin g → fault_of g mv ≡ Ok tt → (i j : ℕ) →
-    (mv ≡ Teams i j) ⊎ ((k : ℕ) × (mv ≡ PartTeams i j k)) → (set : ℕ) → ((r : ℕ) → has set r ≡ touched_round g mv r) →
-    ExchangesTeams g mv i j (has set)
-each-exchanges_teams g mv rr checked i j is set same =
-    subst (ExchangesTeams g mv i j) (sym (fun_ext same)) (by_variant is)
+pub each-exchanges_teams : (g : Games) (mv : Move) (cells : TouchedCells) → AreMainCells g mv cells → (i j : ℕ) →
+    (mv ≡ Teams i j) ⊎ ((k : ℕ) × (mv ≡ PartTeams i j k)) → ExchangesTeams g mv i j (has cells.rounds)
+each-exchanges_teams g mv cells main i j is =
+    subst (ExchangesTeams g mv i j) (sym (fun_ext main.rounds)) (by_variant is)
   where
     by_variant : (mv ≡ Teams i j) ⊎ ((k : ℕ) × (mv ≡ PartTeams i j k)) → ExchangesTeams g mv i j (touched_round g mv)
     by_variant (inl e) =
         subst (λ (m : Move). ExchangesTeams g m i j (touched_round g m)) (sym e)
-        (ExchangesTeams-teams g rr i j (teams-checked g i j (at_variant g mv (Teams i j) e checked)))
+        (ExchangesTeams-teams g main.round_robin i j (teams-checked g i j (at_variant g mv (Teams i j) e main.checked)))
     by_variant (inr e) =
         subst (λ (m : Move). ExchangesTeams g m i j (touched_round g m)) (sym e.1)
-        (ExchangesTeams-part_teams g rr i j e.0 (part_teams-checked g i j e.0 (at_variant g mv (PartTeams i j e.0) e.1 checked)))
+        (ExchangesTeams-part_teams g main.round_robin i j e.0
+        (part_teams-checked g i j e.0 (at_variant g mv (PartTeams i j e.0) e.1 main.checked)))
+
+-- the main teams are the same on the schedule that the move gives
+same_main_team : (g : Games) (mv : Move) → IsItsOwnInverse g mv → (t : ℕ) → main_team (moved g mv) mv t ≡ main_team g mv t
+same_main_team g (Homes i j) twice t = twice.teams t
+same_main_team g (Rounds k l) twice t = twice.teams t
+same_main_team g (Teams i j) twice t = refl
+same_main_team g (PartRounds i k l) twice t = twice.teams t
+same_main_team g (PartTeams i j k) twice t = refl
+
+pub AreMainCells-moved : (g : Games) (mv : Move) (cells : TouchedCells) → AreMainCells g mv cells → AreMainCells (moved g mv) mv cells
+AreMainCells-moved g mv cells main =
+    let twice = each-its_own_inverse g mv main.round_robin main.checked in
+    record {
+      round_robin = each-double_round_robin g mv main.round_robin main.checked;
+      checked = twice.can_be_made;
+      teams = λ t. main.teams t ∙ sym (same_main_team g mv twice t);
+      rounds = λ r. main.rounds r ∙ sym (twice.rounds r);
+    }
+
+-- made, it can be made once more with the same cells, and is then taken back
+pub made-again : (g g' : Games) (mv : Move) (cells : TouchedCells) → AreMainCells g mv cells → g' ≡ moved g mv → AreMainCells g' mv cells
+made-again g g' mv cells main is = subst (λ (x : Games). AreMainCells x mv cells) (sym is) (AreMainCells-moved g mv cells main)
+
+pub made-back : (g g' : Games) (mv : Move) (cells : TouchedCells) → AreMainCells g mv cells → g' ≡ moved g mv → moved g' mv ≡ g
+made-back g g' mv cells main is =
+    ap (λ (x : Games). moved x mv) is ∙ (each-its_own_inverse g mv main.round_robin main.checked).back

@@ -1,12 +1,13 @@
 //! Moves made, and the cells that they change.
 
-ghost use Rattle.std.specs.Prelude.{◌≡◌, ℕ, ◌<◌, ◌&&◌, ◌||◌, ◌==◌, nat_lt, not, Ok, false};
+ghost use Rattle.std.specs.Prelude.{◌≡◌, ℕ, ◌<◌, ◌&&◌, ◌||◌, ◌==◌, nat_lt, Ok};
 ghost use Rattle.league.specs.Sets.{has};
-ghost use Rattle.fixtures.specs.Games.{round_of, round_count, IsPair, IsDoubleRoundRobin};
+ghost use Rattle.fixtures.specs.Games.{round_of, IsPair, IsDoubleRoundRobin};
 ghost use Rattle.fixtures.specs.Changes.{DiffersOnlyIn};
 ghost use Rattle.moves.specs.Moves.{fault_of, moved, touched_team, touched_round};
+ghost use Rattle.moves.specs.MainCells.{AreMainCells};
 
-use crate::{Move, moved_rounds, moved_teams};
+use crate::{Move, main_cells};
 use fixtures::{Schedule, Touched};
 use league::{SlotSet, TeamSet};
 
@@ -18,18 +19,29 @@ pub fn apply(schedule: &mut Schedule, mv: Move) -> Touched
     ensures rounds { (r : ℕ) → has result.rounds r ≡ touched_round schedule.old mv r }
     ensures differs { DiffersOnlyIn schedule.old schedule.new (has result.teams) (has result.rounds) }
 {
-    let touched = touched(schedule, mv);
-    let Touched { teams, rounds } = touched;
+    let main = main_cells(schedule, mv);
+    let touched = touched_around(schedule, mv, main);
+    make(schedule, mv, main);
+    touched
+}
+
+/// Makes a move whose main cells are known. They are the same afterwards, so made with them once more it is taken back.
+/// Takes no memory.
+pub fn make(schedule: &mut Schedule, mv: Move, main: Touched)
+    requires { AreMainCells schedule.old mv main }
+    ensures moved { schedule.new ≡ moved schedule.old mv }
+    ensures again { AreMainCells schedule.new mv main }
+    ensures back { moved schedule.new mv ≡ schedule.old }
+{
     match mv {
         Move::Homes { i, j } => schedule.exchange_homes(i, j),
         Move::Rounds { k, l } | Move::PartRounds { k, l, .. } => {
-            schedule.exchange_rounds(k, l, teams)
+            schedule.exchange_rounds(k, l, main.teams)
         }
         Move::Teams { i, j } | Move::PartTeams { i, j, .. } => {
-            schedule.exchange_teams(i, j, rounds)
+            schedule.exchange_teams(i, j, main.rounds)
         }
     }
-    touched
 }
 
 /// The teams and the rounds whose cells a move changes that `check` lets pass. Takes no memory.
@@ -39,51 +51,27 @@ pub fn touched(schedule: &Schedule, mv: Move) -> Touched
     ensures rounds { (r : ℕ) → has result.rounds r ≡ touched_round schedule.now mv r }
     ensures round_robin { IsDoubleRoundRobin schedule.now }
 {
-    let teams = schedule.teams();
-    match mv {
-        Move::Homes { i, j } => Touched {
-            teams: TeamSet::empty().with(j).with(i),
-            rounds: SlotSet::empty()
-                .with(schedule.round_of(j, i))
-                .with(schedule.round_of(i, j)),
-        },
-        Move::Rounds { k, l } => Touched {
-            teams: TeamSet::first(teams),
-            rounds: SlotSet::empty().with(l).with(k),
-        },
-        Move::Teams { i, j } => Touched {
-            teams: TeamSet::first(teams),
-            rounds: rounds_apart(schedule, i, j),
-        },
-        Move::PartRounds { i, k, l } => Touched {
-            teams: moved_teams(schedule, i, k, l),
-            rounds: SlotSet::empty().with(l).with(k),
-        },
-        Move::PartTeams { i, j, k } => {
-            let rounds = moved_rounds(schedule, i, j, k);
-            Touched {
-                teams: teams_with_opponents(schedule, i, j, rounds),
-                rounds,
-            }
-        }
-    }
+    let main = main_cells(schedule, mv);
+    touched_around(schedule, mv, main)
 }
 
-/// The rounds in which `i` and `j` don't meet.
-fn rounds_apart(schedule: &Schedule, i: u8, j: u8) -> SlotSet
-    requires { IsPair schedule.now.teams i j }
-    ensures { (r : ℕ) → has result r ≡
-        (nat_lt r (round_count schedule.now.teams) && not (r == round_of schedule.now i j || r == round_of schedule.now j i)) }
+/// The touched teams and rounds of a move whose main cells are known.
+fn touched_around(schedule: &Schedule, mv: Move, main: Touched) -> Touched
+    requires { AreMainCells schedule.now mv main }
+    ensures teams { (t : ℕ) → has result.teams t ≡ touched_team schedule.now mv t }
+    ensures rounds { (r : ℕ) → has result.rounds r ≡ touched_round schedule.now mv r }
 {
-    let first = schedule.round_of(i, j);
-    let second = schedule.round_of(j, i);
-    let mut apart = SlotSet::empty();
-    for round in 0..schedule.rounds() {
-        if round != first && round != second {
-            apart = apart.with(round);
-        }
+    match mv {
+        Move::Homes { .. } | Move::Rounds { .. } | Move::PartRounds { .. } => main,
+        Move::Teams { .. } => Touched {
+            teams: TeamSet::first(schedule.teams()),
+            rounds: main.rounds,
+        },
+        Move::PartTeams { i, j, .. } => Touched {
+            teams: teams_with_opponents(schedule, i, j, main.rounds),
+            rounds: main.rounds,
+        },
     }
-    apart
 }
 
 /// The teams `i` and `j`, and the opponents of `i` in these rounds. Where the two can be exchanged in them, `j` has the

@@ -5,6 +5,7 @@
 //! Teams and rounds are numbered from 0. No call takes memory.
 #![tactic(auto)]
 
+mod cells;
 mod chains;
 mod changes;
 mod effects;
@@ -15,9 +16,10 @@ mod refusals;
 #[cfg(test)]
 mod tests;
 
+pub use cells::main_cells;
 pub use chains::{moved_rounds, moved_teams};
 pub use changes::would_change;
-pub use effects::{apply, touched};
+pub use effects::{apply, make, touched};
 pub use fault::MoveFault;
 pub use laws::{differs_where_touched, moves_back, stays_double_round_robin};
 pub use moves::Move;

@@ -1,4 +1,4 @@
-use crate::{Move, apply, check, touched, would_change};
+use crate::{Move, apply, check, main_cells, make, touched, would_change};
 use fixtures::{Cell, Game, Schedule, Touched, berger};
 use league::{SlotSet, TeamSet};
 use std::test::Fail;
@@ -147,6 +147,25 @@ fn makes(
         && are_equal(schedule, start)
 }
 
+/// Whether the move, made with its main cells, leaves these games, and made again with them gives the start back.
+fn makes_with(
+    start: &Schedule,
+    schedule: &mut Schedule,
+    mv: Move,
+    main: Touched,
+    sheet: &[(u8, u8, u8)],
+) -> bool {
+    schedule.copy_from(start);
+    if check(schedule, mv).is_err() {
+        return false;
+    }
+    let cells = main_cells(schedule, mv);
+    make(schedule, mv, cells);
+    let leaves = has_games(schedule, sheet);
+    make(schedule, mv, cells);
+    cells == main && leaves && are_equal(schedule, start)
+}
+
 /// Whether two moves make the same of the start.
 fn make_the_same(
     start: &Schedule,
@@ -226,6 +245,24 @@ fn partial_moves_of_ten_and_six(rt: HostRuntime) -> Result<(), Fail> {
     let teams = Move::PartTeams { i: 0, j: 3, k: 0 };
     let four_rounds = cells(&[0, 1, 2, 3, 4, 5], &[0, 2, 6, 9]);
     assert!(rt; makes(&start, &mut six, teams, four_rounds, &SIX_AFTER_PART_TEAMS));
+    Ok(())
+}
+
+#[test]
+fn moves_made_with_main_cells(rt: HostRuntime) -> Result<(), Fail> {
+    let start = berger(rt.alloc(), 6)?;
+    let mut six = start.duplicate(rt.alloc())?;
+    let teams = Move::PartTeams { i: 0, j: 3, k: 0 };
+    let two_teams = cells(&[0, 3], &[0, 2, 6, 9]);
+    assert!(rt; makes_with(&start, &mut six, teams, two_teams, &SIX_AFTER_PART_TEAMS));
+    let start = berger(rt.alloc(), 10)?;
+    let mut ten = start.duplicate(rt.alloc())?;
+    let rounds = Move::PartRounds { i: 0, k: 0, l: 3 };
+    let four_teams = cells(&[0, 3, 6, 9], &[0, 3]);
+    assert!(rt; makes_with(&start, &mut ten, rounds, four_teams, &TEN_AFTER_PART_ROUNDS));
+    let teams = Move::PartTeams { i: 0, j: 3, k: 4 };
+    assert!(rt; makes_with(&start, &mut ten, teams, cells(&[0, 3], &[1, 4, 16]), &[]));
+    assert_eq!(rt; made(&mut ten, teams), Some(cells(&[0, 1, 3, 4, 7], &[1, 4, 16])));
     Ok(())
 }
 

@@ -1,0 +1,75 @@
+//! The cells around which a move changes a schedule.
+
+ghost use Rattle.std.specs.Prelude.{◌≡◌, ℕ, ◌<◌, ◌&&◌, ◌||◌, ◌==◌, nat_lt, not, Ok, false};
+ghost use Rattle.league.specs.Sets.{has};
+ghost use Rattle.fixtures.specs.Games.{round_of, round_count, IsPair};
+ghost use Rattle.moves.specs.Moves.{fault_of};
+ghost use Rattle.moves.specs.MainCells.{AreMainCells};
+
+use crate::{Move, moved_rounds, moved_teams};
+use fixtures::{Schedule, Touched};
+use league::{SlotSet, TeamSet};
+
+/// The main teams of a move that `check` lets pass, `i` and `j` in the two moves of teams and else the touched ones, and
+/// its touched rounds. A chain is walked once. Takes no memory.
+pub fn main_cells(schedule: &Schedule, mv: Move) -> Touched
+    requires { fault_of schedule.now mv ≡ Ok tt }
+    ensures { AreMainCells schedule.now mv result }
+{
+    let teams = schedule.teams();
+    match mv {
+        Move::Homes { i, j } => Touched {
+            teams: two_teams(i, j),
+            rounds: two_rounds(schedule.round_of(i, j), schedule.round_of(j, i)),
+        },
+        Move::Rounds { k, l } => Touched {
+            teams: TeamSet::first(teams),
+            rounds: two_rounds(k, l),
+        },
+        Move::Teams { i, j } => Touched {
+            teams: two_teams(i, j),
+            rounds: rounds_apart(schedule, i, j),
+        },
+        Move::PartRounds { i, k, l } => Touched {
+            teams: moved_teams(schedule, i, k, l),
+            rounds: two_rounds(k, l),
+        },
+        Move::PartTeams { i, j, k } => Touched {
+            teams: two_teams(i, j),
+            rounds: moved_rounds(schedule, i, j, k),
+        },
+    }
+}
+
+fn two_teams(i: u8, j: u8) -> TeamSet
+    requires i { i < 40 }
+    requires j { j < 40 }
+    ensures { (t : ℕ) → has result t ≡ (t == i || t == j) }
+{
+    TeamSet::empty().with(j).with(i)
+}
+
+fn two_rounds(k: u8, l: u8) -> SlotSet
+    requires k { k < 78 }
+    requires l { l < 78 }
+    ensures { (r : ℕ) → has result r ≡ (r == k || r == l) }
+{
+    SlotSet::empty().with(l).with(k)
+}
+
+/// The rounds in which `i` and `j` don't meet.
+fn rounds_apart(schedule: &Schedule, i: u8, j: u8) -> SlotSet
+    requires { IsPair schedule.now.teams i j }
+    ensures { (r : ℕ) → has result r ≡
+        (nat_lt r (round_count schedule.now.teams) && not (r == round_of schedule.now i j || r == round_of schedule.now j i)) }
+{
+    let first = schedule.round_of(i, j);
+    let second = schedule.round_of(j, i);
+    let mut apart = SlotSet::empty();
+    for round in 0..schedule.rounds() {
+        if round != first && round != second {
+            apart = apart.with(round);
+        }
+    }
+    apart
+}
