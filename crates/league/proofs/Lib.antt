@@ -1,10 +1,13 @@
 pub mod Bits
+pub mod ForCallers
 mod GameLists
 mod Items
+mod LowestBits
 mod MadeLeagues
 pub mod OnLiterals
 mod Rows
 pub mod Sums
 mod Tables
 mod Texts
+mod WalkedSums
 mod Worked

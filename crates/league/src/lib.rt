@@ -21,4 +21,4 @@ pub use leagues::League;
 pub use made::{circular, constant};
 pub use reader::read_league;
 pub use rule::{GameList, Pairing, Rule, RuleBody, Side, Weight};
-pub use sets::{SlotSet, TeamSet};
+pub use sets::{SlotSet, Slots, TeamSet, Teams};

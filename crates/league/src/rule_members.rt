@@ -72,7 +72,7 @@ pub fn opponents_member(rule: &Value, teams: u8) -> Option<TeamSet>
 {
     match rule.get("teams2") {
         Some(member) => team_set(member, teams),
-        None => Some(TeamSet::first(teams)),
+        None => Some(TeamSet::below(teams)),
     }
 }
 
@@ -86,7 +86,7 @@ pub fn slots_member(rule: &Value, teams: u8) -> Option<SlotSet>
     let rounds = 2 * (teams - 1);
     match rule.get("slots") {
         Some(member) => slot_set(member, rounds),
-        None => Some(SlotSet::first(rounds)),
+        None => Some(SlotSet::below(rounds)),
     }
 }
 

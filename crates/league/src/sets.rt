@@ -1,7 +1,8 @@
 //! Sets of teams and of slots, each in one word of bits.
 
 ghost use Rattle.std.specs.Prelude.{◌≡◌, ℕ, ◌<◌, ◌≤◌, ◌||◌, ◌==◌, nat_lt, false};
-ghost use Rattle.league.specs.Sets.{has, IsBelow, with_number, all_numbers};
+ghost use Rattle.std.specs.Iterator.{at_most};
+ghost use Rattle.league.specs.Sets.{has, IsBelow, with_number, all_numbers, TakesLowest};
 
 use std::marker::Model;
 
@@ -32,7 +33,7 @@ impl TeamSet {
     }
 
     /// The set of the teams from 0 to `teams - 1`.
-    pub fn first(teams: u8) -> Self
+    pub fn below(teams: u8) -> Self
         requires { teams ≤ 40 }
         ensures value { result ≡ all_numbers teams }
         ensures members { (t : ℕ) → has result t ≡ nat_lt t teams }
@@ -64,6 +65,51 @@ impl TeamSet {
     }
 }
 
+impl IntoIterator for TeamSet {
+    type Item = u8;
+
+    type IntoIter = Teams;
+
+    ghost into_iter_gives = { λ set iterator. iterator ≡ set };
+
+    fn into_iter(self) -> Teams {
+        Teams { left: self.bits }
+    }
+}
+
+/// The teams of a set, the lowest first. Contracts see it as the set of those that are left.
+#[derive(Debug, Drop)]
+pub struct Teams {
+    left: u64,
+}
+
+impl Model for Teams {
+    ghost Value = { ℕ };
+
+    ghost view = { λ s. s.left };
+
+    ghost invariant = { λ s. IsBelow 40 s.left };
+
+    ghost inverse = { λ left. record { left = left } };
+}
+
+impl Iterator for Teams {
+    type Item = u8;
+
+    ghost next_gives = { TakesLowest };
+
+    ghost remaining = { λ left. at_most left };
+
+    fn next(&mut self) -> Option<u8> {
+        if self.left == 0 {
+            return None;
+        }
+        let lowest = self.left.trailing_zeros();
+        self.left &= self.left - 1;
+        Some(lowest as u8)
+    }
+}
+
 /// A set of slots (rounds of a season), each from 0 to 77. Contracts see it as the number of its bits.
 #[derive(Clone, Copy, Debug, Drop, PartialEq, Eq)]
 pub struct SlotSet {
@@ -91,7 +137,7 @@ impl SlotSet {
     }
 
     /// The set of the slots from 0 to `slots - 1`.
-    pub fn first(slots: u8) -> Self
+    pub fn below(slots: u8) -> Self
         requires { slots ≤ 78 }
         ensures value { result ≡ all_numbers slots }
         ensures members { (s : ℕ) → has result s ≡ nat_lt s slots }
@@ -120,5 +166,50 @@ impl SlotSet {
         ensures { result ≡ has self slot }
     {
         self.bits >> slot & 1 == 1
+    }
+}
+
+impl IntoIterator for SlotSet {
+    type Item = u8;
+
+    type IntoIter = Slots;
+
+    ghost into_iter_gives = { λ set iterator. iterator ≡ set };
+
+    fn into_iter(self) -> Slots {
+        Slots { left: self.bits }
+    }
+}
+
+/// The slots of a set, the lowest first. Contracts see it as the set of those that are left.
+#[derive(Debug, Drop)]
+pub struct Slots {
+    left: u128,
+}
+
+impl Model for Slots {
+    ghost Value = { ℕ };
+
+    ghost view = { λ s. s.left };
+
+    ghost invariant = { λ s. IsBelow 78 s.left };
+
+    ghost inverse = { λ left. record { left = left } };
+}
+
+impl Iterator for Slots {
+    type Item = u8;
+
+    ghost next_gives = { TakesLowest };
+
+    ghost remaining = { λ left. at_most left };
+
+    fn next(&mut self) -> Option<u8> {
+        if self.left == 0 {
+            return None;
+        }
+        let lowest = self.left.trailing_zeros();
+        self.left &= self.left - 1;
+        Some(lowest as u8)
     }
 }

@@ -23,7 +23,7 @@ pub fn main_cells(schedule: &Schedule, mv: Move) -> Touched
             rounds: two_rounds(schedule.round_of(i, j), schedule.round_of(j, i)),
         },
         Move::Rounds { k, l } => Touched {
-            teams: TeamSet::first(teams),
+            teams: TeamSet::below(teams),
             rounds: two_rounds(k, l),
         },
         Move::Teams { i, j } => Touched {

@@ -64,7 +64,7 @@ fn touched_around(schedule: &Schedule, mv: Move, main: Touched) -> Touched
     match mv {
         Move::Homes { .. } | Move::Rounds { .. } | Move::PartRounds { .. } => main,
         Move::Teams { .. } => Touched {
-            teams: TeamSet::first(schedule.teams()),
+            teams: TeamSet::below(schedule.teams()),
             rounds: main.rounds,
         },
         Move::PartTeams { i, j, .. } => Touched {

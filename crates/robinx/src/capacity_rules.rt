@@ -15,7 +15,7 @@ pub(crate) fn ca1(schedule: &Schedule, teams: TeamSet, side: Side, slots: SlotSe
     ensures value { result ≡ deviation schedule.now (RuleBody.Ca1 teams side slots most) }
     ensures most { result ≤ 40 * 78 }
 {
-    let opponents = TeamSet::first(schedule.teams());
+    let opponents = TeamSet::below(schedule.teams());
     ca2(schedule, teams, side, opponents, slots, most)
 }
 

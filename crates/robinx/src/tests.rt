@@ -86,10 +86,10 @@ fn deviations_after_an_exchange_of_homes(rt: HostRuntime) -> Result<(), Fail> {
 #[test]
 fn breaks_of_the_start(rt: HostRuntime) -> Result<(), Fail> {
     let start = berger(rt.alloc(), 4)?;
-    let all_rounds = SlotSet::first(6);
+    let all_rounds = SlotSet::below(6);
     assert_eq!(rt; breaks(&start, 0, all_rounds, Side::Home), 1);
     assert_eq!(rt; breaks(&start, 0, all_rounds, Side::Away), 2);
     assert_eq!(rt; breaks(&start, 0, all_rounds, Side::Any), 3);
-    assert_eq!(rt; breaks(&start, 0, SlotSet::first(1), Side::Any), 0);
+    assert_eq!(rt; breaks(&start, 0, SlotSet::below(1), Side::Any), 0);
     Ok(())
 }

@@ -90,7 +90,7 @@ fn reads_each_class(rt: HostRuntime) -> Result<(), Fail> {
         (
             r#"[{"class":"BR2","kind":"hard","teams":[1,2,3,4],"slots":[],"intp":4}]"#,
             RuleBody::Br2 {
-                teams: TeamSet::first(4),
+                teams: TeamSet::below(4),
                 slots: SlotSet::empty(),
                 most: 4,
             },
@@ -121,8 +121,8 @@ fn absent_sets_are_whole(rt: HostRuntime) -> Result<(), Fail> {
             RuleBody::Ca2 {
                 teams1: team_set(&[0]),
                 side: Side::Any,
-                teams2: TeamSet::first(4),
-                slots: SlotSet::first(6),
+                teams2: TeamSet::below(4),
+                slots: SlotSet::below(6),
                 max: 0,
             },
         ),
@@ -131,7 +131,7 @@ fn absent_sets_are_whole(rt: HostRuntime) -> Result<(), Fail> {
             RuleBody::Ca3 {
                 teams1: team_set(&[2]),
                 side: Side::Home,
-                teams2: TeamSet::first(4),
+                teams2: TeamSet::below(4),
                 window: 1,
                 max: 2,
             },
@@ -141,8 +141,8 @@ fn absent_sets_are_whole(rt: HostRuntime) -> Result<(), Fail> {
             RuleBody::Ca4 {
                 teams1: TeamSet::empty(),
                 side: Side::Away,
-                teams2: TeamSet::first(4),
-                slots: SlotSet::first(6),
+                teams2: TeamSet::below(4),
+                slots: SlotSet::below(6),
                 each: false,
                 max: 1,
             },
@@ -183,7 +183,7 @@ fn games_count_once(rt: HostRuntime) -> Result<(), Fail> {
         panic!(rt; "not of its class");
     };
     assert!(rt; games.is_empty());
-    assert_eq!(rt; *slots, SlotSet::first(6));
+    assert_eq!(rt; *slots, SlotSet::below(6));
     Ok(())
 }
 

@@ -6,11 +6,11 @@ fn sets_of_teams(rt: HostRuntime) {
     for team in 0..40 {
         assert_eq!(rt; teams.has(team), team == 0 || team == 39, "team {team}");
         assert!(rt; !TeamSet::empty().has(team), "team {team}");
-        assert!(rt; TeamSet::first(40).has(team), "team {team}");
+        assert!(rt; TeamSet::below(40).has(team), "team {team}");
     }
-    assert_eq!(rt; TeamSet::first(2), TeamSet::empty().with(1).with(0));
-    assert_ne!(rt; TeamSet::first(2), TeamSet::first(3));
-    assert_eq!(rt; TeamSet::first(0), TeamSet::empty());
+    assert_eq!(rt; TeamSet::below(2), TeamSet::empty().with(1).with(0));
+    assert_ne!(rt; TeamSet::below(2), TeamSet::below(3));
+    assert_eq!(rt; TeamSet::below(0), TeamSet::empty());
 }
 
 #[test]
@@ -23,9 +23,23 @@ fn sets_of_slots(rt: HostRuntime) {
             "slot {slot}"
         );
         assert!(rt; !SlotSet::empty().has(slot), "slot {slot}");
-        assert!(rt; SlotSet::first(78).has(slot), "slot {slot}");
+        assert!(rt; SlotSet::below(78).has(slot), "slot {slot}");
     }
-    assert_eq!(rt; SlotSet::first(2), SlotSet::empty().with(1).with(0));
-    assert_ne!(rt; SlotSet::first(77), SlotSet::first(78));
-    assert_eq!(rt; SlotSet::first(0), SlotSet::empty());
+    assert_eq!(rt; SlotSet::below(2), SlotSet::empty().with(1).with(0));
+    assert_ne!(rt; SlotSet::below(77), SlotSet::below(78));
+    assert_eq!(rt; SlotSet::below(0), SlotSet::empty());
+}
+
+#[test]
+fn sets_are_walked_from_the_lowest(rt: HostRuntime) {
+    let mut teams = TeamSet::empty().with(39).with(0).with(7).into_iter();
+    assert_eq!(rt; teams.next(), Some(0));
+    assert_eq!(rt; teams.next(), Some(7));
+    assert_eq!(rt; teams.next(), Some(39));
+    assert_eq!(rt; teams.next(), None);
+    let mut slots = SlotSet::empty().with(77).with(64).with(1).into_iter();
+    assert_eq!(rt; slots.next(), Some(1));
+    assert_eq!(rt; slots.next(), Some(64));
+    assert_eq!(rt; slots.next(), Some(77));
+    assert_eq!(rt; slots.next(), None);
 }

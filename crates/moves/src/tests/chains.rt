@@ -93,5 +93,5 @@ fn least_sets_of_forty(rt: HostRuntime) -> Result<(), Fail> {
 fn moved_teams_are_all(schedule: &Schedule, (i, k, l): (u8, u8, u8)) -> bool {
     let teams = schedule.teams();
     let rounds = schedule.rounds();
-    i < teams && k < rounds && l < rounds && moved_teams(schedule, i, k, l) == TeamSet::first(teams)
+    i < teams && k < rounds && l < rounds && moved_teams(schedule, i, k, l) == TeamSet::below(teams)
 }

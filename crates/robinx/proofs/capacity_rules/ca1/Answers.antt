@@ -5,6 +5,6 @@ use Rattle.robinx.proofs.capacity_rules.ca1.Goals as goal
 pub returns-clause-value : goal.returns-clause-value
 returns-clause-value c =
     c.ca2.ensures.value ∙
-    Ca2-all c.args.schedule.now c.teams.ensures.round_robin c.args.side c.first-opponents.result
-    (rw c.teams.ensures.number at c.first-opponents.ensures.members)
+    Ca2-all c.args.schedule.now c.teams.ensures.round_robin c.args.side c.below-opponents.result
+    (rw c.teams.ensures.number at c.below-opponents.ensures.members)
     c.args.teams c.args.slots c.args.most

@@ -1,6 +1,6 @@
 use Rattle.std.proofs.Common.{arith}
 use Rattle.league.proofs.Bits.{all_numbers_shifted, IsBelow_all_numbers, IsBelow_more, has_all_numbers}
-use Rattle.league.proofs.sets.TeamSet.first.Goals as goal
+use Rattle.league.proofs.sets.TeamSet.below.Goals as goal
 
 pub invariant_of-result : goal.invariant_of-result
 invariant_of-result c = rw (all_numbers_shifted c.args.teams 64 (omega arith)) (IsBelow_more c.args.teams 40 _ c.requires (IsBelow_all_numbers c.args.teams))

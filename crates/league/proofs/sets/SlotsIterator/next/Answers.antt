@@ -1,0 +1,8 @@
+use Rattle.std.proofs.Common.{arith}
+use Rattle.std.specs.Int.{w128}
+use Rattle.league.proofs.Bits.{IsBelow_more}
+use Rattle.league.proofs.LowestBits.{lowest_taken}
+use Rattle.league.proofs.sets.SlotsIterator.next.Goals as goal
+
+pub returns-clause-steps : goal.returns-clause-steps
+returns-clause-steps c = rw (← c.self.view_is) (lowest_taken w128 c.self.inside.left (omega arith) (IsBelow_more 78 128 c.self.inside.left (omega arith) c.self.invariant))
