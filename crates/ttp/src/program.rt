@@ -6,11 +6,9 @@ ghost use Rattle.std.specs.declared.io.ErrorKind.TheVariants.{OutOfMemory};
 ghost use Rattle.std.specs.Process.{exit_status};
 ghost use Rattle.clap.specs.Words.{kind_of};
 
-use crate::command_line::{Job, args};
-use crate::fault::ProgramFault;
-use crate::play::play;
-use crate::start::start;
 use clap::error::ErrorKind;
+use command_line::{Job, args};
+use commands::{ProgramFault, play, start};
 use std::process::ExitCode;
 use std::rt::Runtime;
 use std::{env, io};

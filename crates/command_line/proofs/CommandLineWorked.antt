@@ -1,0 +1,58 @@
+-- What the definition of the command line answers at words that are written out.
+use Rattle.std.proofs.Common.{◌≡◌, List, [], ◌∷◌, None, Some, codes, refl}
+use Rattle.clap.specs.Words.{Text, fault_of}
+use Rattle.clap.specs.declared.error.kind.ErrorKind.TheVariants.{ArgumentConflict, DisplayHelp, MissingSubcommand, UnknownArgument, ValueValidation}
+use Rattle.clap.proofs.OnLiterals.{clap_on_literals}
+use Rattle.command_line.specs.CommandLine.{job_of_words, program}
+use Rattle.command_line.specs.declared.job.Job.TheVariants.{Play, Start}
+
+abbrev ttp : List Text → List Text
+ttp words = codes "ttp" ∷ words
+
+start_passes : fault_of program (ttp (codes "start" ∷ [])) ≡ []
+unfolding clap_on_literals
+start_passes = refl
+
+command_is_needed : fault_of program (ttp []) ≡ MissingSubcommand ∷ []
+unfolding clap_on_literals
+command_is_needed = refl
+
+help_is_shown : fault_of program (ttp (codes "--help" ∷ [])) ≡ DisplayHelp ∷ []
+unfolding clap_on_literals
+help_is_shown = refl
+
+play_passes : fault_of program (ttp (codes "play" ∷ codes "--room" ∷ codes "7" ∷ [])) ≡ []
+unfolding clap_on_literals
+play_passes = refl
+
+room_has_a_limit : fault_of program (ttp (codes "play" ∷ codes "--room" ∷ codes "1048577" ∷ [])) ≡ ValueValidation ∷ []
+unfolding clap_on_literals
+room_has_a_limit = refl
+
+start_takes_no_option : fault_of program (ttp (codes "start" ∷ codes "--room" ∷ [])) ≡ UnknownArgument ∷ []
+unfolding clap_on_literals
+start_takes_no_option = refl
+
+start_is_named : job_of_words (ttp (codes "start" ∷ [])) ≡ Some Start
+unfolding clap_on_literals
+start_is_named = refl
+
+play_has_its_room : job_of_words (ttp (codes "play" ∷ codes "--room" ∷ codes "7" ∷ [])) ≡ Some (Play 7)
+unfolding clap_on_literals
+play_has_its_room = refl
+
+room_after_an_equals_sign : job_of_words (ttp (codes "play" ∷ codes "--room=1048576" ∷ [])) ≡ Some (Play 1048576)
+unfolding clap_on_literals
+room_after_an_equals_sign = refl
+
+play_has_a_default : job_of_words (ttp (codes "play" ∷ [])) ≡ Some (Play 1024)
+unfolding clap_on_literals
+play_has_a_default = refl
+
+room_is_given_once : fault_of program (ttp (codes "play" ∷ codes "--room" ∷ codes "7" ∷ codes "--room=8" ∷ [])) ≡ ArgumentConflict ∷ []
+unfolding clap_on_literals
+room_is_given_once = refl
+
+no_command_is_no_job : job_of_words (ttp []) ≡ None
+unfolding clap_on_literals
+no_command_is_no_job = refl

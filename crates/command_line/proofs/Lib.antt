@@ -1,0 +1,5 @@
+mod CommandLineWorked
+pub mod Options
+pub mod NumberLemmas
+pub mod OptionWords
+pub mod NamedCommand

@@ -1,0 +1,92 @@
+-- The program's command line, as clap reads it: commands, each with whole-number options.
+use Rattle.std.specs.Prelude.{◌≡◌, ◌≤◌, ℕ, Some, None, Option, List, [], ◌∷◌, codes, true, map, fold}
+use Rattle.std.specs.Prelude.{◌⊎◌, if◌then◌else◌, option_and_then, option_map}
+use Rattle.std.specs.Str.{bytes_eq}
+use Rattle.std.specs.Str.Parse.{digits_value, without_leading_plus}
+use Rattle.clap.specs.Words.{App, Rule, Row, Text, new_app, new_rule, with_rule, with_subcommand}
+use Rattle.clap.specs.Words.{one_of, subcommand_of}
+use Rattle.clap.specs.Simple.{on_top}
+use Rattle.clap.specs.ValueTests.{is_unsigned_in}
+use Rattle.clap.specs.declared.builder.value_parser.ValueParser.TheVariants.{Unsigned}
+use Rattle.command_line.specs.declared.job.Job.{Job}
+use Rattle.command_line.specs.declared.job.Job.TheVariants.{Start, Play}
+
+-- an option `--name N`: the range of N, and what stands for it where it isn't given
+pub record NumberOption : Type 0 where
+  pub name : Text
+  pub least : ℕ
+  pub most : ℕ
+  pub default : Text
+
+-- a command and its options
+pub record CommandForm : Type 0 where
+  pub name : Text
+  pub options : List NumberOption
+
+-- how many changes a board has room for
+abbrev pub room_option : NumberOption
+room_option = record { name = codes "room"; least = 0; most = 1048576; default = codes "1024" }
+
+abbrev pub start_command : CommandForm
+start_command = record { name = codes "start"; options = [] }
+
+abbrev pub play_command : CommandForm
+play_command = record { name = codes "play"; options = room_option ∷ [] }
+
+abbrev pub commands : List CommandForm
+commands = start_command ∷ play_command ∷ []
+
+-- an option and a command, as clap has them
+abbrev pub rule_of : NumberOption → Rule
+rule_of o = record (new_rule o.name) { long = Some o.name; value_names = 1; parser = Some (Unsigned o.least o.most); defaults = o.default ∷ [] }
+
+abbrev pub app_of_command : CommandForm → App
+app_of_command c = fold with_rule (new_app c.name) (map rule_of c.options)
+
+-- one command is needed
+abbrev pub needing_command : App → App
+needing_command = on_top (λ top. record top { subcommand_required = true })
+
+-- `ttp` with these commands
+abbrev pub program_of : List CommandForm → App
+program_of cs = fold (λ app c. with_subcommand app (app_of_command c).top) (needing_command (new_app (codes "ttp"))) cs
+
+abbrev pub program : App
+program = program_of commands
+
+-- the number that stands after an option, or its default
+abbrev pub number_in : Text → List Row → Option ℕ
+number_in name rows = option_map (λ text. digits_value 10 (without_leading_plus text)) (one_of name rows)
+
+-- the job of a command and its values
+abbrev pub job_of_command : Text × List Row → Option Job
+job_of_command found = if bytes_eq found.0 (codes "start") then Some Start
+    else (if bytes_eq found.0 (codes "play") then option_map Play (number_in (codes "room") found.1) else None)
+
+-- the job that the words name
+abbrev pub job_of_words : List Text → Option Job
+job_of_words words = option_and_then job_of_command (subcommand_of program words)
+
+-- each number of the job is in its range
+abbrev pub IsInRange : Job → Type 0
+IsInRange Start = Unit {0}
+IsInRange (Play room) = room ≤ 1048576
+
+-- the option has a text, which is a number in its range
+abbrev pub HasNumber : List Row → NumberOption → Type 0
+HasNumber rows o = (text : Text) × (one_of o.name rows ≡ Some text)
+    × (is_unsigned_in o.least o.most text ≡ true)
+
+abbrev pub HasNumbers : List Row → List NumberOption → Type 0
+HasNumbers rows [] = Unit {0}
+HasNumbers rows (o ∷ os) = HasNumber rows o × HasNumbers rows os
+
+-- what a parse that succeeds gives: a command of the program, with a number for each of its options
+abbrev pub NamesOneOf : List CommandForm → Text × List Row → Type 0
+NamesOneOf [] found = ⊥
+NamesOneOf (c ∷ cs) found =
+    ((found.0 ≡ c.name) × HasNumbers found.1 c.options) ⊎ NamesOneOf cs found
+
+abbrev pub NamesACommand : Option (Text × List Row) → Type 0
+NamesACommand None = ⊥
+NamesACommand (Some found) = NamesOneOf commands found

@@ -1,0 +1,125 @@
+//! The command line: jobs, mistakes with their statuses, what the help says, and want of memory: `rt try --test
+//! --fail-alloc N` refuses the Nth allocation of each test. A test `.._tells_refused_memory` passes at every N;
+//! `.._with_ample_memory` fails while N is among its allocations.
+
+use crate::{Job, args};
+use clap::error::ErrorKind;
+use std::alloc::{AllocError, Global};
+use std::test::Fail;
+
+/// Owned words, as the system gives them.
+fn words(alloc: Global, given: &[&str]) -> Result<Vec<String>, AllocError> {
+    let mut words = Vec::new(alloc);
+    for word in given {
+        words.push(String::from_str(alloc, word)?)?;
+    }
+    Ok(words)
+}
+
+#[test]
+fn command_line_asks_for_the_start(rt: HostRuntime) -> Result<(), Fail> {
+    let words = words(rt.alloc(), &["ttp", "start"])?;
+    assert_eq!(rt; args(rt.alloc(), &words)?, Job::Start);
+    Ok(())
+}
+
+#[test]
+fn command_line_asks_for_a_play_with_room(rt: HostRuntime) -> Result<(), Fail> {
+    let cases: [(&[&str], u32); 4] = [
+        (&["ttp", "play"], 1024),
+        (&["ttp", "play", "--room", "0"], 0),
+        (&["ttp", "play", "--room", "7"], 7),
+        (&["ttp", "play", "--room=1048576"], 1_048_576),
+    ];
+    for (given, room) in cases {
+        let words = words(rt.alloc(), given)?;
+        assert_eq!(rt; args(rt.alloc(), &words)?, Job::Play { room }, "{given:?}");
+    }
+    Ok(())
+}
+
+#[test]
+fn wrong_command_lines_end_with_two_and_help_with_zero(rt: HostRuntime) -> Result<(), Fail> {
+    let cases: [(&[&str], ErrorKind, i32); 10] = [
+        (&["ttp"], ErrorKind::MissingSubcommand, 2),
+        (&["ttp", "stop"], ErrorKind::InvalidSubcommand, 2),
+        (&["ttp", "start", "now"], ErrorKind::UnknownArgument, 2),
+        (
+            &["ttp", "start", "--room", "3"],
+            ErrorKind::UnknownArgument,
+            2,
+        ),
+        (
+            &["ttp", "play", "--room", "1048577"],
+            ErrorKind::ValueValidation,
+            2,
+        ),
+        (
+            &["ttp", "play", "--room", "many"],
+            ErrorKind::ValueValidation,
+            2,
+        ),
+        (&["ttp", "play", "--room"], ErrorKind::InvalidValue, 2),
+        (&["ttp", "--help"], ErrorKind::DisplayHelp, 0),
+        (&["ttp", "play", "--help"], ErrorKind::DisplayHelp, 0),
+        (&["ttp", "start", "--help"], ErrorKind::DisplayHelp, 0),
+    ];
+    for (given, kind, status) in cases {
+        let words = words(rt.alloc(), given)?;
+        let error = args(rt.alloc(), &words).err().ok_or("the words pass")?;
+        assert_eq!(rt; error.kind(), kind, "{given:?}");
+        assert_eq!(rt; error.exit_code(), status, "{given:?}");
+    }
+    Ok(())
+}
+
+#[test]
+fn help_tells_what_is_read_and_written(rt: HostRuntime) -> Result<(), Fail> {
+    let cases: [(&[&str], &str); 8] = [
+        (&["ttp", "--help"], "start"),
+        (&["ttp", "--help"], "play"),
+        (&["ttp", "--help"], "Example:\n  ttp play < "),
+        (
+            &["ttp", "start", "--help"],
+            "standard input and writes the sheet",
+        ),
+        (&["ttp", "start", "--help"], "Example:\n  ttp start < "),
+        (
+            &["ttp", "play", "--help"],
+            "script lines from standard input",
+        ),
+        (
+            &["ttp", "play", "--help"],
+            "writes an answer to each line, the history, the sheet",
+        ),
+        (
+            &["ttp", "play", "--help"],
+            "echo script; echo 'homes 1 2'; echo undo) | ttp play --room 8",
+        ),
+    ];
+    for (given, part) in cases {
+        let words = words(rt.alloc(), given)?;
+        let error = args(rt.alloc(), &words).err().ok_or("the words pass")?;
+        let text = format!(in rt.alloc(); "{error}")?;
+        assert!(rt; text.contains(part), "{part} in {text}");
+    }
+    Ok(())
+}
+
+#[test]
+fn args_succeeds_with_ample_memory(rt: HostRuntime) -> Result<(), Fail> {
+    let words = words(rt.alloc(), &["ttp", "start"])?;
+    assert_eq!(rt; args(rt.alloc(), &words)?, Job::Start);
+    Ok(())
+}
+
+#[test]
+fn args_tells_refused_memory(rt: HostRuntime) {
+    let Ok(words) = words(rt.alloc(), &["ttp", "start"]) else {
+        return;
+    };
+    match args(rt.alloc(), &words) {
+        Ok(job) => assert_eq!(rt; job, Job::Start),
+        Err(error) => assert_eq!(rt; error.kind(), ErrorKind::OutOfMemory),
+    }
+}

@@ -1,0 +1,23 @@
+-- The faults of the layers below, as faults of the program.
+use Rattle.streams.specs.declared.reading.ReadFault.{ReadFault}
+use Rattle.streams.specs.declared.reading.ReadFault.TheVariants as read
+use Rattle.league.specs.declared.fault.LeagueFault.{LeagueFault}
+use Rattle.league.specs.declared.fault.LeagueFault.TheVariants as league
+use Rattle.fixture_board.specs.declared.board.BoardFault.{BoardFault}
+use Rattle.fixture_board.specs.declared.board.BoardFault.TheVariants as board
+use Rattle.commands.specs.declared.fault.ProgramFault.{ProgramFault}
+use Rattle.commands.specs.declared.fault.ProgramFault.TheVariants.{Read, TooLong, League, Room, Memory}
+
+abbrev pub of_reading : ReadFault → ProgramFault
+of_reading read.Read = Read
+of_reading read.TooLong = TooLong
+of_reading read.Memory = Memory
+
+-- want of memory is the program's, and every other fault the league's
+abbrev pub of_league : LeagueFault → ProgramFault
+of_league league.Memory = Memory
+of_league fault = League fault
+
+abbrev pub of_board : BoardFault → ProgramFault
+of_board board.RoomRange = Room
+of_board board.Memory = Memory

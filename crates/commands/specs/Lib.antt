@@ -1,0 +1,3 @@
+pub mod Fault
+pub mod Start
+pub mod Play

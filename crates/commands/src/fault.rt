@@ -1,0 +1,84 @@
+//! Why a command of the program fails.
+
+ghost use Rattle.std.specs.Prelude.{◌≡◌};
+ghost use Rattle.commands.specs.declared.fault.ProgramFault.TheVariants.{Write, Memory};
+ghost use Rattle.commands.specs.Fault.{of_board, of_reading, of_league};
+
+use fixture_board::BoardFault;
+use league::LeagueFault;
+use std::alloc::AllocError;
+use streams::{ReadFault, WriteFault};
+use thiserror::Error;
+
+/// Why a command fails. Each text stands behind `ttp: ` on standard error.
+#[derive(Clone, Copy, Debug, PartialEq, Eq, Error)]
+pub enum ProgramFault {
+    /// A read failed, or the input took more reads than one input gets.
+    #[error("input cannot be read")]
+    Read,
+    /// The input is longer than any that is read.
+    #[error("input is over 4194304 bytes")]
+    TooLong,
+    /// The input is no league.
+    #[error("{0}")]
+    League(LeagueFault),
+    /// The room is over that of any board.
+    #[error("room is over 1048576")]
+    Room,
+    /// A write failed, took no byte or was interrupted too often in a row.
+    #[error("output cannot be written")]
+    Write,
+    /// Memory ran out.
+    #[error("out of memory")]
+    Memory,
+}
+
+impl From<ReadFault> for ProgramFault {
+    ghost from_gives = { λ fault gives. gives ≡ of_reading fault };
+
+    fn from(fault: ReadFault) -> ProgramFault {
+        match fault {
+            ReadFault::Read => ProgramFault::Read,
+            ReadFault::TooLong => ProgramFault::TooLong,
+            ReadFault::Memory => ProgramFault::Memory,
+        }
+    }
+}
+
+impl From<LeagueFault> for ProgramFault {
+    ghost from_gives = { λ fault gives. gives ≡ of_league fault };
+
+    fn from(fault: LeagueFault) -> ProgramFault {
+        match fault {
+            LeagueFault::Memory => ProgramFault::Memory,
+            fault => ProgramFault::League(fault),
+        }
+    }
+}
+
+impl From<BoardFault> for ProgramFault {
+    ghost from_gives = { λ fault gives. gives ≡ of_board fault };
+
+    fn from(fault: BoardFault) -> ProgramFault {
+        match fault {
+            BoardFault::RoomRange => ProgramFault::Room,
+            BoardFault::Memory => ProgramFault::Memory,
+        }
+    }
+}
+
+impl From<WriteFault> for ProgramFault {
+    ghost from_gives = { λ _ gives. gives ≡ Write };
+
+    fn from(_fault: WriteFault) -> ProgramFault {
+        ProgramFault::Write
+    }
+}
+
+impl From<AllocError> for ProgramFault {
+    ghost from_gives = { λ _ gives. gives ≡ Memory };
+
+    fn from(_error: AllocError) -> ProgramFault {
+        ProgramFault::Memory
+    }
+}

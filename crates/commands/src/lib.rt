@@ -1,0 +1,14 @@
+//! The commands of the program `ttp`, as calls over any source and sink, and the faults that they end with.
+#![tactic(auto)]
+
+mod fault;
+mod playing;
+mod starting;
+#[cfg(test)]
+mod tests;
+
+pub use fault::ProgramFault;
+pub use playing::{play, play_from};
+pub use starting::{start, start_from};
+pub use streams::{Sink, Source, Step};
+pub use texts::sheet;

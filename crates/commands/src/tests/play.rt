@@ -1,0 +1,148 @@
+//! Known play texts.
+
+use super::CIRCLE;
+use crate::{ProgramFault, play};
+use league::LeagueFault;
+use std::alloc::{AllocError, Global};
+use std::test::Fail;
+use streams::{MemorySink, MemorySource, RehearsedSink, RehearsedSource, Step};
+
+/// The league, a line `script` and these lines.
+pub(super) fn input(alloc: Global, league: &str, script: &[u8]) -> Result<Vec<u8>, AllocError> {
+    let mut input = Vec::from_slice(alloc, league.as_bytes())?;
+    input.extend_from_slice(b"\nscript\n")?;
+    input.extend_from_slice(script)?;
+    Ok(input)
+}
+
+pub(super) const AFTER_UNDO: &str = "start travel 30 hard 0 soft 0\n\
+    done 1 travel 26 hard 0 soft 0\n\
+    done 2 travel 30 hard 0 soft 0\n\
+    history 2\n\
+    homes 1 2\n\
+    undo\n\
+    end\n\
+    league 4 teams 6 rounds\n\
+    team 1 HHAAAH T1\n\
+    team 2 HAHAHA T2\n\
+    team 3 AAHHHA T3\n\
+    team 4 AHAHAH T4\n\
+    round 1: 1-4 2-3\n\
+    round 2: 1-2 4-3\n\
+    round 3: 2-4 3-1\n\
+    round 4: 3-2 4-1\n\
+    round 5: 2-1 3-4\n\
+    round 6: 1-3 4-2\n\
+    best 26 at 1\n";
+
+#[test]
+fn play_writes_the_play_text(rt: HostRuntime) -> Result<(), Fail> {
+    let input = input(rt.alloc(), CIRCLE, b"homes 1 2\nundo\n")?;
+    let mut room = [0; 2000];
+    let mut sink = MemorySink::new(&mut room);
+    play(rt.alloc(), MemorySource::new(&input), &mut sink, 1024)?;
+    assert_eq!(rt; str::from_utf8(sink.held())?, AFTER_UNDO);
+    Ok(())
+}
+
+/// What `play` writes for a league and these script lines.
+pub(super) fn text(alloc: Global, league: &str, script: &[u8], room: u32) -> Result<Vec<u8>, Fail> {
+    let input = input(alloc, league, script)?;
+    let mut memory = [0; 3000];
+    let mut sink = MemorySink::new(&mut memory);
+    play(alloc, MemorySource::new(&input), &mut sink, room)?;
+    Ok(Vec::from_slice(alloc, sink.held())?)
+}
+
+#[test]
+fn hostile_lines_are_told_and_change_nothing(rt: HostRuntime) -> Result<(), Fail> {
+    let script =
+        b"homes 1 0\nhomes 1 256\npin 0 1 4\npin 1 1 1\nhomes 1 18446744073709551616\n  homes 1 2 \t\r\n\
+        HOMES 1 2\n\xff\nscript\n";
+    let answers =
+        b"start travel 30 hard 0 soft 0\nno 0 bad move\nno 0 bad move\nno 0 bad game\nno 0 bad game\nbad line 5\n\
+        done 1 travel 26 hard 0 soft 0\nbad line 7\nbad line 8\nbad line 9\nhistory 1\nhomes 1 2\nend\n";
+    let text = text(rt.alloc(), CIRCLE, script, 1024)?;
+    assert!(rt; text.starts_with(answers), "{}", str::from_utf8(&text)?);
+    assert!(rt; text.ends_with(b"best 26 at 1\n"));
+    Ok(())
+}
+
+/// What `play` answers to an input, and whether it left the sink alone.
+fn answer(alloc: Global, input: &[u8], room: u32) -> (Result<(), ProgramFault>, bool) {
+    let mut memory = [0; 1000];
+    let mut sink = MemorySink::new(&mut memory);
+    let answer = play(alloc, MemorySource::new(input), &mut sink, room);
+    (answer, sink.tally().calls == 0)
+}
+
+#[test]
+fn play_names_the_first_fault(rt: HostRuntime) -> Result<(), Fail> {
+    let no_json = Err(ProgramFault::League(LeagueFault::NotJson));
+    assert_eq!(rt; answer(rt.alloc(), b"", 1_048_577), (no_json, true));
+    assert_eq!(rt;
+        answer(rt.alloc(), CIRCLE.as_bytes(), 1_048_577),
+        (Err(ProgramFault::Room), true)
+    );
+    let mut no_script = Vec::from_slice(rt.alloc(), CIRCLE.as_bytes())?;
+    no_script.extend_from_slice(b"\nscript \nundo")?;
+    assert_eq!(rt; answer(rt.alloc(), &no_script, 8), (no_json, true));
+    Ok(())
+}
+
+#[test]
+fn play_reads_and_writes_in_any_steps(rt: HostRuntime) -> Result<(), Fail> {
+    let input = input(rt.alloc(), CIRCLE, b"homes 1 2\nundo\n")?;
+    let reads = [Step::Again, Step::Moved(1), Step::Again, Step::Moved(3)];
+    let source = RehearsedSource::new(MemorySource::new(&input), &reads);
+    let writes = [Step::Again, Step::Moved(7), Step::Again];
+    let mut room = [0; 2000];
+    let mut memory = MemorySink::new(&mut room);
+    let mut sink = RehearsedSink::new(&mut memory, &writes);
+    play(rt.alloc(), source, &mut sink, 1024)?;
+    assert_eq!(rt; memory.held(), AFTER_UNDO.as_bytes());
+    Ok(())
+}
+
+#[test]
+fn play_reads_an_input_of_single_bytes(rt: HostRuntime) -> Result<(), Fail> {
+    let input = input(rt.alloc(), CIRCLE, b"homes 1 2\nundo\n")?;
+    let mut room = [0; 2000];
+    let mut sink = MemorySink::new(&mut room);
+    play(
+        rt.alloc(),
+        MemorySource::in_pieces(&input, 1),
+        &mut sink,
+        1024,
+    )?;
+    assert_eq!(rt; sink.held(), AFTER_UNDO.as_bytes());
+    Ok(())
+}
+
+#[test]
+fn play_stops_at_a_failed_read(rt: HostRuntime) -> Result<(), Fail> {
+    let input = input(rt.alloc(), CIRCLE, b"homes 1 2\nundo\n")?;
+    let steps = [Step::Moved(7), Step::Failed];
+    let source = RehearsedSource::new(MemorySource::new(&input), &steps);
+    let mut room = [0; 1000];
+    let mut sink = MemorySink::new(&mut room);
+    assert_eq!(rt;
+        play(rt.alloc(), source, &mut sink, 8),
+        Err(ProgramFault::Read)
+    );
+    assert_eq!(rt; sink.tally().calls, 0);
+    Ok(())
+}
+
+#[test]
+fn play_leaves_a_front_after_a_failed_write(rt: HostRuntime) -> Result<(), Fail> {
+    let input = input(rt.alloc(), CIRCLE, b"homes 1 2\nundo\n")?;
+    let steps = [Step::Moved(10), Step::Failed];
+    let mut room = [0; 2000];
+    let mut memory = MemorySink::new(&mut room);
+    let mut sink = RehearsedSink::new(&mut memory, &steps);
+    let answer = play(rt.alloc(), MemorySource::new(&input), &mut sink, 8);
+    assert_eq!(rt; answer, Err(ProgramFault::Write));
+    assert_eq!(rt; memory.held(), b"start trav".as_slice());
+    Ok(())
+}

@@ -1,0 +1,44 @@
+-- A script that is answered line by line.
+use Rattle.std.proofs.Common.{◌≡◌, ℕ, ◌+◌, ◌≤◌, List, [], length, Option, refl, sym, arith}
+use Rattle.std.specs.Str.Lines.{lines}
+use Rattle.streams.specs.declared.tally.Tally.{Tally}
+use Rattle.streams.specs.declared.buffered.BufferedSink.{BufferedSink}
+use Rattle.streams.specs.Writing.{Adds, Stops}
+use Rattle.league.specs.League.{LeagueData}
+use Rattle.fixture_board.specs.declared.change.Entry.{Entry}
+use Rattle.texts.specs.Command.{line_of}
+use Rattle.texts.specs.Input.{TakesLine}
+use Rattle.texts.specs.PlayText.{answer_to, answers, answers_from, history_after, slack_after, played, played_from}
+use Rattle.texts.proofs.Parts.{AddsAllBut, none_added, one_added, one_stopped, all_added}
+
+-- the answers to all lines but those of `rest` were added, and led to this history and slack
+pub record IsAnsweredTo {S : Type 0} (held : S → Option (List ℕ)) (tally : S → Tally) (old new : BufferedSink S)
+    (league : LeagueData) (room : ℕ) (script rest : List ℕ) (h : List Entry) (slack number : ℕ) : Type 0 where
+  pub written : AddsAllBut held tally old new (answers league room (lines script)) (answers_from league room h slack number (lines rest))
+  pub history_is : played league room (lines script) ≡ played_from league room h slack (lines rest)
+  pub few : number + length rest ≤ 1 + length script
+
+module _ {S : Type 0} {held : S → Option (List ℕ)} {tally : S → Tally} (league : LeagueData) (room : ℕ) (script : List ℕ) where
+  pub none_answered : (a : BufferedSink S) → IsAnsweredTo held tally a a league room script script [] 18446744073709551615 1
+  unfolding answers played
+  none_answered a = record { written = none_added a _; history_is = refl; few = omega arith }
+
+  pub one_answered : {a b c : BufferedSink S} (rest line next : List ℕ) (h : List Entry) (slack number : ℕ)
+      → IsAnsweredTo held tally a b league room script rest h slack number → TakesLine rest line next
+      → Adds held tally b c (answer_to league room h slack number (line_of line))
+      → IsAnsweredTo held tally a c league room script next (history_after league room h slack (line_of line)) (slack_after league room slack (line_of line)) (number + 1)
+  one_answered rest line next h slack number so_far takes added = record {
+    written = one_added _ _ _ (rw takes.lines_are at so_far.written) added;
+    history_is = rw takes.lines_are at so_far.history_is;
+    few = omega (arith, so_far.few, takes.shorter);
+  }
+
+  pub one_failed : {a b c : BufferedSink S} (rest line next : List ℕ) (h : List Entry) (slack number : ℕ)
+      → IsAnsweredTo held tally a b league room script rest h slack number → TakesLine rest line next
+      → Stops held tally b c (answer_to league room h slack number (line_of line))
+      → Stops held tally a c (answers league room (lines script))
+  one_failed rest line next h slack number so_far takes stops = one_stopped _ _ _ (rw takes.lines_are at so_far.written) stops
+
+  pub all_answered : {a b : BufferedSink S} (h : List Entry) (slack number : ℕ) → IsAnsweredTo held tally a b league room script [] h slack number
+      → Adds held tally a b (answers league room (lines script)) × (h ≡ played league room (lines script))
+  all_answered h slack number so_far = (all_added _ so_far.written, sym so_far.history_is)

@@ -1,0 +1,160 @@
+-- The history that a script leads to, given as a script itself, leads to the same history.
+use Rattle.std.proofs.Common.{◌≡◌, ℕ, ◌<◌, ◌≤◌, nat_lt, not, ◌&&◌, ◌==◌, Bool, true, false, List, [], ◌∷◌, ◌++◌, length, Option, Some, None, Ok, is_ok, true≢false, refl, sym, ap, ◌∙◌, arith}
+use Rattle.std.specs.Str.Lines.{lines}
+use Rattle.std.proofs.lemmas.Bool.{and_parts, ltb-true}
+use Rattle.league.specs.League.{LeagueData, IsLeague}
+use Rattle.fixtures.specs.declared.game.Game.{Game}
+use Rattle.fixtures.specs.Games.{Games, round_count}
+use Rattle.moves.specs.declared.moves.Move.{Move}
+use Rattle.moves.specs.declared.moves.Move.TheVariants.{Homes, Rounds, Teams, PartRounds, PartTeams}
+use Rattle.moves.specs.Moves.{are_distinct_below, fault_of, is_in_range as is_move}
+use Rattle.fixture_board.specs.declared.ask.Ask.{Ask}
+use Rattle.fixture_board.specs.declared.change.Change.{Change}
+use Rattle.fixture_board.specs.declared.change.Change.TheVariants as change
+use Rattle.fixture_board.specs.declared.change.Entry.{Entry}
+use Rattle.fixture_board.specs.declared.reply.Why.{Why}
+use Rattle.fixture_board.specs.History.{effective, games_of, is_in_range, pins_of, legal_after, IsLegal, May}
+use Rattle.fixture_board.specs.Replay.{changes_of, under_caller_0}
+use Rattle.fixture_board.specs.Replies.{ask_of, entry, next_if, next_of, refusal, played_from as changes_played}
+use Rattle.fixture_board.proofs.Next.{IsLegal-next}
+use Rattle.fixture_board.proofs.OneMore.{IsLegal-none}
+use Rattle.fixture_board.proofs.Scores.{IsScored-league, games_of-teams}
+use Rattle.fixture_board.proofs.Script.{replayed}
+use Rattle.fixture_board.proofs.Stand.{FitFrom, FitFrom-more, AllStand-fit, pinned_stands}
+use Rattle.texts.specs.Command.{line_of}
+use Rattle.texts.specs.PlayText.{IsPlayedAgain, asked, change_lines, history_after, played, played_from, slack_after}
+use Rattle.texts.specs.declared.script_line.ScriptLine.{ScriptLine}
+use Rattle.texts.specs.declared.script_line.ScriptLine.TheVariants as line
+use Rattle.texts.proofs.WrittenLines.{AreSmall, IsSmall, IsSmallGame, IsSmallMove, bare_lines, line_read, lines-change_lines}
+
+-- ---- the numbers of a legal history are small
+
+distinct_small : (n i j : ℕ) → n ≤ 255 → are_distinct_below n i j ≡ true → (i < 255) × (j < 255)
+distinct_small n i j few are =
+    let parts = and_parts (nat_lt i n && nat_lt j n) (not (i == j)) are in
+    let both = and_parts (nat_lt i n) (nat_lt j n) parts.0 in
+    (omega (arith, ltb-true i n both.0), omega (arith, ltb-true j n both.1))
+
+IsSmallMove-in_range : (g : Games) (mv : Move) → g.teams ≤ 40 → is_move g mv ≡ true → IsSmallMove mv
+IsSmallMove-in_range g (Homes i j) few in_range = distinct_small g.teams i j (omega arith) in_range
+IsSmallMove-in_range g (Rounds k l) few in_range = distinct_small (round_count g.teams) k l (omega arith) in_range
+IsSmallMove-in_range g (Teams i j) few in_range = distinct_small g.teams i j (omega arith) in_range
+IsSmallMove-in_range g (PartRounds i k l) few in_range =
+    let parts = and_parts (nat_lt i g.teams) (are_distinct_below (round_count g.teams) k l) in_range in
+    let rounds = distinct_small (round_count g.teams) k l (omega arith) parts.1 in
+    (omega (arith, ltb-true i g.teams parts.0), rounds.0, rounds.1)
+IsSmallMove-in_range g (PartTeams i j k) few in_range =
+    let parts = and_parts (are_distinct_below g.teams i j) (nat_lt k (round_count g.teams)) in_range in
+    let both = distinct_small g.teams i j (omega arith) parts.0 in
+    (both.0, both.1, omega (arith, ltb-true k (round_count g.teams) parts.1))
+
+-- a move without a fault has its numbers in range
+in_range_of : (g : Games) (mv : Move) → fault_of g mv ≡ Ok tt → is_move g mv ≡ true
+in_range_of g mv none = go (is_move g mv) refl
+  where
+    go : (b : Bool) → is_move g mv ≡ b → b ≡ true
+    go true is = refl
+    go false is = absurd (true≢false (sym (ap is_ok (rw is at none))))
+
+IsSmallGame-in_range : (g : Games) (game : Game) → g.teams ≤ 40 → is_in_range g game ≡ true → IsSmallGame game
+IsSmallGame-in_range g game few in_range =
+    let round : Bool = nat_lt game.round (round_count g.teams) in
+    let all = and_parts (round && nat_lt game.home g.teams && nat_lt game.away g.teams) (not (game.home == game.away)) in_range in
+    let three = and_parts (round && nat_lt game.home g.teams) (nat_lt game.away g.teams) all.0 in
+    let two = and_parts round (nat_lt game.home g.teams) three.0 in
+    (omega (arith, ltb-true game.round (round_count g.teams) two.0), omega (arith, ltb-true game.home g.teams two.1), omega (arith, ltb-true game.away g.teams three.1))
+
+few_teams : (league : LeagueData) (h : List Entry) → IsLeague league → (games_of league h).teams ≤ 40
+few_teams league h is = omega (arith, games_of-teams league h, is.table.most)
+
+IsSmall-may : (league : LeagueData) (h : List Entry) (c : Change) → IsLeague league → FitFrom league (effective h) → May league h c → IsSmall c
+IsSmall-may league h (change.Shift mv) is all may =
+    IsSmallMove-in_range (games_of league h) mv (few_teams league h is) (in_range_of (games_of league h) mv may.0)
+IsSmall-may league h (change.Pin game) is all may = IsSmallGame-in_range (games_of league h) game (few_teams league h is) may.0
+IsSmall-may league h (change.Unpin game) is all may =
+    let stands = pinned_stands (games_of league h) (pins_of h) game (AllStand-fit league h all) may in
+    IsSmallGame-in_range (games_of league h) game (few_teams league h is) stands.0
+IsSmall-may league h change.Undo is all may = tt
+
+AreSmall-after : (league : LeagueData) (room : ℕ) (before h : List Entry) → IsLeague league → FitFrom league (effective before)
+    → legal_after league room before h → AreSmall h
+AreSmall-after league room before [] is all legal = tt
+AreSmall-after league room before (e ∷ h) is all legal = (
+  IsSmall-may league before e.change is all legal.0.1,
+  AreSmall-after league room (before ++ e ∷ []) h is (FitFrom-more league before e all legal.0.1) legal.1,
+)
+
+AreSmall-legal : (league : LeagueData) (room : ℕ) (h : List Entry) → IsLeague league → IsLegal league room h → AreSmall h
+unfolding IsLegal effective
+AreSmall-legal league room h is legal = AreSmall-after league room [] h is tt legal
+
+-- ---- what a script leads to is legal, and all of caller 0
+
+under-more : (h : List Entry) (c : Change) → under_caller_0 (h ++ record { caller = 0; change = c } ∷ []) ≡ under_caller_0 h ++ record { caller = 0; change = c } ∷ []
+under-more [] c = refl
+under-more (e ∷ h) c = ap (λ rest. record { caller = 0; change = e.change } ∷ rest) (under-more h c)
+
+same-next_if : (h : List Entry) (c : Change) (reason : Option Why) → under_caller_0 h ≡ h
+    → under_caller_0 (next_if reason h (record { caller = 0; change = c })) ≡ next_if reason h (record { caller = 0; change = c })
+same-next_if h c None same = under-more h c ∙ ap (λ l. l ++ record { caller = 0; change = c } ∷ []) same
+same-next_if h c (Some reason) same = same
+
+same-next : (league : LeagueData) (room : ℕ) (h : List Entry) (ask : Ask) → under_caller_0 h ≡ h
+    → under_caller_0 (next_of league room h 0 ask) ≡ next_of league room h 0 ask
+unfolding next_of
+same-next league room h ask same = same-next_if h (entry 0 ask).change (refusal league room h ask) same
+
+-- a legal history of caller 0 alone
+record IsPlayed (league : LeagueData) (room : ℕ) (h : List Entry) : Type 0 where
+  legal : IsLegal league room h
+  same : under_caller_0 h ≡ h
+
+IsPlayed-line : (league : LeagueData) (room : ℕ) (h : List Entry) (slack : ℕ) (l : ScriptLine) → IsPlayed league room h → IsPlayed league room (history_after league room h slack l)
+IsPlayed-line league room h slack line.Skip is = is
+IsPlayed-line league room h slack (line.Slack given) is = is
+IsPlayed-line league room h slack (line.Asks c) is = record {
+  legal = IsLegal-next league room h 0 (asked (length h) slack c) is.legal;
+  same = same-next league room h (asked (length h) slack c) is.same;
+}
+IsPlayed-line league room h slack line.Bad is = is
+
+IsPlayed-from : (league : LeagueData) (room : ℕ) (h : List Entry) (slack : ℕ) (script : List (List ℕ)) → IsPlayed league room h → IsPlayed league room (played_from league room h slack script)
+IsPlayed-from league room h slack [] is = is
+IsPlayed-from league room h slack (l ∷ script) is =
+    IsPlayed-from league room (history_after league room h slack (line_of l)) (slack_after league room slack (line_of l)) script
+    (IsPlayed-line league room h slack (line_of l) is)
+
+IsPlayed-played : (league : LeagueData) (room : ℕ) (script : List (List ℕ)) → IsPlayed league room (played league room script)
+unfolding played
+IsPlayed-played league room script =
+    IsPlayed-from league room [] 18446744073709551615 script (record { legal = IsLegal-none league room; same = refl })
+
+-- ---- the written lines, played
+
+-- a script's change at the greatest slack is asked for as the change itself is
+asked-greatest : (version : ℕ) (c : Change) → asked version 18446744073709551615 c ≡ ask_of version c
+asked-greatest version (change.Shift mv) = refl
+asked-greatest version (change.Pin game) = refl
+asked-greatest version (change.Unpin game) = refl
+asked-greatest version change.Undo = refl
+
+lines_played : (league : LeagueData) (room : ℕ) (before h : List Entry) → AreSmall h
+    → played_from league room before 18446744073709551615 (bare_lines h) ≡ changes_played league room before (changes_of h)
+lines_played league room before [] small = refl
+lines_played league room before (e ∷ h) small =
+    ap (λ l. played_from league room (history_after league room before 18446744073709551615 l) (slack_after league room 18446744073709551615 l) (bare_lines h))
+    (line_read e.change small.0) ∙
+    ap (λ ask. played_from league room (next_of league room before 0 ask) 18446744073709551615 (bare_lines h)) (asked-greatest (length before) e.change) ∙
+    lines_played league room (next_of league room before 0 (ask_of (length before) e.change)) h small.1
+
+written_played : (league : LeagueData) (room : ℕ) (h : List Entry) → IsLeague league → IsPlayed league room h → played league room (lines (change_lines h)) ≡ h
+unfolding played
+written_played league room h is of_play =
+    let small = AreSmall-legal league room h is of_play.legal in
+    ap (λ script. played_from league room [] 18446744073709551615 script) (lines-change_lines h small) ∙
+    lines_played league room [] h small ∙
+    (replayed league room h (IsScored-league league is) of_play.legal).history ∙
+    of_play.same
+
+pub played_again : (league : LeagueData) (room : ℕ) (script : List (List ℕ)) → IsLeague league → IsPlayedAgain league room script
+played_again league room script is = written_played league room (played league room script) is (IsPlayed-played league room script)

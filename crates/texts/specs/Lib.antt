@@ -1,0 +1,6 @@
+pub mod Words
+pub mod Number
+pub mod Input
+pub mod Command
+pub mod Sheet
+pub mod PlayText

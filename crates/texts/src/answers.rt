@@ -1,0 +1,138 @@
+//! What a board answers to the lines of a script.
+
+ghost use Rattle.std.specs.Prelude.{◌≡◌, [], OnOk};
+ghost use Rattle.std.specs.Str.Lines.{lines};
+ghost use Rattle.streams.specs.Writing.{Writes};
+ghost use Rattle.fixture_board.specs.Record.{book};
+ghost use Rattle.texts.specs.PlayText.{asked, answer_to, answers, costs_of, done_line, history_after, no_line};
+ghost use Rattle.texts.specs.PlayText.{played, reply_line, slack_after, why_text};
+
+use crate::input::next_line;
+use crate::lines::{write_counted, write_numbered};
+use crate::script_line::{ScriptLine, parse_line};
+use fixture_board::{Ask, Board, Change, Cost, Proposal, Reply, Why};
+use streams::{BufferedSink, Sink, WriteFault};
+
+/// Plays the lines of a script on a new board, and writes an answer to each that isn't skipped.
+pub(crate) fn write_answers<W: Sink>(
+    out: &mut BufferedSink<'_, W>,
+    board: &mut Board,
+    script: &[u8],
+) -> Result<(), WriteFault>
+    requires { board.old.history ≡ [] }
+    ensures writes { Writes W.held W.tally out.old out.new result
+        (answers board.old.league board.old.room (lines script.now)) }
+    ensures board { OnOk result (board.new ≡ book board.old.league board.old.room
+        (played board.old.league board.old.room (lines script.now))) }
+{
+    let mut slack = u64::MAX;
+    let mut number = 1;
+    let mut rest = script;
+    while let Some(line) = next_line(&mut rest) {
+        write_answer(out, board, &mut slack, number, parse_line(line))?;
+        number += 1;
+    }
+    Ok(())
+}
+
+/// Does what the line of this number says, and writes the answer to it.
+fn write_answer<W: Sink>(
+    out: &mut BufferedSink<'_, W>,
+    board: &mut Board,
+    slack: &mut u64,
+    number: u64,
+    line: ScriptLine,
+) -> Result<(), WriteFault>
+    ensures writes { Writes W.held W.tally out.old out.new result
+        (answer_to board.old.league board.old.room board.old.history slack.old number line) }
+    ensures board { board.new ≡ book board.old.league board.old.room
+        (history_after board.old.league board.old.room board.old.history slack.old line) }
+    ensures slack { slack.new ≡ slack_after board.old.league board.old.room slack.old line }
+{
+    match line {
+        ScriptLine::Skip => Ok(()),
+        ScriptLine::Slack(given) => {
+            *slack = given;
+            write_numbered(out, b"slack ", given)
+        }
+        ScriptLine::Asks(change) => {
+            let ask = asked(board.version(), *slack, change);
+            write_reply(out, board.answer(0, ask))
+        }
+        ScriptLine::Bad => write_numbered(out, b"bad line ", number),
+    }
+}
+
+/// The change as it is asked for at this version, a proposal with this slack.
+fn asked(version: u64, slack: u64, change: Change) -> Ask
+    ensures { result ≡ asked version slack change }
+{
+    match change {
+        Change::Shift(mv) => Ask::Shift(Proposal {
+            version,
+            mv,
+            claim: None,
+            slack,
+        }),
+        Change::Pin(game) => Ask::Pin { version, game },
+        Change::Unpin(game) => Ask::Unpin { version, game },
+        Change::Undo => Ask::Undo { version },
+    }
+}
+
+fn write_reply<W: Sink>(out: &mut BufferedSink<'_, W>, reply: Reply) -> Result<(), WriteFault>
+    ensures { Writes W.held W.tally out.old out.new result (reply_line reply) }
+{
+    match reply {
+        Reply::Done { at, cost } => write_done(out, at, cost),
+        Reply::No { at, why } => write_no(out, at, why),
+    }
+}
+
+fn write_done<W: Sink>(out: &mut BufferedSink<'_, W>, at: u64, cost: Cost) -> Result<(), WriteFault>
+    ensures { Writes W.held W.tally out.old out.new result (done_line at cost) }
+{
+    write_counted(out, b"done ", at)?;
+    write_costs(out, cost)
+}
+
+/// Writes a cost, which ends the line.
+pub(crate) fn write_costs<W: Sink>(
+    out: &mut BufferedSink<'_, W>,
+    cost: Cost,
+) -> Result<(), WriteFault>
+    ensures { Writes W.held W.tally out.old out.new result (costs_of cost) }
+{
+    write_counted(out, b" travel ", cost.travel)?;
+    write_counted(out, b" hard ", cost.hard)?;
+    write_numbered(out, b" soft ", cost.soft)
+}
+
+fn write_no<W: Sink>(out: &mut BufferedSink<'_, W>, at: u64, why: Why) -> Result<(), WriteFault>
+    ensures { Writes W.held W.tally out.old out.new result (no_line at why) }
+{
+    write_counted(out, b"no ", at)?;
+    out.write(b" ")?;
+    write_why(out, why)?;
+    out.write(b"\n")
+}
+
+fn write_why<W: Sink>(out: &mut BufferedSink<'_, W>, why: Why) -> Result<(), WriteFault>
+    ensures { Writes W.held W.tally out.old out.new result (why_text why) }
+{
+    match why {
+        Why::Ahead => out.write(b"ahead"),
+        Why::Old => out.write(b"old"),
+        Why::Full => out.write(b"full"),
+        Why::BadMove => out.write(b"bad move"),
+        Why::Meet => out.write(b"meet"),
+        Why::Pinned => out.write(b"pinned"),
+        Why::WrongClaim => out.write(b"wrong claim"),
+        Why::Worse => out.write(b"worse"),
+        Why::BadGame => out.write(b"bad game"),
+        Why::NotThere => out.write(b"not there"),
+        Why::AlreadyPinned => out.write(b"already pinned"),
+        Why::NotPinned => out.write(b"not pinned"),
+        Why::NothingToUndo => out.write(b"nothing to undo"),
+    }
+}

@@ -1,0 +1,68 @@
+//! The two parts of an input, a league and a script, and the lines of the script.
+
+ghost use Rattle.std.specs.Prelude.{◌≡◌, [], IfNone, IfSome, drop, ℕ, ◌≤◌, length};
+ghost use Rattle.std.specs.List.{position_or_len};
+ghost use Rattle.std.specs.Str.Lines.{lines, strip_carriage_return};
+ghost use Rattle.texts.specs.Input.{TakesLine, is_line_end, league_text, script_lines};
+
+/// The league's text, which runs up to the first line that is `script`, and the script after that line.
+/// Where there is no such line, all is the league's text.
+pub fn split_input(input: &[u8]) -> (&[u8], &[u8])
+    ensures league { result.0.now ≡ league_text input.now }
+    ensures script { lines result.1.now ≡ script_lines input.now }
+{
+    let mut rest = input;
+    let mut start = 0;
+    while let Some(line) = next_line(&mut rest) {
+        if line == b"script".as_slice() {
+            return (&input[..start], rest);
+        }
+        start = input.len() - rest.len();
+    }
+    (input, rest)
+}
+
+/// Takes the first line off a text. A line loses its line end, and one carriage return before that.
+pub fn next_line<'a>(text: &mut &'a [u8]) -> Option<&'a [u8]>
+    ensures none { IfNone result (text.old.now ≡ []) }
+    ensures same { IfNone result (text.new.now ≡ []) }
+    ensures some { IfSome result (λ line. TakesLine text.old.now line.now text.new.now) }
+{
+    let whole = *text;
+    if whole.is_empty() {
+        return None;
+    }
+    let length = line_length(whole);
+    if length == whole.len() {
+        *text = rest_from(whole, length);
+        return Some(whole);
+    }
+    *text = rest_from(whole, length + 1);
+    Some(without_carriage_return(&whole[..length]))
+}
+
+/// How many bytes stand before the first line end, or in the whole text.
+fn line_length(text: &[u8]) -> usize
+    ensures { result ≡ position_or_len is_line_end text.now }
+{
+    text.iter()
+        .position(|byte| *byte == b'\n')
+        .unwrap_or(text.len())
+}
+
+fn without_carriage_return(line: &[u8]) -> &[u8]
+    ensures { result.now ≡ strip_carriage_return line.now }
+{
+    match line {
+        [front @ .., b'\r'] => front,
+        _ => line,
+    }
+}
+
+/// What follows the first `count` bytes.
+pub(crate) fn rest_from(text: &[u8], count: usize) -> &[u8]
+    requires { count ≤ length text.now }
+    ensures { result.now ≡ drop count text.now }
+{
+    text.split_at(count).1
+}

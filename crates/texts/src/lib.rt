@@ -1,0 +1,21 @@
+//! The texts of the fixture board, as bytes: an input's league and script, the lines of a script, the sheet of a
+//! schedule, and the play text. Teams and rounds are numbered from 0 in calls, and from 1 in texts. Nothing here takes
+//! memory: a text goes out piece by piece.
+#![tactic(auto)]
+
+mod answers;
+mod history;
+mod input;
+mod lines;
+mod numerals;
+mod play_text;
+mod script_line;
+mod sheets;
+#[cfg(test)]
+mod tests;
+mod words;
+
+pub use input::{next_line, split_input};
+pub use play_text::play_script;
+pub use script_line::{ScriptLine, parse_line};
+pub use sheets::sheet;

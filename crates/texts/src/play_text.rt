@@ -1,0 +1,77 @@
+//! The play text: the start, the answers to a script, and the board after it.
+
+ghost use Rattle.std.specs.Prelude.{◌≡◌, [], OnOk, OnErr};
+ghost use Rattle.std.specs.Io.KnownBytes.{Appends};
+ghost use Rattle.std.specs.Str.Lines.{lines};
+ghost use Rattle.streams.specs.Sending.{AppendsFront};
+ghost use Rattle.streams.specs.Tally.{FailsWriting};
+ghost use Rattle.streams.specs.Writing.{Writes};
+ghost use Rattle.texts.specs.PlayText.{best_line, closing_text, play_text, start_line};
+
+use crate::answers::{write_answers, write_costs};
+use crate::history::write_history;
+use crate::lines::{write_counted, write_numbered};
+use crate::sheets::write_sheet;
+use fixture_board::{Best, Board, Cost};
+use streams::{BufferedSink, Sink, WRITE_LIMIT, WriteFault};
+
+/// Plays a script on a new board, and writes the play text. Takes no memory. After a fault a front of the text went
+/// out.
+pub fn play_script<W: Sink>(
+    board: &mut Board,
+    script: &[u8],
+    sink: &mut W,
+) -> Result<(), WriteFault>
+    requires { board.old.history ≡ [] }
+    ensures ok { OnOk result (Appends (W.held sink.old) (W.held sink.new)
+        (play_text board.old.league board.old.room (lines script.now))) }
+    ensures front { OnErr result (AppendsFront (W.held sink.old) (W.held sink.new)
+        (play_text board.old.league board.old.room (lines script.now))) }
+    ensures cause { OnErr result
+        (FailsWriting WRITE_LIMIT (W.tally sink.old) (W.tally sink.new)) }
+{
+    let mut out = BufferedSink::new(sink);
+    write_play(&mut out, board, script)?;
+    out.flush()
+}
+
+fn write_play<W: Sink>(
+    out: &mut BufferedSink<'_, W>,
+    board: &mut Board,
+    script: &[u8],
+) -> Result<(), WriteFault>
+    requires { board.old.history ≡ [] }
+    ensures { Writes W.held W.tally out.old out.new result
+        (play_text board.old.league board.old.room (lines script.now)) }
+{
+    write_start(out, board.cost())?;
+    write_answers(out, board, script)?;
+    write_closing(out, board)
+}
+
+fn write_start<W: Sink>(out: &mut BufferedSink<'_, W>, cost: Cost) -> Result<(), WriteFault>
+    ensures { Writes W.held W.tally out.old out.new result (start_line cost) }
+{
+    out.write(b"start")?;
+    write_costs(out, cost)
+}
+
+/// Writes the board's history, the sheet of its schedule and its best version.
+fn write_closing<W: Sink>(out: &mut BufferedSink<'_, W>, board: &Board) -> Result<(), WriteFault>
+    ensures { Writes W.held W.tally out.old out.new result
+        (closing_text board.now.league board.now.history) }
+{
+    write_history(out, board)?;
+    write_sheet(out, board.schedule(), board.league())?;
+    write_best(out, board.best())
+}
+
+fn write_best<W: Sink>(out: &mut BufferedSink<'_, W>, best: Option<Best>) -> Result<(), WriteFault>
+    ensures { Writes W.held W.tally out.old out.new result (best_line best) }
+{
+    let Some(best) = best else {
+        return out.write(b"best none\n");
+    };
+    write_counted(out, b"best ", best.total)?;
+    write_numbered(out, b" at ", best.at)
+}

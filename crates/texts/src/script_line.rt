@@ -1,0 +1,136 @@
+//! The lines of a script.
+
+ghost use Rattle.std.specs.Prelude.{◌≡◌};
+ghost use Rattle.fixture_board.specs.declared.change.Change.TheVariants.{Shift};
+ghost use Rattle.texts.specs.declared.script_line.ScriptLine.TheVariants.{Asks};
+ghost use Rattle.texts.specs.Command.{command_of, game_of, keyword_of, line_of};
+
+use crate::numerals::{Numbers, place};
+use crate::words::next_word;
+use fixture_board::Change;
+use fixtures::Game;
+use moves::Move;
+
+/// What a line of a script says. Teams and rounds count from 0; one that can't be such a number is 255.
+#[derive(Clone, Copy, Debug, PartialEq, Eq)]
+pub enum ScriptLine {
+    /// Nothing: no words, or a remark.
+    Skip,
+    /// By how much a proposal may raise the score from here on.
+    Slack(u64),
+    /// A change is asked for.
+    Asks(Change),
+    /// No line of a script.
+    Bad,
+}
+
+/// The first word of a line.
+#[derive(Clone, Copy, Debug, PartialEq, Eq)]
+enum Keyword {
+    Homes,
+    Rounds,
+    Teams,
+    PartRounds,
+    PartTeams,
+    Pin,
+    Unpin,
+    Undo,
+    Slack,
+    Unknown,
+}
+
+impl Keyword {
+    fn of_word(word: &[u8]) -> Keyword
+        ensures { result ≡ keyword_of word.now }
+    {
+        if word == b"homes".as_slice() {
+            Keyword::Homes
+        } else if word == b"rounds".as_slice() {
+            Keyword::Rounds
+        } else if word == b"teams".as_slice() {
+            Keyword::Teams
+        } else if word == b"part-rounds".as_slice() {
+            Keyword::PartRounds
+        } else if word == b"part-teams".as_slice() {
+            Keyword::PartTeams
+        } else if word == b"pin".as_slice() {
+            Keyword::Pin
+        } else if word == b"unpin".as_slice() {
+            Keyword::Unpin
+        } else if word == b"undo".as_slice() {
+            Keyword::Undo
+        } else if word == b"slack".as_slice() {
+            Keyword::Slack
+        } else {
+            Keyword::Unknown
+        }
+    }
+}
+
+/// Reads a line without its line end.
+pub fn parse_line(line: &[u8]) -> ScriptLine
+    ensures { result ≡ line_of line.now }
+{
+    let mut rest = line;
+    let Some(word) = next_word(&mut rest) else {
+        return ScriptLine::Skip;
+    };
+    if word[0] == b'#' {
+        return ScriptLine::Skip;
+    }
+    command(Keyword::of_word(word), Numbers::of_line(rest))
+}
+
+fn command(keyword: Keyword, numbers: Numbers) -> ScriptLine
+    ensures { result ≡ command_of keyword numbers }
+{
+    match (keyword, numbers) {
+        (Keyword::Homes, Numbers::Two(i, j)) => shift(Move::Homes {
+            i: place(i),
+            j: place(j),
+        }),
+        (Keyword::Rounds, Numbers::Two(k, l)) => shift(Move::Rounds {
+            k: place(k),
+            l: place(l),
+        }),
+        (Keyword::Teams, Numbers::Two(i, j)) => shift(Move::Teams {
+            i: place(i),
+            j: place(j),
+        }),
+        (Keyword::PartRounds, Numbers::Three(i, k, l)) => shift(Move::PartRounds {
+            i: place(i),
+            k: place(k),
+            l: place(l),
+        }),
+        (Keyword::PartTeams, Numbers::Three(i, j, k)) => shift(Move::PartTeams {
+            i: place(i),
+            j: place(j),
+            k: place(k),
+        }),
+        (Keyword::Pin, Numbers::Three(round, home, away)) => {
+            ScriptLine::Asks(Change::Pin(game(round, home, away)))
+        }
+        (Keyword::Unpin, Numbers::Three(round, home, away)) => {
+            ScriptLine::Asks(Change::Unpin(game(round, home, away)))
+        }
+        (Keyword::Undo, Numbers::Zero) => ScriptLine::Asks(Change::Undo),
+        (Keyword::Slack, Numbers::One(slack)) => ScriptLine::Slack(slack),
+        _ => ScriptLine::Bad,
+    }
+}
+
+fn shift(mv: Move) -> ScriptLine
+    ensures { result ≡ Asks (Shift mv) }
+{
+    ScriptLine::Asks(Change::Shift(mv))
+}
+
+fn game(round: u64, home: u64, away: u64) -> Game
+    ensures { result ≡ game_of round home away }
+{
+    Game {
+        round: place(round),
+        home: place(home),
+        away: place(away),
+    }
+}

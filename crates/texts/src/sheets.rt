@@ -1,0 +1,186 @@
+//! The sheet of a schedule: a head line, each team's home-away pattern, and the games of each round.
+
+ghost use Rattle.std.specs.Prelude.{◌≡◌, ◌+◌, ◌<◌, OnOk, OnErr};
+ghost use Rattle.std.specs.Io.KnownBytes.{Appends};
+ghost use Rattle.fixtures.specs.Games.{round_count};
+ghost use Rattle.league.specs.League.{teams};
+ghost use Rattle.streams.specs.Sending.{AppendsFront};
+ghost use Rattle.streams.specs.Tally.{FailsWriting};
+ghost use Rattle.streams.specs.Writing.{Writes};
+ghost use Rattle.streams.specs.Pieces.{pieces_below};
+ghost use Rattle.texts.specs.Sheet.{head_line, place_letter, pattern_of, team_line};
+ghost use Rattle.texts.specs.Sheet.{pairing_of, game_of, round_line, sheet_of};
+
+use fixtures::Schedule;
+use league::League;
+use streams::{BufferedSink, Sink, WRITE_LIMIT, WriteFault};
+
+/// Writes the sheet of a schedule, with the names of its league's teams. Takes no memory. After a
+/// fault a front of the sheet went out.
+pub fn sheet<W: Sink>(schedule: &Schedule, league: &League, sink: &mut W) -> Result<(), WriteFault>
+    requires { schedule.now.teams ≡ teams league.now }
+    ensures ok { OnOk result (Appends (W.held sink.old) (W.held sink.new)
+        (sheet_of schedule.now league.now)) }
+    ensures front { OnErr result (AppendsFront (W.held sink.old) (W.held sink.new)
+        (sheet_of schedule.now league.now)) }
+    ensures cause { OnErr result
+        (FailsWriting WRITE_LIMIT (W.tally sink.old) (W.tally sink.new)) }
+{
+    let mut out = BufferedSink::new(sink);
+    write_sheet(&mut out, schedule, league)?;
+    out.flush()
+}
+
+pub(crate) fn write_sheet<W: Sink>(
+    out: &mut BufferedSink<'_, W>,
+    schedule: &Schedule,
+    league: &League,
+) -> Result<(), WriteFault>
+    requires { schedule.now.teams ≡ teams league.now }
+    ensures { Writes W.held W.tally out.old out.new result (sheet_of schedule.now league.now) }
+{
+    write_head(out, schedule)?;
+    write_teams(out, schedule, league)?;
+    write_rounds(out, schedule)
+}
+
+fn write_head<W: Sink>(out: &mut BufferedSink<'_, W>, schedule: &Schedule) -> Result<(), WriteFault>
+    ensures { Writes W.held W.tally out.old out.new result (head_line schedule.now) }
+{
+    out.write(b"league ")?;
+    out.write_number(schedule.teams() as u64)?;
+    out.write(b" teams ")?;
+    out.write_number(schedule.rounds() as u64)?;
+    out.write(b" rounds\n")
+}
+
+fn write_teams<W: Sink>(
+    out: &mut BufferedSink<'_, W>,
+    schedule: &Schedule,
+    league: &League,
+) -> Result<(), WriteFault>
+    requires { schedule.now.teams ≡ teams league.now }
+    ensures { Writes W.held W.tally out.old out.new result
+        (pieces_below (team_line schedule.now league.now) schedule.now.teams) }
+{
+    for team in 0..schedule.teams() {
+        write_team(out, schedule, league, team)?;
+    }
+    Ok(())
+}
+
+fn write_team<W: Sink>(
+    out: &mut BufferedSink<'_, W>,
+    schedule: &Schedule,
+    league: &League,
+    team: u8,
+) -> Result<(), WriteFault>
+    requires same { schedule.now.teams ≡ teams league.now }
+    requires team { team < schedule.now.teams }
+    ensures { Writes W.held W.tally out.old out.new result
+        (team_line schedule.now league.now team) }
+{
+    out.write(b"team ")?;
+    out.write_number(team as u64 + 1)?;
+    out.write(b" ")?;
+    write_pattern(out, schedule, team)?;
+    out.write(b" ")?;
+    out.write(league.name(team).as_bytes())?;
+    out.write(b"\n")
+}
+
+fn write_pattern<W: Sink>(
+    out: &mut BufferedSink<'_, W>,
+    schedule: &Schedule,
+    team: u8,
+) -> Result<(), WriteFault>
+    requires { team < schedule.now.teams }
+    ensures { Writes W.held W.tally out.old out.new result (pattern_of schedule.now team) }
+{
+    for round in 0..schedule.rounds() {
+        let game = schedule.game_at(team, round);
+        out.write(&[place_letter(game.home)])?;
+    }
+    Ok(())
+}
+
+fn place_letter(home: bool) -> u8
+    ensures { result ≡ place_letter home }
+{
+    if home { b'H' } else { b'A' }
+}
+
+fn write_rounds<W: Sink>(
+    out: &mut BufferedSink<'_, W>,
+    schedule: &Schedule,
+) -> Result<(), WriteFault>
+    ensures { Writes W.held W.tally out.old out.new result
+        (pieces_below (round_line schedule.now) (round_count schedule.now.teams)) }
+{
+    for round in 0..schedule.rounds() {
+        write_round(out, schedule, round)?;
+    }
+    Ok(())
+}
+
+fn write_round<W: Sink>(
+    out: &mut BufferedSink<'_, W>,
+    schedule: &Schedule,
+    round: u8,
+) -> Result<(), WriteFault>
+    requires { round < round_count schedule.now.teams }
+    ensures { Writes W.held W.tally out.old out.new result (round_line schedule.now round) }
+{
+    out.write(b"round ")?;
+    out.write_number(round as u64 + 1)?;
+    out.write(b":")?;
+    write_games(out, schedule, round)?;
+    out.write(b"\n")
+}
+
+fn write_games<W: Sink>(
+    out: &mut BufferedSink<'_, W>,
+    schedule: &Schedule,
+    round: u8,
+) -> Result<(), WriteFault>
+    requires { round < round_count schedule.now.teams }
+    ensures { Writes W.held W.tally out.old out.new result
+        (pieces_below (game_of schedule.now round) schedule.now.teams) }
+{
+    for team in 0..schedule.teams() {
+        write_game(out, schedule, round, team)?;
+    }
+    Ok(())
+}
+
+/// Writes the team's game in the round, if the team is at home there.
+fn write_game<W: Sink>(
+    out: &mut BufferedSink<'_, W>,
+    schedule: &Schedule,
+    round: u8,
+    team: u8,
+) -> Result<(), WriteFault>
+    requires team { team < schedule.now.teams }
+    requires round { round < round_count schedule.now.teams }
+    ensures { Writes W.held W.tally out.old out.new result (game_of schedule.now round team) }
+{
+    let game = schedule.game_at(team, round);
+    if game.home {
+        write_pairing(out, team, game.opponent)
+    } else {
+        Ok(())
+    }
+}
+
+fn write_pairing<W: Sink>(
+    out: &mut BufferedSink<'_, W>,
+    home: u8,
+    away: u8,
+) -> Result<(), WriteFault>
+    ensures { Writes W.held W.tally out.old out.new result (pairing_of home away) }
+{
+    out.write(b" ")?;
+    out.write_number(home as u64 + 1)?;
+    out.write(b"-")?;
+    out.write_number(away as u64 + 1)
+}
