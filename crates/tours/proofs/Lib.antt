@@ -1,5 +1,15 @@
 pub mod Stops
 pub mod Stretches
+pub mod Turned
+pub mod Opponents
 pub mod HigherTeams
+pub mod Members
+pub mod SamePairs
 pub mod RunWindows
+pub mod Balances
+pub mod TravelBalance
+pub mod RunsBalance
+pub mod RepeatsBalance
+pub mod AroundBalance
+pub mod ForCallers
 mod Worked

@@ -1,3 +1,4 @@
 pub mod Tours
 pub mod Runs
 pub mod Repeats
+pub mod Parts

@@ -4,12 +4,14 @@
 //! Each call counts over the whole schedule and takes no memory. Teams and rounds are numbered from 0.
 #![tactic(auto)]
 
+mod laws;
 mod legs;
 mod meetings;
 mod runs;
 #[cfg(test)]
 mod tests;
 
+pub use laws::{changes_around_balance, changes_balance, parts_balance, same_pairs_repeat_alike};
 pub use legs::{travel, travel_of};
 pub use meetings::repeats;
 pub use runs::runs_over;

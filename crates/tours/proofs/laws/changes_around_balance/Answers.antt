@@ -1,0 +1,11 @@
+use Rattle.tours.proofs.ForCallers.{travel_balance_around, runs_balance_around, repeats_balance_around}
+use Rattle.tours.proofs.laws.changes_around_balance.Goals as goal
+
+pub returns-clause-travel : goal.returns-clause-travel
+returns-clause-travel c = travel_balance_around
+
+pub returns-clause-runs : goal.returns-clause-runs
+returns-clause-runs c = runs_balance_around
+
+pub returns-clause-repeats : goal.returns-clause-repeats
+returns-clause-repeats c = repeats_balance_around

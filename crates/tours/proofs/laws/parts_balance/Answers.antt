@@ -1,0 +1,11 @@
+use Rattle.tours.proofs.ForCallers.{travel_balance, runs_balance, repeats_balance}
+use Rattle.tours.proofs.laws.parts_balance.Goals as goal
+
+pub returns-clause-travel : goal.returns-clause-travel
+returns-clause-travel c = travel_balance
+
+pub returns-clause-runs : goal.returns-clause-runs
+returns-clause-runs c = runs_balance
+
+pub returns-clause-repeats : goal.returns-clause-repeats
+returns-clause-repeats c = repeats_balance
