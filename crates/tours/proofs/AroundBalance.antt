@@ -65,7 +65,7 @@ repeats_balance g g' teams rounds d =
     meetings = record {
       same_size = d.same_size;
       same = λ t u r in_t in_u in_r out.
-        meeting_of_cell g g' t u r (d.same_cells t r in_t in_r (and_right (teams t) (rounds r) out));
+          meeting_of_cell g g' t u r (d.same_cells t r in_t in_r (and_right (teams t) (rounds r) out));
     }
 
 -- changes around some teams
@@ -142,7 +142,7 @@ unfolding travel_at travel_part_of
 travel_at_same l g at at' same =
     sum_below_same g.teams (λ t. travel_part_of l g (at' t) t) (λ t. travel_part_of l g (at t) t)
     (λ t in_t. sum_where_same (leg_count g) (touches_leg g (at' t)) (touches_leg g (at t)) (leg l g t) (leg l g t)
-        (λ r in_r. touches_leg_of g (at t) (at' t) r in_r (λ k. same t k in_t)) (λ r in_r touched. refl))
+    (λ r in_r. touches_leg_of g (at t) (at' t) r in_r (λ k. same t k in_t)) (λ r in_r touched. refl))
 
 pub travel_balance_around : (l : LeagueData) (g g' : Games) (teams rounds : ℕ → Bool) → DiffersOnlyAround g g' teams rounds →
     travel l g' + travel_around l g teams rounds ≡ travel l g + travel_around l g' teams rounds

@@ -10,7 +10,7 @@ use Rattle.tours.specs.Parts.{repeats_with_after}
 use Rattle.tours.proofs.Balances.{one}
 use Rattle.tours.proofs.Turned.{IsTurn, IsPairing, sum_below_turned}
 use Rattle.tours.proofs.Opponents.{opponent_in, IsPairing-opponents}
-use Rattle.tours.proofs.HigherTeams.{is_repeat_with, repeats_with_after_higher}
+use Rattle.tours.proofs.HigherTeams.{repeats_with_after_higher}
 
 -- 1 where a team meets the same team in a round and in the next, and that isn't a higher team of the set
 abbrev pub repeat_at : Games → (ℕ → Bool) → ℕ → ℕ → ℕ

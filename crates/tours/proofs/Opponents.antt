@@ -5,7 +5,7 @@ use Rattle.fixtures.specs.Games.{Games, round_count, cell, IsCell, IsDoubleRound
 use Rattle.fixtures.proofs.Pairs.{IsPair-swapped}
 use Rattle.fixtures.proofs.Cells.{cell-is}
 use Rattle.fixtures.proofs.CellsAgree.{IsCell-cell}
-use Rattle.tours.proofs.Turned.{IsTurn, IsPairing}
+use Rattle.tours.proofs.Turned.{IsPairing}
 
 abbrev pub opponent_in : Games → ℕ → ℕ → ℕ
 opponent_in g r t = (cell g t r).opponent

@@ -2,7 +2,6 @@
 use Rattle.std.proofs.Common.{◌≡◌, ℕ, ◌+◌, ◌-◌, ◌<◌, Bool, true, false, ◌&&◌, ◌||◌, refl, ap, arith}
 use Rattle.std.specs.Prelude.{if◌then◌else◌}
 use Rattle.std.proofs.lemmas.Bool.{or_parts, and_left, and_right, or_from}
-use Rattle.league.specs.Sums.{sum_of_pairs}
 use Rattle.fixtures.specs.Games.{Games, round_count, meets}
 use Rattle.fixtures.specs.Changes.{MeetingsDifferOnlyIn}
 use Rattle.tours.specs.Repeats.{repeats_after, repeats}
@@ -33,9 +32,9 @@ after_balance g g' teams rounds d r in_r =
     (λ low high. one ((teams low || teams high) && meet_twice g' r low high)) (λ low high. one ((teams low || teams high) && meet_twice g r low high))
     d.same_size
     (λ low high in_low in_high. count_balance (teams low || teams high) (meet_twice g' r low high) (meet_twice g r low high)
-        (λ out. meet_twice_same g g' teams rounds d r low high in_r in_low in_high
-            (and_left (teams high || teams low) (rounds r) (other_way (teams low) (teams high) out))
-            (and_left (teams high || teams low) (rounds (r + 1)) (other_way (teams low) (teams high) out))))
+    (λ out. meet_twice_same g g' teams rounds d r low high in_r in_low in_high
+    (and_left (teams high || teams low) (rounds r) (other_way (teams low) (teams high) out))
+    (and_left (teams high || teams low) (rounds (r + 1)) (other_way (teams low) (teams high) out))))
 
 -- the next of rounds that aren't touched
 after_same : (g g' : Games) (teams rounds : ℕ → Bool) → MeetingsDifferOnlyIn g g' teams rounds → (r : ℕ) → r + 1 < round_count g.teams →
@@ -45,7 +44,7 @@ after_same g g' teams rounds d r in_r out =
     let parts = or_parts (rounds r) (rounds (r + 1)) out in
     pairs_same g.teams g'.teams (λ low high. one (meet_twice g' r low high)) (λ low high. one (meet_twice g r low high)) d.same_size
     (λ low high in_low in_high. ap one (meet_twice_same g g' teams rounds d r low high in_r in_low in_high
-        (and_right (teams high || teams low) (rounds r) parts.0) (and_right (teams high || teams low) (rounds (r + 1)) parts.1)))
+    (and_right (teams high || teams low) (rounds r) parts.0) (and_right (teams high || teams low) (rounds (r + 1)) parts.1)))
 
 pub repeats_balance_with : (g g' : Games) (teams rounds : ℕ → Bool) → MeetingsDifferOnlyIn g g' teams rounds →
     repeats g' + repeats_with g teams rounds ≡ repeats g + repeats_with g' teams rounds
@@ -55,8 +54,8 @@ repeats_balance_with g g' teams rounds d =
     (λ r. if rounds r || rounds (r + 1) then repeats_with_after g' teams r else 0) (λ r. if rounds r || rounds (r + 1) then repeats_with_after g teams r else 0)
     (ap (λ n. round_count n - 1) d.same_size)
     (λ r in_r. where_balance (rounds r || rounds (r + 1)) (rounds r || rounds (r + 1)) (repeats_after g' r) (repeats_after g r)
-        (repeats_with_after g' teams r) (repeats_with_after g teams r) refl
-        (λ inside. after_balance g g' teams rounds d r (omega arith)) (after_same g g' teams rounds d r (omega arith)))
+    (repeats_with_after g' teams r) (repeats_with_after g teams r) refl
+    (λ inside. after_balance g g' teams rounds d r (omega arith)) (after_same g g' teams rounds d r (omega arith)))
 
 -- all teams
 pub repeats_with_all : (g : Games) (rounds : ℕ → Bool) → repeats_with g (λ _. true) rounds ≡ repeats_part g rounds

@@ -1,7 +1,6 @@
 -- Runs change by as many as touch a round where a team changes sides.
 use Rattle.std.proofs.Common.{◌≡◌, ℕ, ◌+◌, ◌-◌, ◌<◌, ◌≤◌, Bool, true, false, not, ◌&&◌, refl, ap, arith}
 use Rattle.std.specs.Prelude.{if◌then◌else◌}
-use Rattle.league.specs.Sums.{any_below}
 use Rattle.league.proofs.Sums.{all_below_same, any_below_fails, any_below_from_none, count_where_none, sum_below_same}
 use Rattle.fixtures.specs.Games.{Games, round_count, is_home}
 use Rattle.fixtures.specs.Changes.{DiffersOnlyAt, box}
@@ -17,8 +16,10 @@ is_run_same : (g g' : Games) (set : ℕ → Bool) (t first rounds : ℕ) → Sid
     touches_window set first rounds ≡ false → is_run g' t first rounds ≡ is_run g t first rounds
 unfolding touches_window is_run
 is_run_same g g' set t first rounds stay fits out =
-    rw (all_below_same rounds (λ k. is_home g' t (first + k)) (λ k. is_home g t (first + k)) same,
-    all_below_same rounds (λ k. not (is_home g' t (first + k))) (λ k. not (is_home g t (first + k))) (λ k below. ap not (same k below)))
+    rw (
+      all_below_same rounds (λ k. is_home g' t (first + k)) (λ k. is_home g t (first + k)) same,
+      all_below_same rounds (λ k. not (is_home g' t (first + k))) (λ k. not (is_home g t (first + k))) (λ k below. ap not (same k below)),
+    )
     refl
   where
     same : (k : ℕ) → k < rounds → is_home g' t (first + k) ≡ is_home g t (first + k)
@@ -32,7 +33,7 @@ runs_of_balance g g' most rounds t size stay =
     (λ f. one (touches_window rounds f (most + 1) && is_run g' t f (most + 1))) (λ f. one (touches_window rounds f (most + 1) && is_run g t f (most + 1)))
     (ap (λ n. round_count n + 1 - (most + 1)) size)
     (λ f below. count_balance (touches_window rounds f (most + 1)) (is_run g' t f (most + 1)) (is_run g t f (most + 1))
-        (is_run_same g g' rounds t f (most + 1) stay (omega arith)))
+    (is_run_same g g' rounds t f (most + 1) stay (omega arith)))
 
 pub runs_balance_at : (g g' : Games) (most : ℕ) (at : ℕ → ℕ → Bool) → DiffersOnlyAt is_home g g' at →
     runs_over g' most + runs_at g most at ≡ runs_over g most + runs_at g' most at

@@ -1,6 +1,6 @@
 -- The same pairs meet, under two other names: as many meet twice in a row.
 use Rattle.std.proofs.Common.{◌≡◌, ◌≢◌, ℕ, ◌+◌, ◌-◌, ◌<◌, Bool, true, ◌&&◌, inl, inr, refl, sym, ◌∙◌, ap, subst, arith}
-use Rattle.std.specs.Prelude.{◌==◌, nat_lt, if◌then◌else◌}
+use Rattle.std.specs.Prelude.{◌==◌, nat_lt}
 use Rattle.std.proofs.lemmas.Bool.{cases_eq, eq-eqb, ne_eqb}
 use Rattle.std.proofs.lemmas.Bool.Decides.{nat_tests}
 use Rattle.league.specs.Sums.{sum_below, count_where}
@@ -44,11 +44,11 @@ renamed_turn : (n i j : ℕ) (a a' : ℕ → ℕ) → IsRenamed n i j a a' → I
 renamed_turn n i j a a' renamed turn = record {
   in_range = in_range;
   back = λ t in_t.
-    renamed.same (a' t) (in_range t in_t) ∙
-    ap (λ x. exchanged i j (a (exchanged i j x))) (renamed.same t in_t) ∙
-    ap (λ x. exchanged i j (a x)) (exchanged-exchanged i j (a (exchanged i j t))) ∙
-    ap (exchanged i j) (turn.back (exchanged i j t) (exchanged_lt n i j t renamed.in_i renamed.in_j in_t)) ∙
-    exchanged-exchanged i j t;
+      renamed.same (a' t) (in_range t in_t) ∙
+      ap (λ x. exchanged i j (a (exchanged i j x))) (renamed.same t in_t) ∙
+      ap (λ x. exchanged i j (a x)) (exchanged-exchanged i j (a (exchanged i j t))) ∙
+      ap (exchanged i j) (turn.back (exchanged i j t) (exchanged_lt n i j t renamed.in_i renamed.in_j in_t)) ∙
+      exchanged-exchanged i j t;
 }
   where
     in_range : (t : ℕ) → t < n → a' t < n
@@ -64,8 +64,8 @@ renamed_pairing : (n i j : ℕ) (a a' : ℕ → ℕ) → IsRenamed n i j a a' �
 renamed_pairing n i j a a' renamed pairing = record {
   turn = renamed_turn n i j a a' renamed pairing.turn;
   apart = λ t in_t is.
-    pairing.apart (exchanged i j t) (exchanged_lt n i j t renamed.in_i renamed.in_j in_t)
-    (sym (exchanged-exchanged i j (a (exchanged i j t))) ∙ ap (exchanged i j) (sym (renamed.same t in_t) ∙ is));
+      pairing.apart (exchanged i j t) (exchanged_lt n i j t renamed.in_i renamed.in_j in_t)
+      (sym (exchanged-exchanged i j (a (exchanged i j t))) ∙ ap (exchanged i j) (sym (renamed.same t in_t) ∙ is));
 }
 
 same_exchanged : (i j x y : ℕ) → (exchanged i j x == exchanged i j y) ≡ (x == y)

@@ -5,7 +5,6 @@ use Rattle.std.proofs.lemmas.Bool.{cases_lt, cases_eq}
 use Rattle.std.proofs.lemmas.Bool.Decides.{nat_tests}
 use Rattle.std.proofs.Math.Nat.{add_comm}
 use Rattle.league.specs.League.{LeagueData, distance}
-use Rattle.league.specs.Sums.{sum_where}
 use Rattle.league.proofs.Sums.{sum_where_none, sum_below_same}
 use Rattle.fixtures.specs.Games.{Games, round_count, place}
 use Rattle.fixtures.specs.Changes.{DiffersOnlyAt, box}
@@ -69,7 +68,7 @@ travel_of_balance l g g' rounds t size stay =
     (λ r. if touches_leg g' rounds r then leg l g' t r else 0) (λ r. if touches_leg g rounds r then leg l g t r else 0)
     (ap (λ n. round_count n + 1) size)
     (λ r in_r. where_balance (touches_leg g rounds r) (touches_leg g' rounds r) (leg l g' t r) (leg l g t r) (leg l g' t r) (leg l g t r)
-        (touches_leg_same g g' rounds r size) (λ inside. add_comm (leg l g' t r) (leg l g t r)) (leg_same l g g' rounds t r size stay in_r))
+    (touches_leg_same g g' rounds r size) (λ inside. add_comm (leg l g' t r) (leg l g t r)) (leg_same l g g' rounds t r size stay in_r))
 
 pub travel_balance_at : (l : LeagueData) (g g' : Games) (at : ℕ → ℕ → Bool) → DiffersOnlyAt place g g' at →
     travel l g' + travel_at l g at ≡ travel l g + travel_at l g' at

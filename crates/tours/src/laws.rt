@@ -13,55 +13,35 @@ ghost use Rattle.tours.specs.Parts.{travel_at, travel_part, travel_around, runs_
 
 /// Places and sides that change in rounds of which each team has a set of its own, and meetings that change.
 pub fn changes_balance()
-    ensures travel {
-        (l : LeagueData) (g g' : Games) (at : ℕ → ℕ → Bool) → DiffersOnlyAt place g g' at →
-        travel l g' + travel_at l g at ≡ travel l g + travel_at l g' at
-    }
-    ensures runs {
-        (g g' : Games) (most : ℕ) (at : ℕ → ℕ → Bool) → DiffersOnlyAt is_home g g' at →
-        runs_over g' most + runs_at g most at ≡ runs_over g most + runs_at g' most at
-    }
-    ensures repeats {
-        (g g' : Games) (teams rounds : ℕ → Bool) → MeetingsDifferOnlyIn g g' teams rounds →
-        repeats g' + repeats_with g teams rounds ≡ repeats g + repeats_with g' teams rounds
-    }
+    ensures travel { (l : LeagueData) (g g' : Games) (at : ℕ → ℕ → Bool) → DiffersOnlyAt place g g' at →
+        travel l g' + travel_at l g at ≡ travel l g + travel_at l g' at }
+    ensures runs { (g g' : Games) (most : ℕ) (at : ℕ → ℕ → Bool) → DiffersOnlyAt is_home g g' at →
+        runs_over g' most + runs_at g most at ≡ runs_over g most + runs_at g' most at }
+    ensures repeats { (g g' : Games) (teams rounds : ℕ → Bool) → MeetingsDifferOnlyIn g g' teams rounds →
+        repeats g' + repeats_with g teams rounds ≡ repeats g + repeats_with g' teams rounds }
 {}
 
 /// Cells of touched teams in touched rounds that change.
 pub fn parts_balance()
-    ensures travel {
-        (l : LeagueData) (g g' : Games) (teams rounds : ℕ → Bool) → DiffersOnlyIn g g' teams rounds →
-        travel l g' + travel_part l g teams rounds ≡ travel l g + travel_part l g' teams rounds
-    }
-    ensures runs {
-        (g g' : Games) (most : ℕ) (teams rounds : ℕ → Bool) → DiffersOnlyIn g g' teams rounds →
-        runs_over g' most + runs_part g most teams rounds ≡ runs_over g most + runs_part g' most teams rounds
-    }
-    ensures repeats {
-        (g g' : Games) (teams rounds : ℕ → Bool) → DiffersOnlyIn g g' teams rounds →
-        repeats g' + repeats_part g rounds ≡ repeats g + repeats_part g' rounds
-    }
+    ensures travel { (l : LeagueData) (g g' : Games) (teams rounds : ℕ → Bool) → DiffersOnlyIn g g' teams rounds →
+        travel l g' + travel_part l g teams rounds ≡ travel l g + travel_part l g' teams rounds }
+    ensures runs { (g g' : Games) (most : ℕ) (teams rounds : ℕ → Bool) → DiffersOnlyIn g g' teams rounds →
+        runs_over g' most + runs_part g most teams rounds ≡ runs_over g most + runs_part g' most teams rounds }
+    ensures repeats { (g g' : Games) (teams rounds : ℕ → Bool) → DiffersOnlyIn g g' teams rounds →
+        repeats g' + repeats_part g rounds ≡ repeats g + repeats_part g' rounds }
 {}
 
 /// A change around some teams, of which the others notice at most that they meet another of these teams.
 pub fn changes_around_balance()
-    ensures travel {
-        (l : LeagueData) (g g' : Games) (teams rounds : ℕ → Bool) → DiffersOnlyAround g g' teams rounds →
-        travel l g' + travel_around l g teams rounds ≡ travel l g + travel_around l g' teams rounds
-    }
-    ensures runs {
-        (g g' : Games) (most : ℕ) (teams rounds : ℕ → Bool) → DiffersOnlyAround g g' teams rounds →
-        runs_over g' most + runs_part g most teams rounds ≡ runs_over g most + runs_part g' most teams rounds
-    }
-    ensures repeats {
-        (g g' : Games) (teams rounds : ℕ → Bool) → DiffersOnlyAround g g' teams rounds →
-        repeats g' + repeats_with g teams rounds ≡ repeats g + repeats_with g' teams rounds
-    }
+    ensures travel { (l : LeagueData) (g g' : Games) (teams rounds : ℕ → Bool) → DiffersOnlyAround g g' teams rounds →
+        travel l g' + travel_around l g teams rounds ≡ travel l g + travel_around l g' teams rounds }
+    ensures runs { (g g' : Games) (most : ℕ) (teams rounds : ℕ → Bool) → DiffersOnlyAround g g' teams rounds →
+        runs_over g' most + runs_part g most teams rounds ≡ runs_over g most + runs_part g' most teams rounds }
+    ensures repeats { (g g' : Games) (teams rounds : ℕ → Bool) → DiffersOnlyAround g g' teams rounds →
+        repeats g' + repeats_with g teams rounds ≡ repeats g + repeats_with g' teams rounds }
 {}
 
 /// Where the same pairs meet, two teams under each other's names, as many meet twice in a row.
 pub fn same_pairs_repeat_alike()
-    ensures {
-        (g g' : Games) (i j : ℕ) → IsDoubleRoundRobin g → MeetingsExchanged g g' i j → repeats g' ≡ repeats g
-    }
+    ensures { (g g' : Games) (i j : ℕ) → IsDoubleRoundRobin g → MeetingsExchanged g g' i j → repeats g' ≡ repeats g }
 {}
