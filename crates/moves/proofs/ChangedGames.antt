@@ -6,13 +6,7 @@ use Rattle.std.proofs.lemmas.Bool.{cond-true, cond-false, and_parts, and_cases, 
 use Rattle.fixtures.specs.Games.{Games, round_of, round_count, IsPair, IsDoubleRoundRobin}
 use Rattle.fixtures.specs.Closed.{member, moved_teams_of, moved_rounds_of}
 use Rattle.fixtures.specs.Edits.{exchanged, homes_exchanged, rounds_exchanged, teams_exchanged}
-use Rattle.fixtures.proofs.Pairs.{IsPair-swapped}
-use Rattle.fixtures.proofs.Exchanged.{exchanged-first, exchanged-second, exchanged-other, cases_exchanged}
-use Rattle.fixtures.proofs.Meets.{Meets, same_opponent, are_apart, are_apart-true, theirs_or_neither}
-use Rattle.fixtures.proofs.HomesExchanged.{distinct_rounds}
-use Rattle.fixtures.proofs.RoundsTwice.{round_of-homes_exchanged, round_of-rounds_exchanged}
-use Rattle.fixtures.proofs.TeamsExchanged.{StaysAmong}
-use Rattle.fixtures.proofs.TeamsTwice.{round_of-teams_exchanged}
+use Rattle.fixtures.proofs.ForCallers.{pair_swapped, exchanged_first, exchanged_second, exchanged_other, cases_exchanged, Meets, same_opponent, are_apart, are_apart_true, theirs_or_neither, distinct_rounds, round_of_homes_exchanged, round_of_rounds_exchanged, StaysAmong, round_of_teams_exchanged}
 use Rattle.moves.specs.declared.moves.Move.{Move}
 use Rattle.moves.specs.declared.moves.Move.TheVariants.{Homes, Rounds, Teams, PartRounds, PartTeams}
 use Rattle.moves.specs.Moves.{fault_of, moved}
@@ -35,8 +29,8 @@ pub TellsChange-homes : (g : Games) → IsDoubleRoundRobin g → (i j h a : ℕ)
 TellsChange-homes g rr i j h a p =
     TellsChange-by _ _ _
     (λ e same. distinct_rounds g rr h a p
-    (sym (sym (cond-true _ _ _ e) ∙ sym (round_of-homes_exchanged g i j h a p) ∙ same)))
-    (λ e. round_of-homes_exchanged g i j h a p ∙ cond-false _ _ _ e)
+    (sym (sym (cond-true _ _ _ e) ∙ sym (round_of_homes_exchanged g i j h a p) ∙ same)))
+    (λ e. round_of_homes_exchanged g i j h a p ∙ cond-false _ _ _ e)
 
 -- ---- rounds
 
@@ -45,28 +39,28 @@ exchanged-moves k l r ne one same =
     elim (or_cases (eqb r k) (eqb r l) one) [
       | inl e ↦
           let at_k = eqb-true r k e in
-          ne (sym at_k ∙ sym same ∙ ap (exchanged k l) at_k ∙ exchanged-first k l)
+          ne (sym at_k ∙ sym same ∙ ap (exchanged k l) at_k ∙ exchanged_first k l)
       | inr e ↦
           let at_l = eqb-true r l e in
-          ne (sym (exchanged-second k l) ∙ ap (exchanged k l) (sym at_l) ∙ same ∙ at_l)
+          ne (sym (exchanged_second k l) ∙ ap (exchanged k l) (sym at_l) ∙ same ∙ at_l)
     ]
 
 exchanged-stays : (k l r : ℕ) → (eqb r k || eqb r l) ≡ false → exchanged k l r ≡ r
 exchanged-stays k l r none =
     let parts = or_parts (eqb r k) (eqb r l) none in
-    exchanged-other k l r (eqb-false r k parts.0) (eqb-false r l parts.1)
+    exchanged_other k l r (eqb-false r k parts.0) (eqb-false r l parts.1)
 
 -- for the teams of a set
 pub changed-rounds : (g : Games) (k l : ℕ) (among : ℕ → Bool) → k ≢ l → (h a : ℕ) → IsPair g.teams h a → among h ≡ true →
     (eqb (round_of g h a) k || eqb (round_of g h a) l) ≡ true → round_of (rounds_exchanged g k l among) h a ≢ round_of g h a
 changed-rounds g k l among ne h a p e one same =
     exchanged-moves k l (round_of g h a) ne one
-    (sym (round_of-rounds_exchanged g k l among h a p ∙ cond-true _ _ _ e) ∙ same)
+    (sym (round_of_rounds_exchanged g k l among h a p ∙ cond-true _ _ _ e) ∙ same)
 
 pub kept-other_rounds : (g : Games) (k l : ℕ) (among : ℕ → Bool) → (h a : ℕ) → IsPair g.teams h a →
     (eqb (round_of g h a) k || eqb (round_of g h a) l) ≡ false → round_of (rounds_exchanged g k l among) h a ≡ round_of g h a
 kept-other_rounds g k l among h a p none =
-    round_of-rounds_exchanged g k l among h a p ∙ either (among h) (exchanged-stays k l (round_of g h a) none)
+    round_of_rounds_exchanged g k l among h a p ∙ either (among h) (exchanged-stays k l (round_of g h a) none)
   where
     either : (b : Bool) → exchanged k l (round_of g h a) ≡ round_of g h a →
         cond b (exchanged k l (round_of g h a)) (round_of g h a) ≡ round_of g h a
@@ -75,7 +69,7 @@ kept-other_rounds g k l among h a p none =
 
 pub kept-other_teams : (g : Games) (k l : ℕ) (among : ℕ → Bool) → (h a : ℕ) → IsPair g.teams h a → among h ≡ false →
     round_of (rounds_exchanged g k l among) h a ≡ round_of g h a
-kept-other_teams g k l among h a p out = round_of-rounds_exchanged g k l among h a p ∙ cond-false _ _ _ out
+kept-other_teams g k l among h a p out = round_of_rounds_exchanged g k l among h a p ∙ cond-false _ _ _ out
 
 -- ---- teams
 
@@ -113,11 +107,11 @@ module _ (g : Games) (rr : IsDoubleRoundRobin g) (i j : ℕ) (pair : IsPair g.te
   other_round = round_of g (exchanged i j h) (exchanged i j a)
 
   back : IsPair g.teams a h
-  back = IsPair-swapped g.teams h a p
+  back = pair_swapped g.teams h a p
 
   -- where i and j meet no game has one of them alone
   apart_there : (has_one i j h a ≡ true) → are_apart g i j (round_of g h a) ≡ true
-  apart_there one = are_apart-true g i j _ (λ met. elim (theirs_or_neither g rr i j _ met h a p refl) [
+  apart_there one = are_apart_true g i j _ (λ met. elim (theirs_or_neither g rr i j _ met h a p refl) [
     | inl e ↦ never (is_one_of-first i j h e.0) (is_one_of-second i j a e.1)
     | inr (inl e) ↦ never (is_one_of-second i j h e.0) (is_one_of-first i j a e.1)
     | inr (inr ne) ↦
@@ -145,10 +139,10 @@ module _ (g : Games) (rr : IsDoubleRoundRobin g) (i j : ℕ) (pair : IsPair g.te
   has_one-by b d e f = ap₂ (λ x y. not (beq x y)) e f
 
   first : (x : ℕ) → x ≡ i → exchanged i j x ≡ j
-  first x e = ap (exchanged i j) e ∙ exchanged-first i j
+  first x e = ap (exchanged i j) e ∙ exchanged_first i j
 
   second : (x : ℕ) → x ≡ j → exchanged i j x ≡ i
-  second x e = ap (exchanged i j) e ∙ exchanged-second i j
+  second x e = ap (exchanged i j) e ∙ exchanged_second i j
 
   -- a game with one of them
   with_one : has_one i j h a ≡ true → (x y : ℕ) → exchanged i j h ≡ x → exchanged i j a ≡ y →
@@ -189,25 +183,25 @@ module _ (g : Games) (rr : IsDoubleRoundRobin g) (i j : ℕ) (pair : IsPair g.te
           inr (unmoved (has_one-by true true (is_one_of-first i j h hi) (is_one_of-second i j a aj)) (inl (inl (ap₂ (round_of g) hi aj))))
       by_teams (inl hi) (inr (inr ne)) =
           inl (with_one (has_one-by true false (is_one_of-first i j h hi) (is_one_of-neither i j a ne)) j a (first h hi)
-          (exchanged-other i j a ne.0 ne.1) (home_moves i j pair.distinct (sym hi) pair.away_in (λ e. ne.1 (sym e))))
+          (exchanged_other i j a ne.0 ne.1) (home_moves i j pair.distinct (sym hi) pair.away_in (λ e. ne.1 (sym e))))
       by_teams (inr (inl hj)) (inl ai) =
           inr (unmoved (has_one-by true true (is_one_of-second i j h hj) (is_one_of-first i j a ai)) (inl (inr (ap₂ (round_of g) hj ai))))
       by_teams (inr (inl hj)) (inr (inl aj)) = absurd (p.distinct (hj ∙ sym aj))
       by_teams (inr (inl hj)) (inr (inr ne)) =
           inl (with_one (has_one-by true false (is_one_of-second i j h hj) (is_one_of-neither i j a ne)) i a (second h hj)
-          (exchanged-other i j a ne.0 ne.1)
+          (exchanged_other i j a ne.0 ne.1)
           (home_moves j i (λ e. pair.distinct (sym e)) (sym hj) pair.home_in (λ e. ne.0 (sym e))))
       by_teams (inr (inr ne)) (inl ai) =
           inl (with_one (has_one-by false true (is_one_of-neither i j h ne) (is_one_of-first i j a ai)) h j
-          (exchanged-other i j h ne.0 ne.1) (first a ai)
+          (exchanged_other i j h ne.0 ne.1) (first a ai)
           (away_moves i j pair.distinct (sym ai) pair.away_in (λ e. ne.1 (sym e))))
       by_teams (inr (inr ne)) (inr (inl aj)) =
           inl (with_one (has_one-by false true (is_one_of-neither i j h ne) (is_one_of-second i j a aj)) h i
-          (exchanged-other i j h ne.0 ne.1) (second a aj)
+          (exchanged_other i j h ne.0 ne.1) (second a aj)
           (away_moves j i (λ e. pair.distinct (sym e)) (sym aj) pair.home_in (λ e. ne.0 (sym e))))
       by_teams (inr (inr ne)) (inr (inr ne')) =
           inr (unmoved (has_one-by false false (is_one_of-neither i j h ne) (is_one_of-neither i j a ne'))
-          (inr (ap₂ (round_of g) (exchanged-other i j h ne.0 ne.1) (exchanged-other i j a ne'.0 ne'.1))))
+          (inr (ap₂ (round_of g) (exchanged_other i j h ne.0 ne.1) (exchanged_other i j a ne'.0 ne'.1))))
 
   -- with i and j exchanged in a set of rounds in which they don't meet
   pub TellsChange-teams : (among : ℕ → Bool) → StaysAmong g.teams i j among (round_of g) → among (round_of g i j) ≡ false →
@@ -227,7 +221,7 @@ module _ (g : Games) (rr : IsDoubleRoundRobin g) (i j : ℕ) (pair : IsPair g.te
       ]
     where
       after : round_of (teams_exchanged g i j among) h a ≡ cond (among (round_of g h a)) other_round (round_of g h a)
-      after = round_of-teams_exchanged g i j among pair.home_in pair.away_in stays h a p
+      after = round_of_teams_exchanged g i j among pair.home_in pair.away_in stays h a p
 
 -- ---- of each move
 

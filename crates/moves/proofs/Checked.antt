@@ -2,8 +2,7 @@
 use Rattle.std.proofs.Common.{◌≡◌, ℕ, ◌<◌, Bool, true, false, not, ◌&&◌, ◌||◌, eqb, ltb, refl, sym, ◌∙◌, ap, ap₂, subst, Result, Ok, Err, if◌then◌else◌}
 use Rattle.std.proofs.lemmas.Bool.{and_parts, or_parts, or_from, eqb-false, ne_eqb, ltb-true, not_from_false}
 use Rattle.fixtures.specs.Games.{Games, round_of, round_count, IsPair}
-use Rattle.fixtures.proofs.Pairs.{IsPair-from_tests}
-use Rattle.fixtures.proofs.Meets.{are_apart}
+use Rattle.fixtures.proofs.ForCallers.{pair_from_tests, are_apart}
 use Rattle.moves.specs.declared.moves.Move.{Move}
 use Rattle.moves.specs.declared.moves.Move.TheVariants.{Homes, Rounds, Teams, PartRounds, PartTeams}
 use Rattle.moves.specs.declared.fault.MoveFault.{MoveFault}
@@ -20,21 +19,21 @@ parts true false e = (refl, refl)
 parts false met e = absurd (cc)
 
 pub homes-checked : (g : Games) (i j : ℕ) → fault_of g (Homes i j) ≡ Ok tt → IsPair g.teams i j
-homes-checked g i j e = IsPair-from_tests g.teams i j (parts (is_in_range g (Homes i j)) (meets g (Homes i j)) e).0
+homes-checked g i j e = pair_from_tests g.teams i j (parts (is_in_range g (Homes i j)) (meets g (Homes i j)) e).0
 
 pub rounds-checked : (g : Games) (k l : ℕ) → fault_of g (Rounds k l) ≡ Ok tt → IsPair (round_count g.teams) k l
 rounds-checked g k l e =
-    IsPair-from_tests (round_count g.teams) k l (parts (is_in_range g (Rounds k l)) (meets g (Rounds k l)) e).0
+    pair_from_tests (round_count g.teams) k l (parts (is_in_range g (Rounds k l)) (meets g (Rounds k l)) e).0
 
 pub teams-checked : (g : Games) (i j : ℕ) → fault_of g (Teams i j) ≡ Ok tt → IsPair g.teams i j
-teams-checked g i j e = IsPair-from_tests g.teams i j (parts (is_in_range g (Teams i j)) (meets g (Teams i j)) e).0
+teams-checked g i j e = pair_from_tests g.teams i j (parts (is_in_range g (Teams i j)) (meets g (Teams i j)) e).0
 
 pub part_rounds-checked : (g : Games) (i k l : ℕ) → fault_of g (PartRounds i k l) ≡ Ok tt →
     (i < g.teams) × IsPair (round_count g.teams) k l
 part_rounds-checked g i k l e =
     let tests = and_parts (ltb i g.teams) (are_distinct_below (round_count g.teams) k l)
     (parts (is_in_range g (PartRounds i k l)) (meets g (PartRounds i k l)) e).0 in
-    (ltb-true i g.teams tests.0, IsPair-from_tests (round_count g.teams) k l tests.1)
+    (ltb-true i g.teams tests.0, pair_from_tests (round_count g.teams) k l tests.1)
 
 pub record IsPartTeams (g : Games) (i j k : ℕ) : Type 0 where
   pub pair : IsPair g.teams i j
@@ -47,7 +46,7 @@ part_teams-checked g i j k e =
     let tests = and_parts (are_distinct_below g.teams i j) (ltb k (round_count g.teams)) checked.0 in
     let apart = or_parts (eqb (round_of g i j) k) (eqb (round_of g j i) k) checked.1 in
     record {
-      pair = IsPair-from_tests g.teams i j tests.0;
+      pair = pair_from_tests g.teams i j tests.0;
       in_range = ltb-true k (round_count g.teams) tests.1;
       apart = not_from_false _
           (or_from _ _ (ne_eqb k (round_of g i j) (λ f. eqb-false _ _ apart.0 (sym f)))

@@ -3,9 +3,15 @@ pub mod Exchanges
 pub mod WholeMoves
 pub mod PartMoves
 pub mod EachMove
+pub mod Around
+pub mod EachAround
+pub mod KeptMeetings
+pub mod DiffersThere
 pub mod Added
 pub mod TeamChain
 pub mod RoundChain
 pub mod Gathered
+pub mod Sifted
 pub mod ChangedGames
+pub mod ForCallers
 mod Worked

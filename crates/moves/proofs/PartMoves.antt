@@ -5,18 +5,7 @@ use Rattle.fixtures.specs.Games.{Games, round_of, round_count, IsPair, IsDoubleR
 use Rattle.fixtures.specs.Edits.{rounds_exchanged, teams_exchanged}
 use Rattle.fixtures.specs.Closed.{IsLeastClosed, plays_in, shares_opponent, member, moved_teams_of, moved_rounds_of}
 use Rattle.fixtures.specs.Changes.{DiffersOnlyIn}
-use Rattle.fixtures.proofs.Pairs.{IsPair-swapped}
-use Rattle.fixtures.proofs.PassesBelow.{and-agree, or-agree}
-use Rattle.fixtures.proofs.Least.{IsLeastClosed-least_closed, IsClosed-walk}
-use Rattle.fixtures.proofs.PlaysIn.{plays_in-parts}
-use Rattle.fixtures.proofs.RoundsTwice.{rounds_exchanged-twice, moved_teams_of-rounds_exchanged}
-use Rattle.fixtures.proofs.Shares.{StaysAmong-closed}
-use Rattle.fixtures.proofs.TeamsExchanged.{StaysAmong}
-use Rattle.fixtures.proofs.Exchanged.{exchanged-first, exchanged-other}
-use Rattle.fixtures.proofs.TeamsTwice.{stays_same, teams_exchanged-twice, round_of-teams_exchanged, among-teams_exchanged, moved_rounds_of-teams_exchanged}
-use Rattle.fixtures.proofs.Differences.{DiffersOnlyIn-games}
-use Rattle.fixtures.proofs.EditedRoundRobins.{IsDoubleRoundRobin-rounds_exchanged, kept-rounds_exchanged, IsDoubleRoundRobin-teams_exchanged, kept-teams_exchanged}
-use Rattle.fixtures.proofs.Meets.{are_apart, are_apart-first, are_apart-second, are_apart-step, shares-in_range}
+use Rattle.fixtures.proofs.ForCallers.{pair_swapped, least_closed_is_least, closed_walk, plays_in_parts, rounds_exchanged_twice, moved_teams_of_rounds_exchanged, stays_among_closed, StaysAmong, exchanged_first, exchanged_other, stays_same, teams_exchanged_twice, round_of_teams_exchanged, among_teams_exchanged, moved_rounds_of_teams_exchanged, differs_only_in_games, round_robin_rounds_exchanged, kept_rounds_exchanged, round_robin_teams_exchanged, kept_teams_exchanged, are_apart, are_apart_first, are_apart_second, are_apart_step, shares_in_range, and_agree, or_agree}
 use Rattle.moves.specs.declared.moves.Move.TheVariants.{PartRounds, PartTeams}
 use Rattle.moves.specs.Moves.{fault_of, moved, touched_team, touched_round}
 use Rattle.moves.specs.Laws.{IsItsOwnInverse}
@@ -36,28 +25,28 @@ module _ (g : Games) (rr : IsDoubleRoundRobin g) (i k l : ℕ) (in_i : i < g.tea
 
   pub IsLeastClosed-moved_teams : IsLeastClosed (plays_in g k l) i movers
   IsLeastClosed-moved_teams =
-      IsLeastClosed-least_closed (plays_in g k l) g.teams i (λ t u plays. (plays_in-parts g k l t u plays).0.away_in) in_i
+      least_closed_is_least (plays_in g k l) g.teams i (λ t u plays. (plays_in_parts g k l t u plays).0.away_in) in_i
 
   pub ExchangesRounds-part_rounds : ExchangesRounds g (PartRounds i k l) k l (touched_team g (PartRounds i k l))
   ExchangesRounds-part_rounds = record { closed = IsLeastClosed-moved_teams.closed; is = refl }
 
   pub IsDoubleRoundRobin-part_rounds : IsDoubleRoundRobin (moved g (PartRounds i k l))
   IsDoubleRoundRobin-part_rounds =
-      IsDoubleRoundRobin-rounds_exchanged g rr k l p.home_in p.away_in movers IsLeastClosed-moved_teams.closed
+      round_robin_rounds_exchanged g rr k l p.home_in p.away_in movers IsLeastClosed-moved_teams.closed
 
   pub DiffersOnlyIn-part_rounds : DiffersOnlyIn g (moved g (PartRounds i k l)) (touched_team g (PartRounds i k l)) (touched_round g (PartRounds i k l))
   DiffersOnlyIn-part_rounds =
-      DiffersOnlyIn-games g _ movers (touched_round g (PartRounds i k l)) rr IsDoubleRoundRobin-part_rounds refl
-      (kept-rounds_exchanged g k l movers IsLeastClosed-moved_teams.closed)
+      differs_only_in_games g _ movers (touched_round g (PartRounds i k l)) rr IsDoubleRoundRobin-part_rounds refl
+      (kept_rounds_exchanged g k l movers IsLeastClosed-moved_teams.closed)
 
   same_movers : moved_teams_of (moved g (PartRounds i k l)) i k l ≡ moved_teams_of g i k l
-  same_movers = moved_teams_of-rounds_exchanged g k l movers i
+  same_movers = moved_teams_of_rounds_exchanged g k l movers i
 
   pub IsItsOwnInverse-part_rounds : fault_of g (PartRounds i k l) ≡ Ok tt → IsItsOwnInverse g (PartRounds i k l)
   IsItsOwnInverse-part_rounds checked = record {
     can_be_made = checked;
     back = ap (λ (xs : List ℕ). rounds_exchanged (moved g (PartRounds i k l)) k l (member xs)) same_movers ∙
-        rounds_exchanged-twice g k l movers rr.pairs_alone;
+        rounds_exchanged_twice g k l movers rr.pairs_alone;
     least_set = same_movers;
     teams = λ t. ap (λ (xs : List ℕ). member xs t) same_movers;
     rounds = λ r. refl;
@@ -71,20 +60,20 @@ module _ (g : Games) (rr : IsDoubleRoundRobin g) (i j k : ℕ) (known : IsPartTe
 
   pub IsLeastClosed-moved_rounds : IsLeastClosed (shares_opponent g i j) k taken
   IsLeastClosed-moved_rounds =
-      IsLeastClosed-least_closed (shares_opponent g i j) (round_count g.teams) k (shares-in_range g rr i j known.pair) known.in_range
+      least_closed_is_least (shares_opponent g i j) (round_count g.teams) k (shares_in_range g rr i j known.pair) known.in_range
 
   -- in none of the rounds i and j meet
   pub taken-apart : (r : ℕ) → taken r ≡ true → are_apart g i j r ≡ true
   taken-apart r is =
       let way = IsLeastClosed-moved_rounds.reached r is in
-      IsClosed-walk (shares_opponent g i j) (are_apart g i j) (λ x y step _. are_apart-step g rr i j known.pair x y step)
+      closed_walk (shares_opponent g i j) (are_apart g i j) (λ x y step _. are_apart_step g rr i j known.pair x y step)
       k way.0 r way.1 known.apart
 
   pub taken-first : taken (round_of g i j) ≡ false
-  taken-first = false_from_ne_true _ (λ e. false≢true (sym (are_apart-first g i j) ∙ taken-apart _ e))
+  taken-first = false_from_ne_true _ (λ e. false≢true (sym (are_apart_first g i j) ∙ taken-apart _ e))
 
   pub taken-second : taken (round_of g j i) ≡ false
-  taken-second = false_from_ne_true _ (λ e. false≢true (sym (are_apart-second g i j) ∙ taken-apart _ e))
+  taken-second = false_from_ne_true _ (λ e. false≢true (sym (are_apart_second g i j) ∙ taken-apart _ e))
 
   pub ExchangesTeams-part_teams : ExchangesTeams g (PartTeams i j k) i j (touched_round g (PartTeams i j k))
   ExchangesTeams-part_teams = record {
@@ -95,16 +84,16 @@ module _ (g : Games) (rr : IsDoubleRoundRobin g) (i j k : ℕ) (known : IsPartTe
   }
 
   pub stays_taken : StaysAmong g.teams i j taken (round_of g)
-  stays_taken = StaysAmong-closed g i j taken taken-first taken-second IsLeastClosed-moved_rounds.closed
+  stays_taken = stays_among_closed g i j taken taken-first taken-second IsLeastClosed-moved_rounds.closed
 
   pub IsDoubleRoundRobin-part_teams : IsDoubleRoundRobin (moved g (PartTeams i j k))
   IsDoubleRoundRobin-part_teams =
-      IsDoubleRoundRobin-teams_exchanged g rr i j taken known.pair.home_in known.pair.away_in stays_taken
+      round_robin_teams_exchanged g rr i j taken known.pair.home_in known.pair.away_in stays_taken
 
   abbrev touched : ℕ → Bool
   touched = touched_team g (PartTeams i j k)
 
-  touched-first : touched i ≡ true
+  pub touched-first : touched i ≡ true
   touched-first = or_left _ _ (or_left (eqb i i) (eqb i j) (eq-eqb i i refl))
 
   touched-second : touched j ≡ true
@@ -143,26 +132,26 @@ module _ (g : Games) (rr : IsDoubleRoundRobin g) (i j k : ℕ) (known : IsPartTe
 
   pub DiffersOnlyIn-part_teams : DiffersOnlyIn g (moved g (PartTeams i j k)) (touched_team g (PartTeams i j k)) (touched_round g (PartTeams i j k))
   DiffersOnlyIn-part_teams =
-      DiffersOnlyIn-games g _ touched taken rr IsDoubleRoundRobin-part_teams refl
-      (λ h a q. elim (kept-teams_exchanged g i j taken known.pair.home_in known.pair.away_in stays_taken h a q) [
+      differs_only_in_games g _ touched taken rr IsDoubleRoundRobin-part_teams refl
+      (λ h a q. elim (kept_teams_exchanged g i j taken known.pair.home_in known.pair.away_in stays_taken h a q) [
         | inl same ↦ inl same
         | inr changed ↦ let touches = both_touched h a q changed.0 changed.1 in inr (touches.0, touches.1, changed.0)
       ])
 
   same_taken : moved_rounds_of (moved g (PartTeams i j k)) i j k ≡ moved_rounds_of g i j k
-  same_taken = moved_rounds_of-teams_exchanged g i j taken known.pair.home_in known.pair.away_in stays_taken k
+  same_taken = moved_rounds_of_teams_exchanged g i j taken known.pair.home_in known.pair.away_in stays_taken k
 
   back_pair : IsPair g.teams j i
-  back_pair = IsPair-swapped g.teams i j known.pair
+  back_pair = pair_swapped g.teams i j known.pair
 
   own_first : round_of (moved g (PartTeams i j k)) i j ≡ round_of g i j
   own_first =
-      round_of-teams_exchanged g i j taken known.pair.home_in known.pair.away_in stays_taken i j known.pair ∙
+      round_of_teams_exchanged g i j taken known.pair.home_in known.pair.away_in stays_taken i j known.pair ∙
       cond-false _ _ _ taken-first
 
   own_second : round_of (moved g (PartTeams i j k)) j i ≡ round_of g j i
   own_second =
-      round_of-teams_exchanged g i j taken known.pair.home_in known.pair.away_in stays_taken j i back_pair ∙
+      round_of_teams_exchanged g i j taken known.pair.home_in known.pair.away_in stays_taken j i back_pair ∙
       cond-false _ _ _ taken-second
 
   -- the test of a game's round gives the same
@@ -170,11 +159,11 @@ module _ (g : Games) (rr : IsDoubleRoundRobin g) (i j k : ℕ) (known : IsPartTe
       member (moved_rounds_of (moved g (PartTeams i j k)) i j k) (round_of (moved g (PartTeams i j k)) h a) ≡ taken (round_of g h a)
   same_test h a q =
       ap (λ (xs : List ℕ). member xs (round_of (moved g (PartTeams i j k)) h a)) same_taken ∙
-      among-teams_exchanged g i j taken known.pair.home_in known.pair.away_in stays_taken h a q
+      among_teams_exchanged g i j taken known.pair.home_in known.pair.away_in stays_taken h a q
 
   same_touched : (t : ℕ) → touched_team (moved g (PartTeams i j k)) (PartTeams i j k) t ≡ touched_team g (PartTeams i j k) t
   same_touched t =
-      or-agree (eqb t i || eqb t j) _ _ (λ other. and-agree (ltb t g.teams) _ _ (λ below.
+      or_agree (eqb t i || eqb t j) _ _ (λ other. and_agree (ltb t g.teams) _ _ (λ below.
       let apart = or_parts (eqb t i) (eqb t j) other in
       let in_t : t < g.teams = ltb-true t g.teams below in
       let pair_i : IsPair g.teams t i =
@@ -183,15 +172,15 @@ module _ (g : Games) (rr : IsDoubleRoundRobin g) (i j k : ℕ) (known : IsPartTe
       record { home_in = in_t; away_in = known.pair.away_in; distinct = eqb-false t j apart.1 } in
       ap₂ (λ x y. x || y)
       (ap₂ (λ x y. x || y)
-      (ap₂ (λ x y. x || y) (same_test i t (IsPair-swapped g.teams t i pair_i)) (same_test t i pair_i))
-      (same_test j t (IsPair-swapped g.teams t j pair_j)))
+      (ap₂ (λ x y. x || y) (same_test i t (pair_swapped g.teams t i pair_i)) (same_test t i pair_i))
+      (same_test j t (pair_swapped g.teams t j pair_j)))
       (same_test t j pair_j)))
 
   pub IsItsOwnInverse-part_teams : fault_of g (PartTeams i j k) ≡ Ok tt → IsItsOwnInverse g (PartTeams i j k)
   IsItsOwnInverse-part_teams checked = record {
     can_be_made = with_same_meeting g (moved g (PartTeams i j k)) i j k refl own_first own_second checked;
     back = ap (λ (xs : List ℕ). teams_exchanged (moved g (PartTeams i j k)) i j (member xs)) same_taken ∙
-        teams_exchanged-twice g i j taken known.pair.home_in known.pair.away_in stays_taken rr.pairs_alone;
+        teams_exchanged_twice g i j taken known.pair.home_in known.pair.away_in stays_taken rr.pairs_alone;
     least_set = same_taken;
     teams = same_touched;
     rounds = λ r. ap (λ (xs : List ℕ). member xs r) same_taken;
@@ -202,13 +191,13 @@ module _ (g : Games) (rr : IsDoubleRoundRobin g) (i j k : ℕ) (known : IsPartTe
       (taken (round_of g i t) || taken (round_of g t i)) ≡ plays_taken t
   plays_taken-first t below ne_i ne_j =
       let pair : IsPair g.teams i t = record { home_in = known.pair.home_in; away_in = below; distinct = λ e. ne_i (sym e) } in
-      let other = exchanged-other i j t ne_i ne_j in
+      let other = exchanged_other i j t ne_i ne_j in
       let home : taken (round_of g j t) ≡ taken (round_of g i t) =
-      sym (ap taken (ap₂ (round_of g) (exchanged-first i j) other)) ∙
+      sym (ap taken (ap₂ (round_of g) (exchanged_first i j) other)) ∙
       stays_same g i j taken known.pair.home_in known.pair.away_in stays_taken i t pair in
       let away : taken (round_of g t j) ≡ taken (round_of g t i) =
-      sym (ap taken (ap₂ (round_of g) other (exchanged-first i j))) ∙
-      stays_same g i j taken known.pair.home_in known.pair.away_in stays_taken t i (IsPair-swapped g.teams i t pair) in
+      sym (ap taken (ap₂ (round_of g) other (exchanged_first i j))) ∙
+      stays_same g i j taken known.pair.home_in known.pair.away_in stays_taken t i (pair_swapped g.teams i t pair) in
       or_twice (taken (round_of g i t)) (taken (round_of g t i)) ∙
       sym (ap₂ (λ x y. taken (round_of g i t) || taken (round_of g t i) || x || y) home away)
 
@@ -216,7 +205,7 @@ module _ (g : Games) (rr : IsDoubleRoundRobin g) (i j k : ℕ) (known : IsPartTe
       (eqb t i || eqb t j || (ltb t g.teams && (among (round_of g i t) || among (round_of g t i)))) ≡
       touched_team g (PartTeams i j k) t
   touched-part_teams among same t =
-      or-agree (eqb t i || eqb t j) _ _ (λ other. and-agree (ltb t g.teams) _ _ (λ below.
+      or_agree (eqb t i || eqb t j) _ _ (λ other. and_agree (ltb t g.teams) _ _ (λ below.
       let apart = or_parts (eqb t i) (eqb t j) other in
       ap₂ (λ x y. x || y) (same (round_of g i t)) (same (round_of g t i)) ∙
       plays_taken-first t (ltb-true t g.teams below) (eqb-false t i apart.0) (eqb-false t j apart.1)))

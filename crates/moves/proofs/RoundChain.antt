@@ -5,25 +5,21 @@ use Rattle.std.specs.Prelude.{IsTrue}
 use Rattle.std.proofs.lemmas.Bool.{cases_eq, false_from_ne_true}
 use Rattle.fixtures.specs.Games.{Games, IsCell, IsDoubleRoundRobin, round_count, cell, cell_round}
 use Rattle.fixtures.specs.Closed.{IsLeastClosed, shares_opponent}
-use Rattle.fixtures.proofs.CellsAgree.{IsCell-cell}
-use Rattle.fixtures.proofs.Least.{IsReached, IsReached-start, IsReached-step}
-use Rattle.fixtures.proofs.Meets.{Meets, Meets-swapped, Meets-in_range, same_opponent}
-use Rattle.fixtures.proofs.Opponents.{Meets-cell}
-use Rattle.fixtures.proofs.Follows.{Follows, Follows-once, Follows-back, shares_opponent-forward, shares_opponent-cases}
+use Rattle.fixtures.proofs.ForCallers.{is_cell, IsReached, reached_start, reached_step, Meets, meets_swapped, meets_in_range, same_opponent, meets_cell, Follows, follows_once, follows_back, shares_opponent_forward, shares_opponent_cases}
 use Rattle.moves.proofs.Added.{Adds, Adds-new, Adds-old, Adds-cases, only-new}
 
 -- i has a cell in the first round, and j the same in the second
 pub Follows-cell : (g : Games) → IsDoubleRoundRobin g → (i j first second : ℕ) → i < g.teams → j < g.teams →
     first < round_count g.teams → ¬ Meets g i j first → second ≡ cell_round g j (cell g i first) → Follows g i j first second
 Follows-cell g rr i j first second in_i in_j in_range apart is =
-    let of_i : IsCell g i first (cell g i first) = IsCell-cell g rr i first in_i in_range in (
+    let of_i : IsCell g i first (cell g i first) = is_cell g rr i first in_i in_range in (
       cell g i first,
       of_i,
       record {
         pair = record {
           home_in = in_j;
           away_in = of_i.pair.away_in;
-          distinct = λ e. apart (subst (λ t. Meets g i t first) (sym e) (Meets-cell g i first _ of_i));
+          distinct = λ e. apart (subst (λ t. Meets g i t first) (sym e) (meets_cell g i first _ of_i));
         };
         in_round = sym is;
       },
@@ -47,7 +43,7 @@ IsRoundChain-start g i j start none set below apart empty adds = record {
   last_in = Adds-new start none set adds;
   last_below = below;
   last_apart = apart;
-  reached = λ r here. subst (IsReached (shares_opponent g i j) start) (sym (only r here)) (IsReached-start (shares_opponent g i j) start);
+  reached = λ r here. subst (IsReached (shares_opponent g i j) start) (sym (only r here)) (reached_start (shares_opponent g i j) start);
   followed = λ r s here other follows. absurd (other (only r here));
   following = λ r s here other follows. absurd (other (only s here));
 }
@@ -62,16 +58,16 @@ module _ (g : Games) (rr : IsDoubleRoundRobin g) (i j start last next : ℕ) (se
   pub IsLeastClosed-chain : next ≡ start → IsLeastClosed (shares_opponent g i j) start set
   IsLeastClosed-chain back = record {
     has_start = chain.start_in;
-    closed = λ r s shares here. elim (shares_opponent-cases g i j r s in_i in_j shares) [
+    closed = λ r s shares here. elim (shares_opponent_cases g i j r s in_i in_j shares) [
       | inl forward ↦ elim (cases_eq r last) [
         | inl e ↦
-            let is : start ≡ s = Follows-once g rr i j last start s to_start (subst (λ q. Follows g i j q s) e forward) in
+            let is : start ≡ s = follows_once g rr i j last start s to_start (subst (λ q. Follows g i j q s) e forward) in
             subst (λ q. IsTrue (set q)) is chain.start_in
         | inr other ↦ chain.followed r s here other forward
       ]
       | inr backward ↦ elim (cases_eq r start) [
         | inl e ↦
-            let is : last ≡ s = Follows-back g rr i j last s start to_start (subst (λ q. Follows g i j s q) e backward) in
+            let is : last ≡ s = follows_back g rr i j last s start to_start (subst (λ q. Follows g i j s q) e backward) in
             subst (λ q. IsTrue (set q)) is chain.last_in
         | inr other ↦ (chain.following s r here other backward).0
       ]
@@ -94,28 +90,28 @@ module _ (g : Games) (rr : IsDoubleRoundRobin g) (i j start last next : ℕ) (se
   IsRoundChain-next other more adds = record {
     start_in = kept start chain.start_in;
     last_in = Adds-new next set more adds;
-    last_below = Meets-in_range g rr j to_next.0.opponent next (Meets-cell g j next to_next.0 to_next.2);
+    last_below = meets_in_range g rr j to_next.0.opponent next (meets_cell g j next to_next.0 to_next.2);
     last_apart = λ meet. to_next.1.pair.distinct
-        (same_opponent g rr j i to_next.0.opponent next (Meets-swapped g i j next meet)
-        (Meets-cell g j next to_next.0 to_next.2));
+        (same_opponent g rr j i to_next.0.opponent next (meets_swapped g i j next meet)
+        (meets_cell g j next to_next.0 to_next.2));
     reached = λ r here. elim (Adds-cases next set more adds r here) [
       | inl e ↦ subst (IsReached (shares_opponent g i j) start) (sym e)
-          (IsReached-step (shares_opponent g i j) start last next (chain.reached last chain.last_in)
-          (shares_opponent-forward g i j last next to_next))
+          (reached_step (shares_opponent g i j) start last next (chain.reached last chain.last_in)
+          (shares_opponent_forward g i j last next to_next))
       | inr old ↦ chain.reached r old
     ];
     followed = λ r s here not_next follows. elim (Adds-cases next set more adds r here) [
       | inl e ↦ absurd (not_next e)
       | inr old ↦ elim (cases_eq r last) [
         | inl e ↦
-            let is : next ≡ s = Follows-once g rr i j last next s to_next (subst (λ q. Follows g i j q s) e follows) in
+            let is : next ≡ s = follows_once g rr i j last next s to_next (subst (λ q. Follows g i j q s) e follows) in
             subst (λ q. IsTrue (more q)) is (Adds-new next set more adds)
         | inr not_last ↦ kept s (chain.followed r s old not_last follows)
       ]
     ];
     following = λ r s here not_start follows. elim (Adds-cases next set more adds s here) [
       | inl e ↦
-          let is : last ≡ r = Follows-back g rr i j last r next to_next (subst (Follows g i j r) e follows) in
+          let is : last ≡ r = follows_back g rr i j last r next to_next (subst (Follows g i j r) e follows) in
           subst (λ q. IsTrue (more q) × (q ≢ next)) is (kept last chain.last_in, λ e. absurd (out last chain.last_in e))
       | inr old ↦
           let inside = (chain.following r s old not_start follows).0 in

@@ -5,9 +5,7 @@ use Rattle.std.specs.Prelude.{IsTrue}
 use Rattle.std.proofs.lemmas.Bool.{cases_eq, false_from_ne_true}
 use Rattle.fixtures.specs.Games.{Games, IsDoubleRoundRobin}
 use Rattle.fixtures.specs.Closed.{IsLeastClosed, plays_in}
-use Rattle.fixtures.proofs.Least.{IsReached, IsReached-start, IsReached-step}
-use Rattle.fixtures.proofs.Meets.{Meets, Meets-swapped, same_opponent}
-use Rattle.fixtures.proofs.Opponents.{plays_in-first, plays_in-second, plays_in-cases}
+use Rattle.fixtures.proofs.ForCallers.{IsReached, reached_start, reached_step, Meets, meets_swapped, same_opponent, plays_in_first, plays_in_second, plays_in_cases}
 use Rattle.moves.proofs.Added.{Adds, Adds-new, Adds-old, Adds-cases, only-new}
 
 -- The set has the chain from the start to `last`, which was entered over round l: the set without `last` is closed under
@@ -26,7 +24,7 @@ IsTeamChain-start g k l start none set below empty adds = record {
   start_in = Adds-new start none set adds;
   last_in = Adds-new start none set adds;
   last_below = below;
-  reached = λ t here. subst (IsReached (plays_in g k l) start) (sym (only t here)) (IsReached-start (plays_in g k l) start);
+  reached = λ t here. subst (IsReached (plays_in g k l) start) (sym (only t here)) (reached_start (plays_in g k l) start);
   in_first = λ t u here other are. absurd (other (only t here));
   in_second = λ t u here other are. absurd (other (only t here));
 }
@@ -41,7 +39,7 @@ module _ (g : Games) (rr : IsDoubleRoundRobin g) (k l start last middle next : �
   -- the team in the middle is new
   middle_out : IsTrue (set middle) → ⊥
   middle_out here =
-      (chain.in_first middle last here (λ e. to_middle.0.distinct (sym e)) (Meets-swapped g last middle k to_middle)).1
+      (chain.in_first middle last here (λ e. to_middle.0.distinct (sym e)) (meets_swapped g last middle k to_middle)).1
       refl
 
   pub middle-false : set middle ≡ false
@@ -49,11 +47,11 @@ module _ (g : Games) (rr : IsDoubleRoundRobin g) (k l start last middle next : �
 
   middle_reached : IsReached (plays_in g k l) start middle
   middle_reached =
-      IsReached-step (plays_in g k l) start last middle (chain.reached last chain.last_in) (plays_in-first g k l last middle to_middle)
+      reached_step (plays_in g k l) start last middle (chain.reached last chain.last_in) (plays_in_first g k l last middle to_middle)
 
   next_reached : IsReached (plays_in g k l) start next
   next_reached =
-      IsReached-step (plays_in g k l) start middle next middle_reached (plays_in-second g k l middle next to_next)
+      reached_step (plays_in g k l) start middle next middle_reached (plays_in_second g k l middle next to_next)
 
   more_reached : (t : ℕ) → IsTrue (more t) → IsReached (plays_in g k l) start t
   more_reached t here =
@@ -67,7 +65,7 @@ module _ (g : Games) (rr : IsDoubleRoundRobin g) (k l start last middle next : �
   first_closed t u here are =
       elim (Adds-cases middle set more adds t here) [
         | inl e ↦
-            let is : last ≡ u = same_opponent g rr middle last u k (Meets-swapped g last middle k to_middle)
+            let is : last ≡ u = same_opponent g rr middle last u k (meets_swapped g last middle k to_middle)
             (subst (λ m. Meets g m u k) e are) in
             subst (λ v. IsTrue (more v)) is (Adds-old middle set more adds last chain.last_in)
         | inr old ↦ elim (cases_eq t last) [
@@ -82,7 +80,7 @@ module _ (g : Games) (rr : IsDoubleRoundRobin g) (k l start last middle next : �
   pub IsLeastClosed-chain : next ≡ start → IsLeastClosed (plays_in g k l) start more
   IsLeastClosed-chain back = record {
     has_start = Adds-old middle set more adds start chain.start_in;
-    closed = λ t u plays here. elim (plays_in-cases g k l t u plays) [
+    closed = λ t u plays here. elim (plays_in_cases g k l t u plays) [
       | inl are ↦ first_closed t u here are
       | inr are ↦ second_closed t u here are
     ];
@@ -100,7 +98,7 @@ module _ (g : Games) (rr : IsDoubleRoundRobin g) (k l start last middle next : �
                 subst (λ v. IsTrue (more v)) is (Adds-old middle set more adds start chain.start_in)
             | inr old ↦ elim (cases_eq t start) [
               | inl e ↦
-                  let is : middle ≡ u = same_opponent g rr start middle u l (Meets-swapped g middle start l to_start)
+                  let is : middle ≡ u = same_opponent g rr start middle u l (meets_swapped g middle start l to_start)
                   (subst (λ m. Meets g m u l) e are) in
                   subst (λ v. IsTrue (more v)) is (Adds-new middle set more adds)
               | inr other ↦ Adds-old middle set more adds u (chain.in_second t u old other are).0
@@ -125,7 +123,7 @@ module _ (g : Games) (rr : IsDoubleRoundRobin g) (k l start last middle next : �
     ];
     in_second = λ t u here not_start are. elim (Adds-cases next more most adds_next t here) [
       | inl e ↦
-          let is : middle ≡ u = same_opponent g rr next middle u l (Meets-swapped g middle next l to_next)
+          let is : middle ≡ u = same_opponent g rr next middle u l (meets_swapped g middle next l to_next)
           (subst (λ m. Meets g m u l) e are) in
           subst (λ v. IsTrue (most v) × (v ≢ start)) is (kept middle (Adds-new middle set more adds), middle_other)
       | inr old ↦ elim (Adds-cases middle set more adds t old) [
@@ -150,5 +148,5 @@ module _ (g : Games) (rr : IsDoubleRoundRobin g) (k l start last middle next : �
       next_out here =
           elim (Adds-cases middle set more adds next here) [
             | inl e ↦ to_next.0.distinct (sym e)
-            | inr old ↦ middle_out (chain.in_second next middle old other (Meets-swapped g middle next l to_next)).0
+            | inr old ↦ middle_out (chain.in_second next middle old other (meets_swapped g middle next l to_next)).0
           ]

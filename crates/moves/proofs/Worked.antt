@@ -3,7 +3,7 @@
 use Rattle.std.proofs.Common.{◌≡◌, [], ◌∷◌, map, Err, refl}
 use Rattle.fixtures.specs.Berger.{berger_games}
 use Rattle.fixtures.specs.Closed.{moved_teams_of, moved_rounds_of}
-use Rattle.fixtures.proofs.Worked.{games_in, sheet}
+use Rattle.fixtures.proofs.ForCallers.{games_in, sheet}
 use Rattle.moves.specs.declared.moves.Move.TheVariants.{Homes, Rounds, Teams, PartRounds, PartTeams}
 use Rattle.moves.specs.declared.fault.MoveFault.TheVariants.{BadMove, Meet}
 use Rattle.moves.specs.Moves.{fault_of, moved}

@@ -1,10 +1,11 @@
 //! The cells around which a move changes a schedule.
 
-ghost use Rattle.std.specs.Prelude.{◌≡◌, ℕ, ◌<◌, ◌&&◌, ◌||◌, ◌==◌, nat_lt, not, Ok, false};
+ghost use Rattle.std.specs.Prelude.{◌≡◌, ℕ, ◌<◌, ◌≤◌, ◌&&◌, ◌||◌, ◌==◌, nat_lt, not, Ok, true, false};
 ghost use Rattle.league.specs.Sets.{has};
 ghost use Rattle.fixtures.specs.Games.{round_of, round_count, IsPair};
+ghost use Rattle.fixtures.specs.Changes.{turns};
 ghost use Rattle.moves.specs.Moves.{fault_of};
-ghost use Rattle.moves.specs.MainCells.{AreMainCells};
+ghost use Rattle.moves.specs.MainCells.{AreMainCells, side_team};
 
 use crate::{Move, moved_rounds, moved_teams};
 use fixtures::{Schedule, Touched};
@@ -39,6 +40,48 @@ pub fn main_cells(schedule: &Schedule, mv: Move) -> Touched
             rounds: moved_rounds(schedule, i, j, k),
         },
     }
+}
+
+/// The teams whose sides the move may change, of a move whose main cells are known: in an exchange of rounds the main
+/// teams that are on different sides in the two, and else the main teams. Takes no memory.
+pub fn side_teams(schedule: &Schedule, mv: Move, main: Touched) -> TeamSet
+    requires { AreMainCells schedule.now mv main }
+    ensures { (t : ℕ) → has result t ≡ side_team schedule.now mv t }
+{
+    match mv {
+        Move::Rounds { k, l } | Move::PartRounds { k, l, .. } => {
+            turning_teams(schedule, k, l, main.teams)
+        }
+        Move::Homes { .. } | Move::Teams { .. } | Move::PartTeams { .. } => main.teams,
+    }
+}
+
+/// The teams of the set that are on different sides in the two rounds.
+fn turning_teams(schedule: &Schedule, k: u8, l: u8, among: TeamSet) -> TeamSet
+    requires k { k < round_count schedule.now.teams }
+    requires l { l < round_count schedule.now.teams }
+    requires forty { schedule.now.teams ≤ 40 }
+    requires below { (t : ℕ) → has among t ≡ true → t < schedule.now.teams }
+    ensures { (t : ℕ) → has result t ≡ (has among t && turns schedule.now k l t) }
+{
+    let mut turning = TeamSet::empty();
+    for team in among {
+        if turns(schedule, team, k, l) {
+            turning = turning.with(team);
+        }
+    }
+    turning
+}
+
+/// Whether the team is on different sides in the two rounds.
+#[tactic(auto, unfolding(fixtures::specs::Changes::turns, fixtures::specs::Games::is_home))]
+fn turns(schedule: &Schedule, team: u8, k: u8, l: u8) -> bool
+    requires team { team < schedule.now.teams }
+    requires k { k < round_count schedule.now.teams }
+    requires l { l < round_count schedule.now.teams }
+    ensures { result ≡ turns schedule.now k l team }
+{
+    schedule.game_at(team, k).home != schedule.game_at(team, l).home
 }
 
 fn two_teams(i: u8, j: u8) -> TeamSet

@@ -1,7 +1,7 @@
 //! The laws of the moves. The functions do nothing: what is known of the moves is in their contracts, each of which
 //! speaks of all double round robins and all moves that can be made there.
 
-ghost use Rattle.moves.specs.Laws.{OfEachMove, IsItsOwnInverse, StaysDoubleRoundRobin, DiffersWhereTouched};
+ghost use Rattle.moves.specs.Laws.{OfEachMove, IsItsOwnInverse, StaysDoubleRoundRobin, DiffersWhereTouched, DiffersAroundMain, SidesDifferAtSideTeams, KeepsMeetings, DiffersInEachTouched};
 
 /// Each move is its own inverse: it can be made on the schedule that it gives, and gives the first one back. The
 /// teams or rounds that have to follow, and those that are touched, are the same both times.
@@ -18,4 +18,26 @@ pub fn stays_double_round_robin()
 /// touched.
 pub fn differs_where_touched()
     ensures { OfEachMove DiffersWhereTouched }
+{}
+
+/// Each touched team has a touched round in which it does something else after a move, and each touched round such a
+/// touched team.
+pub fn differs_in_each_touched()
+    ensures { OfEachMove DiffersInEachTouched }
+{}
+
+/// What a move changes is around its main teams, in the touched rounds: each other team keeps its sides, and its
+/// opponents but for a main team that stands for another.
+pub fn differs_around_main()
+    ensures { OfEachMove DiffersAroundMain }
+{}
+
+/// Only the side teams of a move change their sides, in the touched rounds.
+pub fn sides_differ_at_side_teams()
+    ensures { OfEachMove SidesDifferAtSideTeams }
+{}
+
+/// After a move of homes or of teams the same pairs meet in each round, in one of teams under each other's names.
+pub fn meetings_are_kept()
+    ensures { OfEachMove KeepsMeetings }
 {}

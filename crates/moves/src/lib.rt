@@ -16,11 +16,14 @@ mod refusals;
 #[cfg(test)]
 mod tests;
 
-pub use cells::main_cells;
+pub use cells::{main_cells, side_teams};
 pub use chains::{moved_rounds, moved_teams};
 pub use changes::would_change;
 pub use effects::{apply, make, touched};
 pub use fault::MoveFault;
-pub use laws::{differs_where_touched, moves_back, stays_double_round_robin};
+pub use laws::{
+    differs_around_main, differs_in_each_touched, differs_where_touched, meetings_are_kept,
+    moves_back, sides_differ_at_side_teams, stays_double_round_robin,
+};
 pub use moves::Move;
 pub use refusals::check;

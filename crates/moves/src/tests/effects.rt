@@ -262,7 +262,10 @@ fn moves_made_with_main_cells(rt: HostRuntime) -> Result<(), Fail> {
     assert!(rt; makes_with(&start, &mut ten, rounds, four_teams, &TEN_AFTER_PART_ROUNDS));
     let teams = Move::PartTeams { i: 0, j: 3, k: 4 };
     assert!(rt; makes_with(&start, &mut ten, teams, cells(&[0, 3], &[1, 4, 16]), &[]));
-    assert_eq!(rt; made(&mut ten, teams), Some(cells(&[0, 1, 3, 4, 7], &[1, 4, 16])));
+    assert_eq!(rt;
+        made(&mut ten, teams),
+        Some(cells(&[0, 1, 3, 4, 7], &[1, 4, 16]))
+    );
     Ok(())
 }
 

@@ -1,6 +1,6 @@
 use Rattle.std.proofs.Common.{false}
 use Rattle.league.specs.Sets.{has}
-use Rattle.fixtures.proofs.Meets.{are_apart}
+use Rattle.fixtures.proofs.ForCallers.{are_apart}
 use Rattle.moves.proofs.Gathered.{IsGathered}
 use Rattle.moves.proofs.cells.rounds_apart.Given as goal
 

@@ -3,10 +3,7 @@ use Rattle.std.proofs.Math.Path.{fun_ext}
 use Rattle.league.specs.Sets.{has, with_number}
 use Rattle.league.proofs.Bits.{with_number-grows}
 use Rattle.fixtures.specs.Closed.{IsLeastClosed, shares_opponent}
-use Rattle.fixtures.proofs.Least.{member-least_closed}
-use Rattle.fixtures.proofs.Meets.{shares-in_range}
-use Rattle.fixtures.proofs.Opponents.{are_apart-never}
-use Rattle.fixtures.proofs.Follows.{Follows}
+use Rattle.fixtures.proofs.ForCallers.{member_least_closed, shares_in_range, are_apart_never, Follows}
 use Rattle.moves.proofs.Added.{with_added}
 use Rattle.moves.proofs.Checked.{IsPartTeams, part_teams-checked}
 use Rattle.moves.proofs.RoundChain.{Follows-cell, IsRoundChain-start, IsLeastClosed-chain, IsRoundChain-next, next-false}
@@ -17,7 +14,7 @@ loop-found-init c =
     let checked = part_teams-checked c.args.schedule.now c.args.i c.args.j c.args.k c.requires.checked in
     record {
       chain = IsRoundChain-start c.args.schedule.now c.args.i c.args.j c.args.k (has c.empty-found.result) _ checked.in_range
-          (are_apart-never c.args.schedule.now c.args.i c.args.j c.args.k checked.apart) c.empty-found.ensures.members (λ r. refl);
+          (are_apart_never c.args.schedule.now c.args.i c.args.j c.args.k checked.apart) c.empty-found.ensures.members (λ r. refl);
       fresh = c.empty-found.ensures.members c.args.k;
       below = c.empty-found.ensures.below 78;
     }
@@ -56,8 +53,8 @@ returns-then-next-k-clause-least c = least c
 pub returns-then-next-k-clause-members : goal.returns-then-next-k-clause-members
 returns-then-next-k-clause-members c =
     let checked = part_teams-checked c.args.schedule.now c.args.i c.args.j c.args.k c.requires.checked in
-    member-least_closed _ _ _
-    (shares-in_range c.args.schedule.now c.round_of_same_opponent-next.ensures.round_robin c.args.i c.args.j checked.pair)
+    member_least_closed _ _ _
+    (shares_in_range c.args.schedule.now c.round_of_same_opponent-next.ensures.round_robin c.args.i c.args.j checked.pair)
     checked.in_range (has c.with-found.result) (least c)
 
 -- the set grows by the last round

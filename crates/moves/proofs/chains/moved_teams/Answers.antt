@@ -2,8 +2,7 @@ use Rattle.std.proofs.Common.{◌≡◌, ℕ, ◌-◌, ◌^◌, ◌<◌, false, 
 use Rattle.league.specs.Sets.{has, with_number}
 use Rattle.league.proofs.Bits.{le-with_number, with_number-grows}
 use Rattle.fixtures.specs.Closed.{IsLeastClosed, plays_in}
-use Rattle.fixtures.proofs.Least.{member-least_closed}
-use Rattle.fixtures.proofs.Opponents.{Meets-cell, plays_in-below}
+use Rattle.fixtures.proofs.ForCallers.{member_least_closed, meets_cell, plays_in_below}
 use Rattle.moves.proofs.Added.{Adds, with_added}
 use Rattle.moves.proofs.TeamChain.{IsTeamChain-start, IsLeastClosed-chain, IsTeamChain-next, middle-false}
 use Rattle.moves.proofs.chains.moved_teams.Goals as goal
@@ -27,8 +26,8 @@ least : (c : goal.Then-team-i) →
     IsLeastClosed (plays_in c.args.schedule.now c.args.k c.args.l) c.args.i (has c.with-found.result)
 least c =
     IsLeastClosed-chain c.args.schedule.now c.game_at-middle.ensures.round_robin c.args.k c.args.l c.args.i c.loop-team.team _ _ _ _
-    c.loop-team.invariant.chain (Meets-cell _ _ _ _ c.game_at-middle.ensures.cell)
-    (Meets-cell _ _ _ _ c.game_at-team.ensures.cell)
+    c.loop-team.invariant.chain (meets_cell _ _ _ _ c.game_at-middle.ensures.cell)
+    (meets_cell _ _ _ _ c.game_at-team.ensures.cell)
     (adds c.loop-team.team _ c.loop-team.found _ _ c.with.ensures.members c.with-found.ensures.members) c.if-team-i.true
 
 pub returns-then-team-i-clause-least : goal.returns-then-team-i-clause-least
@@ -36,7 +35,7 @@ returns-then-team-i-clause-least c = least c
 
 pub returns-then-team-i-clause-members : goal.returns-then-team-i-clause-members
 returns-then-team-i-clause-members c =
-    member-least_closed _ _ _ (plays_in-below c.args.schedule.now c.args.k c.args.l) c.requires.i (has c.with-found.result) (least c)
+    member_least_closed _ _ _ (plays_in_below c.args.schedule.now c.args.k c.args.l) c.requires.i (has c.with-found.result) (least c)
 
 -- the set grows by the team in the middle
 smaller : (found once twice team middle : ℕ) → once ≡ with_number found team → twice ≡ with_number once middle →
@@ -49,8 +48,8 @@ loop-team-smaller c =
     let out : has c.with.result c.game_at-middle.result.opponent ≡ false =
     c.with.ensures.members c.game_at-middle.result.opponent ∙
     middle-false c.args.schedule.now c.game_at-middle.ensures.round_robin c.args.k c.args.l c.args.i c.loop-team.team _ _ _ _
-    c.loop-team.invariant.chain (Meets-cell _ _ _ _ c.game_at-middle.ensures.cell)
-    (Meets-cell _ _ _ _ c.game_at-team.ensures.cell)
+    c.loop-team.invariant.chain (meets_cell _ _ _ _ c.game_at-middle.ensures.cell)
+    (meets_cell _ _ _ _ c.game_at-team.ensures.cell)
     (adds c.loop-team.team _ c.loop-team.found _ _ c.with.ensures.members c.with-found.ensures.members) in
     smaller c.loop-team.found c.with.result c.with-found.result _ _ c.with.ensures.value c.with-found.ensures.value out
     c.loop-team.invariant.below
@@ -58,8 +57,8 @@ loop-team-smaller c =
 pub loop-team-preserved : goal.loop-team-preserved
 loop-team-preserved c = record {
   chain = IsTeamChain-next c.args.schedule.now c.game_at-middle.ensures.round_robin c.args.k c.args.l c.args.i c.loop-team.team _ _ _ _
-      c.loop-team.invariant.chain (Meets-cell _ _ _ _ c.game_at-middle.ensures.cell)
-      (Meets-cell _ _ _ _ c.game_at-team.ensures.cell)
+      c.loop-team.invariant.chain (meets_cell _ _ _ _ c.game_at-middle.ensures.cell)
+      (meets_cell _ _ _ _ c.game_at-team.ensures.cell)
       (adds c.loop-team.team _ c.loop-team.found _ _ c.with.ensures.members c.with-found.ensures.members) c.if-team-i.false _ (λ t. refl);
   below = c.with-found.ensures.below 40
       (c.with.ensures.below 40 c.loop-team.invariant.below (omega (arith, c.loop-team.invariant.chain.last_below)))

@@ -1,5 +1,4 @@
 use Rattle.std.proofs.Common.{sym, ◌∙◌, ap, subst}
-use Rattle.fixtures.specs.TouchedCells.{TouchedCells}
 use Rattle.moves.specs.declared.moves.Move.{Move}
 use Rattle.moves.specs.Moves.{touched_team, touched_round}
 use Rattle.moves.specs.MainCells.{AreMainCells}

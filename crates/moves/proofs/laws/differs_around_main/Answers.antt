@@ -1,0 +1,5 @@
+use Rattle.moves.proofs.EachAround.{each-around}
+use Rattle.moves.proofs.laws.differs_around_main.Goals as goal
+
+pub returns : goal.returns
+returns c = each-around

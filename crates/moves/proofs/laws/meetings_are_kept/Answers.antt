@@ -1,0 +1,5 @@
+use Rattle.moves.proofs.KeptMeetings.{each-keeps_meetings}
+use Rattle.moves.proofs.laws.meetings_are_kept.Goals as goal
+
+pub returns : goal.returns
+returns c = each-keeps_meetings
