@@ -6,6 +6,8 @@ mod LowestBits
 mod MadeLeagues
 pub mod OnLiterals
 mod Rows
+mod SetBits
+mod SetWords
 pub mod Sums
 mod Tables
 mod Texts

@@ -1,7 +1,8 @@
 //! Sets of teams and of slots, each in one word of bits.
 
-ghost use Rattle.std.specs.Prelude.{◌≡◌, ℕ, ◌<◌, ◌≤◌, ◌||◌, ◌==◌, nat_lt, false};
+ghost use Rattle.std.specs.Prelude.{◌≡◌, ℕ, ◌+◌, ◌-◌, ◌<◌, ◌≤◌, ◌&&◌, ◌||◌, ◌==◌, not, nat_lt, false, if◌then◌else◌};
 ghost use Rattle.std.specs.Iterator.{at_most};
+ghost use Rattle.league.specs.Sums.{count_where, all_below, any_below};
 ghost use Rattle.league.specs.Sets.{has, IsBelow, with_number, all_numbers, TakesLowest};
 
 use std::marker::Model;
@@ -33,6 +34,7 @@ impl TeamSet {
     }
 
     /// The set of the teams from 0 to `teams - 1`.
+    #[tactic(auto, using(crate::proofs::SetWords::teams_below, crate::proofs::SetWords::IsBelow_teams_below, crate::proofs::Bits::has_all_numbers, crate::proofs::Bits::IsBelow_all_numbers))]
     pub fn below(teams: u8) -> Self
         requires { teams ≤ 40 }
         ensures value { result ≡ all_numbers teams }
@@ -45,6 +47,7 @@ impl TeamSet {
     }
 
     /// The set with this team added.
+    #[tactic(auto, using(crate::proofs::SetWords::team_added, crate::proofs::SetWords::IsBelow_team_added, crate::proofs::Bits::has_with_number, crate::proofs::Bits::IsBelow_with_number))]
     pub fn with(self, team: u8) -> Self
         requires { team < 40 }
         ensures value { result ≡ with_number self team }
@@ -62,6 +65,25 @@ impl TeamSet {
         ensures { result ≡ has self team }
     {
         self.bits >> team & 1 == 1
+    }
+
+    /// The teams that are in both sets.
+    #[tactic(auto, using(crate::proofs::SetBits::has_common))]
+    pub fn common(self, teams: TeamSet) -> Self
+        ensures members { (t : ℕ) → has result t ≡ (has self t && has teams t) }
+        ensures below { (m : ℕ) → IsBelow m self → IsBelow m result }
+    {
+        TeamSet {
+            bits: self.bits & teams.bits,
+        }
+    }
+
+    /// Whether some team is in both sets.
+    #[tactic(auto, using(crate::proofs::SetWords::teams_meet))]
+    pub fn meets(self, teams: TeamSet) -> bool
+        ensures { result ≡ any_below 40 (λ t. has self t && has teams t) }
+    {
+        self.bits & teams.bits != 0
     }
 }
 
@@ -137,6 +159,7 @@ impl SlotSet {
     }
 
     /// The set of the slots from 0 to `slots - 1`.
+    #[tactic(auto, using(crate::proofs::SetWords::slots_below, crate::proofs::SetWords::IsBelow_slots_below, crate::proofs::Bits::has_all_numbers, crate::proofs::Bits::IsBelow_all_numbers))]
     pub fn below(slots: u8) -> Self
         requires { slots ≤ 78 }
         ensures value { result ≡ all_numbers slots }
@@ -149,6 +172,7 @@ impl SlotSet {
     }
 
     /// The set with this slot added.
+    #[tactic(auto, using(crate::proofs::SetWords::slot_added, crate::proofs::SetWords::IsBelow_slot_added, crate::proofs::Bits::has_with_number, crate::proofs::Bits::IsBelow_with_number))]
     pub fn with(self, slot: u8) -> Self
         requires { slot < 78 }
         ensures value { result ≡ with_number self slot }
@@ -166,6 +190,111 @@ impl SlotSet {
         ensures { result ≡ has self slot }
     {
         self.bits >> slot & 1 == 1
+    }
+
+    /// How many slots there are.
+    #[tactic(auto, using(crate::proofs::SetBits::ones_count, crate::proofs::SetWords::slots_len))]
+    pub fn len(self) -> u32
+        ensures value { result ≡ count_where 78 (has self) }
+        ensures among { (m : ℕ) → IsBelow m self → result ≡ count_where m (has self) }
+        ensures most { result ≤ 78 }
+    {
+        self.bits.count_ones()
+    }
+
+    /// The slots that are in one of the sets, or in both.
+    #[tactic(auto, using(crate::proofs::SetBits::has_union, crate::proofs::SetBits::IsBelow_union, crate::proofs::SetWords::IsBelow_slots_union))]
+    pub fn union(self, slots: SlotSet) -> Self
+        ensures members { (s : ℕ) → has result s ≡ (has self s || has slots s) }
+        ensures below { (m : ℕ) → IsBelow m self → IsBelow m slots → IsBelow m result }
+    {
+        SlotSet {
+            bits: self.bits | slots.bits,
+        }
+    }
+
+    /// The slots that are in both sets.
+    #[tactic(auto, using(crate::proofs::SetBits::has_common))]
+    pub fn common(self, slots: SlotSet) -> Self
+        ensures members { (s : ℕ) → has result s ≡ (has self s && has slots s) }
+        ensures below { (m : ℕ) → IsBelow m self → IsBelow m result }
+    {
+        SlotSet {
+            bits: self.bits & slots.bits,
+        }
+    }
+
+    /// The slots that are not in the other set.
+    #[tactic(auto, using(crate::proofs::SetWords::slots_without))]
+    pub fn difference(self, slots: SlotSet) -> Self
+        ensures members { (s : ℕ) → has result s ≡ (has self s && not (has slots s)) }
+        ensures below { (m : ℕ) → IsBelow m self → IsBelow m result }
+    {
+        SlotSet {
+            bits: self.bits & !slots.bits,
+        }
+    }
+
+    /// The set with each slot of the other added where it lacks it, and taken out where it has it.
+    #[tactic(auto, using(crate::proofs::SetBits::has_toggled, crate::proofs::SetBits::IsBelow_toggled, crate::proofs::SetWords::IsBelow_slots_toggled))]
+    pub fn toggled(self, slots: SlotSet) -> Self
+        ensures members { (s : ℕ) → has result s ≡ (if has slots s then not (has self s) else has self s) }
+        ensures below { (m : ℕ) → IsBelow m self → IsBelow m slots → IsBelow m result }
+    {
+        SlotSet {
+            bits: self.bits ^ slots.bits,
+        }
+    }
+
+    /// Whether some slot is in both sets.
+    #[tactic(auto, using(crate::proofs::SetWords::slots_meet))]
+    pub fn meets(self, slots: SlotSet) -> bool
+        ensures { result ≡ any_below 78 (λ s. has self s && has slots s) }
+    {
+        self.bits & slots.bits != 0
+    }
+
+    /// The slots and those that come next after one, from 0 to `slots - 1`.
+    #[tactic(auto, using(crate::proofs::SetWords::slots_with_next, crate::proofs::SetWords::IsBelow_slots_with_next, crate::proofs::SetWords::IsBelow_78_slots_with_next))]
+    pub fn with_next_below(self, slots: u8) -> Self
+        requires { slots ≤ 78 }
+        ensures members { (s : ℕ) → has result s ≡ (nat_lt s slots && (has self s || (not (s == 0) && has self (s - 1)))) }
+        ensures below { IsBelow slots result }
+    {
+        SlotSet {
+            bits: (self.bits | self.bits << 1) & ((1 << slots) - 1),
+        }
+    }
+
+    /// The slots from which on `length` slots in a row are in the set; `length` is at most one more than there are slots.
+    #[tactic(auto, using(crate::proofs::SetBits::has_one_in_row))]
+    pub fn starts_within(self, length: u8) -> Self
+        requires least { 1 ≤ length }
+        requires most { length ≤ 79 }
+        ensures members { (s : ℕ) → has result s ≡ all_below length (λ k. has self (s + k)) }
+        ensures below { (m : ℕ) → IsBelow m self → IsBelow m result }
+    {
+        let bits = self.bits;
+        let mut starts = bits;
+        for k in 1..length {
+            starts &= bits >> k;
+        }
+        SlotSet { bits: starts }
+    }
+
+    /// The slots from which on one of `length` slots in a row is in the set; `length` is at most one more than there are slots.
+    #[tactic(auto, using(crate::proofs::Sums::any_below_none, crate::proofs::Sums::any_below_more, crate::proofs::SetBits::has_union, crate::proofs::SetBits::has_shifted, crate::proofs::SetBits::IsBelow_union, crate::proofs::SetBits::IsBelow_shifted, crate::proofs::SetWords::IsBelow_slots_union, crate::proofs::SetWords::IsBelow_slots_shifted))]
+    pub fn starts_meeting(self, length: u8) -> Self
+        requires { length ≤ 79 }
+        ensures members { (s : ℕ) → has result s ≡ any_below length (λ k. has self (s + k)) }
+        ensures below { (m : ℕ) → IsBelow m self → IsBelow m result }
+    {
+        let bits = self.bits;
+        let mut starts = 0;
+        for k in 0..length {
+            starts |= bits >> k;
+        }
+        SlotSet { bits: starts }
     }
 }
 
@@ -208,8 +337,8 @@ impl Iterator for Slots {
         if self.left == 0 {
             return None;
         }
-        let lowest = self.left.trailing_zeros();
+        let earliest = self.left.trailing_zeros();
         self.left &= self.left - 1;
-        Some(lowest as u8)
+        Some(earliest as u8)
     }
 }

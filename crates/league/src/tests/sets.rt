@@ -43,3 +43,38 @@ fn sets_are_walked_from_the_lowest(rt: HostRuntime) {
     assert_eq!(rt; slots.next(), Some(77));
     assert_eq!(rt; slots.next(), None);
 }
+
+#[test]
+fn sets_of_two_sets(rt: HostRuntime) {
+    let low = SlotSet::empty().with(0).with(1).with(2);
+    let high = SlotSet::empty().with(2).with(77);
+    assert_eq!(rt; low.union(high), SlotSet::below(3).with(77));
+    assert_eq!(rt; low.common(high), SlotSet::empty().with(2));
+    assert_eq!(rt; low.difference(high), SlotSet::below(2));
+    assert_eq!(rt; low.toggled(high), SlotSet::below(2).with(77));
+    assert!(rt; low.meets(high) && !low.meets(SlotSet::empty().with(3)));
+    assert_eq!(rt; low.len() + high.len(), 5);
+    let teams = TeamSet::below(3);
+    assert_eq!(rt;
+        teams.common(TeamSet::empty().with(2).with(39)),
+        TeamSet::empty().with(2)
+    );
+    assert!(rt; teams.meets(TeamSet::empty().with(2)) && !teams.meets(TeamSet::empty().with(3)));
+}
+
+#[test]
+fn slots_in_a_row(rt: HostRuntime) {
+    let slots = SlotSet::below(3).with(5).with(77);
+    assert_eq!(rt; slots.with_next_below(6), SlotSet::below(4).with(5));
+    assert_eq!(rt;
+        slots.with_next_below(78),
+        SlotSet::below(4).with(5).with(6).with(77)
+    );
+    assert_eq!(rt; slots.starts_within(2), SlotSet::below(2));
+    assert_eq!(rt; slots.starts_within(79), SlotSet::empty());
+    assert_eq!(rt;
+        SlotSet::empty().with(5).starts_meeting(3),
+        SlotSet::empty().with(3).with(4).with(5)
+    );
+    assert_eq!(rt; slots.starts_meeting(0), SlotSet::empty());
+}
