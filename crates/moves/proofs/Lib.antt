@@ -10,7 +10,7 @@ pub mod DiffersThere
 pub mod Added
 pub mod TeamChain
 pub mod RoundChain
-pub mod Gathered
+pub mod MetIn
 pub mod Sifted
 pub mod ChangedGames
 pub mod ForCallers

@@ -84,7 +84,7 @@ fn turns(schedule: &Schedule, team: u8, k: u8, l: u8) -> bool
     schedule.game_at(team, k).home != schedule.game_at(team, l).home
 }
 
-fn two_teams(i: u8, j: u8) -> TeamSet
+pub(crate) fn two_teams(i: u8, j: u8) -> TeamSet
     requires i { i < 40 }
     requires j { j < 40 }
     ensures { (t : ℕ) → has result t ≡ (t == i || t == j) }
@@ -106,13 +106,6 @@ fn rounds_apart(schedule: &Schedule, i: u8, j: u8) -> SlotSet
     ensures { (r : ℕ) → has result r ≡
         (nat_lt r (round_count schedule.now.teams) && not (r == round_of schedule.now i j || r == round_of schedule.now j i)) }
 {
-    let first = schedule.round_of(i, j);
-    let second = schedule.round_of(j, i);
-    let mut apart = SlotSet::empty();
-    for round in 0..schedule.rounds() {
-        if round != first && round != second {
-            apart = apart.with(round);
-        }
-    }
-    apart
+    let theirs = two_rounds(schedule.round_of(i, j), schedule.round_of(j, i));
+    SlotSet::below(schedule.rounds()).difference(theirs)
 }

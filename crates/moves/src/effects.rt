@@ -1,12 +1,13 @@
 //! Moves made, and the cells that they change.
 
-ghost use Rattle.std.specs.Prelude.{◌≡◌, ℕ, ◌<◌, ◌&&◌, ◌||◌, ◌==◌, nat_lt, Ok};
+ghost use Rattle.std.specs.Prelude.{◌≡◌, ℕ, ◌<◌, ◌&&◌, ◌||◌, ◌==◌, nat_lt, Ok, true};
 ghost use Rattle.league.specs.Sets.{has};
-ghost use Rattle.fixtures.specs.Games.{round_of, IsPair, IsDoubleRoundRobin};
+ghost use Rattle.fixtures.specs.Games.{round_of, round_count, IsPair, IsDoubleRoundRobin};
 ghost use Rattle.fixtures.specs.Changes.{DiffersOnlyIn};
 ghost use Rattle.moves.specs.Moves.{fault_of, moved, touched_team, touched_round};
 ghost use Rattle.moves.specs.MainCells.{AreMainCells};
 
+use crate::cells::two_teams;
 use crate::{Move, main_cells};
 use fixtures::{Schedule, Touched};
 use league::{SlotSet, TeamSet};
@@ -77,25 +78,16 @@ fn touched_around(schedule: &Schedule, mv: Move, main: Touched) -> Touched
 /// The teams `i` and `j`, and the opponents of `i` in these rounds. Where the two can be exchanged in them, `j` has the
 /// same opponents there.
 fn teams_with_opponents(schedule: &Schedule, i: u8, j: u8, rounds: SlotSet) -> TeamSet
-    requires { IsPair schedule.now.teams i j }
+    requires round_robin { IsDoubleRoundRobin schedule.now }
+    requires pair { IsPair schedule.now.teams i j }
+    requires below { (r : ℕ) → has rounds r ≡ true → r < round_count schedule.now.teams }
     ensures { (t : ℕ) → has result t ≡
         (t == i || t == j ||
         (nat_lt t schedule.now.teams && (has rounds (round_of schedule.now i t) || has rounds (round_of schedule.now t i)))) }
 {
-    let teams = schedule.teams();
-    let mut found = TeamSet::empty().with(j).with(i);
-    for team in 0..teams {
-        if team != i && meets_in(schedule, i, team, rounds) {
-            found = found.with(team);
-        }
+    let mut found = two_teams(i, j);
+    for round in rounds {
+        found = found.with(schedule.game_at(i, round).opponent);
     }
     found
-}
-
-/// Whether the two teams meet in one of the rounds.
-fn meets_in(schedule: &Schedule, i: u8, j: u8, rounds: SlotSet) -> bool
-    requires { IsPair schedule.now.teams i j }
-    ensures { result ≡ (has rounds (round_of schedule.now i j) || has rounds (round_of schedule.now j i)) }
-{
-    rounds.has(schedule.round_of(i, j)) || rounds.has(schedule.round_of(j, i))
 }
