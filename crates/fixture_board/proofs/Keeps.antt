@@ -14,16 +14,17 @@ use Rattle.fixture_board.specs.declared.change.Entry.{Entry}
 use Rattle.fixture_board.specs.declared.ask.Ask.TheVariants as ask
 use Rattle.fixture_board.specs.declared.ask.Proposal.{Proposal}
 use Rattle.fixtures.specs.Start.{start_of}
-use Rattle.fixture_board.specs.History.{effect, effective, shifted, games_after, games_of, pinned, pins_after, pins_of, is_in_range, is_there, moves_pin, AllStand, Fits, May, IsLegal, cost_at, better, best_prefix, best_at, as_best, best_of}
-use Rattle.fixture_board.specs.Kept.{pin_at, ArePinsAt, IsLeader, IsKept, CanTakeBack, taken_back, leads, led_by}
+use Rattle.fixture_board.specs.History.{effect, effective, shifted, games_after, games_of, pinned, pins_after, pins_of, is_in_range, is_there, AllStand, Fits, May, IsLegal, max_room, cost_at, better, best_prefix, best_at, as_best, best_of}
+use Rattle.fixture_board.specs.PinPlaces.{ArePinsAt, taken_back}
+use Rattle.fixture_board.specs.Kept.{IsLeader, Kept, IsKept, IsGranted, entered, CanTakeBack, leads, led_by}
 use Rattle.fixture_board.specs.Laws.{IsSound}
 use Rattle.fixture_board.specs.Replies.{refusal, entry}
 use Rattle.fixture_board.proofs.OneMore.{effective-none, effective-more, games_of-none, pins_of-none, games_of-by, pins_of-by, games_after-more, pins_after-more, games_of-more, pins_of-more, effective-undo, IsLegal-none, IsLegal-more, best_prefix-none, best_prefix-more}
-use Rattle.fixture_board.proofs.Scores.{moved-teams, games_of-teams, score_le}
+use Rattle.fixture_board.proofs.Scores.{moved-teams, games_of-teams, score_below}
 use Rattle.fixture_board.proofs.Stand.{pinned_stands}
 use Rattle.fixture_board.proofs.Next.{CanMake, can_make, IsLegal-within}
 use Rattle.fixture_board.proofs.Sound.{IsSound-legal, IsLastMade, IsLastMade-legal}
-use Rattle.fixture_board.proofs.PinTable.{IsPair-in_range, ArePinsAt-games, ArePinsAt-pin, ArePinsAt-unpin, ArePinsAt-pin_back, ArePinsAt-unpin_back, ArePinsAt-none, moves_pin-none, moves_pin-some}
+use Rattle.fixture_board.proofs.PinTable.{IsPair-in_range, ArePinsAt-games, ArePinsAt-pin, ArePinsAt-unpin, ArePinsAt-pin_back, ArePinsAt-unpin_back, ArePinsAt-none}
 use Rattle.moves.proofs.EachMove.{each-its_own_inverse, each-double_round_robin}
 
 -- the best version
@@ -68,140 +69,127 @@ effect-length changes Undo = omega (arith, length-take (length changes - 1) chan
 length-more : (h : List Entry) (e : Entry) → length (h ++ e ∷ []) ≡ length h + 1
 length-more h e = omega (arith, length-append h (e ∷ []))
 
-pub IsKept-more : {league : LeagueData} {room : ℕ} {h : List Entry} {changes : List Change} {g : Games} {pins : List ℕ} {cost : Cost} {best : Option Best} {best_g : Games} (e : Entry)
-    (changes2 : List Change) (g2 : Games) (pins2 : List ℕ) (cost2 : Cost) →
-    IsKept league room h changes g pins cost best best_g → length h < room → May league h e.change →
-    changes2 ≡ effect changes e.change → g2 ≡ games_of league (h ++ e ∷ []) → length pins2 ≡ 1600 →
-    ArePinsAt g2 (pins_of (h ++ e ∷ [])) pins2 → cost2 ≡ cost_of league g2 →
-    IsKept league room (h ++ e ∷ []) changes2 g2 pins2 cost2 (led_by best cost2 (length h + 1)) (if leads best cost2 then g2 else best_g)
+pub IsKept-more : {league : LeagueData} {k : Kept} (e : Entry) (changes : List Change) (g : Games) (pins : List ℕ) (cost : Cost) →
+    IsKept league k → length k.history < k.room → May league k.history e.change → changes ≡ effect k.changes e.change →
+    g ≡ games_of league (k.history ++ e ∷ []) → length pins ≡ 1600 → ArePinsAt g (pins_of (k.history ++ e ∷ [])) pins →
+    cost ≡ cost_of league g →
+    IsKept league (entered (record k { changes = changes; games = g; pins = pins; cost = cost }) e)
 unfolding cost_at
-IsKept-more {league} {room} {h} {changes} {g} {pins} {cost} {best} {best_g} e changes2 g2 pins2 cost2 kept under may changes_are games_are size pins_are cost_is =
-    let legal : IsLegal league room (h ++ e ∷ []) = IsLegal-more league room h e kept.legal under may in
-    let same : g2.teams ≡ teams league = ap (λ (x : Games). x.teams) games_are ∙ games_of-teams league (h ++ e ∷ []) in
-    let cost_here : cost2 ≡ cost_of league (games_of league (h ++ e ∷ [])) = cost_is ∙ ap (cost_of league) games_are in
+IsKept-more {league} {k} e changes g pins cost kept under may changes_are games_are size pins_are cost_is =
+    let h : List Entry = k.history ++ e ∷ [] in
+    let legal : IsLegal league k.room h = IsLegal-more league k.room k.history e kept.legal under may in
+    let same : g.teams ≡ teams league = ap (λ (x : Games). x.teams) games_are ∙ games_of-teams league h in
+    let cost_here : cost ≡ cost_of league (games_of league h) = cost_is ∙ ap (cost_of league) games_are in
     record {
       league_is = kept.league_is;
-      within = IsLegal-within league room (h ++ e ∷ []) legal;
+      room_most = kept.room_most;
+      within = IsLegal-within league k.room h legal;
       legal = legal;
-      effective_is = changes_are ∙ ap (λ c. effect c e.change) kept.effective_is ∙ sym (effective-more h e);
-      no_more = rw (changes_are, length-more h e) (omega (arith, effect-length changes e.change, kept.no_more));
+      effective_is = changes_are ∙ ap (λ c. effect c e.change) kept.effective_is ∙ sym (effective-more k.history e);
+      no_more = rw (changes_are, length-more k.history e) (omega (arith, effect-length k.changes e.change, kept.no_more));
       games_are = games_are;
       same_size = same;
       pins_length = size;
       pins_are = pins_are;
       cost_is = cost_here;
-      small = rw cost_is (score_le league g2 kept.league_is same);
-      leader = subst (λ found. IsLeader league found (led_by best cost2 (length h + 1)) (if leads best cost2 then g2 else best_g))
-          (sym (best_prefix-more league h e))
-          (IsLeader-more league (best_prefix league h) (h ++ e ∷ []) best g2 best_g cost2 (length h + 1) kept.leader cost_here
-          (sym (length-more h e)) games_are);
+      small = rw cost_is (score_below league g kept.league_is same);
+      leader = subst (λ found. IsLeader league found (led_by k.best cost (length k.history + 1)) (if leads k.best cost then g else k.best_games))
+          (sym (best_prefix-more league k.history e))
+          (IsLeader-more league (best_prefix league k.history) h k.best g k.best_games cost (length k.history + 1) kept.leader cost_here
+          (sym (length-more k.history e)) games_are);
     }
 
 -- what is known of a board's schedule and its pins
 
-pub IsSound-kept : {league : LeagueData} {room : ℕ} {h : List Entry} {changes : List Change} {g : Games} {pins : List ℕ} {cost : Cost} {best : Option Best} {best_g : Games} →
-    IsKept league room h changes g pins cost best best_g → IsDoubleRoundRobin g × AllStand g (pins_of h)
-IsSound-kept {league} {room} {h} kept =
-    let sound : IsSound league h = IsSound-legal each-double_round_robin league room h kept.league_is kept.legal in
+pub IsSound-kept : {league : LeagueData} {k : Kept} → IsKept league k → IsDoubleRoundRobin k.games × AllStand k.games (pins_of k.history)
+IsSound-kept {league} {k} kept =
+    let sound : IsSound league k.history = IsSound-legal each-double_round_robin league k.room k.history kept.league_is kept.legal in
     let is = sym kept.games_are in
-    (subst IsDoubleRoundRobin is sound.robin, subst (λ x. AllStand x (pins_of h)) is sound.stand)
+    (subst IsDoubleRoundRobin is sound.robin, subst (λ x. AllStand x (pins_of k.history)) is sound.stand)
+
+pub known_cost : {league : LeagueData} {k : Kept} → IsKept league k → k.cost ≡ cost_of league k.games
+unfolding cost_at
+known_cost {league} kept = kept.cost_is ∙ ap (cost_of league) (sym kept.games_are)
 
 -- a granted change
 
-pub IsKept-pin : {league : LeagueData} {room : ℕ} {h : List Entry} {changes : List Change} {g : Games} {pins : List ℕ} {cost : Cost} {best : Option Best} {best_g : Games}
-    (caller version : ℕ) (game : Game) → IsKept league room h changes g pins cost best best_g →
-    refusal league room h (ask.Pin version game) ≡ None →
-    IsKept league room (h ++ entry caller (ask.Pin version game) ∷ []) (changes ++ Pin game ∷ []) g
-    (slice_set pins (game.home * 40 + game.away) game.round) cost (led_by best cost (length h + 1)) (if leads best cost then g else best_g)
-unfolding cost_at
-IsKept-pin {league} {room} {h} {changes} {g} {pins} {cost} {best} {best_g} caller version game kept granted =
-    let e : Entry = entry caller (ask.Pin version game) in
-    let can : CanMake league room h (ask.Pin version game) = can_make league room h (ask.Pin version game) kept.within granted in
+pub IsGranted-pin : {league : LeagueData} {k : Kept} (version : ℕ) (game : Game) → IsKept league k →
+    refusal league k.room k.history (ask.Pin version game) ≡ None →
+    IsGranted league k (record k { changes = k.changes ++ Pin game ∷ []; pins = slice_set k.pins (game.home * 40 + game.away) game.round })
+    (ask.Pin version game)
+IsGranted-pin {league} {k} version game kept granted =
+    let can : CanMake league k.room k.history (ask.Pin version game) = can_make league k.room k.history (ask.Pin version game) kept.within granted in
     let sound = IsSound-kept kept in
-    let range : is_in_range g game ≡ true = subst (λ x. is_in_range x game ≡ true) (sym kept.games_are) can.may.0 in
-    let there : is_there g game ≡ true = subst (λ x. is_there x game ≡ true) (sym kept.games_are) can.may.1 in
-    IsKept-more e (changes ++ Pin game ∷ []) g (slice_set pins (game.home * 40 + game.away) game.round) cost kept can.under can.may refl
-    (kept.games_are ∙ sym (games_of-more league h e refl))
-    (length-set pins (game.home * 40 + game.away) game.round ∙ kept.pins_length)
-    (subst (λ p. ArePinsAt g p (slice_set pins (game.home * 40 + game.away) game.round)) (sym (pins_of-more h e refl))
-    (ArePinsAt-pin g (pins_of h) pins game sound.0.forty kept.pins_length range there kept.pins_are))
-    (kept.cost_is ∙ ap (cost_of league) (sym kept.games_are))
+    let table : List ℕ = slice_set k.pins (game.home * 40 + game.away) game.round in
+    let range : is_in_range k.games game ≡ true = subst (λ x. is_in_range x game ≡ true) (sym kept.games_are) can.may.0 in
+    let there : is_there k.games game ≡ true = subst (λ x. is_there x game ≡ true) (sym kept.games_are) can.may.1 in
+    record {
+      no_reason = granted;
+      same_room = refl;
+      same_history = refl;
+      under = can.under;
+      kept = λ caller.
+          let e : Entry = entry caller (ask.Pin version game) in
+          IsKept-more e (k.changes ++ Pin game ∷ []) k.games table k.cost kept can.under can.may refl
+          (kept.games_are ∙ sym (games_of-more league k.history e refl))
+          (length-set k.pins (game.home * 40 + game.away) game.round ∙ kept.pins_length)
+          (subst (λ p. ArePinsAt k.games p table) (sym (pins_of-more k.history e refl))
+          (ArePinsAt-pin k.games (pins_of k.history) k.pins game sound.0.forty kept.pins_length range there kept.pins_are))
+          (known_cost kept);
+    }
 
-pub IsKept-unpin : {league : LeagueData} {room : ℕ} {h : List Entry} {changes : List Change} {g : Games} {pins : List ℕ} {cost : Cost} {best : Option Best} {best_g : Games}
-    (caller version : ℕ) (game : Game) → IsKept league room h changes g pins cost best best_g →
-    refusal league room h (ask.Unpin version game) ≡ None →
-    IsKept league room (h ++ entry caller (ask.Unpin version game) ∷ []) (changes ++ Unpin game ∷ []) g
-    (slice_set pins (game.home * 40 + game.away) 255) cost (led_by best cost (length h + 1)) (if leads best cost then g else best_g)
-unfolding cost_at
-IsKept-unpin {league} {room} {h} {changes} {g} {pins} {cost} {best} {best_g} caller version game kept granted =
-    let e : Entry = entry caller (ask.Unpin version game) in
-    let can : CanMake league room h (ask.Unpin version game) = can_make league room h (ask.Unpin version game) kept.within granted in
+pub IsGranted-unpin : {league : LeagueData} {k : Kept} (version : ℕ) (game : Game) → IsKept league k →
+    refusal league k.room k.history (ask.Unpin version game) ≡ None →
+    IsGranted league k (record k { changes = k.changes ++ Unpin game ∷ []; pins = slice_set k.pins (game.home * 40 + game.away) 255 })
+    (ask.Unpin version game)
+IsGranted-unpin {league} {k} version game kept granted =
+    let can : CanMake league k.room k.history (ask.Unpin version game) = can_make league k.room k.history (ask.Unpin version game) kept.within granted in
     let sound = IsSound-kept kept in
-    let stands = pinned_stands g (pins_of h) game sound.1 can.may in
-    IsKept-more e (changes ++ Unpin game ∷ []) g (slice_set pins (game.home * 40 + game.away) 255) cost kept can.under can.may refl
-    (kept.games_are ∙ sym (games_of-more league h e refl))
-    (length-set pins (game.home * 40 + game.away) 255 ∙ kept.pins_length)
-    (subst (λ p. ArePinsAt g p (slice_set pins (game.home * 40 + game.away) 255)) (sym (pins_of-more h e refl))
-    (ArePinsAt-unpin g (pins_of h) pins game sound.0.forty kept.pins_length stands.0 stands.1 sound.1 kept.pins_are))
-    (kept.cost_is ∙ ap (cost_of league) (sym kept.games_are))
+    let table : List ℕ = slice_set k.pins (game.home * 40 + game.away) 255 in
+    let stands = pinned_stands k.games (pins_of k.history) game sound.1 can.may in
+    record {
+      no_reason = granted;
+      same_room = refl;
+      same_history = refl;
+      under = can.under;
+      kept = λ caller.
+          let e : Entry = entry caller (ask.Unpin version game) in
+          IsKept-more e (k.changes ++ Unpin game ∷ []) k.games table k.cost kept can.under can.may refl
+          (kept.games_are ∙ sym (games_of-more league k.history e refl))
+          (length-set k.pins (game.home * 40 + game.away) 255 ∙ kept.pins_length)
+          (subst (λ p. ArePinsAt k.games p table) (sym (pins_of-more k.history e refl))
+          (ArePinsAt-unpin k.games (pins_of k.history) k.pins game sound.0.forty kept.pins_length stands.0 stands.1 sound.1 kept.pins_are))
+          (known_cost kept);
+    }
 
-pub IsKept-shift : {league : LeagueData} {room : ℕ} {h : List Entry} {changes : List Change} {g : Games} {pins : List ℕ} {cost : Cost} {best : Option Best} {best_g : Games}
-    (caller : ℕ) (p : Proposal) (g2 : Games) (cost2 : Cost) → IsKept league room h changes g pins cost best best_g →
-    refusal league room h (ask.Shift p) ≡ None → g2 ≡ moved g p.mv → cost2 ≡ cost_of league g2 →
-    IsKept league room (h ++ entry caller (ask.Shift p) ∷ []) (changes ++ Shift p.mv ∷ []) g2 pins cost2
-    (led_by best cost2 (length h + 1)) (if leads best cost2 then g2 else best_g)
-IsKept-shift {league} {room} {h} {changes} {g} {pins} {cost} {best} {best_g} caller p g2 cost2 kept granted moved_is cost_is =
-    let e : Entry = entry caller (ask.Shift p) in
-    let can : CanMake league room h (ask.Shift p) = can_make league room h (ask.Shift p) kept.within granted in
+pub IsGranted-shift : {league : LeagueData} {k : Kept} (p : Proposal) (g : Games) (cost : Cost) → IsKept league k →
+    refusal league k.room k.history (ask.Shift p) ≡ None → g ≡ moved k.games p.mv → cost ≡ cost_of league g →
+    IsGranted league k (record k { changes = k.changes ++ Shift p.mv ∷ []; games = g; cost = cost }) (ask.Shift p)
+IsGranted-shift {league} {k} p g cost kept granted moved_is cost_is =
+    let can : CanMake league k.room k.history (ask.Shift p) = can_make league k.room k.history (ask.Shift p) kept.within granted in
     let sound = IsSound-kept kept in
-    let legal : IsLegal league room (h ++ e ∷ []) = IsLegal-more league room h e kept.legal can.under can.may in
-    let after : IsSound league (h ++ e ∷ []) =
-    IsSound-legal each-double_round_robin league room (h ++ e ∷ []) kept.league_is legal in
-    let pins_are : pins_of (h ++ e ∷ []) ≡ pins_of h = pins_of-more h e refl in
-    let games_are : g2 ≡ games_of league (h ++ e ∷ []) =
-    moved_is ∙ ap (λ x. moved x p.mv) kept.games_are ∙ sym (games_of-more league h e refl) in
-    let stand : AllStand g2 (pins_of h) =
-    subst (λ x. AllStand x (pins_of h)) (sym games_are)
-    (subst (AllStand (games_of league (h ++ e ∷ []))) pins_are after.stand) in
-    IsKept-more e (changes ++ Shift p.mv ∷ []) g2 pins cost2 kept can.under can.may refl games_are kept.pins_length
-    (subst (λ q. ArePinsAt g2 q pins) (sym pins_are)
-    (ArePinsAt-games g g2 (pins_of h) pins (ap (λ (x : Games). x.teams) moved_is ∙ moved-teams g p.mv) sound.1 stand kept.pins_are))
-    cost_is
-
--- the numbers of a game that is pinned or unpinned
-
-pub pin_below : {league : LeagueData} {room : ℕ} {h : List Entry} {changes : List Change} {g : Games} {pins : List ℕ} {cost : Cost} {best : Option Best} {best_g : Games}
-    (version : ℕ) (game : Game) → IsKept league room h changes g pins cost best best_g → refusal league room h (ask.Pin version game) ≡ None →
-    (game.home < 40) × (game.away < 40)
-pin_below {league} {room} {h} version game kept granted =
-    let can : CanMake league room h (ask.Pin version game) = can_make league room h (ask.Pin version game) kept.within granted in
-    let pair = IsPair-in_range (games_of league h) game can.may.0 in
-    let few = games_of-teams league h in
-    (omega (arith, pair.home_in, few, kept.league_is.table.most), omega (arith, pair.away_in, few, kept.league_is.table.most))
-
-pub unpin_below : {league : LeagueData} {room : ℕ} {h : List Entry} {changes : List Change} {g : Games} {pins : List ℕ} {cost : Cost} {best : Option Best} {best_g : Games}
-    (version : ℕ) (game : Game) → IsKept league room h changes g pins cost best best_g → refusal league room h (ask.Unpin version game) ≡ None →
-    (game.home < 40) × (game.away < 40)
-unpin_below {league} {room} {h} {changes} {g} version game kept granted =
-    let can : CanMake league room h (ask.Unpin version game) = can_make league room h (ask.Unpin version game) kept.within granted in
-    let sound = IsSound-kept kept in
-    let pair = IsPair-in_range g game (pinned_stands g (pins_of h) game sound.1 can.may).0 in
-    (omega (arith, pair.home_in, sound.0.forty), omega (arith, pair.away_in, sound.0.forty))
-
--- what the scan of the pins finds after a trial
-pub scanned : {league : LeagueData} {room : ℕ} {h : List Entry} {changes : List Change} {g : Games} {pins : List ℕ} {cost : Cost} {best : Option Best} {best_g : Games}
-    (other : Games) (moves : Bool) → IsKept league room h changes g pins cost best best_g → other.teams ≡ g.teams →
-    (moves ≡ false → (x y : ℕ) → IsPair other.teams x y → pin_at pins x y ≢ 255 → round_of other x y ≡ pin_at pins x y) →
-    (moves ≡ true → (x : ℕ) × (y : ℕ) × IsPair other.teams x y × (pin_at pins x y ≢ 255) × (round_of other x y ≢ pin_at pins x y)) →
-    moves ≡ moves_pin other (pins_of h)
-scanned {league} {room} {h} {changes} {g} {pins} other false kept same none some =
-    let sound = IsSound-kept kept in
-    sym (moves_pin-none g other (pins_of h) pins sound.0 sound.1 kept.pins_are
-    (λ x y pair pin. none refl x y (subst (λ n. IsPair n x y) (sym same) pair) pin))
-scanned {league} {room} {h} {changes} {g} {pins} other true kept same none some =
-    let found = some refl in
-    sym (moves_pin-some g other (pins_of h) pins found.0 found.1 (IsSound-kept kept).1 kept.pins_are
-    (subst (λ n. IsPair n found.0 found.1) same found.2) found.3 found.4)
+    record {
+      no_reason = granted;
+      same_room = refl;
+      same_history = refl;
+      under = can.under;
+      kept = λ caller.
+          let e : Entry = entry caller (ask.Shift p) in
+          let h : List Entry = k.history ++ e ∷ [] in
+          let after : IsSound league h =
+          IsSound-legal each-double_round_robin league k.room h kept.league_is
+          (IsLegal-more league k.room k.history e kept.legal can.under can.may) in
+          let pins_are : pins_of h ≡ pins_of k.history = pins_of-more k.history e refl in
+          let games_are : g ≡ games_of league h =
+          moved_is ∙ ap (λ x. moved x p.mv) kept.games_are ∙ sym (games_of-more league k.history e refl) in
+          let stand : AllStand g (pins_of k.history) =
+          subst (λ x. AllStand x (pins_of k.history)) (sym games_are)
+          (subst (AllStand (games_of league h)) pins_are after.stand) in
+          IsKept-more e (k.changes ++ Shift p.mv ∷ []) g k.pins cost kept can.under can.may refl games_are kept.pins_length
+          (subst (λ q. ArePinsAt g q k.pins) (sym pins_are)
+          (ArePinsAt-games k.games g (pins_of k.history) k.pins (ap (λ (x : Games). x.teams) moved_is ∙ moved-teams k.games p.mv) sound.1 stand kept.pins_are))
+          cost_is;
+    }
 
 -- the change that was the last in effect, taken back
 
@@ -210,17 +198,17 @@ record LastKept (league : LeagueData) (h : List Entry) (g : Games) (front : List
   games_are : g ≡ shifted (games_after (start_of league) front) change
   pins_are : pins_of h ≡ pinned (pins_after [] front) change
 
-last_kept : {league : LeagueData} {room : ℕ} {h : List Entry} {changes : List Change} {g : Games} {pins : List ℕ} {cost : Cost} {best : Option Best} {best_g : Games}
-    (front : List Change) (change : Change) → IsKept league room h changes g pins cost best best_g →
-    changes ≡ front ++ change ∷ [] → LastKept league h g front change
-last_kept {league} {room} {h} {changes} {g} front change kept are =
-    let last : effective h ≡ front ++ change ∷ [] = sym kept.effective_is ∙ are in
+last_kept : {league : LeagueData} {k : Kept}
+    (front : List Change) (change : Change) → IsKept league k →
+    k.changes ≡ front ++ change ∷ [] → LastKept league k.history k.games front change
+last_kept {league} {k} front change kept are =
+    let last : effective k.history ≡ front ++ change ∷ [] = sym kept.effective_is ∙ are in
     record {
-      last = IsLastMade-legal each-double_round_robin league room h front change kept.league_is kept.legal last;
+      last = IsLastMade-legal each-double_round_robin league k.room k.history front change kept.league_is kept.legal last;
       games_are = kept.games_are ∙
-          games_of-by league h (front ++ change ∷ []) last ∙
+          games_of-by league k.history (front ++ change ∷ []) last ∙
           games_after-more (start_of league) front change;
-      pins_are = pins_of-by h (front ++ change ∷ []) last ∙ pins_after-more [] front change;
+      pins_are = pins_of-by k.history (front ++ change ∷ []) last ∙ pins_after-more [] front change;
     }
 
 can_take_back : (g : Games) (pins : List Game) (change : Change) → IsDoubleRoundRobin g → AllStand g pins → Fits g pins change →
@@ -234,9 +222,9 @@ can_take_back g pins (Unpin game) robin stand fits =
     (omega (arith, pair.home_in, robin.forty), omega (arith, pair.away_in, robin.forty))
 can_take_back g pins Undo robin stand fits = tt
 
-pub CanTakeBack-last : {league : LeagueData} {room : ℕ} {h : List Entry} {changes : List Change} {g : Games} {pins : List ℕ} {cost : Cost} {best : Option Best} {best_g : Games}
-    (front : List Change) (change : Change) → IsKept league room h changes g pins cost best best_g →
-    changes ≡ front ++ change ∷ [] → CanTakeBack g change
+pub CanTakeBack-last : {league : LeagueData} {k : Kept}
+    (front : List Change) (change : Change) → IsKept league k →
+    k.changes ≡ front ++ change ∷ [] → CanTakeBack k.games change
 CanTakeBack-last front change kept are =
     let known = last_kept front change kept are in
     subst (λ x. CanTakeBack x change) (sym known.games_are)
@@ -268,49 +256,68 @@ ArePinsAt-taken_back g pins table (Unpin game) robin stand fits after size are =
     ArePinsAt-unpin_back g pins table game robin.forty size stands.0 stands.1 stand fits are
 ArePinsAt-taken_back g pins table Undo robin stand fits after size are = are
 
-pub IsKept-undo : {league : LeagueData} {room : ℕ} {h : List Entry} {changes : List Change} {g : Games} {pins : List ℕ} {cost : Cost} {best : Option Best} {best_g : Games}
-    (caller version : ℕ) (front : List Change) (change : Change) (cost2 : Cost) → IsKept league room h changes g pins cost best best_g →
-    refusal league room h (ask.Undo version) ≡ None → changes ≡ front ++ change ∷ [] → cost2 ≡ cost_of league (shifted g change) →
-    IsKept league room (h ++ entry caller (ask.Undo version) ∷ []) front (shifted g change) (taken_back pins change) cost2
-    (led_by best cost2 (length h + 1)) (if leads best cost2 then shifted g change else best_g)
-IsKept-undo {league} {room} {h} {changes} {g} {pins} {cost} {best} {best_g} caller version front change cost2 kept granted are cost_is =
-    let e : Entry = entry caller (ask.Undo version) in
-    let can : CanMake league room h (ask.Undo version) = can_make league room h (ask.Undo version) kept.within granted in
+pub IsGranted-undo : {league : LeagueData} {k : Kept} (version : ℕ) (front : List Change) (change : Change) → IsKept league k →
+    refusal league k.room k.history (ask.Undo version) ≡ None → k.changes ≡ front ++ change ∷ [] →
+    IsGranted league k (record k {
+      changes = front;
+      games = shifted k.games change;
+      pins = taken_back k.pins change;
+      cost = cost_of league (shifted k.games change);
+    }) (ask.Undo version)
+IsGranted-undo {league} {k} version front change kept granted are =
+    let can : CanMake league k.room k.history (ask.Undo version) = can_make league k.room k.history (ask.Undo version) kept.within granted in
     let sound = IsSound-kept kept in
     let known = last_kept front change kept are in
     let before : Games = games_after (start_of league) front in
     let held : List Game = pins_after [] front in
-    let back : shifted g change ≡ before =
+    let back : shifted k.games change ≡ before =
     ap (λ x. shifted x change) known.games_are ∙ unshifted before held change known.last.robin known.last.fits in
-    let effective_is : effective (h ++ e ∷ []) ≡ front =
-    effective-undo h caller front change (sym kept.effective_is ∙ are) in
     let stand : AllStand (shifted before change) (pinned held change) =
-    subst (λ x. AllStand x (pinned held change)) known.games_are (subst (AllStand g) known.pins_are sound.1) in
-    let table : ArePinsAt (shifted before change) (pinned held change) pins =
-    subst (λ x. ArePinsAt x (pinned held change) pins) known.games_are
-    (subst (λ q. ArePinsAt g q pins) known.pins_are kept.pins_are) in
-    let written : ArePinsAt before held (taken_back pins change) =
-    ArePinsAt-taken_back before held pins change known.last.robin known.last.stand known.last.fits stand kept.pins_length table in
-    IsKept-more e front (shifted g change) (taken_back pins change) cost2 kept can.under can.may
-    (sym effective_is ∙ effective-more h e ∙ ap (λ c. effect c Undo) (sym kept.effective_is))
-    (back ∙ sym (games_of-by league (h ++ e ∷ []) front effective_is))
-    (taken_back-length pins change ∙ kept.pins_length)
-    (subst (λ q. ArePinsAt (shifted g change) q (taken_back pins change)) (sym (pins_of-by (h ++ e ∷ []) front effective_is))
-    (subst (λ x. ArePinsAt x held (taken_back pins change)) (sym back) written))
-    cost_is
+    subst (λ x. AllStand x (pinned held change)) known.games_are (subst (AllStand k.games) known.pins_are sound.1) in
+    let table : ArePinsAt (shifted before change) (pinned held change) k.pins =
+    subst (λ x. ArePinsAt x (pinned held change) k.pins) known.games_are
+    (subst (λ q. ArePinsAt k.games q k.pins) known.pins_are kept.pins_are) in
+    let written : ArePinsAt before held (taken_back k.pins change) =
+    ArePinsAt-taken_back before held k.pins change known.last.robin known.last.stand known.last.fits stand kept.pins_length table in
+    record {
+      no_reason = granted;
+      same_room = refl;
+      same_history = refl;
+      under = can.under;
+      kept = λ caller.
+          let e : Entry = entry caller (ask.Undo version) in
+          let effective_is : effective (k.history ++ e ∷ []) ≡ front =
+          effective-undo k.history caller front change (sym kept.effective_is ∙ are) in
+          IsKept-more e front (shifted k.games change) (taken_back k.pins change) (cost_of league (shifted k.games change)) kept can.under can.may
+          (sym effective_is ∙ effective-more k.history e ∙ ap (λ c. effect c Undo) (sym kept.effective_is))
+          (back ∙ sym (games_of-by league (k.history ++ e ∷ []) front effective_is))
+          (taken_back-length k.pins change ∙ kept.pins_length)
+          (subst (λ q. ArePinsAt (shifted k.games change) q (taken_back k.pins change)) (sym (pins_of-by (k.history ++ e ∷ []) front effective_is))
+          (subst (λ x. ArePinsAt x held (taken_back k.pins change)) (sym back) written))
+          refl;
+    }
 
 -- a new board
 
-pub IsKept-none : (league : LeagueData) (room : ℕ) (cost : Cost) (best_g : Games) → IsLeague league →
+pub IsKept-start : (league : LeagueData) (room : ℕ) (cost : Cost) (best_g : Games) → IsLeague league → room ≤ max_room →
     cost ≡ cost_of league (start_of league) →
-    IsKept league room [] [] (start_of league) (replicate 1600 255) cost (led_by None cost 0)
-    (if leads None cost then start_of league else best_g)
+    IsKept league (record {
+      room = room;
+      history = [];
+      changes = [];
+      games = start_of league;
+      pins = replicate 1600 255;
+      cost = cost;
+      best = led_by None cost 0;
+      best_games = if leads None cost then start_of league else best_g;
+    })
 unfolding cost_at
-IsKept-none league room cost best_g is cost_is =
+IsKept-start league room cost best_g is most cost_is =
     let start : start_of league ≡ games_of league [] = sym (games_of-none league) in
     let cost_here : cost ≡ cost_of league (games_of league []) = cost_is ∙ ap (cost_of league) start in
     record {
       league_is = is;
+      room_most = most;
       within = omega arith;
       legal = IsLegal-none league room;
       effective_is = sym effective-none;
@@ -321,7 +328,7 @@ IsKept-none league room cost best_g is cost_is =
       pins_are = subst (λ q. ArePinsAt (start_of league) q (replicate 1600 255)) (sym pins_of-none)
           (ArePinsAt-none (start_of league) is.table.most);
       cost_is = cost_here;
-      small = rw cost_is (score_le league (start_of league) is refl);
+      small = rw cost_is (score_below league (start_of league) is refl);
       leader = subst (λ found. IsLeader league found (led_by None cost 0) (if leads None cost then start_of league else best_g))
           (sym (best_prefix-none league))
           (IsLeader-more league None [] None (start_of league) best_g cost 0 refl cost_here refl start);

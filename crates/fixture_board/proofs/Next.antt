@@ -6,17 +6,17 @@ use Rattle.fixtures.specs.Games.{Games}
 use Rattle.moves.specs.declared.fault.MoveFault.{MoveFault}
 use Rattle.moves.specs.declared.fault.MoveFault.TheVariants.{BadMove, Meet}
 use Rattle.moves.specs.Moves.{moved, fault_of}
-use Rattle.fixture_board.specs.Costs.{cost_of, score_of, total_of}
+use Rattle.fixture_board.specs.Costs.{cost_of, score_of, score_limit, total_of}
 use Rattle.fixture_board.specs.declared.change.Entry.{Entry}
 use Rattle.fixture_board.specs.declared.ask.Ask.{Ask}
 use Rattle.fixture_board.specs.declared.ask.Ask.TheVariants as ask
 use Rattle.fixture_board.specs.declared.reply.Why.{Why}
 use Rattle.fixture_board.specs.declared.reply.Why.TheVariants as why
 use Rattle.fixture_board.specs.History.{effect, effective, games_of, pins_of, has_game, is_in_range, is_there, moves_pin, May, legal_after, IsLegal, cost_at, better, best_prefix, as_best, best_of}
-use Rattle.fixture_board.specs.Replies.{change_of, is_bad, is_meeting, is_wrong, first_of, refusal, entry, next_if, reply_if, next_of, reply_of}
+use Rattle.fixture_board.specs.Replies.{change_of, is_bad, is_meeting, is_wrong, first_of, refusal, entry, next_if, reply_if, next_of, reply_of, greatest}
 use Rattle.fixture_board.specs.Laws.{as_number, least_of, TellsOf}
 use Rattle.fixture_board.proofs.OneMore.{effective-more, games_of-by, IsLegal-more, best_prefix-more}
-use Rattle.fixture_board.proofs.Scores.{score_le, games_of-teams}
+use Rattle.fixture_board.proofs.Scores.{score_below, games_of-teams}
 
 -- no row applies
 abbrev pub NoneApplies : List (Bool × Why) → Type 0
@@ -157,8 +157,8 @@ TellsOf-reply league room h caller ask = TellsOf-if league h caller ask (refusal
 abbrev number_of : LeagueData → Option (List Entry) → ℕ
 number_of league found = as_number (as_best league found)
 
-number_of-first : (league : LeagueData) (p : List Entry) (free : Bool) → total_of (cost_at league p) ≤ 18446744073709551615 →
-    number_of league (if free then Some p else None) ≤ 18446744073709551615
+number_of-first : (league : LeagueData) (p : List Entry) (free : Bool) → total_of (cost_at league p) ≤ greatest →
+    number_of league (if free then Some p else None) ≤ greatest
 number_of-first league p true few = few
 number_of-first league p false few = omega arith
 
@@ -169,7 +169,7 @@ number_of-other league p q true less = less refl
 number_of-other league p q false less = omega arith
 
 number_of-better : (league : LeagueData) (found : Option (List Entry)) (p : List Entry) →
-    total_of (cost_at league p) ≤ 18446744073709551615 → number_of league (better league found p) ≤ number_of league found
+    total_of (cost_at league p) ≤ greatest → number_of league (better league found p) ≤ number_of league found
 number_of-better league None p few = number_of-first league p ((cost_at league p).hard == 0) few
 number_of-better league (Some q) p few =
     let lower : Bool = nat_lt (total_of (cost_at league p)) (total_of (cost_at league q)) in
@@ -179,9 +179,9 @@ number_of-better league (Some q) p few =
       ltb-true (total_of (cost_at league p)) (total_of (cost_at league q)) (and_parts ((cost_at league p).hard == 0) lower leads).1,
     ))
 
-pub total_small : (league : LeagueData) (h : List Entry) → IsLeague league → total_of (cost_at league h) ≤ 10000000000000000
+pub total_small : (league : LeagueData) (h : List Entry) → IsLeague league → total_of (cost_at league h) < score_limit
 unfolding cost_at
-total_small league h is = omega (arith, score_le league (games_of league h) is (games_of-teams league h))
+total_small league h is = omega (arith, score_below league (games_of league h) is (games_of-teams league h))
 
 pub least_of-falls : (league : LeagueData) (h : List Entry) (e : Entry) → IsLeague league →
     least_of league (h ++ e ∷ []) ≤ least_of league h

@@ -1,13 +1,14 @@
 -- The table of pins, and the pinned games that it stands for.
-use Rattle.std.proofs.Common.{◌≡◌, ◌≢◌, ℕ, ◌+◌, ◌*◌, ◌<◌, ◌≤◌, Bool, true, false, not, cond, if◌then◌else◌, ◌&&◌, ◌||◌, ◌==◌, inl, inr, List, [], ◌∷◌, length, filter, replicate, nat_lt, slice_set, true≢false, refl, sym, ◌∙◌, ap, subst, arith}
-use Rattle.std.specs.List.{list_any}
+use Rattle.std.proofs.Common.{◌≡◌, ◌≢◌, ℕ, zero, suc, ◌+◌, ◌*◌, ◌<◌, ◌≤◌, Bool, true, false, not, cond, if◌then◌else◌, ◌&&◌, ◌||◌, ◌==◌, inl, inr, List, [], ◌∷◌, length, filter, replicate, nat_lt, slice_index, slice_set, true≢false, refl, sym, ◌∙◌, ap, subst, arith}
+use Rattle.std.specs.List.{count_by, list_any}
 use Rattle.std.proofs.lemmas.Bool.{cases_eq, or_cases, and_parts, not-true, eq-eqb, ne_eqb, eqb-true, eqb-false, ltb-true}
 use Rattle.std.proofs.Math.Bool.{and-false, or-true}
+use Rattle.std.proofs.lemmas.List.Sums.{sum_by-cons}
 use Rattle.std.proofs.lemmas.List.{get_or-set_same, get_or-set_other, get_or-replicate}
 use Rattle.fixtures.specs.declared.game.Game.{Game}
 use Rattle.fixtures.specs.Games.{Games, round_of, round_count, IsPair, IsDoubleRoundRobin}
 use Rattle.fixture_board.specs.History.{is_game, has_game, is_pinned, is_in_range, is_there, moves_pin, AllStand}
-use Rattle.fixture_board.specs.Kept.{pin_at, ArePinsAt}
+use Rattle.fixture_board.specs.PinPlaces.{pin_at, ArePinsAt}
 
 -- what is read after a write
 
@@ -286,3 +287,38 @@ pub moves_pin-some : (g other : Games) (pins : List Game) (table : List ℕ) (h 
 moves_pin-some g other pins table h a all are pair pin apart =
     let told = place_of-pinned (is_pinned pins h a) (round_of g h a) (pin_at table h a) (are h a pair) pin in
     moves_pin-moved g other pins h a all told.0 (λ same. apart (same ∙ sym told.1))
+
+-- what the scan of the table finds
+pub moves_pin-scanned : (g other : Games) (pins : List Game) (table : List ℕ) (moves : Bool) → IsDoubleRoundRobin g → AllStand g pins →
+    ArePinsAt g pins table → other.teams ≡ g.teams →
+    (moves ≡ false → (h a : ℕ) → IsPair other.teams h a → pin_at table h a ≢ 255 → round_of other h a ≡ pin_at table h a) →
+    (moves ≡ true → (h : ℕ) × (a : ℕ) × IsPair other.teams h a × (pin_at table h a ≢ 255) × (round_of other h a ≢ pin_at table h a)) →
+    moves ≡ moves_pin other pins
+moves_pin-scanned g other pins table false robin all are same none some =
+    sym (moves_pin-none g other pins table robin all are (λ h a pair pin. none refl h a (subst (λ n. IsPair n h a) (sym same) pair) pin))
+moves_pin-scanned g other pins table true robin all are same none some =
+    let found = some refl in
+    sym (moves_pin-some g other pins table found.0 found.1 all are (subst (λ n. IsPair n found.0 found.1) same found.2) found.3 found.4)
+
+-- a table without a round has no pinned game
+
+none_pinned-if : (round rest : ℕ) → cond (not (round == 255)) 1 0 + rest ≡ 0 → (round ≡ 255) × (rest ≡ 0)
+none_pinned-if round rest none = go (round == 255) refl none
+  where
+    go : (b : Bool) → round == 255 ≡ b → cond (not b) 1 0 + rest ≡ 0 → (round ≡ 255) × (rest ≡ 0)
+    go true is sum = (eqb-true round 255 is, omega (arith, sum))
+    go false is sum = absurd (omega (arith, sum))
+
+none_pinned : (table : List ℕ) (i : ℕ) → i < length table → count_by (λ round. not (round == 255)) table ≡ 0 → slice_index table i ≡ 255
+none_pinned [] i within none = absurd (omega arith)
+none_pinned (round ∷ table) zero within none =
+    (none_pinned-if round (count_by (λ x. not (x == 255)) table) (sym (sum_by-cons (λ x. cond (not (x == 255)) 1 0) round table) ∙ none)).0
+none_pinned (round ∷ table) (suc i) within none =
+    none_pinned table i (omega arith)
+    (none_pinned-if round (count_by (λ x. not (x == 255)) table) (sym (sum_by-cons (λ x. cond (not (x == 255)) 1 0) round table) ∙ none)).1
+
+pub moves_pin-unpinned : (g other : Games) (pins : List Game) (table : List ℕ) → IsDoubleRoundRobin g → AllStand g pins → ArePinsAt g pins table →
+    length table ≡ 1600 → count_by (λ round. not (round == 255)) table ≡ 0 → moves_pin other pins ≡ false
+moves_pin-unpinned g other pins table robin all are size none =
+    moves_pin-none g other pins table robin all are
+    (λ h a pair pin. absurd (pin (none_pinned table (h * 40 + a) (omega (arith, pair.home_in, pair.away_in, robin.forty)) none)))

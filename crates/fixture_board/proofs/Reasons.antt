@@ -1,6 +1,6 @@
 -- Why a board refuses, by the tests that it makes in turn.
 use Rattle.std.proofs.Common.{◌≡◌, ℕ, ◌+◌, ◌*◌, ◌<◌, ◌≤◌, ◌≢◌, Bool, true, false, not, if◌then◌else◌, ◌&&◌, ◌==◌, nat_lt, List, [], ◌∷◌, ◌++◌, length, Option, Some, None, Ok, is_some, true≢false, length-append, refl, sym, ◌∙◌, ap, subst, arith}
-use Rattle.std.proofs.lemmas.Bool.{not-false, eq-eqb, ne_eqb}
+use Rattle.std.proofs.lemmas.Bool.{not-false, eq-eqb, eqb-false, ne_eqb}
 use Rattle.league.specs.League.{LeagueData}
 use Rattle.fixtures.specs.declared.game.Game.{Game}
 use Rattle.fixtures.specs.Games.{Games, round_of, IsPair, IsDoubleRoundRobin}
@@ -18,14 +18,14 @@ use Rattle.fixture_board.specs.declared.reply.Why.{Why}
 use Rattle.fixture_board.specs.declared.reply.Why.TheVariants as why
 use Rattle.fixture_board.specs.declared.reply.Reply.TheVariants.{Done, No}
 use Rattle.fixture_board.specs.History.{effective, games_of, pins_of, has_game, is_in_range, is_there, moves_pin, AllStand, cost_at}
-use Rattle.fixture_board.specs.Kept.{pin_at, ArePinsAt, IsKept}
+use Rattle.fixture_board.specs.PinPlaces.{pin_at, ArePinsAt}
+use Rattle.fixture_board.specs.Kept.{Kept, IsKept, IsRefused, IsGranted, entered}
 use Rattle.fixture_board.specs.Replies.{is_bad, is_meeting, is_wrong, first_of, refusal_at, refusal, entry, next_of, reply_of}
 use Rattle.fixture_board.specs.Record.{Book, book}
 use Rattle.fixture_board.proofs.OneMore.{refused, accepted, replies_no, replies_done}
 use Rattle.fixture_board.proofs.Next.{passed, no_fault, cost_at-callers}
 use Rattle.fixture_board.proofs.PinTable.{IsPair-in_range, has_game-pinned, is_pinned-told}
-use Rattle.fixture_board.proofs.Keeps.{IsSound-kept, scanned}
-use Rattle.fixture_board.proofs.Scores.{moved-teams}
+use Rattle.fixture_board.proofs.Keeps.{IsSound-kept}
 
 -- tables of reasons in two parts
 
@@ -70,9 +70,8 @@ move_rows at room version g mv =
     (is_bad (fault_of g mv), why.BadMove) ∷
     (is_meeting (fault_of g mv), why.Meet) ∷ []
 
-abbrev pub trial_rows : ℕ → Proposal → Bool → ℕ → ℕ → List (Bool × Why)
-trial_rows at p moves before after =
-    (moves, why.Pinned) ∷
+abbrev pub score_rows : ℕ → Proposal → ℕ → ℕ → List (Bool × Why)
+score_rows at p before after =
     (at == p.version && is_wrong p.claim after, why.WrongClaim) ∷
     (nat_lt (before + p.slack) after, why.Worse) ∷ []
 
@@ -83,6 +82,9 @@ pub game_is : (at room version : ℕ) (g : Games) (game : Game) → first_of (ga
 game_is at room version g game none =
     let rows = passed (game_rows at room version g game) none in
     (not-false (is_in_range g game) rows.1.1.1.0, not-false (is_there g game) rows.1.1.1.1.0)
+
+pub room_left : (at room version : ℕ) (g : Games) (game : Game) → first_of (game_rows at room version g game) ≡ None → at ≢ room
+room_left at room version g game none = eqb-false at room (passed (game_rows at room version g game) none).1.1.0
 
 pub game_below : (at room version : ℕ) (g : Games) (game : Game) → g.teams ≤ 40 → first_of (game_rows at room version g game) ≡ None →
     (game.home < 40) × (game.away < 40)
@@ -115,86 +117,90 @@ has_game-told at room version g held table game robin none stand are =
 
 -- the reason at a board's history
 
-pub refusal-kept : {league : LeagueData} {room : ℕ} {h : List Entry} {changes : List Change} {g : Games} {pins : List ℕ} {cost : Cost} {best : Option Best} {best_g : Games}
-    (asked : Ask) (at : ℕ) (reason : Option Why) → IsKept league room h changes g pins cost best best_g → at ≡ length h →
-    ((l : LeagueData) (count : ℕ) (held : List Game) → AllStand g held → ArePinsAt g held pins →
-    reason ≡ refusal_at l room at count g held asked) →
-    refusal league room h asked ≡ reason
+pub refusal-kept : {league : LeagueData} {k : Kept} (asked : Ask) (reason : Option Why) → IsKept league k →
+    ((l : LeagueData) (count : ℕ) (held : List Game) → AllStand k.games held → ArePinsAt k.games held k.pins →
+    reason ≡ refusal_at l k.room (length k.history) count k.games held asked) →
+    refusal league k.room k.history asked ≡ reason
 unfolding refusal
-refusal-kept {league} {room} {h} {changes} {g} asked at reason kept at_is told =
-    ap (λ n. refusal_at league room n (length (effective h)) (games_of league h) (pins_of h) asked) (sym at_is) ∙
-    ap (λ x. refusal_at league room at (length (effective h)) x (pins_of h) asked) (sym kept.games_are) ∙
-    sym (told league (length (effective h)) (pins_of h) (IsSound-kept kept).1 kept.pins_are)
+refusal-kept {league} {k} asked reason kept told =
+    ap (λ x. refusal_at league k.room (length k.history) (length (effective k.history)) x (pins_of k.history) asked) (sym kept.games_are) ∙
+    sym (told league (length (effective k.history)) (pins_of k.history) (IsSound-kept kept).1 kept.pins_are)
 
-pub refusal-undo_early : {league : LeagueData} {room : ℕ} {h : List Entry} {changes : List Change} {g : Games} {pins : List ℕ} {cost : Cost} {best : Option Best} {best_g : Games}
-    (version at : ℕ) (reason : Why) → IsKept league room h changes g pins cost best best_g → at ≡ length h →
-    Some reason ≡ first_of (version_rows at room version) → refusal league room h (ask.Undo version) ≡ Some reason
+pub refusal-undo_early : (league : LeagueData) (k : Kept) (version : ℕ) (reason : Why) →
+    Some reason ≡ first_of (version_rows (length k.history) k.room version) →
+    refusal league k.room k.history (ask.Undo version) ≡ Some reason
 unfolding refusal
-refusal-undo_early {league} {room} {h} version at reason kept at_is is =
-    first_of-front (version_rows (length h) room version) ((length (effective h) == 0, why.NothingToUndo) ∷ []) reason
-    (sym (subst (λ n. Some reason ≡ first_of (version_rows n room version)) at_is is))
+refusal-undo_early league k version reason is =
+    first_of-front (version_rows (length k.history) k.room version) ((length (effective k.history) == 0, why.NothingToUndo) ∷ []) reason (sym is)
 
-pub refusal-undo : {league : LeagueData} {room : ℕ} {h : List Entry} {changes : List Change} {g : Games} {pins : List ℕ} {cost : Cost} {best : Option Best} {best_g : Games}
-    (version at : ℕ) → IsKept league room h changes g pins cost best best_g → at ≡ length h →
-    first_of (version_rows at room version) ≡ None →
-    refusal league room h (ask.Undo version) ≡ (if length changes == 0 then Some why.NothingToUndo else None)
+pub refusal-undo : {league : LeagueData} {k : Kept} (version : ℕ) → IsKept league k →
+    first_of (version_rows (length k.history) k.room version) ≡ None →
+    refusal league k.room k.history (ask.Undo version) ≡ (if length k.changes == 0 then Some why.NothingToUndo else None)
 unfolding refusal
-refusal-undo {league} {room} {h} version at kept at_is none =
-    first_of-rest (version_rows (length h) room version) ((length (effective h) == 0, why.NothingToUndo) ∷ [])
-    (subst (λ n. first_of (version_rows n room version) ≡ None) at_is none) ∙
+refusal-undo {league} {k} version kept none =
+    first_of-rest (version_rows (length k.history) k.room version) ((length (effective k.history) == 0, why.NothingToUndo) ∷ []) none ∙
     ap (λ (c : List Change). if length c == 0 then Some why.NothingToUndo else None) (sym kept.effective_is)
 
-pub refusal-undo_none : {league : LeagueData} {room : ℕ} {h : List Entry} {changes : List Change} {g : Games} {pins : List ℕ} {cost : Cost} {best : Option Best} {best_g : Games}
-    (version at : ℕ) (front : List Change) (change : Change) → IsKept league room h changes g pins cost best best_g → at ≡ length h →
-    first_of (version_rows at room version) ≡ None → changes ≡ front ++ change ∷ [] → refusal league room h (ask.Undo version) ≡ None
-refusal-undo_none {league} {room} {h} {changes} version at front change kept at_is none are =
-    refusal-undo version at kept at_is none ∙
+pub refusal-undo_none : {league : LeagueData} {k : Kept} (version : ℕ) (front : List Change) (change : Change) → IsKept league k →
+    first_of (version_rows (length k.history) k.room version) ≡ None → k.changes ≡ front ++ change ∷ [] →
+    refusal league k.room k.history (ask.Undo version) ≡ None
+refusal-undo_none {league} {k} version front change kept none are =
+    refusal-undo version kept none ∙
     ap (λ (b : Bool). if b then Some why.NothingToUndo else None)
-    (ne_eqb (length changes) 0 (λ same. omega (arith, same, ap length are, length-append front (change ∷ []))))
+    (ne_eqb (length k.changes) 0 (λ same. omega (arith, same, ap length are, length-append front (change ∷ []))))
 
-pub refusal-undo_empty : {league : LeagueData} {room : ℕ} {h : List Entry} {changes : List Change} {g : Games} {pins : List ℕ} {cost : Cost} {best : Option Best} {best_g : Games}
-    (version at : ℕ) → IsKept league room h changes g pins cost best best_g → at ≡ length h →
-    first_of (version_rows at room version) ≡ None → length changes ≡ 0 →
-    refusal league room h (ask.Undo version) ≡ Some why.NothingToUndo
-refusal-undo_empty {league} {room} {h} {changes} version at kept at_is none few =
-    refusal-undo version at kept at_is none ∙
-    ap (λ (b : Bool). if b then Some why.NothingToUndo else None) (eq-eqb (length changes) 0 few)
+pub refusal-undo_empty : {league : LeagueData} {k : Kept} (version : ℕ) → IsKept league k →
+    first_of (version_rows (length k.history) k.room version) ≡ None → length k.changes ≡ 0 →
+    refusal league k.room k.history (ask.Undo version) ≡ Some why.NothingToUndo
+refusal-undo_empty {league} {k} version kept none few =
+    refusal-undo version kept none ∙
+    ap (λ (b : Bool). if b then Some why.NothingToUndo else None) (eq-eqb (length k.changes) 0 few)
 
-pub refusal-shift_early : {league : LeagueData} {room : ℕ} {h : List Entry} {changes : List Change} {g : Games} {pins : List ℕ} {cost : Cost} {best : Option Best} {best_g : Games}
-    (p : Proposal) (at : ℕ) (reason : Why) → IsKept league room h changes g pins cost best best_g → at ≡ length h →
-    Some reason ≡ first_of (move_rows at room p.version g p.mv) → refusal league room h (ask.Shift p) ≡ Some reason
+pub refusal-shift_early : {league : LeagueData} {k : Kept} (p : Proposal) (reason : Why) → IsKept league k →
+    Some reason ≡ first_of (move_rows (length k.history) k.room p.version k.games p.mv) →
+    refusal league k.room k.history (ask.Shift p) ≡ Some reason
 unfolding refusal
-refusal-shift_early {league} {room} {h} {changes} {g} p at reason kept at_is is =
-    let after : ℕ = score_of league (cost_of league (moved (games_of league h) p.mv)) in
-    let before : ℕ = score_of league (cost_of league (games_of league h)) in
-    first_of-front (move_rows (length h) room p.version (games_of league h) p.mv)
-    (trial_rows (length h) p (moves_pin (moved (games_of league h) p.mv) (pins_of h)) before after) reason
-    (sym (subst (λ x. Some reason ≡ first_of (move_rows (length h) room p.version x p.mv)) kept.games_are
-    (subst (λ n. Some reason ≡ first_of (move_rows n room p.version g p.mv)) at_is is)))
+refusal-shift_early {league} {k} p reason kept is =
+    let here : Games = games_of league k.history in
+    let after : ℕ = score_of league (cost_of league (moved here p.mv)) in
+    let before : ℕ = score_of league (cost_of league here) in
+    first_of-front (move_rows (length k.history) k.room p.version here p.mv)
+    ((moves_pin (moved here p.mv) (pins_of k.history), why.Pinned) ∷ score_rows (length k.history) p before after) reason
+    (sym (subst (λ x. Some reason ≡ first_of (move_rows (length k.history) k.room p.version x p.mv)) kept.games_are is))
 
-pub refusal-shift : {league : LeagueData} {room : ℕ} {h : List Entry} {changes : List Change} {g : Games} {pins : List ℕ} {cost : Cost} {best : Option Best} {best_g : Games}
-    (p : Proposal) (at : ℕ) (moves : Bool) (before after : ℕ) → IsKept league room h changes g pins cost best best_g → at ≡ length h →
-    first_of (move_rows at room p.version g p.mv) ≡ None → moves ≡ moves_pin (moved g p.mv) (pins_of h) →
-    before ≡ score_of league cost → after ≡ score_of league (cost_of league (moved g p.mv)) →
-    refusal league room h (ask.Shift p) ≡ first_of (trial_rows at p moves before after)
+-- a proposal's reason after the tests that come before its trial
+pub refusal-shift : {league : LeagueData} {k : Kept} (p : Proposal) (moves : Bool) → IsKept league k →
+    first_of (move_rows (length k.history) k.room p.version k.games p.mv) ≡ None →
+    moves ≡ moves_pin (moved k.games p.mv) (pins_of k.history) →
+    refusal league k.room k.history (ask.Shift p) ≡
+    first_of ((moves, why.Pinned) ∷ score_rows (length k.history) p (score_of league k.cost) (score_of league (cost_of league (moved k.games p.mv))))
 unfolding refusal cost_at
-refusal-shift {league} {room} {h} {changes} {g} p at moves before after kept at_is none moves_is before_is after_is =
-    let here : Games = games_of league h in
-    let scored : ℕ = score_of league (cost_of league (moved here p.mv)) in
+refusal-shift {league} {k} p moves kept none moves_is =
+    let here : Games = games_of league k.history in
+    let at : ℕ = length k.history in
+    let rows : Bool → ℕ → ℕ → List (Bool × Why) = λ b before after. (b, why.Pinned) ∷ score_rows at p before after in
     let was : ℕ = score_of league (cost_of league here) in
-    let same : moved g p.mv ≡ moved here p.mv = ap (λ x. moved x p.mv) kept.games_are in
-    let front : first_of (move_rows (length h) room p.version here p.mv) ≡ None =
-    subst (λ x. first_of (move_rows (length h) room p.version x p.mv) ≡ None) kept.games_are
-    (subst (λ n. first_of (move_rows n room p.version g p.mv) ≡ None) at_is none) in
-    let moves_here : moves_pin (moved here p.mv) (pins_of h) ≡ moves = ap (λ x. moves_pin x (pins_of h)) (sym same) ∙ sym moves_is in
-    let before_here : was ≡ before = ap (score_of league) (sym kept.cost_is) ∙ sym before_is in
-    let after_here : scored ≡ after = ap (λ x. score_of league (cost_of league x)) (sym same) ∙ sym after_is in
-    first_of-rest (move_rows (length h) room p.version here p.mv)
-    (trial_rows (length h) p (moves_pin (moved here p.mv) (pins_of h)) was scored) front ∙
-    ap (λ n. first_of (trial_rows n p (moves_pin (moved here p.mv) (pins_of h)) was scored)) (sym at_is) ∙
-    ap (λ b. first_of (trial_rows at p b was scored)) moves_here ∙
-    ap (λ n. first_of (trial_rows at p moves n scored)) before_here ∙
-    ap (λ n. first_of (trial_rows at p moves before n)) after_here
+    let same : moved here p.mv ≡ moved k.games p.mv = ap (λ x. moved x p.mv) (sym kept.games_are) in
+    let after : ℕ = score_of league (cost_of league (moved here p.mv)) in
+    first_of-rest (move_rows at k.room p.version here p.mv) (rows (moves_pin (moved here p.mv) (pins_of k.history)) was after)
+    (subst (λ x. first_of (move_rows at k.room p.version x p.mv) ≡ None) kept.games_are none) ∙
+    ap (λ x. first_of (rows (moves_pin x (pins_of k.history)) was (score_of league (cost_of league x)))) same ∙
+    ap (λ b. first_of (rows b was (score_of league (cost_of league (moved k.games p.mv))))) (sym moves_is) ∙
+    ap (λ c. first_of (rows moves (score_of league c) (score_of league (cost_of league (moved k.games p.mv))))) (sym kept.cost_is)
+
+-- the reason by the scores, where the move is tried on `g1` and leads to `g2` of this cost
+pub refusal-trial : {league : LeagueData} {k : Kept} (p : Proposal) (g1 g2 : Games) (cost : Cost) (at before after : ℕ) (moves : Bool) →
+    IsKept league k → first_of (move_rows (length k.history) k.room p.version k.games p.mv) ≡ None →
+    moves ≡ moves_pin (moved k.games p.mv) (pins_of k.history) → moves ≡ false →
+    g1 ≡ k.games → g2 ≡ moved g1 p.mv → cost ≡ cost_of league g2 → at ≡ length k.history →
+    before ≡ score_of league k.cost → after ≡ score_of league cost →
+    refusal league k.room k.history (ask.Shift p) ≡ first_of (score_rows at p before after)
+refusal-trial {league} {k} p g1 g2 cost at before after moves kept none moves_is stay tried_is moved_is cost_is at_is before_is after_is =
+    let games : g2 ≡ moved k.games p.mv = moved_is ∙ ap (λ x. moved x p.mv) tried_is in
+    let last : after ≡ score_of league (cost_of league (moved k.games p.mv)) =
+    after_is ∙ ap (score_of league) cost_is ∙ ap (λ x. score_of league (cost_of league x)) games in
+    let told = refusal-shift p moves kept none moves_is in
+    rw (at_is, before_is, last) (rw stay at told)
 
 pub can_be_tried : (at room version : ℕ) (g : Games) (mv : Move) → first_of (move_rows at room version g mv) ≡ None →
     fault_of g mv ≡ Ok tt
@@ -202,61 +208,32 @@ can_be_tried at room version g mv none =
     let rows = passed (move_rows at room version g mv) none in
     no_fault (fault_of g mv) rows.1.1.0 rows.1.1.1.0
 
-scored : (l : LeagueData) (cost : Cost) (weight score : ℕ) → score ≡ cost.travel + cost.soft + weight * cost.hard →
-    weight ≡ l.hard_weight → score ≡ score_of l cost
-scored l cost weight score is same = is ∙ ap (λ w. cost.travel + cost.soft + w * cost.hard) same
-
--- what a trial finds, where the move leads to `g2` of the cost `cost2`
-pub refusal-trial : {league : LeagueData} {room : ℕ} {h : List Entry} {changes : List Change} {g : Games} {pins : List ℕ} {cost : Cost} {best : Option Best} {best_g : Games}
-    (p : Proposal) (at : ℕ) (g2 : Games) (cost2 : Cost) (moves : Bool) (weight before after : ℕ) → IsKept league room h changes g pins cost best best_g →
-    at ≡ length h → first_of (move_rows at room p.version g p.mv) ≡ None → g2 ≡ moved g p.mv → cost2 ≡ cost_of league g2 →
-    (moves ≡ false → (x y : ℕ) → IsPair g2.teams x y → pin_at pins x y ≢ 255 → round_of g2 x y ≡ pin_at pins x y) →
-    (moves ≡ true → (x : ℕ) × (y : ℕ) × IsPair g2.teams x y × (pin_at pins x y ≢ 255) × (round_of g2 x y ≢ pin_at pins x y)) →
-    weight ≡ league.hard_weight → before ≡ cost.travel + cost.soft + weight * cost.hard →
-    after ≡ cost2.travel + cost2.soft + weight * cost2.hard →
-    refusal league room h (ask.Shift p) ≡ first_of (trial_rows at p moves before after)
-refusal-trial {league} {room} {h} {changes} {g} {pins} {cost} p at g2 cost2 moves weight before after kept at_is rows moved_is cost_is none some weight_is before_is after_is =
-    refusal-shift p at moves before after kept at_is rows
-    (scanned g2 moves kept (ap (λ (x : Games). x.teams) moved_is ∙ moved-teams g p.mv) none some ∙
-    ap (λ x. moves_pin x (pins_of h)) moved_is)
-    (scored league cost weight before before_is weight_is)
-    (scored league cost2 weight after after_is weight_is ∙ ap (score_of league) (cost_is ∙ ap (cost_of league) moved_is))
-
 -- the answers of a call, where the board shows `v`
 
-pub refused_call : {league : LeagueData} {room : ℕ} {h : List Entry} (v : Book) (caller at : ℕ) (asked : Ask) (reason : Why) →
-    book league room h ≡ v → at ≡ length v.history → refusal league room h asked ≡ Some reason →
-    (No at reason ≡ reply_of v.league v.room v.history asked) ×
-    (v ≡ book v.league v.room (next_of v.league v.room v.history caller asked))
-refused_call {league} {room} {h} v caller at asked reason view at_is is =
-    let here : at ≡ length h = rw (← view) at at_is in
-    rw (← view) (
-      ap (λ (n : ℕ). No n reason) here ∙ sym (replies_no league room h asked reason is),
-      ap (book league room) (sym (refused league room h caller asked reason is)),
+pub refused_call : (league : LeagueData) (old new : Kept) (v : Book) (caller : ℕ) (asked : Ask) (reason : Why) →
+    IsRefused league old new asked reason → book league old.room old.history ≡ v →
+    (No (length old.history) reason ≡ reply_of v.league v.room v.history asked) ×
+    (book league new.room new.history ≡ book v.league v.room (next_of v.league v.room v.history caller asked))
+refused_call league old new v caller asked reason is view =
+    rw (← view, is.same) (
+      sym (replies_no league old.room old.history asked reason is.reason),
+      ap (book league old.room) (sym (refused league old.room old.history caller asked reason is.reason)),
     )
 
-pub granted_call : {league : LeagueData} {room : ℕ} {h : List Entry} {changes : List Change} {g : Games} {pins : List ℕ} {cost : Cost} {best : Option Best} {best_g : Games}
-    (v : Book) (caller : ℕ) (asked : Ask) (h2 : List Entry) →
-    IsKept league room (h ++ entry caller asked ∷ []) changes g pins cost best best_g → book league room h ≡ v →
-    h2 ≡ h ++ entry caller asked ∷ [] → refusal league room h asked ≡ None →
-    (Done (length h + 1) cost ≡ reply_of v.league v.room v.history asked) ×
-    (book league room h2 ≡ book v.league v.room (next_of v.league v.room v.history caller asked))
-granted_call {league} {room} {h} {changes} {g} {pins} {cost} v caller asked h2 kept view h2_is none =
-    rw (← view) (
-      ap (λ (x : Cost). Done (length h + 1) x)
-          (kept.cost_is ∙ cost_at-callers league h (entry caller asked) (entry 0 asked) refl) ∙
-          sym (replies_done league room h asked none),
-      ap (book league room) (h2_is ∙ sym (accepted league room h caller asked none)),
+pub granted_call : (league : LeagueData) (old new : Kept) (v : Book) (caller : ℕ) (asked : Ask) →
+    IsGranted league old new asked → book league old.room old.history ≡ v →
+    (Done (length new.history + 1) new.cost ≡ reply_of v.league v.room v.history asked) ×
+    (book league new.room (new.history ++ entry caller asked ∷ []) ≡ book v.league v.room (next_of v.league v.room v.history caller asked))
+granted_call league old new v caller asked is view =
+    let kept : IsKept league (entered new (entry caller asked)) = is.kept caller in
+    let cost : new.cost ≡ cost_at league (old.history ++ entry 0 asked ∷ []) =
+    kept.cost_is ∙
+    ap (λ h. cost_at league (h ++ entry caller asked ∷ [])) is.same_history ∙
+    cost_at-callers league old.history (entry caller asked) (entry 0 asked) refl in
+    rw (← view, is.same_history, is.same_room, cost) (
+      sym (replies_done league old.room old.history asked is.no_reason),
+      ap (book league old.room) (sym (accepted league old.room old.history caller asked is.no_reason)),
     )
-
--- the reason of a pin or an unpin, as it was found
-pub found : {league : LeagueData} {room : ℕ} {h : List Entry} {changes : List Change} {g : Games} {pins : List ℕ} {cost : Cost} {best : Option Best} {best_g : Games}
-    (v : Book) (asked : Ask) (at : ℕ) (reason : Option Why) → IsKept league room h changes g pins cost best best_g →
-    book league room h ≡ v → at ≡ length v.history →
-    ((l : LeagueData) (count : ℕ) (held : List Game) → AllStand g held → ArePinsAt g held pins →
-    reason ≡ refusal_at l room at count g held asked) →
-    refusal league room h asked ≡ reason
-found v asked at reason kept view at_is told = refusal-kept asked at reason kept (rw (← view) at at_is) told
 
 -- the last row of a pin and of an unpin, by the table
 

@@ -1,4 +1,4 @@
--- No schedule of a league scores more than 10,000,000,000,000,000.
+-- Each schedule of a league scores below the limit of scores.
 use Rattle.std.proofs.Common.{◌≡◌, ℕ, ◌+◌, ◌-◌, ◌*◌, ◌^◌, ◌<◌, ◌≤◌, if◌then◌else◌, ◌&&◌, List, [], ◌∷◌, length, slice_get, Option, Some, None, refl, sym, ◌∙◌, subst, le_refl, arith}
 use Rattle.std.proofs.lemmas.List.Elements.{All-from_recursion, All-get_or}
 use Rattle.std.proofs.lemmas.Option.{slice_get_within, get_or_from_slice_get}
@@ -17,7 +17,7 @@ use Rattle.tours.specs.Tours.{leg_count, leg, travel_of, travel}
 use Rattle.tours.specs.Runs.{windows, is_run, runs_of, runs_over}
 use Rattle.tours.specs.Repeats.{repeats_after, repeats}
 use Rattle.robinx.specs.Deviations.{deviation}
-use Rattle.fixture_board.specs.Costs.{hard_share, soft_share, share_of, sum_over_rules, cost_of, score_of}
+use Rattle.fixture_board.specs.Costs.{hard_share, soft_share, share_of, sum_over_rules, cost_of, score_of, score_limit}
 use Rattle.fixture_board.specs.declared.change.Change.{Change}
 use Rattle.fixture_board.specs.declared.change.Change.TheVariants.{Shift, Pin, Unpin, Undo}
 use Rattle.fixture_board.specs.declared.change.Entry.{Entry}
@@ -152,8 +152,8 @@ cost_travel : (l : LeagueData) (g : Games) → (cost_of l g).travel ≡ travel l
 unfolding cost_of
 cost_travel l g = refl
 
-pub score_le : (l : LeagueData) (g : Games) → IsLeague l → g.teams ≡ teams l → score_of l (cost_of l g) ≤ 10000000000000000
-score_le l g is same =
+pub score_below : (l : LeagueData) (g : Games) → IsLeague l → g.teams ≡ teams l → score_of l (cost_of l g) < score_limit
+score_below l g is same =
     let forty : g.teams ≤ 40 = omega (arith, is.table.most) in
     omega (
       arith,
@@ -169,4 +169,4 @@ IsScored league = (h : List Entry) → score_of league (cost_at league h) < 2 ^ 
 
 pub IsScored-league : (league : LeagueData) → IsLeague league → IsScored league
 unfolding cost_at
-IsScored-league league is h = omega (arith, score_le league (games_of league h) is (games_of-teams league h))
+IsScored-league league is h = omega (arith, score_below league (games_of league h) is (games_of-teams league h))

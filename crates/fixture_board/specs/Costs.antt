@@ -1,5 +1,5 @@
 -- What a schedule costs in a league.
-use Rattle.std.specs.Prelude.{ℕ, ◌+◌, ◌*◌, List, length, slice_get, Option, Some, None}
+use Rattle.std.specs.Prelude.{ℕ, ◌+◌, ◌*◌, ◌^◌, List, length, slice_get, Option, Some, None}
 use Rattle.league.specs.League.{LeagueData}
 use Rattle.league.specs.Sums.{sum_below}
 use Rattle.league.specs.declared.rule.Rule.{Rule}
@@ -46,3 +46,7 @@ score_of l cost = cost.travel + cost.soft + l.hard_weight * cost.hard
 -- what is compared among schedules that break none
 abbrev pub total_of : Cost → ℕ
 total_of cost = cost.travel + cost.soft
+
+-- no score of a league's schedules reaches this
+abbrev pub score_limit : ℕ
+score_limit = 10 ^ 16

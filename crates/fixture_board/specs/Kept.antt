@@ -1,60 +1,26 @@
 -- What a board keeps behind what it shows.
-use Rattle.std.specs.Prelude.{◌≡◌, ℕ, ◌+◌, ◌*◌, ◌<◌, ◌≤◌, Bool, if◌then◌else◌, List, length, slice_index, Option, Some, None, slice_set, ◌&&◌, ◌==◌, nat_lt, Ok}
-use Rattle.fixtures.specs.declared.game.Game.{Game}
-use Rattle.fixtures.specs.Games.{Games, round_of, IsPair}
-use Rattle.fixture_board.specs.declared.cost.Cost.{Cost}
+use Rattle.std.specs.Prelude.{◌≡◌, ℕ, ◌+◌, ◌<◌, ◌≤◌, Bool, if◌then◌else◌, List, [], ◌∷◌, ◌++◌, length, Option, Some, None, ◌&&◌, ◌==◌, nat_lt, Ok}
+use Rattle.std.specs.Vec.{vec_capacity}
 use Rattle.league.specs.League.{LeagueData, teams, IsLeague}
-use Rattle.fixture_board.specs.Costs.{score_of, total_of}
+use Rattle.fixtures.specs.Games.{Games}
 use Rattle.moves.specs.Moves.{fault_of}
-use Rattle.fixture_board.specs.declared.change.Change.TheVariants.{Shift, Pin, Unpin, Undo}
+use Rattle.fixture_board.specs.declared.ask.Ask.{Ask}
 use Rattle.fixture_board.specs.declared.change.Change.{Change}
+use Rattle.fixture_board.specs.declared.change.Change.TheVariants.{Shift, Pin, Unpin, Undo}
 use Rattle.fixture_board.specs.declared.change.Entry.{Entry}
 use Rattle.fixture_board.specs.declared.cost.Best.{Best}
-use Rattle.fixture_board.specs.History.{effective, is_pinned, games_of, pins_of, cost_at, best_prefix, best_at, IsLegal}
-
--- the round in which the game of a pair is pinned, or 255
-abbrev pub pin_at : List ℕ → ℕ → ℕ → ℕ
-pin_at table home away = slice_index table (home * 40 + away)
-
--- the table has the rounds of the pinned games
-abbrev pub ArePinsAt : Games → List Game → List ℕ → Type 0
-ArePinsAt g pins table =
-    (home away : ℕ) → IsPair g.teams home away → pin_at table home away ≡ (if is_pinned pins home away then round_of g home away else 255)
+use Rattle.fixture_board.specs.declared.cost.Cost.{Cost}
+use Rattle.fixture_board.specs.declared.reply.Why.{Why}
+use Rattle.fixture_board.specs.declared.state.State.{State}
+use Rattle.fixture_board.specs.Costs.{score_of, score_limit, total_of}
+use Rattle.fixture_board.specs.History.{effective, games_of, pins_of, cost_at, best_prefix, best_at, max_room, IsLegal}
+use Rattle.fixture_board.specs.PinPlaces.{ArePinsAt}
+use Rattle.fixture_board.specs.Replies.{refusal, entry}
 
 -- the kept best, and the schedule beside it, are those of the best prefix
 abbrev pub IsLeader : LeagueData → Option (List Entry) → Option Best → Games → Type 0
 IsLeader league None best g = best ≡ None
 IsLeader league (Some p) best g = (best ≡ Some (best_at league p)) × (g ≡ games_of league p)
-
--- what the fields of a board have to do with its history
-pub record IsKept (league : LeagueData) (room : ℕ) (history : List Entry) (changes : List Change) (g : Games) (pins : List ℕ) (cost : Cost) (best : Option Best) (best_g : Games) : Type 0 where
-  pub league_is : IsLeague league
-  pub within : length history ≤ room
-  pub legal : IsLegal league room history
-  pub effective_is : changes ≡ effective history
-  pub no_more : length changes ≤ length history
-  pub games_are : g ≡ games_of league history
-  pub same_size : g.teams ≡ teams league
-  pub pins_length : length pins ≡ 1600
-  pub pins_are : ArePinsAt g (pins_of history) pins
-  pub cost_is : cost ≡ cost_at league history
-  pub small : score_of league cost ≤ 10000000000000000
-  pub leader : IsLeader league (best_prefix league history) best best_g
-
--- what the helpers of the calls are told
-
--- the change can be taken back from this schedule
-abbrev pub CanTakeBack : Games → Change → Type 0
-CanTakeBack g (Shift mv) = fault_of g mv ≡ Ok tt
-CanTakeBack g (Pin game) = (game.home < 40) × (game.away < 40)
-CanTakeBack g (Unpin game) = (game.home < 40) × (game.away < 40)
-CanTakeBack g Undo = Unit {0}
-
--- the table of pins without a change that was the last
-abbrev pub taken_back : List ℕ → Change → List ℕ
-taken_back table (Pin game) = slice_set table (game.home * 40 + game.away) 255
-taken_back table (Unpin game) = slice_set table (game.home * 40 + game.away) game.round
-taken_back table _ = table
 
 -- whether a version of this cost is better than the best
 abbrev pub leads : Option Best → Cost → Bool
@@ -64,3 +30,79 @@ leads (Some best) cost = cost.hard == 0 && nat_lt (total_of cost) best.total
 -- the best after the version `at`, of this cost
 abbrev pub led_by : Option Best → Cost → ℕ → Option Best
 led_by best cost at = if leads best cost then Some (record { at = at; total = total_of cost }) else best
+
+-- what is kept beside the league: with the history what follows from it
+pub record Kept : Type 0 where
+  pub room : ℕ
+  pub history : List Entry
+  pub changes : List Change
+  pub games : Games
+  pub pins : List ℕ
+  pub cost : Cost
+  pub best : Option Best
+  pub best_games : Games
+
+abbrev pub kept_of : State → Kept
+kept_of s = record {
+  room = s.room;
+  history = s.history.items;
+  changes = s.changes.items;
+  games = s.schedule;
+  pins = s.pins;
+  cost = s.cost;
+  best = s.best;
+  best_games = s.best_schedule;
+}
+
+-- there is memory for a full history, all of it in effect
+pub record HasMemory (s : State) : Type 0 where
+  pub history : s.room ≤ vec_capacity s.history
+  pub changes : s.room ≤ vec_capacity s.changes
+
+-- what is kept is what follows from the history in this league
+pub record IsKept (league : LeagueData) (k : Kept) : Type 0 where
+  pub league_is : IsLeague league
+  pub room_most : k.room ≤ max_room
+  pub within : length k.history ≤ k.room
+  pub legal : IsLegal league k.room k.history
+  pub effective_is : k.changes ≡ effective k.history
+  pub no_more : length k.changes ≤ length k.history
+  pub games_are : k.games ≡ games_of league k.history
+  pub same_size : k.games.teams ≡ teams league
+  pub pins_length : length k.pins ≡ 1600
+  pub pins_are : ArePinsAt k.games (pins_of k.history) k.pins
+  pub cost_is : k.cost ≡ cost_at league k.history
+  pub small : score_of league k.cost < score_limit
+  pub leader : IsLeader league (best_prefix league k.history) k.best k.best_games
+
+-- what is kept once an entry is added of whose change all else is made
+abbrev pub entered : Kept → Entry → Kept
+entered k e = record k {
+  history = k.history ++ e ∷ [];
+  best = led_by k.best k.cost (length k.history + 1);
+  best_games = if leads k.best k.cost then k.games else k.best_games;
+}
+
+-- a step that refuses leaves all as it was
+pub record IsRefused (league : LeagueData) (old new : Kept) (asked : Ask) (why : Why) : Type 0 where
+  pub reason : refusal league old.room old.history asked ≡ Some why
+  pub same : new ≡ old
+
+-- a step that grants makes all of the change but the entry
+pub record IsGranted (league : LeagueData) (old new : Kept) (asked : Ask) : Type 0 where
+  pub no_reason : refusal league old.room old.history asked ≡ None
+  pub same_room : new.room ≡ old.room
+  pub same_history : new.history ≡ old.history
+  pub under : length new.history < new.room
+  pub kept : (caller : ℕ) → IsKept league (entered new (entry caller asked))
+
+abbrev pub IsStep : LeagueData → Kept → Kept → Ask → Option Why → Type 0
+IsStep league old new asked None = IsGranted league old new asked
+IsStep league old new asked (Some why) = IsRefused league old new asked why
+
+-- the change can be taken back from this schedule
+abbrev pub CanTakeBack : Games → Change → Type 0
+CanTakeBack g (Shift mv) = fault_of g mv ≡ Ok tt
+CanTakeBack g (Pin game) = (game.home < 40) × (game.away < 40)
+CanTakeBack g (Unpin game) = (game.home < 40) × (game.away < 40)
+CanTakeBack g Undo = Unit {0}

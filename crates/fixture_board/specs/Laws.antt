@@ -6,11 +6,12 @@ use Rattle.fixture_board.specs.declared.cost.Best.{Best}
 use Rattle.fixture_board.specs.declared.change.Entry.{Entry}
 use Rattle.fixture_board.specs.declared.reply.Reply.{Reply}
 use Rattle.fixture_board.specs.declared.reply.Reply.TheVariants.{Done, No}
+use Rattle.fixture_board.specs.Replies.{greatest}
 use Rattle.fixture_board.specs.History.{games_of, pins_of, AllStand, cost_at, best_of}
 
 -- the total of the best version as one number: the greatest of 64 bits where there is none
 abbrev pub as_number : Option Best → ℕ
-as_number None = 18446744073709551615
+as_number None = greatest
 as_number (Some best) = best.total
 
 unfoldable pub least_of : LeagueData → List Entry → ℕ

@@ -3,5 +3,6 @@ pub mod History
 pub mod Replies
 pub mod Record
 pub mod Replay
+pub mod PinPlaces
 pub mod Kept
 pub mod Laws

@@ -1,5 +1,5 @@
 -- What a board answers, and what its history is then.
-use Rattle.std.specs.Prelude.{ℕ, ◌+◌, Bool, true, false, not, ◌&&◌, ◌==◌, nat_lt, if◌then◌else◌, List, [], ◌∷◌, ◌++◌, length, Option, Some, None, Result, Err}
+use Rattle.std.specs.Prelude.{ℕ, ◌+◌, ◌-◌, ◌^◌, Bool, true, false, not, ◌&&◌, ◌==◌, nat_lt, if◌then◌else◌, List, [], ◌∷◌, ◌++◌, length, Option, Some, None, Result, Err}
 use Rattle.fixtures.specs.declared.game.Game.{Game}
 use Rattle.fixtures.specs.Games.{Games}
 use Rattle.moves.specs.declared.fault.MoveFault.{MoveFault}
@@ -109,14 +109,13 @@ replies_from league room h (ask ∷ asks) = reply_of league room h ask ∷ repli
 abbrev pub replies : LeagueData → ℕ → List Ask → List Reply
 replies league room asks = replies_from league room [] asks
 
--- the history after calls of caller 0
-abbrev pub history_from : LeagueData → ℕ → List Entry → List Ask → List Entry
-history_from league room h [] = h
-history_from league room h (ask ∷ asks) = history_from league room (next_of league room h 0 ask) asks
+-- the greatest number of 64 bits
+abbrev pub greatest : ℕ
+greatest = 2 ^ 64 - 1
 
 -- a line of a script as a call at the version: no claim, and the greatest slack
 abbrev pub ask_of : ℕ → Change → Ask
-ask_of version (Shift mv) = ask.Shift (record { version = version; mv = mv; claim = None; slack = 18446744073709551615 })
+ask_of version (Shift mv) = ask.Shift (record { version = version; mv = mv; claim = None; slack = greatest })
 ask_of version (Pin game) = ask.Pin version game
 ask_of version (Unpin game) = ask.Unpin version game
 ask_of version Undo = ask.Undo version

@@ -1,5 +1,6 @@
 //! What is asked of a board.
 
+use crate::change::Change;
 use fixtures::Game;
 use moves::Move;
 
@@ -22,4 +23,21 @@ pub enum Ask {
     Pin { version: u64, game: Game },
     Unpin { version: u64, game: Game },
     Undo { version: u64 },
+}
+
+impl Ask {
+    ghost use Rattle.std.specs.Prelude.{◌≡◌};
+    ghost use Rattle.fixture_board.specs.Replies.{change_of};
+
+    /// The change that is asked for.
+    pub(crate) fn change(self) -> Change
+        ensures { result ≡ change_of self }
+    {
+        match self {
+            Ask::Shift(proposal) => Change::Shift(proposal.mv),
+            Ask::Pin { game, .. } => Change::Pin(game),
+            Ask::Unpin { game, .. } => Change::Unpin(game),
+            Ask::Undo { .. } => Change::Undo,
+        }
+    }
 }

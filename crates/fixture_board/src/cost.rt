@@ -1,13 +1,6 @@
-//! What a schedule costs.
+//! What a schedule costs, and the best total.
 
-ghost use Rattle.std.specs.Prelude.{◌≡◌, ◌+◌, ◌*◌, ◌≤◌};
-ghost use Rattle.league.specs.League.{teams};
-ghost use Rattle.fixture_board.specs.Costs.{cost_of, score_of};
-
-use crate::rule_costs::{hard_of_rules, soft_of_rules};
-use fixtures::Schedule;
 use league::League;
-use tours::{repeats, runs_over, travel};
 
 /// What a schedule costs in a league. It is feasible where `hard` is 0.
 #[derive(Clone, Copy, Debug, PartialEq, Eq)]
@@ -20,34 +13,39 @@ pub struct Cost {
     pub soft: u64,
 }
 
+impl Cost {
+    ghost use Rattle.std.specs.Prelude.{◌≡◌, ◌^◌, ◌<◌, ◌==◌};
+    ghost use Rattle.fixture_board.specs.Costs.{score_of, total_of};
+
+    /// What is compared where hard limits may be broken: travel and soft, and the league's hard weight for each
+    /// breach of a hard limit.
+    pub fn score(self, league: &League) -> u64
+        requires { score_of league.now self < 2 ^ 64 }
+        ensures { result ≡ score_of league.now self }
+    {
+        self.travel + self.soft + u64::from(league.hard_weight()) * self.hard
+    }
+
+    /// What is compared among feasible schedules: travel and soft.
+    pub fn total(self) -> u64
+        requires { total_of self < 2 ^ 64 }
+        ensures { result ≡ total_of self }
+    {
+        self.travel + self.soft
+    }
+
+    /// Whether no hard limit is broken.
+    pub fn is_feasible(self) -> bool
+        ensures { result ≡ (self.hard == 0) }
+    {
+        self.hard == 0
+    }
+}
+
 /// The least total, travel and soft together, of the feasible versions so far.
 #[derive(Clone, Copy, Debug, PartialEq, Eq)]
 pub struct Best {
     /// The first version that has it.
     pub at: u64,
     pub total: u64,
-}
-
-/// Counts what a schedule costs, over all its games.
-#[tactic(auto, unfolding(crate::specs::Costs::cost_of))]
-pub(crate) fn count(schedule: &Schedule, league: &League) -> Cost
-    requires same { teams league.now ≡ schedule.now.teams }
-    ensures value { result ≡ cost_of league.now schedule.now }
-    ensures small { score_of league.now result ≤ 10000000000000000 }
-{
-    let travel = travel(schedule, league);
-    let runs = runs_over(schedule, league);
-    let hard = runs + repeats(schedule) + hard_of_rules(schedule, league);
-    let soft = soft_of_rules(schedule, league);
-    // for the proof: how large the weight is
-    let _ = league.hard_weight();
-    Cost { travel, hard, soft }
-}
-
-/// The score: travel and soft, and the hard weight for each breach of a hard limit.
-pub(crate) fn score(cost: Cost, hard_weight: u32) -> u64
-    requires { cost.travel + cost.soft + hard_weight * cost.hard ≤ 10000000000000000 }
-    ensures { result ≡ cost.travel + cost.soft + hard_weight * cost.hard }
-{
-    cost.travel + cost.soft + u64::from(hard_weight) * cost.hard
 }

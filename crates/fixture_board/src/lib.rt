@@ -9,18 +9,21 @@ mod best;
 mod board;
 mod change;
 mod cost;
+mod counting;
 mod laws;
 mod pins;
 mod refusals;
 mod reply;
 mod rule_costs;
+mod state;
 #[cfg(test)]
 mod tests;
 
 pub use ask::{Ask, Proposal};
-pub use board::{Board, BoardFault, NewRefused};
+pub use board::{Board, BoardFault, MAX_ROOM, NewRefused};
 pub use change::{Change, Entry};
 pub use cost::{Best, Cost};
+pub use counting::{cost_of, make_at_cost};
 pub use laws::{
     answer_tells_history, best_is_least, best_never_rises, empty_history_is_legal,
     legal_history_is_sound, next_history_is_legal, replay,

@@ -1,10 +1,15 @@
 //! Which games are pinned to their rounds.
 
-ghost use Rattle.std.specs.Prelude.{◌≡◌, ◌≢◌, ℕ, ◌+◌, ◌*◌, ◌<◌, ◌&&◌, ◌==◌, not, true, false, replicate, slice_set, length, IfOk};
-ghost use Rattle.fixtures.specs.Games.{round_of, IsPair, IsDoubleRoundRobin};
-ghost use Rattle.fixture_board.specs.Kept.{pin_at};
+ghost use Rattle.std.specs.Prelude.{◌≡◌, ◌≢◌, ℕ, ◌+◌, ◌*◌, ◌<◌, ◌&&◌, ◌==◌, not, true, false, if◌then◌else◌, List, replicate, slice_set, IfOk};
+ghost use Rattle.fixtures.specs.Games.{round_of, IsPair};
+ghost use Rattle.fixtures.specs.declared.game.Game.{Game};
+ghost use Rattle.moves.specs.Moves.{moved};
+ghost use Rattle.moves.specs.MainCells.{AreMainCells};
+ghost use Rattle.fixture_board.specs.History.{moves_pin, AllStand};
+ghost use Rattle.fixture_board.specs.PinPlaces.{pin_at, ArePinsAt};
 
-use fixtures::{Game, Schedule};
+use fixtures::{Game, Schedule, Touched};
+use moves::{Move, make};
 use std::alloc::{AllocError, Global};
 use std::marker::Model;
 
@@ -18,16 +23,18 @@ const TEAM_PLACES: usize = 40;
 #[derive(Drop)]
 pub(crate) struct Pins {
     rounds: Vec<u8>,
+    /// How many games are pinned.
+    count: u16,
 }
 
 impl Model for Pins {
-    ghost use Rattle.std.specs.Prelude.{◌≡◌, ℕ, List, length};
+    ghost use Rattle.std.specs.Prelude.{◌≡◌, ◌==◌, ℕ, List, length, count_by, not};
 
     ghost Value = { List ℕ };
 
     ghost view = { λ p. p.rounds.items };
 
-    ghost invariant = { λ p. length p.rounds.items ≡ 1600 };
+    ghost invariant = { λ p. (length p.rounds.items ≡ 1600) × (p.count ≡ count_by (λ round. not (round == 255)) p.rounds.items) };
 }
 
 impl Pins {
@@ -37,6 +44,7 @@ impl Pins {
     {
         Ok(Pins {
             rounds: vec![in alloc; FREE; TEAM_PLACES * TEAM_PLACES]?,
+            count: 0,
         })
     }
 
@@ -55,7 +63,7 @@ impl Pins {
         requires away { game.away < 40 }
         ensures { self.new ≡ slice_set self.old (game.home * 40 + game.away) game.round }
     {
-        self.rounds[place(game.home, game.away)] = game.round;
+        self.write(place(game.home, game.away), game.round);
     }
 
     /// Lets the game get another round again.
@@ -64,11 +72,35 @@ impl Pins {
         requires away { game.away < 40 }
         ensures { self.new ≡ slice_set self.old (game.home * 40 + game.away) 255 }
     {
-        self.rounds[place(game.home, game.away)] = FREE;
+        self.write(place(game.home, game.away), FREE);
+    }
+
+    fn write(&mut self, place: usize, round: u8)
+        requires { place < 1600 }
+        ensures { self.new ≡ slice_set self.old place round }
+    {
+        self.count = self.count + pinned(round) - pinned(self.rounds[place]);
+        self.rounds[place] = round;
+    }
+
+    /// Whether the move would give a pinned game another round. It is made, looked at and made back.
+    pub(crate) fn would_be_moved(&self, schedule: &mut Schedule, mv: Move, main: Touched) -> bool
+        requires { AreMainCells schedule.old mv main }
+        ensures same { schedule.new ≡ schedule.old }
+        ensures value { (held : List Game) → AllStand schedule.old held → ArePinsAt schedule.old held self.now →
+            result ≡ moves_pin (moved schedule.old mv) held }
+    {
+        if self.count == 0 {
+            return false;
+        }
+        make(schedule, mv, main);
+        let are_moved = self.are_moved_in(schedule);
+        make(schedule, mv, main);
+        are_moved
     }
 
     /// Whether a pinned game has another round in the schedule.
-    pub(crate) fn are_moved_in(&self, schedule: &Schedule) -> bool
+    fn are_moved_in(&self, schedule: &Schedule) -> bool
         ensures none { result ≡ false → (h a : ℕ) → IsPair schedule.now.teams h a → pin_at self.now h a ≢ 255 → round_of schedule.now h a ≡ pin_at self.now h a }
         ensures some { result ≡ true → (h : ℕ) × (a : ℕ) × IsPair schedule.now.teams h a × (pin_at self.now h a ≢ 255) × (round_of schedule.now h a ≢ pin_at self.now h a) }
     {
@@ -110,4 +142,11 @@ fn place(home: u8, away: u8) -> usize
     ensures { result ≡ home * 40 + away }
 {
     usize::from(home) * TEAM_PLACES + usize::from(away)
+}
+
+/// 1 for a pinned game's round, and 0 for none.
+fn pinned(round: u8) -> u16
+    ensures { result ≡ (if not (round == 255) then 1 else 0) }
+{
+    if round == FREE { 0 } else { 1 }
 }

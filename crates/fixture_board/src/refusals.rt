@@ -1,11 +1,11 @@
 //! Why a board refuses: the first reason that holds, in the order of `Why`.
 
-ghost use Rattle.std.specs.Prelude.{◌≡◌, ◌+◌, ◌&&◌, ◌==◌, nat_lt, not, ℕ, List, [], ◌∷◌};
+ghost use Rattle.std.specs.Prelude.{◌≡◌, ◌≢◌, ◌+◌, ◌<◌, ◌&&◌, ◌==◌, nat_lt, not, ℕ, List, [], ◌∷◌, IfNone};
 ghost use Rattle.moves.specs.Moves.{fault_of};
 ghost use Rattle.league.specs.League.{LeagueData};
 ghost use Rattle.fixtures.specs.declared.game.Game.{Game};
 ghost use Rattle.fixture_board.specs.History.{is_in_range, is_there, AllStand};
-ghost use Rattle.fixture_board.specs.Kept.{ArePinsAt};
+ghost use Rattle.fixture_board.specs.PinPlaces.{ArePinsAt};
 ghost use Rattle.fixture_board.specs.Replies.{first_of, refusal_at, is_bad, is_meeting, is_wrong};
 
 use crate::ask::{Ask, Proposal};
@@ -41,8 +41,10 @@ pub(crate) fn pin_refusal(
     version: u64,
     game: Game,
 ) -> Option<Why>
-    ensures { (league : LeagueData) (count : ℕ) (held : List Game) → AllStand schedule.now held → ArePinsAt schedule.now held pins.now →
+    ensures reason { (league : LeagueData) (count : ℕ) (held : List Game) → AllStand schedule.now held → ArePinsAt schedule.now held pins.now →
         result ≡ refusal_at league room at count schedule.now held (Ask.Pin version game) }
+    ensures room { IfNone result (at ≢ room) }
+    ensures below { IfNone result ((game.home < 40) × (game.away < 40)) }
 {
     if let Some(why) = game_refusal(schedule, at, room, version, game) {
         return Some(why);
@@ -64,8 +66,10 @@ pub(crate) fn unpin_refusal(
     version: u64,
     game: Game,
 ) -> Option<Why>
-    ensures { (league : LeagueData) (count : ℕ) (held : List Game) → AllStand schedule.now held → ArePinsAt schedule.now held pins.now →
+    ensures reason { (league : LeagueData) (count : ℕ) (held : List Game) → AllStand schedule.now held → ArePinsAt schedule.now held pins.now →
         result ≡ refusal_at league room at count schedule.now held (Ask.Unpin version game) }
+    ensures room { IfNone result (at ≢ room) }
+    ensures below { IfNone result ((game.home < 40) × (game.away < 40)) }
 {
     if let Some(why) = game_refusal(schedule, at, room, version, game) {
         return Some(why);
@@ -136,22 +140,13 @@ pub(crate) fn move_refusal(
     }
 }
 
-/// Why a proposal is refused after its trial: `before` and `after` are the scores, and a pin was moved or not.
-pub(crate) fn trial_refusal(
-    at: u64,
-    proposal: Proposal,
-    moves_pin: bool,
-    before: u64,
-    after: u64,
-) -> Option<Why>
+/// Why a proposal is refused by its scores, that before its trial and that after.
+pub(crate) fn score_refusal(at: u64, proposal: Proposal, before: u64, after: u64) -> Option<Why>
     ensures { result ≡ first_of (
-        (moves_pin, Why.Pinned) ∷
         (at == proposal.version && is_wrong proposal.claim after, Why.WrongClaim) ∷
         (nat_lt (before + proposal.slack) after, Why.Worse) ∷ []) }
 {
-    if moves_pin {
-        Some(Why::Pinned)
-    } else if at == proposal.version && is_wrong(proposal.claim, after) {
+    if at == proposal.version && is_wrong(proposal.claim, after) {
         Some(Why::WrongClaim)
     } else if after.saturating_sub(before) > proposal.slack {
         Some(Why::Worse)

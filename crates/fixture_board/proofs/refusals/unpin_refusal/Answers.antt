@@ -1,15 +1,21 @@
 use Rattle.std.proofs.Common.{sym, ◌∙◌}
-use Rattle.fixture_board.proofs.Reasons.{unpin_told}
+use Rattle.fixture_board.proofs.Reasons.{game_below, room_left, unpin_told}
 use Rattle.fixture_board.proofs.refusals.unpin_refusal.Goals as goal
 
-pub returns-then-not-has : goal.returns-then-not-has
-returns-then-not-has c =
+pub returns-then-not-has-clause-reason : goal.returns-then-not-has-clause-reason
+returns-then-not-has-clause-reason c =
     λ l count held stand are.
     let told = unpin_told _ _ c.args.version _ held _ c.args.game c.has.result c.teams.ensures.round_robin (sym c.game_refusal.ensures ∙ c.in_default.is) stand are c.has.ensures l count in
     rw c.if-not-has.true at told
 
-pub returns : goal.returns
-returns c =
+pub returns-clause-reason : goal.returns-clause-reason
+returns-clause-reason c =
     λ l count held stand are.
     let told = unpin_told _ _ c.args.version _ held _ c.args.game c.has.result c.teams.ensures.round_robin (sym c.game_refusal.ensures ∙ c.in_default.is) stand are c.has.ensures l count in
     rw c.if-not-has.false at told
+
+pub returns-clause-room : goal.returns-clause-room
+returns-clause-room c = room_left _ _ c.args.version _ c.args.game (sym c.game_refusal.ensures ∙ c.in_default.is)
+
+pub returns-clause-below : goal.returns-clause-below
+returns-clause-below c = game_below _ _ c.args.version _ c.args.game c.teams.ensures.round_robin.forty (sym c.game_refusal.ensures ∙ c.in_default.is)

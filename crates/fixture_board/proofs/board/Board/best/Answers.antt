@@ -2,4 +2,4 @@ use Rattle.fixture_board.proofs.Keeps.{best_is}
 use Rattle.fixture_board.proofs.board.Board.best.Goals as goal
 
 pub returns : goal.returns
-returns c = rw (← c.self.view_is) (best_is _ _ _ _ c.self.invariant.3.leader)
+returns c = rw (← c.self.view_is) (best_is _ _ _ _ c.self.invariant.1.leader)

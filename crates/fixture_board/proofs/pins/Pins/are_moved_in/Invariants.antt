@@ -1,6 +1,6 @@
 use Rattle.std.proofs.Common.{◌≡◌, ◌≢◌, ℕ, ◌<◌}
 use Rattle.fixtures.specs.Games.{round_of, IsPair}
-use Rattle.fixture_board.specs.Kept.{pin_at}
+use Rattle.fixture_board.specs.PinPlaces.{pin_at}
 use Rattle.fixture_board.proofs.pins.Pins.are_moved_in.Given as goal
 
 abbrev pub invariant-loop-home : goal.invariant-loop-home

@@ -1,0 +1,31 @@
+use Rattle.std.proofs.Common.{ℕ, ◌++◌, [], ◌∷◌, ◌∙◌, ap, arith}
+use Rattle.fixture_board.specs.declared.change.Change.{Change}
+use Rattle.fixture_board.specs.declared.reply.Reply.TheVariants.{No}
+use Rattle.fixture_board.specs.Kept.{Kept}
+use Rattle.fixture_board.specs.Record.{book}
+use Rattle.fixture_board.proofs.Reasons.{refused_call, granted_call}
+use Rattle.fixture_board.proofs.board.Board.answer.Goals as goal
+
+pub returns-in-Some-clause-reply : goal.returns-in-Some-clause-reply
+returns-in-Some-clause-reply c =
+    ap (λ (n : ℕ). No n c.in-Some.why) c.version-at.ensures ∙
+    (refused_call _ _ _ _ c.args.caller c.args.ask _ c.in-Some.ensures.step c.self.view_is).0
+
+pub returns-in-Some-clause-history : goal.returns-in-Some-clause-history
+returns-in-Some-clause-history c = (refused_call _ _ _ _ c.args.caller c.args.ask _ c.in-Some.ensures.step c.self.view_is).1
+
+pub enter-requires-clause-total : goal.enter-requires-clause-total
+enter-requires-clause-total c =
+    let granted = rw c.in_default.is at c.step.ensures.step in
+    omega (arith, (granted.kept 0).small)
+
+pub returns-clause-reply : goal.returns-clause-reply
+returns-clause-reply c =
+    let granted = rw c.in_default.is at c.step.ensures.step in
+    c.enter.ensures.reply ∙ (granted_call _ _ _ _ c.args.caller c.args.ask granted c.self.view_is).0
+
+pub returns-clause-history : goal.returns-clause-history
+returns-clause-history c =
+    let granted = rw c.in_default.is at c.step.ensures.step in
+    ap (λ (k : Kept). book c.self.inside.league k.room k.history) c.enter.ensures.entered ∙
+    (rw c.change-change.ensures (granted_call _ _ _ _ c.args.caller c.args.ask granted c.self.view_is).1)

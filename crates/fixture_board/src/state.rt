@@ -1,0 +1,93 @@
+//! What a board keeps beside its league.
+
+mod steps;
+
+use crate::best::keep_best;
+use crate::change::{Change, Entry};
+use crate::cost::{Best, Cost};
+use crate::counting::cost_of;
+use crate::pins::Pins;
+use crate::reply::Reply;
+use fixtures::{Schedule, start};
+use league::League;
+use std::alloc::{AllocError, Global};
+
+/// A history of at most `room` entries, and what follows from it.
+#[derive(Drop)]
+pub(crate) struct State {
+    pub(crate) room: u32,
+    pub(crate) history: Vec<Entry>,
+    /// The changes in effect, the oldest first.
+    pub(crate) changes: Vec<Change>,
+    pub(crate) schedule: Schedule,
+    pub(crate) pins: Pins,
+    /// What the schedule costs.
+    pub(crate) cost: Cost,
+    pub(crate) best: Option<Best>,
+    /// The schedule at the best version, where there is one.
+    pub(crate) best_schedule: Schedule,
+}
+
+impl State {
+    ghost use Rattle.std.specs.Prelude.{◌≡◌, ◌+◌, ◌^◌, ◌<◌, ◌≤◌, [], length, IfOk};
+    ghost use Rattle.fixture_board.specs.Costs.{total_of};
+    ghost use Rattle.fixture_board.specs.History.{max_room};
+    ghost use Rattle.fixture_board.specs.Kept.{kept_of, entered, HasMemory, IsKept};
+
+    /// Without an entry, on the start of the league. All memory is taken here.
+    pub(crate) fn start(alloc: Global, league: &League, room: u32) -> Result<State, AllocError>
+        requires { room ≤ max_room }
+        ensures none { IfOk result (λ s. s.history.items ≡ []) }
+        ensures room { IfOk result (λ s. s.room ≡ room) }
+        ensures memory { IfOk result HasMemory }
+        ensures kept { IfOk result (λ s. IsKept league.now (kept_of s)) }
+    {
+        let history = Vec::with_capacity(alloc, room as usize)?;
+        let changes = Vec::with_capacity(alloc, room as usize)?;
+        let pins = Pins::none(alloc)?;
+        let schedule = start(alloc, league)?;
+        let mut best_schedule = schedule.duplicate(alloc)?;
+        let cost = cost_of(&schedule, league);
+        let mut best = None;
+        keep_best(&mut best, &mut best_schedule, &schedule, cost, 0);
+        Ok(State {
+            room,
+            history,
+            changes,
+            schedule,
+            pins,
+            cost,
+            best,
+            best_schedule,
+        })
+    }
+
+    /// How many entries the history has.
+    pub(crate) fn version(&self) -> u64
+        ensures { result ≡ length self.now.history.items }
+    {
+        self.history.len() as u64
+    }
+
+    /// Enters a change that was made: it comes into the history, and the best version is kept.
+    pub(crate) fn enter(&mut self, entry: Entry) -> Reply
+        requires memory { HasMemory self.old }
+        requires under { length self.old.history.items < self.old.room }
+        requires total { total_of self.old.cost < 2 ^ 64 }
+        ensures memory { HasMemory self.new }
+        ensures entered { kept_of self.new ≡ entered (kept_of self.old) entry }
+        ensures reply { result ≡ Reply.Done (length self.old.history.items + 1) self.old.cost }
+    {
+        self.history.push_reserved(entry);
+        let at = self.version();
+        let cost = self.cost;
+        keep_best(
+            &mut self.best,
+            &mut self.best_schedule,
+            &self.schedule,
+            cost,
+            at,
+        );
+        Reply::Done { at, cost }
+    }
+}
