@@ -8,4 +8,5 @@ pub mod Script
 pub mod PinTable
 pub mod Keeps
 pub mod Reasons
+pub mod ForCallers
 mod Worked

@@ -108,14 +108,16 @@ impl Board {
 
     /// What the schedule costs.
     pub fn cost(&self) -> Cost
-        ensures { result ≡ cost_at self.now.league self.now.history }
+        ensures value { result ≡ cost_at self.now.league self.now.history }
+        ensures legal { IsLegal self.now.league self.now.room self.now.history }
     {
         self.state.cost
     }
 
     /// The least total of the feasible versions so far, at the first that has it. An undo doesn't take it away.
     pub fn best(&self) -> Option<Best>
-        ensures { result ≡ best_of self.now.league self.now.history }
+        ensures value { result ≡ best_of self.now.league self.now.history }
+        ensures legal { IsLegal self.now.league self.now.room self.now.history }
     {
         self.state.best
     }
@@ -123,7 +125,9 @@ impl Board {
     /// The schedule after the changes in effect.
     pub fn schedule(&self) -> &Schedule
         ensures games { result.now ≡ games_of self.now.league self.now.history }
+        ensures size { result.now.teams ≡ teams self.now.league }
         ensures pinned_stand { AllStand result.now (pins_of self.now.history) }
+        ensures legal { IsLegal self.now.league self.now.room self.now.history }
     {
         &self.state.schedule
     }
@@ -132,6 +136,7 @@ impl Board {
     pub fn best_schedule(&self) -> Option<&Schedule>
         ensures none { IfNone result (best_prefix self.now.league self.now.history ≡ None) }
         ensures some { IfSome result (λ s. (p : List Entry) × (best_prefix self.now.league self.now.history ≡ Some p) × (s.now ≡ games_of self.now.league p)) }
+        ensures size { IfSome result (λ s. s.now.teams ≡ teams self.now.league) }
     {
         match self.state.best {
             Some(_) => Some(&self.state.best_schedule),
@@ -144,8 +149,7 @@ impl Board {
         requires { IsPair (teams self.now.league) home away }
         ensures { result ≡ is_pinned (pins_of self.now.history) home away }
     {
-        // for the proof: the schedule is a double round robin
-        let _ = self.state.schedule.teams();
+        prove_eq!(self.state.schedule.teams(), self.league.teams());
         self.state.pins.has(home, away)
     }
 

@@ -23,7 +23,7 @@ impl Cost {
         requires { score_of league.now self < 2 ^ 64 }
         ensures { result ≡ score_of league.now self }
     {
-        self.travel + self.soft + u64::from(league.hard_weight()) * self.hard
+        self.total() + u64::from(league.hard_weight()) * self.hard
     }
 
     /// What is compared among feasible schedules: travel and soft.

@@ -16,11 +16,7 @@ use Rattle.fixture_board.specs.declared.reply.Why.{Why}
 use Rattle.fixture_board.specs.History.{effective, games_of, is_in_range, pins_of, legal_after, IsLegal, May}
 use Rattle.fixture_board.specs.Replay.{changes_of, under_caller_0}
 use Rattle.fixture_board.specs.Replies.{ask_of, entry, next_if, next_of, refusal, played_from as changes_played}
-use Rattle.fixture_board.proofs.Next.{IsLegal-next}
-use Rattle.fixture_board.proofs.OneMore.{IsLegal-none}
-use Rattle.fixture_board.proofs.Scores.{IsScored-league, games_of-teams}
-use Rattle.fixture_board.proofs.Script.{replayed}
-use Rattle.fixture_board.proofs.Stand.{FitFrom, FitFrom-more, AllStand-fit, pinned_stands}
+use Rattle.fixture_board.proofs.ForCallers.{FitFrom, all_stand_fit, fit_from_more, games_of_teams, is_legal_next, is_legal_none, is_scored_league, pinned_stands, replayed}
 use Rattle.texts.specs.Command.{line_of}
 use Rattle.texts.specs.PlayText.{IsPlayedAgain, asked, change_lines, history_after, played, played_from, slack_after}
 use Rattle.texts.specs.declared.script_line.ScriptLine.{ScriptLine}
@@ -65,14 +61,14 @@ IsSmallGame-in_range g game few in_range =
     (omega (arith, ltb-true game.round (round_count g.teams) two.0), omega (arith, ltb-true game.home g.teams two.1), omega (arith, ltb-true game.away g.teams three.1))
 
 few_teams : (league : LeagueData) (h : List Entry) → IsLeague league → (games_of league h).teams ≤ 40
-few_teams league h is = omega (arith, games_of-teams league h, is.table.most)
+few_teams league h is = omega (arith, games_of_teams league h, is.table.most)
 
 IsSmall-may : (league : LeagueData) (h : List Entry) (c : Change) → IsLeague league → FitFrom league (effective h) → May league h c → IsSmall c
 IsSmall-may league h (change.Shift mv) is all may =
     IsSmallMove-in_range (games_of league h) mv (few_teams league h is) (in_range_of (games_of league h) mv may.0)
 IsSmall-may league h (change.Pin game) is all may = IsSmallGame-in_range (games_of league h) game (few_teams league h is) may.0
 IsSmall-may league h (change.Unpin game) is all may =
-    let stands = pinned_stands (games_of league h) (pins_of h) game (AllStand-fit league h all) may in
+    let stands = pinned_stands (games_of league h) (pins_of h) game (all_stand_fit league h all) may in
     IsSmallGame-in_range (games_of league h) game (few_teams league h is) stands.0
 IsSmall-may league h change.Undo is all may = tt
 
@@ -81,7 +77,7 @@ AreSmall-after : (league : LeagueData) (room : ℕ) (before h : List Entry) → 
 AreSmall-after league room before [] is all legal = tt
 AreSmall-after league room before (e ∷ h) is all legal = (
   IsSmall-may league before e.change is all legal.0.1,
-  AreSmall-after league room (before ++ e ∷ []) h is (FitFrom-more league before e all legal.0.1) legal.1,
+  AreSmall-after league room (before ++ e ∷ []) h is (fit_from_more league before e all legal.0.1) legal.1,
 )
 
 AreSmall-legal : (league : LeagueData) (room : ℕ) (h : List Entry) → IsLeague league → IsLegal league room h → AreSmall h
@@ -113,7 +109,7 @@ IsPlayed-line : (league : LeagueData) (room : ℕ) (h : List Entry) (slack : ℕ
 IsPlayed-line league room h slack line.Skip is = is
 IsPlayed-line league room h slack (line.Slack given) is = is
 IsPlayed-line league room h slack (line.Asks c) is = record {
-  legal = IsLegal-next league room h 0 (asked (length h) slack c) is.legal;
+  legal = is_legal_next league room h 0 (asked (length h) slack c) is.legal;
   same = same-next league room h (asked (length h) slack c) is.same;
 }
 IsPlayed-line league room h slack line.Bad is = is
@@ -127,7 +123,7 @@ IsPlayed-from league room h slack (l ∷ script) is =
 IsPlayed-played : (league : LeagueData) (room : ℕ) (script : List (List ℕ)) → IsPlayed league room (played league room script)
 unfolding played
 IsPlayed-played league room script =
-    IsPlayed-from league room [] 18446744073709551615 script (record { legal = IsLegal-none league room; same = refl })
+    IsPlayed-from league room [] 18446744073709551615 script (record { legal = is_legal_none league room; same = refl })
 
 -- ---- the written lines, played
 
@@ -153,7 +149,7 @@ written_played league room h is of_play =
     let small = AreSmall-legal league room h is of_play.legal in
     ap (λ script. played_from league room [] 18446744073709551615 script) (lines-change_lines h small) ∙
     lines_played league room [] h small ∙
-    (replayed league room h (IsScored-league league is) of_play.legal).history ∙
+    (replayed league room h (is_scored_league league is) of_play.legal).history ∙
     of_play.same
 
 pub played_again : (league : LeagueData) (room : ℕ) (script : List (List ℕ)) → IsLeague league → IsPlayedAgain league room script

@@ -2,12 +2,12 @@ use Rattle.texts.specs.PlayText.{best_line, closing_text}
 use Rattle.texts.specs.Sheet.{sheet_of}
 use Rattle.fixture_board.specs.History.{games_of, best_of}
 use Rattle.streams.proofs.Pieces.{Adds-stops, Adds-then, Adds-writes, Stops-more, Stops-writes}
-use Rattle.fixture_board.proofs.Scores.{games_of-teams}
+use Rattle.fixture_board.proofs.ForCallers.{games_of_teams}
 use Rattle.texts.proofs.play_text.write_closing.Goals as goal
 
 pub write_sheet-requires : goal.write_sheet-requires
 write_sheet-requires g c =
-    rw (c.schedule.ensures.games, c.league.ensures) (games_of-teams c.args.board.now.league c.args.board.now.history)
+    rw (c.schedule.ensures.games, c.league.ensures) (games_of_teams c.args.board.now.league c.args.board.now.history)
 
 pub returns-in_err-write_history : goal.returns-in_err-write_history
 unfolding closing_text
@@ -19,4 +19,4 @@ returns-in_err-write_sheet g c = Stops-writes c.from_residual-in_err-write_sheet
 
 pub returns : goal.returns
 unfolding closing_text
-returns g c = Adds-writes (Adds-then c.in_ok-write_history.ensures.ok (rw (c.schedule.ensures.games, c.league.ensures) at c.in_ok-write_sheet.ensures.ok)) (rw c.best.ensures at c.write_best.ensures)
+returns g c = Adds-writes (Adds-then c.in_ok-write_history.ensures.ok (rw (c.schedule.ensures.games, c.league.ensures) at c.in_ok-write_sheet.ensures.ok)) (rw c.best.ensures.value at c.write_best.ensures)
