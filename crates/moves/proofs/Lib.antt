@@ -11,7 +11,6 @@ pub mod Added
 pub mod TeamChain
 pub mod RoundChain
 pub mod MetIn
-pub mod Sifted
 pub mod ChangedGames
 pub mod ForCallers
 mod Worked

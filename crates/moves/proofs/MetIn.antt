@@ -28,27 +28,6 @@ opponents_same g i j old new t same =
     let agree = same (eqb-false t i (or_parts (eqb t i) (eqb t j) out).0) (ltb-true t g.teams below) in
     ap₂ (λ x y. x || y) agree.0 agree.1))
 
-pub met_none : (g : Games) (i j all left found : ℕ) → left ≡ all → ((t : ℕ) → has found t ≡ (eqb t i || eqb t j)) →
-    IsMetIn g i j all left found
-met_none g i j all left found same two = record {
-  within = λ r e. ap (λ s. has s r) (sym same) ∙ e;
-  is_met = λ t.
-      two t ∙ sym (opponents_same g i j (is_passed all left) (λ _. false) t (λ _ _. (none (round_of g i t), none (round_of g t i))) ∙
-      bits (eqb t i || eqb t j) (ltb t g.teams));
-}
-  where
-    none : (r : ℕ) → is_passed all left r ≡ false
-    none r = ap (λ s. has all r && not (has s r)) same ∙ both (has all r)
-      where
-        both : (x : Bool) → (x && not x) ≡ false
-        both true = refl
-        both false = refl
-
-    bits : (x y : Bool) → (x || (y && (false || false))) ≡ x
-    bits true y = refl
-    bits false true = refl
-    bits false false = refl
-
 -- the opponent in the lowest round that is left is met
 module _ (g : Games) (rr : IsDoubleRoundRobin g) (i j all left lowest rest found new o : ℕ) (met : IsMetIn g i j all left found)
     (taken : IsWithoutLowest left lowest rest) (meets : Meets g i o lowest) (put : (t : ℕ) → has new t ≡ (eqb t o || has found t)) where
