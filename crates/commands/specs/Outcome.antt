@@ -1,0 +1,43 @@
+-- How a command that reads an input and writes a text ends.
+use Rattle.std.specs.Prelude.{◌≡◌, ◌+◌, ◌<◌, ◌≤◌, ℕ, List, Option, Result, Ok, Err, length}
+use Rattle.std.specs.Io.KnownBytes.{Consumes, IsAtEnd, Appends}
+use Rattle.streams.specs.declared.reading.TheConstants.{INPUT_LIMIT, READ_LIMIT}
+use Rattle.streams.specs.declared.writing.TheConstants.{WRITE_LIMIT}
+use Rattle.streams.specs.declared.tally.Tally.{Tally}
+use Rattle.streams.specs.Reading.{StopsPast}
+use Rattle.streams.specs.Sending.{AppendsFront}
+use Rattle.streams.specs.Tally.{FailsReading, FailsWriting}
+use Rattle.commands.specs.declared.fault.ProgramFault.{ProgramFault}
+use Rattle.commands.specs.declared.fault.ProgramFault.TheVariants.{Read, TooLong, League, Room, Write, Memory}
+
+-- A command answers an input with the text that it writes, or with a fault that lies in the input.
+abbrev pub Answers : Type 1
+Answers = List ℕ → Result (List ℕ) ProgramFault → Type 0
+
+-- For a source with these bytes left and these calls, a sink with these bytes held and these calls, and a command.
+module _ {R W : Type 0} (left : R → Option (List ℕ)) (pulls : R → Tally) (held : W → Option (List ℕ)) (pushes : W → Tally) (answers : Answers) where
+  -- the source was read to its end, no further than the limit, and this is the answer to what it had
+  pub record IsAnswered (old new : R) (answer : Result (List ℕ) ProgramFault) : Type 0 where
+    pub bytes : List ℕ
+    pub taken : Consumes (left old) (left new) bytes
+    pub ended : IsAtEnd (left new)
+    pub within : length bytes ≤ INPUT_LIMIT
+    pub answer_is : answers bytes answer
+
+  -- the text went out whole on success, and a front of it before a failed write; before every other fault nothing
+  abbrev pub EndsBy : R → R → W → W → Result Unit ProgramFault → Type 0
+  EndsBy old new before after (Ok done) =
+      (text : List ℕ) × IsAnswered old new (Ok text) × Appends (held before) (held after) text
+  EndsBy old new before after (Err Write) =
+      (text : List ℕ) × IsAnswered old new (Ok text) × AppendsFront (held before) (held after) text × FailsWriting WRITE_LIMIT (pushes before) (pushes after)
+  EndsBy old new before after (Err Read) = FailsReading READ_LIMIT (pulls old) (pulls new) × (after ≡ before)
+  EndsBy old new before after (Err TooLong) = StopsPast left pulls INPUT_LIMIT old new × (after ≡ before)
+  EndsBy old new before after (Err (League fault)) = IsAnswered old new (Err (League fault)) × (after ≡ before)
+  EndsBy old new before after (Err Room) = IsAnswered old new (Err Room) × (after ≡ before)
+  EndsBy old new before after (Err Memory) = after ≡ before
+
+  -- a command's whole outcome: how it ends, and how often it read
+  pub record Ends (old new : R) (before after : W) (result : Result Unit ProgramFault) : Type 0 where
+    pub ending : EndsBy old new before after result
+    pub failed_read : (pulls old).failed < (pulls new).failed → result ≡ Err Read
+    pub reads : (pulls new).calls ≤ (pulls old).calls + READ_LIMIT
