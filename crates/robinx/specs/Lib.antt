@@ -1,1 +1,3 @@
 pub mod Deviations
+pub mod LooksPast
+pub mod Touches

@@ -1,0 +1,202 @@
+-- A rule that isn't touched keeps its deviation.
+use Rattle.std.proofs.Common.{◌≡◌, ℕ, ◌-◌, ◌<◌, ◌≤◌, ◌+◌, ◌&&◌, ◌||◌, ◌⊎◌, nat_lt, Bool, true, false, List, [], ◌∷◌, inl, inr, refl, sym, ◌∙◌, ap, arith}
+use Rattle.std.specs.List.{AllByRecursion, list_any}
+use Rattle.std.proofs.lemmas.Bool.{and_cases, and_from, or_parts, lt-ltb, cases_lt, false≢true}
+use Rattle.league.specs.Sets.{has}
+use Rattle.league.specs.Sums.{any_below}
+use Rattle.league.specs.Games.{IsGameFor}
+use Rattle.league.specs.RuleLimits.{IsBodyFor}
+use Rattle.league.specs.declared.rule.Pairing.{Pairing}
+use Rattle.league.specs.declared.rule.RuleBody.{RuleBody}
+use Rattle.league.specs.declared.rule.RuleBody.TheVariants.{Ca1, Ca2, Ca3, Ca4, Ga1, Br1, Br2, Se1}
+use Rattle.league.specs.declared.rule.Side.TheVariants.{Any}
+use Rattle.league.proofs.Sums.{any_below_fails}
+use Rattle.fixtures.specs.declared.game.Cell.{Cell}
+use Rattle.fixtures.specs.Games.{Games, round_count, round_of, cell, IsPair, IsDoubleRoundRobin}
+use Rattle.fixtures.specs.Changes.{DiffersOnlyIn}
+use Rattle.robinx.specs.Deviations.{games_in, over, deviation}
+use Rattle.robinx.specs.Touches.{has_touched_team, has_touched_slot, has_touched_round, has_touched_game, or_before, touches}
+use Rattle.robinx.proofs.RoundsKept.{round_of-kept}
+use Rattle.robinx.proofs.SeesSame.{SeesSame, SeesSameBreaks, limited-same, together-same, each-same, windows-same, breaks_of_each-same, breaks_of_all-same, separation-same, games_in-same}
+
+other_fails : (p q : Bool) → (p && q) ≡ false → p ≡ true → q ≡ false
+other_fails p q fails passes = elim (and_cases p q fails) [ inl fails_here ↦ absurd (false≢true (sym fails_here ∙ passes)) | inr fails_there ↦ fails_there ]
+
+fails_right : (p q : Bool) → q ≡ false → (p && q) ≡ false
+fails_right true q fails = fails
+fails_right false q fails = refl
+
+fails_left : (p q : Bool) → p ≡ false → (p && q) ≡ false
+fails_left true q fails = absurd (false≢true (sym fails))
+fails_left false q fails = refl
+
+-- where one of two searches below m and n finds nothing, no two numbers pass both
+not_both : (m n : ℕ) (p P q Q : ℕ → Bool) → (any_below m (λ t. p t && P t) && any_below n (λ r. q r && Q r)) ≡ false →
+    (t r : ℕ) → t < m → r < n → p t ≡ true → q r ≡ true → (P t && Q r) ≡ false
+not_both m n p P q Q fails t r in_t in_r is_t is_r =
+    elim (and_cases (any_below m (λ t. p t && P t)) (any_below n (λ r. q r && Q r)) fails) [
+      | inl none ↦ fails_left (P t) (Q r) (other_fails (p t) (P t) (any_below_fails m (λ t. p t && P t) none t in_t) is_t)
+      | inr none ↦ fails_right (P t) (Q r) (other_fails (q r) (Q r) (any_below_fails n (λ r. q r && Q r) none r in_r) is_r)
+    ]
+
+module _ (g g' : Games) (rr : IsDoubleRoundRobin g) (in_teams in_rounds : ℕ → Bool) (differs : DiffersOnlyIn g g' in_teams in_rounds) where
+  -- the cells of a rule's teams in its slots stay
+  stays_in_slots : (teams slots : ℕ) → (has_touched_team teams in_teams && has_touched_slot slots in_rounds) ≡ false →
+      (t r : ℕ) → t < g.teams → r < round_count g.teams → has teams t ≡ true → has slots r ≡ true → cell g' t r ≡ cell g t r
+  unfolding has_touched_team has_touched_slot
+  stays_in_slots teams slots untouched t r in_t in_r team slot =
+      differs.same_cells t r in_t in_r
+      (not_both 40 78 (has teams) in_teams (has slots) in_rounds untouched t r (omega (arith, rr.forty)) (omega (arith, rr.forty)) team slot)
+
+  SeesSame-slots : (teams slots : ℕ) (opponents : ℕ → Bool) → (has_touched_team teams in_teams && has_touched_slot slots in_rounds) ≡ false →
+      SeesSame g g' (has teams) (has slots) opponents
+  SeesSame-slots teams slots opponents untouched = record {
+    same_size = differs.same_size;
+    side = λ t r in_t in_r team slot. ap (λ (c : Cell). c.home) (stays_in_slots teams slots untouched t r in_t in_r team slot);
+    opponent = λ t r in_t in_r team slot. ap (λ (c : Cell). opponents c.opponent) (stays_in_slots teams slots untouched t r in_t in_r team slot);
+  }
+
+  -- all cells of a rule's teams stay
+  stays : (teams : ℕ) → (has_touched_team teams in_teams && has_touched_round in_rounds) ≡ false →
+      (t r : ℕ) → t < g.teams → r < round_count g.teams → has teams t ≡ true → cell g' t r ≡ cell g t r
+  unfolding has_touched_team has_touched_round
+  stays teams untouched t r in_t in_r team =
+      differs.same_cells t r in_t in_r
+      (not_both 40 78 (has teams) in_teams (λ _. true) in_rounds untouched t r (omega (arith, rr.forty)) (omega (arith, rr.forty)) team refl)
+
+  SeesSame-rounds : (teams : ℕ) (opponents : ℕ → Bool) → (has_touched_team teams in_teams && has_touched_round in_rounds) ≡ false →
+      SeesSame g g' (has teams) (λ _. true) opponents
+  SeesSame-rounds teams opponents untouched = record {
+    same_size = differs.same_size;
+    side = λ t r in_t in_r team slot. ap (λ (c : Cell). c.home) (stays teams untouched t r in_t in_r team);
+    opponent = λ t r in_t in_r team slot. ap (λ (c : Cell). opponents c.opponent) (stays teams untouched t r in_t in_r team);
+  }
+
+  -- the cells of a rule's teams in its slots stay, and those in the rounds before
+  stays_around : (teams slots : ℕ) → (has_touched_team teams in_teams && has_touched_slot slots (or_before in_rounds)) ≡ false →
+      (t r : ℕ) → t < g.teams → r < round_count g.teams → has teams t ≡ true → has slots r ≡ true →
+      (cell g' t r ≡ cell g t r) × (cell g' t (r - 1) ≡ cell g t (r - 1))
+  unfolding has_touched_team has_touched_slot
+  stays_around teams slots untouched t r in_t in_r team slot =
+      let neither : (in_teams t && (in_rounds r || (nat_lt 0 r && in_rounds (r - 1)))) ≡ false =
+          not_both 40 78 (has teams) in_teams (has slots) (or_before in_rounds) untouched t r (omega (arith, rr.forty)) (omega (arith, rr.forty)) team slot in
+      (
+        differs.same_cells t r in_t in_r (here (in_teams t) (in_rounds r) _ neither),
+        differs.same_cells t (r - 1) in_t (omega arith) (before r neither),
+      )
+    where
+      here : (p q x : Bool) → (p && (q || x)) ≡ false → (p && q) ≡ false
+      here p q x fails = elim (and_cases p (q || x) fails) [
+        | inl fails_here ↦ fails_left p q fails_here
+        | inr fails_there ↦ fails_right p q (or_parts q x fails_there).0
+      ]
+
+      later : (p q x y : Bool) → x ≡ true → (p && (q || (x && y))) ≡ false → (p && y) ≡ false
+      later p q x y is fails = elim (and_cases p (q || (x && y)) fails) [
+        | inl fails_here ↦ fails_left p y fails_here
+        | inr fails_there ↦ fails_right p y (other_fails x y (or_parts q (x && y) fails_there).1 is)
+      ]
+
+      before : (r : ℕ) → (in_teams t && (in_rounds r || (nat_lt 0 r && in_rounds (r - 1)))) ≡ false → (in_teams t && in_rounds (r - 1)) ≡ false
+      before r neither = elim (cases_lt 0 r) [
+        | inl later_round ↦ later (in_teams t) (in_rounds r) (nat_lt 0 r) (in_rounds (r - 1)) (lt-ltb 0 r later_round) neither
+        | inr first ↦
+            let none : r ≡ 0 = omega arith in
+            let same : r - 1 ≡ r = omega arith in
+            rw same (here (in_teams t) (in_rounds r) _ neither)
+      ]
+
+  SeesSameBreaks-slots : (teams slots : ℕ) → (has_touched_team teams in_teams && has_touched_slot slots (or_before in_rounds)) ≡ false →
+      SeesSameBreaks g g' (has teams) (has slots)
+  SeesSameBreaks-slots teams slots untouched = record {
+    same_size = differs.same_size;
+    side = λ t r in_t in_r team slot. ap (λ (c : Cell). c.home) (stays_around teams slots untouched t r in_t in_r team slot).0;
+    before = λ t r in_t in_r team slot. ap (λ (c : Cell). c.home) (stays_around teams slots untouched t r in_t in_r team slot).1;
+  }
+
+  -- each two teams of a rule keep the rounds of their games
+  rounds_kept : IsDoubleRoundRobin g' → (teams : ℕ) → (has_touched_team teams in_teams && has_touched_round in_rounds) ≡ false →
+      (i j : ℕ) → IsPair g.teams i j → has teams i ≡ true → has teams j ≡ true → round_of g' i j ≡ round_of g i j
+  rounds_kept rr' teams untouched i j pair team other =
+      round_of-kept g g' rr rr' differs.same_size i j pair
+      (stays teams untouched i (round_of g i j) pair.home_in (rr.in_range i j pair) team)
+
+  -- a game of a list is in the slots in both schedules or in neither
+  game_kept : IsDoubleRoundRobin g' → (slots : ℕ) (game : Pairing) → IsGameFor g.teams game →
+      (in_teams game.home ≡ false) ⊎ (has_touched_slot slots in_rounds ≡ false) →
+      has slots (round_of g' game.home game.away) ≡ has slots (round_of g game.home game.away)
+  unfolding has_touched_slot
+  game_kept rr' slots game is untouched = elim untouched [
+    | inl home ↦ ap (has slots) (kept (fails_left _ _ home))
+    | inr none ↦ by_tests none (has slots (round_of g game.home game.away)) refl (has slots (round_of g' game.home game.away)) refl
+  ]
+    where
+      pair : IsPair g.teams game.home game.away
+      pair = record { home_in = is.home; away_in = is.away; distinct = is.distinct }
+
+      in_r : round_of g game.home game.away < round_count g.teams
+      in_r = rr.in_range game.home game.away pair
+
+      kept : (in_teams game.home && in_rounds (round_of g game.home game.away)) ≡ false →
+          round_of g' game.home game.away ≡ round_of g game.home game.away
+      kept out = round_of-kept g g' rr rr' differs.same_size game.home game.away pair (differs.same_cells _ _ is.home in_r out)
+
+      pair' : IsPair g'.teams game.home game.away
+      pair' = rw differs.same_size pair
+
+      in_r' : round_of g' game.home game.away < round_count g.teams
+      in_r' = rw differs.same_size at (rr'.in_range game.home game.away pair')
+
+      kept_back : (in_teams game.home && in_rounds (round_of g' game.home game.away)) ≡ false →
+          round_of g game.home game.away ≡ round_of g' game.home game.away
+      kept_back out = round_of-kept g' g rr' rr (sym differs.same_size) game.home game.away pair' (sym (differs.same_cells _ _ is.home in_r' out))
+
+      slot_kept : any_below 78 (λ r. has slots r && in_rounds r) ≡ false → (r : ℕ) → r < round_count g.teams → has slots r ≡ true →
+          in_rounds r ≡ false
+      slot_kept none r below slot =
+          other_fails (has slots r) (in_rounds r) (any_below_fails 78 (λ r. has slots r && in_rounds r) none r (omega (arith, rr.forty))) slot
+
+      by_tests : any_below 78 (λ r. has slots r && in_rounds r) ≡ false → (b : Bool) → has slots (round_of g game.home game.away) ≡ b →
+          (c : Bool) → has slots (round_of g' game.home game.away) ≡ c → c ≡ b
+      by_tests none true slot c slot' =
+          sym slot' ∙ ap (has slots) (kept (fails_right _ _ (slot_kept none _ in_r slot))) ∙ slot
+      by_tests none false slot true slot' =
+          sym slot' ∙ sym (ap (has slots) (kept_back (fails_right _ _ (slot_kept none _ in_r' slot')))) ∙ slot
+      by_tests none false slot false slot' = refl
+
+  games_kept : IsDoubleRoundRobin g' → (slots : ℕ) (games : List Pairing) → AllByRecursion (IsGameFor g.teams) games →
+      (has_touched_game games in_teams ≡ false) ⊎ (has_touched_slot slots in_rounds ≡ false) →
+      AllByRecursion (λ (game : Pairing). has slots (round_of g' game.home game.away) ≡ has slots (round_of g game.home game.away)) games
+  unfolding has_touched_game
+  games_kept rr' slots [] all untouched = tt
+  games_kept rr' slots (game ∷ games) all untouched = elim untouched [
+    | inl homes ↦
+        let parts = or_parts (in_teams game.home) (list_any (λ (game : Pairing). in_teams game.home) games) homes in
+        (game_kept rr' slots game all.0 (inl parts.0), games_kept rr' slots games all.1 (inl parts.1))
+    | inr none ↦ (game_kept rr' slots game all.0 (inr none), games_kept rr' slots games all.1 (inr none))
+  ]
+
+pub untouched_deviation : (g g' : Games) (in_teams in_rounds : ℕ → Bool) (body : RuleBody) → IsDoubleRoundRobin g → IsDoubleRoundRobin g' →
+    IsBodyFor g.teams body → DiffersOnlyIn g g' in_teams in_rounds → touches body in_teams in_rounds ≡ false →
+    deviation g' body ≡ deviation g body
+unfolding touches deviation
+untouched_deviation g g' in_teams in_rounds (Ca1 teams side slots most) rr rr' is differs untouched =
+    limited-same g g' (has teams) (has slots) (λ _. true) (SeesSame-slots g g' rr in_teams in_rounds differs teams slots (λ _. true) untouched) side most
+untouched_deviation g g' in_teams in_rounds (Ca2 teams1 side teams2 slots most) rr rr' is differs untouched =
+    limited-same g g' (has teams1) (has slots) (has teams2) (SeesSame-slots g g' rr in_teams in_rounds differs teams1 slots (has teams2) untouched) side most
+untouched_deviation g g' in_teams in_rounds (Ca3 teams1 side teams2 window most) rr rr' is differs untouched =
+    windows-same g g' (has teams1) (has teams2) (SeesSame-rounds g g' rr in_teams in_rounds differs teams1 (has teams2) untouched) side window most is.3
+untouched_deviation g g' in_teams in_rounds (Ca4 teams1 side teams2 slots false most) rr rr' is differs untouched =
+    together-same g g' (has teams1) (has slots) (has teams2) (SeesSame-slots g g' rr in_teams in_rounds differs teams1 slots (has teams2) untouched) side most
+untouched_deviation g g' in_teams in_rounds (Ca4 teams1 side teams2 slots true most) rr rr' is differs untouched =
+    each-same g g' (has teams1) (has slots) (has teams2) (SeesSame-slots g g' rr in_teams in_rounds differs teams1 slots (has teams2) untouched) side most
+untouched_deviation g g' in_teams in_rounds (Ga1 games slots least most) rr rr' is differs untouched =
+    ap (λ (count : ℕ). over count most + over least count)
+    (games_in-same g g' (has slots) games (games_kept g g' rr in_teams in_rounds differs rr' slots games is.0
+    (and_cases (has_touched_game games in_teams) (has_touched_slot slots in_rounds) untouched)))
+untouched_deviation g g' in_teams in_rounds (Br1 teams side slots most) rr rr' is differs untouched =
+    breaks_of_each-same g g' (has teams) (has slots) (SeesSameBreaks-slots g g' rr in_teams in_rounds differs teams slots untouched) side most
+untouched_deviation g g' in_teams in_rounds (Br2 teams slots most) rr rr' is differs untouched =
+    breaks_of_all-same g g' (has teams) (has slots) (SeesSameBreaks-slots g g' rr in_teams in_rounds differs teams slots untouched) Any most
+untouched_deviation g g' in_teams in_rounds (Se1 teams least) rr rr' is differs untouched =
+    separation-same g g' (has teams) least differs.same_size (rounds_kept g g' rr in_teams in_rounds differs rr' teams untouched)
