@@ -15,7 +15,7 @@ use Rattle.tours.specs.Tours.{leg, travel_of, travel}
 use Rattle.tours.specs.Runs.{is_run, runs_of, runs_over}
 use Rattle.fixtures.specs.Games.{place, is_home, meets}
 use Rattle.tours.specs.Repeats.{repeats_after, repeats}
-use Rattle.robinx.specs.Deviations.{counts, count_in, count_in_window, is_break, breaks, rounds_between, games_in, over_in_windows, short_pairs, deviation}
+use Rattle.robinx.specs.Deviations.{is_counted, games_of_team, games_in_window, is_break, breaks, rounds_between, listed_games_in, over_in_windows, short_pairs, deviation}
 use Rattle.fixture_board.specs.Costs.{sum_over_rules, cost_of}
 use Rattle.fixture_board.specs.declared.cost.Cost.{Cost}
 use Rattle.fixture_board.specs.declared.cost.Best.{Best}
@@ -202,16 +202,16 @@ soft_rules =
     ∷ []
 
 start_with_soft_rules : cost_at (league_of 3 soft_rules) [] ≡ record { travel = 30; hard = 0; soft = 60 }
-unfolding sum_below all_below place leg travel_of travel is_home is_run runs_of runs_over meets repeats_after repeats sum_over_rules cost_of effective games_after games_of pins_after pins_of cost_at best_prefix best_of with_number counts count_in count_in_window is_break breaks rounds_between games_in over_in_windows short_pairs deviation set soft_rules
+unfolding sum_below all_below place leg travel_of travel is_home is_run runs_of runs_over meets repeats_after repeats sum_over_rules cost_of effective games_after games_of pins_after pins_of cost_at best_prefix best_of with_number is_counted games_of_team games_in_window is_break breaks rounds_between listed_games_in over_in_windows short_pairs deviation set soft_rules
 start_with_soft_rules = refl
 
 homes_with_soft_rules : answers (league_of 3 soft_rules) (Shift (Homes 0 1) ∷ []) ≡
     Done 1 (record { travel = 26; hard = 0; soft = 110 }) ∷ []
-unfolding sum_below all_below place leg travel_of travel is_home is_run runs_of runs_over meets repeats_after repeats sum_over_rules cost_of effective games_after games_of pins_after pins_of cost_at best_prefix best_of refusal next_of reply_of with_number counts count_in count_in_window is_break breaks rounds_between games_in over_in_windows short_pairs deviation set soft_rules
+unfolding sum_below all_below place leg travel_of travel is_home is_run runs_of runs_over meets repeats_after repeats sum_over_rules cost_of effective games_after games_of pins_after pins_of cost_at best_prefix best_of refusal next_of reply_of with_number is_counted games_of_team games_in_window is_break breaks rounds_between listed_games_in over_in_windows short_pairs deviation set soft_rules
 homes_with_soft_rules = refl
 
 best_with_soft_rules : best_after_script (league_of 3 soft_rules) (Shift (Homes 0 1) ∷ []) ≡ best 90 0
-unfolding sum_below all_below place leg travel_of travel is_home is_run runs_of runs_over meets repeats_after repeats sum_over_rules cost_of effective games_after games_of pins_after pins_of cost_at best_prefix best_of refusal next_of reply_of with_number counts count_in count_in_window is_break breaks rounds_between games_in over_in_windows short_pairs deviation set soft_rules
+unfolding sum_below all_below place leg travel_of travel is_home is_run runs_of runs_over meets repeats_after repeats sum_over_rules cost_of effective games_after games_of pins_after pins_of cost_at best_prefix best_of refusal next_of reply_of with_number is_counted games_of_team games_in_window is_break breaks rounds_between listed_games_in over_in_windows short_pairs deviation set soft_rules
 best_with_soft_rules = refl
 
 -- little room

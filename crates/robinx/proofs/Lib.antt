@@ -1,8 +1,10 @@
-pub mod AllTeams
-pub mod GameCounts
-pub mod DeviationLimits
-pub mod LookedPast
-pub mod RoundsKept
-pub mod SeesSame
-pub mod Untouched
+mod AllTeams
+pub mod ForCallers
+mod GameCounts
+mod Limits
+mod LookedPast
+mod RoundsKept
+pub mod Searches
+mod SeesSame
+mod Untouched
 mod Worked

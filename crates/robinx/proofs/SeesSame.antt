@@ -8,9 +8,9 @@ use Rattle.league.specs.Sums.{sum_below, sum_where, count_where}
 use Rattle.league.specs.declared.rule.Pairing.{Pairing}
 use Rattle.league.specs.declared.rule.Side.{Side}
 use Rattle.league.specs.declared.rule.Side.TheVariants.{Any}
-use Rattle.league.proofs.Sums.{sum_below_same, sum_where_same, count_where_same}
+use Rattle.league.proofs.ForCallers.{sum_below_same, sum_where_same, count_where_same}
 use Rattle.fixtures.specs.Games.{Games, round_count, round_of, cell, IsPair}
-use Rattle.robinx.specs.Deviations.{over, counts_for, counts, count_in, count_in_window, count_at, is_break, breaks, rounds_between, games_in, over_in_windows, short_pairs}
+use Rattle.robinx.specs.Deviations.{over, is_on_side, is_counted, games_of_team, games_in_window, games_in_round, is_break, breaks, rounds_between, listed_games_in, over_in_windows, short_pairs}
 
 -- each of the teams is on the same side in each of the rounds, against an opponent that passes the test in both
 -- schedules or in neither
@@ -52,57 +52,57 @@ module _ (g g' : Games) (teams rounds opponents : ℕ → Bool) (sees : SeesSame
   rounds_sized : round_count g'.teams ≡ round_count g.teams
   rounds_sized = ap round_count sees.same_size
 
-  counts-same : (side : Side) (t r : ℕ) → t < g.teams → r < round_count g.teams → teams t ≡ true → rounds r ≡ true →
-      counts g' side opponents t r ≡ counts g side opponents t r
-  unfolding counts
-  counts-same side t r in_t in_r team round =
-      ap (λ (home : Bool). counts_for side home && opponents (cell g' t r).opponent) (sees.side t r in_t in_r team round) ∙
-      ap (λ (passes : Bool). counts_for side (cell g t r).home && passes) (sees.opponent t r in_t in_r team round)
+  is_counted-same : (side : Side) (t r : ℕ) → t < g.teams → r < round_count g.teams → teams t ≡ true → rounds r ≡ true →
+      is_counted g' side opponents t r ≡ is_counted g side opponents t r
+  unfolding is_counted
+  is_counted-same side t r in_t in_r team round =
+      ap (λ (home : Bool). is_on_side side home && opponents (cell g' t r).opponent) (sees.side t r in_t in_r team round) ∙
+      ap (λ (passes : Bool). is_on_side side (cell g t r).home && passes) (sees.opponent t r in_t in_r team round)
 
-  count_in-same : (side : Side) (t : ℕ) → t < g.teams → teams t ≡ true →
-      count_in g' side opponents rounds t ≡ count_in g side opponents rounds t
-  unfolding count_in
-  count_in-same side t in_t team =
-      count_where_sized (round_count g'.teams) (round_count g.teams) (λ r. rounds r && counts g' side opponents t r)
-      (λ r. rounds r && counts g side opponents t r) rounds_sized
-      (λ r in_r. and_same (rounds r) _ _ (counts-same side t r in_t in_r team))
+  games_of_team-same : (side : Side) (t : ℕ) → t < g.teams → teams t ≡ true →
+      games_of_team g' side opponents rounds t ≡ games_of_team g side opponents rounds t
+  unfolding games_of_team
+  games_of_team-same side t in_t team =
+      count_where_sized (round_count g'.teams) (round_count g.teams) (λ r. rounds r && is_counted g' side opponents t r)
+      (λ r. rounds r && is_counted g side opponents t r) rounds_sized
+      (λ r in_r. and_same (rounds r) _ _ (is_counted-same side t r in_t in_r team))
 
   pub limited-same : (side : Side) (most : ℕ) →
-      sum_where g'.teams teams (λ t. over (count_in g' side opponents rounds t) most) ≡
-      sum_where g.teams teams (λ t. over (count_in g side opponents rounds t) most)
+      sum_where g'.teams teams (λ t. over (games_of_team g' side opponents rounds t) most) ≡
+      sum_where g.teams teams (λ t. over (games_of_team g side opponents rounds t) most)
   limited-same side most =
       sum_where_sized g'.teams g.teams teams _ _ sees.same_size
-      (λ t in_t team. ap (λ (count : ℕ). over count most) (count_in-same side t in_t team))
+      (λ t in_t team. ap (λ (count : ℕ). over count most) (games_of_team-same side t in_t team))
 
-  count_at-same : (side : Side) (r : ℕ) → r < round_count g.teams → rounds r ≡ true →
-      count_at g' side teams opponents r ≡ count_at g side teams opponents r
-  unfolding count_at
-  count_at-same side r in_r round =
-      count_where_sized g'.teams g.teams (λ t. teams t && counts g' side opponents t r)
-      (λ t. teams t && counts g side opponents t r) sees.same_size
-      (λ t in_t. and_same (teams t) _ _ (λ team. counts-same side t r in_t in_r team round))
+  games_in_round-same : (side : Side) (r : ℕ) → r < round_count g.teams → rounds r ≡ true →
+      games_in_round g' side teams opponents r ≡ games_in_round g side teams opponents r
+  unfolding games_in_round
+  games_in_round-same side r in_r round =
+      count_where_sized g'.teams g.teams (λ t. teams t && is_counted g' side opponents t r)
+      (λ t. teams t && is_counted g side opponents t r) sees.same_size
+      (λ t in_t. and_same (teams t) _ _ (λ team. is_counted-same side t r in_t in_r team round))
 
   pub together-same : (side : Side) (most : ℕ) →
-      over (sum_where (round_count g'.teams) rounds (count_at g' side teams opponents)) most ≡
-      over (sum_where (round_count g.teams) rounds (count_at g side teams opponents)) most
+      over (sum_where (round_count g'.teams) rounds (games_in_round g' side teams opponents)) most ≡
+      over (sum_where (round_count g.teams) rounds (games_in_round g side teams opponents)) most
   together-same side most =
       ap (λ (count : ℕ). over count most)
-      (sum_where_sized (round_count g'.teams) (round_count g.teams) rounds _ _ rounds_sized (count_at-same side))
+      (sum_where_sized (round_count g'.teams) (round_count g.teams) rounds _ _ rounds_sized (games_in_round-same side))
 
   pub each-same : (side : Side) (most : ℕ) →
-      sum_where (round_count g'.teams) rounds (λ r. over (count_at g' side teams opponents r) most) ≡
-      sum_where (round_count g.teams) rounds (λ r. over (count_at g side teams opponents r) most)
+      sum_where (round_count g'.teams) rounds (λ r. over (games_in_round g' side teams opponents r) most) ≡
+      sum_where (round_count g.teams) rounds (λ r. over (games_in_round g side teams opponents r) most)
   each-same side most =
       sum_where_sized (round_count g'.teams) (round_count g.teams) rounds _ _ rounds_sized
-      (λ r in_r round. ap (λ (count : ℕ). over count most) (count_at-same side r in_r round))
+      (λ r in_r round. ap (λ (count : ℕ). over count most) (games_in_round-same side r in_r round))
 
 module _ (g g' : Games) (teams opponents : ℕ → Bool) (sees : SeesSame g g' teams (λ _. true) opponents) where
-  count_in_window-same : (side : Side) (window t first : ℕ) → t < g.teams → teams t ≡ true → first + window ≤ round_count g.teams →
-      count_in_window g' side opponents window t first ≡ count_in_window g side opponents window t first
-  unfolding count_in_window
-  count_in_window-same side window t first in_t team within =
-      count_where_same window (λ k. counts g' side opponents t (first + k)) (λ k. counts g side opponents t (first + k))
-      (λ k below. counts-same g g' teams (λ _. true) opponents sees side t (first + k) in_t (omega arith) team refl)
+  games_in_window-same : (side : Side) (window t first : ℕ) → t < g.teams → teams t ≡ true → first + window ≤ round_count g.teams →
+      games_in_window g' side opponents window t first ≡ games_in_window g side opponents window t first
+  unfolding games_in_window
+  games_in_window-same side window t first in_t team within =
+      count_where_same window (λ k. is_counted g' side opponents t (first + k)) (λ k. is_counted g side opponents t (first + k))
+      (λ k below. is_counted-same g g' teams (λ _. true) opponents sees side t (first + k) in_t (omega arith) team refl)
 
   over_in_windows-same : (side : Side) (window most t : ℕ) → t < g.teams → teams t ≡ true → window ≤ round_count g.teams →
       over_in_windows g' side opponents window most t ≡ over_in_windows g side opponents window most t
@@ -110,7 +110,7 @@ module _ (g g' : Games) (teams opponents : ℕ → Bool) (sees : SeesSame g g' t
   over_in_windows-same side window most t in_t team within =
       sum_below_sized (round_count g'.teams + 1 - window) (round_count g.teams + 1 - window) _ _
       (ap (λ (n : ℕ). round_count n + 1 - window) sees.same_size)
-      (λ first below. ap (λ (count : ℕ). over count most) (count_in_window-same side window t first in_t team (omega arith)))
+      (λ first below. ap (λ (count : ℕ). over count most) (games_in_window-same side window t first in_t team (omega arith)))
 
   pub windows-same : (side : Side) (window most : ℕ) → window ≤ round_count g.teams →
       sum_where g'.teams teams (over_in_windows g' side opponents window most) ≡
@@ -124,8 +124,8 @@ module _ (g g' : Games) (teams slots : ℕ → Bool) (sees : SeesSameBreaks g g'
       is_break g' side t r ≡ is_break g side t r
   unfolding is_break
   is_break-same side t r in_t in_r team slot =
-      ap (λ (home : Bool). not (r == 0) && beq (cell g' t (r - 1)).home home && counts_for side home) (sees.side t r in_t in_r team slot) ∙
-      ap (λ (home : Bool). not (r == 0) && beq home (cell g t r).home && counts_for side (cell g t r).home) (sees.before t r in_t in_r team slot)
+      ap (λ (home : Bool). not (r == 0) && beq (cell g' t (r - 1)).home home && is_on_side side home) (sees.side t r in_t in_r team slot) ∙
+      ap (λ (home : Bool). not (r == 0) && beq home (cell g t r).home && is_on_side side (cell g t r).home) (sees.before t r in_t in_r team slot)
 
   breaks-same : (side : Side) (t : ℕ) → t < g.teams → teams t ≡ true → breaks g' t slots side ≡ breaks g t slots side
   unfolding breaks
@@ -168,14 +168,14 @@ separation-same g g' teams least size same =
         rw (there, back) refl
 
 -- where each of the games is in the slots in both schedules or in neither
-pub games_in-same : (g g' : Games) (slots : ℕ → Bool) (games : List Pairing) →
+pub listed_games_in-same : (g g' : Games) (slots : ℕ → Bool) (games : List Pairing) →
     AllByRecursion (λ (game : Pairing). slots (round_of g' game.home game.away) ≡ slots (round_of g game.home game.away)) games →
-    games_in g' slots games ≡ games_in g slots games
-unfolding games_in
-games_in-same g g' slots [] each = refl
-games_in-same g g' slots (game ∷ games) each =
+    listed_games_in g' slots games ≡ listed_games_in g slots games
+unfolding listed_games_in
+listed_games_in-same g g' slots [] each = refl
+listed_games_in-same g g' slots (game ∷ games) each =
     let in_slots : Games → Pairing → ℕ = λ s (game : Pairing). if slots (round_of s game.home game.away) then 1 else 0 in
     sum_by-cons (in_slots g') game games ∙
-    ap (λ (b : Bool). (if b then 1 else 0) + games_in g' slots games) each.0 ∙
-    ap (λ (count : ℕ). in_slots g game + count) (games_in-same g g' slots games each.1) ∙
+    ap (λ (b : Bool). (if b then 1 else 0) + listed_games_in g' slots games) each.0 ∙
+    ap (λ (count : ℕ). in_slots g game + count) (listed_games_in-same g g' slots games each.1) ∙
     sym (sum_by-cons (in_slots g) game games)

@@ -10,14 +10,14 @@ use Rattle.league.specs.declared.rule.Pairing.{Pairing}
 use Rattle.league.specs.declared.rule.RuleBody.{RuleBody}
 use Rattle.league.specs.declared.rule.RuleBody.TheVariants.{Ca1, Ca2, Ca3, Ca4, Ga1, Br1, Br2, Se1}
 use Rattle.league.specs.declared.rule.Side.TheVariants.{Any}
-use Rattle.league.proofs.Sums.{any_below_fails}
+use Rattle.league.proofs.ForCallers.{any_below_fails}
 use Rattle.fixtures.specs.declared.game.Cell.{Cell}
 use Rattle.fixtures.specs.Games.{Games, round_count, round_of, cell, IsPair, IsDoubleRoundRobin}
 use Rattle.fixtures.specs.Changes.{DiffersOnlyIn}
-use Rattle.robinx.specs.Deviations.{games_in, over, deviation}
+use Rattle.robinx.specs.Deviations.{listed_games_in, over, deviation}
 use Rattle.robinx.specs.Touches.{has_touched_team, has_touched_slot, has_touched_round, has_touched_game, or_before, touches}
 use Rattle.robinx.proofs.RoundsKept.{round_of-kept}
-use Rattle.robinx.proofs.SeesSame.{SeesSame, SeesSameBreaks, limited-same, together-same, each-same, windows-same, breaks_of_each-same, breaks_of_all-same, separation-same, games_in-same}
+use Rattle.robinx.proofs.SeesSame.{SeesSame, SeesSameBreaks, limited-same, together-same, each-same, windows-same, breaks_of_each-same, breaks_of_all-same, separation-same, listed_games_in-same}
 
 other_fails : (p q : Bool) → (p && q) ≡ false → p ≡ true → q ≡ false
 other_fails p q fails passes = elim (and_cases p q fails) [ inl fails_here ↦ absurd (false≢true (sym fails_here ∙ passes)) | inr fails_there ↦ fails_there ]
@@ -192,7 +192,7 @@ untouched_deviation g g' in_teams in_rounds (Ca4 teams1 side teams2 slots true m
     each-same g g' (has teams1) (has slots) (has teams2) (SeesSame-slots g g' rr in_teams in_rounds differs teams1 slots (has teams2) untouched) side most
 untouched_deviation g g' in_teams in_rounds (Ga1 games slots least most) rr rr' is differs untouched =
     ap (λ (count : ℕ). over count most + over least count)
-    (games_in-same g g' (has slots) games (games_kept g g' rr in_teams in_rounds differs rr' slots games is.0
+    (listed_games_in-same g g' (has slots) games (games_kept g g' rr in_teams in_rounds differs rr' slots games is.0
     (and_cases (has_touched_game games in_teams) (has_touched_slot slots in_rounds) untouched)))
 untouched_deviation g g' in_teams in_rounds (Br1 teams side slots most) rr rr' is differs untouched =
     breaks_of_each-same g g' (has teams) (has slots) (SeesSameBreaks-slots g g' rr in_teams in_rounds differs teams slots untouched) side most

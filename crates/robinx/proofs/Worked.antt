@@ -9,7 +9,7 @@ use Rattle.league.specs.declared.rule.Side.TheVariants.{Home, Away, Any}
 use Rattle.fixtures.specs.Games.{Games}
 use Rattle.fixtures.specs.Berger.{berger_games}
 use Rattle.fixtures.specs.Edits.{homes_exchanged}
-use Rattle.robinx.specs.Deviations.{counts, count_in, count_in_window, count_at, is_break, breaks, rounds_between, games_in, over_in_windows, short_pairs, deviation}
+use Rattle.robinx.specs.Deviations.{is_counted, games_of_team, games_in_window, games_in_round, is_break, breaks, rounds_between, listed_games_in, over_in_windows, short_pairs, deviation}
 
 start : Games
 start = berger_games 4
@@ -44,7 +44,7 @@ rules =
     ∷ []
 
 deviations_of_start : map (deviation start) rules ≡ 2 ∷ 2 ∷ 1 ∷ 1 ∷ 2 ∷ 1 ∷ 2 ∷ 1 ∷ 1 ∷ 0 ∷ []
-unfolding with_number sum_below counts count_in count_in_window count_at is_break breaks rounds_between over_in_windows short_pairs deviation start rules
+unfolding with_number sum_below is_counted games_of_team games_in_window games_in_round is_break breaks rounds_between over_in_windows short_pairs deviation start rules
 deviations_of_start = refl
 
 soft_rules : List RuleBody
@@ -57,11 +57,11 @@ soft_rules =
     ∷ []
 
 soft_deviations_of_start : map (deviation start) soft_rules ≡ 2 ∷ 1 ∷ 1 ∷ 2 ∷ 0 ∷ []
-unfolding with_number sum_below counts count_in count_in_window is_break breaks rounds_between games_in over_in_windows short_pairs deviation start soft_rules
+unfolding with_number sum_below is_counted games_of_team games_in_window is_break breaks rounds_between listed_games_in over_in_windows short_pairs deviation start soft_rules
 soft_deviations_of_start = refl
 
 soft_deviations_after_exchange : map (deviation exchanged) soft_rules ≡ 6 ∷ 1 ∷ 1 ∷ 2 ∷ 1 ∷ []
-unfolding with_number sum_below counts count_in count_in_window is_break breaks rounds_between games_in over_in_windows short_pairs deviation start exchanged soft_rules
+unfolding with_number sum_below is_counted games_of_team games_in_window is_break breaks rounds_between listed_games_in over_in_windows short_pairs deviation start exchanged soft_rules
 soft_deviations_after_exchange = refl
 
 -- the first team is at home in rounds 0, 1 and 5

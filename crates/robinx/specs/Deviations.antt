@@ -15,31 +15,31 @@ abbrev pub over : ℕ → ℕ → ℕ
 over x most = x - most
 
 -- whether a game counts on this side, for a team that is at home in it or not
-abbrev pub counts_for : Side → Bool → Bool
-counts_for Home home = home
-counts_for Away home = not home
-counts_for Any home = true
+abbrev pub is_on_side : Side → Bool → Bool
+is_on_side Home home = home
+is_on_side Away home = not home
+is_on_side Any home = true
 
 -- whether a team's game in a round counts: on this side, and against one of the opponents
-unfoldable pub counts : Games → Side → (ℕ → Bool) → ℕ → ℕ → Bool
-counts g side opponents team round = counts_for side (cell g team round).home && opponents (cell g team round).opponent
+unfoldable pub is_counted : Games → Side → (ℕ → Bool) → ℕ → ℕ → Bool
+is_counted g side opponents team round = is_on_side side (cell g team round).home && opponents (cell g team round).opponent
 
 -- in how many rounds of the slots a team's game counts
-unfoldable pub count_in : Games → Side → (ℕ → Bool) → (ℕ → Bool) → ℕ → ℕ
-count_in g side opponents slots team = count_where (round_count g.teams) (λ r. slots r && counts g side opponents team r)
+unfoldable pub games_of_team : Games → Side → (ℕ → Bool) → (ℕ → Bool) → ℕ → ℕ
+games_of_team g side opponents slots team = count_where (round_count g.teams) (λ r. slots r && is_counted g side opponents team r)
 
 -- in how many rounds of a window, which begins with its first, a team's game counts
-unfoldable pub count_in_window : Games → Side → (ℕ → Bool) → ℕ → ℕ → ℕ → ℕ
-count_in_window g side opponents window team first = count_where window (λ k. counts g side opponents team (first + k))
+unfoldable pub games_in_window : Games → Side → (ℕ → Bool) → ℕ → ℕ → ℕ → ℕ
+games_in_window g side opponents window team first = count_where window (λ k. is_counted g side opponents team (first + k))
 
 -- for how many of the teams the game in a round counts
-unfoldable pub count_at : Games → Side → (ℕ → Bool) → (ℕ → Bool) → ℕ → ℕ
-count_at g side teams opponents round = count_where g.teams (λ t. teams t && counts g side opponents t round)
+unfoldable pub games_in_round : Games → Side → (ℕ → Bool) → (ℕ → Bool) → ℕ → ℕ
+games_in_round g side teams opponents round = count_where g.teams (λ t. teams t && is_counted g side opponents t round)
 
 -- whether a team is on the same side as in the round before, and that side counts
 unfoldable pub is_break : Games → Side → ℕ → ℕ → Bool
 is_break g side team round =
-    not (round == 0) && beq (cell g team (round - 1)).home (cell g team round).home && counts_for side (cell g team round).home
+    not (round == 0) && beq (cell g team (round - 1)).home (cell g team round).home && is_on_side side (cell g team round).home
 
 -- the breaks of a team in the slots
 unfoldable pub breaks : Games → ℕ → (ℕ → Bool) → Side → ℕ
@@ -50,13 +50,13 @@ unfoldable pub rounds_between : Games → ℕ → ℕ → ℕ
 rounds_between g i j = max (round_of g i j) (round_of g j i) - min (round_of g i j) (round_of g j i) - 1
 
 -- how many of the games are in the slots
-unfoldable pub games_in : Games → (ℕ → Bool) → List Pairing → ℕ
-games_in g slots games = count_by (λ (game : Pairing). slots (round_of g game.home game.away)) games
+unfoldable pub listed_games_in : Games → (ℕ → Bool) → List Pairing → ℕ
+listed_games_in g slots games = count_by (λ (game : Pairing). slots (round_of g game.home game.away)) games
 
 -- by how much the windows of a team, each of so many consecutive rounds, are over the most
 unfoldable pub over_in_windows : Games → Side → (ℕ → Bool) → ℕ → ℕ → ℕ → ℕ
 over_in_windows g side opponents window most team =
-    sum_below (round_count g.teams + 1 - window) (λ first. over (count_in_window g side opponents window team first) most)
+    sum_below (round_count g.teams + 1 - window) (λ first. over (games_in_window g side opponents window team first) most)
 
 -- by how much the rounds between the games of a team and of each lower team are under the least
 unfoldable pub short_pairs : Games → (ℕ → Bool) → ℕ → ℕ → ℕ
@@ -66,17 +66,17 @@ short_pairs g teams least team =
 -- the deviation of a schedule from a rule
 unfoldable pub deviation : Games → RuleBody → ℕ
 deviation g (Ca1 teams side slots most) =
-    sum_where g.teams (has teams) (λ t. over (count_in g side (λ _. true) (has slots) t) most)
+    sum_where g.teams (has teams) (λ t. over (games_of_team g side (λ _. true) (has slots) t) most)
 deviation g (Ca2 teams1 side teams2 slots most) =
-    sum_where g.teams (has teams1) (λ t. over (count_in g side (has teams2) (has slots) t) most)
+    sum_where g.teams (has teams1) (λ t. over (games_of_team g side (has teams2) (has slots) t) most)
 deviation g (Ca3 teams1 side teams2 window most) =
     sum_where g.teams (has teams1) (over_in_windows g side (has teams2) window most)
 deviation g (Ca4 teams1 side teams2 slots false most) =
-    over (sum_where (round_count g.teams) (has slots) (count_at g side (has teams1) (has teams2))) most
+    over (sum_where (round_count g.teams) (has slots) (games_in_round g side (has teams1) (has teams2))) most
 deviation g (Ca4 teams1 side teams2 slots true most) =
-    sum_where (round_count g.teams) (has slots) (λ r. over (count_at g side (has teams1) (has teams2) r) most)
+    sum_where (round_count g.teams) (has slots) (λ r. over (games_in_round g side (has teams1) (has teams2) r) most)
 deviation g (Ga1 games slots least most) =
-    over (games_in g (has slots) games) most + over least (games_in g (has slots) games)
+    over (listed_games_in g (has slots) games) most + over least (listed_games_in g (has slots) games)
 deviation g (Br1 teams side slots most) =
     sum_where g.teams (has teams) (λ t. over (breaks g t (has slots) side) most)
 deviation g (Br2 teams slots most) =

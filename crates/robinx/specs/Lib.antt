@@ -1,3 +1,4 @@
 pub mod Deviations
+pub mod Laws
 pub mod LooksPast
 pub mod Touches

@@ -1,24 +1,21 @@
 -- Rules that a change around some teams leaves as they are: in it these teams play other games than before, and any other
 -- team keeps its side and its opponent, but that it may meet another of these teams.
-use Rattle.std.specs.Prelude.{◌≡◌, ℕ, ◌&&◌, ◌||◌, not, Bool, true, false, List}
-use Rattle.std.specs.List.{list_all, AllByRecursion}
+use Rattle.std.specs.Prelude.{◌≡◌, ℕ, ◌<◌, ◌&&◌, ◌||◌, not, Bool, true, false, List}
+use Rattle.std.specs.List.{list_any, AllByRecursion}
 use Rattle.league.specs.Sets.{has}
-use Rattle.league.specs.Sums.{all_below, any_below}
-use Rattle.league.specs.RuleLimits.{IsBodyFor}
+use Rattle.league.specs.Sums.{any_below}
 use Rattle.league.specs.declared.rule.Pairing.{Pairing}
 use Rattle.league.specs.declared.rule.RuleBody.{RuleBody}
 use Rattle.league.specs.declared.rule.RuleBody.TheVariants.{Ca1, Ca2, Ca3, Ca4, Ga1, Br1, Br2, Se1}
-use Rattle.fixtures.specs.Games.{Games, IsDoubleRoundRobin}
-use Rattle.fixtures.specs.Changes.{DiffersOnlyAround}
-use Rattle.robinx.specs.Deviations.{deviation}
+use Rattle.robinx.specs.Touches.{has_touched_team}
 
--- no number passes both
+-- no team passes both; there are at most 40
 abbrev pub AreApart : (ℕ → Bool) → (ℕ → Bool) → Type 0
-AreApart p q = (k : ℕ) → p k ≡ true → q k ≡ false
+AreApart p q = (t : ℕ) → t < 40 → p t ≡ true → q t ≡ false
 
 -- the opponents have all of the teams, or none of them: to meet another of the teams makes no difference
 abbrev pub TakesAllOrNone : (ℕ → Bool) → (ℕ → Bool) → Type 0
-TakesAllOrNone teams opponents = (t u : ℕ) → teams t ≡ true → teams u ≡ true → opponents t ≡ opponents u
+TakesAllOrNone teams opponents = (t u : ℕ) → t < 40 → u < 40 → teams t ≡ true → teams u ≡ true → opponents t ≡ opponents u
 
 -- the rule looks at the games of none of the teams, and counts as opponents all of them or none
 abbrev pub LooksPast : (ℕ → Bool) → RuleBody → Type 0
@@ -30,3 +27,27 @@ LooksPast teams (Br1 t side slots most) = AreApart (has t) teams
 LooksPast teams (Br2 t slots most) = AreApart (has t) teams
 LooksPast teams (Ga1 games slots least most) = AllByRecursion (λ (game : Pairing). (teams game.home ≡ false) × (teams game.away ≡ false)) games
 LooksPast teams (Se1 t least) = AreApart (has t) teams
+
+-- The test of it, by searches.
+
+-- whether one of the set isn't one of the teams, there being at most 40
+unfoldable pub has_team_outside : ℕ → (ℕ → Bool) → Bool
+has_team_outside set teams = any_below 40 (λ t. has set t && not (teams t))
+
+-- whether a team of one of the games is in the set
+unfoldable pub has_game_of : List Pairing → (ℕ → Bool) → Bool
+has_game_of games teams = list_any (λ (game : Pairing). teams game.home || teams game.away) games
+
+-- whether the opponents have all of the teams, or none of them
+unfoldable pub takes_all_or_none : ℕ → ℕ → Bool
+takes_all_or_none teams opponents = not (has_touched_team teams (has opponents)) || not (has_team_outside teams (has opponents))
+
+unfoldable pub looks_past : ℕ → RuleBody → Bool
+looks_past teams (Ca1 t side slots most) = not (has_touched_team t (has teams))
+looks_past teams (Ca2 t side opponents slots most) = not (has_touched_team t (has teams)) && takes_all_or_none teams opponents
+looks_past teams (Ca3 t side opponents window most) = not (has_touched_team t (has teams)) && takes_all_or_none teams opponents
+looks_past teams (Ca4 t side opponents slots each most) = not (has_touched_team t (has teams)) && takes_all_or_none teams opponents
+looks_past teams (Br1 t side slots most) = not (has_touched_team t (has teams))
+looks_past teams (Br2 t slots most) = not (has_touched_team t (has teams))
+looks_past teams (Ga1 games slots least most) = not (has_game_of games (has teams))
+looks_past teams (Se1 t least) = not (has_touched_team t (has teams))

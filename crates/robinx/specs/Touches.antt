@@ -1,15 +1,11 @@
 -- Which rules a change of some cells can touch: cells of the teams of one test in the rounds of another.
-use Rattle.std.specs.Prelude.{◌≡◌, ℕ, ◌-◌, ◌&&◌, ◌||◌, nat_lt, Bool, List}
+use Rattle.std.specs.Prelude.{ℕ, ◌-◌, ◌&&◌, ◌||◌, nat_lt, Bool, List}
 use Rattle.std.specs.List.{list_any}
 use Rattle.league.specs.Sets.{has}
 use Rattle.league.specs.Sums.{any_below}
-use Rattle.league.specs.RuleLimits.{IsBodyFor}
 use Rattle.league.specs.declared.rule.Pairing.{Pairing}
 use Rattle.league.specs.declared.rule.RuleBody.{RuleBody}
 use Rattle.league.specs.declared.rule.RuleBody.TheVariants.{Ca1, Ca2, Ca3, Ca4, Ga1, Br1, Br2, Se1}
-use Rattle.fixtures.specs.Games.{Games, IsDoubleRoundRobin}
-use Rattle.fixtures.specs.Changes.{DiffersOnlyIn}
-use Rattle.robinx.specs.Deviations.{deviation}
 
 -- whether one of the teams is touched; there are at most 40
 unfoldable pub has_touched_team : ℕ → (ℕ → Bool) → Bool
@@ -40,9 +36,3 @@ touches (Ga1 games slots least most) in_teams in_rounds = has_touched_game games
 touches (Br1 teams side slots most) in_teams in_rounds = has_touched_team teams in_teams && has_touched_slot slots (or_before in_rounds)
 touches (Br2 teams slots most) in_teams in_rounds = has_touched_team teams in_teams && has_touched_slot slots (or_before in_rounds)
 touches (Se1 teams least) in_teams in_rounds = has_touched_team teams in_teams && has_touched_round in_rounds
-
--- the deviation is the same on schedules that differ only in these cells
-abbrev pub StaysOff : RuleBody → (ℕ → Bool) → (ℕ → Bool) → Type 0
-StaysOff body teams rounds =
-    (g g' : Games) → IsDoubleRoundRobin g → IsDoubleRoundRobin g' → IsBodyFor g.teams body →
-    DiffersOnlyIn g g' teams rounds → deviation g' body ≡ deviation g body

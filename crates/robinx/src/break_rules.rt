@@ -6,14 +6,14 @@ ghost use Rattle.league.specs.declared.rule.RuleBody.TheVariants as RuleBody;
 ghost use Rattle.fixtures.specs.Games.{round_count};
 ghost use Rattle.robinx.specs.Deviations.{is_break, breaks, deviation};
 
-use crate::counts::{counts_for, over};
+use crate::counts::{is_on_side, over};
 use fixtures::Schedule;
 use league::{Side, SlotSet, TeamSet};
 
 /// How many breaks the team has in the slots: rounds in which it is at home as in the round before, or away as
 /// in the round before. `Side::Home` counts those at home, `Side::Away` those away, `Side::Any` both. A break
 /// belongs to the later of its two rounds, so the first round has none.
-#[tactic(auto, using(league::proofs::Sums::sum_below_none, league::proofs::Sums::sum_below_more), unfolding(crate::specs::Deviations::breaks))]
+#[tactic(auto, using(league::proofs::ForCallers::sums), unfolding(crate::specs::Deviations::breaks))]
 pub fn breaks(schedule: &Schedule, team: u8, slots: SlotSet, side: Side) -> u32
     requires { team < schedule.now.teams }
     ensures value { result ≡ breaks schedule.now team (has slots) side }
@@ -39,11 +39,11 @@ fn is_break(schedule: &Schedule, side: Side, team: u8, round: u8) -> bool
         return false;
     }
     let home = schedule.game_at(team, round).home;
-    schedule.game_at(team, round - 1).home == home && counts_for(side, home)
+    schedule.game_at(team, round - 1).home == home && is_on_side(side, home)
 }
 
 /// The breaks of each team in the slots, over the most.
-#[tactic(auto, using(league::proofs::Sums::sum_below_none, league::proofs::Sums::sum_below_more), unfolding(crate::specs::Deviations::deviation))]
+#[tactic(auto, using(league::proofs::ForCallers::sums), unfolding(crate::specs::Deviations::deviation))]
 pub(crate) fn br1(schedule: &Schedule, teams: TeamSet, side: Side, slots: SlotSet, most: u32) -> u64
     ensures value { result ≡ deviation schedule.now (RuleBody.Br1 teams side slots most) }
     ensures most { result ≤ 40 * 78 }
@@ -58,7 +58,7 @@ pub(crate) fn br1(schedule: &Schedule, teams: TeamSet, side: Side, slots: SlotSe
 }
 
 /// The breaks of all the teams in the slots, over the most.
-#[tactic(auto, using(league::proofs::Sums::sum_below_none, league::proofs::Sums::sum_below_more), unfolding(crate::specs::Deviations::deviation))]
+#[tactic(auto, using(league::proofs::ForCallers::sums), unfolding(crate::specs::Deviations::deviation))]
 pub(crate) fn br2(schedule: &Schedule, teams: TeamSet, slots: SlotSet, most: u32) -> u64
     ensures value { result ≡ deviation schedule.now (RuleBody.Br2 teams slots most) }
     ensures most { result ≤ 40 * 78 }

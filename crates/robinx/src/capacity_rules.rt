@@ -6,21 +6,12 @@ ghost use Rattle.league.specs.declared.rule.RuleBody.TheVariants as RuleBody;
 ghost use Rattle.fixtures.specs.Games.{round_count};
 ghost use Rattle.robinx.specs.Deviations.{over_in_windows, deviation};
 
-use crate::counts::{count_at, count_in, count_in_window, over};
+use crate::counts::{games_in_round, games_of_team, games_in_window, over};
 use fixtures::Schedule;
 use league::{Side, SlotSet, TeamSet};
 
-/// The games of each team in the slots, over the most.
-pub(crate) fn ca1(schedule: &Schedule, teams: TeamSet, side: Side, slots: SlotSet, most: u32) -> u64
-    ensures value { result ≡ deviation schedule.now (RuleBody.Ca1 teams side slots most) }
-    ensures most { result ≤ 40 * 78 }
-{
-    let opponents = TeamSet::below(schedule.teams());
-    ca2(schedule, teams, side, opponents, slots, most)
-}
-
 /// The games of each team against the opponents in the slots, over the most.
-#[tactic(auto, using(league::proofs::Sums::sum_below_none, league::proofs::Sums::sum_below_more), unfolding(crate::specs::Deviations::deviation))]
+#[tactic(auto, using(league::proofs::ForCallers::sums), unfolding(crate::specs::Deviations::deviation))]
 pub(crate) fn ca2(
     schedule: &Schedule,
     teams: TeamSet,
@@ -35,14 +26,14 @@ pub(crate) fn ca2(
     let mut total = 0;
     for team in 0..schedule.teams() {
         if teams.has(team) {
-            total += over(count_in(schedule, side, opponents, slots, team), most);
+            total += over(games_of_team(schedule, side, opponents, slots, team), most);
         }
     }
     total
 }
 
 /// The games of each team against the opponents in each window of consecutive rounds, over the most.
-#[tactic(auto, using(league::proofs::Sums::sum_below_none, league::proofs::Sums::sum_below_more), unfolding(crate::specs::Deviations::deviation))]
+#[tactic(auto, using(league::proofs::ForCallers::sums), unfolding(crate::specs::Deviations::deviation))]
 pub(crate) fn ca3(
     schedule: &Schedule,
     teams: TeamSet,
@@ -66,7 +57,7 @@ pub(crate) fn ca3(
 }
 
 /// The games of the team against the opponents in each window of consecutive rounds, over the most.
-#[tactic(auto, using(league::proofs::Sums::sum_below_none, league::proofs::Sums::sum_below_more), unfolding(crate::specs::Deviations::over_in_windows))]
+#[tactic(auto, using(league::proofs::ForCallers::sums), unfolding(crate::specs::Deviations::over_in_windows))]
 fn over_in_windows(
     schedule: &Schedule,
     side: Side,
@@ -84,7 +75,7 @@ fn over_in_windows(
     let mut total = 0;
     for first in 0..schedule.rounds() + 1 - window {
         total += over(
-            count_in_window(schedule, side, opponents, window, team, first),
+            games_in_window(schedule, side, opponents, window, team, first),
             most,
         );
     }
@@ -92,7 +83,7 @@ fn over_in_windows(
 }
 
 /// The games of all the teams against the opponents in all the slots, over the most.
-#[tactic(auto, using(league::proofs::Sums::sum_below_none, league::proofs::Sums::sum_below_more), unfolding(crate::specs::Deviations::deviation))]
+#[tactic(auto, using(league::proofs::ForCallers::sums), unfolding(crate::specs::Deviations::deviation))]
 pub(crate) fn ca4_global(
     schedule: &Schedule,
     teams: TeamSet,
@@ -107,14 +98,14 @@ pub(crate) fn ca4_global(
     let mut count = 0;
     for round in 0..schedule.rounds() {
         if slots.has(round) {
-            count += count_at(schedule, side, teams, opponents, round);
+            count += games_in_round(schedule, side, teams, opponents, round);
         }
     }
     over(count, most)
 }
 
 /// The games of all the teams against the opponents in each of the slots, over the most.
-#[tactic(auto, using(league::proofs::Sums::sum_below_none, league::proofs::Sums::sum_below_more), unfolding(crate::specs::Deviations::deviation))]
+#[tactic(auto, using(league::proofs::ForCallers::sums), unfolding(crate::specs::Deviations::deviation))]
 pub(crate) fn ca4_every(
     schedule: &Schedule,
     teams: TeamSet,
@@ -129,7 +120,7 @@ pub(crate) fn ca4_every(
     let mut total = 0;
     for round in 0..schedule.rounds() {
         if slots.has(round) {
-            total += over(count_at(schedule, side, teams, opponents, round), most);
+            total += over(games_in_round(schedule, side, teams, opponents, round), most);
         }
     }
     total

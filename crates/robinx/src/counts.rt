@@ -3,7 +3,7 @@
 ghost use Rattle.std.specs.Prelude.{◌≡◌, ◌+◌, ◌*◌, ◌<◌, ◌≤◌};
 ghost use Rattle.league.specs.Sets.{has};
 ghost use Rattle.fixtures.specs.Games.{round_count};
-ghost use Rattle.robinx.specs.Deviations.{over, counts_for, counts, count_in, count_in_window, count_at};
+ghost use Rattle.robinx.specs.Deviations.{over, is_on_side, is_counted, games_of_team, games_in_window, games_in_round};
 
 use fixtures::Schedule;
 use league::{Side, SlotSet, TeamSet};
@@ -17,8 +17,8 @@ pub(crate) fn over(count: u32, most: u32) -> u64
 }
 
 /// Whether a game counts on this side, for a team that is at home in it or not.
-pub(crate) fn counts_for(side: Side, home: bool) -> bool
-    ensures { result ≡ counts_for side home }
+pub(crate) fn is_on_side(side: Side, home: bool) -> bool
+    ensures { result ≡ is_on_side side home }
 {
     match side {
         Side::Home => home,
@@ -28,20 +28,20 @@ pub(crate) fn counts_for(side: Side, home: bool) -> bool
 }
 
 /// Whether the team's game in the round counts: on this side, and against one of the opponents.
-#[tactic(auto, unfolding(crate::specs::Deviations::counts))]
-fn counts(schedule: &Schedule, side: Side, opponents: TeamSet, team: u8, round: u8) -> bool
+#[tactic(auto, unfolding(crate::specs::Deviations::is_counted))]
+fn is_counted(schedule: &Schedule, side: Side, opponents: TeamSet, team: u8, round: u8) -> bool
     requires forty { schedule.now.teams ≤ 40 }
     requires team { team < schedule.now.teams }
     requires round { round < round_count schedule.now.teams }
-    ensures { result ≡ counts schedule.now side (has opponents) team round }
+    ensures { result ≡ is_counted schedule.now side (has opponents) team round }
 {
     let cell = schedule.game_at(team, round);
-    counts_for(side, cell.home) && opponents.has(cell.opponent)
+    is_on_side(side, cell.home) && opponents.has(cell.opponent)
 }
 
 /// In how many rounds of the slots the team's game counts.
-#[tactic(auto, using(league::proofs::Sums::sum_below_none, league::proofs::Sums::sum_below_more), unfolding(crate::specs::Deviations::count_in))]
-pub(crate) fn count_in(
+#[tactic(auto, using(league::proofs::ForCallers::sums), unfolding(crate::specs::Deviations::games_of_team))]
+pub(crate) fn games_of_team(
     schedule: &Schedule,
     side: Side,
     opponents: TeamSet,
@@ -49,12 +49,12 @@ pub(crate) fn count_in(
     team: u8,
 ) -> u32
     requires { team < schedule.now.teams }
-    ensures value { result ≡ count_in schedule.now side (has opponents) (has slots) team }
+    ensures value { result ≡ games_of_team schedule.now side (has opponents) (has slots) team }
     ensures most { result ≤ 78 }
 {
     let mut count = 0;
     for round in 0..schedule.rounds() {
-        if slots.has(round) && counts(schedule, side, opponents, team, round) {
+        if slots.has(round) && is_counted(schedule, side, opponents, team, round) {
             count += 1;
         }
     }
@@ -62,8 +62,8 @@ pub(crate) fn count_in(
 }
 
 /// In how many rounds of the window, which begins with the round `first`, the team's game counts.
-#[tactic(auto, using(league::proofs::Sums::sum_below_none, league::proofs::Sums::sum_below_more), unfolding(crate::specs::Deviations::count_in_window))]
-pub(crate) fn count_in_window(
+#[tactic(auto, using(league::proofs::ForCallers::sums), unfolding(crate::specs::Deviations::games_in_window))]
+pub(crate) fn games_in_window(
     schedule: &Schedule,
     side: Side,
     opponents: TeamSet,
@@ -74,12 +74,12 @@ pub(crate) fn count_in_window(
     requires forty { schedule.now.teams ≤ 40 }
     requires team { team < schedule.now.teams }
     requires window { first + window ≤ round_count schedule.now.teams }
-    ensures value { result ≡ count_in_window schedule.now side (has opponents) window team first }
+    ensures value { result ≡ games_in_window schedule.now side (has opponents) window team first }
     ensures most { result ≤ window }
 {
     let mut count = 0;
     for later in 0..window {
-        if counts(schedule, side, opponents, team, first + later) {
+        if is_counted(schedule, side, opponents, team, first + later) {
             count += 1;
         }
     }
@@ -87,8 +87,8 @@ pub(crate) fn count_in_window(
 }
 
 /// For how many of the teams the game in the round counts.
-#[tactic(auto, using(league::proofs::Sums::sum_below_none, league::proofs::Sums::sum_below_more), unfolding(crate::specs::Deviations::count_at))]
-pub(crate) fn count_at(
+#[tactic(auto, using(league::proofs::ForCallers::sums), unfolding(crate::specs::Deviations::games_in_round))]
+pub(crate) fn games_in_round(
     schedule: &Schedule,
     side: Side,
     teams: TeamSet,
@@ -96,12 +96,12 @@ pub(crate) fn count_at(
     round: u8,
 ) -> u32
     requires { round < round_count schedule.now.teams }
-    ensures value { result ≡ count_at schedule.now side (has teams) (has opponents) round }
+    ensures value { result ≡ games_in_round schedule.now side (has teams) (has opponents) round }
     ensures most { result ≤ 40 }
 {
     let mut count = 0;
     for team in 0..schedule.teams() {
-        if teams.has(team) && counts(schedule, side, opponents, team, round) {
+        if teams.has(team) && is_counted(schedule, side, opponents, team, round) {
             count += 1;
         }
     }

@@ -1,31 +1,32 @@
 //! The deviation of a schedule from a rule of any class.
 
-ghost use Rattle.std.specs.Prelude.{◌≡◌, ◌≤◌};
-ghost use Rattle.league.specs.RuleLimits.{IsRuleFor};
+ghost use Rattle.std.specs.Prelude.{◌≡◌, ◌<◌};
+ghost use Rattle.league.specs.RuleLimits.{IsBodyFor};
 ghost use Rattle.robinx.specs.Deviations.{deviation};
 
 use crate::break_rules::{br1, br2};
-use crate::capacity_rules::{ca1, ca2, ca3, ca4_every, ca4_global};
+use crate::capacity_rules::{ca2, ca3, ca4_every, ca4_global};
 use crate::game_rules::ga1;
 use crate::separation_rules::se1;
 use fixtures::Schedule;
-use league::{Rule, RuleBody};
+use league::{Rule, RuleBody, TeamSet};
 
 /// By how much the schedule breaks the rule, whatever the rule's weight: 0 where it keeps it. What each class
 /// counts stands in `specs/Deviations.antt`. The numbers of the rule have to be in range for the schedule's
 /// teams, as those of each rule of a league are for the league's teams.
 pub fn deviation(schedule: &Schedule, rule: &Rule) -> u64
-    requires { IsRuleFor schedule.now.teams rule.now }
+    requires { IsBodyFor schedule.now.teams rule.now.body }
     ensures value { result ≡ deviation schedule.now rule.now.body }
-    ensures most { result ≤ 10000000 }
+    ensures below { result < 10000000 }
 {
+    let all_teams = TeamSet::below(schedule.teams());
     match &rule.body {
         RuleBody::Ca1 {
             teams,
             side,
             slots,
             max,
-        } => ca1(schedule, *teams, *side, *slots, *max),
+        } => ca2(schedule, *teams, *side, all_teams, *slots, *max),
         RuleBody::Ca2 {
             teams1,
             side,

@@ -5,7 +5,7 @@ ghost use Rattle.std.specs.List.{AllByRecursion};
 ghost use Rattle.league.specs.Sets.{has};
 ghost use Rattle.league.specs.Games.{IsGameFor};
 ghost use Rattle.league.specs.declared.rule.RuleBody.TheVariants as RuleBody;
-ghost use Rattle.robinx.specs.Deviations.{games_in, deviation};
+ghost use Rattle.robinx.specs.Deviations.{listed_games_in, deviation};
 
 use crate::counts::over;
 use fixtures::Schedule;
@@ -24,15 +24,15 @@ pub(crate) fn ga1(
     ensures value { result ≡ deviation schedule.now (RuleBody.Ga1 games.now slots least most) }
     ensures most { result ≤ 1600 + least }
 {
-    let count = games_in(schedule, slots, games);
+    let count = listed_games_in(schedule, slots, games);
     over(count, most) + over(least, count)
 }
 
 /// How many games of the list are in the slots.
-#[tactic(auto, using(crate::proofs::GameCounts::IsPair_game), unfolding(crate::specs::Deviations::games_in))]
-fn games_in(schedule: &Schedule, slots: SlotSet, games: &GameList) -> u32
+#[tactic(auto, using(crate::proofs::GameCounts::IsPair_game), unfolding(crate::specs::Deviations::listed_games_in))]
+fn listed_games_in(schedule: &Schedule, slots: SlotSet, games: &GameList) -> u32
     requires { AllByRecursion (IsGameFor schedule.now.teams) games.now }
-    ensures value { result ≡ games_in schedule.now (has slots) games.now }
+    ensures value { result ≡ listed_games_in schedule.now (has slots) games.now }
     ensures most { result ≤ 1600 }
 {
     let mut count = 0;

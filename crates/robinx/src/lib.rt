@@ -9,9 +9,15 @@ mod capacity_rules;
 mod counts;
 mod deviations;
 mod game_rules;
+mod laws;
+mod passed_rules;
 mod separation_rules;
+mod touched_rules;
 #[cfg(test)]
 mod tests;
 
 pub use break_rules::breaks;
 pub use deviations::deviation;
+pub use laws::{looked_past_stays, untouched_stays};
+pub use passed_rules::looks_past;
+pub use touched_rules::touches;

@@ -11,7 +11,7 @@ use fixtures::Schedule;
 use league::TeamSet;
 
 /// The rounds between the two games of each pair of the teams, under the least.
-#[tactic(auto, using(league::proofs::Sums::sum_below_none, league::proofs::Sums::sum_below_more), unfolding(crate::specs::Deviations::deviation))]
+#[tactic(auto, using(league::proofs::ForCallers::sums), unfolding(crate::specs::Deviations::deviation))]
 pub(crate) fn se1(schedule: &Schedule, teams: TeamSet, least: u32) -> u64
     requires { least ≤ 10000 }
     ensures value { result ≡ deviation schedule.now (RuleBody.Se1 teams least) }
@@ -25,7 +25,7 @@ pub(crate) fn se1(schedule: &Schedule, teams: TeamSet, least: u32) -> u64
 }
 
 /// The rounds between the two games of the team and of each lower team, under the least.
-#[tactic(auto, using(league::proofs::Sums::sum_below_none, league::proofs::Sums::sum_below_more), unfolding(crate::specs::Deviations::short_pairs))]
+#[tactic(auto, using(league::proofs::ForCallers::sums), unfolding(crate::specs::Deviations::short_pairs))]
 fn short_pairs(schedule: &Schedule, teams: TeamSet, least: u32, team: u8) -> u64
     requires forty { schedule.now.teams ≤ 40 }
     requires team { team < schedule.now.teams }

@@ -1,38 +1,39 @@
--- No schedule of up to 40 teams is further from a rule of its league than 16,000,000.
-use Rattle.std.proofs.Common.{ℕ, ◌+◌, ◌-◌, ◌≤◌, ◌&&◌, Bool, true, false, if◌then◌else◌, List, length, arith}
+-- A schedule of up to 40 teams is less than 10,000,000 from a rule whose numbers are in range.
+use Rattle.std.proofs.Common.{ℕ, zero, suc, ◌+◌, ◌-◌, ◌*◌, ◌<◌, ◌≤◌, ◌&&◌, Bool, true, false, if◌then◌else◌, List, length, arith}
+use Rattle.std.proofs.Math.Nat.{mul-le-mul, mul-le-mul_left}
 use Rattle.std.proofs.lemmas.List.Sums.{count_by-le-length}
 use Rattle.league.specs.Sets.{has}
-use Rattle.league.specs.Sums.{sum_where}
+use Rattle.league.specs.Sums.{sum_below, sum_where}
 use Rattle.league.specs.RuleLimits.{IsBodyFor}
 use Rattle.league.specs.declared.rule.Pairing.{Pairing}
 use Rattle.league.specs.declared.rule.RuleBody.{RuleBody}
 use Rattle.league.specs.declared.rule.RuleBody.TheVariants.{Ca1, Ca2, Ca3, Ca4, Ga1, Br1, Br2, Se1}
 use Rattle.league.specs.declared.rule.Side.{Side}
 use Rattle.league.specs.declared.rule.Side.TheVariants.{Any}
-use Rattle.league.proofs.Sums.{sum_below_le, sum_where_le, count_where_le}
+use Rattle.league.proofs.ForCallers.{sum_below_le, sum_below_le_each, sum_where_le, count_where_le}
 use Rattle.fixtures.specs.Games.{Games, round_count, round_of}
-use Rattle.robinx.specs.Deviations.{over, counts, count_in, count_in_window, count_at, is_break, breaks, rounds_between, games_in, over_in_windows, short_pairs, deviation}
+use Rattle.robinx.specs.Deviations.{over, is_counted, games_of_team, games_in_window, games_in_round, is_break, breaks, rounds_between, listed_games_in, over_in_windows, short_pairs, deviation}
 
-pub if_le : (b : Bool) (x most : ℕ) → x ≤ most → (if b then x else 0) ≤ most
+if_le : (b : Bool) (x most : ℕ) → x ≤ most → (if b then x else 0) ≤ most
 if_le true x most le = le
 if_le false x most le = omega arith
 
 count_in_le : (g : Games) (side : Side) (opponents slots : ℕ → Bool) (team : ℕ) →
-    count_in g side opponents slots team ≤ round_count g.teams
-unfolding count_in
+    games_of_team g side opponents slots team ≤ round_count g.teams
+unfolding games_of_team
 count_in_le g side opponents slots team =
-    count_where_le (round_count g.teams) (λ r. slots r && counts g side opponents team r)
+    count_where_le (round_count g.teams) (λ r. slots r && is_counted g side opponents team r)
 
 count_at_le : (g : Games) (side : Side) (teams opponents : ℕ → Bool) (round : ℕ) →
-    count_at g side teams opponents round ≤ g.teams
-unfolding count_at
-count_at_le g side teams opponents round = count_where_le g.teams (λ t. teams t && counts g side opponents t round)
+    games_in_round g side teams opponents round ≤ g.teams
+unfolding games_in_round
+count_at_le g side teams opponents round = count_where_le g.teams (λ t. teams t && is_counted g side opponents t round)
 
 count_in_window_le : (g : Games) (side : Side) (opponents : ℕ → Bool) (window team first : ℕ) →
-    count_in_window g side opponents window team first ≤ window
-unfolding count_in_window
+    games_in_window g side opponents window team first ≤ window
+unfolding games_in_window
 count_in_window_le g side opponents window team first =
-    count_where_le window (λ k. counts g side opponents team (first + k))
+    count_where_le window (λ k. is_counted g side opponents team (first + k))
 
 over_in_windows_le : (g : Games) (side : Side) (opponents : ℕ → Bool) (window most team : ℕ) → g.teams ≤ 40 →
     window ≤ round_count g.teams → over_in_windows g side opponents window most team ≤ 6162
@@ -41,7 +42,7 @@ over_in_windows_le g side opponents window most team forty within =
     omega (
       arith,
       sum_below_le (round_count g.teams + 1 - window) 78
-          (λ first. over (count_in_window g side opponents window team first) most)
+          (λ first. over (games_in_window g side opponents window team first) most)
           (λ first under. omega (arith, count_in_window_le g side opponents window team first)),
     )
 
@@ -49,19 +50,21 @@ breaks_le : (g : Games) (team : ℕ) (slots : ℕ → Bool) (side : Side) → br
 unfolding breaks
 breaks_le g team slots side = count_where_le (round_count g.teams) (λ r. slots r && is_break g side team r)
 
-games_in_le : (g : Games) (slots : ℕ → Bool) (games : List Pairing) → games_in g slots games ≤ length games
-unfolding games_in
+games_in_le : (g : Games) (slots : ℕ → Bool) (games : List Pairing) → listed_games_in g slots games ≤ length games
+unfolding listed_games_in
 games_in_le g slots games = count_by-le-length (λ (game : Pairing). slots (round_of g game.home game.away)) games
 
-short_pairs_le : (g : Games) (teams : ℕ → Bool) (least team : ℕ) → least ≤ 10000 → team ≤ 40 →
-    short_pairs g teams least team ≤ 400000
+short_pairs_le : (g : Games) (teams : ℕ → Bool) (least team : ℕ) → least ≤ 10000 → short_pairs g teams least team ≤ team * 10000
 unfolding short_pairs
-short_pairs_le g teams least team few forty =
-    omega (
-      arith,
-      sum_below_le team 10000 (λ other. if teams other && teams team then over least (rounds_between g other team) else 0)
-          (λ other under. if_le (teams other && teams team) (over least (rounds_between g other team)) 10000 (omega arith)),
-    )
+short_pairs_le g teams least team few =
+    sum_below_le team 10000 (λ other. if teams other && teams team then over least (rounds_between g other team) else 0)
+    (λ other under. if_le (teams other && teams team) (over least (rounds_between g other team)) 10000 (omega arith))
+
+-- 10,000 for each pair below n, twice
+triangle : (n : ℕ) → 2 * sum_below n (λ t. t * 10000) ≤ n * (n * 10000)
+unfolding sum_below
+triangle zero = omega arith
+triangle (suc n) = omega (arith, triangle n)
 
 -- over some of the teams, and over some of the rounds
 over_teams_le : (g : Games) (test : ℕ → Bool) (f : ℕ → ℕ) (most : ℕ) → g.teams ≤ 40 → most ≤ 6162 →
@@ -74,60 +77,62 @@ over_rounds_le : (g : Games) (test : ℕ → Bool) (f : ℕ → ℕ) → g.teams
 over_rounds_le g test f forty each =
     omega (arith, sum_where_le (round_count g.teams) 40 test f (λ r under is. omega (arith, each r)))
 
-pub deviation_le : (g : Games) (body : RuleBody) → g.teams ≤ 40 → IsBodyFor g.teams body → deviation g body ≤ 16000000
+pub deviation_below : (g : Games) (body : RuleBody) → g.teams ≤ 40 → IsBodyFor g.teams body → deviation g body < 10000000
 unfolding deviation
-deviation_le g (Ca1 teams side slots most) forty is =
+deviation_below g (Ca1 teams side slots most) forty is =
     omega (
       arith,
-      over_teams_le g (has teams) (λ t. over (count_in g side (λ _. true) (has slots) t) most) 78 forty (omega arith)
+      over_teams_le g (has teams) (λ t. over (games_of_team g side (λ _. true) (has slots) t) most) 78 forty (omega arith)
           (λ t. omega (arith, count_in_le g side (λ _. true) (has slots) t)),
     )
-deviation_le g (Ca2 teams1 side teams2 slots most) forty is =
+deviation_below g (Ca2 teams1 side teams2 slots most) forty is =
     omega (
       arith,
-      over_teams_le g (has teams1) (λ t. over (count_in g side (has teams2) (has slots) t) most) 78 forty (omega arith)
+      over_teams_le g (has teams1) (λ t. over (games_of_team g side (has teams2) (has slots) t) most) 78 forty (omega arith)
           (λ t. omega (arith, count_in_le g side (has teams2) (has slots) t)),
     )
-deviation_le g (Ca3 teams1 side teams2 window most) forty is =
+deviation_below g (Ca3 teams1 side teams2 window most) forty is =
     let within : window ≤ round_count g.teams = is.3 in
     omega (
       arith,
       over_teams_le g (has teams1) (over_in_windows g side (has teams2) window most) 6162 forty (omega arith)
           (λ t. over_in_windows_le g side (has teams2) window most t forty within),
     )
-deviation_le g (Ca4 teams1 side teams2 slots false most) forty is =
+deviation_below g (Ca4 teams1 side teams2 slots false most) forty is =
     omega (
       arith,
-      over_rounds_le g (has slots) (count_at g side (has teams1) (has teams2)) forty
+      over_rounds_le g (has slots) (games_in_round g side (has teams1) (has teams2)) forty
           (count_at_le g side (has teams1) (has teams2)),
     )
-deviation_le g (Ca4 teams1 side teams2 slots true most) forty is =
+deviation_below g (Ca4 teams1 side teams2 slots true most) forty is =
     omega (
       arith,
-      over_rounds_le g (has slots) (λ r. over (count_at g side (has teams1) (has teams2) r) most) forty
+      over_rounds_le g (has slots) (λ r. over (games_in_round g side (has teams1) (has teams2) r) most) forty
           (λ r. omega (arith, count_at_le g side (has teams1) (has teams2) r)),
     )
-deviation_le g (Ga1 games slots least most) forty is =
+deviation_below g (Ga1 games slots least most) forty is =
     let len : length games ≤ 1600 = is.1 in
     let least_le : least ≤ most = is.3 in
     let most_le : most ≤ 10000 = is.4 in
     omega (arith, games_in_le g (has slots) games)
-deviation_le g (Br1 teams side slots most) forty is =
+deviation_below g (Br1 teams side slots most) forty is =
     omega (
       arith,
       over_teams_le g (has teams) (λ t. over (breaks g t (has slots) side) most) 78 forty (omega arith)
           (λ t. omega (arith, breaks_le g t (has slots) side)),
     )
-deviation_le g (Br2 teams slots most) forty is =
+deviation_below g (Br2 teams slots most) forty is =
     omega (
       arith,
       over_teams_le g (has teams) (λ t. breaks g t (has slots) Any) 78 forty (omega arith)
           (λ t. omega (arith, breaks_le g t (has slots) Any)),
     )
-deviation_le g (Se1 teams least) forty is =
+deviation_below g (Se1 teams least) forty is =
     let few : least ≤ 10000 = is.1 in
     omega (
       arith,
-      sum_below_le g.teams 400000 (short_pairs g (has teams) least)
-          (λ t under. short_pairs_le g (has teams) least t few (omega arith)),
+      triangle g.teams,
+      mul-le-mul forty (mul-le-mul_left 10000 forty),
+      sum_below_le_each g.teams (short_pairs g (has teams) least) (λ t. t * 10000)
+          (λ t under. short_pairs_le g (has teams) least t few),
     )

@@ -3,7 +3,7 @@ use Rattle.std.specs.List.{count_by}
 use Rattle.league.specs.Sets.{has}
 use Rattle.league.specs.declared.rule.Pairing.{Pairing}
 use Rattle.fixtures.specs.Games.{round_of}
-use Rattle.robinx.proofs.game_rules.games_in.Given as goal
+use Rattle.robinx.proofs.game_rules.listed_games_in.Given as goal
 
 abbrev pub invariant-loop-i : goal.invariant-loop-i
 invariant-loop-i l =

@@ -1,0 +1,84 @@
+-- Loops that look in a set, or in a list of games, for one that passes a test.
+use Rattle.std.proofs.Common.{◌≡◌, ℕ, ◌+◌, ◌<◌, ◌&&◌, ◌||◌, ◌==◌, not, nat_lt, Bool, true, false, List, take, length, get_or, Some, refl, sym, ◌∙◌, ap, inl, inr, arith}
+use Rattle.std.specs.List.{slice_get, list_any}
+use Rattle.std.proofs.lemmas.Bool.{cases_eq, ne_eqb, and_from, and_right, or_from, lt-ltb, false≢true}
+use Rattle.std.proofs.lemmas.List.Folds.{list_any_more, list_any_at}
+use Rattle.std.proofs.lemmas.Option.{slice_get_within, get_or_from_slice_get}
+use Rattle.league.specs.Sets.{has, IsBelow, IsWithoutLowest}
+use Rattle.league.specs.Sums.{any_below}
+use Rattle.league.proofs.ForCallers.{any_below_found, any_below_from_none, any_below_same, lowest_below, has_empty}
+use Rattle.robinx.specs.Touches.{has_touched_round}
+
+-- no number of the set that isn't left passes the test
+pub record NoneBefore (n set left : ℕ) (test : ℕ → Bool) : Type 0 where
+  pub below : IsBelow n left
+  pub in_set : (k : ℕ) → has left k ≡ true → has set k ≡ true
+  pub none : (k : ℕ) → has set k ≡ true → has left k ≡ false → test k ≡ false
+
+pub none_before_start : (n set left : ℕ) (test : ℕ → Bool) → IsBelow n left → left ≡ set → NoneBefore n set left test
+none_before_start n set left test below whole = record {
+  below = below;
+  in_set = λ k is. sym (ap (λ s. has s k) whole) ∙ is;
+  none = λ k is out. absurd (false≢true (sym out ∙ ap (λ s. has s k) whole ∙ is));
+}
+
+pub none_before_more : (n set left lowest rest : ℕ) (test : ℕ → Bool) → NoneBefore n set left test → IsWithoutLowest left lowest rest →
+    test lowest ≡ false → NoneBefore n set rest test
+none_before_more n set left lowest rest test so_far taken fails = record {
+  below = omega (arith, so_far.below, taken.fewer);
+  in_set = λ k is. so_far.in_set k (was_left k is);
+  none = λ k is out. elim (cases_eq k lowest) [
+    | inl here ↦ ap test here ∙ fails
+    | inr other ↦ so_far.none k is (kept k other ∙ out)
+  ];
+}
+  where
+    was_left : (k : ℕ) → has rest k ≡ true → has left k ≡ true
+    was_left k is = first (has left k) (not (k == lowest)) (sym (taken.others k) ∙ is)
+      where
+        first : (p q : Bool) → (p && q) ≡ true → p ≡ true
+        first true q both = refl
+        first false q both = both
+
+    kept : (k : ℕ) → (k ≡ lowest → ⊥) → has left k ≡ has rest k
+    kept k other = sym (taken.others k ∙ ap (λ (b : Bool). has left k && not b) (ne_eqb k lowest other) ∙ and_true (has left k))
+      where
+        and_true : (p : Bool) → (p && true) ≡ p
+        and_true true = refl
+        and_true false = refl
+
+pub found_here : (n set left lowest rest : ℕ) (test : ℕ → Bool) → NoneBefore n set left test → IsWithoutLowest left lowest rest →
+    test lowest ≡ true → any_below n (λ k. has set k && test k) ≡ true
+found_here n set left lowest rest test so_far taken passes =
+    any_below_found n (λ k. has set k && test k) lowest (lowest_below n left lowest rest so_far.below taken)
+    (and_from (has set lowest) (test lowest) (so_far.in_set lowest taken.in_set) passes)
+
+pub found_none : (n set left : ℕ) (test : ℕ → Bool) → NoneBefore n set left test → left ≡ 0 →
+    any_below n (λ k. has set k && test k) ≡ false
+found_none n set left test so_far none_left =
+    any_below_from_none n (λ k. has set k && test k) (λ k below. at k (has set k) refl)
+  where
+    at : (k : ℕ) (b : Bool) → has set k ≡ b → (b && test k) ≡ false
+    at k true is = so_far.none k is (ap (λ s. has s k) none_left ∙ has_empty k)
+    at k false is = refl
+
+-- one of all rounds
+pub touched_round : (all : ℕ) (touched : ℕ → Bool) → ((r : ℕ) → has all r ≡ nat_lt r 78) →
+    any_below 78 (λ r. has all r && touched r) ≡ has_touched_round touched
+unfolding has_touched_round
+touched_round all touched members =
+    any_below_same 78 (λ r. has all r && touched r) touched
+    (λ r below. ap (λ (b : Bool). b && touched r) (members r ∙ lt-ltb r 78 below))
+
+-- the same for a list, by its index
+
+pub list_any_found : {X : Type 0} (test : X → Bool) (xs : List X) (i : ℕ) (x : X) → slice_get xs i ≡ Some x → test x ≡ true →
+    list_any test xs ≡ true
+list_any_found test xs i x is passes =
+    list_any_at test xs i x (slice_get_within xs i x is) (ap test (get_or_from_slice_get xs i x x is) ∙ passes)
+
+pub list_any_not_yet : {X : Type 0} (test : X → Bool) (xs : List X) (i : ℕ) (x : X) → slice_get xs i ≡ Some x →
+    list_any test (take i xs) ≡ false → test x ≡ false → list_any test (take (i + 1) xs) ≡ false
+list_any_not_yet test xs i x is before fails =
+    list_any_more test xs i x (slice_get_within xs i x is) ∙
+    or_from (list_any test (take i xs)) (test (get_or xs i x)) before (ap test (get_or_from_slice_get xs i x x is) ∙ fails)

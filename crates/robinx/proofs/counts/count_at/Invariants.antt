@@ -1,9 +1,0 @@
-use Rattle.std.proofs.Common.{◌≡◌, ◌&&◌, ◌≤◌}
-use Rattle.league.specs.Sets.{has}
-use Rattle.league.specs.Sums.{count_where}
-use Rattle.robinx.specs.Deviations.{counts}
-use Rattle.robinx.proofs.counts.count_at.Given as goal
-
-abbrev pub invariant-loop-team : goal.invariant-loop-team
-invariant-loop-team l =
-    (l.count ≡ count_where l.team (λ t. has l.teams t && counts l.schedule l.side (has l.opponents) t l.round)) × (l.count ≤ l.team)

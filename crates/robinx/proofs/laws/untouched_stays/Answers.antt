@@ -1,0 +1,5 @@
+use Rattle.robinx.proofs.Untouched.{untouched_deviation}
+use Rattle.robinx.proofs.laws.untouched_stays.Goals as goal
+
+pub returns : goal.returns
+returns c = untouched_deviation

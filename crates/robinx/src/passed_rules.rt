@@ -1,0 +1,76 @@
+//! Rules that a change around some teams leaves as they are.
+
+ghost use Rattle.std.specs.Prelude.{◌≡◌, ◌<◌, ◌||◌};
+ghost use Rattle.league.specs.Sets.{has};
+ghost use Rattle.robinx.specs.LooksPast.{has_team_outside, has_game_of, takes_all_or_none, looks_past};
+
+use crate::touched_rules::has_touched_team;
+use league::{GameList, Pairing, Rule, RuleBody, TeamSet};
+
+/// Whether the rule looks at the games of none of these teams, and counts as opponents all of them or none. A change
+/// in which only they get other games, and other teams meet one of them in place of another, then leaves a schedule
+/// as far from the rule as it was ([`looked_past_stays`](crate::looked_past_stays)).
+#[tactic(auto, unfolding(crate::specs::LooksPast::looks_past))]
+pub fn looks_past(rule: &Rule, changed: TeamSet) -> bool
+    ensures { result ≡ looks_past changed rule.now.body }
+{
+    match &rule.body {
+        RuleBody::Ca1 { teams, .. } => !has_touched_team(*teams, changed),
+        RuleBody::Ca2 { teams1, teams2, .. } => {
+            !has_touched_team(*teams1, changed) && takes_all_or_none(changed, *teams2)
+        }
+        RuleBody::Ca3 { teams1, teams2, .. } => {
+            !has_touched_team(*teams1, changed) && takes_all_or_none(changed, *teams2)
+        }
+        RuleBody::Ca4 { teams1, teams2, .. } => {
+            !has_touched_team(*teams1, changed) && takes_all_or_none(changed, *teams2)
+        }
+        RuleBody::Ga1 { games, .. } => !has_game_of(games, changed),
+        RuleBody::Br1 { teams, .. } => !has_touched_team(*teams, changed),
+        RuleBody::Br2 { teams, .. } => !has_touched_team(*teams, changed),
+        RuleBody::Se1 { teams, .. } => !has_touched_team(*teams, changed),
+    }
+}
+
+/// Whether the opponents have all of the teams, or none of them.
+#[tactic(auto, unfolding(crate::specs::LooksPast::takes_all_or_none))]
+fn takes_all_or_none(teams: TeamSet, opponents: TeamSet) -> bool
+    ensures { result ≡ takes_all_or_none teams opponents }
+{
+    !has_touched_team(teams, opponents) || !has_team_outside(teams, opponents)
+}
+
+/// Whether one of the teams isn't in the set.
+fn has_team_outside(teams: TeamSet, set: TeamSet) -> bool
+    ensures { result ≡ has_team_outside teams (has set) }
+{
+    for team in teams {
+        if !set.has(team) {
+            return true;
+        }
+    }
+    false
+}
+
+/// Whether a team of one of the games is in the set.
+#[tactic(auto, using(crate::proofs::GameCounts::IsPair_game), unfolding(crate::specs::LooksPast::has_game_of))]
+fn has_game_of(games: &GameList, teams: TeamSet) -> bool
+    ensures { result ≡ has_game_of games.now (has teams) }
+{
+    for i in 0..games.len() {
+        let game = games.at(i);
+        if is_game_of(game, teams) {
+            return true;
+        }
+    }
+    false
+}
+
+/// Whether a team of the game is in the set.
+fn is_game_of(game: Pairing, teams: TeamSet) -> bool
+    requires home { game.home < 40 }
+    requires away { game.away < 40 }
+    ensures { result ≡ (has teams game.home || has teams game.away) }
+{
+    teams.has(game.home) || teams.has(game.away)
+}
