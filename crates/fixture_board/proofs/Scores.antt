@@ -1,5 +1,5 @@
 -- Each schedule of a league scores below the limit of scores.
-use Rattle.std.proofs.Common.{◌≡◌, ℕ, ◌+◌, ◌-◌, ◌*◌, ◌^◌, ◌<◌, ◌≤◌, if◌then◌else◌, ◌&&◌, List, [], ◌∷◌, length, slice_get, Option, Some, None, refl, sym, ◌∙◌, subst, le_refl, arith}
+use Rattle.std.proofs.Common.{◌≡◌, ℕ, ◌+◌, ◌-◌, ◌*◌, ◌^◌, ◌<◌, ◌≤◌, if◌then◌else◌, ◌&&◌, Bool, true, false, List, [], ◌∷◌, length, slice_get, Option, Some, None, refl, sym, ◌∙◌, subst, le_refl, arith}
 use Rattle.std.proofs.lemmas.List.Elements.{All-from_recursion, All-get_or}
 use Rattle.std.proofs.lemmas.Option.{slice_get_within, get_or_from_slice_get}
 use Rattle.std.proofs.Math.Nat.{mul-le-mul}
@@ -23,7 +23,7 @@ use Rattle.fixture_board.specs.declared.change.Change.TheVariants.{Shift, Pin, U
 use Rattle.fixture_board.specs.declared.change.Entry.{Entry}
 use Rattle.fixtures.specs.Start.{start_of}
 use Rattle.fixture_board.specs.History.{effective, shifted, games_after, games_of, cost_at}
-use Rattle.robinx.proofs.DeviationLimits.{if_le, deviation_le}
+use Rattle.robinx.proofs.ForCallers.{deviation_below}
 
 -- the schedule of a history is of the league's teams
 
@@ -70,6 +70,10 @@ runs_over_le g at_most forty =
           (λ t under.
           omega (arith, count_where_le (windows g (at_most + 1)) (λ first. is_run g t first (at_most + 1)))),
     )
+
+if_le : (b : Bool) (x most : ℕ) → x ≤ most → (if b then x else 0) ≤ most
+if_le true x most le = le
+if_le false x most le = omega arith
 
 repeats_after_le : (g : Games) (round : ℕ) → g.teams ≤ 40 → repeats_after g round ≤ 1600
 unfolding repeats_after
@@ -125,7 +129,7 @@ deviation_of : (l : LeagueData) (g : Games) (rule : Rule) → g.teams ≡ teams 
     deviation g rule.body ≤ 16000000
 deviation_of l g rule same forty is =
     let own : IsRuleFor g.teams rule = subst (λ n. IsRuleFor n rule) (sym same) is in
-    deviation_le g rule.body forty own.body
+    omega (arith, deviation_below g rule.body forty own.body)
 
 -- hard limits count by the league's weight
 hard_le : (l : LeagueData) (g : Games) → IsLeague l → g.teams ≡ teams l → g.teams ≤ 40 → (cost_of l g).hard ≤ 4096126360

@@ -94,8 +94,7 @@ module _ (g g' : Games) (rr : IsDoubleRoundRobin g) (rr' : IsDoubleRoundRobin g'
       AllByRecursion (λ (game : Pairing). slots (round_of g' game.home game.away) ≡ slots (round_of g game.home game.away)) games
   games_kept slots [] all others = tt
   games_kept slots (game ∷ games) all others =
-      let is = all.0 in
-      (
+      let is = all.0 in (
         ap slots (round_kept game.home game.away (record { home_in = is.home; away_in = is.away; distinct = is.distinct }) others.0.0 others.0.1),
         games_kept slots games all.1 others.1,
       )

@@ -14,7 +14,7 @@ pub round_of-kept : (g g' : Games) → IsDoubleRoundRobin g → IsDoubleRoundRob
 round_of-kept g g' rr rr' size h a pair same =
     let in_r = rr.in_range h a pair in
     let there : IsCell g' h (round_of g h a) (cell g' h (round_of g h a)) =
-        is_cell g' rr' h (round_of g h a) (rw size pair.home_in) (rw size in_r) in
+    is_cell g' rr' h (round_of g h a) (rw size pair.home_in) (rw size in_r) in
     let game : IsCell g' h (round_of g h a) (record { opponent = a; home = true }) =
-        subst (IsCell g' h (round_of g h a)) (same ∙ cell-home g rr h a pair) there in
+    subst (IsCell g' h (round_of g h a)) (same ∙ cell-home g rr h a pair) there in
     game.in_round

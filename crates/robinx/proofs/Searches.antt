@@ -1,5 +1,5 @@
 -- Loops that look in a set, or in a list of games, for one that passes a test.
-use Rattle.std.proofs.Common.{◌≡◌, ℕ, ◌+◌, ◌<◌, ◌&&◌, ◌||◌, ◌==◌, not, nat_lt, Bool, true, false, List, take, length, get_or, Some, refl, sym, ◌∙◌, ap, inl, inr, arith}
+use Rattle.std.proofs.Common.{◌≡◌, ℕ, ◌+◌, ◌-◌, ◌<◌, ◌&&◌, ◌||◌, ◌==◌, not, nat_lt, Bool, true, false, List, take, length, get_or, Some, refl, sym, ◌∙◌, ap, inl, inr, arith}
 use Rattle.std.specs.List.{slice_get, list_any}
 use Rattle.std.proofs.lemmas.Bool.{cases_eq, ne_eqb, and_from, and_right, or_from, lt-ltb, false≢true}
 use Rattle.std.proofs.lemmas.List.Folds.{list_any_more, list_any_at}
@@ -7,7 +7,7 @@ use Rattle.std.proofs.lemmas.Option.{slice_get_within, get_or_from_slice_get}
 use Rattle.league.specs.Sets.{has, IsBelow, IsWithoutLowest}
 use Rattle.league.specs.Sums.{any_below}
 use Rattle.league.proofs.ForCallers.{any_below_found, any_below_from_none, any_below_same, lowest_below, has_empty}
-use Rattle.robinx.specs.Touches.{has_touched_round}
+use Rattle.robinx.specs.Touches.{has_touched_round, or_before}
 
 -- no number of the set that isn't left passes the test
 pub record NoneBefore (n set left : ℕ) (test : ℕ → Bool) : Type 0 where
@@ -69,6 +69,15 @@ unfolding has_touched_round
 touched_round all touched members =
     any_below_same 78 (λ r. has all r && touched r) touched
     (λ r below. ap (λ (b : Bool). b && touched r) (members r ∙ lt-ltb r 78 below))
+
+-- one of the slots or of the rounds before them
+pub touched_break : (slots around : ℕ) (touched : ℕ → Bool) →
+    ((r : ℕ) → has around r ≡ (nat_lt r 78 && (touched r || (not (r == 0) && touched (r - 1))))) →
+    any_below 78 (λ r. has slots r && has around r) ≡ any_below 78 (λ r. has slots r && or_before touched r)
+touched_break slots around touched members =
+    any_below_same 78 (λ r. has slots r && has around r) (λ r. has slots r && or_before touched r)
+    (λ r below. ap (λ (b : Bool). has slots r && b)
+    (members r ∙ ap (λ (b : Bool). b && (touched r || (not (r == 0) && touched (r - 1)))) (lt-ltb r 78 below)))
 
 -- the same for a list, by its index
 

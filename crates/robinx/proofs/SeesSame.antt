@@ -162,9 +162,9 @@ separation-same g g' teams least size same =
         over least (rounds_between g' i j) ≡ over least (rounds_between g i j)
     short-same i j lower in_j both =
         let there : round_of g' i j ≡ round_of g i j =
-            same i j (record { home_in = omega arith; away_in = in_j; distinct = omega arith }) both.0 both.1 in
+        same i j (record { home_in = omega arith; away_in = in_j; distinct = omega arith }) both.0 both.1 in
         let back : round_of g' j i ≡ round_of g j i =
-            same j i (record { home_in = in_j; away_in = omega arith; distinct = omega arith }) both.1 both.0 in
+        same j i (record { home_in = in_j; away_in = omega arith; distinct = omega arith }) both.1 both.0 in
         rw (there, back) refl
 
 -- where each of the games is in the slots in both schedules or in neither

@@ -1,7 +1,7 @@
 -- A rule that isn't touched keeps its deviation.
-use Rattle.std.proofs.Common.{◌≡◌, ℕ, ◌-◌, ◌<◌, ◌≤◌, ◌+◌, ◌&&◌, ◌||◌, ◌⊎◌, nat_lt, Bool, true, false, List, [], ◌∷◌, inl, inr, refl, sym, ◌∙◌, ap, arith}
+use Rattle.std.proofs.Common.{◌≡◌, ℕ, ◌-◌, ◌<◌, ◌≤◌, ◌+◌, ◌&&◌, ◌||◌, ◌⊎◌, ◌==◌, not, Bool, true, false, List, [], ◌∷◌, inl, inr, refl, sym, ◌∙◌, ap, arith}
 use Rattle.std.specs.List.{AllByRecursion, list_any}
-use Rattle.std.proofs.lemmas.Bool.{and_cases, and_from, or_parts, lt-ltb, cases_lt, false≢true}
+use Rattle.std.proofs.lemmas.Bool.{and_cases, and_from, or_parts, cases_eq, ne_eqb, false≢true}
 use Rattle.league.specs.Sets.{has}
 use Rattle.league.specs.Sums.{any_below}
 use Rattle.league.specs.Games.{IsGameFor}
@@ -78,9 +78,8 @@ module _ (g g' : Games) (rr : IsDoubleRoundRobin g) (in_teams in_rounds : ℕ �
       (cell g' t r ≡ cell g t r) × (cell g' t (r - 1) ≡ cell g t (r - 1))
   unfolding has_touched_team has_touched_slot
   stays_around teams slots untouched t r in_t in_r team slot =
-      let neither : (in_teams t && (in_rounds r || (nat_lt 0 r && in_rounds (r - 1)))) ≡ false =
-          not_both 40 78 (has teams) in_teams (has slots) (or_before in_rounds) untouched t r (omega (arith, rr.forty)) (omega (arith, rr.forty)) team slot in
-      (
+      let neither : (in_teams t && (in_rounds r || (not (r == 0) && in_rounds (r - 1)))) ≡ false =
+      not_both 40 78 (has teams) in_teams (has slots) (or_before in_rounds) untouched t r (omega (arith, rr.forty)) (omega (arith, rr.forty)) team slot in (
         differs.same_cells t r in_t in_r (here (in_teams t) (in_rounds r) _ neither),
         differs.same_cells t (r - 1) in_t (omega arith) (before r neither),
       )
@@ -97,13 +96,12 @@ module _ (g g' : Games) (rr : IsDoubleRoundRobin g) (in_teams in_rounds : ℕ �
         | inr fails_there ↦ fails_right p y (other_fails x y (or_parts q (x && y) fails_there).1 is)
       ]
 
-      before : (r : ℕ) → (in_teams t && (in_rounds r || (nat_lt 0 r && in_rounds (r - 1)))) ≡ false → (in_teams t && in_rounds (r - 1)) ≡ false
-      before r neither = elim (cases_lt 0 r) [
-        | inl later_round ↦ later (in_teams t) (in_rounds r) (nat_lt 0 r) (in_rounds (r - 1)) (lt-ltb 0 r later_round) neither
-        | inr first ↦
-            let none : r ≡ 0 = omega arith in
+      before : (r : ℕ) → (in_teams t && (in_rounds r || (not (r == 0) && in_rounds (r - 1)))) ≡ false → (in_teams t && in_rounds (r - 1)) ≡ false
+      before r neither = elim (cases_eq r 0) [
+        | inl first ↦
             let same : r - 1 ≡ r = omega arith in
             rw same (here (in_teams t) (in_rounds r) _ neither)
+        | inr other ↦ later (in_teams t) (in_rounds r) (not (r == 0)) (in_rounds (r - 1)) (ap not (ne_eqb r 0 other)) neither
       ]
 
   SeesSameBreaks-slots : (teams slots : ℕ) → (has_touched_team teams in_teams && has_touched_slot slots (or_before in_rounds)) ≡ false →

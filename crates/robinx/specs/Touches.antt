@@ -1,5 +1,5 @@
 -- Which rules a change of some cells can touch: cells of the teams of one test in the rounds of another.
-use Rattle.std.specs.Prelude.{ℕ, ◌-◌, ◌&&◌, ◌||◌, nat_lt, Bool, List}
+use Rattle.std.specs.Prelude.{ℕ, ◌-◌, ◌&&◌, ◌||◌, ◌==◌, not, Bool, List}
 use Rattle.std.specs.List.{list_any}
 use Rattle.league.specs.Sets.{has}
 use Rattle.league.specs.Sums.{any_below}
@@ -25,7 +25,7 @@ has_touched_game games touched = list_any (λ (game : Pairing). touched game.hom
 
 -- a round, or the one before it, as a break is one of two rounds
 abbrev pub or_before : (ℕ → Bool) → ℕ → Bool
-or_before touched r = touched r || (nat_lt 0 r && touched (r - 1))
+or_before touched r = touched r || (not (r == 0) && touched (r - 1))
 
 unfoldable pub touches : RuleBody → (ℕ → Bool) → (ℕ → Bool) → Bool
 touches (Ca1 teams side slots most) in_teams in_rounds = has_touched_team teams in_teams && has_touched_slot slots in_rounds

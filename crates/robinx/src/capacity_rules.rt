@@ -6,7 +6,7 @@ ghost use Rattle.league.specs.declared.rule.RuleBody.TheVariants as RuleBody;
 ghost use Rattle.fixtures.specs.Games.{round_count};
 ghost use Rattle.robinx.specs.Deviations.{over_in_windows, deviation};
 
-use crate::counts::{games_in_round, games_of_team, games_in_window, over};
+use crate::counts::{games_in_round, games_in_window, games_of_team, over};
 use fixtures::Schedule;
 use league::{Side, SlotSet, TeamSet};
 
@@ -120,7 +120,10 @@ pub(crate) fn ca4_every(
     let mut total = 0;
     for round in 0..schedule.rounds() {
         if slots.has(round) {
-            total += over(games_in_round(schedule, side, teams, opponents, round), most);
+            total += over(
+                games_in_round(schedule, side, teams, opponents, round),
+                most,
+            );
         }
     }
     total

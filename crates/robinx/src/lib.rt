@@ -12,9 +12,9 @@ mod game_rules;
 mod laws;
 mod passed_rules;
 mod separation_rules;
-mod touched_rules;
 #[cfg(test)]
 mod tests;
+mod touched_rules;
 
 pub use break_rules::breaks;
 pub use deviations::deviation;

@@ -4,40 +4,39 @@ ghost use Rattle.std.specs.Prelude.{◌≡◌, ◌<◌, ◌||◌};
 ghost use Rattle.league.specs.Sets.{has};
 ghost use Rattle.robinx.specs.LooksPast.{has_team_outside, has_game_of, takes_all_or_none, looks_past};
 
-use crate::touched_rules::has_touched_team;
 use league::{GameList, Pairing, Rule, RuleBody, TeamSet};
 
 /// Whether the rule looks at the games of none of these teams, and counts as opponents all of them or none. A change
 /// in which only they get other games, and other teams meet one of them in place of another, then leaves a schedule
 /// as far from the rule as it was ([`looked_past_stays`](crate::looked_past_stays)).
-#[tactic(auto, unfolding(crate::specs::LooksPast::looks_past))]
+#[tactic(auto, unfolding(crate::specs::LooksPast::looks_past, crate::specs::Touches::has_touched_team))]
 pub fn looks_past(rule: &Rule, changed: TeamSet) -> bool
     ensures { result ≡ looks_past changed rule.now.body }
 {
     match &rule.body {
-        RuleBody::Ca1 { teams, .. } => !has_touched_team(*teams, changed),
+        RuleBody::Ca1 { teams, .. } => !teams.meets(changed),
         RuleBody::Ca2 { teams1, teams2, .. } => {
-            !has_touched_team(*teams1, changed) && takes_all_or_none(changed, *teams2)
+            !teams1.meets(changed) && takes_all_or_none(changed, *teams2)
         }
         RuleBody::Ca3 { teams1, teams2, .. } => {
-            !has_touched_team(*teams1, changed) && takes_all_or_none(changed, *teams2)
+            !teams1.meets(changed) && takes_all_or_none(changed, *teams2)
         }
         RuleBody::Ca4 { teams1, teams2, .. } => {
-            !has_touched_team(*teams1, changed) && takes_all_or_none(changed, *teams2)
+            !teams1.meets(changed) && takes_all_or_none(changed, *teams2)
         }
         RuleBody::Ga1 { games, .. } => !has_game_of(games, changed),
-        RuleBody::Br1 { teams, .. } => !has_touched_team(*teams, changed),
-        RuleBody::Br2 { teams, .. } => !has_touched_team(*teams, changed),
-        RuleBody::Se1 { teams, .. } => !has_touched_team(*teams, changed),
+        RuleBody::Br1 { teams, .. } => !teams.meets(changed),
+        RuleBody::Br2 { teams, .. } => !teams.meets(changed),
+        RuleBody::Se1 { teams, .. } => !teams.meets(changed),
     }
 }
 
 /// Whether the opponents have all of the teams, or none of them.
-#[tactic(auto, unfolding(crate::specs::LooksPast::takes_all_or_none))]
+#[tactic(auto, unfolding(crate::specs::LooksPast::takes_all_or_none, crate::specs::Touches::has_touched_team))]
 fn takes_all_or_none(teams: TeamSet, opponents: TeamSet) -> bool
     ensures { result ≡ takes_all_or_none teams opponents }
 {
-    !has_touched_team(teams, opponents) || !has_team_outside(teams, opponents)
+    !teams.meets(opponents) || !has_team_outside(teams, opponents)
 }
 
 /// Whether one of the teams isn't in the set.

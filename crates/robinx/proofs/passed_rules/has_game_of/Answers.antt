@@ -14,4 +14,4 @@ pub returns-then-is_game_of : goal.returns-then-is_game_of
 unfolding has_game_of
 returns-then-is_game_of c =
     sym (list_any_found (λ (game : Pairing). has c.args.teams game.home || has c.args.teams game.away) _ _ _ c.at-game.ensures
-        (sym c.is_game_of.ensures ∙ c.if-is_game_of.true))
+    (sym c.is_game_of.ensures ∙ c.if-is_game_of.true))

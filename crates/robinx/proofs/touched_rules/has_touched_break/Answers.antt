@@ -1,22 +1,9 @@
-use Rattle.std.proofs.Common.{rules, sym, ◌∙◌}
-use Rattle.league.proofs.ForCallers.{lowest_below}
+use Rattle.std.proofs.Common.{◌∙◌}
+use Rattle.league.specs.Sets.{has}
 use Rattle.robinx.specs.Touches.{has_touched_slot}
-use Rattle.robinx.proofs.Searches.{none_before_start, none_before_more, found_here, found_none}
+use Rattle.robinx.proofs.Searches.{touched_break}
 use Rattle.robinx.proofs.touched_rules.has_touched_break.Goals as goal
-
-pub loop-slot-init : goal.loop-slot-init
-loop-slot-init c = search (rules, none_before_start)
-
-pub is_touched_break-requires : goal.is_touched_break-requires
-is_touched_break-requires c = lowest_below 78 _ _ _ c.loop-slot.invariant.below c.in-Some.ensures.steps
-
-pub loop-slot-preserved : goal.loop-slot-preserved
-loop-slot-preserved c = none_before_more 78 _ _ _ _ _ c.loop-slot.invariant c.in-Some.ensures.steps (sym c.is_touched_break.ensures ∙ c.if-is_touched_break.false)
-
-pub returns-then-is_touched_break : goal.returns-then-is_touched_break
-unfolding has_touched_slot
-returns-then-is_touched_break c = sym (found_here 78 _ _ _ _ _ c.loop-slot.invariant c.in-Some.ensures.steps (sym c.is_touched_break.ensures ∙ c.if-is_touched_break.true))
 
 pub returns : goal.returns
 unfolding has_touched_slot
-returns c = sym (found_none 78 _ _ _ c.loop-slot.invariant c.in-None.ensures.steps.0)
+returns c = c.meets.ensures ∙ touched_break c.args.slots _ (has c.args.touched) c.with_next_below.ensures.members

@@ -1,9 +1,7 @@
 use Rattle.std.proofs.Common.{◌∙◌}
 use Rattle.league.specs.Sets.{has}
-use Rattle.robinx.specs.Touches.{has_touched_slot}
 use Rattle.robinx.proofs.Searches.{touched_round}
 use Rattle.robinx.proofs.touched_rules.has_touched_round.Goals as goal
 
 pub returns : goal.returns
-unfolding has_touched_slot
-returns c = c.has_touched_slot.ensures ∙ touched_round _ (has c.args.touched) c.below.ensures.members
+returns c = c.meets.ensures ∙ touched_round _ (has c.args.touched) c.below.ensures.members

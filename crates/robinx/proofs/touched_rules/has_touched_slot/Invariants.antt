@@ -1,6 +1,0 @@
-use Rattle.league.specs.Sets.{has}
-use Rattle.robinx.proofs.Searches.{NoneBefore}
-use Rattle.robinx.proofs.touched_rules.has_touched_slot.Given as goal
-
-abbrev pub invariant-loop-slot : goal.invariant-loop-slot
-invariant-loop-slot l = NoneBefore 78 l.fn.slots l.slot-iterator (has l.fn.touched)
