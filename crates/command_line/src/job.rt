@@ -5,6 +5,9 @@ ghost use Rattle.clap.specs.Words.{app_of, fault_of, found_of, rows_of, FailsBy,
 ghost use Rattle.command_line.specs.CommandLine.{app_of_command, job_of_command, job_of_words, number_in, play_command, program, program_of, room_option, start_command};
 ghost use Rattle.command_line.specs.CommandLine.{HasNumber, IsInRange, NamesACommand};
 
+use crate::help::{
+    PLAY_ABOUT, PLAY_LINES, PROGRAM_ABOUT, PROGRAM_EXAMPLE, ROOM_HELP, START_ABOUT, START_EXAMPLE,
+};
 use clap::builder::ValueParser;
 use clap::{Arg, ArgMatches, Command, Error};
 use std::alloc::{AllocError, Global};
@@ -14,26 +17,6 @@ const MAX_ROOM: u64 = 1_048_576;
 
 /// The room where none is given.
 const DEFAULT_ROOM: &str = "1024";
-
-const PROGRAM_ABOUT: &str = "A fixture board for the Travelling Tournament Problem";
-
-const PROGRAM_EXAMPLE: &str = "Example:
-  ttp play < league-and-script.txt";
-
-const START_ABOUT: &str =
-    "Reads a league from standard input and writes the sheet of its Berger start";
-
-const START_EXAMPLE: &str = "Example:
-  ttp start < leagues/circular-4.json";
-
-const PLAY_ABOUT: &str =
-    "Reads a league, a line `script` and script lines from standard input, plays them on a new
-board, and writes an answer to each line, the history, the sheet and the best version";
-
-const PLAY_EXAMPLE: &str = "Example:
-  (cat leagues/circular-4.json; echo script; echo 'homes 1 2'; echo undo) | ttp play --room 8";
-
-const ROOM_HELP: &str = "How many changes the board has room for, 0 to 1048576";
 
 /// What the program is asked to do.
 #[derive(Clone, Copy, Debug, PartialEq, Eq)]
@@ -93,7 +76,8 @@ fn command<'a>(alloc: Global) -> Result<Command<'a>, AllocError>
 {
     let play = play_command(alloc)?;
     let with_start = with_start(alloc)?;
-    with_start.subcommand(play)
+    let program = with_start.subcommand(play)?;
+    program.bin_name("ttp")
 }
 
 /// The program's command line without `play`.
@@ -121,6 +105,6 @@ fn play_command<'a>(alloc: Global) -> Result<Command<'a>, AllocError>
         .help(ROOM_HELP);
     Command::new(alloc, "play")
         .about(PLAY_ABOUT)
-        .after_help(PLAY_EXAMPLE)
+        .after_help(PLAY_LINES)
         .arg(room)
 }

@@ -73,34 +73,75 @@ fn wrong_command_lines_end_with_two_and_help_with_zero(rt: HostRuntime) -> Resul
     Ok(())
 }
 
+/// The text that these words are answered with.
+fn told(alloc: Global, given: &[&str]) -> Result<String, Fail> {
+    let words = words(alloc, given)?;
+    let error = args(alloc, &words).err().ok_or("the words pass")?;
+    Ok(format!(in alloc; "{error}")?)
+}
+
 #[test]
 fn help_tells_what_is_read_and_written(rt: HostRuntime) -> Result<(), Fail> {
-    let cases: [(&[&str], &str); 8] = [
-        (&["ttp", "--help"], "start"),
-        (&["ttp", "--help"], "play"),
-        (&["ttp", "--help"], "Example:\n  ttp play < "),
+    let cases: [(&[&str], &[&str]); 3] = [
+        (
+            &["ttp", "--help"],
+            &[
+                "A fixture board for the Travelling Tournament Problem\n",
+                "\n  start ",
+                "\n  play ",
+                "Example:\n  ttp start < leagues/circular-4.json\n",
+            ],
+        ),
         (
             &["ttp", "start", "--help"],
-            "standard input and writes the sheet",
-        ),
-        (&["ttp", "start", "--help"], "Example:\n  ttp start < "),
-        (
-            &["ttp", "play", "--help"],
-            "script lines from standard input",
+            &[
+                "Reads a league from standard input and writes the sheet of its Berger start\n",
+                "Example:\n  ttp start < leagues/circular-4.json\n",
+            ],
         ),
         (
             &["ttp", "play", "--help"],
-            "writes an answer to each line, the history, the sheet",
-        ),
-        (
-            &["ttp", "play", "--help"],
-            "echo script; echo 'homes 1 2'; echo undo) | ttp play --room 8",
+            &[
+                "Reads a league, a line `script` and script lines from standard input, plays them on a new\n",
+                "board, and writes an answer to each line, the history, the sheet and the best version\n",
+                "--room <N>",
+                "How many changes the board has room for, 0 to 1048576",
+                "[default: 1024]",
+                "docs/script.md",
+                "\n  homes I J ",
+                "\n  rounds K L ",
+                "\n  teams I J ",
+                "\n  part-rounds I K L ",
+                "\n  part-teams I J K ",
+                "\n  pin R H A ",
+                "\n  unpin R H A ",
+                "\n  undo ",
+                "\n  slack S ",
+                "echo script; echo 'homes 1 2'; echo undo) | ttp play --room 8\n",
+            ],
         ),
     ];
+    for (given, parts) in cases {
+        let text = told(rt.alloc(), given)?;
+        for part in parts {
+            assert!(rt; text.contains(*part), "{part} in {text}");
+        }
+    }
+    Ok(())
+}
+
+#[test]
+fn texts_call_the_program_ttp_whatever_it_was_run_as(rt: HostRuntime) -> Result<(), Fail> {
+    let cases: [(&[&str], &str); 3] = [
+        (&["/tmp/program", "--help"], "Usage: ttp <COMMAND>\n"),
+        (
+            &["/tmp/program", "play", "--help"],
+            "Usage: ttp play [OPTIONS]\n",
+        ),
+        (&["program", "start", "now"], "Usage: ttp start\n"),
+    ];
     for (given, part) in cases {
-        let words = words(rt.alloc(), given)?;
-        let error = args(rt.alloc(), &words).err().ok_or("the words pass")?;
-        let text = format!(in rt.alloc(); "{error}")?;
+        let text = told(rt.alloc(), given)?;
         assert!(rt; text.contains(part), "{part} in {text}");
     }
     Ok(())

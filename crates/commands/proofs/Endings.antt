@@ -2,7 +2,7 @@
 use Rattle.std.proofs.Common.{◌≡◌, ◌≤◌, ℕ, List, Option, Result, Ok, Err, refl, subst, sym, length}
 use Rattle.std.specs.Result.{IsErrAnd}
 use Rattle.std.specs.Io.KnownBytes.{Consumes, IsAtEnd}
-use Rattle.streams.specs.declared.reading.TheConstants.{INPUT_LIMIT}
+use Rattle.streams.specs.Limits.{input_limit}
 use Rattle.streams.specs.declared.tally.Tally.{Tally}
 use Rattle.league.specs.League.{LeagueData, IsLeague, league_of}
 use Rattle.texts.specs.Input.{league_text, script_lines}
@@ -19,7 +19,7 @@ at_fault P fault (Err given) is holds = subst (λ f. P (Err f)) (sym is) holds
 
 -- a league and a script that were read are answered by their play text
 pub answered_play : {R W : Type 0} (left : R → Option (List ℕ)) (pulls : R → Tally) (held : W → Option (List ℕ)) (pushes : W → Tally) (old new : R) (room : ℕ) (league : LeagueData) (bytes : List ℕ)
-    → Consumes (left old) (left new) bytes → IsAtEnd (left new) → length bytes ≤ INPUT_LIMIT → league_of (league_text bytes) ≡ Ok league → IsLeague league → room ≤ 1048576
+    → Consumes (left old) (left new) bytes → IsAtEnd (left new) → length bytes ≤ input_limit → league_of (league_text bytes) ≡ Ok league → IsLeague league → room ≤ 1048576
     → IsAnswered left pulls held pushes (AnswersPlay room) old new (Ok (play_text league room (script_lines bytes)))
 answered_play left pulls held pushes old new room league bytes taken ended within reading limits room_is = record {
   bytes = bytes;

@@ -1,8 +1,7 @@
 -- How a command that reads an input and writes a text ends.
 use Rattle.std.specs.Prelude.{◌≡◌, ◌+◌, ◌<◌, ◌≤◌, ℕ, List, Option, Result, Ok, Err, length}
 use Rattle.std.specs.Io.KnownBytes.{Consumes, IsAtEnd, Appends}
-use Rattle.streams.specs.declared.reading.TheConstants.{INPUT_LIMIT, READ_LIMIT}
-use Rattle.streams.specs.declared.writing.TheConstants.{WRITE_LIMIT}
+use Rattle.streams.specs.Limits.{input_limit, read_limit, write_limit}
 use Rattle.streams.specs.declared.tally.Tally.{Tally}
 use Rattle.streams.specs.Reading.{StopsPast}
 use Rattle.streams.specs.Sending.{AppendsFront}
@@ -21,7 +20,7 @@ module _ {R W : Type 0} (left : R → Option (List ℕ)) (pulls : R → Tally) (
     pub bytes : List ℕ
     pub taken : Consumes (left old) (left new) bytes
     pub ended : IsAtEnd (left new)
-    pub within : length bytes ≤ INPUT_LIMIT
+    pub within : length bytes ≤ input_limit
     pub answer_is : answers bytes answer
 
   -- the text went out whole on success, and a front of it before a failed write; before every other fault nothing
@@ -29,9 +28,9 @@ module _ {R W : Type 0} (left : R → Option (List ℕ)) (pulls : R → Tally) (
   EndsBy old new before after (Ok done) =
       (text : List ℕ) × IsAnswered old new (Ok text) × Appends (held before) (held after) text
   EndsBy old new before after (Err Write) =
-      (text : List ℕ) × IsAnswered old new (Ok text) × AppendsFront (held before) (held after) text × FailsWriting WRITE_LIMIT (pushes before) (pushes after)
-  EndsBy old new before after (Err Read) = FailsReading READ_LIMIT (pulls old) (pulls new) × (after ≡ before)
-  EndsBy old new before after (Err TooLong) = StopsPast left pulls INPUT_LIMIT old new × (after ≡ before)
+      (text : List ℕ) × IsAnswered old new (Ok text) × AppendsFront (held before) (held after) text × FailsWriting write_limit (pushes before) (pushes after)
+  EndsBy old new before after (Err Read) = FailsReading read_limit (pulls old) (pulls new) × (after ≡ before)
+  EndsBy old new before after (Err TooLong) = StopsPast left pulls input_limit old new × (after ≡ before)
   EndsBy old new before after (Err (League fault)) = IsAnswered old new (Err (League fault)) × (after ≡ before)
   EndsBy old new before after (Err Room) = IsAnswered old new (Err Room) × (after ≡ before)
   EndsBy old new before after (Err Memory) = after ≡ before
@@ -40,4 +39,4 @@ module _ {R W : Type 0} (left : R → Option (List ℕ)) (pulls : R → Tally) (
   pub record Ends (old new : R) (before after : W) (result : Result Unit ProgramFault) : Type 0 where
     pub ending : EndsBy old new before after result
     pub failed_read : (pulls old).failed < (pulls new).failed → result ≡ Err Read
-    pub reads : (pulls new).calls ≤ (pulls old).calls + READ_LIMIT
+    pub reads : (pulls new).calls ≤ (pulls old).calls + read_limit

@@ -1,5 +1,6 @@
 -- Lemmas on the counts of a `Tally`.
-use Rattle.std.proofs.Common.{◌≡◌, ℕ, ◌≤◌, inl, inr, arith}
+use Rattle.std.proofs.Common.{◌≡◌, ℕ, ◌+◌, ◌-◌, ◌*◌, ◌<◌, ◌≤◌, inl, inr, arith}
+use Rattle.std.specs.Prelude.{◌==◌, if◌then◌else◌}
 use Rattle.std.proofs.lemmas.Bool.Decides.{nat_tests}
 use Rattle.streams.specs.declared.tally.Tally.{Tally}
 use Rattle.streams.specs.declared.ends.Step.{Step}
@@ -8,6 +9,21 @@ use Rattle.streams.specs.Tally.{one_more, noted, RisesBy, NotBelow, FailsWriting
 
 pub one_more-ge : (n : ℕ) → n ≤ one_more n
 one_more-ge n = grind (arith, nat_tests)
+
+pub one_more-le : (n : ℕ) → one_more n ≤ n + 1
+one_more-le n = grind (arith, nat_tests)
+
+-- a write that moved some bytes: the calls that were allowed for these are more than those that were made
+pub calls_moved : (calls start whole interrupted rest n : ℕ) → (n ≡ 0 → ⊥) → n ≤ rest → interrupted < 1000 → calls + 1000 * rest ≤ start + 1000 * whole + interrupted
+    → one_more calls + 1000 * (rest - n) ≤ start + 1000 * whole + 0
+calls_moved calls start whole interrupted rest n some fits few made =
+    let counted = one_more-le calls in
+    let positive : 0 < n = grind (arith, some) in
+    omega (arith, counted, positive, fits, few, made)
+
+-- it is no empty one
+pub empty_moved : (n failed empty total : ℕ) → (n ≡ 0 → ⊥) → failed + empty ≡ total → failed + (if n == 0 then one_more empty else empty) ≡ total
+empty_moved n failed empty total some e = grind (arith, nat_tests, some, e)
 
 pub NotBelow-refl : (t : Tally) → NotBelow t t
 NotBelow-refl t = record { calls = omega arith; failed = omega arith; empty = omega arith; again = omega arith }

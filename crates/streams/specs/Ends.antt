@@ -1,5 +1,7 @@
 -- What one call does to the bytes that a source has left and that a sink holds, where those are known.
-use Rattle.std.specs.Prelude.{◌≡◌, ◌≤◌, ℕ, List, Option, length, take}
+use Rattle.std.specs.Prelude.{◌≡◌, ◌≤◌, ℕ, List, Option, Result, Ok, Err, length, take}
+use Rattle.std.specs.IoError.{error_kind}
+use Rattle.std.specs.declared.io.Error.{Error}
 use Rattle.std.specs.Io.KnownBytes.{Consumes, Appends, Keeps, IsAtEnd}
 use Rattle.std.specs.declared.io.ErrorKind.{ErrorKind}
 use Rattle.std.specs.declared.io.ErrorKind.TheVariants.{Interrupted}
@@ -22,3 +24,8 @@ StepGives old new Failed piece = Keeps old new
 abbrev pub step_of_kind : ErrorKind → Step
 step_of_kind Interrupted = Again
 step_of_kind _ = Failed
+
+-- what it answers where they answer this
+abbrev pub step_of_answer : Result ℕ Error → Step
+step_of_answer (Ok n) = Moved n
+step_of_answer (Err error) = step_of_kind (error_kind error)

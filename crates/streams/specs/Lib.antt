@@ -5,3 +5,5 @@ pub mod Rehearsed
 pub mod Pieces
 pub mod Sending
 pub mod Writing
+pub mod Memory
+pub mod Limits

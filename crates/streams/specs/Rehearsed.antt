@@ -2,8 +2,8 @@
 use Rattle.std.specs.Prelude.{◌≡◌, ◌≤◌, ℕ, List, [], ◌∷◌}
 use Rattle.streams.specs.declared.ends.Step.{Step}
 use Rattle.streams.specs.declared.ends.Step.TheVariants.{Moved, Again, Failed}
-use Rattle.streams.specs.declared.rehearsed.RehearsedSource.{RehearsedSource}
-use Rattle.streams.specs.declared.rehearsed.RehearsedSink.{RehearsedSink}
+use Rattle.streams.specs.declared.rehearsed_source.RehearsedSource.{RehearsedSource}
+use Rattle.streams.specs.declared.rehearsed_sink.RehearsedSink.{RehearsedSink}
 
 -- the steps that are still to come
 abbrev pub source_steps : {S : Type 0} → RehearsedSource S → List Step

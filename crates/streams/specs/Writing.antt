@@ -3,7 +3,7 @@ use Rattle.std.specs.Prelude.{◌≡◌, ◌++◌, ℕ, List, [], Option, Result
 use Rattle.std.specs.Borrow.{MutBor}
 use Rattle.streams.specs.declared.tally.Tally.{Tally}
 use Rattle.streams.specs.declared.buffered.BufferedSink.{BufferedSink}
-use Rattle.streams.specs.declared.writing.TheConstants.{WRITE_LIMIT}
+use Rattle.streams.specs.Limits.{write_limit}
 use Rattle.streams.specs.Sending.{AppendsAllBut, AppendsFront}
 use Rattle.streams.specs.Tally.{NotBelow, FailsWriting}
 
@@ -29,7 +29,7 @@ module _ {S : Type 0} (held : S → Option (List ℕ)) (tally : S → Tally) (ol
     pub same_sink : new.sink.ghost_name ≡ old.sink.ghost_name
     pub prefix : AppendsFront (held old.sink.now) (held new.sink.now) (waiting_in old ++ piece)
     pub dropped : waiting_in new ≡ []
-    pub cause : FailsWriting WRITE_LIMIT (tally old.sink.now) (tally new.sink.now)
+    pub cause : FailsWriting write_limit (tally old.sink.now) (tally new.sink.now)
     pub counts : NotBelow (tally old.sink.now) (tally new.sink.now)
 
   -- at `Ok` the piece was added, and at `Err` a write failed

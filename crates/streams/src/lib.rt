@@ -5,20 +5,28 @@
 
 mod buffered;
 mod ends;
-mod memory;
+mod memory_sink;
+mod memory_source;
+mod reader_source;
 mod reading;
 mod rehearsed;
+mod rehearsed_sink;
+mod rehearsed_source;
 mod standard;
 mod tally;
 #[cfg(test)]
 mod tests;
+mod writer_sink;
 mod writing;
 
 pub use buffered::BufferedSink;
 pub use ends::{Sink, Source, Step};
-pub use memory::{MemorySink, MemorySource};
+pub use memory_sink::MemorySink;
+pub use memory_source::MemorySource;
+pub use reader_source::ReaderSource;
 pub use reading::{INPUT_LIMIT, READ_LIMIT, ReadFault, read_all};
-pub use rehearsed::{RehearsedSink, RehearsedSource};
-pub use standard::{ReaderSource, WriterSink};
+pub use rehearsed_sink::RehearsedSink;
+pub use rehearsed_source::RehearsedSource;
 pub use tally::Tally;
+pub use writer_sink::WriterSink;
 pub use writing::{WRITE_LIMIT, WriteFault, write_all};

@@ -1,6 +1,7 @@
 //! Reading a whole input.
 ghost use Rattle.std.specs.Prelude.{◌≡◌, ◌+◌, ◌<◌, ◌≤◌, IfOk, IfSome, OnOk, Err, vec_len};
 ghost use Rattle.std.specs.Io.KnownBytes.{Consumes, IsAtEnd};
+ghost use Rattle.streams.specs.Limits.{input_limit, read_limit};
 ghost use Rattle.streams.specs.Reading.{StopsPast};
 ghost use Rattle.streams.specs.Tally.{NotBelow, FailsReading};
 
@@ -37,13 +38,13 @@ pub fn read_all<R: Source>(alloc: Global, source: &mut R) -> Result<Vec<u8>, Rea
     ensures ok { IfOk result (λ v. IfSome (R.left source.old) (λ bytes. v.items ≡ bytes)) }
     ensures taken { IfOk result (λ v. Consumes (R.left source.old) (R.left source.new) v.items) }
     ensures end { OnOk result (IsAtEnd (R.left source.new)) }
-    ensures within { IfOk result (λ v. vec_len v ≤ INPUT_LIMIT) }
+    ensures within { IfOk result (λ v. vec_len v ≤ input_limit) }
 
-    ensures too_long { result ≡ Err ReadFault.TooLong → StopsPast R.left R.tally INPUT_LIMIT source.old source.new }
-    ensures read { result ≡ Err ReadFault.Read → FailsReading READ_LIMIT (R.tally source.old) (R.tally source.new) }
+    ensures too_long { result ≡ Err ReadFault.TooLong → StopsPast R.left R.tally input_limit source.old source.new }
+    ensures read { result ≡ Err ReadFault.Read → FailsReading read_limit (R.tally source.old) (R.tally source.new) }
     ensures failed { (R.tally source.old).failed < (R.tally source.new).failed → result ≡ Err ReadFault.Read }
 
-    ensures calls { (R.tally source.new).calls ≤ (R.tally source.old).calls + READ_LIMIT }
+    ensures calls { (R.tally source.new).calls ≤ (R.tally source.old).calls + read_limit }
     ensures counts { NotBelow (R.tally source.old) (R.tally source.new) }
 {
     let mut text = Vec::new(alloc);

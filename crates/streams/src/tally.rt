@@ -64,3 +64,14 @@ impl Tally {
         }
     }
 }
+
+impl Step {
+    /// Notes this answer of a call in the counts, and gives it on.
+    pub(crate) fn noted_in(self, tally: &mut Tally) -> Step
+        ensures same { result ≡ self }
+        ensures counted { tally.new ≡ noted tally.old self }
+    {
+        *tally = tally.noting(self);
+        self
+    }
+}

@@ -6,7 +6,7 @@ use super::{
     RehearsedSink, RehearsedSource, Step, Tally, WriteFault, WriterSink, read_all, write_all,
 };
 use std::io;
-use std::io::{ErrorKind, Read};
+use std::io::{ErrorKind, Read, Write};
 use std::test::Fail;
 
 const TEXT: &[u8] = b"two\nlines\n";
@@ -124,11 +124,11 @@ fn gives_up_on_a_source_that_never_ends(rt: HostRuntime) {
 
 /// A read is interrupted, one gives two bytes, and one fails.
 #[derive(Drop)]
-struct Flaky {
+struct FlakyReader {
     calls: u8,
 }
 
-impl Read for Flaky {
+impl Read for FlakyReader {
     fn read(&mut self, buffer: &mut [u8]) -> io::Result<usize> {
         self.calls = self.calls.saturating_add(1);
         match self.calls {
@@ -146,7 +146,7 @@ fn reads_from_a_reader(rt: HostRuntime) -> Result<(), Fail> {
         TEXT
     );
 
-    let mut source = ReaderSource::new(Flaky { calls: 0 });
+    let mut source = ReaderSource::new(FlakyReader { calls: 0 });
     assert_eq!(rt;
         read_all(rt.alloc(), &mut source).err(),
         Some(ReadFault::Read)
@@ -161,6 +161,42 @@ fn reads_from_a_reader(rt: HostRuntime) -> Result<(), Fail> {
         }
     );
     Ok(())
+}
+
+/// A write is interrupted, one takes two bytes, and one fails.
+#[derive(Drop)]
+struct FlakyWriter {
+    calls: u8,
+}
+
+impl Write for FlakyWriter {
+    fn write(&mut self, piece: &[u8]) -> io::Result<usize> {
+        self.calls = self.calls.saturating_add(1);
+        match self.calls {
+            1 => Err(ErrorKind::Interrupted.into()),
+            2 => Ok(piece.len().min(2)),
+            _ => Err(ErrorKind::BrokenPipe.into()),
+        }
+    }
+
+    fn flush(&mut self) -> io::Result<()> {
+        Ok(())
+    }
+}
+
+#[test]
+fn writes_to_a_writer_until_it_fails(rt: HostRuntime) {
+    let mut sink = WriterSink::new(FlakyWriter { calls: 0 });
+    assert_eq!(rt; write_all(&mut sink, b"abc"), Err(WriteFault));
+    assert_eq!(rt;
+        sink.tally(),
+        Tally {
+            calls: 3,
+            failed: 1,
+            again: 1,
+            ..Tally::new()
+        }
+    );
 }
 
 // The next two tests are run with each allocation refused in turn: the first passes whichever is, the second where

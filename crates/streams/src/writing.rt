@@ -1,6 +1,7 @@
 //! Writing a whole text.
-ghost use Rattle.std.specs.Prelude.{◌≡◌, OnOk, OnErr};
+ghost use Rattle.std.specs.Prelude.{◌≡◌, ◌+◌, ◌*◌, ◌≤◌, length, OnOk, OnErr};
 ghost use Rattle.std.specs.Io.KnownBytes.{Appends};
+ghost use Rattle.streams.specs.Limits.{write_limit};
 ghost use Rattle.streams.specs.Sending.{AppendsFront};
 ghost use Rattle.streams.specs.Tally.{NotBelow, FailsWriting};
 
@@ -19,8 +20,13 @@ pub struct WriteFault;
 pub fn write_all<W: Sink>(sink: &mut W, text: &[u8]) -> Result<(), WriteFault>
     ensures ok { OnOk result (Appends (W.held sink.old) (W.held sink.new) text.now) }
     ensures prefix { OnErr result (AppendsFront (W.held sink.old) (W.held sink.new) text.now) }
-    ensures cause { OnErr result (FailsWriting WRITE_LIMIT (W.tally sink.old) (W.tally sink.new)) }
+    ensures cause { OnErr result (FailsWriting write_limit (W.tally sink.old) (W.tally sink.new)) }
     ensures counts { NotBelow (W.tally sink.old) (W.tally sink.new) }
+
+    // at most 999 interrupted writes stand before each byte, and one more ends it
+    ensures calls { (W.tally sink.new).calls ≤ (W.tally sink.old).calls + write_limit * length text.now }
+    ensures at_once { (W.tally sink.new).failed + (W.tally sink.new).empty ≤ (W.tally sink.old).failed + (W.tally sink.old).empty + 1 }
+    ensures none_failed { OnOk result ((W.tally sink.new).failed + (W.tally sink.new).empty ≡ (W.tally sink.old).failed + (W.tally sink.old).empty) }
 {
     let mut rest = text;
     let mut interrupted = 0;

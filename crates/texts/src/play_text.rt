@@ -3,6 +3,7 @@
 ghost use Rattle.std.specs.Prelude.{◌≡◌, [], OnOk, OnErr};
 ghost use Rattle.std.specs.Io.KnownBytes.{Appends};
 ghost use Rattle.std.specs.Str.Lines.{lines};
+ghost use Rattle.streams.specs.Limits.{write_limit};
 ghost use Rattle.streams.specs.Sending.{AppendsFront};
 ghost use Rattle.streams.specs.Tally.{FailsWriting};
 ghost use Rattle.streams.specs.Writing.{Writes};
@@ -13,7 +14,7 @@ use crate::history::write_history;
 use crate::lines::{write_counted, write_numbered};
 use crate::sheets::write_sheet;
 use fixture_board::{Best, Board, Cost};
-use streams::{BufferedSink, Sink, WRITE_LIMIT, WriteFault};
+use streams::{BufferedSink, Sink, WriteFault};
 
 /// Plays a script on a new board, and writes the play text. Takes no memory. After a fault a front of the text went
 /// out.
@@ -28,7 +29,7 @@ pub fn play_script<W: Sink>(
     ensures front { OnErr result (AppendsFront (W.held sink.old) (W.held sink.new)
         (play_text board.old.league board.old.room (lines script.now))) }
     ensures cause { OnErr result
-        (FailsWriting WRITE_LIMIT (W.tally sink.old) (W.tally sink.new)) }
+        (FailsWriting write_limit (W.tally sink.old) (W.tally sink.new)) }
 {
     let mut out = BufferedSink::new(sink);
     write_play(&mut out, board, script)?;

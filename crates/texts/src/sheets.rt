@@ -4,6 +4,7 @@ ghost use Rattle.std.specs.Prelude.{◌≡◌, ◌+◌, ◌<◌, OnOk, OnErr};
 ghost use Rattle.std.specs.Io.KnownBytes.{Appends};
 ghost use Rattle.fixtures.specs.Games.{round_count};
 ghost use Rattle.league.specs.League.{teams};
+ghost use Rattle.streams.specs.Limits.{write_limit};
 ghost use Rattle.streams.specs.Sending.{AppendsFront};
 ghost use Rattle.streams.specs.Tally.{FailsWriting};
 ghost use Rattle.streams.specs.Writing.{Writes};
@@ -13,7 +14,7 @@ ghost use Rattle.texts.specs.Sheet.{pairing_of, game_of, round_line, sheet_of};
 
 use fixtures::Schedule;
 use league::League;
-use streams::{BufferedSink, Sink, WRITE_LIMIT, WriteFault};
+use streams::{BufferedSink, Sink, WriteFault};
 
 /// Writes the sheet of a schedule, with the names of its league's teams. Takes no memory. After a
 /// fault a front of the sheet went out.
@@ -24,7 +25,7 @@ pub fn sheet<W: Sink>(schedule: &Schedule, league: &League, sink: &mut W) -> Res
     ensures front { OnErr result (AppendsFront (W.held sink.old) (W.held sink.new)
         (sheet_of schedule.now league.now)) }
     ensures cause { OnErr result
-        (FailsWriting WRITE_LIMIT (W.tally sink.old) (W.tally sink.new)) }
+        (FailsWriting write_limit (W.tally sink.old) (W.tally sink.new)) }
 {
     let mut out = BufferedSink::new(sink);
     write_sheet(&mut out, schedule, league)?;

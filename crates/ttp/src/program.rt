@@ -1,14 +1,19 @@
 //! The program around its commands: words in, texts and an exit status out.
 
-ghost use Rattle.std.specs.Prelude.{◌≡◌, ◌≢◌};
+ghost use Rattle.std.specs.Prelude.{◌≡◌, ◌≢◌, ◌≤◌, [], ◌∷◌, map, string_bytes};
 ghost use Rattle.std.specs.IoError.{error_kind};
 ghost use Rattle.std.specs.declared.io.ErrorKind.TheVariants.{OutOfMemory};
 ghost use Rattle.std.specs.Process.{exit_status};
-ghost use Rattle.clap.specs.Words.{kind_of};
+ghost use Rattle.clap.specs.Words.{fault_of, kind_of};
+ghost use Rattle.clap.specs.declared.error.kind.ErrorKind.{ErrorKind as Kind};
+ghost use Rattle.command_line.specs.CommandLine.{program};
+ghost use Rattle.commands.specs.Outcome.{Ends};
+ghost use Rattle.ttp.specs.Program.{AnswersJob, status_of};
 
 use clap::error::ErrorKind;
 use command_line::{Job, args};
-use commands::{ProgramFault, play, start};
+use commands::{ProgramFault, Sink, Source, play, start};
+use std::alloc::Global;
 use std::process::ExitCode;
 use std::rt::Runtime;
 use std::{env, io};
@@ -20,16 +25,9 @@ const MISUSE: u8 = 2;
 /// Does what the program's words ask for. The exit status is 0 on success, 1 after a fault, and 2
 /// where the words are wrong.
 pub fn run<R: Runtime + AllocGlobal>(rt: &R) -> ExitCode {
-    let words = match words_of(rt) {
-        Ok(words) => words,
-        Err(error) => return words_not_had(rt, error),
-    };
-    match args(rt.alloc(), &words) {
-        Ok(job) => match perform(rt, job) {
-            Ok(()) => ExitCode::SUCCESS,
-            Err(fault) => failure(rt, fault),
-        },
-        Err(error) => words_not_taken(rt, error),
+    match words_of(rt) {
+        Ok(words) => answer(rt, &words),
+        Err(error) => words_not_had(rt, error),
     }
 }
 
@@ -37,19 +35,44 @@ fn words_of<R: Runtime + AllocGlobal>(rt: &R) -> io::Result<Vec<String>> {
     Ok(env::args(rt)?.collect(rt.alloc())?)
 }
 
-fn perform<R: Runtime + AllocGlobal>(rt: &R, job: Job) -> Result<(), ProgramFault> {
+/// Does what these words ask for, between standard input and output.
+fn answer<R: Runtime + AllocGlobal>(rt: &R, words: &[String]) -> ExitCode
+    ensures taken { fault_of program (map string_bytes words.now) ≡ [] → exit_status result ≤ 1 }
+    ensures shown { fault_of program (map string_bytes words.now) ≡ ErrorKind.DisplayHelp ∷ [] → exit_status result ≤ 1 }
+    ensures wrong { (kind : Kind) → fault_of program (map string_bytes words.now) ≡ kind ∷ []
+        → kind ≢ ErrorKind.DisplayHelp → kind ≢ ErrorKind.DisplayVersion → 1 ≤ exit_status result }
+{
+    let job = match args(rt.alloc(), words) {
+        Ok(job) => job,
+        Err(error) => return words_not_taken(rt, error),
+    };
+    let source = ReaderSource::new(rt.reader());
+    let mut sink = WriterSink::new(io::writer(rt));
+    let outcome = perform(rt.alloc(), job, source, &mut sink);
+    ended(rt, outcome)
+}
+
+/// Does what the job asks for, from this source to this sink.
+fn perform<R: Source + Drop, W: Sink>(
+    alloc: Global,
+    job: Job,
+    source: R,
+    sink: &mut W,
+) -> Result<(), ProgramFault>
+    ensures { (after : R) × Ends R.left R.tally W.held W.tally (AnswersJob job) source after sink.old sink.new result }
+{
     match job {
-        Job::Start => start(
-            rt.alloc(),
-            ReaderSource::new(rt.reader()),
-            &mut WriterSink::new(io::writer(rt)),
-        ),
-        Job::Play { room } => play(
-            rt.alloc(),
-            ReaderSource::new(rt.reader()),
-            &mut WriterSink::new(io::writer(rt)),
-            room,
-        ),
+        Job::Start => start(alloc, source, sink),
+        Job::Play { room } => play(alloc, source, sink, room),
+    }
+}
+
+fn ended<R: Runtime>(rt: &R, outcome: Result<(), ProgramFault>) -> ExitCode
+    ensures { exit_status result ≡ status_of outcome }
+{
+    match outcome {
+        Ok(()) => ExitCode::SUCCESS,
+        Err(fault) => failure(rt, fault),
     }
 }
 
@@ -64,6 +87,7 @@ fn failure<R: Runtime>(rt: &R, fault: ProgramFault) -> ExitCode
 /// Prints clap's text: help on standard output, and a mistake on standard error.
 fn words_not_taken<R: Runtime>(rt: &R, error: clap::Error) -> ExitCode
     ensures memory { kind_of error ≡ ErrorKind.OutOfMemory → exit_status result ≡ 1 }
+    ensures shown { kind_of error ≡ ErrorKind.DisplayHelp → exit_status result ≤ 1 }
     ensures mistake { kind_of error ≢ ErrorKind.OutOfMemory → kind_of error ≢ ErrorKind.DisplayHelp
         → kind_of error ≢ ErrorKind.DisplayVersion → exit_status result ≡ 2 }
 {

@@ -1,5 +1,6 @@
 use Rattle.std.proofs.Common.{ap, ap₂, ◌∙◌}
 use Rattle.std.proofs.lemmas.Result.{IfOk-weaker}
+use Rattle.clap.specs.Simple.{app_of_fields}
 use Rattle.clap.specs.Words.{App, with_subcommand}
 use Rattle.clap.proofs.SimpleLemmas.{plain_fields}
 use Rattle.command_line.proofs.job.command.Goals as goal
@@ -8,6 +9,5 @@ pub returns : goal.returns
 returns c =
     let is_play = c.in_ok-play.ensures in
     let plain = plain_fields c.in_ok-play.play (ap (λ (a : App). a.top.is_plain) is_play) in
-    IfOk-weaker c.subcommand.result _ _
-    (λ m h. h.shape plain.globals ∙ ap₂ with_subcommand c.in_ok-with_start.ensures (ap (λ (a : App). a.top) is_play))
-    c.subcommand.ensures
+    let whole = c.in_ok-program.ensures.shape plain.globals ∙ ap₂ with_subcommand c.in_ok-with_start.ensures (ap (λ (a : App). a.top) is_play) in
+    IfOk-weaker c.bin_name.result _ _ (λ m named. ap app_of_fields named.0 ∙ whole) c.bin_name.ensures

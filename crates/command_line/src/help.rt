@@ -1,0 +1,32 @@
+//! What `--help` says.
+
+pub(crate) const PROGRAM_ABOUT: &str = "A fixture board for the Travelling Tournament Problem";
+
+pub(crate) const PROGRAM_EXAMPLE: &str = "Example:
+  ttp start < leagues/circular-4.json";
+
+pub(crate) const START_ABOUT: &str =
+    "Reads a league from standard input and writes the sheet of its Berger start";
+
+pub(crate) const START_EXAMPLE: &str = "Example:
+  ttp start < leagues/circular-4.json";
+
+pub(crate) const PLAY_ABOUT: &str =
+    "Reads a league, a line `script` and script lines from standard input, plays them on a new
+board, and writes an answer to each line, the history, the sheet and the best version";
+
+pub(crate) const PLAY_LINES: &str = "Script lines (docs/script.md), with teams and rounds from 1:
+  homes I J          the two games between teams I and J exchange their rounds
+  rounds K L         rounds K and L are exchanged
+  teams I J          teams I and J are exchanged in all games but those between them
+  part-rounds I K L  rounds K and L are exchanged for team I, and for those that have to follow
+  part-teams I J K   teams I and J are exchanged in round K, and in those that have to follow
+  pin R H A          the game H-A stays in round R
+  unpin R H A        that game may move again
+  undo               the last change in effect is taken back
+  slack S            from here on a move may raise the score by at most S
+
+Example:
+  (cat leagues/circular-4.json; echo script; echo 'homes 1 2'; echo undo) | ttp play --room 8";
+
+pub(crate) const ROOM_HELP: &str = "How many changes the board has room for, 0 to 1048576";

@@ -1,0 +1,71 @@
+//! A sink over memory that the caller owns. It allocates nothing, and no call of it fails.
+ghost use Rattle.std.specs.Prelude.{◌≡◌, ◌-◌, ◌<◌, ◌≤◌, [], length, min, Some, take};
+ghost use Rattle.streams.specs.declared.ends.Step.TheVariants.{Moved};
+ghost use Rattle.streams.specs.Ends.{StepGives};
+ghost use Rattle.streams.specs.Tally.{no_calls, noted};
+
+use super::ends::{Sink, Step};
+use super::tally::Tally;
+
+/// Takes bytes into a slice, until that is full.
+#[derive(Drop)]
+pub struct MemorySink<'a> {
+    room: &'a mut [u8],
+    filled: usize,
+    tally: Tally,
+    ghost within: { filled ≤ length room.now },
+}
+
+impl<'a> MemorySink<'a> {
+    ghost use Rattle.streams.specs.Memory.{room_in};
+
+    /// A sink that holds nothing yet, and takes as many bytes as the slice has places.
+    pub fn new(room: &'a mut [u8]) -> Self
+        ensures held { ⟦<MemorySink<'a> as Sink>⟧.held result ≡ Some [] }
+        ensures tally { ⟦<MemorySink<'a> as Sink>⟧.tally result ≡ no_calls }
+        ensures room { room_in result ≡ length room.entry.now }
+    {
+        MemorySink {
+            room,
+            filled: 0,
+            tally: Tally::new(),
+        }
+    }
+
+    /// The bytes that it holds.
+    pub fn held(&self) -> &[u8]
+        ensures { ⟦<MemorySink<'a> as Sink>⟧.held self.now ≡ Some result.now }
+    {
+        &self.room[..self.filled]
+    }
+
+    /// The calls so far.
+    pub const fn tally(&self) -> Tally
+        ensures { result ≡ ⟦<MemorySink<'a> as Sink>⟧.tally self.now }
+    {
+        self.tally
+    }
+}
+
+impl Sink for MemorySink<'_> {
+    ghost use Rattle.streams.specs.Memory.{bytes_in, room_in};
+
+    ghost held = { λ s. Some (take s.filled s.room.now) };
+
+    ghost tally = { λ s. s.tally };
+
+    fn push(&mut self, piece: &[u8]) -> Step
+        requires { 0 < length piece.now }
+        ensures bytes { StepGives (Some (bytes_in self.old)) (Some (bytes_in self.new)) result piece.now }
+        ensures counted { self.new.tally ≡ noted self.old.tally result }
+        ensures moved { result ≡ Moved (min (length piece.now) (room_in self.old)) }
+        ensures room { room_in self.new ≡ room_in self.old - min (length piece.now) (room_in self.old) }
+    {
+        let start = self.filled;
+        let count = piece.len().min(self.room.len() - start);
+        self.room[start..start + count].copy_from_slice(&piece[..count]);
+        self.filled = start + count;
+        let step = Step::Moved(count);
+        step.noted_in(&mut self.tally)
+    }
+}
