@@ -125,7 +125,7 @@ where_guarded true b b' same = same refl
 where_guarded false b b' same = refl
 
 -- which legs are touched depends on rounds of the season alone
-touches_leg_of : (g : Games) (set set' : ℕ → Bool) (r : ℕ) → r < leg_count g → ((k : ℕ) → k < round_count g.teams → set' k ≡ set k) →
+pub touches_leg_of : (g : Games) (set set' : ℕ → Bool) (r : ℕ) → r < leg_count g → ((k : ℕ) → k < round_count g.teams → set' k ≡ set k) →
     touches_leg g set' r ≡ touches_leg g set r
 unfolding touches_leg
 touches_leg_of g set set' r in_r same =

@@ -13,3 +13,5 @@ pub mod RepeatsBalance
 pub mod AroundBalance
 pub mod ForCallers
 mod Worked
+pub mod TravelWalk
+pub mod GuestLegs

@@ -1,21 +1,18 @@
 -- Repeats with a team of a set, counted at the teams of the set.
-use Rattle.std.proofs.Common.{◌≡◌, ◌≢◌, ℕ, ◌+◌, ◌<◌, Bool, not, ◌&&◌, ◌||◌, inl, inr, sym, ◌∙◌, ap, arith}
+use Rattle.std.proofs.Common.{◌≡◌, ◌≢◌, ℕ, ◌+◌, ◌<◌, Bool, not, ◌&&◌, ◌||◌, inl, inr, refl, sym, ◌∙◌, ap, arith}
 use Rattle.std.specs.Prelude.{◌==◌, nat_lt, if◌then◌else◌}
 use Rattle.std.proofs.lemmas.Bool.{cases_eq, eq-eqb, ne_eqb}
 use Rattle.std.proofs.lemmas.Bool.Decides.{nat_tests}
 use Rattle.league.specs.Sums.{sum_below, count_where, sum_where}
 use Rattle.league.proofs.Sums.{sum_below_same, sum_below_add}
-use Rattle.fixtures.specs.Games.{Games, round_count, IsDoubleRoundRobin}
+use Rattle.fixtures.specs.Games.{Games, round_count, cell, IsDoubleRoundRobin}
+use Rattle.fixtures.specs.declared.game.Cell.{Cell}
 use Rattle.tours.specs.Parts.{repeats_with_after}
+use Rattle.tours.specs.Walked.{repeat_at}
 use Rattle.tours.proofs.Balances.{one}
 use Rattle.tours.proofs.Turned.{IsTurn, IsPairing, sum_below_turned}
 use Rattle.tours.proofs.Opponents.{opponent_in, IsPairing-opponents}
 use Rattle.tours.proofs.HigherTeams.{repeats_with_after_higher}
-
--- 1 where a team meets the same team in a round and in the next, and that isn't a higher team of the set
-abbrev pub repeat_at : Games → (ℕ → Bool) → ℕ → ℕ → ℕ
-repeat_at g teams r t =
-    one (opponent_in g r t == opponent_in g (r + 1) t && (nat_lt (opponent_in g r t) t || not (teams (opponent_in g r t))))
 
 -- the other team of a pair of the set that is counted at its higher team, where that isn't in the set
 abbrev with_lower : (ℕ → Bool) → (ℕ → ℕ) → (ℕ → ℕ) → ℕ → ℕ
@@ -64,3 +61,7 @@ pub repeats_with_after_members : (g : Games) (teams : ℕ → Bool) (r : ℕ) �
 repeats_with_after_members g teams r rr in_r =
     repeats_with_after_higher g teams r ∙
     at_members g.teams teams (opponent_in g r) (opponent_in g (r + 1)) (IsPairing-opponents g rr r (omega arith)) (IsPairing-opponents g rr (r + 1) in_r).turn
+
+pub repeat_at_cells : (g : Games) (teams : ℕ → Bool) (r t : ℕ) (now next : Cell) → now ≡ cell g t r → next ≡ cell g t (r + 1) →
+    repeat_at g teams r t ≡ (if now.opponent == next.opponent && (nat_lt now.opponent t || not (teams now.opponent)) then 1 else 0)
+repeat_at_cells g teams r t now next is_now is_next = rw (is_now, is_next) refl

@@ -2,3 +2,4 @@ pub mod Tours
 pub mod Runs
 pub mod Repeats
 pub mod Parts
+pub mod Walked

@@ -43,7 +43,7 @@ pub fn travel_of(schedule: &Schedule, league: &League, team: u8) -> u64
 
 /// The team at whose home `team` plays in `round`.
 #[tactic(auto, unfolding(fixtures::specs::Games::place))]
-fn place(schedule: &Schedule, team: u8, round: u8) -> u8
+pub(crate) fn place(schedule: &Schedule, team: u8, round: u8) -> u8
     requires team { team < schedule.now.teams }
     requires round { round < round_count schedule.now.teams }
     ensures value { result ≡ place schedule.now team round }

@@ -8,6 +8,7 @@ mod laws;
 mod legs;
 mod meetings;
 mod runs;
+mod travel_parts;
 #[cfg(test)]
 mod tests;
 

@@ -1,0 +1,186 @@
+-- The travel around some teams: their own legs, and those of their guests.
+use Rattle.std.proofs.Common.{◌≡◌, ℕ, zero, suc, ◌+◌, ◌-◌, ◌<◌, ◌≤◌, Bool, true, false, not, ◌&&◌, ◌||◌, refl, sym, ◌∙◌, ap, arith, add-one}
+use Rattle.std.specs.Prelude.{◌==◌, nat_lt, if◌then◌else◌}
+use Rattle.std.proofs.lemmas.Bool.{le-ltb, lt-ltb}
+use Rattle.std.proofs.lemmas.Bool.Decides.{nat_tests}
+use Rattle.league.specs.League.{LeagueData}
+use Rattle.league.specs.Sums.{sum_below, sum_where}
+use Rattle.league.proofs.ForCallers.{sum_below_same, sum_below_swap, sum_below_more, sum_where_same, sum_where_split}
+use Rattle.fixtures.specs.Games.{Games, round_count, cell, place, IsDoubleRoundRobin}
+use Rattle.fixtures.specs.Changes.{with_guests}
+use Rattle.tours.specs.Tours.{leg_count, leg}
+use Rattle.tours.specs.Parts.{touches_leg, travel_part_of, travel_at, travel_part, travel_around}
+use Rattle.tours.specs.Walked.{there_and_on, legs_of_guest}
+use Rattle.tours.proofs.AroundBalance.{touches_leg_of}
+use Rattle.tours.proofs.TravelWalk.{inside, outside}
+use Rattle.tours.proofs.Turned.{sum_below_turned}
+use Rattle.tours.proofs.Opponents.{opponent_in, side_of_opponent, IsPairing-opponents}
+
+-- The terms next to marked places: those before a mark or after it. Counted at the marks, each with its own term and,
+-- unless the next place is marked too, the next.
+
+abbrev next_to : (ℕ → Bool) → ℕ → Bool
+next_to mark k = (not (k == 0) && mark (k - 1)) || mark k
+
+abbrev at_marks : (ℕ → Bool) → (ℕ → ℕ) → ℕ → ℕ
+at_marks mark f m = sum_where m mark (λ r. f r + (if mark (r + 1) then 0 else f (r + 1)))
+
+-- the term after the last mark, not yet come to
+abbrev still_to_come : (ℕ → Bool) → (ℕ → ℕ) → ℕ → ℕ
+still_to_come mark f m = if (not (m == 0) && mark (m - 1)) && not (mark m) then f m else 0
+
+one_place : (a b fm fn : ℕ) (before now next : Bool) → b ≡ a + (if before && not now then fm else 0) →
+    b + (if now then fm + (if next then 0 else fn) else 0) ≡ (a + (if before || now then fm else 0)) + (if now && not next then fn else 0)
+one_place a b fm fn true true true so_far = omega arith
+one_place a b fm fn true true false so_far = omega arith
+one_place a b fm fn true false next so_far = omega arith
+one_place a b fm fn false true true so_far = omega arith
+one_place a b fm fn false true false so_far = omega arith
+one_place a b fm fn false false next so_far = omega arith
+
+not_first : (m : ℕ) → (suc m == 0) ≡ false
+not_first m = grind (arith, nat_tests)
+
+walked : (mark : ℕ → Bool) (f : ℕ → ℕ) (m : ℕ) → at_marks mark f m ≡ sum_where m (next_to mark) f + still_to_come mark f m
+unfolding sum_below
+walked mark f zero = refl
+walked mark f (suc m) =
+    let before : suc m - 1 ≡ m = omega arith in
+    rw (before, not_first m, add-one m) (one_place _ _ (f m) (f (suc m)) (not (m == 0) && mark (m - 1)) (mark m) (mark (suc m)) (walked mark f m))
+
+-- up to a place that isn't marked
+all_walked : (mark : ℕ → Bool) (f : ℕ → ℕ) (m : ℕ) → mark m ≡ false → at_marks mark f m ≡ sum_where (m + 1) (next_to mark) f
+all_walked mark f m out =
+    walked mark f m ∙ last ∙ sym (sum_below_more m (λ k. if next_to mark k then f k else 0))
+  where
+    last : sum_where m (next_to mark) f + still_to_come mark f m ≡ sum_where m (next_to mark) f + (if next_to mark m then f m else 0)
+    last = ap (λ b. sum_where m (next_to mark) f + (if (not (m == 0) && mark (m - 1)) && not b then f m else 0)) out ∙
+        ends (not (m == 0) && mark (m - 1)) ∙ ap (λ b. sum_where m (next_to mark) f + (if (not (m == 0) && mark (m - 1)) || b then f m else 0)) (sym out)
+      where
+        ends : (b : Bool) → sum_where m (next_to mark) f + (if b && not false then f m else 0) ≡ sum_where m (next_to mark) f + (if b || false then f m else 0)
+        ends true = refl
+        ends false = refl
+
+-- the legs of a team that touch its rounds, counted at these rounds
+
+abbrev in_season : Games → (ℕ → Bool) → ℕ → Bool
+in_season g set k = nat_lt k (round_count g.teams) && set k
+
+touched_in_season : (k rounds : ℕ) (before at : Bool) → k < rounds + 1 →
+    ((not (k == 0) && before) || (nat_lt k rounds && at)) ≡ ((not (k == 0) && (nat_lt (k - 1) rounds && before)) || (nat_lt k rounds && at))
+touched_in_season k rounds before at in_k = grind (arith, nat_tests)
+
+out_of_season : (rounds : ℕ) (at : Bool) → (nat_lt rounds rounds && at) ≡ false
+out_of_season rounds at = grind (arith, nat_tests)
+
+at_season : (k rounds : ℕ) (at : Bool) → k < rounds → (nat_lt k rounds && at) ≡ at
+at_season k rounds at in_k = grind (arith, nat_tests)
+
+part_by_rounds : (l : LeagueData) (g : Games) (set : ℕ → Bool) (t : ℕ) →
+    travel_part_of l g set t ≡ sum_where (round_count g.teams) set (there_and_on l g set t)
+unfolding travel_part_of touches_leg
+part_by_rounds l g set t =
+    sum_where_same (leg_count g) (touches_leg g set) (next_to (in_season g set)) (leg l g t) (leg l g t)
+    (λ k in_k. touched_in_season k (round_count g.teams) (set (k - 1)) (set k) in_k) (λ k in_k touched. refl) ∙
+    sym (all_walked (in_season g set) (leg l g t) (round_count g.teams) (out_of_season (round_count g.teams) (set (round_count g.teams)))) ∙
+    sum_where_same (round_count g.teams) (in_season g set) set (there_and_on l g set t) (there_and_on l g set t)
+    (λ k in_k. at_season k (round_count g.teams) (set k) in_k) (λ k in_k touched. refl)
+
+-- the teams' own legs, and those of the others
+
+own_rounds : (mine round at : Bool) → mine ≡ true → (round && (mine || at)) ≡ round
+own_rounds mine true at is = rw is refl
+own_rounds mine false at is = refl
+
+own_part : (l : LeagueData) (g : Games) (teams rounds : ℕ → Bool) (t : ℕ) → teams t ≡ true →
+    travel_part_of l g (with_guests g teams rounds t) t ≡ travel_part_of l g rounds t
+unfolding travel_part_of with_guests
+own_part l g teams rounds t mine =
+    sum_where_same (leg_count g) (touches_leg g (with_guests g teams rounds t)) (touches_leg g rounds) (leg l g t) (leg l g t)
+    (λ r in_r. touches_leg_of g rounds (with_guests g teams rounds t) r in_r (λ k in_k. own_rounds (teams t) (rounds k) (teams (place g t k)) mine))
+    (λ r in_r touched. refl)
+
+-- what a guest of some teams travels around a game there
+abbrev guest_legs : LeagueData → Games → (ℕ → Bool) → (ℕ → Bool) → ℕ → ℕ → ℕ
+guest_legs l g teams rounds r t = there_and_on l g (with_guests g teams rounds t) t r
+
+theirs_in_round : (mine round at : Bool) (x : ℕ) →
+    (if round && (mine || at) then (if not mine then x else 0) else 0) ≡ (if round then (if not mine && at then x else 0) else 0)
+theirs_in_round true true at x = refl
+theirs_in_round true false at x = refl
+theirs_in_round false true at x = refl
+theirs_in_round false false at x = refl
+
+others_part : (l : LeagueData) (g : Games) (teams rounds : ℕ → Bool) →
+    sum_where g.teams (λ t. not (teams t)) (λ t. travel_part_of l g (with_guests g teams rounds t) t) ≡
+    sum_where (round_count g.teams) rounds (λ r. sum_where g.teams (λ t. not (teams t) && teams (place g t r)) (guest_legs l g teams rounds r))
+unfolding with_guests
+others_part l g teams rounds =
+    sum_below_same g.teams (λ t. if not (teams t) then travel_part_of l g (with_guests g teams rounds t) t else 0)
+    (λ t. sum_below (round_count g.teams) (λ r. if with_guests g teams rounds t r then (if not (teams t) then guest_legs l g teams rounds r t else 0) else 0))
+    (λ t in_t. ap (λ x. if not (teams t) then x else 0) (part_by_rounds l g (with_guests g teams rounds t) t) ∙
+        inside (not (teams t)) (round_count g.teams) (with_guests g teams rounds t) (λ r. guest_legs l g teams rounds r t)) ∙
+    sum_below_swap g.teams (round_count g.teams) (λ t r. if with_guests g teams rounds t r then (if not (teams t) then guest_legs l g teams rounds r t else 0) else 0) ∙
+    sum_below_same (round_count g.teams)
+    (λ r. sum_below g.teams (λ t. if with_guests g teams rounds t r then (if not (teams t) then guest_legs l g teams rounds r t else 0) else 0))
+    (λ r. if rounds r then sum_where g.teams (λ t. not (teams t) && teams (place g t r)) (guest_legs l g teams rounds r) else 0)
+    (λ r in_r. sum_below_same g.teams
+        (λ t. if with_guests g teams rounds t r then (if not (teams t) then guest_legs l g teams rounds r t else 0) else 0)
+        (λ t. if rounds r then (if not (teams t) && teams (place g t r) then guest_legs l g teams rounds r t else 0) else 0)
+        (λ t in_t. theirs_in_round (teams t) (rounds r) (teams (place g t r)) (guest_legs l g teams rounds r t)) ∙
+        outside (rounds r) g.teams (λ t. if not (teams t) && teams (place g t r) then guest_legs l g teams rounds r t else 0))
+
+-- the guests in a round, each found from its host
+
+abbrev as_guest : Games → (ℕ → Bool) → (ℕ → ℕ) → ℕ → ℕ → ℕ
+as_guest g teams f r t = if not (cell g t r).home && (not (teams t) && teams (opponent_in g r t)) then f t else 0
+
+away_there : (home mine at : Bool) (x : ℕ) (teams : ℕ → Bool) (t o : ℕ) → mine ≡ teams t → at ≡ teams o →
+    (if not mine && teams (if home then t else o) then x else 0) ≡ (if not home && (not mine && at) then x else 0)
+away_there true true at x teams t o is_mine is_at = refl
+away_there true false at x teams t o is_mine is_at = rw (← is_mine) refl
+away_there false true at x teams t o is_mine is_at = refl
+away_there false false at x teams t o is_mine is_at = rw is_at refl
+
+hosted : (home mine at : Bool) (x : ℕ) → (if not (not home) && (not at && mine) then x else 0) ≡ (if mine then (if home && not at then x else 0) else 0)
+hosted true true true x = refl
+hosted true true false x = refl
+hosted true false true x = refl
+hosted true false false x = refl
+hosted false true at x = refl
+hosted false false at x = refl
+
+guests_by_host : (g : Games) (teams : ℕ → Bool) (f : ℕ → ℕ) (r : ℕ) → IsDoubleRoundRobin g → r < round_count g.teams →
+    sum_where g.teams (λ t. not (teams t) && teams (place g t r)) f ≡
+    sum_where g.teams teams (λ t. if (cell g t r).home && not (teams (opponent_in g r t)) then f (opponent_in g r t) else 0)
+unfolding place
+guests_by_host g teams f r rr in_r =
+    sum_below_same g.teams (λ t. if not (teams t) && teams (place g t r) then f t else 0) (as_guest g teams f r)
+    (λ t in_t. away_there (cell g t r).home (teams t) (teams (opponent_in g r t)) (f t) teams t (opponent_in g r t) refl refl) ∙
+    sym (sum_below_turned g.teams (opponent_in g r) (as_guest g teams f r) (IsPairing-opponents g rr r in_r).turn) ∙
+    sum_below_same g.teams (λ t. as_guest g teams f r (opponent_in g r t))
+    (λ t. if teams t then (if (cell g t r).home && not (teams (opponent_in g r t)) then f (opponent_in g r t) else 0) else 0) each
+  where
+    each : (t : ℕ) → t < g.teams → as_guest g teams f r (opponent_in g r t) ≡
+        (if teams t then (if (cell g t r).home && not (teams (opponent_in g r t)) then f (opponent_in g r t) else 0) else 0)
+    each t in_t =
+        ap (λ b. if not b && (not (teams (opponent_in g r t)) && teams (opponent_in g r (opponent_in g r t))) then f (opponent_in g r t) else 0) (side_of_opponent g rr t r in_t in_r) ∙
+        ap (λ u. if not (not (cell g t r).home) && (not (teams (opponent_in g r t)) && teams u) then f (opponent_in g r t) else 0)
+        ((IsPairing-opponents g rr r in_r).turn.back t in_t) ∙
+        hosted (cell g t r).home (teams t) (teams (opponent_in g r t)) (f (opponent_in g r t))
+
+pub travel_around_walked : (l : LeagueData) (g : Games) (teams rounds : ℕ → Bool) → IsDoubleRoundRobin g →
+    travel_around l g teams rounds ≡
+    travel_part l g teams rounds + sum_where (round_count g.teams) rounds (λ r. sum_where g.teams teams (legs_of_guest l g teams rounds r))
+unfolding travel_around travel_at travel_part
+travel_around_walked l g teams rounds rr =
+    sym (sum_where_split g.teams teams (λ t. travel_part_of l g (with_guests g teams rounds t) t)) ∙
+    ap (λ x. x + sum_where g.teams (λ t. not (teams t)) (λ t. travel_part_of l g (with_guests g teams rounds t) t))
+    (sum_where_same g.teams teams teams (λ t. travel_part_of l g (with_guests g teams rounds t) t) (travel_part_of l g rounds)
+        (λ t in_t. refl) (λ t in_t mine. own_part l g teams rounds t mine)) ∙
+    ap (λ x. sum_where g.teams teams (travel_part_of l g rounds) + x)
+    (others_part l g teams rounds ∙
+    sum_where_same (round_count g.teams) rounds rounds
+    (λ r. sum_where g.teams (λ t. not (teams t) && teams (place g t r)) (guest_legs l g teams rounds r))
+    (λ r. sum_where g.teams teams (legs_of_guest l g teams rounds r)) (λ r in_r. refl)
+    (λ r in_r touched. guests_by_host g teams (guest_legs l g teams rounds r) r rr in_r))

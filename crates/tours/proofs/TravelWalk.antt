@@ -1,0 +1,90 @@
+-- The legs of a part, one after another, each of all its teams.
+use Rattle.std.proofs.Common.{◌≡◌, ℕ, ◌+◌, ◌-◌, ◌<◌, ◌≤◌, Bool, true, false, not, ◌&&◌, ◌||◌, get_or, refl, sym, ◌∙◌, ap, subst, arith}
+use Rattle.std.specs.Prelude.{◌==◌, nat_lt, if◌then◌else◌}
+use Rattle.std.proofs.lemmas.Bool.Decides.{nat_tests}
+use Rattle.league.specs.League.{LeagueData}
+use Rattle.league.specs.Sums.{sum_below, sum_where}
+use Rattle.league.specs.Sets.{has}
+use Rattle.league.proofs.ForCallers.{sum_below_same, sum_below_zero, sum_below_swap, sum_below_more, sum_where_same}
+use Rattle.fixtures.specs.Games.{Games, round_count, place}
+use Rattle.tours.specs.Tours.{tour, leg_count, leg}
+use Rattle.tours.specs.Parts.{touches_leg, travel_part_of, travel_part}
+use Rattle.tours.proofs.Stops.{tour_at_round, tour_at_end}
+
+-- the stops of a leg
+
+pub stop_first : (g : Games) (team r : ℕ) → r ≡ 0 → get_or (tour g team) r 0 ≡ team
+stop_first g team r none = rw none refl
+
+pub stop_before : (g : Games) (team r : ℕ) → 0 < r → r ≤ round_count g.teams → get_or (tour g team) r 0 ≡ place g team (r - 1)
+stop_before g team r some in_r =
+    let next : (r - 1) + 1 ≡ r = omega arith in
+    subst (λ (x : ℕ). get_or (tour g team) x 0 ≡ place g team (r - 1)) next (tour_at_round g team (r - 1) (omega arith))
+
+pub stop_last : (g : Games) (team r : ℕ) → r ≡ round_count g.teams → get_or (tour g team) (r + 1) 0 ≡ team
+stop_last g team r last = rw last (tour_at_end g team)
+
+-- the leg of each team of the set
+abbrev pub legs_of : LeagueData → Games → (ℕ → Bool) → ℕ → ℕ
+legs_of l g teams r = sum_where g.teams teams (λ t. leg l g t r)
+
+either_zero : (b : Bool) → ◌≡◌ {A = ℕ} (if b then 0 else 0) 0
+either_zero true = refl
+either_zero false = refl
+
+pub inside : (b : Bool) (n : ℕ) (test : ℕ → Bool) (f : ℕ → ℕ) → (if b then sum_where n test f else 0) ≡ sum_below n (λ r. if test r then (if b then f r else 0) else 0)
+inside true n test f = refl
+inside false n test f = sym (sum_below_zero n (λ r. if test r then 0 else 0) (λ r below. either_zero (test r)))
+
+pub outside : (b : Bool) (n : ℕ) (f : ℕ → ℕ) → sum_below n (λ t. if b then f t else 0) ≡ (if b then sum_below n f else 0)
+outside true n f = refl
+outside false n f = sum_below_zero n (λ _. 0) (λ t below. refl)
+
+-- legs outside, teams inside
+travel_part_by_legs : (l : LeagueData) (g : Games) (teams rounds : ℕ → Bool) →
+    travel_part l g teams rounds ≡ sum_where (leg_count g) (touches_leg g rounds) (legs_of l g teams)
+unfolding travel_part travel_part_of
+travel_part_by_legs l g teams rounds =
+    sum_below_same g.teams (λ t. if teams t then sum_where (leg_count g) (touches_leg g rounds) (leg l g t) else 0)
+    (λ t. sum_below (leg_count g) (λ r. if touches_leg g rounds r then (if teams t then leg l g t r else 0) else 0))
+    (λ t below. inside (teams t) (leg_count g) (touches_leg g rounds) (leg l g t)) ∙
+    sum_below_swap g.teams (leg_count g) (λ t r. if touches_leg g rounds r then (if teams t then leg l g t r else 0) else 0) ∙
+    sum_below_same (leg_count g) (λ r. sum_below g.teams (λ t. if touches_leg g rounds r then (if teams t then leg l g t r else 0) else 0))
+    (λ r. if touches_leg g rounds r then legs_of l g teams r else 0)
+    (λ r below. outside (touches_leg g rounds r) g.teams (λ t. if teams t then leg l g t r else 0))
+
+touched_leg : (r rounds : ℕ) (at before : Bool) → r < rounds →
+    (nat_lt r rounds && (at || (not (r == 0) && before))) ≡ ((not (r == 0) && before) || (nat_lt r rounds && at))
+touched_leg r rounds at before in_r = grind (arith, nat_tests)
+
+touched_home : (rounds : ℕ) (at before : Bool) → 0 < rounds → ((not (rounds == 0) && before) || (nat_lt rounds rounds && at)) ≡ before
+touched_home rounds at before some = grind (arith, nat_tests)
+
+-- the legs that end with a round, and the leg home
+pub travel_part_walked : (l : LeagueData) (g : Games) (teams legs : ℕ) (all_teams rounds : ℕ → Bool) → 0 < round_count g.teams →
+    ((t : ℕ) → t < g.teams → has teams t ≡ all_teams t) →
+    ((r : ℕ) → has legs r ≡ (nat_lt r (round_count g.teams) && (rounds r || (not (r == 0) && rounds (r - 1))))) →
+    travel_part l g all_teams rounds ≡
+    sum_where (round_count g.teams) (has legs) (legs_of l g (has teams)) +
+    (if rounds (round_count g.teams - 1) then legs_of l g (has teams) (round_count g.teams) else 0)
+unfolding touches_leg
+travel_part_walked l g teams legs all_teams rounds some members is_legs =
+    travel_part_by_legs l g all_teams rounds ∙
+    sum_below_more (round_count g.teams) (λ r. if touches_leg g rounds r then legs_of l g all_teams r else 0) ∙
+    ap (λ x. x + (if touches_leg g rounds (round_count g.teams) then legs_of l g all_teams (round_count g.teams) else 0)) walked ∙
+    ap (λ x. sum_where (round_count g.teams) (has legs) (legs_of l g (has teams)) + x) home
+  where
+    same_legs : (r : ℕ) → legs_of l g all_teams r ≡ legs_of l g (has teams) r
+    same_legs r = sum_where_same g.teams all_teams (has teams) (λ t. leg l g t r) (λ t. leg l g t r) (λ t in_t. sym (members t in_t)) (λ t in_t passes. refl)
+
+    walked : sum_where (round_count g.teams) (touches_leg g rounds) (legs_of l g all_teams) ≡ sum_where (round_count g.teams) (has legs) (legs_of l g (has teams))
+    walked =
+        sum_where_same (round_count g.teams) (touches_leg g rounds) (has legs) (legs_of l g all_teams) (legs_of l g (has teams))
+        (λ r in_r. sym (is_legs r ∙ touched_leg r (round_count g.teams) (rounds r) (rounds (r - 1)) in_r)) (λ r in_r touched. same_legs r)
+
+    home : (if touches_leg g rounds (round_count g.teams) then legs_of l g all_teams (round_count g.teams) else 0) ≡
+        (if rounds (round_count g.teams - 1) then legs_of l g (has teams) (round_count g.teams) else 0)
+    home =
+        ap (λ b. if b then legs_of l g all_teams (round_count g.teams) else 0)
+        (touched_home (round_count g.teams) (rounds (round_count g.teams)) (rounds (round_count g.teams - 1)) some) ∙
+        ap (λ x. if rounds (round_count g.teams - 1) then x else 0) (same_legs (round_count g.teams))

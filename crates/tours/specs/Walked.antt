@@ -1,0 +1,21 @@
+-- What the walks over a part count at each of its teams: words of private functions alone.
+use Rattle.std.specs.Prelude.{ℕ, ◌+◌, ◌&&◌, ◌||◌, ◌==◌, not, nat_lt, Bool, if◌then◌else◌}
+use Rattle.league.specs.League.{LeagueData}
+use Rattle.fixtures.specs.Games.{Games, round_count, cell}
+use Rattle.fixtures.specs.Changes.{with_guests}
+use Rattle.tours.specs.Tours.{leg}
+
+-- the leg to a place and, unless the next round of the season is in the set too, the leg on from there
+abbrev pub there_and_on : LeagueData → Games → (ℕ → Bool) → ℕ → ℕ → ℕ
+there_and_on l g set t r = leg l g t r + (if nat_lt (r + 1) (round_count g.teams) && set (r + 1) then 0 else leg l g t (r + 1))
+
+-- those of the team that a host receives in a round, unless it is one of the hosts
+abbrev pub legs_of_guest : LeagueData → Games → (ℕ → Bool) → (ℕ → Bool) → ℕ → ℕ → ℕ
+legs_of_guest l g hosts rounds r host =
+    if (cell g host r).home && not (hosts (cell g host r).opponent)
+    then there_and_on l g (with_guests g hosts rounds (cell g host r).opponent) (cell g host r).opponent r else 0
+
+-- 1 where a team meets the same team in a round and in the next, and that isn't a higher team of the set
+abbrev pub repeat_at : Games → (ℕ → Bool) → ℕ → ℕ → ℕ
+repeat_at g teams r t =
+    if (cell g t r).opponent == (cell g t (r + 1)).opponent && (nat_lt (cell g t r).opponent t || not (teams (cell g t r).opponent)) then 1 else 0

@@ -1,0 +1,129 @@
+//! The legs that a change can alter.
+
+ghost use Rattle.std.specs.Prelude.{◌≡◌, ◌+◌, ◌*◌, ◌<◌, ◌≤◌, ◌&&◌, nat_lt, false, slice_index};
+ghost use Rattle.league.specs.League.{teams};
+ghost use Rattle.league.specs.Sets.{has, IsBelow};
+ghost use Rattle.league.specs.Sums.{sum_where};
+ghost use Rattle.fixtures.specs.Games.{round_count, IsDoubleRoundRobin};
+ghost use Rattle.fixtures.specs.Changes.{with_guests};
+ghost use Rattle.tours.specs.Tours.{tour, leg};
+ghost use Rattle.tours.specs.Walked.{legs_of_guest};
+
+use crate::legs::place;
+use fixtures::{Schedule, Touched};
+use league::{League, SlotSet, TeamSet};
+
+/// The legs of the teams of the set with this index.
+fn legs_of(schedule: &Schedule, league: &League, among: TeamSet, index: u8) -> u64
+    requires same { teams league.now ≡ schedule.now.teams }
+    requires round_robin { IsDoubleRoundRobin schedule.now }
+    requires below { IsBelow schedule.now.teams among }
+    requires index { index ≤ round_count schedule.now.teams }
+    ensures value { result ≡ sum_where schedule.now.teams (has among) (λ t. leg league.now schedule.now t index) }
+    ensures most { result ≤ 1000000 * schedule.now.teams }
+{
+    let mut total = 0;
+    for team in among {
+        total += leg(schedule, league, team, index);
+    }
+    total
+}
+
+/// The way of a team to its place in the round with this index or, from its last place, home.
+#[tactic(auto, unfolding(crate::specs::Tours::leg))]
+fn leg(schedule: &Schedule, league: &League, team: u8, index: u8) -> u64
+    requires same { teams league.now ≡ schedule.now.teams }
+    requires team { team < schedule.now.teams }
+    requires index { index ≤ round_count schedule.now.teams }
+    ensures value { result ≡ leg league.now schedule.now team index }
+    ensures most { result ≤ 1000000 }
+{
+    let from = stop_before(schedule, team, index);
+    let to = stop_after(schedule, team, index);
+    u64::from(league.distance(from, to))
+}
+
+/// Where a team is before the round with this index.
+#[tactic(auto, using(crate::proofs::TravelWalk::stop_first, crate::proofs::TravelWalk::stop_before))]
+fn stop_before(schedule: &Schedule, team: u8, index: u8) -> u8
+    requires team { team < schedule.now.teams }
+    requires index { index ≤ round_count schedule.now.teams }
+    ensures value { result ≡ slice_index (tour schedule.now team) index }
+    ensures in_range { result < schedule.now.teams }
+{
+    if index == 0 {
+        team
+    } else {
+        place(schedule, team, index - 1)
+    }
+}
+
+/// Where a team goes for the round with this index, or after the last.
+#[tactic(auto, using(crate::proofs::Stops::tour_at_round, crate::proofs::TravelWalk::stop_last))]
+fn stop_after(schedule: &Schedule, team: u8, index: u8) -> u8
+    requires team { team < schedule.now.teams }
+    requires index { index ≤ round_count schedule.now.teams }
+    ensures value { result ≡ slice_index (tour schedule.now team) (index + 1) }
+    ensures in_range { result < schedule.now.teams }
+{
+    if index < schedule.rounds() {
+        place(schedule, team, index)
+    } else {
+        team
+    }
+}
+
+/// The legs of the teams that these teams receive in a round.
+fn guest_legs(schedule: &Schedule, league: &League, hosts: TeamSet, rounds: SlotSet, round: u8) -> u64
+    requires same { teams league.now ≡ schedule.now.teams }
+    requires round_robin { IsDoubleRoundRobin schedule.now }
+    requires below { IsBelow schedule.now.teams hosts }
+    requires round { round < round_count schedule.now.teams }
+    ensures value {
+        result ≡ sum_where schedule.now.teams (has hosts) (legs_of_guest league.now schedule.now (has hosts) (has rounds) round) }
+    ensures most { result ≤ 2000000 * schedule.now.teams }
+{
+    let mut total = 0;
+    for host in hosts {
+        total += legs_of_guest(schedule, league, hosts, rounds, host, round);
+    }
+    total
+}
+
+/// The legs around the game of the team that one of these teams receives in a round, unless it is one of them itself.
+fn legs_of_guest(schedule: &Schedule, league: &League, hosts: TeamSet, rounds: SlotSet, host: u8, round: u8) -> u64
+    requires same { teams league.now ≡ schedule.now.teams }
+    requires host { host < schedule.now.teams }
+    requires round { round < round_count schedule.now.teams }
+    ensures value { result ≡ legs_of_guest league.now schedule.now (has hosts) (has rounds) round host }
+    ensures most { result ≤ 2000000 }
+{
+    let game = schedule.game_at(host, round);
+    if !game.home {
+        return 0;
+    }
+    if hosts.has(game.opponent) {
+        return 0;
+    }
+    let there = leg(schedule, league, game.opponent, round);
+    if is_guest(schedule, hosts, rounds, game.opponent, round + 1) {
+        return there;
+    }
+    there + leg(schedule, league, game.opponent, round + 1)
+}
+
+/// Whether a team plays at the place of one of these teams in this round, which is one of the set.
+#[tactic(auto, unfolding(fixtures::specs::Changes::with_guests))]
+fn is_guest(schedule: &Schedule, hosts: TeamSet, rounds: SlotSet, team: u8, round: u8) -> bool
+    requires outside { has hosts team ≡ false }
+    requires team { team < schedule.now.teams }
+    ensures { result ≡ (nat_lt round (round_count schedule.now.teams) && with_guests schedule.now (has hosts) (has rounds) team round) }
+{
+    if round >= schedule.rounds() {
+        return false;
+    }
+    if !rounds.has(round) {
+        return false;
+    }
+    hosts.has(place(schedule, team, round))
+}
