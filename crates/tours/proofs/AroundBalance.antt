@@ -136,7 +136,7 @@ touches_leg_of g set set' r in_r same =
     before : not (r == 0) ≡ true → set' (r - 1) ≡ set (r - 1)
     before later = let some : r ≢ 0 = eqb-false r 0 (not-true (r == 0) later) in same (r - 1) (omega arith)
 
-travel_at_same : (l : LeagueData) (g : Games) (at at' : ℕ → ℕ → Bool) →
+pub travel_at_same : (l : LeagueData) (g : Games) (at at' : ℕ → ℕ → Bool) →
     ((t r : ℕ) → t < g.teams → r < round_count g.teams → at' t r ≡ at t r) → travel_at l g at' ≡ travel_at l g at
 unfolding travel_at travel_part_of
 travel_at_same l g at at' same =

@@ -119,16 +119,16 @@ others_part l g teams rounds =
     sum_below_same g.teams (λ t. if not (teams t) then travel_part_of l g (with_guests g teams rounds t) t else 0)
     (λ t. sum_below (round_count g.teams) (λ r. if with_guests g teams rounds t r then (if not (teams t) then guest_legs l g teams rounds r t else 0) else 0))
     (λ t in_t. ap (λ x. if not (teams t) then x else 0) (part_by_rounds l g (with_guests g teams rounds t) t) ∙
-        inside (not (teams t)) (round_count g.teams) (with_guests g teams rounds t) (λ r. guest_legs l g teams rounds r t)) ∙
+    inside (not (teams t)) (round_count g.teams) (with_guests g teams rounds t) (λ r. guest_legs l g teams rounds r t)) ∙
     sum_below_swap g.teams (round_count g.teams) (λ t r. if with_guests g teams rounds t r then (if not (teams t) then guest_legs l g teams rounds r t else 0) else 0) ∙
     sum_below_same (round_count g.teams)
     (λ r. sum_below g.teams (λ t. if with_guests g teams rounds t r then (if not (teams t) then guest_legs l g teams rounds r t else 0) else 0))
     (λ r. if rounds r then sum_where g.teams (λ t. not (teams t) && teams (place g t r)) (guest_legs l g teams rounds r) else 0)
     (λ r in_r. sum_below_same g.teams
-        (λ t. if with_guests g teams rounds t r then (if not (teams t) then guest_legs l g teams rounds r t else 0) else 0)
-        (λ t. if rounds r then (if not (teams t) && teams (place g t r) then guest_legs l g teams rounds r t else 0) else 0)
-        (λ t in_t. theirs_in_round (teams t) (rounds r) (teams (place g t r)) (guest_legs l g teams rounds r t)) ∙
-        outside (rounds r) g.teams (λ t. if not (teams t) && teams (place g t r) then guest_legs l g teams rounds r t else 0))
+    (λ t. if with_guests g teams rounds t r then (if not (teams t) then guest_legs l g teams rounds r t else 0) else 0)
+    (λ t. if rounds r then (if not (teams t) && teams (place g t r) then guest_legs l g teams rounds r t else 0) else 0)
+    (λ t in_t. theirs_in_round (teams t) (rounds r) (teams (place g t r)) (guest_legs l g teams rounds r t)) ∙
+    outside (rounds r) g.teams (λ t. if not (teams t) && teams (place g t r) then guest_legs l g teams rounds r t else 0))
 
 -- the guests in a round, each found from its host
 
@@ -177,7 +177,7 @@ travel_around_walked l g teams rounds rr =
     sym (sum_where_split g.teams teams (λ t. travel_part_of l g (with_guests g teams rounds t) t)) ∙
     ap (λ x. x + sum_where g.teams (λ t. not (teams t)) (λ t. travel_part_of l g (with_guests g teams rounds t) t))
     (sum_where_same g.teams teams teams (λ t. travel_part_of l g (with_guests g teams rounds t) t) (travel_part_of l g rounds)
-        (λ t in_t. refl) (λ t in_t mine. own_part l g teams rounds t mine)) ∙
+    (λ t in_t. refl) (λ t in_t mine. own_part l g teams rounds t mine)) ∙
     ap (λ x. sum_where g.teams teams (travel_part_of l g rounds) + x)
     (others_part l g teams rounds ∙
     sum_where_same (round_count g.teams) rounds rounds

@@ -1,11 +1,10 @@
 pub mod Stops
-pub mod Stretches
 pub mod Turned
 pub mod Opponents
 pub mod HigherTeams
 pub mod Members
 pub mod SamePairs
-pub mod RunWindows
+pub mod RunStarts
 pub mod Balances
 pub mod TravelBalance
 pub mod RunsBalance
@@ -15,3 +14,5 @@ pub mod ForCallers
 mod Worked
 pub mod TravelWalk
 pub mod GuestLegs
+pub mod SetsInSeason
+pub mod CutSets

@@ -1,14 +1,16 @@
 -- Worked costs of four teams whose homes lie in a circle: of the Berger start, and of what some moves make of it.
 -- Teams and rounds are numbered from 0 here.
-use Rattle.std.proofs.Common.{◌≡◌, ℕ, true, List, [], ◌∷◌, map, refl}
+use Rattle.std.proofs.Common.{◌≡◌, ℕ, true, List, [], ◌∷◌, map, refl, ◌||◌, Bool}
+use Rattle.std.specs.Prelude.{◌==◌}
 use Rattle.std.specs.List.{range_with_len}
 use Rattle.league.specs.League.{LeagueData, league_data}
-use Rattle.league.specs.Sums.{sum_below, all_below}
+use Rattle.league.specs.Sums.{sum_below, all_below, any_below}
 use Rattle.fixtures.specs.Games.{Games, place, is_home, meets}
 use Rattle.fixtures.specs.Berger.{berger_games}
 use Rattle.fixtures.specs.Edits.{homes_exchanged, rounds_exchanged, all_games_exchanged}
 use Rattle.tours.specs.Tours.{tour, leg, travel_of, travel}
 use Rattle.tours.specs.Runs.{is_run, runs_of, runs_over}
+use Rattle.tours.specs.Parts.{touches_leg, travel_part_of, travel_part, touches_window, runs_part_of, runs_part, repeats_part}
 use Rattle.tours.specs.Repeats.{repeats_after, repeats}
 
 -- the league of four teams with these distances
@@ -85,3 +87,45 @@ repeats_in_the_middle_of_the_season = refl
 repeats_with_first_and_third_round_exchanged : repeats (rounds_exchanged start 0 2 (λ _. true)) ≡ 2
 unfolding sum_below meets repeats_after repeats
 repeats_with_first_and_third_round_exchanged = refl
+
+-- the parts of an exchange of the last two rounds, before it and after it
+
+abbrev last_two : ℕ → Bool
+last_two r = r == 4 || r == 5
+
+travel_part_of_last_two_rounds : travel_part circle start (λ _. true) last_two ≡ 14
+unfolding sum_below place leg touches_leg travel_part_of travel_part
+travel_part_of_last_two_rounds = refl
+
+travel_part_with_last_two_rounds_exchanged : travel_part circle (rounds_exchanged start 4 5 (λ _. true)) (λ _. true) last_two ≡ 12
+unfolding sum_below place leg touches_leg travel_part_of travel_part
+travel_part_with_last_two_rounds_exchanged = refl
+
+runs_part_of_last_two_rounds : runs_part start 2 (λ _. true) last_two ≡ 2
+unfolding sum_below all_below any_below is_home is_run touches_window runs_part_of runs_part
+runs_part_of_last_two_rounds = refl
+
+runs_part_with_last_two_rounds_exchanged : runs_part (rounds_exchanged start 4 5 (λ _. true)) 2 (λ _. true) last_two ≡ 0
+unfolding sum_below all_below any_below is_home is_run touches_window runs_part_of runs_part
+runs_part_with_last_two_rounds_exchanged = refl
+
+-- the parts of an exchange of homes
+
+abbrev first_two : ℕ → Bool
+first_two t = t == 0 || t == 1
+
+abbrev their_rounds : ℕ → Bool
+their_rounds r = r == 1 || r == 4
+
+travel_part_of_homes : travel_part circle start first_two their_rounds ≡ 10
+unfolding sum_below place leg touches_leg travel_part_of travel_part
+travel_part_of_homes = refl
+
+travel_part_with_homes_exchanged : travel_part circle (homes_exchanged start 0 1) first_two their_rounds ≡ 6
+unfolding sum_below place leg touches_leg travel_part_of travel_part
+travel_part_with_homes_exchanged = refl
+
+-- the repeats in the middle of the season are in the part of a round there
+repeats_part_in_the_middle : repeats_part (rounds_exchanged start 0 2 (λ _. true)) (λ r. r == 2) ≡ 2
+unfolding sum_below meets repeats_after repeats_part
+repeats_part_in_the_middle = refl

@@ -9,7 +9,7 @@ use fixtures::Schedule;
 use league::League;
 
 /// The sum of what all teams travel, in the unit of the league's distances.
-#[tactic(auto, using(league::proofs::Sums::sum_below_none, league::proofs::Sums::sum_below_more), unfolding(crate::specs::Tours::travel))]
+#[tactic(auto, using(league::proofs::ForCallers::sums), unfolding(crate::specs::Tours::travel))]
 pub fn travel(schedule: &Schedule, league: &League) -> u64
     requires same { teams league.now ≡ schedule.now.teams }
     ensures value { result ≡ travel league.now schedule.now }

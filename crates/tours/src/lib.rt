@@ -8,11 +8,13 @@ mod laws;
 mod legs;
 mod meetings;
 mod runs;
-mod travel_parts;
+mod season;
 #[cfg(test)]
 mod tests;
+mod travel_parts;
 
 pub use laws::{changes_around_balance, changes_balance, parts_balance, same_pairs_repeat_alike};
 pub use legs::{travel, travel_of};
-pub use meetings::repeats;
-pub use runs::runs_over;
+pub use meetings::{repeats, repeats_part, repeats_with};
+pub use runs::{runs_over, runs_part};
+pub use travel_parts::{travel_around, travel_part};

@@ -1,32 +1,29 @@
 //! Pairs of teams that meet twice in a row.
 
-ghost use Rattle.std.specs.Prelude.{◌≡◌, ◌+◌, ◌*◌, ◌<◌, ◌≤◌, ◌&&◌, if◌then◌else◌};
+ghost use Rattle.std.specs.Prelude.{◌≡◌, ◌+◌, ◌-◌, ◌*◌, ◌<◌, ◌≤◌, ◌&&◌, if◌then◌else◌};
 ghost use Rattle.league.specs.Sets.{has, IsBelow};
-ghost use Rattle.league.specs.Sums.{sum_below};
+ghost use Rattle.league.specs.Sums.{sum_below, sum_where};
 ghost use Rattle.fixtures.specs.Games.{round_count, meets, IsDoubleRoundRobin};
 ghost use Rattle.tours.specs.Repeats.{repeats_after, repeats};
-ghost use Rattle.tours.specs.Parts.{repeats_with_after};
+ghost use Rattle.tours.specs.Parts.{repeats_part, repeats_with_after, repeats_with};
 ghost use Rattle.tours.specs.Walked.{repeat_at};
 
-use fixtures::Schedule;
-use league::TeamSet;
+use crate::season::{rounds_next_to, teams_in};
+use fixtures::{Schedule, Touched};
+use league::{SlotSet, TeamSet};
 
 /// How many pairs of teams meet in a round and in the next, summed over the rounds. The middle of the season is
 /// no exception.
-#[tactic(auto, using(league::proofs::Sums::sum_below_none, league::proofs::Sums::sum_below_more), unfolding(crate::specs::Repeats::repeats))]
 pub fn repeats(schedule: &Schedule) -> u64
     ensures value { result ≡ repeats schedule.now }
     ensures most { result ≤ 78 * 40 }
 {
-    let mut total = 0;
-    for round in 0..schedule.rounds() - 1 {
-        total += repeats_after(schedule, round);
-    }
-    total
+    let firsts = SlotSet::below(schedule.rounds() - 1);
+    repeats_from(schedule, firsts)
 }
 
 /// How many pairs of teams meet in a round and in the next.
-#[tactic(auto, using(league::proofs::Sums::sum_below_none, league::proofs::Sums::sum_below_more), unfolding(crate::specs::Repeats::repeats_after))]
+#[tactic(auto, using(league::proofs::ForCallers::sums), unfolding(crate::specs::Repeats::repeats_after))]
 fn repeats_after(schedule: &Schedule, round: u8) -> u64
     requires { round + 1 < round_count schedule.now.teams }
     ensures value { result ≡ repeats_after schedule.now round }
@@ -52,6 +49,68 @@ fn repeats_of_higher(schedule: &Schedule, team: u8, round: u8) -> u64
     let opponent = schedule.game_at(team, round).opponent;
     let next = schedule.game_at(team, round + 1).opponent;
     u64::from(opponent < team && opponent == next)
+}
+
+/// The repeats of all pairs that have one of their two rounds touched.
+pub fn repeats_part(schedule: &Schedule, touched: Touched) -> u64
+    ensures value { result ≡ repeats_part schedule.now (has touched.rounds) }
+    ensures most { result ≤ 78 * 40 }
+{
+    repeats_near(schedule, touched.rounds)
+}
+
+fn repeats_near(schedule: &Schedule, rounds: SlotSet) -> u64
+    ensures value { result ≡ repeats_part schedule.now (has rounds) }
+    ensures most { result ≤ 78 * 40 }
+{
+    let firsts = rounds_next_to(schedule, rounds);
+    repeats_from(schedule, firsts)
+}
+
+/// The repeats of which the first of the two rounds is one of these.
+fn repeats_from(schedule: &Schedule, firsts: SlotSet) -> u64
+    requires season { round_count schedule.now.teams ≤ 78 }
+    requires below { IsBelow (round_count schedule.now.teams - 1) firsts }
+    ensures value { result ≡ sum_where (round_count schedule.now.teams - 1) (has firsts) (repeats_after schedule.now) }
+    ensures most { result ≤ 78 * 40 }
+{
+    let mut total = 0;
+    for round in firsts {
+        total += repeats_after(schedule, round);
+    }
+    total
+}
+
+/// The repeats of pairs with a touched team that have one of their two rounds touched.
+pub fn repeats_with(schedule: &Schedule, touched: Touched) -> u64
+    ensures value { result ≡ repeats_with schedule.now (has touched.teams) (has touched.rounds) }
+    ensures most { result ≤ 78 * 40 }
+{
+    repeats_near_with(schedule, touched.teams, touched.rounds)
+}
+
+fn repeats_near_with(schedule: &Schedule, set: TeamSet, rounds: SlotSet) -> u64
+    ensures value { result ≡ repeats_with schedule.now (has set) (has rounds) }
+    ensures most { result ≤ 78 * 40 }
+{
+    let among = teams_in(schedule, set);
+    let firsts = rounds_next_to(schedule, rounds);
+    repeats_from_with(schedule, among, firsts)
+}
+
+/// The repeats of pairs with a team of the set of which the first of the two rounds is one of these.
+fn repeats_from_with(schedule: &Schedule, among: TeamSet, firsts: SlotSet) -> u64
+    requires round_robin { IsDoubleRoundRobin schedule.now }
+    requires among { IsBelow schedule.now.teams among }
+    requires below { IsBelow (round_count schedule.now.teams - 1) firsts }
+    ensures value { result ≡ sum_where (round_count schedule.now.teams - 1) (has firsts) (repeats_with_after schedule.now (has among)) }
+    ensures most { result ≤ 78 * 40 }
+{
+    let mut total = 0;
+    for round in firsts {
+        total += repeats_with_after(schedule, among, round);
+    }
+    total
 }
 
 /// How many pairs with a team of the set meet in a round and in the next.

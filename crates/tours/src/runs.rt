@@ -1,53 +1,89 @@
 //! Long stretches at home or away.
 
-ghost use Rattle.std.specs.Prelude.{◌≡◌, ◌+◌, ◌*◌, ◌<◌, ◌≤◌, if◌then◌else◌};
+ghost use Rattle.std.specs.Prelude.{◌≡◌, ℕ, ◌+◌, ◌*◌, ◌<◌, ◌≤◌, ◌&&◌, nat_lt};
 ghost use Rattle.league.specs.League.{teams};
-ghost use Rattle.tours.specs.Runs.{runs_of, runs_over};
+ghost use Rattle.league.specs.Sets.{has, IsBelow};
+ghost use Rattle.league.specs.Sums.{sum_where, count_where};
+ghost use Rattle.fixtures.specs.Games.{round_count, IsDoubleRoundRobin};
+ghost use Rattle.tours.specs.Runs.{windows, is_run, runs_over};
+ghost use Rattle.tours.specs.Parts.{runs_part};
 
-use fixtures::Schedule;
-use league::League;
+use crate::season::teams_in;
+use fixtures::{Schedule, Touched};
+use league::{League, SlotSet, TeamSet};
 
 /// How many windows of consecutive rounds, one more than the league allows, a team spends at home throughout or
 /// away throughout, summed over the teams. There is no window where it would be longer than the season.
-#[tactic(auto, using(league::proofs::Sums::sum_below_none, league::proofs::Sums::sum_below_more), unfolding(crate::specs::Runs::runs_over))]
 pub fn runs_over(schedule: &Schedule, league: &League) -> u64
     requires same { teams league.now ≡ schedule.now.teams }
     ensures value { result ≡ runs_over schedule.now league.now.at_most }
     ensures most { result ≤ 40 * 78 }
 {
     let at_most = league.at_most();
+    let all = TeamSet::below(schedule.teams());
+    let starts = SlotSet::below(schedule.rounds());
+    runs_from(schedule, at_most, all, starts)
+}
+
+/// Those of touched teams that have a touched round in their window.
+pub fn runs_part(schedule: &Schedule, league: &League, touched: Touched) -> u64
+    requires same { teams league.now ≡ schedule.now.teams }
+    ensures value { result ≡ runs_part schedule.now league.now.at_most (has touched.teams) (has touched.rounds) }
+    ensures most { result ≤ 40 * 78 }
+{
+    runs_near(schedule, league.at_most(), touched.teams, touched.rounds)
+}
+
+fn runs_near(schedule: &Schedule, at_most: u8, set: TeamSet, rounds: SlotSet) -> u64
+    requires at_most { at_most ≤ 78 }
+    ensures value { result ≡ runs_part schedule.now at_most (has set) (has rounds) }
+    ensures most { result ≤ 40 * 78 }
+{
+    let among = teams_in(schedule, set);
+    let starts = rounds.starts_meeting(at_most + 1);
+    runs_from(schedule, at_most, among, starts)
+}
+
+/// The windows of one round more than `at_most`, with these first rounds, that teams of the set spend at home
+/// throughout or away throughout.
+fn runs_from(schedule: &Schedule, at_most: u8, among: TeamSet, starts: SlotSet) -> u64
+    requires at_most { at_most ≤ 78 }
+    requires round_robin { IsDoubleRoundRobin schedule.now }
+    requires below { IsBelow schedule.now.teams among }
+    ensures value { result ≡ sum_where schedule.now.teams (has among) (λ t.
+        count_where (windows schedule.now (at_most + 1)) (λ first. has starts first && is_run schedule.now t first (at_most + 1))) }
+    ensures most { result ≤ 40 * 78 }
+{
     let mut total = 0;
-    for team in 0..schedule.teams() {
-        total += runs_of(schedule, at_most, team);
+    for team in among {
+        total += runs_of_team(schedule, at_most, starts, team);
     }
     total
 }
 
-/// How many windows of one round more than `at_most` a team spends at home throughout or away throughout.
-#[tactic(auto, using(crate::proofs::RunWindows::run_steps), unfolding(fixtures::specs::Games::is_home, crate::specs::Runs::runs_of))]
-fn runs_of(schedule: &Schedule, at_most: u8, team: u8) -> u64
-    requires { team < schedule.now.teams }
-    ensures value { result ≡ runs_of schedule.now at_most team }
+fn runs_of_team(schedule: &Schedule, at_most: u8, starts: SlotSet, team: u8) -> u64
+    requires at_most { at_most ≤ 78 }
+    requires team { team < schedule.now.teams }
+    ensures value { result ≡ count_where (windows schedule.now (at_most + 1)) (λ first. has starts first && is_run schedule.now team first (at_most + 1)) }
     ensures most { result ≤ 78 }
 {
-    let mut at_home = 0;
-    let mut away = 0;
-    let mut runs = 0;
-    for round in 0..schedule.rounds() {
-        let home = schedule.game_at(team, round).home;
-        at_home = stretched(at_home, home);
-        away = stretched(away, !home);
-        if at_home.max(away) > at_most {
-            runs += 1;
-        }
-    }
-    runs
+    let runs = run_starts(schedule, at_most + 1, team);
+    let counted = runs.common(starts);
+    u64::from(counted.len())
 }
 
-/// The length of a stretch after one more round, which goes on with it or ends it.
-fn stretched(length: u8, goes_on: bool) -> u8
-    requires { length < 255 }
-    ensures { result ≡ (if goes_on then length + 1 else 0) }
+/// The first rounds of the windows of so many rounds that a team spends at home throughout or away throughout.
+fn run_starts(schedule: &Schedule, length: u8, team: u8) -> SlotSet
+    requires least { 1 ≤ length }
+    requires most { length ≤ 79 }
+    requires team { team < schedule.now.teams }
+    ensures members { (first : ℕ) → has result first ≡ (nat_lt first (windows schedule.now length) && is_run schedule.now team first length) }
+    ensures season { round_count schedule.now.teams ≤ 78 }
 {
-    if goes_on { length + 1 } else { 0 }
+    let home = schedule.home_rounds(team);
+    let all = SlotSet::below(schedule.rounds());
+    let away = all.difference(home);
+    let home_runs = home.starts_within(length);
+    let away_runs = away.starts_within(length);
+    home_runs.union(away_runs)
 }

@@ -1,17 +1,91 @@
 //! The legs that a change can alter.
 
-ghost use Rattle.std.specs.Prelude.{◌≡◌, ◌+◌, ◌*◌, ◌<◌, ◌≤◌, ◌&&◌, nat_lt, false, slice_index};
+ghost use Rattle.std.specs.Prelude.{◌≡◌, ◌+◌, ◌*◌, ◌-◌, ◌<◌, ◌≤◌, ◌&&◌, nat_lt, false, slice_index, if◌then◌else◌};
 ghost use Rattle.league.specs.League.{teams};
 ghost use Rattle.league.specs.Sets.{has, IsBelow};
 ghost use Rattle.league.specs.Sums.{sum_where};
 ghost use Rattle.fixtures.specs.Games.{round_count, IsDoubleRoundRobin};
 ghost use Rattle.fixtures.specs.Changes.{with_guests};
 ghost use Rattle.tours.specs.Tours.{tour, leg};
+ghost use Rattle.tours.specs.Parts.{travel_part, travel_around};
 ghost use Rattle.tours.specs.Walked.{legs_of_guest};
 
 use crate::legs::place;
+use crate::season::{rounds_in, teams_in};
 use fixtures::{Schedule, Touched};
 use league::{League, SlotSet, TeamSet};
+
+/// The legs of touched teams that touch a touched round, in the unit of the league's distances: those to the place of
+/// such a round or of the next, and the way home where the last is touched.
+pub fn travel_part(schedule: &Schedule, league: &League, touched: Touched) -> u64
+    requires same { teams league.now ≡ schedule.now.teams }
+    ensures value { result ≡ travel_part league.now schedule.now (has touched.teams) (has touched.rounds) }
+    ensures most { result ≤ 40 * (79 * 1000000) }
+{
+    travel_among(schedule, league, touched.teams, touched.rounds)
+}
+
+/// The legs that touch a touched round in which the team or its host is touched.
+pub fn travel_around(schedule: &Schedule, league: &League, touched: Touched) -> u64
+    requires same { teams league.now ≡ schedule.now.teams }
+    ensures value { result ≡ travel_around league.now schedule.now (has touched.teams) (has touched.rounds) }
+    ensures most { result ≤ 10000000000 }
+{
+    travel_near(schedule, league, touched.teams, touched.rounds)
+}
+
+fn travel_near(schedule: &Schedule, league: &League, set: TeamSet, slots: SlotSet) -> u64
+    requires same { teams league.now ≡ schedule.now.teams }
+    ensures value { result ≡ travel_around league.now schedule.now (has set) (has slots) }
+    ensures most { result ≤ 10000000000 }
+{
+    let hosts = teams_in(schedule, set);
+    let rounds = rounds_in(schedule, slots);
+    travel_among(schedule, league, hosts, rounds) + guests_within(schedule, league, hosts, rounds)
+}
+
+fn travel_among(schedule: &Schedule, league: &League, set: TeamSet, rounds: SlotSet) -> u64
+    requires same { teams league.now ≡ schedule.now.teams }
+    ensures value { result ≡ travel_part league.now schedule.now (has set) (has rounds) }
+    ensures most { result ≤ 40 * (79 * 1000000) }
+{
+    let among = teams_in(schedule, set);
+    let indices = rounds.with_next_below(schedule.rounds());
+    legs_within(schedule, league, among, indices) + home_legs(schedule, league, among, rounds)
+}
+
+/// The legs of the teams of the set with these indices.
+fn legs_within(schedule: &Schedule, league: &League, among: TeamSet, indices: SlotSet) -> u64
+    requires same { teams league.now ≡ schedule.now.teams }
+    requires round_robin { IsDoubleRoundRobin schedule.now }
+    requires among { IsBelow schedule.now.teams among }
+    requires below { IsBelow (round_count schedule.now.teams) indices }
+    ensures value { result ≡ sum_where (round_count schedule.now.teams) (has indices) (λ r.
+        sum_where schedule.now.teams (has among) (λ t. leg league.now schedule.now t r)) }
+    ensures most { result ≤ 40000000 * round_count schedule.now.teams }
+{
+    let mut total = 0;
+    for index in indices {
+        total += legs_of(schedule, league, among, index);
+    }
+    total
+}
+
+/// The legs home of the teams of the set, where the last round is one of these.
+fn home_legs(schedule: &Schedule, league: &League, among: TeamSet, rounds: SlotSet) -> u64
+    requires same { teams league.now ≡ schedule.now.teams }
+    requires round_robin { IsDoubleRoundRobin schedule.now }
+    requires below { IsBelow schedule.now.teams among }
+    ensures value { result ≡ (if has rounds (round_count schedule.now.teams - 1)
+        then sum_where schedule.now.teams (has among) (λ t. leg league.now schedule.now t (round_count schedule.now.teams)) else 0) }
+    ensures most { result ≤ 40000000 }
+{
+    if rounds.has(schedule.rounds() - 1) {
+        legs_of(schedule, league, among, schedule.rounds())
+    } else {
+        0
+    }
+}
 
 /// The legs of the teams of the set with this index.
 fn legs_of(schedule: &Schedule, league: &League, among: TeamSet, index: u8) -> u64
@@ -73,14 +147,36 @@ fn stop_after(schedule: &Schedule, team: u8, index: u8) -> u8
     }
 }
 
+/// The legs of the teams that these teams receive in these rounds.
+fn guests_within(schedule: &Schedule, league: &League, hosts: TeamSet, rounds: SlotSet) -> u64
+    requires same { teams league.now ≡ schedule.now.teams }
+    requires round_robin { IsDoubleRoundRobin schedule.now }
+    requires hosts { IsBelow schedule.now.teams hosts }
+    requires below { IsBelow (round_count schedule.now.teams) rounds }
+    ensures value { result ≡ sum_where (round_count schedule.now.teams) (has rounds) (λ r.
+        sum_where schedule.now.teams (has hosts) (legs_of_guest league.now schedule.now (has hosts) (has rounds) r)) }
+    ensures most { result ≤ 80000000 * round_count schedule.now.teams }
+{
+    let mut total = 0;
+    for round in rounds {
+        total += guest_legs(schedule, league, hosts, rounds, round);
+    }
+    total
+}
+
 /// The legs of the teams that these teams receive in a round.
-fn guest_legs(schedule: &Schedule, league: &League, hosts: TeamSet, rounds: SlotSet, round: u8) -> u64
+fn guest_legs(
+    schedule: &Schedule,
+    league: &League,
+    hosts: TeamSet,
+    rounds: SlotSet,
+    round: u8,
+) -> u64
     requires same { teams league.now ≡ schedule.now.teams }
     requires round_robin { IsDoubleRoundRobin schedule.now }
     requires below { IsBelow schedule.now.teams hosts }
     requires round { round < round_count schedule.now.teams }
-    ensures value {
-        result ≡ sum_where schedule.now.teams (has hosts) (legs_of_guest league.now schedule.now (has hosts) (has rounds) round) }
+    ensures value { result ≡ sum_where schedule.now.teams (has hosts) (legs_of_guest league.now schedule.now (has hosts) (has rounds) round) }
     ensures most { result ≤ 2000000 * schedule.now.teams }
 {
     let mut total = 0;
@@ -91,7 +187,14 @@ fn guest_legs(schedule: &Schedule, league: &League, hosts: TeamSet, rounds: Slot
 }
 
 /// The legs around the game of the team that one of these teams receives in a round, unless it is one of them itself.
-fn legs_of_guest(schedule: &Schedule, league: &League, hosts: TeamSet, rounds: SlotSet, host: u8, round: u8) -> u64
+fn legs_of_guest(
+    schedule: &Schedule,
+    league: &League,
+    hosts: TeamSet,
+    rounds: SlotSet,
+    host: u8,
+    round: u8,
+) -> u64
     requires same { teams league.now ≡ schedule.now.teams }
     requires host { host < schedule.now.teams }
     requires round { round < round_count schedule.now.teams }

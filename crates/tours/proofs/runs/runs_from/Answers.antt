@@ -1,0 +1,18 @@
+use Rattle.std.proofs.Common.{◌≡◌, refl, sym, subst}
+use Rattle.league.specs.Sets.{IsBelow}
+use Rattle.league.proofs.ForCallers.{sum_without_none, sum_without_more, sum_without_all, lowest_below}
+use Rattle.tours.proofs.runs.runs_from.Goals as goal
+
+pub loop-team-init : goal.loop-team-init
+loop-team-init c =
+    let whole : c.into_iter-team-iterator.result ≡ c.args.among = c.into_iter-team-iterator.ensures.into_iter_gives in
+    sum_without_none _ _ _ _ _ (subst (IsBelow c.args.schedule.now.teams) (sym whole) c.requires.below) whole
+
+pub runs_of_team-total-requires-clause-team : goal.runs_of_team-total-requires-clause-team
+runs_of_team-total-requires-clause-team c = lowest_below _ _ _ _ c.loop-team.invariant.below c.in-Some.ensures.steps
+
+pub loop-team-preserved : goal.loop-team-preserved
+loop-team-preserved c = sum_without_more _ _ _ _ _ _ _ _ _ c.loop-team.invariant c.in-Some.ensures.steps c.runs_of_team-total.ensures.value c.runs_of_team-total.ensures.most
+
+pub returns-clause-value : goal.returns-clause-value
+returns-clause-value c = sum_without_all _ _ _ _ _ _ _ c.loop-team.invariant c.in-None.ensures.steps.0 (λ k below. refl)

@@ -1,0 +1,12 @@
+use Rattle.std.proofs.Common.{◌∙◌}
+use Rattle.league.specs.Sets.{has}
+use Rattle.tours.specs.Parts.{touches_window}
+use Rattle.tours.proofs.RunStarts.{runs_walked_part}
+use Rattle.tours.proofs.runs.runs_near.Goals as goal
+
+pub returns-clause-value : goal.returns-clause-value
+unfolding touches_window
+returns-clause-value c =
+    c.runs_from.ensures.value ∙
+    runs_walked_part c.args.schedule.now c.args.at_most c.teams_in-among.result c.starts_meeting-starts.result (has c.args.set) (has c.args.rounds)
+    c.teams_in-among.ensures.members c.starts_meeting-starts.ensures.members
