@@ -1,7 +1,8 @@
 //! What a double round robin costs its teams: how far they travel, their long stretches at home or away, and the
 //! pairs of teams that meet twice in a row (Easton, Nemhauser, Trick 2001).
 //!
-//! Each call counts over the whole schedule and takes no memory. Teams and rounds are numbered from 0.
+//! A call counts over the whole schedule, or over the part that a change of some teams and rounds can alter. None takes
+//! memory. Teams and rounds are numbered from 0.
 #![tactic(auto)]
 
 mod laws;
