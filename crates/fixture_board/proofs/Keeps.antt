@@ -1,9 +1,9 @@
 -- What a board keeps behind its history, after one entry more.
-use Rattle.std.proofs.Common.{◌≡◌, ℕ, ◌+◌, ◌*◌, ◌-◌, ◌<◌, ◌≤◌, ◌≢◌, Bool, true, false, if◌then◌else◌, ◌&&◌, ◌==◌, nat_lt, List, [], ◌∷◌, ◌++◌, length, Option, Some, None, replicate, slice_set, is_some, true≢false, refl, sym, ◌∙◌, ap, subst, length-append, arith}
+use Rattle.std.proofs.Common.{◌≡◌, ℕ, ◌+◌, ◌*◌, ◌-◌, ◌<◌, ◌≤◌, Bool, true, false, if◌then◌else◌, ◌&&◌, ◌==◌, nat_lt, List, [], ◌∷◌, ◌++◌, length, Option, Some, None, replicate, slice_set, is_some, true≢false, refl, sym, ◌∙◌, ap, subst, length-append, arith}
 use Rattle.std.proofs.lemmas.List.{length-set, length-replicate, length-take}
 use Rattle.league.specs.League.{LeagueData, teams, IsLeague}
 use Rattle.fixtures.specs.declared.game.Game.{Game}
-use Rattle.fixtures.specs.Games.{Games, round_of, IsPair, IsDoubleRoundRobin}
+use Rattle.fixtures.specs.Games.{Games, IsDoubleRoundRobin}
 use Rattle.moves.specs.Moves.{moved}
 use Rattle.fixture_board.specs.Costs.{cost_of, total_of}
 use Rattle.fixture_board.specs.declared.cost.Cost.{Cost}

@@ -18,7 +18,7 @@ impl Board {
     pub fn propose(&mut self, caller: u32, proposal: Proposal) -> Reply
         ensures reply { result ≡ reply_of self.old.league self.old.room self.old.history (Ask.Shift proposal) }
         ensures history { self.new ≡ book self.old.league self.old.room (next_of self.old.league self.old.room self.old.history caller (Ask.Shift proposal)) }
-        ensures legal { IsLegal self.new.league self.new.room self.new.history }
+        ensures legal { IsLegal self.old.league self.old.room self.old.history }
     {
         self.answer(caller, Ask::Shift(proposal))
     }
@@ -27,7 +27,7 @@ impl Board {
     pub fn pin(&mut self, caller: u32, version: u64, game: Game) -> Reply
         ensures reply { result ≡ reply_of self.old.league self.old.room self.old.history (Ask.Pin version game) }
         ensures history { self.new ≡ book self.old.league self.old.room (next_of self.old.league self.old.room self.old.history caller (Ask.Pin version game)) }
-        ensures legal { IsLegal self.new.league self.new.room self.new.history }
+        ensures legal { IsLegal self.old.league self.old.room self.old.history }
     {
         self.answer(caller, Ask::Pin { version, game })
     }
@@ -37,7 +37,7 @@ impl Board {
     pub fn unpin(&mut self, caller: u32, version: u64, game: Game) -> Reply
         ensures reply { result ≡ reply_of self.old.league self.old.room self.old.history (Ask.Unpin version game) }
         ensures history { self.new ≡ book self.old.league self.old.room (next_of self.old.league self.old.room self.old.history caller (Ask.Unpin version game)) }
-        ensures legal { IsLegal self.new.league self.new.room self.new.history }
+        ensures legal { IsLegal self.old.league self.old.room self.old.history }
     {
         self.answer(caller, Ask::Unpin { version, game })
     }
@@ -46,7 +46,7 @@ impl Board {
     pub fn undo(&mut self, caller: u32, version: u64) -> Reply
         ensures reply { result ≡ reply_of self.old.league self.old.room self.old.history (Ask.Undo version) }
         ensures history { self.new ≡ book self.old.league self.old.room (next_of self.old.league self.old.room self.old.history caller (Ask.Undo version)) }
-        ensures legal { IsLegal self.new.league self.new.room self.new.history }
+        ensures legal { IsLegal self.old.league self.old.room self.old.history }
     {
         self.answer(caller, Ask::Undo { version })
     }
@@ -55,7 +55,7 @@ impl Board {
     pub fn answer(&mut self, caller: u32, ask: Ask) -> Reply
         ensures reply { result ≡ reply_of self.old.league self.old.room self.old.history ask }
         ensures history { self.new ≡ book self.old.league self.old.room (next_of self.old.league self.old.room self.old.history caller ask) }
-        ensures legal { IsLegal self.new.league self.new.room self.new.history }
+        ensures legal { IsLegal self.old.league self.old.room self.old.history }
     {
         let at = self.state.version();
         if let Some(why) = self.state.step(&self.league, ask) {

@@ -1,7 +1,5 @@
-use Rattle.std.proofs.Common.{ℕ, ◌++◌, [], ◌∷◌, sym, ◌∙◌, ap, subst, arith}
-use Rattle.fixture_board.specs.declared.change.Change.{Change}
+use Rattle.std.proofs.Common.{ℕ, ◌∙◌, ap, arith}
 use Rattle.fixture_board.specs.declared.reply.Reply.TheVariants.{No}
-use Rattle.fixture_board.specs.History.{IsLegal}
 use Rattle.fixture_board.specs.Kept.{Kept}
 use Rattle.fixture_board.specs.Record.{book}
 use Rattle.fixture_board.proofs.Reasons.{refused_call, granted_call}
@@ -30,13 +28,3 @@ returns-clause-history c =
     let granted = rw c.in_default.is at c.step.ensures.step in
     ap (λ (k : Kept). book c.self.inside.league k.room k.history) c.enter.ensures.entered ∙
     (rw c.change-change.ensures (granted_call _ _ _ _ c.args.caller c.args.ask granted c.self.view_is).1)
-
-pub returns-in-Some-clause-legal : goal.returns-in-Some-clause-legal
-returns-in-Some-clause-legal c =
-    subst (λ (k : Kept). IsLegal c.self.inside.league k.room k.history) (sym c.in-Some.ensures.step.same) c.self.invariant.1.legal
-
-pub returns-clause-legal : goal.returns-clause-legal
-returns-clause-legal c =
-    let granted = rw c.in_default.is at c.step.ensures.step in
-    subst (λ (k : Kept). IsLegal c.self.inside.league k.room k.history) (sym c.enter.ensures.entered)
-    (rw c.change-change.ensures (granted.kept c.args.caller).legal)
