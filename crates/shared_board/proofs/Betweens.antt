@@ -1,0 +1,158 @@
+-- What the rule says of a table, between any two steps.
+use Rattle.std.proofs.Common.{◌≡◌, ◌≢◌, ℕ, ◌+◌, ◌<◌, ◌≤◌, Option, Some, List, [], ◌∷◌, ◌++◌, length, slice_index, refl, ap, sym, ◌∙◌, subst, ◌⊎◌, inl, inr, arith, true}
+use mathlib.Core.Option.{some, some-injective}
+use mathlib.Core.Option as maybe
+use mathlib.Core.Logic.{dite}
+use native.Mathlib.Decide.{ℕ_discrete}
+use lib.ListN.{get_elem?}
+use Rattle.league.specs.League.{LeagueData, IsLeague}
+use Rattle.fixture_board.specs.declared.change.Entry.{Entry}
+use Rattle.fixture_board.specs.History.{IsLegal, IsBestOf, best_prefix}
+use Rattle.fixture_board.specs.Laws.{least_of, IsSound}
+use Rattle.fixture_board.specs.Record.{Book}
+use Rattle.shared_board.specs.declared.view.View.{View}
+use Rattle.shared_board.specs.Stage.{Stage, away, holds, counts, owes}
+use Rattle.shared_board.specs.Held.{times, callers_below}
+use Rattle.shared_board.specs.Rule.{Knows, Lowest, Fits, upto, Added, IsHolder, Ruled}
+use Rattle.shared_board.specs.Between.{Table, IsThere, IsHome, Behind, OneHolds, Between, turn_word, best_word, numbers_word}
+use Rattle.shared_board.specs.Fixtures.{HasFixtures}
+use Rattle.shared_board.proofs.BoardLaws.{games_are, cost_is, best_of_is}
+use Rattle.shared_board.proofs.Counts.{once_most, held_below}
+use Rattle.shared_board.proofs.Views.{fits_at, fits_more}
+use Rattle.shared_board.proofs.Steps.{held_once}
+use Rattle.shared_board.proofs.Turns.{held_alone}
+
+holder_upto : (posted history : List Entry) (numbers : ℕ) (held : List ℕ) (given : ℕ) (t : Stage) → IsHolder posted history numbers held given t → upto t posted history ≡ history
+holder_upto posted history numbers held given away holder = absurd holder
+holder_upto posted history numbers held given (holds h) holder = holder.1
+holder_upto posted history numbers held given (counts h) holder = holder.1
+holder_upto posted history numbers held given (owes before h) holder = refl
+
+-- all is posted, or all but one entry of the holder's
+holder_posted : (posted history : List Entry) (numbers : ℕ) (held : List ℕ) (given : ℕ) (t : Stage) → IsHolder posted history numbers held given t → (posted ≡ history) ⊎ Added held posted history
+holder_posted posted history numbers held given away holder = absurd holder
+holder_posted posted history numbers held given (holds h) holder = inl holder.1
+holder_posted posted history numbers held given (counts h) holder = inl holder.1
+holder_posted posted history numbers held given (owes before h) holder = inr holder.2
+
+holder_in_turn : (posted history : List Entry) (numbers : ℕ) (held : List ℕ) (given : ℕ) (t : Stage) → IsHolder posted history numbers held given t → t ≢ away
+holder_in_turn posted history numbers held given away holder = absurd holder
+holder_in_turn posted history numbers held given (holds h) holder = λ e. cc
+holder_in_turn posted history numbers held given (counts h) holder = λ e. cc
+holder_in_turn posted history numbers held given (owes before h) holder = λ e. cc
+
+-- each seat stands to the whole history
+fits_history : (s : Table) (r : Ruled s) (j : ℕ) (v : View) → IsThere s j v → Fits r.setting r.history (length r.history) r.numbers v
+fits_history s r j v there =
+    let f = r.seats j v there.0 there.1 in
+    let F : List Entry → Type 0 = λ l. Fits r.setting l (length r.history) r.numbers v in
+    elim r.turns [
+      | inl free ↦ subst F free.all_posted (fits_at r.setting r.posted r.history r.posted (length r.history) r.numbers v away (free.all_away j v there.0) refl f)
+      | inr held ↦ dite (ℕ_discrete j held.seat)
+          (λ e.
+              let same : held.view ≡ v = some-injective held.view v (sym held.there ∙ (ap (get_elem? s.views) (sym e) ∙ there.0)) in
+              let H : View → Type 0 = λ u. IsHolder r.posted r.history r.numbers u.held u.given u.stage in
+              subst F (holder_upto r.posted r.history r.numbers v.held v.given v.stage (subst H same held.holder)) f)
+          (λ ne.
+              let g = fits_at r.setting r.posted r.history r.posted (length r.history) r.numbers v away (held.others_away j v ne there.0) refl f in
+              elim (holder_posted r.posted r.history r.numbers held.view.held held.view.given held.view.stage held.holder) [
+                | inl same ↦ subst F same g
+                | inr added ↦ subst F (sym added.one_more)
+                    (fits_more r.setting r.posted (length r.history) r.numbers v added.entry
+                        (held_alone s r held.seat j held.view v added.entry.caller ne held.there there.0 added.own) g)
+              ])
+    ]
+
+home_free : (s : Table) (r : Ruled s) → turn_word s ≡ 0 → IsHome s r.setting r.history × (r.posted ≡ r.history)
+home_free s r e =
+    let found : turn_word s ≡ r.turn = ap (λ (l : List ℕ). slice_index l 0) r.words in
+    elim r.turns [
+      | inl free ↦ (ap (λ (l : List (maybe.Option (Option Book))). get_elem? l 0) (r.homes ∙ ap (λ (h : maybe.Option (Option Book)). h ∷ []) free.home_is), free.all_posted)
+      | inr held ↦ let one = held.turn_is in absurd (omega arith)
+    ]
+
+one_holds : (s : Table) (r : Ruled s) → turn_word s ≡ 1 → OneHolds s
+one_holds s r e =
+    let found : turn_word s ≡ r.turn = ap (λ (l : List ℕ). slice_index l 0) r.words in
+    elim r.turns [
+      | inl free ↦ let none_held = free.turn_is in absurd (omega arith)
+      | inr held ↦ record {
+          seat = held.seat;
+          view = held.view;
+          there = (held.there, held.live);
+          in_turn = holder_in_turn r.posted r.history r.numbers held.view.held held.view.given held.view.stage held.holder;
+          no_other = λ j v ne there. held.others_away j v ne there.0;
+        }
+    ]
+
+best_or_behind : (s : Table) (r : Ruled s) → (best_word s ≡ least_of r.setting.league r.history) ⊎ Behind s r.setting r.history
+best_or_behind s r =
+    let found : best_word s ≡ least_of r.setting.league r.posted = ap (λ (l : List ℕ). slice_index l 3) r.words in
+    elim r.turns [
+      | inl free ↦ inl (found ∙ ap (least_of r.setting.league) free.all_posted)
+      | inr held ↦ elim (holder_posted r.posted r.history r.numbers held.view.held held.view.given held.view.stage held.holder) [
+          | inl same ↦ inl (found ∙ ap (least_of r.setting.league) same)
+          | inr added ↦ inr (record {
+              before = r.posted;
+              entry = added.entry;
+              one_more = added.one_more;
+              word = found;
+              committer = held.seat;
+              others = λ j v ne there. (fits_at r.setting r.posted r.history r.posted (length r.history) r.numbers v away (held.others_away j v ne there.0) refl (r.seats j v there.0 there.1)).lowest;
+            })
+        ]
+    ]
+
+turn_is : (s : Table) (r : Ruled s) → (turn_word s ≡ 0) ⊎ (turn_word s ≡ 1)
+turn_is s r =
+    let found : turn_word s ≡ r.turn = ap (λ (l : List ℕ). slice_index l 0) r.words in
+    elim r.turns [ inl free ↦ inl (found ∙ free.turn_is) | inr held ↦ inr (found ∙ held.turn_is) ]
+
+pub between : (s : Table) → Ruled s → Between s
+between s r =
+    let count_is : numbers_word s ≡ r.numbers = ap (λ (l : List ℕ). slice_index l 2) r.words in
+    let few = r.few in
+    let C : ℕ → Type 0 = λ n. callers_below n r.history in
+    record {
+      history = r.history;
+      setting = r.setting;
+      legal = r.legal;
+      front = ap (λ (l : List ℕ). slice_index l 1) r.words;
+      few = omega arith;
+      callers = subst C (sym count_is) r.callers;
+      settings = λ j v there. (fits_history s r j v there).setting_is;
+      seen = λ j v there. (fits_history s r j v there).knows;
+      glanced = λ j v there. (fits_history s r j v there).glanced;
+      lowest = λ j v there. (fits_history s r j v there).lowest;
+      given = λ j v there. (let g = (fits_history s r j v there).given in omega arith);
+      held_once = λ j v x there. (let a = held_once s r j v x there.0 in let b = once_most x r.numbers in omega arith);
+      held_below = λ j v x there own. (let less = held_below x r.numbers (times x v.held) own (held_once s r j v x there.0) in omega arith);
+      held_apart = λ i j u v x ne at there own. held_alone s r i j u v x (λ e. ne (sym e)) at.0 there.0 own;
+      turn = turn_is s r;
+      free = λ e. (home_free s r e).0;
+      taken = one_holds s r;
+      best = best_or_behind s r;
+    }
+
+-- by the laws of one thread's board
+pub fixtures : ((league : LeagueData) (room : ℕ) (h : List Entry) → IsLeague league → IsLegal league room h → IsSound league h)
+    → ((league : LeagueData) (h : List Entry) → IsBestOf league h (best_prefix league h))
+    → (s : Table) → Ruled s → turn_word s ≡ 0 → HasFixtures s
+fixtures sound best_is s r e =
+    let l = r.setting.league in
+    let is_sound : IsSound l r.history = sound l r.setting.room r.history r.limits r.legal in
+    let home = home_free s r e in
+    record {
+      setting = r.setting;
+      history = r.history;
+      home = home.0;
+      front = ap (λ (w : List ℕ). slice_index w 1) r.words;
+      legal = r.legal;
+      games = games_are l r.history;
+      robin = is_sound.robin;
+      pinned_stand = is_sound.stand;
+      cost = cost_is l r.history;
+      best = best_of_is l r.history;
+      best_is = best_is l r.history;
+      posted = ap (λ (w : List ℕ). slice_index w 3) r.words ∙ ap (least_of l) home.1;
+    }

@@ -1,0 +1,383 @@
+-- Whole calls, over plain values.
+use Rattle.std.proofs.Common.{◌≡◌, ◌≢◌, ℕ, ◌+◌, ◌<◌, ◌≤◌, ◌==◌, min, max, true, inl, inr, ◌⊎◌, eqb-true, Option, Some, None, List, [], ◌∷◌, ◌++◌, length, refl, ap, sym, ◌∙◌, subst, arith, length-append}
+use Rattle.std.proofs.lemmas.List.{append-nil}
+use Rattle.std.proofs.lemmas.Bool.Decides.{nat_tests}
+use Rattle.atomic_table.specs.Table.{rest}
+use Rattle.fixture_board.specs.declared.ask.Ask.{Ask}
+use Rattle.fixture_board.specs.declared.change.Entry.{Entry}
+use Rattle.fixture_board.specs.declared.cost.Cost.{Cost}
+use Rattle.fixture_board.specs.declared.reply.Why.{Why}
+use Rattle.fixture_board.specs.declared.reply.Reply.{Reply}
+use Rattle.fixture_board.specs.declared.reply.Reply.TheVariants.{Done, No}
+use Rattle.fixture_board.specs.Laws.{least_of, TellsOf}
+use Rattle.fixture_board.specs.Record.{Book}
+use Rattle.fixture_board.specs.Replies.{entry, next_of, reply_of}
+use Rattle.shared_board.specs.declared.view.View.{View}
+use Rattle.shared_board.specs.declared.shared.Judged.{Judged}
+use Rattle.shared_board.specs.Setting.{Setting, board_at}
+use Rattle.shared_board.specs.Stage.{away, holds, counts, kept}
+use Rattle.shared_board.specs.Held.{times, once_below, under, callers_below}
+use Rattle.shared_board.specs.Rule.{Knows, EachPart}
+use Rattle.shared_board.specs.Plays.{Place, Meets, Took, Counted, Parted, counting, drawing, newcomer, joined, longer, saw, at_stage, on_board}
+use Rattle.shared_board.specs.Seats.{BoardId, SeatValue, seat_value, IsSeat, Met, Answered, IsNew, Absorbed, ClosedBy, now_seen, given_at}
+use Rattle.shared_board.specs.Judging.{IsJudged}
+use Rattle.shared_board.proofs.BoardLaws.{reply_tells}
+use Rattle.shared_board.proofs.Counts.{times_append, times_own, times_self, under_append, under_both, under_most, under_none, under_all, callers_front, once_most, once_none, all_held, held_most}
+use Rattle.shared_board.proofs.Seating.{longer_cases, begins_longer}
+
+-- what the board granted is one entry more
+pub done_adds : (s : Setting) (h : List Entry) (number : ℕ) (ask : Ask) (j : Judged) (at : ℕ) (cost : Cost) → IsJudged s h number ask j → j.reply ≡ Done at cost
+    → next_of s.league s.room h number ask ≡ h ++ entry number ask ∷ []
+done_adds s h number ask j at cost judged is =
+    let P : Reply → Type 0 = λ r. TellsOf s.league h (entry number ask) (next_of s.league s.room h number ask) r in
+    (subst P (sym judged.reply ∙ is) (reply_tells s.league s.room h number ask)).0
+
+-- and what it refused is none
+pub no_stays : (s : Setting) (h : List Entry) (number : ℕ) (ask : Ask) (j : Judged) (at : ℕ) (why : Why) → IsJudged s h number ask j → j.reply ≡ No at why
+    → next_of s.league s.room h number ask ≡ h
+no_stays s h number ask j at why judged is =
+    let P : Reply → Type 0 = λ r. TellsOf s.league h (entry number ask) (next_of s.league s.room h number ask) r in
+    (subst P (sym judged.reply ∙ is) (reply_tells s.league s.room h number ask)).0
+
+-- a seat's entries in the history that it met are those that it had seen
+pub accepted_same : (v : View) (h : List Entry) → Meets v h → under v.held h ≡ under v.held v.seen
+accepted_same v h met =
+    let k = met.knows in ap (under v.held) k.begins ∙ (let a = under_append v.held v.seen k.after in let b = k.none_after in omega arith)
+
+-- and one more after a change of its own
+pub accepted_more : (v : View) (h g : List Entry) (number : ℕ) (ask : Ask) → 0 < times number v.held → Meets v h → g ≡ h ++ entry number ask ∷ []
+    → under v.held g ≡ under v.held v.seen + 1
+accepted_more v h g number ask own met is =
+    let a = ap (under v.held) is in let b = under_append v.held h (entry number ask ∷ []) in let c = accepted_same v h met in let d = met.single number in omega arith
+
+pub accepted_fits : (v : View) (h g : List Entry) (number : ℕ) (ask : Ask) → 0 < times number v.held → Meets v h → g ≡ h ++ entry number ask ∷ []
+    → under v.held v.seen + 1 ≤ length g
+accepted_fits v h g number ask own met is =
+    let a = accepted_more v h g number ask own met is in let b = under_most v.held g met.single in omega arith
+
+-- the fields of a seat that has seen a history
+pub seat_saw : (me n : Place) (number held seen accepted : ℕ) (g : List Entry) (version more : ℕ) → IsSeat me number held seen accepted
+    → n ≡ (saw me.0 g away, []) → version ≡ length g → more ≡ under me.0.held g → IsSeat n number held version more
+seat_saw me n number held seen accepted g version more seat is long entries =
+    let P : Place → Type 0 = λ m. IsSeat m number held version more in
+    subst P (sym is) (record {
+      idle = record { live = seat.idle.live; away_is = refl; no_slot = refl };
+      own = seat.own;
+      count = seat.count;
+      long = long;
+      entries = entries;
+      below = seat.below;
+    })
+
+pub met_of : (table : BoardId) (number : ℕ) (v : View) (h : List Entry) → Meets v h → Met (seat_value table number v) h
+met_of table number v h met = record { legal = met.legal; knows = met.knows; glanced = met.glanced; lowest = met.lowest }
+
+-- a turn in which the board was asked, as its steps tell it: before, under the turn, after the board answered, and after
+pub record Asked (me taken told done : Place) (number : ℕ) (ask : Ask) (j : Judged) : Type 0 where
+  pub took : Took me taken
+  pub same : told.0 ≡ taken.0
+  pub judged : IsJudged taken.0.setting (on_board taken.1) number ask j
+  pub left : done ≡ (saw told.0 (next_of told.0.setting.league told.0.setting.room (kept told.0.stage) number ask) away, [])
+
+asked_judged : (me taken told done : Place) (number : ℕ) (ask : Ask) (j : Judged) (a : Asked me taken told done number ask j) → IsJudged me.0.setting a.took.0 number ask j
+asked_judged me taken told done number ask j a =
+    let P : Place → Type 0 = λ m. IsJudged m.0.setting (on_board m.1) number ask j in subst P a.took.2 a.judged
+
+asked_left : (me taken told done : Place) (number : ℕ) (ask : Ask) (j : Judged) (a : Asked me taken told done number ask j)
+    → done ≡ (saw me.0 (next_of me.0.setting.league me.0.setting.room a.took.0 number ask) away, [])
+asked_left me taken told done number ask j a =
+    let f : View → Place = λ v. (saw v (next_of v.setting.league v.setting.room (kept v.stage) number ask) away, []) in
+    a.left ∙ ap f (a.same ∙ ap (λ (m : Place). m.0) a.took.2)
+
+pub seat_done : (me taken told done : Place) (number held seen accepted : ℕ) (ask : Ask) (j : Judged) (at : ℕ) (cost : Cost) → IsSeat me number held seen accepted
+    → Asked me taken told done number ask j → j.reply ≡ Done at cost → IsSeat done number held j.version (accepted + 1)
+seat_done me taken told done number held seen accepted ask j at cost seat a is =
+    let s = me.0.setting in let h = a.took.0 in let judged = asked_judged me taken told done number ask j a in
+    let g = next_of s.league s.room h number ask in
+    let more = accepted_more me.0 h g number ask seat.own a.took.1 (done_adds s h number ask j at cost judged is) in
+    seat_saw me done number held seen accepted g j.version (accepted + 1) seat (asked_left me taken told done number ask j a) judged.version (let e = seat.entries in omega arith)
+
+pub seat_done_fits : (me taken told done : Place) (number held seen accepted : ℕ) (ask : Ask) (j : Judged) (at : ℕ) (cost : Cost) → IsSeat me number held seen accepted
+    → Asked me taken told done number ask j → j.reply ≡ Done at cost → accepted + 1 ≤ j.version
+seat_done_fits me taken told done number held seen accepted ask j at cost seat a is =
+    let s = me.0.setting in let h = a.took.0 in let judged = asked_judged me taken told done number ask j a in
+    let g = next_of s.league s.room h number ask in
+    let fits = accepted_fits me.0 h g number ask seat.own a.took.1 (done_adds s h number ask j at cost judged is) in
+    let e = seat.entries in let long = judged.version in omega arith
+
+pub seat_no : (me taken told done : Place) (number held seen accepted : ℕ) (ask : Ask) (j : Judged) (at : ℕ) (why : Why) → IsSeat me number held seen accepted
+    → Asked me taken told done number ask j → j.reply ≡ No at why → IsSeat done number held j.version accepted
+seat_no me taken told done number held seen accepted ask j at why seat a is =
+    let s = me.0.setting in let h = a.took.0 in let judged = asked_judged me taken told done number ask j a in
+    let g = next_of s.league s.room h number ask in
+    let stays : g ≡ h = no_stays s h number ask j at why judged is in
+    seat_saw me done number held seen accepted g j.version accepted seat (asked_left me taken told done number ask j a) judged.version
+        (seat.entries ∙ (sym (accepted_same me.0 h a.took.1) ∙ ap (under me.0.held) (sym stays)))
+
+pub answered : (table after : BoardId) (me taken told done : Place) (number : ℕ) (ask : Ask) (j : Judged) → after ≡ table → Asked me taken told done number ask j
+    → Answered (seat_value table number me.0) (seat_value after number done.0) ask j.reply
+answered table after me taken told done number ask j same a =
+    let h = a.took.0 in let judged = asked_judged me taken told done number ask j a in
+    record {
+      history = h;
+      met = met_of table number me.0 h a.took.1;
+      replied = judged.reply;
+      now = ap (λ (t : BoardId). seat_value t number done.0) same ∙ ap (λ (m : Place). seat_value table number m.0) (asked_left me taken told done number ask j a);
+    }
+
+-- a turn in which nothing was asked
+pub record Saw (me taken read done : Place) : Type 0 where
+  pub took : Took me taken
+  pub same : read ≡ taken
+  pub left : done ≡ (saw read.0 (kept read.0.stage) away, [])
+
+pub saw_left : (me taken read done : Place) (a : Saw me taken read done) → done ≡ (saw me.0 a.took.0 away, [])
+saw_left me taken read done a =
+    let f : Place → Place = λ m. (saw m.0 (kept m.0.stage) away, []) in a.left ∙ ap f (a.same ∙ a.took.2)
+
+pub saw_board : (me taken read done : Place) (a : Saw me taken read done) → on_board taken.1 ≡ a.took.0
+saw_board me taken read done a = ap (λ (m : Place). on_board m.1) a.took.2
+
+pub seat_looked : (me taken read done : Place) (number held seen accepted version : ℕ) → IsSeat me number held seen accepted → Saw me taken read done → version ≡ length (on_board taken.1)
+    → IsSeat done number held version accepted
+seat_looked me taken read done number held seen accepted version seat a long =
+    let h = a.took.0 in
+    seat_saw me done number held seen accepted h version accepted seat (saw_left me taken read done a) (long ∙ ap length (saw_board me taken read done a))
+        (seat.entries ∙ sym (accepted_same me.0 h a.took.1))
+
+new_below : (r x : ℕ) → r + 1 ≤ x → times x (r ∷ []) ≡ 0
+new_below r x le = let P = once_none x (r + 1) le in grind (arith, nat_tests)
+
+nothing_after : (a b : List Entry) → length b ≡ 0 → a ++ b ≡ a
+nothing_after a [] e = append-nil a
+nothing_after a (x ∷ b) e = absurd (omega arith)
+
+-- of two histories that one begins, the longer is known to the seat that saw less
+knows_less : (held : List ℕ) (less more h : List Entry) (other : List ℕ) → length less ≤ length more → Knows held less h → Knows other more h → Knows held less more
+knows_less held less more h other le k l =
+    let b = begins_longer less more k.after l.after (sym k.begins ∙ l.begins) le in
+    record { after = b.0; begins = b.1; none_after = (let u = under_append held b.0 l.after in let w = ap (under held) b.2 in let z = k.none_after in omega arith) }
+
+seen_by : (held : List ℕ) (less more h : List Entry) (other : List ℕ) → length less ≤ length more → Knows held less h → Knows other more h → under held more ≡ under held less
+seen_by held less more h other le k l =
+    let n = knows_less held less more h other le k l in
+    ap (under held) n.begins ∙ (let u = under_append held less n.after in let z = n.none_after in omega arith)
+
+-- a new seat that has read under the turn how many numbers are given out
+pub record Came (me came taken counted : Place) (r : ℕ) : Type 0 where
+  pub came_is : came ≡ (newcomer me.0, [])
+  pub took : Took came taken
+  pub count : Counted taken r counted
+
+-- the view of such a seat
+abbrev pub fresh : View → ℕ → View
+fresh v r = record v { held = []; parts = []; given = r; stage = away }
+
+came_taken : (me came taken counted : Place) (r : ℕ) (a : Came me came taken counted r) → taken.0 ≡ at_stage (newcomer me.0) (holds a.took.0)
+came_taken me came taken counted r a =
+    ap (λ (m : Place). m.0) a.took.2 ∙ ap (λ (m : Place). at_stage m.0 (holds a.took.0)) a.came_is
+
+pub came_counted : (me came taken counted : Place) (r : ℕ) (a : Came me came taken counted r) → at_stage counted.0 away ≡ fresh me.0 r
+came_counted me came taken counted r a =
+    ap (λ (m : Place). at_stage m.0 away) a.count.now ∙ ap (λ (v : View). at_stage (counting v r) away) (came_taken me came taken counted r a)
+
+pub came_drawn : (me came taken counted : Place) (r : ℕ) (a : Came me came taken counted r) → at_stage (drawing counted.0) away ≡ record me.0 { held = r ∷ []; parts = []; given = r + 1; stage = away }
+came_drawn me came taken counted r a =
+    ap (λ (m : Place). at_stage (drawing m.0) away) a.count.now ∙ ap (λ (v : View). at_stage (drawing (counting v r)) away) (came_taken me came taken counted r a)
+
+pub came_later : (me came taken counted : Place) (r : ℕ) → Came me came taken counted r → me.0.given ≤ r
+came_later me came taken counted r a =
+    let P : View → Type 0 = λ v. v.given ≤ r in subst P (came_taken me came taken counted r a) a.count.grown
+
+-- no entry that was seen is under the new number
+pub came_none : (me came taken counted : Place) (r : ℕ) → Came me came taken counted r → under (r ∷ []) me.0.seen ≡ 0
+came_none me came taken counted r a =
+    let h = a.took.0 in
+    let P : View → Type 0 = λ v. callers_below r (kept v.stage) in
+    let all : callers_below r h = subst P (came_taken me came taken counted r a) a.count.callers in
+    let K : Place → Type 0 = λ m. Knows m.0.held m.0.seen h in
+    let k : Knows [] me.0.seen h = subst K a.came_is a.took.1.knows in
+    let Q : List Entry → Type 0 = λ l. callers_below r l in
+    under_none (r ∷ []) r me.0.seen (callers_front r me.0.seen k.after (subst Q k.begins all)) (λ x less. times_own r x less)
+
+pub new_seat : (me came taken counted done : Place) (r number held seen accepted : ℕ) → IsSeat me number held seen accepted → Came me came taken counted r
+    → done ≡ (at_stage (drawing counted.0) away, []) → IsSeat done r 1 seen 0
+new_seat me came taken counted done r number held seen accepted seat a is =
+    let w : View = record me.0 { held = r ∷ []; parts = []; given = r + 1; stage = away } in
+    let P : Place → Type 0 = λ m. IsSeat m r 1 seen 0 in
+    let self = times_self r in
+    subst P (sym (is ∙ ap (λ (v : View). (v, [])) (came_drawn me came taken counted r a))) (record {
+      idle = record { live = seat.idle.live; away_is = refl; no_slot = refl };
+      own = omega arith;
+      count = refl;
+      long = seat.long;
+      entries = sym (came_none me came taken counted r a);
+      below = λ x le. new_below r x le;
+    })
+
+pub is_new : (table after : BoardId) (me came taken counted done : Place) (r number held seen accepted : ℕ) → after ≡ table → r < 64 → IsSeat me number held seen accepted → Came me came taken counted r
+    → done ≡ (at_stage (drawing counted.0) away, []) → IsNew (seat_value table number me.0) (seat_value after r done.0)
+is_new table after me came taken counted done r number held seen accepted same few seat a is = record {
+  now = ap (λ (t : BoardId). seat_value t r done.0) same ∙ ap (λ (v : View). seat_value table r v) (ap (λ (m : Place). m.0) is ∙ came_drawn me came taken counted r a);
+  few = few;
+  later = came_later me came taken counted r a;
+  own = seat.below r (came_later me came taken counted r a);
+  no_entry = came_none me came taken counted r a;
+}
+
+longer_self : (a : List Entry) → longer a a ≡ a
+longer_self a = let P : List Entry → Type 0 = λ l. l ≡ a in longer_cases P a a (λ _. refl) (λ _. refl)
+
+-- the old seat, once it has taken a new one back
+pub joined_fresh : (v : View) (r : ℕ) → v.given ≤ r → joined v (fresh v r) ≡ record v { given = r; parts = (joined v (fresh v r)).parts }
+joined_fresh v r le =
+    let h = append-nil v.held in let g : max v.glanced v.glanced ≡ v.glanced = omega arith in
+    let l : min v.lowest v.lowest ≡ v.lowest = omega arith in let n : max v.given r ≡ r = omega arith in let s = longer_self v.seen in
+    λ i. record v { held = h i; seen = s i; glanced = g i; lowest = l i; given = n i; parts = (joined v (fresh v r)).parts }
+
+pub seat_given : (me done : Place) (number held seen accepted r : ℕ) (w : View) → IsSeat me number held seen accepted → w ≡ fresh me.0 r → me.0.given ≤ r
+    → done ≡ (joined me.0 w, me.1) → IsSeat done number held seen accepted
+seat_given me done number held seen accepted r w seat e le is =
+    let v = me.0 in
+    let P : Place → Type 0 = λ m. IsSeat m number held seen accepted in
+    let to : done ≡ (record v { given = r; parts = (joined v (fresh v r)).parts }, me.1) =
+        is ∙ (ap (λ (u : View). (joined v u, me.1)) e ∙ ap (λ (u : View). (u, me.1)) (joined_fresh v r le)) in
+    subst P (sym to) (record {
+      idle = record { live = seat.idle.live; away_is = seat.idle.away_is; no_slot = seat.idle.no_slot };
+      own = seat.own;
+      count = seat.count;
+      long = seat.long;
+      entries = seat.entries;
+      below = λ x more. seat.below x (omega arith);
+    })
+
+pub value_given : (table after : BoardId) (me done : Place) (number r : ℕ) (w : View) → after ≡ table → w ≡ fresh me.0 r → me.0.given ≤ r → r ≡ 64 → done ≡ (joined me.0 w, me.1)
+    → seat_value after number done.0 ≡ given_at (seat_value table number me.0) 64
+value_given table after me done number r w same e le is made =
+    let v = me.0 in
+    ap (λ (t : BoardId). seat_value t number done.0) same
+    ∙ (ap (λ (u : View). seat_value table number u) (ap (λ (m : Place). m.0) made ∙ (ap (λ (u : View). joined v u) e ∙ joined_fresh v r le))
+    ∙ ap (λ (n : ℕ). given_at (seat_value table number v) n) is)
+
+-- two seats that were made one, as the steps tell it
+pub record Merged (me other done : Place) : Type 0 where
+  pub done_is : done ≡ (joined me.0 other.0, me.1)
+  pub parted : Parted done
+
+-- what they were told
+pub record Both (v w : View) : Type 0 where
+  pub history : List Entry
+  pub first : Knows v.held v.seen history
+  pub second : Knows w.held w.seen history
+  pub single : (x : ℕ) → times x (v.held ++ w.held) ≤ once_below x 64
+
+pub merged_both : (me other done : Place) → Merged me other done → Both me.0 other.0
+merged_both me other done a =
+    let p : Parted (joined me.0 other.0, me.1) = subst Parted a.done_is a.parted in
+    record { history = p.history; first = p.each.1; second = p.each.2.1; single = p.single }
+
+-- what the longer of the two histories has under the numbers of both
+pub entries_both : (v w : View) → Both v w → under (v.held ++ w.held) (longer v.seen w.seen) ≡ under v.held v.seen + under w.held w.seen
+entries_both v w b =
+    let P : List Entry → Type 0 = λ l. under (v.held ++ w.held) l ≡ under v.held v.seen + under w.held w.seen in
+    longer_cases P v.seen w.seen
+        (λ less.
+            let k = seen_by v.held v.seen w.seen b.history w.held (omega arith) b.first b.second in
+            omega (arith, under_both v.held w.held w.seen, k))
+        (λ less.
+            let k = seen_by w.held w.seen v.seen b.history v.held less b.second b.first in
+            omega (arith, under_both v.held w.held v.seen, k))
+
+pub held_fits : (v w : View) → Both v w → length v.held + length w.held ≤ 64
+held_fits v w b = omega (arith, held_most 64 (v.held ++ w.held) b.single, length-append v.held w.held)
+
+pub entries_fit : (v w : View) → Both v w → under v.held v.seen + under w.held w.seen ≤ max (length v.seen) (length w.seen)
+entries_fit v w b =
+    let e = entries_both v w b in
+    let m = under_most (v.held ++ w.held) (longer v.seen w.seen) (λ x. let a = b.single x in let c = once_most x 64 in omega arith) in
+    let P : List Entry → Type 0 = λ l. length l ≤ max (length v.seen) (length w.seen) in
+    let l = longer_cases P v.seen w.seen (λ less. omega arith) (λ less. omega arith) in
+    omega arith
+
+pub seat_joined : (me other done : Place) (number held seen accepted number' held' seen' accepted' long : ℕ) → IsSeat me number held seen accepted → IsSeat other number' held' seen' accepted'
+    → Merged me other done → long ≡ length (longer me.0.seen other.0.seen) → IsSeat done number (held + held') long (accepted + accepted')
+seat_joined me other done number held seen accepted number' held' seen' accepted' long seat seat' a is =
+    let v = me.0 in let w = other.0 in
+    let b = merged_both me other done a in
+    let P : Place → Type 0 = λ m. IsSeat m number (held + held') long (accepted + accepted') in
+    let own = seat.own in let count = seat.count in let count' = seat'.count in let entries = seat.entries in let entries' = seat'.entries in
+    subst P (sym a.done_is) (record {
+      idle = record { live = seat.idle.live; away_is = seat.idle.away_is; no_slot = seat.idle.no_slot };
+      own = omega (arith, times_append number v.held w.held);
+      count = omega (arith, length-append v.held w.held);
+      long = is;
+      entries = omega (arith, entries_both v w b);
+      below = λ x le. (let c = seat.below x (omega arith) in let d = seat'.below x (omega arith) in omega (arith, times_append x v.held w.held));
+    })
+
+pub longer_second : (a b : List Entry) → length a < length b → longer a b ≡ b
+longer_second a b less = let P : List Entry → Type 0 = λ l. l ≡ b in longer_cases P a b (λ _. refl) (λ le. absurd (omega arith))
+
+pub longer_first : (a b : List Entry) → length b ≤ length a → longer a b ≡ a
+longer_first a b le = let P : List Entry → Type 0 = λ l. l ≡ a in longer_cases P a b (λ less. absurd (omega arith)) (λ _. refl)
+
+pub absorbed : (table table' after : BoardId) (me other done : Place) (number number' : ℕ) → after ≡ table → Merged me other done
+    → Absorbed (seat_value table number me.0) (seat_value table' number' other.0) (seat_value after number done.0)
+absorbed table table' after me other done number number' same a =
+    let v = me.0 in let w = other.0 in
+    let b = merged_both me other done a in
+    let K : List Entry → Type 0 = λ l. ((l ≡ v.seen) × Knows w.held w.seen v.seen) ⊎ ((l ≡ w.seen) × Knows v.held v.seen w.seen) in
+    let D : Place → Type 0 = λ m. K m.0.seen in
+    record {
+      kept = subst D (sym a.done_is) (longer_cases K v.seen w.seen
+          (λ less. inr (refl, knows_less v.held v.seen w.seen b.history w.held (omega arith) b.first b.second))
+          (λ less. inl (refl, knows_less w.held w.seen v.seen b.history v.held less b.second b.first)));
+      apart = λ x. (let c = b.single x in let d = once_most x 64 in omega (arith, times_append x v.held w.held));
+      now = ap (λ (t : BoardId). seat_value t number done.0) same
+          ∙ (ap (λ (m : Place). seat_value table number m.0) a.done_is
+          ∙ ap (λ (l : List Entry). record (seat_value table number v) {
+            held = v.held ++ w.held;
+            seen = l;
+            glanced = max v.glanced w.glanced;
+            lowest = min v.lowest w.lowest;
+            given = max v.given w.given;
+          }) (ap (λ (m : Place). m.0.seen) (sym a.done_is)));
+    }
+
+-- where a seat holds each number, the history that it met is what it had seen
+pub whole_seen : (v : View) (h : List Entry) (r : ℕ) → Meets v h → callers_below r h → ((x : ℕ) → times x v.held ≤ once_below x r) → length v.held ≡ r
+    → (h ≡ v.seen) × (under v.held v.seen ≡ length h)
+whole_seen v h r met below own all =
+    let k = met.knows in
+    let e = under_all v.held r h below (all_held r v.held all own) in
+    let s = accepted_same v h met in
+    let m = under_most v.held v.seen met.single in
+    let l : length h ≡ length v.seen + length k.after = ap length k.begins ∙ length-append v.seen k.after in
+    (k.begins ∙ nothing_after v.seen k.after (omega arith), omega arith)
+
+-- the board that a seat has, where it has one
+abbrev board_or : Book → Option Book → Book
+board_or none_there None = none_there
+board_or none_there (Some b) = b
+
+abbrev in_hand : Book → List (ℕ × Option Book) → Book
+in_hand none_there [] = none_there
+in_hand none_there (x ∷ xs) = board_or none_there x.1
+
+pub has_board : (me taken counted : Place) (r : ℕ) (t : Took me taken) → Counted taken r counted → me.1 ≡ [] → counted.1 ≡ (0, Some (board_at me.0.setting t.0)) ∷ []
+has_board me taken counted r t count nothing =
+    ap (λ (m : Place). m.1) count.now ∙ (ap (λ (m : Place). m.1) t.2 ∙ ap (λ (l : List (ℕ × Option Book)). (0, Some (board_at me.0.setting t.0)) ∷ l) nothing)
+
+pub closed : (table : BoardId) (me taken counted : Place) (number held seen accepted r k : ℕ) (b : Book) → IsSeat me number held seen accepted → Took me taken → Counted taken r counted
+    → counted.1 ≡ (0, Some b) ∷ rest counted.1 → k ≡ held → ClosedBy (seat_value table number me.0) (record { board = b; whole = k == r })
+closed table me taken counted number held seen accepted r k b seat t count found is =
+    let h = t.0 in
+    let c = has_board me taken counted r t count seat.idle.no_slot in
+    let K : Place → Type 0 = λ m. callers_below r (kept m.0.stage) in
+    let O : Place → Type 0 = λ m. (x : ℕ) → times x m.0.held ≤ once_below x r in
+    record {
+      history = h;
+      met = met_of table number me.0 h t.1;
+      board = ap (in_hand b) (sym found ∙ c);
+      whole = λ all. whole_seen me.0 h r t.1 (subst K t.2 count.callers) (subst O t.2 count.own) (sym seat.count ∙ (sym is ∙ eqb-true k r all));
+    }

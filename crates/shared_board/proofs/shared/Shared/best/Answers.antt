@@ -1,0 +1,6 @@
+use Rattle.std.proofs.Common.{rules}
+use Rattle.shared_board.proofs.Seating.{lower_keeps}
+use Rattle.shared_board.proofs.shared.Shared.best.Goals as goal
+
+pub load-total-requires : goal.load-total-requires
+load-total-requires c = (search rules, search rules, lower_keeps _ _ _ c.seat.invariant.idle.live c.seat.invariant.idle.away_is)

@@ -1,0 +1,6 @@
+use Rattle.std.proofs.Common.{rules}
+use Rattle.shared_board.proofs.Seating.{glance_keeps}
+use Rattle.shared_board.proofs.shared.Shared.front.Goals as goal
+
+pub load-requires : goal.load-requires
+load-requires c = (search rules, search rules, glance_keeps _ _ _ c.seat.invariant.idle.live c.seat.invariant.idle.away_is)

@@ -1,0 +1,9 @@
+pub mod Setting
+pub mod Stage
+pub mod Held
+pub mod Rule
+pub mod Plays
+pub mod Seats
+pub mod Judging
+pub mod Between
+pub mod Fixtures

@@ -1,0 +1,97 @@
+//! The names of the steps, and what each tells.
+
+ghost use Rattle.shared_board.specs.Plays.{took, committed, posted, left, quit, counted, drawn, glanced, lowered, newcomer, joined, parted};
+
+use crate::view::View;
+use atomic_table::{Join, Play, Split};
+use fixture_board::Board;
+
+/// The turn is taken, where it is free.
+pub struct Take;
+
+impl Play<Option<Board>, View> for Take {
+    ghost then = { took };
+}
+
+/// The history's new length is written.
+pub struct Commit;
+
+impl Play<Option<Board>, View> for Commit {
+    ghost then = { committed };
+}
+
+/// The best total after it is written.
+pub struct Post;
+
+impl Play<Option<Board>, View> for Post {
+    ghost then = { posted };
+}
+
+/// The turn is given up, and the history was seen.
+pub struct Leave;
+
+impl Play<Option<Board>, View> for Leave {
+    ghost then = { left };
+}
+
+/// The turn is given up, and nothing was seen.
+pub struct Quit;
+
+impl Play<Option<Board>, View> for Quit {
+    ghost then = { quit };
+}
+
+/// The count of numbers is read under the turn.
+pub struct Count;
+
+impl Play<Option<Board>, View> for Count {
+    ghost then = { counted };
+}
+
+/// The next number is drawn.
+pub struct Draw;
+
+impl Play<Option<Board>, View> for Draw {
+    ghost then = { drawn };
+}
+
+/// The length of the history is read.
+pub struct Glance;
+
+impl Play<Option<Board>, View> for Glance {
+    ghost then = { glanced };
+}
+
+/// The best total is read.
+pub struct Lower;
+
+impl Play<Option<Board>, View> for Lower {
+    ghost then = { lowered };
+}
+
+/// After a join: the two were parts of one history.
+pub struct Tell;
+
+impl Play<Option<Board>, View> for Tell {
+    ghost then = { parted };
+}
+
+/// A new seat comes from another, and has seen what that one has.
+pub struct Newcomer;
+
+impl Split<View> for Newcomer {
+    ghost left = { λ v. v };
+
+    ghost right = { newcomer };
+}
+
+/// Two seats are made one.
+pub struct Both;
+
+impl Join<View> for Both {
+    ghost use Rattle.shared_board.specs.Rule.{spent_view};
+
+    ghost both = { joined };
+
+    ghost spent = { spent_view };
+}

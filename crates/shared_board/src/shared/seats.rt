@@ -1,0 +1,79 @@
+//! Seats come and go, and the sharing ends.
+
+ghost use Rattle.std.specs.Prelude.{◌≡◌, MatchResult};
+ghost use Rattle.shared_board.specs.Seats.{IsNew, Absorbed, ClosedBy, given_at};
+
+use crate::plays::{Both, Newcomer, Tell};
+use crate::shared::{Closed, MAX_SEATS, SLOT, Seat, Shared, TURN, TooManySeats};
+use std::sync::Wait;
+
+impl Shared {
+    /// One more seat, which has seen what this one has. There are 64 numbers, each given out once.
+    pub fn split<R: Wait>(&self, rt: &R, seat: &mut Seat) -> Result<Seat, TooManySeats>
+        requires { seat.old.table ≡ self.now }
+        ensures { MatchResult result (λ s. (seat.new ≡ seat.old) × IsNew seat.old s) (λ _. seat.new ≡ given_at seat.old 64) }
+    {
+        let mut place = self.table.shared.split_seat::<Newcomer>(&mut seat.place);
+        self.take(rt, &mut place);
+        let number = self.count(&mut place);
+        if number >= MAX_SEATS {
+            self.quit(&mut place);
+            self.table.shared.join_seat::<Both>(&mut seat.place, place);
+            return Err(TooManySeats);
+        }
+        self.draw(&mut place, number + 1);
+        self.quit(&mut place);
+        Ok(Seat {
+            place,
+            number: number as u32,
+            held: 1,
+            seen: seat.seen,
+            accepted: 0,
+        })
+    }
+
+    /// The first seat takes in the numbers of the other, and has seen the longer of the two histories. It waits for
+    /// nobody.
+    pub fn absorb(&self, seat: &mut Seat, other: Seat)
+        requires { (seat.old.table ≡ self.now) × (other.table ≡ self.now) }
+        ensures { Absorbed seat.old other seat.new }
+    {
+        let Seat {
+            place,
+            number: _,
+            held,
+            seen,
+            accepted,
+        } = other;
+        self.table.shared.join_seat::<Both>(&mut seat.place, place);
+        self.table.shared.load::<Tell>(&mut seat.place, TURN);
+        seat.held += held;
+        seat.accepted += accepted;
+        if seat.seen < seen {
+            seat.seen = seen;
+        }
+    }
+
+    /// Ends the sharing. The board is whole where the seat holds every number that was given out.
+    pub fn close<R: Wait>(self, rt: &R, seat: Seat) -> Closed
+        requires { seat.table ≡ self }
+        ensures { ClosedBy seat result }
+    {
+        let Seat {
+            mut place,
+            number: _,
+            held,
+            seen: _,
+            accepted: _,
+        } = seat;
+        self.take(rt, &mut place);
+        let numbers = self.count(&mut place);
+        match self.table.shared.exchange(&mut place, SLOT, None) {
+            Some(board) => Closed {
+                board,
+                whole: u64::from(held) == numbers,
+            },
+            None => unreachable!(),
+        }
+    }
+}

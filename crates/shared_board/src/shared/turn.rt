@@ -1,0 +1,201 @@
+//! The steps of a turn, each with what it does to the seat of the table.
+
+ghost use Rattle.std.specs.Prelude.{◌≡◌, ◌<◌, ◌≤◌, ◌^◌, ◌+◌, [], ◌∷◌, length, true, MatchBool};
+ghost use Rattle.fixture_board.specs.History.{IsLegal, games_of, cost_at};
+ghost use Rattle.fixture_board.specs.Laws.{least_of, as_number};
+ghost use Rattle.fixture_board.specs.Replies.{next_of};
+ghost use Rattle.shared_board.specs.Held.{times};
+ghost use Rattle.shared_board.specs.Stage.{away, holds, counts, owes, kept, owed, IsSettled};
+ghost use Rattle.shared_board.specs.Rule.{Added};
+ghost use Rattle.shared_board.specs.Plays.{Took, Counted, at_stage, saw, on_board, drawing};
+ghost use Rattle.shared_board.specs.Seats.{HasBoard, copied};
+ghost use Rattle.shared_board.specs.Judging.{IsJudged};
+
+use crate::plays::{Commit, Count, Draw, Leave, Post, Quit, Take};
+use crate::shared::{BEST, FRONT, Judged, NUMBERS, Place, SLOT, Seen, Shared, TURN};
+use fixture_board::{Ask, Best, Reply};
+use fixtures::Schedule;
+use std::hint::spin_loop;
+use std::sync::Wait;
+use std::thread::yield_now;
+
+/// How often a seat tries for the turn before it yields to other threads.
+const TRIES: u32 = 64;
+
+impl Shared {
+    /// Takes the turn, and the board with it. Where the turn is long taken, it yields to other threads.
+    pub(crate) fn take<R: Wait>(&self, rt: &R, place: &mut Place)
+        requires table { place.old.table_id ≡ self.now }
+        requires idle { (place.old.me.0.live ≡ true) × (place.old.me.0.stage ≡ away) }
+        ensures same { place.new.table_id ≡ place.old.table_id }
+        ensures took { Took place.old.me place.new.me }
+    {
+        for _ in rt.forever() {
+            if self.try_take(place) {
+                return;
+            }
+            yield_now();
+        }
+        unreachable!()
+    }
+
+    /// Tries for the turn a few times, and says whether it was taken.
+    fn try_take(&self, place: &mut Place) -> bool
+        requires table { place.old.table_id ≡ self.now }
+        requires idle { (place.old.me.0.live ≡ true) × (place.old.me.0.stage ≡ away) }
+        ensures same { place.new.table_id ≡ place.old.table_id }
+        ensures took { MatchBool result (Took place.old.me place.new.me) (place.new.me ≡ place.old.me) }
+    {
+        for _ in 0..TRIES {
+            if self.table.shared.compare_exchange::<Take>(place, TURN, 0, 1) == 0 {
+                return true;
+            }
+            spin_loop();
+        }
+        false
+    }
+
+    /// What the board answers, and its version and its best total then.
+    #[tactic(auto, unfolding(fixture_board::specs::Laws::least_of))]
+    pub(crate) fn judge(&self, place: &mut Place, number: u32, ask: Ask) -> Judged
+        requires table { place.old.table_id ≡ self.now }
+        requires board { HasBoard place.old.me (on_board place.old.me.1) }
+        ensures same { (place.new.table_id ≡ place.old.table_id) × (place.new.me.0 ≡ place.old.me.0) }
+        ensures board { HasBoard place.new.me (next_of place.old.me.0.setting.league place.old.me.0.setting.room (on_board place.old.me.1) number ask) }
+        ensures judged { IsJudged place.old.me.0.setting (on_board place.old.me.1) number ask result }
+        ensures small { result.version < 2 ^ 64 }
+    {
+        match place.slot_mut(&self.table.shared, SLOT) {
+            Some(board) => {
+                let reply = board.answer(number, ask);
+                Judged {
+                    reply,
+                    version: board.version(),
+                    least: number_of(board.best()),
+                }
+            }
+            None => unreachable!(),
+        }
+    }
+
+    /// Copies what the board shows.
+    pub(crate) fn read(&self, place: &mut Place, copy: &mut Schedule) -> Seen
+        requires table { place.old.table_id ≡ self.now }
+        requires board { HasBoard place.old.me (on_board place.old.me.1) }
+        ensures same { (place.new.table_id ≡ place.old.table_id) × (place.new.me ≡ place.old.me) }
+        ensures version { result.version ≡ length (on_board place.old.me.1) }
+        ensures cost { result.cost ≡ cost_at place.old.me.0.setting.league (on_board place.old.me.1) }
+        ensures copy { copy.new ≡ copied copy.old (games_of place.old.me.0.setting.league (on_board place.old.me.1)) }
+    {
+        match place.slot_mut(&self.table.shared, SLOT) {
+            Some(board) => {
+                let shown = board.schedule();
+                if copy.teams() == shown.teams() {
+                    copy.copy_from(shown);
+                }
+                Seen {
+                    version: board.version(),
+                    cost: board.cost(),
+                }
+            }
+            None => unreachable!(),
+        }
+    }
+
+    /// Writes the history's new length.
+    pub(crate) fn commit(&self, place: &mut Place, version: u64)
+        requires table { place.old.table_id ≡ self.now }
+        requires turn { (place.old.me.0.live ≡ true) × IsSettled place.old.me.0.stage }
+        requires added { Added place.old.me.0.held (kept place.old.me.0.stage) (on_board place.old.me.1) }
+        requires legal { IsLegal place.old.me.0.setting.league place.old.me.0.setting.room (on_board place.old.me.1) }
+        requires version { version ≡ length (on_board place.old.me.1) }
+        ensures same { place.new.table_id ≡ place.old.table_id }
+        ensures done { let g = on_board place.old.me.1 in place.new.me ≡ (saw place.old.me.0 g (owes (kept place.old.me.0.stage) g), place.old.me.1) }
+    {
+        self.table.shared.store::<Commit>(place, FRONT, version);
+    }
+
+    /// Writes the best total after a commit.
+    pub(crate) fn post(&self, place: &mut Place, least: u64)
+        requires table { place.old.table_id ≡ self.now }
+        requires turn { (place.old.me.0.live ≡ true) × (place.old.me.0.stage ≡ owes (owed place.old.me.0.stage) (kept place.old.me.0.stage)) }
+        requires least { least ≡ least_of place.old.me.0.setting.league (kept place.old.me.0.stage) }
+        ensures same { place.new.table_id ≡ place.old.table_id }
+        ensures done { place.new.me ≡ (at_stage place.old.me.0 (holds (kept place.old.me.0.stage)), place.old.me.1) }
+    {
+        self.table.shared.fetch_min::<Post>(place, BEST, least);
+    }
+
+    /// Gives the turn and the board back, and has seen the history.
+    pub(crate) fn leave(&self, place: &mut Place)
+        requires table { place.old.table_id ≡ self.now }
+        requires turn { (place.old.me.0.live ≡ true) × IsSettled place.old.me.0.stage }
+        requires board { HasBoard place.old.me (kept place.old.me.0.stage) }
+        ensures same { place.new.table_id ≡ place.old.table_id }
+        ensures done { place.new.me ≡ (saw place.old.me.0 (kept place.old.me.0.stage) away, []) }
+    {
+        self.table.shared.store::<Leave>(place, TURN, 0);
+    }
+
+    /// Gives the turn and the board back, and has seen nothing.
+    pub(crate) fn quit(&self, place: &mut Place)
+        requires table { place.old.table_id ≡ self.now }
+        requires turn { (place.old.me.0.live ≡ true) × IsSettled place.old.me.0.stage }
+        requires board { HasBoard place.old.me (kept place.old.me.0.stage) }
+        ensures same { place.new.table_id ≡ place.old.table_id }
+        ensures done { place.new.me ≡ (at_stage place.old.me.0 away, []) }
+    {
+        self.table.shared.store::<Quit>(place, TURN, 0);
+    }
+
+    /// Reads under the turn how many numbers are given out.
+    pub(crate) fn count(&self, place: &mut Place) -> u64
+        requires table { place.old.table_id ≡ self.now }
+        requires turn { (place.old.me.0.live ≡ true) × IsSettled place.old.me.0.stage }
+        ensures same { place.new.table_id ≡ place.old.table_id }
+        ensures counted { Counted place.old.me result place.new.me }
+    {
+        self.table.shared.load::<Count>(place, NUMBERS)
+    }
+
+    /// Draws the number that was counted to, and writes that one more is given out.
+    pub(crate) fn draw(&self, place: &mut Place, next: u64)
+        requires table { place.old.table_id ≡ self.now }
+        requires turn { (place.old.me.0.live ≡ true) × (place.old.me.0.stage ≡ counts (kept place.old.me.0.stage)) }
+        requires next { (next ≡ place.old.me.0.given + 1) × (next ≤ 64) }
+        ensures same { place.new.table_id ≡ place.old.table_id }
+        ensures done { place.new.me ≡ (drawing place.old.me.0, place.old.me.1) }
+    {
+        self.table.shared.store::<Draw>(place, NUMBERS, next);
+    }
+
+    /// Commits what the board granted, and leaves the turn.
+    pub(crate) fn conclude(&self, place: &mut Place, _number: u32, _ask: Ask, judged: &Judged)
+        requires table { place.old.table_id ≡ self.now }
+        requires turn { (place.old.me.0.live ≡ true) × IsSettled place.old.me.0.stage × (0 < times _number place.old.me.0.held) }
+        requires legal { IsLegal place.old.me.0.setting.league place.old.me.0.setting.room (kept place.old.me.0.stage) }
+        requires board { HasBoard place.old.me (next_of place.old.me.0.setting.league place.old.me.0.setting.room (kept place.old.me.0.stage) _number _ask) }
+        requires judged { IsJudged place.old.me.0.setting (kept place.old.me.0.stage) _number _ask judged.now }
+        ensures same { place.new.table_id ≡ place.old.table_id }
+        ensures done { place.new.me ≡ (saw place.old.me.0 (next_of place.old.me.0.setting.league place.old.me.0.setting.room (kept place.old.me.0.stage) _number _ask) away, []) }
+    {
+        match judged.reply {
+            Reply::Done { .. } => {
+                self.commit(place, judged.version);
+                self.post(place, judged.least);
+                self.leave(place);
+            }
+            Reply::No { .. } => self.leave(place),
+        }
+    }
+}
+
+/// The total of the best version as the best word has it.
+pub(crate) fn number_of(best: Option<Best>) -> u64
+    ensures { result ≡ as_number best }
+{
+    match best {
+        Some(best) => best.total,
+        None => u64::MAX,
+    }
+}
