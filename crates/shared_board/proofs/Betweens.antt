@@ -50,17 +50,17 @@ fits_history s r j v there =
       | inl free ↦ subst F free.all_posted (fits_at r.setting r.posted r.history r.posted (length r.history) r.numbers v away (free.all_away j v there.0) refl f)
       | inr held ↦ dite (ℕ_discrete j held.seat)
           (λ e.
-              let same : held.view ≡ v = some-injective held.view v (sym held.there ∙ (ap (get_elem? s.views) (sym e) ∙ there.0)) in
-              let H : View → Type 0 = λ u. IsHolder r.posted r.history r.numbers u.held u.given u.stage in
-              subst F (holder_upto r.posted r.history r.numbers v.held v.given v.stage (subst H same held.holder)) f)
+          let same : held.view ≡ v = some-injective held.view v (sym held.there ∙ (ap (get_elem? s.views) (sym e) ∙ there.0)) in
+          let H : View → Type 0 = λ u. IsHolder r.posted r.history r.numbers u.held u.given u.stage in
+          subst F (holder_upto r.posted r.history r.numbers v.held v.given v.stage (subst H same held.holder)) f)
           (λ ne.
-              let g = fits_at r.setting r.posted r.history r.posted (length r.history) r.numbers v away (held.others_away j v ne there.0) refl f in
-              elim (holder_posted r.posted r.history r.numbers held.view.held held.view.given held.view.stage held.holder) [
-                | inl same ↦ subst F same g
-                | inr added ↦ subst F (sym added.one_more)
-                    (fits_more r.setting r.posted (length r.history) r.numbers v added.entry
-                        (held_alone s r held.seat j held.view v added.entry.caller ne held.there there.0 added.own) g)
-              ])
+          let g = fits_at r.setting r.posted r.history r.posted (length r.history) r.numbers v away (held.others_away j v ne there.0) refl f in
+          elim (holder_posted r.posted r.history r.numbers held.view.held held.view.given held.view.stage held.holder) [
+            | inl same ↦ subst F same g
+            | inr added ↦ subst F (sym added.one_more)
+                (fits_more r.setting r.posted (length r.history) r.numbers v added.entry
+                (held_alone s r held.seat j held.view v added.entry.caller ne held.there there.0 added.own) g)
+          ])
     ]
 
 home_free : (s : Table) (r : Ruled s) → turn_word s ≡ 0 → IsHome s r.setting r.history × (r.posted ≡ r.history)
@@ -77,12 +77,12 @@ one_holds s r e =
     elim r.turns [
       | inl free ↦ let none_held = free.turn_is in absurd (omega arith)
       | inr held ↦ record {
-          seat = held.seat;
-          view = held.view;
-          there = (held.there, held.live);
-          in_turn = holder_in_turn r.posted r.history r.numbers held.view.held held.view.given held.view.stage held.holder;
-          no_other = λ j v ne there. held.others_away j v ne there.0;
-        }
+        seat = held.seat;
+        view = held.view;
+        there = (held.there, held.live);
+        in_turn = holder_in_turn r.posted r.history r.numbers held.view.held held.view.given held.view.stage held.holder;
+        no_other = λ j v ne there. held.others_away j v ne there.0;
+      }
     ]
 
 best_or_behind : (s : Table) (r : Ruled s) → (best_word s ≡ least_of r.setting.league r.history) ⊎ Behind s r.setting r.history
@@ -91,16 +91,16 @@ best_or_behind s r =
     elim r.turns [
       | inl free ↦ inl (found ∙ ap (least_of r.setting.league) free.all_posted)
       | inr held ↦ elim (holder_posted r.posted r.history r.numbers held.view.held held.view.given held.view.stage held.holder) [
-          | inl same ↦ inl (found ∙ ap (least_of r.setting.league) same)
-          | inr added ↦ inr (record {
-              before = r.posted;
-              entry = added.entry;
-              one_more = added.one_more;
-              word = found;
-              committer = held.seat;
-              others = λ j v ne there. (fits_at r.setting r.posted r.history r.posted (length r.history) r.numbers v away (held.others_away j v ne there.0) refl (r.seats j v there.0 there.1)).lowest;
-            })
-        ]
+        | inl same ↦ inl (found ∙ ap (least_of r.setting.league) same)
+        | inr added ↦ inr (record {
+          before = r.posted;
+          entry = added.entry;
+          one_more = added.one_more;
+          word = found;
+          committer = held.seat;
+          others = λ j v ne there. (fits_at r.setting r.posted r.history r.posted (length r.history) r.numbers v away (held.others_away j v ne there.0) refl (r.seats j v there.0 there.1)).lowest;
+        })
+      ]
     ]
 
 turn_is : (s : Table) (r : Ruled s) → (turn_word s ≡ 0) ⊎ (turn_word s ≡ 1)

@@ -141,10 +141,10 @@ sum_to_times n [] below = sum_to_zeros n
 sum_to_times n (y ∷ held) below = dite (ℕ_discrete (times y (y ∷ held)) 0)
     (λ e. absurd (omega (arith, same_one y y refl)))
     (λ ne. let less : y < n = lt_of_not-le (λ le. ne (below y le)) in
-        let both = sum_to_both n (λ x. cond (y == x) 1 0) (λ x. times x held) in
-        let one = sum_to_one n y less in
-        let rest = sum_to_times n held (λ x le. omega (arith, below x le)) in
-        omega arith)
+    let both = sum_to_both n (λ x. cond (y == x) 1 0) (λ x. times x held) in
+    let one = sum_to_one n y less in
+    let rest = sum_to_times n held (λ x le. omega (arith, below x le)) in
+    omega arith)
 
 sum_to_most : (n : ℕ) (f : ℕ → ℕ) → ((x : ℕ) → f x ≤ 1) → sum_to n f ≤ n
 sum_to_most zero f most = omega arith

@@ -112,7 +112,7 @@ seat_no me taken told done number held seen accepted ask j at why seat a is =
     let g = next_of s.league s.room h number ask in
     let stays : g ≡ h = no_stays s h number ask j at why judged is in
     seat_saw me done number held seen accepted g j.version accepted seat (asked_left me taken told done number ask j a) judged.version
-        (seat.entries ∙ (sym (accepted_same me.0 h a.took.1) ∙ ap (under me.0.held) (sym stays)))
+    (seat.entries ∙ (sym (accepted_same me.0 h a.took.1) ∙ ap (under me.0.held) (sym stays)))
 
 pub answered : (table after : BoardId) (me taken told done : Place) (number : ℕ) (ask : Ask) (j : Judged) → after ≡ table → Asked me taken told done number ask j
     → Answered (seat_value table number me.0) (seat_value after number done.0) ask j.reply
@@ -143,7 +143,7 @@ pub seat_looked : (me taken read done : Place) (number held seen accepted versio
 seat_looked me taken read done number held seen accepted version seat a long =
     let h = a.took.0 in
     seat_saw me done number held seen accepted h version accepted seat (saw_left me taken read done a) (long ∙ ap length (saw_board me taken read done a))
-        (seat.entries ∙ sym (accepted_same me.0 h a.took.1))
+    (seat.entries ∙ sym (accepted_same me.0 h a.took.1))
 
 new_below : (r x : ℕ) → r + 1 ≤ x → times x (r ∷ []) ≡ 0
 new_below r x le = let P = once_none x (r + 1) le in grind (arith, nat_tests)
@@ -241,7 +241,7 @@ seat_given me done number held seen accepted r w seat e le is =
     let v = me.0 in
     let P : Place → Type 0 = λ m. IsSeat m number held seen accepted in
     let to : done ≡ (record v { given = r; parts = (joined v (fresh v r)).parts }, me.1) =
-        is ∙ (ap (λ (u : View). (joined v u, me.1)) e ∙ ap (λ (u : View). (u, me.1)) (joined_fresh v r le)) in
+    is ∙ (ap (λ (u : View). (joined v u, me.1)) e ∙ ap (λ (u : View). (u, me.1)) (joined_fresh v r le)) in
     subst P (sym to) (record {
       idle = record { live = seat.idle.live; away_is = seat.idle.away_is; no_slot = seat.idle.no_slot };
       own = seat.own;
@@ -281,12 +281,12 @@ pub entries_both : (v w : View) → Both v w → under (v.held ++ w.held) (longe
 entries_both v w b =
     let P : List Entry → Type 0 = λ l. under (v.held ++ w.held) l ≡ under v.held v.seen + under w.held w.seen in
     longer_cases P v.seen w.seen
-        (λ less.
-            let k = seen_by v.held v.seen w.seen b.history w.held (omega arith) b.first b.second in
-            omega (arith, under_both v.held w.held w.seen, k))
-        (λ less.
-            let k = seen_by w.held w.seen v.seen b.history v.held less b.second b.first in
-            omega (arith, under_both v.held w.held v.seen, k))
+    (λ less.
+    let k = seen_by v.held v.seen w.seen b.history w.held (omega arith) b.first b.second in
+    omega (arith, under_both v.held w.held w.seen, k))
+    (λ less.
+    let k = seen_by w.held w.seen v.seen b.history v.held less b.second b.first in
+    omega (arith, under_both v.held w.held v.seen, k))
 
 pub held_fits : (v w : View) → Both v w → length v.held + length w.held ≤ 64
 held_fits v w b = omega (arith, held_most 64 (v.held ++ w.held) b.single, length-append v.held w.held)

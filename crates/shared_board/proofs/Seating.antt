@@ -32,8 +32,7 @@ glance_keeps slots id m live e s r sized at fits =
     let n : ℕ = slice_index s.words 1 in
     let found : n ≡ length r.history = ap (λ (l : List ℕ). slice_index l 1) r.words in
     let w : View = record v { glanced = n } in
-    let g = (fits_away s r id v at live e).glanced in
-    (
+    let g = (fits_away s r id v at live e).glanced in (
       w,
       keeps,
       tt,
@@ -67,8 +66,7 @@ lower_keeps slots id m live e s r sized at fits =
     let found : n ≡ least_of r.setting.league r.posted = ap (λ (l : List ℕ). slice_index l 3) r.words in
     let w : View = record v { lowest = n } in
     let P : ℕ → Type 0 = λ k. Lowest r.setting v.seen r.posted k in
-    let falls : least_of r.setting.league r.posted ≤ v.lowest = lowest_falls r.setting v.seen r.posted v.lowest r.limits (fits_away s r id v at live e).lowest in
-    (
+    let falls : least_of r.setting.league r.posted ≤ v.lowest = lowest_falls r.setting v.seen r.posted v.lowest r.limits (fits_away s r id v at live e).lowest in (
       w,
       keeps,
       tt,
@@ -105,14 +103,14 @@ split_keeps id v live e s r at =
     let f = fits_away s r id v at live e in
     let w = newcomer v in
     let came : Ruled (record { words = s.words; homes = s.homes; views = s.views ++ w ∷ [] }) = arrives s r w refl refl
-        (record {
-          setting_is = f.setting_is;
-          knows = record { after = f.knows.after; begins = f.knows.begins; none_after = under_nothing f.knows.after };
-          glanced = f.glanced;
-          lowest = f.lowest;
-          given = f.given;
-          parts = tt;
-        }) in
+    (record {
+      setting_is = f.setting_is;
+      knows = record { after = f.knows.after; begins = f.knows.begins; none_after = under_nothing f.knows.after };
+      glanced = f.glanced;
+      lowest = f.lowest;
+      given = f.given;
+      parts = tt;
+    }) in
     let P : List View → Type 0 = λ l. Ruled (record { words = s.words; homes = s.homes; views = l ++ w ∷ [] }) in
     subst P (sym (set_again s.views id v at)) came
 
@@ -170,23 +168,23 @@ lowest_both s v w seen after h low other limits e le k l =
     let vp : length v ≤ length p = omega (arith, length-append v k.more) in
     let wq : length w ≤ length q = omega (arith, length-append w l.more) in
     ⊎_elim
-        (λ (pq : length p ≤ length q).
-            let b = begins_longer p q k.rest l.rest (sym k.point ∙ l.point) pq in
-            let falls = least_falls_on s.league p b.0 limits in
-            let same : least_of s.league q ≡ least_of s.league (p ++ b.0) = ap (least_of s.league) b.1 in
-            let x : ℕ = least_of s.league p in let y : ℕ = least_of s.league q in let z : ℕ = least_of s.league (p ++ b.0) in
-            let i : low ≡ x = k.least in let j : other ≡ y = l.least in let f : z ≤ x = falls in let g : y ≡ z = same in
-            let is : min low other ≡ y = omega arith in
-            lowest_from s seen after h q l.rest (min low other) e l.point (omega arith) is)
-        (λ (qp : length q ≤ length p).
-            let b = begins_longer q p l.rest k.rest (sym l.point ∙ k.point) qp in
-            let falls = least_falls_on s.league q b.0 limits in
-            let same : least_of s.league p ≡ least_of s.league (q ++ b.0) = ap (least_of s.league) b.1 in
-            let x : ℕ = least_of s.league p in let y : ℕ = least_of s.league q in let z : ℕ = least_of s.league (q ++ b.0) in
-            let i : low ≡ x = k.least in let j : other ≡ y = l.least in let f : z ≤ y = falls in let g : x ≡ z = same in
-            let is : min low other ≡ x = omega arith in
-            lowest_from s seen after h p k.rest (min low other) e k.point (omega arith) is)
-        (le_or_le (length p) (length q))
+    (λ (pq : length p ≤ length q).
+    let b = begins_longer p q k.rest l.rest (sym k.point ∙ l.point) pq in
+    let falls = least_falls_on s.league p b.0 limits in
+    let same : least_of s.league q ≡ least_of s.league (p ++ b.0) = ap (least_of s.league) b.1 in
+    let x : ℕ = least_of s.league p in let y : ℕ = least_of s.league q in let z : ℕ = least_of s.league (p ++ b.0) in
+    let i : low ≡ x = k.least in let j : other ≡ y = l.least in let f : z ≤ x = falls in let g : y ≡ z = same in
+    let is : min low other ≡ y = omega arith in
+    lowest_from s seen after h q l.rest (min low other) e l.point (omega arith) is)
+    (λ (qp : length q ≤ length p).
+    let b = begins_longer q p l.rest k.rest (sym l.point ∙ k.point) qp in
+    let falls = least_falls_on s.league q b.0 limits in
+    let same : least_of s.league p ≡ least_of s.league (q ++ b.0) = ap (least_of s.league) b.1 in
+    let x : ℕ = least_of s.league p in let y : ℕ = least_of s.league q in let z : ℕ = least_of s.league (q ++ b.0) in
+    let i : low ≡ x = k.least in let j : other ≡ y = l.least in let f : z ≤ y = falls in let g : x ≡ z = same in
+    let is : min low other ≡ x = omega arith in
+    lowest_from s seen after h p k.rest (min low other) e k.point (omega arith) is)
+    (le_or_le (length p) (length q))
 
 pub fits_joined : (s : Setting) (h : List Entry) (long numbers : ℕ) (v w : View) → IsLeague s.league → Fits s h long numbers v → Fits s h long numbers w → Fits s h long numbers (joined v w)
 fits_joined s h long numbers v w limits f g =

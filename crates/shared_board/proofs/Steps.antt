@@ -69,21 +69,21 @@ arrives s r w d nothing f =
       seats = λ j u at live. ⊎_elim (λ at'. r.seats j u at' live) (λ e. subst G e g) (at_snoc s.views w u j at);
       turns = elim r.turns [
         | inl free ↦ inl (record {
-            turn_is = free.turn_is;
-            home_is = free.home_is;
-            all_posted = free.all_posted;
-            all_away = λ j u at. ⊎_elim (λ at'. free.all_away j u at') (λ e. ap stage (sym e) ∙ d) (at_snoc s.views w u j at);
-          })
+          turn_is = free.turn_is;
+          home_is = free.home_is;
+          all_posted = free.all_posted;
+          all_away = λ j u at. ⊎_elim (λ at'. free.all_away j u at') (λ e. ap stage (sym e) ∙ d) (at_snoc s.views w u j at);
+        })
         | inr held ↦ inr (record {
-            turn_is = held.turn_is;
-            home_is = held.home_is;
-            seat = held.seat;
-            view = held.view;
-            there = at_longer s.views (w ∷ []) held.seat held.view held.there;
-            live = held.live;
-            holder = held.holder;
-            others_away = λ j u other at. ⊎_elim (λ at'. held.others_away j u other at') (λ e. ap stage (sym e) ∙ d) (at_snoc s.views w u j at);
-          })
+          turn_is = held.turn_is;
+          home_is = held.home_is;
+          seat = held.seat;
+          view = held.view;
+          there = at_longer s.views (w ∷ []) held.seat held.view held.there;
+          live = held.live;
+          holder = held.holder;
+          others_away = λ j u other at. ⊎_elim (λ at'. held.others_away j u other at') (λ e. ap stage (sym e) ∙ d) (at_snoc s.views w u j at);
+        })
       ];
     }
 
@@ -116,9 +116,9 @@ makes s r id v w posted history numbers at others does =
       once = once_set s.views id v w r.numbers numbers at r.once does.grown;
       seats = each_set F G s.views id w r.seats
           (λ j u ne at' f.
-              let e = others j u ne at' in
-              fits_from r.setting posted history posted (length history) numbers u away e refl
-                  (does.others j u ne at' (fits_at r.setting r.posted r.history r.posted (length r.history) r.numbers u away e refl f)))
+          let e = others j u ne at' in
+          fits_from r.setting posted history posted (length history) numbers u away e refl
+          (does.others j u ne at' (fits_at r.setting r.posted r.history r.posted (length r.history) r.numbers u away e refl f)))
           (λ _. does.mine);
     }
 

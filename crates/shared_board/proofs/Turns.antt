@@ -57,8 +57,7 @@ take_keeps slots id m live e s r sized at fits =
           let at_home : s.homes ≡ some (Some b) ∷ [] = r.homes ∙ (ap (λ h. h ∷ []) free.home_is ∙ ap (λ (t : Setting). some (Some (board_at t r.history)) ∷ []) (sym setting_is)) in
           let new : either (r.turn == 0) 1 r.turn ≡ 1 = ap (λ (n : ℕ). either (n == 0) 1 n) free.turn_is in
           let words : Words s.words ≡ 1 ∷ length r.history ∷ r.numbers ∷ least_of r.setting.league r.posted ∷ [] =
-              ap Words r.words ∙ ap (λ (n : ℕ). n ∷ length r.history ∷ r.numbers ∷ least_of r.setting.league r.posted ∷ []) new in
-          (
+          ap Words r.words ∙ ap (λ (n : ℕ). n ∷ length r.history ∷ r.numbers ∷ least_of r.setting.league r.posted ∷ []) new in (
             w,
             takes 0 (Some b),
             ap (λ (l : List (maybe.Option (Option Book))). get_elem? l 0) at_home,
@@ -70,8 +69,7 @@ take_keeps slots id m live e s r sized at fits =
       | inr held ↦
           let new : either (r.turn == 0) 1 r.turn ≡ r.turn = ap (λ (n : ℕ). either (n == 0) 1 n) held.turn_is ∙ sym held.turn_is in
           let words : Words s.words ≡ s.words =
-              ap Words r.words ∙ (ap (λ (n : ℕ). n ∷ length r.history ∷ r.numbers ∷ least_of r.setting.league r.posted ∷ []) new ∙ sym r.words) in
-          (
+          ap Words r.words ∙ (ap (λ (n : ℕ). n ∷ length r.history ∷ r.numbers ∷ least_of r.setting.league r.posted ∷ []) new ∙ sym r.words) in (
             v,
             keeps,
             tt,
@@ -100,8 +98,7 @@ commit_keeps slots id m version live settled added legal long s r sized at fits 
     let f = r.seats id v at live in
     let grows : length g ≡ length r.history + 1 = omega (arith, ap length added.one_more, length-append before (added.entry ∷ []), ap length k.0) in
     let P : Setting → Type 0 = λ t. IsLegal t.league t.room g in
-    let Q : List Entry → Type 0 = λ l. Added v.held l g in
-    (
+    let Q : List Entry → Type 0 = λ l. Added v.held l g in (
       w,
       keeps,
       tt,
@@ -138,9 +135,8 @@ post_keeps slots id m least live e is s r sized at fits =
     let now : least_of r.setting.league (r.posted ++ x ∷ []) ≡ least_of r.setting.league r.history = ap (least_of r.setting.league) (sym added.one_more) in
     let told : least ≡ least_of r.setting.league r.history = is ∙ (ap (λ (t : Setting). least_of t.league h) f.setting_is ∙ ap (least_of r.setting.league) holder.0) in
     let lower : min (least_of r.setting.league r.posted) least ≡ least_of r.setting.league r.history =
-        (let a : ℕ = least_of r.setting.league r.posted in let b : ℕ = least_of r.setting.league r.history in let c : ℕ = least_of r.setting.league (r.posted ++ x ∷ []) in omega arith) in
-    let Words : List ℕ → List ℕ = λ l. set l 3 (min (slice_index l 3) least) in
-    (
+    (let a : ℕ = least_of r.setting.league r.posted in let b : ℕ = least_of r.setting.league r.history in let c : ℕ = least_of r.setting.league (r.posted ++ x ∷ []) in omega arith) in
+    let Words : List ℕ → List ℕ = λ l. set l 3 (min (slice_index l 3) least) in (
       w,
       keeps,
       tt,
@@ -176,8 +172,7 @@ leave_keeps slots id m live settled has s r sized at fits =
     let k = settled_knows r.posted r.history r.numbers v.held v.given v.stage settled o.holder in
     let f = r.seats id v at live in
     let F : List Entry → Type 0 = λ l. Fits r.setting l (length l) r.numbers w in
-    let G : List Entry → Type 0 = λ l. Fits r.setting l (length r.history) r.numbers w in
-    (
+    let G : List Entry → Type 0 = λ l. Fits r.setting l (length r.history) r.numbers w in (
       w,
       gives,
       tt,
@@ -195,8 +190,7 @@ quit_keeps slots id m live settled has s r sized at fits =
     let o = owned r.setting r.posted r.history r.turn r.numbers r.home s.views id v r.turns at (settled_not_away v.stage settled) in
     let k = settled_knows r.posted r.history r.numbers v.held v.given v.stage settled o.holder in
     let f = r.seats id v at live in
-    let G : List Entry → Type 0 = λ l. Fits r.setting l (length r.history) r.numbers v in
-    (
+    let G : List Entry → Type 0 = λ l. Fits r.setting l (length r.history) r.numbers v in (
       w,
       gives,
       tt,
@@ -221,8 +215,7 @@ count_keeps slots id m live settled s r sized at fits =
     let B : ℕ → Type 0 = λ b. callers_below b h in
     let C : List Entry → Type 0 = λ l. callers_below r.numbers l in
     let O : ℕ → Type 0 = λ b. (x : ℕ) → times x v.held ≤ once_below x b in
-    let given = f.given in let few = r.few in
-    (
+    let given = f.given in let few = r.few in (
       w,
       keeps,
       tt,
@@ -259,8 +252,7 @@ draw_keeps slots id m next live e is few s r sized at fits =
     let after = f.knows.after in
     let P' : List Entry → Type 0 = λ l. callers_below r.numbers l in
     let below : callers_below r.numbers after = callers_after r.numbers v.seen after (subst P' (sym holder.1 ∙ f.knows.begins) r.callers) in
-    let mine : (x : ℕ) → x < r.numbers → times x (v.given ∷ []) ≡ 0 = λ x less. times_own v.given x (omega arith) in
-    (
+    let mine : (x : ℕ) → x < r.numbers → times x (v.given ∷ []) ≡ 0 = λ x less. times_own v.given x (omega arith) in (
       w,
       keeps,
       tt,

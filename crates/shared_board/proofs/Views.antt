@@ -169,9 +169,9 @@ pub owned : (s : Setting) (posted history : List Entry) (turn numbers : ℕ) (ho
 owned s posted history turn numbers home views id v (inl free) at ne = absurd (ne (free.all_away id v at))
 owned s posted history turn numbers home views id v (inr held) at ne = dite (ℕ_discrete id held.seat)
     (λ e.
-        let same : v ≡ held.view = some-injective v held.view (sym at ∙ (ap (get_elem? views) e ∙ held.there)) in
-        let P : View → Type 0 = λ u. IsHolder posted history numbers u.held u.given u.stage in
-        record { turn_is = held.turn_is; home_is = held.home_is; holder = subst P (sym same) held.holder; others_away = λ j u other at'. held.others_away j u (λ q. other (q ∙ sym e)) at' })
+    let same : v ≡ held.view = some-injective v held.view (sym at ∙ (ap (get_elem? views) e ∙ held.there)) in
+    let P : View → Type 0 = λ u. IsHolder posted history numbers u.held u.given u.stage in
+    record { turn_is = held.turn_is; home_is = held.home_is; holder = subst P (sym same) held.holder; others_away = λ j u other at'. held.others_away j u (λ q. other (q ∙ sym e)) at' })
     (λ other. absurd (ne (held.others_away id v other at)))
 
 -- a seat that is away isn't the holder

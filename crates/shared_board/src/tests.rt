@@ -83,7 +83,11 @@ fn two_seats_see_each_others_changes(rt: HostRuntime) -> Result<(), Fail> {
 
 /// The entry at an index, where there is one.
 fn entry(board: &Board, i: u64) -> Option<Entry> {
-    if i < board.version() { Some(board.entry(i)) } else { None }
+    if i < board.version() {
+        Some(board.entry(i))
+    } else {
+        None
+    }
 }
 
 #[test]

@@ -47,7 +47,12 @@ impl Shared {
         ensures took { MatchBool result (Took place.old.me place.new.me) (place.new.me ≡ place.old.me) }
     {
         for _ in 0..TRIES {
-            if self.table.shared.compare_exchange::<Take>(place, TURN, 0, 1) == 0 {
+            if self
+                .table
+                .shared
+                .compare_exchange::<Take>(place, TURN, 0, 1)
+                == 0
+            {
                 return true;
             }
             spin_loop();

@@ -15,4 +15,4 @@ pub returns : goal.returns
 returns g c =
     let P = λ (a : SeatValue). ClosedBy a (record { board = c.in-Some.board; whole = Rattle.std.proofs.Common.eqb c.from.result c.count-numbers.result }) in
     subst P c.seat.view_is
-        (closed _ _ _ _ _ _ c.seat.inside.seen c.seat.inside.accepted _ c.from.result c.in-Some.board c.seat.invariant c.take.ensures.took c.count-numbers.ensures.counted c.in-Some.ensures.2 c.from.ensures)
+    (closed _ _ _ _ _ _ c.seat.inside.seen c.seat.inside.accepted _ c.from.result c.in-Some.board c.seat.invariant c.take.ensures.took c.count-numbers.ensures.counted c.in-Some.ensures.2 c.from.ensures)

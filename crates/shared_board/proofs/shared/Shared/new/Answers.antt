@@ -13,7 +13,7 @@ new-requires c =
     let b : Book = c.args.board in
     let limits : IsLeague b.league = subst IsLeague c.league.ensures c.teams.ensures.limits in
     let best : c.number_of-best.result ≡ least_of b.league [] =
-        c.number_of-best.ensures ∙ (ap as_number c.best.ensures.value ∙ (number_of_best b.league b.history ∙ ap (least_of b.league) c.requires)) in
+    c.number_of-best.ensures ∙ (ap as_number c.best.ensures.value ∙ (number_of_best b.league b.history ∙ ap (least_of b.league) c.requires)) in
     let items : c.push_reserved.new.self.items ≡ Some b ∷ [] = c.push_reserved.ensures.items ∙ ap (λ (l : List (Option Book)). l ++ Some b ∷ []) c.in_ok-slots.ensures.items in
     let key : c.of-key.result.value ≡ b = c.of-key.ensures in
     let P : Book → List (Option Book) → Type 0 = λ k l. Ruled (opening (0 ∷ 0 ∷ 1 ∷ c.number_of-best.result ∷ []) l (first_view k)) in
