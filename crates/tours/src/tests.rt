@@ -1,6 +1,9 @@
-use crate::{repeats, runs_over, travel, travel_of};
-use fixtures::{Game, Schedule, berger, from_games};
-use league::{League, circular, constant, read_league};
+use crate::{
+    repeats, repeats_part, repeats_with, runs_over, runs_part, travel, travel_around, travel_of,
+    travel_part,
+};
+use fixtures::{Game, Schedule, Touched, berger, from_games, start};
+use league::{League, SlotSet, TeamSet, circular, constant, read_league};
 use std::alloc::Global;
 use std::test::Fail;
 
@@ -165,5 +168,127 @@ fn travel_at_other_distances(rt: HostRuntime) -> Result<(), Fail> {
         br#"{"format":1,"teams":["T1","T2","T3","T4"],"distances":[[0,1000000,1000000,1000000],[1000000,0,1000000,1000000],[1000000,1000000,0,1000000],[1000000,1000000,1000000,0]]}"#,
     )?;
     assert_eq!(rt; costs_of(&start, &far), Some((21_000_000, 0, 0)));
+    Ok(())
+}
+
+/// Wholes and parts of one schedule, for the same touched cells.
+struct Counts {
+    travel: u64,
+    travel_part: u64,
+    travel_around: u64,
+    runs: u64,
+    runs_part: u64,
+    repeats: u64,
+    repeats_part: u64,
+    repeats_with: u64,
+}
+
+/// All counts, where the league has as many teams as the schedule.
+fn counts_of(schedule: &Schedule, league: &League, touched: Touched) -> Option<Counts> {
+    if schedule.teams() != league.teams() {
+        return None;
+    }
+    Some(Counts {
+        travel: travel(schedule, league),
+        travel_part: travel_part(schedule, league, touched),
+        travel_around: travel_around(schedule, league, touched),
+        runs: runs_over(schedule, league),
+        runs_part: runs_part(schedule, league, touched),
+        repeats: repeats(schedule),
+        repeats_part: repeats_part(schedule, touched),
+        repeats_with: repeats_with(schedule, touched),
+    })
+}
+
+/// Whether a part changed by as much as its whole.
+fn follows(old: u64, new: u64, old_part: u64, new_part: u64) -> bool {
+    new.wrapping_add(old_part) == old.wrapping_add(new_part)
+}
+
+/// Whether each part changed by as much as its whole.
+fn all_follow(old: &Counts, new: &Counts) -> bool {
+    follows(old.travel, new.travel, old.travel_part, new.travel_part)
+        && follows(old.travel, new.travel, old.travel_around, new.travel_around)
+        && follows(old.runs, new.runs, old.runs_part, new.runs_part)
+        && follows(old.repeats, new.repeats, old.repeats_part, new.repeats_part)
+        && follows(old.repeats, new.repeats, old.repeats_with, new.repeats_with)
+}
+
+/// Exchanges the homes of two teams, and tells whether the parts follow.
+fn homes_follow(schedule: &mut Schedule, league: &League, i: u8, j: u8) -> Option<bool> {
+    if i == j || i >= schedule.teams() || j >= schedule.teams() {
+        return None;
+    }
+    let touched = Touched {
+        teams: TeamSet::empty().with(i).with(j),
+        rounds: SlotSet::empty()
+            .with(schedule.round_of(i, j))
+            .with(schedule.round_of(j, i)),
+    };
+    let old = counts_of(schedule, league, touched)?;
+    schedule.exchange_homes(i, j);
+    let new = counts_of(schedule, league, touched)?;
+    Some(all_follow(&old, &new))
+}
+
+#[test]
+fn parts_follow_exchanges_of_homes(rt: HostRuntime) -> Result<(), Fail> {
+    let alloc = rt.alloc();
+    for half in 2..=20 {
+        let league = circular(alloc, 2 * half)?;
+        let mut schedule = start(alloc, &league)?;
+        for i in 1..2 * half {
+            assert_eq!(rt; homes_follow(&mut schedule, &league, i - 1, i), Some(true));
+        }
+    }
+    Ok(())
+}
+
+/// Travel around touched rounds, and the runs that touch them, where the league has as many teams as the schedule.
+fn parts_of(schedule: &Schedule, league: &League, touched: Touched) -> Option<(u64, u64)> {
+    if schedule.teams() != league.teams() {
+        return None;
+    }
+    Some((
+        travel_part(schedule, league, touched),
+        runs_part(schedule, league, touched),
+    ))
+}
+
+#[test]
+fn parts_of_last_two_rounds(rt: HostRuntime) -> Result<(), Fail> {
+    let alloc = rt.alloc();
+    let league = league_of(alloc, 2)?;
+    let touched = Touched {
+        teams: TeamSet::below(4),
+        rounds: SlotSet::empty().with(4).with(5),
+    };
+    assert_eq!(rt;
+        parts_of(&schedule_of(alloc, START)?, &league, touched),
+        Some((14, 2))
+    );
+    assert_eq!(rt;
+        parts_of(&schedule_of(alloc, ROUNDS_4_5)?, &league, touched),
+        Some((12, 0))
+    );
+    Ok(())
+}
+
+#[test]
+fn parts_of_two_teams(rt: HostRuntime) -> Result<(), Fail> {
+    let alloc = rt.alloc();
+    let league = circular(alloc, 4)?;
+    let touched = Touched {
+        teams: TeamSet::empty().with(0).with(1),
+        rounds: SlotSet::empty().with(1).with(4),
+    };
+    assert_eq!(rt;
+        parts_of(&schedule_of(alloc, START)?, &league, touched),
+        Some((10, 0))
+    );
+    assert_eq!(rt;
+        parts_of(&schedule_of(alloc, HOMES_0_1)?, &league, touched),
+        Some((6, 0))
+    );
     Ok(())
 }
