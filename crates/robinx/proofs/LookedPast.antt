@@ -13,7 +13,7 @@ use Rattle.league.specs.declared.rule.RuleBody.TheVariants.{Ca1, Ca2, Ca3, Ca4, 
 use Rattle.league.specs.declared.rule.Side.TheVariants.{Any}
 use Rattle.fixtures.specs.declared.game.Cell.{Cell}
 use Rattle.fixtures.specs.Games.{Games, round_count, round_of, cell, is_home, IsPair, IsDoubleRoundRobin}
-use Rattle.fixtures.specs.Changes.{DiffersOnlyAround, IsKeptOrMeets}
+use Rattle.fixtures.specs.Changes.{DiffersOnlyAround}
 use Rattle.fixtures.proofs.ForCallers.{is_cell}
 use Rattle.robinx.specs.Deviations.{over, deviation}
 use Rattle.robinx.specs.Touches.{has_touched_team}

@@ -1,6 +1,5 @@
 -- A game keeps its round where its home team's cell in that round stays.
-use Rattle.std.proofs.Common.{◌≡◌, ℕ, true, Bool, refl, sym, ◌∙◌, subst}
-use Rattle.fixtures.specs.declared.game.Cell.{Cell}
+use Rattle.std.proofs.Common.{◌≡◌, ℕ, true, refl, ◌∙◌, subst}
 use Rattle.fixtures.specs.Games.{Games, round_of, cell, IsPair, IsCell, IsDoubleRoundRobin}
 use Rattle.fixtures.proofs.ForCallers.{cell_is, is_cell}
 

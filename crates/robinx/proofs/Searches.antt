@@ -1,7 +1,7 @@
 -- Loops that look in a set, or in a list of games, for one that passes a test.
-use Rattle.std.proofs.Common.{◌≡◌, ℕ, ◌+◌, ◌-◌, ◌<◌, ◌&&◌, ◌||◌, ◌==◌, not, nat_lt, Bool, true, false, List, take, length, get_or, Some, refl, sym, ◌∙◌, ap, inl, inr, arith}
+use Rattle.std.proofs.Common.{◌≡◌, ℕ, ◌+◌, ◌-◌, ◌&&◌, ◌||◌, ◌==◌, not, nat_lt, Bool, true, false, List, take, get_or, Some, refl, sym, ◌∙◌, ap, inl, inr, arith}
 use Rattle.std.specs.List.{slice_get, list_any}
-use Rattle.std.proofs.lemmas.Bool.{cases_eq, ne_eqb, and_from, and_right, or_from, lt-ltb, false≢true}
+use Rattle.std.proofs.lemmas.Bool.{cases_eq, ne_eqb, and_from, or_from, lt-ltb, false≢true}
 use Rattle.std.proofs.lemmas.List.Folds.{list_any_more, list_any_at}
 use Rattle.std.proofs.lemmas.Option.{slice_get_within, get_or_from_slice_get}
 use Rattle.league.specs.Sets.{has, IsBelow, IsWithoutLowest}

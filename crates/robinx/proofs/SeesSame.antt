@@ -7,7 +7,6 @@ use Rattle.std.proofs.lemmas.List.Sums.{sum_by-cons}
 use Rattle.league.specs.Sums.{sum_below, sum_where, count_where}
 use Rattle.league.specs.declared.rule.Pairing.{Pairing}
 use Rattle.league.specs.declared.rule.Side.{Side}
-use Rattle.league.specs.declared.rule.Side.TheVariants.{Any}
 use Rattle.league.proofs.ForCallers.{sum_below_same, sum_where_same, count_where_same}
 use Rattle.fixtures.specs.Games.{Games, round_count, round_of, cell, IsPair}
 use Rattle.robinx.specs.Deviations.{over, is_on_side, is_counted, games_of_team, games_in_window, games_in_round, is_break, breaks, rounds_between, listed_games_in, over_in_windows, short_pairs}

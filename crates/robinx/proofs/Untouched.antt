@@ -1,7 +1,7 @@
 -- A rule that isn't touched keeps its deviation.
-use Rattle.std.proofs.Common.{◌≡◌, ℕ, ◌-◌, ◌<◌, ◌≤◌, ◌+◌, ◌&&◌, ◌||◌, ◌⊎◌, ◌==◌, not, Bool, true, false, List, [], ◌∷◌, inl, inr, refl, sym, ◌∙◌, ap, arith}
+use Rattle.std.proofs.Common.{◌≡◌, ℕ, ◌-◌, ◌<◌, ◌+◌, ◌&&◌, ◌||◌, ◌⊎◌, ◌==◌, not, Bool, true, false, List, [], ◌∷◌, inl, inr, refl, sym, ◌∙◌, ap, arith}
 use Rattle.std.specs.List.{AllByRecursion, list_any}
-use Rattle.std.proofs.lemmas.Bool.{and_cases, and_from, or_parts, cases_eq, ne_eqb, false≢true}
+use Rattle.std.proofs.lemmas.Bool.{and_cases, or_parts, cases_eq, ne_eqb, false≢true}
 use Rattle.league.specs.Sets.{has}
 use Rattle.league.specs.Sums.{any_below}
 use Rattle.league.specs.Games.{IsGameFor}
@@ -14,7 +14,7 @@ use Rattle.league.proofs.ForCallers.{any_below_fails}
 use Rattle.fixtures.specs.declared.game.Cell.{Cell}
 use Rattle.fixtures.specs.Games.{Games, round_count, round_of, cell, IsPair, IsDoubleRoundRobin}
 use Rattle.fixtures.specs.Changes.{DiffersOnlyIn}
-use Rattle.robinx.specs.Deviations.{listed_games_in, over, deviation}
+use Rattle.robinx.specs.Deviations.{over, deviation}
 use Rattle.robinx.specs.Touches.{has_touched_team, has_touched_slot, has_touched_round, has_touched_game, or_before, touches}
 use Rattle.robinx.proofs.RoundsKept.{round_of-kept}
 use Rattle.robinx.proofs.SeesSame.{SeesSame, SeesSameBreaks, limited-same, together-same, each-same, windows-same, breaks_of_each-same, breaks_of_all-same, separation-same, listed_games_in-same}

@@ -172,6 +172,7 @@ fn travel_at_other_distances(rt: HostRuntime) -> Result<(), Fail> {
 }
 
 /// Wholes and parts of one schedule, for the same touched cells.
+#[derive(Drop)]
 struct Counts {
     travel: u64,
     travel_part: u64,

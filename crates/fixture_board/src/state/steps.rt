@@ -124,9 +124,9 @@ impl State {
         requires last { CanTakeBack self.old.schedule change }
         requires known { self.old.cost ≡ cost_of league.now self.old.schedule }
         ensures { self.new ≡ record self.old {
-            schedule = shifted self.old.schedule change;
-            pins = taken_back self.old.pins change;
-            cost = cost_of league.now (shifted self.old.schedule change);
+          schedule = shifted self.old.schedule change;
+          pins = taken_back self.old.pins change;
+          cost = cost_of league.now (shifted self.old.schedule change);
         } }
     {
         match change {
