@@ -1,13 +1,16 @@
 -- The leagues that are made are leagues.
-use Rattle.std.proofs.Common.{◌≡◌, ℕ, ◌%◌, ◌<◌, ◌≤◌, ◌&&◌, ◌==◌, nat_le, List, [], ◌∷◌, map, true, sym, ◌∙◌, zero-add, arith}
-use Rattle.std.proofs.lemmas.Bool.{and_parts, leb-true}
+use Rattle.std.proofs.Common.{◌≡◌, ℕ, zero, suc, ◌+◌, ◌%◌, ◌<◌, ◌≤◌, ◌&&◌, ◌==◌, nat_le, List, [], ◌∷◌, map, true, refl, sym, ◌∙◌, zero-add, arith}
+use Rattle.std.proofs.lemmas.Bool.{agree_below_at, and_from, and_parts, leb-true}
 use Rattle.std.proofs.lemmas.Bool.Decides.{nat_tests}
 use Rattle.std.proofs.lemmas.List.FromFn.{get_or-map-range_with_len, length-map-range_with_len}
-use Rattle.std.specs.List.{range_with_len}
+use Rattle.std.specs.Fmt.{digits}
+use Rattle.std.specs.List.{list_all, range_with_len}
 use Rattle.league.specs.declared.made.Layout.{Layout}
 use Rattle.league.specs.declared.made.Layout.TheVariants.{Circular, Constant}
+use Rattle.league.specs.declared.rule.Rule.{Rule}
 use Rattle.league.specs.Limits.{distance_of, is_team_count, IsTable}
 use Rattle.league.specs.League.{league_data, IsLeague}
+use Rattle.league.specs.Members.{is_team_name}
 use Rattle.league.specs.Made.{apart, made_name, made_names, made_row, made_rows}
 use Rattle.league.proofs.Tables.{HasColumns, IsTable-from_within}
 
@@ -34,20 +37,39 @@ unfolding apart
 symmetric Circular n a b = omega arith
 symmetric Constant n a b = grind (arith, nat_tests)
 
+most_teams : (n : ℕ) → is_team_count n ≡ true → n ≤ 40
+most_teams n counted = leb-true n 40 (and_parts (nat_le 4 n) (nat_le n 40) (and_parts (n % 2 == 0) (nat_le 4 n && nat_le n 40) counted).1).1
+
 IsTable-made_rows : (layout : Layout) (n : ℕ) → is_team_count n ≡ true → IsTable n (made_rows layout n)
 IsTable-made_rows layout n counted =
     IsTable-from_within n (made_rows layout n) counted (length-map-range_with_len (made_row layout n) 0 n) (columns layout n (range_with_len 0 n))
-    (λ a b a_below b_below. rw (distance_of-made_rows layout n a b a_below b_below) (near layout n a b (leb-true n 40 (and_parts (nat_le 4 n) (nat_le n 40) (and_parts (n % 2 == 0) (nat_le 4 n && nat_le n 40) counted).1).1)))
+    (λ a b a_below b_below. rw (distance_of-made_rows layout n a b a_below b_below) (near layout n a b (most_teams n counted)))
     (λ a below. distance_of-made_rows layout n a a below below ∙ diagonal layout n a)
     (λ a b a_below b_below. distance_of-made_rows layout n a b a_below b_below ∙ symmetric layout n a b ∙ sym (distance_of-made_rows layout n b a b_below a_below))
 
-pub IsLeague-made : (layout : Layout) (n : ℕ) → is_team_count n ≡ true → IsLeague (league_data (made_names n) (made_rows layout n) 3 100 [])
+made_name_passes : (team : ℕ) → team < 40 → is_team_name (made_name team) ≡ true
+unfolding digits
+made_name_passes team below = agree_below_at (λ t. is_team_name (made_name t)) (λ t. true) 40 team refl below
+
+made_names_pass : (count from : ℕ) → from + count ≤ 40 → list_all is_team_name (map made_name (range_with_len from count)) ≡ true
+made_names_pass zero from most = refl
+made_names_pass (suc count) from most =
+    and_from (is_team_name (made_name from)) (list_all is_team_name (map made_name (range_with_len (from + 1) count)))
+    (made_name_passes from (omega arith)) (made_names_pass count (from + 1) (omega arith))
+
+IsLeague-made : (layout : Layout) (n : ℕ) → is_team_count n ≡ true → IsLeague (league_data (made_names n) (made_rows layout n) 3 100 [])
 IsLeague-made layout n counted = record {
   table = rw (length-map-range_with_len made_name 0 n) (IsTable-made_rows layout n counted);
   at_most_least = omega arith;
   at_most_most = omega arith;
   weight_least = omega arith;
   weight_most = omega arith;
+  names = made_names_pass n 0 (omega (arith, most_teams n counted));
   rule_count = omega arith;
   rules = tt;
 }
+
+pub IsLeague-as_made : (layout : Layout) (n : ℕ) (names distances : List (List ℕ)) (rules : List Rule) → is_team_count n ≡ true
+    → names ≡ made_names n → distances ≡ made_rows layout n → rules ≡ [] → IsLeague (league_data names distances 3 100 rules)
+IsLeague-as_made layout n names distances rules counted same_names same_distances no_rules =
+    rw (same_names, same_distances, no_rules) (IsLeague-made layout n counted)

@@ -1,6 +1,6 @@
 -- A league, without where it lies in memory, and the league that a text stands for.
-use Rattle.std.specs.Prelude.{ℕ, ◌≤◌, ◌+◌, List, [], ◌∷◌, length, slice_index_or, Result, Ok}
-use Rattle.std.specs.List.{AllByRecursion}
+use Rattle.std.specs.Prelude.{ℕ, ◌≤◌, ◌+◌, List, [], ◌∷◌, length, slice_index_or, IsTrue, Result, Ok}
+use Rattle.std.specs.List.{list_all, AllByRecursion}
 use Rattle.serde_json.specs.Data.{Data, Items, no_items, item}
 use Rattle.serde_json.specs.Events.{items_len}
 use Rattle.league.specs.declared.fault.Field.TheVariants.{Whole}
@@ -9,7 +9,7 @@ use Rattle.league.specs.declared.fault.LeagueFault.TheVariants.{NotJson, WrongKi
 use Rattle.league.specs.declared.rule.Rule.{Rule}
 use Rattle.league.specs.Json.{json_of, is_object}
 use Rattle.league.specs.Reading.{◌>>=◌, or_fault, unless}
-use Rattle.league.specs.Members.{format_of, teams_of, distances_of, at_most_of, hard_weight_of, rules_of}
+use Rattle.league.specs.Members.{is_team_name, format_of, teams_of, distances_of, at_most_of, hard_weight_of, rules_of}
 use Rattle.league.specs.Limits.{distance_of, checked, IsTable}
 use Rattle.league.specs.RuleLimits.{IsRuleFor}
 use Rattle.league.specs.Rules.{class_of, rule_of_class}
@@ -43,6 +43,7 @@ pub record IsLeague (l : LeagueData) : Type 0 where
   pub at_most_most : l.at_most ≤ 78
   pub weight_least : 1 ≤ l.hard_weight
   pub weight_most : l.hard_weight ≤ 1000000
+  pub names : IsTrue (list_all is_team_name l.names)
   pub rule_count : length l.rules ≤ 256
   pub rules : AllByRecursion (IsRuleFor (length l.names)) l.rules
 

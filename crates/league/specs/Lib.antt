@@ -1,6 +1,7 @@
 pub mod Json
 pub mod Reading
 pub mod Views
+pub mod Rows
 pub mod Members
 pub mod Messages
 pub mod Limits

@@ -6,13 +6,10 @@ ghost use Rattle.league.specs.Limits.{distance_of, is_team_count, is_square, is_
 ghost use Rattle.league.specs.Views.{rows};
 
 use crate::fault::LeagueFault;
-
-const MAX_DISTANCE: u64 = 1_000_000;
-
-const MAX_RULES: usize = 256;
+use crate::limits::{MAX_DISTANCE, MAX_RULES, MAX_TEAMS, MIN_TEAMS};
 
 /// The number at column `b` of row `a`.
-pub fn distance_at(table: &[Vec<u64>], a: usize, b: usize) -> u64
+fn distance_at(table: &[Vec<u64>], a: usize, b: usize) -> u64
     requires row { a < length (rows table.now) }
     requires column { b < length (slice_index_or (rows table.now) a []) }
     ensures { result ≡ distance_of (rows table.now) a b }
@@ -24,7 +21,7 @@ pub fn distance_at(table: &[Vec<u64>], a: usize, b: usize) -> u64
 pub fn is_team_count(n: usize) -> bool
     ensures { result ≡ is_team_count n }
 {
-    n % 2 == 0 && (4..=40).contains(&n)
+    n % 2 == 0 && (usize::from(MIN_TEAMS)..=usize::from(MAX_TEAMS)).contains(&n)
 }
 
 fn is_square(n: usize, table: &[Vec<u64>]) -> bool

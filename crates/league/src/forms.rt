@@ -1,6 +1,6 @@
 //! The forms of JSON values that a league is made of.
 
-ghost use Rattle.std.specs.Prelude.{◌≡◌, length, IfOk, option_map};
+ghost use Rattle.std.specs.Prelude.{◌≡◌, length, IsTrue, IfOk, IfSome, option_map};
 ghost use Rattle.std.specs.List.{list_all};
 ghost use Rattle.serde_json.specs.Events.{items_len};
 ghost use Rattle.serde_json.specs.View.{view, items_view};
@@ -8,6 +8,7 @@ ghost use Rattle.league.specs.Json.{number_within, objects, all_objects};
 ghost use Rattle.league.specs.Members.{is_name_byte, is_team_name, team_name, team_names, distance_row, distance_rows};
 ghost use Rattle.league.specs.Views.{texts, rows};
 
+use crate::limits::MAX_NAME;
 use serde_json::Value;
 use std::alloc::{AllocError, Global};
 
@@ -29,18 +30,20 @@ fn has_name_bytes(name: &[u8]) -> bool
 fn is_team_name(name: &str) -> bool
     ensures { result ≡ is_team_name name.now }
 {
-    (1..=40).contains(&name.len()) && has_name_bytes(name.as_bytes())
+    (1..=MAX_NAME).contains(&name.len()) && has_name_bytes(name.as_bytes())
 }
 
 fn team_name(value: &Value) -> Option<&str>
-    ensures { option_map (λ name. name.now) result ≡ team_name (view value.now) }
+    ensures value { option_map (λ name. name.now) result ≡ team_name (view value.now) }
+    ensures fits { IfSome result (λ name. IsTrue (is_team_name name.now)) }
 {
     value.as_str().filter(|name| is_team_name(name))
 }
 
 /// The names of an array of team names.
 pub fn team_names(alloc: Global, value: &Value) -> Result<Option<Vec<String>>, AllocError>
-    ensures { IfOk result (λ o. option_map (λ names. texts names.items) o ≡ team_names (view value.now)) }
+    ensures value { IfOk result (λ o. option_map (λ names. texts names.items) o ≡ team_names (view value.now)) }
+    ensures fit { IfOk result (λ o. IfSome o (λ names. IsTrue (list_all is_team_name (texts names.items)))) }
 {
     let Some(list) = value.as_array() else {
         return Ok(None);

@@ -1,9 +1,10 @@
 //! A league in memory.
 
-ghost use Rattle.std.specs.Prelude.{◌≡◌, ◌<◌, ◌≤◌, ◌%◌, Some, length, slice_get, IfOk};
+ghost use Rattle.std.specs.Prelude.{◌≡◌, ℕ, ◌<◌, ◌≤◌, ◌%◌, ◌++◌, Some, length, slice_get, slice_index, IfOk, OnOk};
+ghost use Rattle.league.specs.Limits.{IsTable};
+ghost use Rattle.league.specs.Rows.{table_of};
 ghost use Rattle.league.specs.Views.{texts, rows};
 
-use crate::checks::distance_at;
 use crate::rule::Rule;
 use std::alloc::{AllocError, Global};
 use std::marker::Model;
@@ -17,22 +18,24 @@ pub(crate) const DEFAULT_HARD_WEIGHT: u32 = 100;
 #[derive(Debug, Drop)]
 pub struct League {
     names: Vec<String>,
-    // kept as they were read; each is at most 1,000,000
-    distances: Vec<Vec<u64>>,
+    // the rows of the table, one after another
+    distances: Vec<u32>,
     at_most: u8,
     hard_weight: u32,
     rules: Vec<Rule>,
 }
 
 impl Model for League {
+    ghost use Rattle.std.specs.Prelude.{length};
     ghost use Rattle.league.specs.League.{LeagueData, league_data, IsLeague};
-    ghost use Rattle.league.specs.Views.{texts, rows};
+    ghost use Rattle.league.specs.Rows.{table_of};
+    ghost use Rattle.league.specs.Views.{texts};
 
     ghost Value = { LeagueData };
 
-    ghost view = { λ l. league_data (texts l.names.items) (rows l.distances.items) l.at_most l.hard_weight l.rules.items };
+    ghost view = { λ l. league_data (texts l.names.items) (table_of (length (texts l.names.items)) l.distances.items) l.at_most l.hard_weight l.rules.items };
 
-    ghost invariant = { λ l. IsLeague (league_data (texts l.names.items) (rows l.distances.items) l.at_most l.hard_weight l.rules.items) };
+    ghost invariant = { λ l. IsLeague (league_data (texts l.names.items) (table_of (length (texts l.names.items)) l.distances.items) l.at_most l.hard_weight l.rules.items) };
 }
 
 impl League {
@@ -40,22 +43,24 @@ impl League {
     ghost use Rattle.league.specs.RuleLimits.{IsRuleFor};
 
     pub(crate) fn new(
+        alloc: Global,
         names: Vec<String>,
-        distances: Vec<Vec<u64>>,
+        distances: &[Vec<u64>],
         at_most: u8,
         hard_weight: u32,
         rules: Vec<Rule>,
-    ) -> League
-        requires { IsLeague (league_data (texts names.items) (rows distances.items) at_most hard_weight rules.items) }
-        ensures { result ≡ league_data (texts names.items) (rows distances.items) at_most hard_weight rules.items }
+    ) -> Result<League, AllocError>
+        requires { IsLeague (league_data (texts names.items) (rows distances.now) at_most hard_weight rules.items) }
+        ensures { IfOk result (λ l. l ≡ league_data (texts names.items) (rows distances.now) at_most hard_weight rules.items) }
     {
-        League {
+        let distances = one_after_another(alloc, names.len(), distances)?;
+        Ok(League {
             names,
             distances,
             at_most,
             hard_weight,
             rules,
-        }
+        })
     }
 
     /// How many teams there are: even, and from 4 to 40.
@@ -84,7 +89,7 @@ impl League {
         ensures value { result ≡ distance self.now a b }
         ensures near { result ≤ 1000000 }
     {
-        distance_at(&self.distances, a.into(), b.into()) as u32
+        self.distances[usize::from(a) * self.names.len() + usize::from(b)]
     }
 
     /// How many rounds in a row a team may play at home, and how many away.
@@ -127,10 +132,42 @@ impl League {
         ensures { IfOk result (λ l. l ≡ self.now) }
     {
         let names = duplicate_names(alloc, &self.names)?;
-        let distances = duplicate_rows(alloc, &self.distances)?;
+        let distances = Vec::from_slice(alloc, &self.distances)?;
         let rules = duplicate_rules(alloc, &self.rules)?;
-        Ok(League::new(names, distances, self.at_most, self.hard_weight, rules))
+        Ok(League {
+            names,
+            distances,
+            at_most: self.at_most,
+            hard_weight: self.hard_weight,
+            rules,
+        })
     }
+}
+
+// the numbers of a table, row by row
+fn one_after_another(
+    alloc: Global,
+    teams: usize,
+    table: &[Vec<u64>],
+) -> Result<Vec<u32>, AllocError>
+    requires { IsTable teams (rows table.now) }
+    ensures { IfOk result (λ numbers. table_of teams numbers.items ≡ rows table.now) }
+{
+    let mut numbers = Vec::with_capacity(alloc, teams * teams)?;
+    for row in table {
+        push_row(&mut numbers, row)?;
+    }
+    Ok(numbers)
+}
+
+fn push_row(numbers: &mut Vec<u32>, row: &[u64]) -> Result<(), AllocError>
+    requires { (b : ℕ) → slice_index row.now b ≤ 1000000 }
+    ensures { OnOk result (numbers.new.items ≡ numbers.old.items ++ row.now) }
+{
+    for distance in row {
+        numbers.push(*distance as u32)?;
+    }
+    Ok(())
 }
 
 fn duplicate_names(alloc: Global, names: &[String]) -> Result<Vec<String>, AllocError>
@@ -139,16 +176,6 @@ fn duplicate_names(alloc: Global, names: &[String]) -> Result<Vec<String>, Alloc
     let mut copy = Vec::with_capacity(alloc, names.len())?;
     for name in names {
         copy.push(String::from_str(alloc, name.as_str())?)?;
-    }
-    Ok(copy)
-}
-
-fn duplicate_rows(alloc: Global, table: &[Vec<u64>]) -> Result<Vec<Vec<u64>>, AllocError>
-    ensures { IfOk result (λ copy. rows copy.items ≡ rows table.now) }
-{
-    let mut copy = Vec::with_capacity(alloc, table.len())?;
-    for row in table {
-        copy.push(Vec::from_slice(alloc, row)?)?;
     }
     Ok(copy)
 }

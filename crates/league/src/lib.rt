@@ -6,6 +6,7 @@ mod checks;
 mod fault;
 mod forms;
 mod leagues;
+pub mod limits;
 mod made;
 mod members;
 mod reader;

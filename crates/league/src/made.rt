@@ -74,12 +74,13 @@ fn made(alloc: Global, layout: Layout, n: u8) -> Result<League, LeagueFault>
     let names = made_names(alloc, n)?;
     let distances = made_rows(alloc, layout, n)?;
     Ok(League::new(
+        alloc,
         names,
-        distances,
+        &distances,
         DEFAULT_AT_MOST,
         DEFAULT_HARD_WEIGHT,
         Vec::new(alloc),
-    ))
+    )?)
 }
 
 /// The league of `n` teams T1 to Tn whose homes lie in a circle, each at distance 1 from the next, with at most

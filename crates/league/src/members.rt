@@ -1,15 +1,17 @@
 //! The members of a league's text. One that has to be there is MissingField where it is absent, and each is
 //! WrongKind where it is not of its form.
 
-ghost use Rattle.std.specs.Prelude.{◌≡◌, ◌≤◌, IfOk};
+ghost use Rattle.std.specs.Prelude.{◌≡◌, ◌≤◌, IsTrue, IfOk};
+ghost use Rattle.std.specs.List.{list_all};
 ghost use Rattle.serde_json.specs.View.{view, items_view};
 ghost use Rattle.league.specs.Reading.{Gives, seen};
-ghost use Rattle.league.specs.Members.{format_of, teams_of, distances_of, at_most_of, hard_weight_of, rules_of};
+ghost use Rattle.league.specs.Members.{is_team_name, format_of, teams_of, distances_of, at_most_of, hard_weight_of, rules_of};
 ghost use Rattle.league.specs.Views.{texts, rows};
 
 use crate::fault::{Field, LeagueFault};
 use crate::forms::{distance_rows, number_within, objects, team_names};
 use crate::leagues::{DEFAULT_AT_MOST, DEFAULT_HARD_WEIGHT};
+use crate::limits::{MAX_AT_MOST, MAX_WEIGHT};
 use serde_json::Value;
 use std::alloc::Global;
 
@@ -23,7 +25,8 @@ pub fn format_of(object: &Value) -> Result<u64, LeagueFault>
 }
 
 pub fn teams_of(alloc: Global, object: &Value) -> Result<Vec<String>, LeagueFault>
-    ensures { Gives (λ names. texts names.items) result (teams_of (view object.now)) }
+    ensures value { Gives (λ names. texts names.items) result (teams_of (view object.now)) }
+    ensures fit { IfOk result (λ names. IsTrue (list_all is_team_name (texts names.items))) }
 {
     let member = object
         .get("teams")
@@ -48,7 +51,7 @@ pub fn at_most_of(object: &Value) -> Result<u8, LeagueFault>
     let Some(member) = object.get("at_most") else {
         return Ok(DEFAULT_AT_MOST);
     };
-    match number_within(member, 1, 78) {
+    match number_within(member, 1, MAX_AT_MOST.into()) {
         Some(number) => Ok(number as u8),
         None => Err(LeagueFault::WrongKind(Field::AtMost)),
     }
@@ -62,7 +65,7 @@ pub fn hard_weight_of(object: &Value) -> Result<u32, LeagueFault>
     let Some(member) = object.get("hard_weight") else {
         return Ok(DEFAULT_HARD_WEIGHT);
     };
-    match number_within(member, 1, 1_000_000) {
+    match number_within(member, 1, MAX_WEIGHT.into()) {
         Some(number) => Ok(number as u32),
         None => Err(LeagueFault::WrongKind(Field::HardWeight)),
     }

@@ -45,7 +45,7 @@ fn league_of_data(alloc: Global, value: &Value) -> Result<League, LeagueFault>
     let items = rules_of(value)?;
     check(names.len(), &distances, item_count(items))?;
     let rules = read_rules(alloc, items, names.len() as u8)?;
-    Ok(League::new(names, distances, at_most, hard_weight, rules))
+    Ok(League::new(alloc, names, &distances, at_most, hard_weight, rules)?)
 }
 
 /// Reads a league from its JSON text, an object with these members:

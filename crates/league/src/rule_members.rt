@@ -11,14 +11,11 @@ ghost use Rattle.league.specs.RuleMembers.{text_member, number_set, teams_member
 ghost use Rattle.league.specs.Sets.{IsBelow};
 
 use crate::forms::number_within;
+use crate::limits::{MAX_COUNT, MAX_WEIGHT};
 use crate::rule::{GameList, Pairing, Side, Weight};
 use crate::sets::{SlotSet, TeamSet};
 use serde_json::Value;
 use std::alloc::{AllocError, Global};
-
-const MAX_COUNT: u64 = 10_000;
-
-const MAX_WEIGHT: u64 = 1_000_000;
 
 /// A member that is a string.
 pub fn text_member<'a>(rule: &'a Value, name: &str) -> Option<&'a str>
@@ -95,7 +92,7 @@ pub fn count_member(rule: &Value, name: &str) -> Option<u32>
     ensures value { result ≡ count_member name.now (view rule.now) }
     ensures range { IfSome result IsCount }
 {
-    let number = number_within(rule.get(name)?, 0, MAX_COUNT)?;
+    let number = number_within(rule.get(name)?, 0, MAX_COUNT.into())?;
     Some(number as u32)
 }
 
@@ -197,7 +194,7 @@ fn soft_weight(rule: &Value) -> Option<Weight>
     ensures value { result ≡ soft_weight (view rule.now) }
     ensures range { IfSome result IsWeight }
 {
-    let number = number_within(rule.get("weight")?, 1, MAX_WEIGHT)?;
+    let number = number_within(rule.get("weight")?, 1, MAX_WEIGHT.into())?;
     Some(Weight::Soft(number as u32))
 }
 
