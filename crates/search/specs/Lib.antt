@@ -1,1 +1,4 @@
 pub mod Draws
+pub mod Doors
+pub mod Reports
+pub mod Steps

@@ -1,0 +1,60 @@
+-- What a door to a board tells of it.
+use Rattle.std.specs.Prelude.{◌≡◌, ℕ, List, ◌++◌, length}
+use Rattle.league.specs.League.{LeagueData}
+use Rattle.fixtures.specs.Games.{Games}
+use Rattle.fixture_board.specs.declared.ask.Ask.TheVariants.{Shift}
+use Rattle.fixture_board.specs.declared.ask.Proposal.{Proposal}
+use Rattle.fixture_board.specs.declared.change.Entry.{Entry}
+use Rattle.fixture_board.specs.declared.reply.Reply.{Reply}
+use Rattle.fixture_board.specs.declared.reply.Reply.TheVariants.{Done, No}
+use Rattle.fixture_board.specs.History.{games_of, cost_at, IsLegal}
+use Rattle.fixture_board.specs.Replies.{next_of, reply_of}
+use Rattle.shared_board.specs.declared.shared.Seen.{Seen}
+use Rattle.shared_board.specs.Seats.{SeatValue, copied}
+
+-- the second history begins with the first
+pub record Begins (xs ys : List Entry) : Type 0 where
+  pub rest : List Entry
+  pub is : xs ++ rest ≡ ys
+
+-- how many entries the answer says that it added
+abbrev pub done_count : Reply → ℕ
+done_count (Done at cost) = 1
+done_count (No at why) = 0
+
+-- The answer to a proposal is that of a board that the door may have, at a legal history that begins with what was
+-- seen. What is seen after begins the history after the call.
+pub record Replies (may_have : LeagueData → ℕ → Type 0) (caller : ℕ) (before : List Entry) (proposal : Proposal) (reply : Reply) (after : List Entry) : Type 0 where
+  pub league : LeagueData
+  pub room : ℕ
+  pub history : List Entry
+  pub has : may_have league room
+  pub legal : IsLegal league room history
+  pub begins : Begins before history
+  pub answer : reply ≡ reply_of league room history (Shift proposal)
+  pub seen : Begins after (next_of league room history caller (Shift proposal))
+
+-- A look shows a board that the door may have, at a legal history that begins with what was seen: its version, its cost
+-- and its games. What is seen after begins that history.
+pub record Shows (may_have : LeagueData → ℕ → Type 0) (before : List Entry) (copy : Games) (shown : Seen) (new : Games) (after : List Entry) : Type 0 where
+  pub league : LeagueData
+  pub room : ℕ
+  pub history : List Entry
+  pub has : may_have league room
+  pub legal : IsLegal league room history
+  pub begins : Begins before history
+  pub version : shown.version ≡ length history
+  pub cost : shown.cost ≡ cost_at league history
+  pub copy_is : new ≡ copied copy (games_of league history)
+  pub seen : Begins after history
+
+-- the league and the room of the seat's board
+abbrev pub is_of : SeatValue → LeagueData → ℕ → Type 0
+is_of seat league room = (league ≡ seat.setting.league) × (room ≡ seat.setting.room)
+
+-- the same seat of the same board, which may have seen more
+pub record IsSameSeat (a b : SeatValue) : Type 0 where
+  pub table : a.table ≡ b.table
+  pub number : a.number ≡ b.number
+  pub setting : a.setting ≡ b.setting
+  pub held : a.held ≡ b.held

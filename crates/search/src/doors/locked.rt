@@ -1,0 +1,60 @@
+//! A door to a board under a lock.
+
+use super::shown::show;
+use crate::Door;
+use fixture_board::{Board, Proposal, Reply};
+use fixtures::Schedule;
+use shared_board::Seen;
+use std::sync::{Mutex, Wait};
+
+/// A door to a board under a lock. Between two calls nothing is known of the board, so the history seen stays empty, and
+/// league and room are those of the board that is found.
+#[derive(Drop)]
+pub struct LockedDoor<'a> {
+    pub board: &'a Mutex<Board>,
+    /// The number of the caller.
+    pub caller: u32,
+    /// How many of its proposals were granted.
+    pub dones: u64,
+}
+
+impl Door for LockedDoor<'_> {
+    ghost use Rattle.std.specs.Prelude.{◌≡◌, []};
+    ghost use Rattle.std.proofs.Common.{refl, ◌∙◌};
+
+    ghost stays = { λ d e. d.caller ≡ e.caller };
+
+    ghost granted = { λ d. d.dones };
+
+    ghost seen = { λ _. [] };
+
+    ghost may_have = { λ _ _ _. Unit {0} };
+
+    ghost caller = { λ d. d.caller };
+
+    ghost stays_same = { λ d. refl };
+
+    ghost stays_then = { λ a b c p q. p ∙ q };
+
+    fn look<R: Wait>(&mut self, rt: &R, copy: &mut Schedule) -> Seen {
+        let board = self.board.lock(rt);
+        show(&board, copy)
+    }
+
+    fn propose<R: Wait>(&mut self, rt: &R, proposal: Proposal) -> Reply {
+        let mut board = self.board.lock(rt);
+        let reply = board.propose(self.caller, proposal);
+        if let Reply::Done { .. } = reply {
+            self.dones += 1;
+        }
+        reply
+    }
+
+    fn front<R: Wait>(&mut self, rt: &R) -> u64 {
+        self.board.lock(rt).version()
+    }
+
+    fn dones(&self) -> u64 {
+        self.dones
+    }
+}

@@ -1,0 +1,94 @@
+//! A worker: it draws moves, tries them on its copy of the schedule, and proposes those that the slack lets pass.
+
+ghost use Rattle.std.specs.Prelude.{◌≡◌, ◌+◌, ◌^◌, ◌<◌};
+ghost use Rattle.search.specs.Reports.{IsReport};
+ghost use Rattle.search.specs.Steps.{slack_of};
+
+mod steps;
+
+use crate::{Door, Gate, draw};
+use fixtures::Schedule;
+use league::League;
+use rand_pcg::Lcg64Xsh32;
+use std::sync::Wait;
+use steps::{Told, Trial, refresh, step};
+
+/// What a worker is to do.
+#[derive(Clone, Copy, Debug, PartialEq, Eq)]
+pub struct WorkerPlan {
+    /// Its number among the workers, from 0.
+    pub worker: u32,
+    /// The generator's first state. The number of the worker chooses its stream.
+    pub seed: u64,
+    pub steps: u32,
+    /// By how much the score may rise at the first step. It falls in a line to 0.
+    pub slack: u64,
+}
+
+/// How many proposals a worker made, and what the board answered.
+#[derive(Clone, Copy, Debug, PartialEq, Eq)]
+pub struct Report {
+    pub made: u32,
+    pub accepted: u32,
+    pub refused: u32,
+}
+
+/// Looks, and takes the plan's steps, or fewer where the board is full. The copy may be any schedule of the league's
+/// teams; with another one no step is taken. Takes no memory.
+///
+/// In a step a move is drawn and, where it can be made, made on the copy. It is withdrawn where the score is above the
+/// copy's by more than the slack, and where the board has another version than the copy, at which the worker looks
+/// again. Else it is proposed for the copy's version, with the score as claim and with the slack. What the copy is after
+/// the reply is the board's schedule as far as the worker can tell: where the version isn't the one that it expects, it
+/// looks.
+pub fn worker<R: Wait, D: Door, G: Gate>(
+    rt: &R,
+    door: &mut D,
+    gate: &G,
+    league: &League,
+    plan: WorkerPlan,
+    copy: &mut Schedule,
+) -> Report
+    requires { D.granted door.old < 2 ^ 62 }
+    ensures report { IsReport plan.steps result }
+    ensures counted { D.granted door.new ≡ D.granted door.old + result.accepted }
+    ensures stays { D.stays door.old door.new }
+{
+    let mut accepted = 0;
+    let mut refused = 0;
+    let teams = league.teams();
+    if copy.teams() == teams {
+        let mut generator = Lcg64Xsh32::new(plan.seed, u64::from(plan.worker));
+        let mut known = refresh(rt, door, league, copy);
+        for s in 0..plan.steps {
+            let trial = Trial {
+                worker: plan.worker,
+                made: accepted + refused,
+                slack: slack_at(plan, s),
+                mv: draw(&mut generator, teams),
+            };
+            match step(rt, door, gate, league, copy, &mut known, trial) {
+                Told::Nothing => {}
+                Told::Accepted => accepted += 1,
+                Told::Refused => refused += 1,
+                Told::Full => {
+                    refused += 1;
+                    break;
+                }
+            }
+        }
+    }
+    Report {
+        made: accepted + refused,
+        accepted,
+        refused,
+    }
+}
+
+/// The slack of a step, from 0.
+fn slack_at(plan: WorkerPlan, s: u32) -> u64
+    requires { s < plan.steps }
+    ensures { result ≡ slack_of plan.slack plan.steps s }
+{
+    (u128::from(plan.slack) * u128::from(plan.steps - s) / u128::from(plan.steps)) as u64
+}

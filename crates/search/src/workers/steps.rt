@@ -1,0 +1,172 @@
+//! One step of a worker.
+
+ghost use Rattle.std.specs.Prelude.{◌≡◌, ◌+◌, ◌^◌, ◌<◌};
+ghost use Rattle.league.specs.League.{teams};
+ghost use Rattle.moves.specs.MainCells.{AreMainCells};
+ghost use Rattle.moves.specs.Moves.{moved};
+ghost use Rattle.search.specs.Doors.{done_count};
+ghost use Rattle.search.specs.Steps.{IsKnown, accepted_count};
+
+use crate::{Door, Gate};
+use fixture_board::{Cost, Proposal, Reply, Why, cost_of, make_at_cost};
+use fixtures::{Schedule, Touched};
+use league::League;
+use moves::{Move, check, main_cells, make};
+use std::sync::Wait;
+
+/// What a worker knows of its copy.
+#[derive(Clone, Copy)]
+pub(crate) struct Known {
+    /// The board's version that it is a copy of.
+    pub(crate) version: u64,
+    pub(crate) cost: Cost,
+    pub(crate) score: u64,
+}
+
+/// What a step tries, and how many proposals the worker made before.
+#[derive(Clone, Copy)]
+pub(crate) struct Trial {
+    pub(crate) worker: u32,
+    pub(crate) made: u32,
+    pub(crate) slack: u64,
+    pub(crate) mv: Move,
+}
+
+/// What became of a step: no proposal, or the board's answer.
+#[derive(Clone, Copy)]
+pub(crate) enum Told {
+    Nothing,
+    Accepted,
+    Refused,
+    /// Refused, and the board's history has no room.
+    Full,
+}
+
+/// A move that is made on the copy, and what the copy is with it.
+#[derive(Clone, Copy)]
+struct Made {
+    mv: Move,
+    main: Touched,
+    cost: Cost,
+    score: u64,
+}
+
+/// Looks, and counts what the copy costs.
+pub(crate) fn refresh<R: Wait, D: Door>(
+    rt: &R,
+    door: &mut D,
+    league: &League,
+    copy: &mut Schedule,
+) -> Known
+    requires { teams league.now ≡ copy.old.teams }
+    ensures same_size { copy.new.teams ≡ copy.old.teams }
+    ensures known { IsKnown league.now copy.new result.cost result.score }
+    ensures counted { D.granted door.new ≡ D.granted door.old }
+    ensures stays { D.stays door.old door.new }
+{
+    let seen = door.look(rt, copy);
+    let cost = cost_of(copy, league);
+    Known {
+        version: seen.version,
+        cost,
+        score: cost.score(league),
+    }
+}
+
+/// Tries a move, and proposes it where the slack lets it pass and the copy is still the board's schedule.
+pub(crate) fn step<R: Wait, D: Door, G: Gate>(
+    rt: &R,
+    door: &mut D,
+    gate: &G,
+    league: &League,
+    copy: &mut Schedule,
+    known: &mut Known,
+    trial: Trial,
+) -> Told
+    requires same_size { teams league.now ≡ copy.old.teams }
+    requires known { IsKnown league.now copy.old known.old.cost known.old.score }
+    requires granted { D.granted door.old < 2 ^ 63 }
+    ensures same_size { copy.new.teams ≡ copy.old.teams }
+    ensures known { IsKnown league.now copy.new known.new.cost known.new.score }
+    ensures counted { D.granted door.new ≡ D.granted door.old + accepted_count result }
+    ensures stays { D.stays door.old door.new }
+{
+    let mv = trial.mv;
+    if let Err(_) = check(copy, mv) {
+        return Told::Nothing;
+    }
+    let main = main_cells(copy, mv);
+    let cost = make_at_cost(copy, league, mv, main, known.cost);
+    let score = cost.score(league);
+    if score > known.score.saturating_add(trial.slack) {
+        make(copy, mv, main);
+        return Told::Nothing;
+    }
+    if door.front(rt) != known.version {
+        make(copy, mv, main);
+        *known = refresh(rt, door, league, copy);
+        return Told::Nothing;
+    }
+    let proposal = Proposal {
+        version: known.version,
+        mv,
+        claim: Some(score),
+        slack: trial.slack,
+    };
+    gate.enter(rt, trial.worker, trial.made);
+    let reply = door.propose(rt, proposal);
+    gate.left(rt, trial.worker, trial.made);
+    let made = Made {
+        mv,
+        main,
+        cost,
+        score,
+    };
+    settle(rt, door, league, copy, known, made, reply)
+}
+
+/// Keeps the move that was proposed, or withdraws it, and looks where the board has gone on.
+fn settle<R: Wait, D: Door>(
+    rt: &R,
+    door: &mut D,
+    league: &League,
+    copy: &mut Schedule,
+    known: &mut Known,
+    made: Made,
+    reply: Reply,
+) -> Told
+    requires same_size { teams league.now ≡ copy.old.teams }
+    requires main { AreMainCells copy.old made.mv made.main }
+    requires made { IsKnown league.now copy.old made.cost made.score }
+    requires before { IsKnown league.now (moved copy.old made.mv) known.old.cost known.old.score }
+    ensures same_size { copy.new.teams ≡ copy.old.teams }
+    ensures known { IsKnown league.now copy.new known.new.cost known.new.score }
+    ensures told { accepted_count result ≡ done_count reply }
+    ensures counted { D.granted door.new ≡ D.granted door.old }
+    ensures stays { D.stays door.old door.new }
+{
+    match reply {
+        Reply::Done { at, .. } => {
+            if known.version.checked_add(1) == Some(at) {
+                *known = Known {
+                    version: at,
+                    cost: made.cost,
+                    score: made.score,
+                };
+            } else {
+                *known = refresh(rt, door, league, copy);
+            }
+            Told::Accepted
+        }
+        Reply::No { at, why } => {
+            make(copy, made.mv, made.main);
+            if why == Why::Full {
+                return Told::Full;
+            }
+            if at != known.version {
+                *known = refresh(rt, door, league, copy);
+            }
+            Told::Refused
+        }
+    }
+}
