@@ -13,4 +13,4 @@ mod tests;
 mod view;
 
 pub use law::{between_steps, fixtures_while_free};
-pub use shared::{Closed, Seat, Seen, Shared, TooManySeats};
+pub use shared::{Closed, Seat, Seen, Shared, SplitFault};

@@ -117,10 +117,13 @@ pub struct Seen {
     pub cost: Cost,
 }
 
-/// As many numbers are given out as there may be.
+/// Why there is no further seat.
 #[derive(Clone, Copy, Debug, PartialEq, Eq, Error)]
-#[error("64 seats were given out")]
-pub struct TooManySeats;
+pub enum SplitFault {
+    /// As many numbers are given out as there may be.
+    #[error("64 seats were given out")]
+    TooManySeats,
+}
 
 /// The board, once no thread shares it any more.
 #[derive(Drop)]

@@ -4,12 +4,12 @@ ghost use Rattle.std.specs.Prelude.{◌≡◌, MatchResult};
 ghost use Rattle.shared_board.specs.Seats.{IsNew, Absorbed, ClosedBy, given_at};
 
 use crate::plays::{Both, Newcomer, Tell};
-use crate::shared::{Closed, MAX_SEATS, SLOT, Seat, Shared, TURN, TooManySeats};
+use crate::shared::{Closed, MAX_SEATS, SLOT, Seat, Shared, SplitFault, TURN};
 use std::sync::Wait;
 
 impl Shared {
     /// One more seat, which has seen what this one has. There are 64 numbers, each given out once.
-    pub fn split<R: Wait>(&self, rt: &R, seat: &mut Seat) -> Result<Seat, TooManySeats>
+    pub fn split<R: Wait>(&self, rt: &R, seat: &mut Seat) -> Result<Seat, SplitFault>
         requires { seat.old.table ≡ self.now }
         ensures { MatchResult result (λ s. (seat.new ≡ seat.old) × IsNew seat.old s) (λ _. seat.new ≡ given_at seat.old 64) }
     {
@@ -19,7 +19,7 @@ impl Shared {
         if number >= MAX_SEATS {
             self.quit(&mut place);
             self.table.shared.join_seat::<Both>(&mut seat.place, place);
-            return Err(TooManySeats);
+            return Err(SplitFault::TooManySeats);
         }
         self.draw(&mut place, number + 1);
         self.quit(&mut place);
