@@ -1,5 +1,5 @@
 -- What the rule says of a table, between any two steps.
-use Rattle.std.proofs.Common.{◌≡◌, ◌≢◌, ℕ, ◌+◌, ◌<◌, ◌≤◌, Option, Some, List, [], ◌∷◌, ◌++◌, length, slice_index, refl, ap, sym, ◌∙◌, subst, ◌⊎◌, inl, inr, arith, true}
+use Rattle.std.proofs.Common.{◌≡◌, ◌≢◌, ℕ, Option, List, [], ◌∷◌, length, slice_index, refl, ap, sym, ◌∙◌, subst, ◌⊎◌, inl, inr, arith}
 use mathlib.Core.Option.{some, some-injective}
 use mathlib.Core.Option as maybe
 use mathlib.Core.Logic.{dite}
@@ -13,7 +13,7 @@ use Rattle.fixture_board.specs.Record.{Book}
 use Rattle.shared_board.specs.declared.view.View.{View}
 use Rattle.shared_board.specs.Stage.{Stage, away, holds, counts, owes}
 use Rattle.shared_board.specs.Held.{times, callers_below}
-use Rattle.shared_board.specs.Rule.{Knows, Lowest, Fits, upto, Added, IsHolder, Ruled}
+use Rattle.shared_board.specs.Rule.{Fits, upto, Added, IsHolder, Ruled}
 use Rattle.shared_board.specs.Between.{Table, IsThere, IsHome, Behind, OneHolds, Between, turn_word, best_word, numbers_word}
 use Rattle.shared_board.specs.Fixtures.{HasFixtures}
 use Rattle.shared_board.proofs.BoardLaws.{games_are, cost_is, best_of_is}

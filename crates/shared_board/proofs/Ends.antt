@@ -1,5 +1,5 @@
 -- Whole calls, over plain values.
-use Rattle.std.proofs.Common.{◌≡◌, ◌≢◌, ℕ, ◌+◌, ◌<◌, ◌≤◌, ◌==◌, min, max, true, inl, inr, ◌⊎◌, eqb-true, Option, Some, None, List, [], ◌∷◌, ◌++◌, length, refl, ap, sym, ◌∙◌, subst, arith, length-append}
+use Rattle.std.proofs.Common.{◌≡◌, ℕ, ◌+◌, ◌<◌, ◌≤◌, ◌==◌, min, max, inl, inr, ◌⊎◌, eqb-true, Option, Some, None, List, [], ◌∷◌, ◌++◌, length, refl, ap, sym, ◌∙◌, subst, arith, length-append}
 use Rattle.std.proofs.lemmas.List.{append-nil}
 use Rattle.std.proofs.lemmas.Bool.Decides.{nat_tests}
 use Rattle.atomic_table.specs.Table.{rest}
@@ -9,17 +9,17 @@ use Rattle.fixture_board.specs.declared.cost.Cost.{Cost}
 use Rattle.fixture_board.specs.declared.reply.Why.{Why}
 use Rattle.fixture_board.specs.declared.reply.Reply.{Reply}
 use Rattle.fixture_board.specs.declared.reply.Reply.TheVariants.{Done, No}
-use Rattle.fixture_board.specs.Laws.{least_of, TellsOf}
+use Rattle.fixture_board.specs.Laws.{TellsOf}
 use Rattle.fixture_board.specs.Record.{Book}
-use Rattle.fixture_board.specs.Replies.{entry, next_of, reply_of}
+use Rattle.fixture_board.specs.Replies.{entry, next_of}
 use Rattle.shared_board.specs.declared.view.View.{View}
 use Rattle.shared_board.specs.declared.shared.Judged.{Judged}
 use Rattle.shared_board.specs.Setting.{Setting, board_at}
-use Rattle.shared_board.specs.Stage.{away, holds, counts, kept}
+use Rattle.shared_board.specs.Stage.{away, holds, kept}
 use Rattle.shared_board.specs.Held.{times, once_below, under, callers_below}
-use Rattle.shared_board.specs.Rule.{Knows, EachPart}
+use Rattle.shared_board.specs.Rule.{Knows}
 use Rattle.shared_board.specs.Plays.{Place, Meets, Took, Counted, Parted, counting, drawing, newcomer, joined, longer, saw, at_stage, on_board}
-use Rattle.shared_board.specs.Seats.{BoardId, SeatValue, seat_value, IsSeat, Met, Answered, IsNew, Absorbed, ClosedBy, now_seen, given_at}
+use Rattle.shared_board.specs.Seats.{BoardId, seat_value, IsSeat, Met, Answered, IsNew, Absorbed, ClosedBy, given_at}
 use Rattle.shared_board.specs.Judging.{IsJudged}
 use Rattle.shared_board.proofs.BoardLaws.{reply_tells}
 use Rattle.shared_board.proofs.Counts.{times_append, times_own, times_self, under_append, under_both, under_most, under_none, under_all, callers_front, once_most, once_none, all_held, held_most}

@@ -1,5 +1,5 @@
 -- Each step outside a turn keeps the rule, and so do seats that come and go.
-use Rattle.std.proofs.Common.{◌≡◌, ◌≢◌, ℕ, zero, suc, ◌+◌, ◌<◌, ◌≤◌, min, max, nat_lt, if◌then◌else◌, Bool, true, false, Option, Some, List, [], ◌∷◌, ◌++◌, length, slice_index, set, refl, ap, sym, ◌∙◌, subst, ◌⊎◌, inl, inr, ⊎_elim, arith, length-append}
+use Rattle.std.proofs.Common.{◌≡◌, ℕ, ◌<◌, ◌≤◌, min, max, nat_lt, if◌then◌else◌, Bool, true, false, List, [], ◌∷◌, ◌++◌, length, slice_index, set, refl, ap, sym, ◌∙◌, subst, ◌⊎◌, inl, inr, ⊎_elim, arith, length-append}
 use Rattle.std.proofs.lemmas.Bool.Decides.{nat_tests}
 use Rattle.std.proofs.lemmas.List.{append-nil}
 use mathlib.Core.Option.{none, some}
@@ -9,11 +9,11 @@ use Rattle.atomic_table.specs.Table.{step, keeps, Allows, Splits, Joins}
 use Rattle.atomic_table.proofs.Lists.{set_again, set_else}
 use Rattle.fixture_board.specs.declared.change.Entry.{Entry}
 use Rattle.fixture_board.specs.Laws.{least_of}
-use Rattle.league.specs.League.{LeagueData, IsLeague}
+use Rattle.league.specs.League.{IsLeague}
 use Rattle.shared_board.specs.declared.view.View.{View}
 use Rattle.shared_board.specs.Setting.{Setting}
 use Rattle.shared_board.specs.Stage.{away}
-use Rattle.shared_board.specs.Held.{times, once_below, total, under}
+use Rattle.shared_board.specs.Held.{times, under}
 use Rattle.shared_board.specs.Rule.{Knows, Lowest, Fits, upto, Ruled, spent_view}
 use Rattle.shared_board.specs.Plays.{Place, glanced, lowered, parted, newcomer, joined, longer}
 use Rattle.shared_board.specs.Between.{Table}

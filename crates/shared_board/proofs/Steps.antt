@@ -1,10 +1,9 @@
 -- What a step of one seat leaves of the rule.
-use Rattle.std.proofs.Common.{◌≡◌, ◌≢◌, ℕ, ◌+◌, ◌<◌, ◌≤◌, Option, Some, List, [], ◌∷◌, ◌++◌, length, set, slice_index, refl, ap, sym, ◌∙◌, subst, ◌⊎◌, inl, inr, ⊎_elim, arith, true, length-append, lt_of_not-le}
+use Rattle.std.proofs.Common.{◌≡◌, ◌≢◌, ℕ, ◌+◌, ◌≤◌, Option, Some, List, [], ◌∷◌, ◌++◌, length, set, refl, ap, sym, ◌∙◌, subst, inl, inr, ⊎_elim, arith, true}
 use mathlib.Core.Option.{none, some, some-injective}
 use mathlib.Core.Option as maybe
 use lib.ListN.{get_elem?}
-use Rattle.atomic_table.specs.Table.{State}
-use Rattle.atomic_table.proofs.Lists.{at_set, at_snoc, at_longer}
+use Rattle.atomic_table.proofs.Lists.{at_snoc, at_longer}
 use Rattle.fixture_board.specs.declared.change.Entry.{Entry}
 use Rattle.fixture_board.specs.History.{IsLegal}
 use Rattle.fixture_board.specs.Laws.{least_of}
@@ -13,10 +12,10 @@ use Rattle.shared_board.specs.declared.view.View.{View}
 use Rattle.shared_board.specs.Setting.{Setting, board_at}
 use Rattle.shared_board.specs.Stage.{Stage, away}
 use Rattle.shared_board.specs.Held.{times, once_below, total, callers_below}
-use Rattle.shared_board.specs.Rule.{Fits, upto, IsHolder, IsFree, IsHeld, Ruled}
+use Rattle.shared_board.specs.Rule.{Fits, upto, IsHolder, IsFree, Ruled}
 use Rattle.shared_board.specs.Between.{Table}
-use Rattle.shared_board.proofs.Counts.{total_append, total_at, held_below}
-use Rattle.shared_board.proofs.Views.{Owned, OthersAway, owned, fits_at, fits_from, each_set, away_set, away_else, there_set, once_set, turns_aside}
+use Rattle.shared_board.proofs.Counts.{total_append, total_at}
+use Rattle.shared_board.proofs.Views.{Owned, OthersAway, fits_at, fits_from, each_set, away_set, away_else, there_set, once_set, turns_aside}
 
 -- a seat that is away stays away, and may know more
 pub aside : (s : Table) (r : Ruled s) (id : ℕ) (v w : View) (words : List ℕ) → get_elem? s.views id ≡ some v → v.live ≡ true → v.stage ≡ away → w.stage ≡ away

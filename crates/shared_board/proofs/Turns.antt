@@ -1,29 +1,28 @@
 -- Each step of a turn keeps the rule.
-use Rattle.std.proofs.Common.{◌≡◌, ◌≢◌, ℕ, zero, suc, ◌+◌, ◌<◌, ◌≤◌, min, Option, Some, List, [], ◌∷◌, ◌++◌, length, slice_index, set, refl, ap, sym, ◌∙◌, subst, ◌⊎◌, inl, inr, ⊎_elim, arith, true, length-append, ◌==◌, cond}
+use Rattle.std.proofs.Common.{◌≡◌, ◌≢◌, ℕ, zero, suc, ◌+◌, ◌<◌, ◌≤◌, min, Option, Some, List, [], ◌∷◌, ◌++◌, length, slice_index, set, refl, ap, sym, ◌∙◌, subst, inl, inr, arith, true, length-append, ◌==◌, cond}
 use Rattle.std.proofs.lemmas.Bool.Decides.{nat_tests}
 use mathlib.Core.Option.{none, some, some-injective, some-ne-none}
 use mathlib.Core.Option as maybe
 use prog.Atomic.{either}
 use lib.ListN.{get_elem?}
-use Rattle.atomic_table.specs.Table.{State, Me, step, Act, keeps, takes, gives, put_back, Allows, opening}
-use Rattle.atomic_table.proofs.Lists.{set_again}
+use Rattle.atomic_table.specs.Table.{step, keeps, takes, gives, put_back, Allows, opening}
 use Rattle.fixture_board.specs.declared.change.Entry.{Entry}
 use Rattle.fixture_board.specs.History.{IsLegal}
 use Rattle.fixture_board.specs.Laws.{least_of}
 use Rattle.fixture_board.specs.Record.{Book, book}
-use Rattle.league.specs.League.{LeagueData, IsLeague}
+use Rattle.league.specs.League.{IsLeague}
 use Rattle.shared_board.specs.declared.view.View.{View}
 use Rattle.shared_board.specs.Setting.{Setting, board_at}
 use Rattle.shared_board.specs.Stage.{Stage, away, holds, counts, owes, kept, owed, IsSettled}
 use Rattle.shared_board.specs.Held.{times, once_below, callers_below}
-use Rattle.shared_board.specs.Rule.{Knows, Lowest, EachPart, Fits, upto, Added, IsHolder, IsFree, IsHeld, Ruled, first_view}
-use Rattle.shared_board.specs.Plays.{Place, Meets, Took, took, committed, posted, left, quit, Counted, counted, drawn, drawing, counting, at_stage, saw, on_board}
+use Rattle.shared_board.specs.Rule.{Knows, Lowest, Fits, upto, Added, IsHolder, Ruled, first_view}
+use Rattle.shared_board.specs.Plays.{Place, Meets, took, committed, posted, left, quit, counted, drawn, drawing, counting, at_stage, saw, on_board}
 use Rattle.shared_board.specs.Between.{Table}
 use Rattle.shared_board.specs.Seats.{HasBoard}
-use Rattle.shared_board.proofs.BoardLaws.{legal_start, least_falls, least_falls_on}
-use Rattle.shared_board.proofs.Counts.{times_append, under_both, under_none, callers_append, callers_after, callers_more, once_most, once_none, once_next, once_more, times_own, held_below, total_two}
-use Rattle.shared_board.proofs.Views.{Owned, owned, settled_not_away, settled_knows, settled_upto, fits_at, fits_stage, fits_longer, fits_more, fits_saw, knows_all, lowest_all, parts_held}
-use Rattle.shared_board.proofs.Steps.{aside, Does, holds_on, gives_back, takes_hold, held_once}
+use Rattle.shared_board.proofs.BoardLaws.{legal_start, least_falls}
+use Rattle.shared_board.proofs.Counts.{under_both, under_none, callers_append, callers_after, callers_more, once_most, once_next, times_own, held_below, total_two}
+use Rattle.shared_board.proofs.Views.{owned, settled_not_away, settled_knows, settled_upto, fits_at, fits_stage, fits_longer, fits_more, fits_saw, knows_all, lowest_all, parts_held}
+use Rattle.shared_board.proofs.Steps.{aside, holds_on, gives_back, takes_hold, held_once}
 
 -- what was met under the turn
 pub meets : (s : Table) (r : Ruled s) (id : ℕ) (v : View) → get_elem? s.views id ≡ some v → r.posted ≡ r.history

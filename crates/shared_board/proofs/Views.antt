@@ -1,5 +1,5 @@
 -- The parts of the rule: what a view has to do with the history, and who holds the turn.
-use Rattle.std.proofs.Common.{◌≡◌, ◌≢◌, ℕ, zero, suc, ◌+◌, ◌<◌, ◌≤◌, Option, Some, List, [], ◌∷◌, ◌++◌, length, set, refl, ap, sym, ◌∙◌, subst, ◌⊎◌, inl, inr, ⊎_elim, append_assoc, arith, true}
+use Rattle.std.proofs.Common.{◌≡◌, ◌≢◌, ℕ, zero, suc, ◌+◌, ◌≤◌, Option, List, [], ◌∷◌, ◌++◌, length, set, refl, ap, sym, ◌∙◌, subst, ◌⊎◌, inl, inr, ⊎_elim, append_assoc, arith, true}
 use Rattle.std.proofs.lemmas.List.{append-nil}
 use mathlib.Core.Option.{none, some, some-injective}
 use mathlib.Core.Option as maybe
@@ -13,10 +13,10 @@ use Rattle.fixture_board.specs.Laws.{least_of}
 use Rattle.shared_board.specs.declared.view.View.{View}
 use Rattle.shared_board.specs.Setting.{Setting}
 use Rattle.shared_board.specs.Stage.{Stage, Part, away, holds, counts, owes, kept, IsSettled}
-use Rattle.shared_board.specs.Held.{times, once_below, total, under}
-use Rattle.shared_board.specs.Rule.{Knows, Lowest, EachPart, Fits, upto, Added, IsHolder, IsFree, IsHeld}
+use Rattle.shared_board.specs.Held.{times, once_below, total}
+use Rattle.shared_board.specs.Rule.{Knows, Lowest, EachPart, Fits, upto, IsHolder, IsFree, IsHeld}
 use Rattle.shared_board.specs.Plays.{at_stage, saw}
-use Rattle.shared_board.proofs.Counts.{under_append, under_less, total_set}
+use Rattle.shared_board.proofs.Counts.{under_append, total_set}
 
 -- the whole history is known
 pub knows_all : (held : List ℕ) (h : List Entry) → Knows held h h

@@ -6,8 +6,8 @@ use Rattle.fixture_board.specs.History.{IsLegal}
 use Rattle.fixture_board.specs.Laws.{least_of}
 use Rattle.fixture_board.specs.Record.{Book}
 use Rattle.shared_board.specs.declared.view.View.{View}
-use Rattle.shared_board.specs.Setting.{Setting, board_at}
-use Rattle.shared_board.specs.Stage.{Stage, Part, away, holds, counts, owes, kept}
+use Rattle.shared_board.specs.Setting.{board_at}
+use Rattle.shared_board.specs.Stage.{Stage, away, holds, counts, owes, kept}
 use Rattle.shared_board.specs.Held.{times, once_below, callers_below}
 use Rattle.shared_board.specs.Rule.{Knows, Lowest, EachPart}
 

@@ -1,5 +1,6 @@
 ghost use Rattle.std.specs.Prelude.{◌≡◌, IfOk};
 
+mod drawn;
 mod memory;
 
 use crate::{Seat, Seen, Shared, SplitFault};
@@ -175,8 +176,14 @@ fn a_refused_split_draws_no_number(rt: HostRuntime) -> Result<(), Fail> {
         shared.absorb(&mut a, other);
     }
     assert_eq!(rt; a.held(), 63);
-    assert_eq!(rt; shared.split(&rt, &mut a).err(), Some(SplitFault::TooManySeats));
-    assert_eq!(rt; shared.split(&rt, &mut b).err(), Some(SplitFault::TooManySeats));
+    assert_eq!(rt;
+        shared.split(&rt, &mut a).err(),
+        Some(SplitFault::TooManySeats)
+    );
+    assert_eq!(rt;
+        shared.split(&rt, &mut b).err(),
+        Some(SplitFault::TooManySeats)
+    );
     let homes = Move::Homes { i: 0, j: 1 };
     assert_eq!(rt; shared.propose(&rt, &mut a, at(0, homes)), done(1, 26));
     assert_eq!(rt; shared.look(&rt, &mut b, &mut copy), seen(1, 26));

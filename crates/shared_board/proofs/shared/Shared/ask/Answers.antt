@@ -1,5 +1,5 @@
-use Rattle.std.proofs.Common.{arith, rules}
-use Rattle.shared_board.proofs.Ends.{Asked, seat_done, seat_done_fits, seat_no, answered}
+use Rattle.std.proofs.Common.{arith}
+use Rattle.shared_board.proofs.Ends.{Asked, seat_done, seat_done_fits, seat_no}
 use Rattle.shared_board.proofs.shared.Shared.ask.Goals as goal
 
 pub overflow_add-seat : goal.overflow_add-seat

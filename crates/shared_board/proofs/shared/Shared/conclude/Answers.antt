@@ -1,7 +1,7 @@
-use Rattle.std.proofs.Common.{◌≡◌, List, [], ◌∷◌, Some, ap, sym, ◌∙◌, subst}
+use Rattle.std.proofs.Common.{List, [], ◌∷◌, Some, ap, sym, ◌∙◌, subst}
 use Rattle.fixture_board.specs.declared.change.Entry.{Entry}
 use Rattle.fixture_board.specs.History.{IsLegal}
-use Rattle.fixture_board.specs.Replies.{entry, next_of}
+use Rattle.fixture_board.specs.Replies.{entry}
 use Rattle.shared_board.specs.Setting.{board_at}
 use Rattle.shared_board.specs.Stage.{away, kept}
 use Rattle.shared_board.specs.Plays.{saw, on_board}

@@ -1,4 +1,4 @@
-use Rattle.std.proofs.Common.{◌≡◌, ℕ, List, [], ◌∷◌, ◌++◌, Option, Some, ap, sym, ◌∙◌, subst}
+use Rattle.std.proofs.Common.{◌≡◌, List, [], ◌∷◌, ◌++◌, Option, Some, ap, sym, ◌∙◌, subst}
 use Rattle.atomic_table.specs.Table.{opening}
 use Rattle.league.specs.League.{IsLeague}
 use Rattle.fixture_board.specs.Laws.{least_of, as_number}

@@ -4,7 +4,7 @@ use Rattle.shared_board.specs.Stage.{away}
 use Rattle.shared_board.specs.Plays.{Place, at_stage}
 use Rattle.shared_board.specs.Seats.{BoardId, SeatValue, seat_value, IsNew}
 use Rattle.shared_board.proofs.Seating.{split_keeps, join_keeps}
-use Rattle.shared_board.proofs.Ends.{Came, came_counted, new_seat, is_new, seat_given, value_given}
+use Rattle.shared_board.proofs.Ends.{Came, came_counted, new_seat, is_new}
 use Rattle.shared_board.proofs.shared.Shared.split.Goals as goal
 
 pub split_seat-place-requires : goal.split_seat-place-requires
