@@ -18,6 +18,7 @@ use Rattle.tours.specs.Runs.{windows, is_run, runs_of, runs_over}
 use Rattle.tours.specs.Repeats.{repeats_after, repeats}
 use Rattle.robinx.specs.Deviations.{deviation}
 use Rattle.fixture_board.specs.Costs.{hard_share, soft_share, share_of, sum_over_rules, cost_of, score_of, score_limit}
+use Rattle.fixture_board.specs.CostShares.{IsSmall}
 use Rattle.fixture_board.specs.declared.change.Change.{Change}
 use Rattle.fixture_board.specs.declared.change.Change.TheVariants.{Shift, Pin, Unpin, Undo}
 use Rattle.fixture_board.specs.declared.change.Entry.{Entry}
@@ -166,6 +167,15 @@ score_below l g is same =
       soft_le l g is same forty,
       mul-le-mul is.weight_most (hard_le l g is same forty),
     )
+
+pub cost_small : (l : LeagueData) (g : Games) → IsLeague l → teams l ≡ g.teams → IsSmall (cost_of l g)
+cost_small l g is same =
+    let below : score_of l (cost_of l g) < score_limit = score_below l g is (sym same) in
+    record {
+      travel = omega arith;
+      hard = omega (arith, hard_le l g is (sym same) (omega (arith, is.table.most)));
+      soft = omega arith;
+    }
 
 -- the scores of the league's schedules are at most the greatest slack
 abbrev pub IsScored : LeagueData → Type 0

@@ -10,6 +10,7 @@ mod board;
 mod change;
 mod cost;
 mod counting;
+mod kept_cost;
 mod laws;
 mod pins;
 mod refusals;
@@ -23,7 +24,8 @@ pub use ask::{Ask, Proposal};
 pub use board::{Board, BoardFault, MAX_ROOM, NewRefused};
 pub use change::{Change, Entry};
 pub use cost::{Best, Cost};
-pub use counting::{cost_of, make_at_cost};
+pub use counting::cost_of;
+pub use kept_cost::make_at_cost;
 pub use laws::{
     answer_tells_history, best_is_least, best_never_rises, empty_history_is_legal,
     legal_history_is_sound, next_history_is_legal, replay,

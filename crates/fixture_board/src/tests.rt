@@ -1,3 +1,4 @@
+mod kept_cost;
 mod memory;
 mod rules;
 

@@ -2,7 +2,7 @@
 
 use crate::ask::{Ask, Proposal};
 use crate::change::Change;
-use crate::counting::make_at_cost;
+use crate::kept_cost::make_at_cost;
 use crate::refusals::{move_refusal, pin_refusal, score_refusal, unpin_refusal, version_refusal};
 use crate::reply::Why;
 use crate::state::State;

@@ -1,0 +1,147 @@
+-- A move changes no more of the costs than their shares.
+use Rattle.std.proofs.Common.{◌≡◌, ℕ, ◌+◌, ◌-◌, ◌<◌, Bool, true, false, if◌then◌else◌, List, length, slice_get, Option, Some, None, Ok, refl, sym, ◌∙◌, ap, subst, arith}
+use Rattle.std.proofs.Math.Path.{fun_ext}
+use Rattle.std.proofs.lemmas.List.Elements.{All-from_recursion, All-get_or}
+use Rattle.std.proofs.lemmas.Option.{slice_get_within, get_or_from_slice_get}
+use Rattle.league.specs.League.{LeagueData, teams, IsLeague}
+use Rattle.league.specs.RuleLimits.{IsRuleFor, IsBodyFor}
+use Rattle.league.specs.Sets.{has}
+use Rattle.league.specs.declared.rule.Rule.{Rule}
+use Rattle.league.specs.declared.rule.Weight.{Weight}
+use Rattle.league.proofs.ForCallers.{sum_below_balance}
+use Rattle.fixtures.specs.Changes.{DiffersOnlyIn}
+use Rattle.fixtures.specs.Games.{Games, IsDoubleRoundRobin}
+use Rattle.fixtures.specs.TouchedCells.{TouchedCells}
+use Rattle.moves.specs.declared.moves.Move.{Move}
+use Rattle.moves.specs.declared.moves.Move.TheVariants.{Homes, Rounds, Teams, PartRounds, PartTeams}
+use Rattle.moves.specs.MainCells.{AreMainCells, main_team, side_team}
+use Rattle.moves.specs.Moves.{moved, touched_team}
+use Rattle.moves.proofs.EachMove.{each-differs}
+use Rattle.moves.proofs.ForCallers.{differs_around, each_double_round_robin, each_keeps_meetings, sides_differ_at}
+use Rattle.tours.specs.Repeats.{repeats}
+use Rattle.tours.specs.Runs.{runs_over}
+use Rattle.tours.specs.Tours.{travel}
+use Rattle.tours.specs.Parts.{runs_part}
+use Rattle.tours.proofs.ForCallers.{travel_balance, travel_balance_around, runs_balance_sides, repeats_balance_around, repeats_of_same_pairs}
+use Rattle.robinx.specs.Deviations.{deviation}
+use Rattle.robinx.specs.LooksPast.{looks_past}
+use Rattle.robinx.proofs.ForCallers.{looked_past_deviation, looks_past_tested}
+use Rattle.fixture_board.specs.Costs.{hard_share, soft_share, share_of, sum_over_rules, cost_of, score_of, score_limit}
+use Rattle.fixture_board.specs.CostShares.{travel_share, repeats_share, seen_share_of, sum_over_seen_rules, cost_share, IsSmall}
+use Rattle.fixture_board.specs.declared.cost.Cost.{Cost}
+use Rattle.fixture_board.proofs.Scores.{moved-teams, score_below, cost_small}
+
+-- travel
+
+-- a move that is none of teams differs only in its main cells
+differs_in_main : (g : Games) (mv : Move) (main : TouchedCells) → AreMainCells g mv main →
+    ((t : ℕ) → main_team g mv t ≡ touched_team g mv t) → DiffersOnlyIn g (moved g mv) (has main.teams) (has main.rounds)
+differs_in_main g mv main are same =
+    subst (λ ts. DiffersOnlyIn g (moved g mv) ts (has main.rounds)) (sym (fun_ext (λ t. are.teams t ∙ same t)))
+    (subst (DiffersOnlyIn g (moved g mv) (touched_team g mv)) (sym (fun_ext are.rounds)) (each-differs g mv are.round_robin are.checked))
+
+travel_balances : (l : LeagueData) (g : Games) (mv : Move) (main : TouchedCells) → AreMainCells g mv main →
+    travel l (moved g mv) + travel_share l mv main g ≡ travel l g + travel_share l mv main (moved g mv)
+travel_balances l g (Homes i j) main are = travel_balance l g (moved g (Homes i j)) (has main.teams) (has main.rounds) (differs_in_main g (Homes i j) main are (λ t. refl))
+travel_balances l g (Rounds k m) main are = travel_balance l g (moved g (Rounds k m)) (has main.teams) (has main.rounds) (differs_in_main g (Rounds k m) main are (λ t. refl))
+travel_balances l g (PartRounds i k m) main are = travel_balance l g (moved g (PartRounds i k m)) (has main.teams) (has main.rounds) (differs_in_main g (PartRounds i k m) main are (λ t. refl))
+travel_balances l g (Teams i j) main are = travel_balance_around l g (moved g (Teams i j)) (has main.teams) (has main.rounds) (differs_around g (Teams i j) main are)
+travel_balances l g (PartTeams i j k) main are = travel_balance_around l g (moved g (PartTeams i j k)) (has main.teams) (has main.rounds) (differs_around g (PartTeams i j k) main are)
+
+-- repeats
+
+repeats_balances : (g : Games) (mv : Move) (main : TouchedCells) → AreMainCells g mv main →
+    repeats (moved g mv) + repeats_share mv main g ≡ repeats g + repeats_share mv main (moved g mv)
+repeats_balances g (Homes i j) main are =
+    ap (λ n. n + 0) (repeats_of_same_pairs g (moved g (Homes i j)) i i are.round_robin (each_keeps_meetings g (Homes i j) are.round_robin are.checked))
+repeats_balances g (Teams i j) main are =
+    ap (λ n. n + 0) (repeats_of_same_pairs g (moved g (Teams i j)) i j are.round_robin (each_keeps_meetings g (Teams i j) are.round_robin are.checked))
+repeats_balances g (Rounds k m) main are = repeats_balance_around g (moved g (Rounds k m)) (has main.teams) (has main.rounds) (differs_around g (Rounds k m) main are)
+repeats_balances g (PartRounds i k m) main are = repeats_balance_around g (moved g (PartRounds i k m)) (has main.teams) (has main.rounds) (differs_around g (PartRounds i k m) main are)
+repeats_balances g (PartTeams i j k) main are = repeats_balance_around g (moved g (PartTeams i j k)) (has main.teams) (has main.rounds) (differs_around g (PartTeams i j k) main are)
+
+-- rules
+
+seen_balances : (past : Bool) (share : ℕ → ℕ) (new old : ℕ) → (past ≡ true → new ≡ old) →
+    share new + share (if past then 0 else old) ≡ share old + share (if past then 0 else new)
+seen_balances true share new old same = ap (λ n. share n + share 0) (same refl)
+seen_balances false share new old same = omega arith
+
+rule_balances : (share : Weight → ℕ → ℕ) (g : Games) (mv : Move) (main : TouchedCells) → AreMainCells g mv main → (rule : Option Rule) →
+    ((r : Rule) → rule ≡ Some r → IsBodyFor g.teams r.body) →
+    share_of share (moved g mv) rule + seen_share_of share main.teams g rule ≡
+    share_of share g rule + seen_share_of share main.teams (moved g mv) rule
+rule_balances share g mv main are None for = refl
+rule_balances share g mv main are (Some rule) for =
+    seen_balances (looks_past main.teams rule.body) (share rule.weight) (deviation (moved g mv) rule.body) (deviation g rule.body)
+    (λ past. looked_past_deviation g (moved g mv) (has main.teams) (has main.rounds) rule.body are.round_robin
+    (each_double_round_robin g mv are.round_robin are.checked) (for rule refl) (differs_around g mv main are)
+    (looks_past_tested main.teams rule.body past))
+
+rule_for : (l : LeagueData) (g : Games) (i : ℕ) → IsLeague l → teams l ≡ g.teams → (rule : Rule) → slice_get l.rules i ≡ Some rule → IsBodyFor g.teams rule.body
+rule_for l g i is same rule at =
+    let for : IsRuleFor (teams l) rule =
+    subst (IsRuleFor (teams l)) (get_or_from_slice_get l.rules i rule rule at)
+    (All-get_or (IsRuleFor (teams l)) l.rules i rule (slice_get_within l.rules i rule at)
+    (All-from_recursion (IsRuleFor (teams l)) l.rules is.rules)) in
+    subst (λ n. IsBodyFor n rule.body) same for.body
+
+rules_balance : (share : Weight → ℕ → ℕ) (l : LeagueData) (g : Games) (mv : Move) (main : TouchedCells) → IsLeague l → teams l ≡ g.teams → AreMainCells g mv main →
+    sum_over_rules share l.rules (moved g mv) + sum_over_seen_rules share l.rules main.teams g ≡
+    sum_over_rules share l.rules g + sum_over_seen_rules share l.rules main.teams (moved g mv)
+unfolding sum_over_rules sum_over_seen_rules
+rules_balance share l g mv main is same are =
+    sum_below_balance (length l.rules) _ _ _ _
+    (λ i under. rule_balances share g mv main are (slice_get l.rules i) (rule_for l g i is same))
+
+-- all costs: the new one and the old share are the old one and the new share
+pub record CostsBalance (new old share_new share_old : Cost) : Type 0 where
+  pub travel : new.travel + share_old.travel ≡ old.travel + share_new.travel
+  pub hard : new.hard + share_old.hard ≡ old.hard + share_new.hard
+  pub soft : new.soft + share_old.soft ≡ old.soft + share_new.soft
+
+pub costs_balance : (l : LeagueData) (g : Games) (mv : Move) (main : TouchedCells) (sides : ℕ) → IsLeague l → teams l ≡ g.teams → AreMainCells g mv main →
+    ((t : ℕ) → has sides t ≡ side_team g mv t) →
+    CostsBalance (cost_of l (moved g mv)) (cost_of l g) (cost_share l mv main sides (moved g mv)) (cost_share l mv main sides g)
+unfolding cost_of cost_share
+costs_balance l g mv main sides is same are of_sides = record {
+  travel = travel_balances l g mv main are;
+  hard = omega (
+    arith,
+    runs_balance_sides g (moved g mv) l.at_most (has sides) (has main.rounds) (sides_differ_at g mv main sides are of_sides),
+    repeats_balances g mv main are,
+    rules_balance hard_share l g mv main is same are,
+  );
+  soft = rules_balance soft_share l g mv main is same are;
+}
+
+-- so the known cost, with the share after in place of the share before, is the cost after
+pub record IsCostAfter (cost known before after : Cost) : Type 0 where
+  pub balance : CostsBalance cost known after before
+  pub known_small : IsSmall known
+
+pub kept_cost : (l : LeagueData) (g g' : Games) (mv : Move) (main : TouchedCells) (sides : ℕ) (known before after : Cost) →
+    IsLeague l → teams l ≡ g.teams → AreMainCells g mv main → ((t : ℕ) → has sides t ≡ side_team g mv t) →
+    known ≡ cost_of l g → before ≡ cost_share l mv main sides g → g' ≡ moved g mv → after ≡ cost_share l mv main sides g' →
+    IsCostAfter (cost_of l g') known before after
+kept_cost l g g' mv main sides known before after is same are of_sides known_is before_is made after_is = record {
+  balance = rw (known_is, before_is, after_is, made) (costs_balance l g mv main sides is same are of_sides);
+  known_small = rw known_is (cost_small l g is same);
+}
+
+pub cost_after : (cost known before after : Cost) → IsCostAfter cost known before after →
+    record {
+      travel = known.travel + after.travel - before.travel;
+      hard = known.hard + after.hard - before.hard;
+      soft = known.soft + after.soft - before.soft;
+    } ≡ cost
+cost_after cost known before after is =
+    let travel : known.travel + after.travel - before.travel ≡ cost.travel = omega (arith, is.balance.travel) in
+    let hard : known.hard + after.hard - before.hard ≡ cost.hard = omega (arith, is.balance.hard) in
+    let soft : known.soft + after.soft - before.soft ≡ cost.soft = omega (arith, is.balance.soft) in
+    rw (travel, hard, soft) refl
+
+pub score_after : (l : LeagueData) (g g' : Games) (mv : Move) → IsLeague l → teams l ≡ g.teams → g' ≡ moved g mv →
+    (cost : Cost) → cost ≡ cost_of l g' → score_of l cost < score_limit
+score_after l g g' mv is same made cost cost_is =
+    rw cost_is (score_below l g' is (ap (λ (games : Games). games.teams) made ∙ moved-teams g mv ∙ sym same))

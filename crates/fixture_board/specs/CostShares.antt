@@ -1,0 +1,56 @@
+-- What of the costs a move can change, counted on the schedule before it or after it. `main` has the main teams of the
+-- move and its rounds.
+use Rattle.std.specs.Prelude.{ℕ, ◌+◌, ◌<◌, if◌then◌else◌, List, length, slice_get, Option, Some, None}
+use Rattle.league.specs.League.{LeagueData}
+use Rattle.league.specs.Sets.{has}
+use Rattle.league.specs.Sums.{sum_below}
+use Rattle.league.specs.declared.rule.Rule.{Rule}
+use Rattle.league.specs.declared.rule.RuleBody.{RuleBody}
+use Rattle.league.specs.declared.rule.Weight.{Weight}
+use Rattle.fixtures.specs.Games.{Games}
+use Rattle.fixtures.specs.TouchedCells.{TouchedCells}
+use Rattle.moves.specs.Laws.{keeps_meetings}
+use Rattle.moves.specs.declared.moves.Move.{Move}
+use Rattle.moves.specs.declared.moves.Move.TheVariants.{Teams, PartTeams}
+use Rattle.tours.specs.Parts.{travel_part, travel_around, runs_part, repeats_with}
+use Rattle.robinx.specs.Deviations.{deviation}
+use Rattle.robinx.specs.LooksPast.{looks_past}
+use Rattle.fixture_board.specs.Costs.{hard_share, soft_share, score_limit}
+use Rattle.fixture_board.specs.declared.cost.Cost.{Cost}
+
+-- of the travel: in a move of teams the guests of the two travel otherwise too
+abbrev pub travel_share : LeagueData → Move → TouchedCells → Games → ℕ
+travel_share l (Teams i j) main g = travel_around l g (has main.teams) (has main.rounds)
+travel_share l (PartTeams i j k) main g = travel_around l g (has main.teams) (has main.rounds)
+travel_share l mv main g = travel_part l g (has main.teams) (has main.rounds)
+
+-- of the repeats: none where the same pairs meet
+abbrev pub repeats_share : Move → TouchedCells → Games → ℕ
+repeats_share mv main g = if keeps_meetings mv then 0 else repeats_with g (has main.teams) (has main.rounds)
+
+-- of the deviation of a rule: none where the rule looks past the teams
+abbrev pub seen_deviation : ℕ → Games → RuleBody → ℕ
+seen_deviation teams g body = if looks_past teams body then 0 else deviation g body
+
+-- what one rule adds, where there is one
+abbrev pub seen_share_of : (Weight → ℕ → ℕ) → ℕ → Games → Option Rule → ℕ
+seen_share_of share teams g None = 0
+seen_share_of share teams g (Some rule) = share rule.weight (seen_deviation teams g rule.body)
+
+-- the sum over the rules, by their places
+unfoldable pub sum_over_seen_rules : (Weight → ℕ → ℕ) → List Rule → ℕ → Games → ℕ
+sum_over_seen_rules share rules teams g = sum_below (length rules) (λ i. seen_share_of share teams g (slice_get rules i))
+
+-- of all costs, where `sides` has the teams whose sides may change
+unfoldable pub cost_share : LeagueData → Move → TouchedCells → ℕ → Games → Cost
+cost_share l mv main sides g = record {
+  travel = travel_share l mv main g;
+  hard = runs_part g l.at_most (has sides) (has main.rounds) + repeats_share mv main g + sum_over_seen_rules hard_share l.rules main.teams g;
+  soft = sum_over_seen_rules soft_share l.rules main.teams g;
+}
+
+-- each of the three is below the limit of scores
+pub record IsSmall (cost : Cost) : Type 0 where
+  pub travel : cost.travel < score_limit
+  pub hard : cost.hard < score_limit
+  pub soft : cost.soft < score_limit

@@ -1,0 +1,83 @@
+//! The cost of a schedule, kept over a move: what the move can change is counted before it and after it.
+
+ghost use Rattle.std.specs.Prelude.{◌≡◌, ◌*◌, ◌<◌, ◌≤◌};
+ghost use Rattle.league.specs.League.{teams};
+ghost use Rattle.moves.specs.Moves.{moved};
+ghost use Rattle.moves.specs.MainCells.{AreMainCells};
+ghost use Rattle.fixture_board.specs.Costs.{cost_of, score_of, score_limit};
+ghost use Rattle.fixture_board.specs.CostShares.{travel_share, repeats_share, cost_share, IsSmall};
+
+use crate::cost::Cost;
+use crate::rule_costs::{hard_of_seen_rules, soft_of_seen_rules};
+use fixtures::{Schedule, Touched};
+use league::{League, TeamSet};
+use moves::{Move, make, side_teams};
+use tours::{repeats_with, runs_part, travel_around, travel_part};
+
+/// Makes a move by its main cells on a schedule of known cost, and gives the cost after. Made once more with the same
+/// cells, it gives the schedule back. Takes no memory.
+pub fn make_at_cost(schedule: &mut Schedule, league: &League, mv: Move, main: Touched, known: Cost) -> Cost
+    requires same_size { teams league.now ≡ schedule.old.teams }
+    requires main { AreMainCells schedule.old mv main }
+    requires known { known ≡ cost_of league.now schedule.old }
+    ensures moved { schedule.new ≡ moved schedule.old mv }
+    ensures again { AreMainCells schedule.new mv main }
+    ensures back { moved schedule.new mv ≡ schedule.old }
+    ensures value { result ≡ cost_of league.now schedule.new }
+    ensures small { score_of league.now result < score_limit }
+{
+    prove_eq!(league.teams(), schedule.teams());
+    let sides = side_teams(schedule, mv, main);
+    let before = share(schedule, league, mv, main, sides);
+    make(schedule, mv, main);
+    let after = share(schedule, league, mv, main, sides);
+    Cost {
+        travel: known.travel + after.travel - before.travel,
+        hard: known.hard + after.hard - before.hard,
+        soft: known.soft + after.soft - before.soft,
+    }
+}
+
+/// What the games that the move can change add to the cost, where `sides` has the teams whose sides it may change.
+#[tactic(auto, unfolding(crate::specs::CostShares::cost_share))]
+fn share(schedule: &Schedule, league: &League, mv: Move, main: Touched, sides: TeamSet) -> Cost
+    requires same_size { teams league.now ≡ schedule.now.teams }
+    ensures value { result ≡ cost_share league.now mv main sides schedule.now }
+    ensures small { IsSmall result }
+{
+    let of_sides = Touched { teams: sides, rounds: main.rounds };
+    let runs = runs_part(schedule, league, of_sides);
+    let hard = hard_of_seen_rules(schedule, league, main.teams);
+    Cost {
+        travel: travel_share(schedule, league, mv, main),
+        hard: runs + repeats_share(schedule, mv, main) + hard,
+        soft: soft_of_seen_rules(schedule, league, main.teams),
+    }
+}
+
+/// What the legs that the move can change add to the travel.
+fn travel_share(schedule: &Schedule, league: &League, mv: Move, main: Touched) -> u64
+    requires same_size { teams league.now ≡ schedule.now.teams }
+    ensures value { result ≡ travel_share league.now mv main schedule.now }
+    ensures most { result ≤ 10000000000 }
+{
+    match mv {
+        Move::Teams { .. } | Move::PartTeams { .. } => travel_around(schedule, league, main),
+        Move::Homes { .. } | Move::Rounds { .. } | Move::PartRounds { .. } => {
+            travel_part(schedule, league, main)
+        }
+    }
+}
+
+/// What the meetings that the move can change add to the repeats.
+fn repeats_share(schedule: &Schedule, mv: Move, main: Touched) -> u64
+    ensures value { result ≡ repeats_share mv main schedule.now }
+    ensures most { result ≤ 78 * 40 }
+{
+    match mv {
+        Move::Homes { .. } | Move::Teams { .. } => 0,
+        Move::Rounds { .. } | Move::PartRounds { .. } | Move::PartTeams { .. } => {
+            repeats_with(schedule, main)
+        }
+    }
+}

@@ -1,0 +1,83 @@
+use super::shift;
+use crate::{Board, Proposal, cost_of};
+use league::{League, read_league};
+use moves::Move;
+use std::alloc::Global;
+use std::test::Fail;
+
+/// One rule of each class, of teams and slots that each league has.
+const RULES: &str = r#"[
+    {"class":"CA1","kind":"hard","teams":[1],"mode":"H","slots":[1,2,6],"max":1},
+    {"class":"CA2","kind":"soft","weight":3,"teams1":[1,2],"mode":"A","teams2":[3,4],"slots":[1,3,4],"max":0},
+    {"class":"CA3","kind":"hard","teams1":[3],"mode":"H","intp":3,"max":1},
+    {"class":"CA4","kind":"soft","weight":7,"teams1":[1,3],"mode":"H","teams2":[2,4],"slots":[2,3,5],"mode2":"GLOBAL","max":1},
+    {"class":"GA1","kind":"soft","weight":10,"games":[[1,2],[4,3]],"slots":[2,5],"min":1,"max":1},
+    {"class":"BR1","kind":"hard","teams":[2],"mode":"HA","slots":[2,3,4],"intp":1},
+    {"class":"BR2","kind":"soft","weight":2,"teams":[1,2,3,4],"intp":2},
+    {"class":"SE1","kind":"soft","weight":5,"teams":[1,4],"min":3}]"#;
+
+/// A league of teams on a line, with rules.
+fn league(alloc: Global, teams: u8) -> Result<League, Fail> {
+    let mut text = String::from_str(alloc, "{\"format\":1,\"at_most\":2,\"teams\":[\"T0\"")?;
+    for team in 1..teams {
+        text.push_str(&format!(in alloc; ",\"T{team}\"")?)?;
+    }
+    text.push_str("],\"distances\":[")?;
+    for from in 0..teams {
+        text.push_str(if from == 0 { "[" } else { ",[" })?;
+        for to in 0..teams {
+            let separator = if to == 0 { "" } else { "," };
+            let distance = from.abs_diff(to);
+            text.push_str(&format!(in alloc; "{separator}{distance}")?)?;
+        }
+        text.push_str("]")?;
+    }
+    text.push_str("],\"rules\":")?;
+    text.push_str(RULES)?;
+    text.push_str("}")?;
+    Ok(read_league(alloc, text.as_bytes())?)
+}
+
+/// A number below `bound`, drawn by a linear congruence.
+fn drawn(state: &mut u64, bound: u8) -> u8 {
+    *state = state.wrapping_mul(6364136223846793005).wrapping_add(1442695040888963407);
+    ((*state >> 33) % u64::from(bound.max(1))) as u8
+}
+
+/// A move of drawn numbers, of each kind in turn.
+fn drawn_move(state: &mut u64, teams: u8) -> Move {
+    let rounds = teams.saturating_mul(2).saturating_sub(2);
+    let (i, j) = (drawn(state, teams), drawn(state, teams));
+    let (k, l) = (drawn(state, rounds), drawn(state, rounds));
+    match drawn(state, 5) {
+        0 => Move::Homes { i, j },
+        1 => Move::Rounds { k, l },
+        2 => Move::Teams { i, j },
+        3 => Move::PartRounds { i, k, l },
+        _ => Move::PartTeams { i, j, k },
+    }
+}
+
+/// Some moves are withdrawn, since the score may rise by little, and each eighth change is undone.
+#[test]
+fn the_kept_cost_is_that_of_the_whole_schedule(rt: HostRuntime) -> Result<(), Fail> {
+    let mut state = 1;
+    for (teams, tries) in [(4, 2000), (6, 1000), (8, 1000), (10, 1000), (20, 400), (40, 200)] {
+        let mut board = Board::new(rt.alloc(), league(rt.alloc(), teams)?, 4096)?;
+        for _ in 0..tries {
+            let mv = drawn_move(&mut state, teams);
+            if drawn(&mut state, 8) == 0 {
+                let version = board.version();
+                board.undo(0, version);
+            } else if drawn(&mut state, 2) == 0 {
+                let version = board.version();
+                let slack = u64::from(drawn(&mut state, 100));
+                board.propose(0, Proposal { version, mv, claim: None, slack });
+            } else {
+                shift(&mut board, mv);
+            }
+            assert_eq!(rt; board.cost(), cost_of(board.schedule(), board.league()), "{teams} teams, {mv:?}");
+        }
+    }
+    Ok(())
+}
