@@ -27,9 +27,9 @@ use Rattle.robinx.specs.Deviations.{deviation}
 use Rattle.robinx.specs.LooksPast.{looks_past}
 use Rattle.robinx.proofs.ForCallers.{looked_past_deviation, looks_past_tested}
 use Rattle.fixture_board.specs.Costs.{hard_share, soft_share, share_of, sum_over_rules, cost_of, score_of, score_limit}
-use Rattle.fixture_board.specs.CostShares.{travel_share, repeats_share, seen_share_of, sum_over_seen_rules, cost_share, IsSmall}
+use Rattle.fixture_board.specs.CostShares.{travel_share, repeats_share, seen_share_of, sum_over_seen_rules, cost_share, CostsBalance}
 use Rattle.fixture_board.specs.declared.cost.Cost.{Cost}
-use Rattle.fixture_board.proofs.Scores.{moved-teams, score_below, cost_small}
+use Rattle.fixture_board.proofs.Scores.{moved-teams, score_below}
 
 -- travel
 
@@ -94,15 +94,11 @@ rules_balance share l g mv main is same are =
     sum_below_balance (length l.rules) _ _ _ _
     (λ i under. rule_balances share g mv main are (slice_get l.rules i) (rule_for l g i is same))
 
--- all costs: the new one and the old share are the old one and the new share
-pub record CostsBalance (new old share_new share_old : Cost) : Type 0 where
-  pub travel : new.travel + share_old.travel ≡ old.travel + share_new.travel
-  pub hard : new.hard + share_old.hard ≡ old.hard + share_new.hard
-  pub soft : new.soft + share_old.soft ≡ old.soft + share_new.soft
+-- all costs
 
-pub costs_balance : (l : LeagueData) (g : Games) (mv : Move) (main : TouchedCells) (sides : ℕ) → IsLeague l → teams l ≡ g.teams → AreMainCells g mv main →
+costs_balance : (l : LeagueData) (g : Games) (mv : Move) (main : TouchedCells) (sides : ℕ) → IsLeague l → teams l ≡ g.teams → AreMainCells g mv main →
     ((t : ℕ) → has sides t ≡ side_team g mv t) →
-    CostsBalance (cost_of l (moved g mv)) (cost_of l g) (cost_share l mv main sides (moved g mv)) (cost_share l mv main sides g)
+    CostsBalance (cost_of l (moved g mv)) (cost_of l g) (cost_share l mv main sides g) (cost_share l mv main sides (moved g mv))
 unfolding cost_of cost_share
 costs_balance l g mv main sides is same are of_sides = record {
   travel = travel_balances l g mv main are;
@@ -115,30 +111,19 @@ costs_balance l g mv main sides is same are of_sides = record {
   soft = rules_balance soft_share l g mv main is same are;
 }
 
--- so the known cost, with the share after in place of the share before, is the cost after
-pub record IsCostAfter (cost known before after : Cost) : Type 0 where
-  pub balance : CostsBalance cost known after before
-  pub known_small : IsSmall known
-
-pub kept_cost : (l : LeagueData) (g g' : Games) (mv : Move) (main : TouchedCells) (sides : ℕ) (known before after : Cost) →
+pub share_balances : (l : LeagueData) (g g' : Games) (mv : Move) (main : TouchedCells) (sides : ℕ) (known before after : Cost) →
     IsLeague l → teams l ≡ g.teams → AreMainCells g mv main → ((t : ℕ) → has sides t ≡ side_team g mv t) →
     known ≡ cost_of l g → before ≡ cost_share l mv main sides g → g' ≡ moved g mv → after ≡ cost_share l mv main sides g' →
-    IsCostAfter (cost_of l g') known before after
-kept_cost l g g' mv main sides known before after is same are of_sides known_is before_is made after_is = record {
-  balance = rw (known_is, before_is, after_is, made) (costs_balance l g mv main sides is same are of_sides);
-  known_small = rw known_is (cost_small l g is same);
-}
+    CostsBalance (cost_of l g') known before after
+share_balances l g g' mv main sides known before after is same are of_sides known_is before_is made after_is =
+    rw (known_is, before_is, after_is, made) (costs_balance l g mv main sides is same are of_sides)
 
-pub cost_after : (cost known before after : Cost) → IsCostAfter cost known before after →
-    record {
-      travel = known.travel + after.travel - before.travel;
-      hard = known.hard + after.hard - before.hard;
-      soft = known.soft + after.soft - before.soft;
-    } ≡ cost
-cost_after cost known before after is =
-    let travel : known.travel + after.travel - before.travel ≡ cost.travel = omega (arith, is.balance.travel) in
-    let hard : known.hard + after.hard - before.hard ≡ cost.hard = omega (arith, is.balance.hard) in
-    let soft : known.soft + after.soft - before.soft ≡ cost.soft = omega (arith, is.balance.soft) in
+-- what balances is one cost
+pub same_cost : (cost new known before after : Cost) → CostsBalance cost known before after → CostsBalance new known before after → cost ≡ new
+same_cost cost new known before after one other =
+    let travel : cost.travel ≡ new.travel = omega (arith, one.travel, other.travel) in
+    let hard : cost.hard ≡ new.hard = omega (arith, one.hard, other.hard) in
+    let soft : cost.soft ≡ new.soft = omega (arith, one.soft, other.soft) in
     rw (travel, hard, soft) refl
 
 pub score_after : (l : LeagueData) (g g' : Games) (mv : Move) → IsLeague l → teams l ≡ g.teams → g' ≡ moved g mv →

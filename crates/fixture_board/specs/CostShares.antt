@@ -1,6 +1,6 @@
 -- What of the costs a move can change, counted on the schedule before it or after it. `main` has the main teams of the
 -- move and its rounds.
-use Rattle.std.specs.Prelude.{ℕ, ◌+◌, ◌<◌, if◌then◌else◌, List, length, slice_get, Option, Some, None}
+use Rattle.std.specs.Prelude.{◌≡◌, ℕ, ◌+◌, ◌<◌, if◌then◌else◌, List, length, slice_get, Option, Some, None}
 use Rattle.league.specs.League.{LeagueData}
 use Rattle.league.specs.Sets.{has}
 use Rattle.league.specs.Sums.{sum_below}
@@ -48,6 +48,12 @@ cost_share l mv main sides g = record {
   hard = runs_part g l.at_most (has sides) (has main.rounds) + repeats_share mv main g + sum_over_seen_rules hard_share l.rules main.teams g;
   soft = sum_over_seen_rules soft_share l.rules main.teams g;
 }
+
+-- the new cost with the share before is the known one with the share after
+pub record CostsBalance (new known before after : Cost) : Type 0 where
+  pub travel : new.travel + before.travel ≡ known.travel + after.travel
+  pub hard : new.hard + before.hard ≡ known.hard + after.hard
+  pub soft : new.soft + before.soft ≡ known.soft + after.soft
 
 -- each of the three is below the limit of scores
 pub record IsSmall (cost : Cost) : Type 0 where

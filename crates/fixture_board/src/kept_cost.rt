@@ -5,7 +5,7 @@ ghost use Rattle.league.specs.League.{teams};
 ghost use Rattle.moves.specs.Moves.{moved};
 ghost use Rattle.moves.specs.MainCells.{AreMainCells};
 ghost use Rattle.fixture_board.specs.Costs.{cost_of, score_of, score_limit};
-ghost use Rattle.fixture_board.specs.CostShares.{travel_share, repeats_share, cost_share, IsSmall};
+ghost use Rattle.fixture_board.specs.CostShares.{travel_share, repeats_share, cost_share, CostsBalance, IsSmall};
 
 use crate::cost::Cost;
 use crate::rule_costs::{hard_of_seen_rules, soft_of_seen_rules};
@@ -16,7 +16,13 @@ use tours::{repeats_with, runs_part, travel_around, travel_part};
 
 /// Makes a move by its main cells on a schedule of known cost, and gives the cost after. Made once more with the same
 /// cells, it gives the schedule back. Takes no memory.
-pub fn make_at_cost(schedule: &mut Schedule, league: &League, mv: Move, main: Touched, known: Cost) -> Cost
+pub fn make_at_cost(
+    schedule: &mut Schedule,
+    league: &League,
+    mv: Move,
+    main: Touched,
+    known: Cost,
+) -> Cost
     requires same_size { teams league.now ≡ schedule.old.teams }
     requires main { AreMainCells schedule.old mv main }
     requires known { known ≡ cost_of league.now schedule.old }
@@ -31,6 +37,16 @@ pub fn make_at_cost(schedule: &mut Schedule, league: &League, mv: Move, main: To
     let before = share(schedule, league, mv, main, sides);
     make(schedule, mv, main);
     let after = share(schedule, league, mv, main, sides);
+    exchanged(known, before, after)
+}
+
+/// The known cost with one share in place of another.
+fn exchanged(known: Cost, before: Cost, after: Cost) -> Cost
+    requires known { IsSmall known }
+    requires after { IsSmall after }
+    requires balance { (new : Cost) × CostsBalance new known before after }
+    ensures { CostsBalance result known before after }
+{
     Cost {
         travel: known.travel + after.travel - before.travel,
         hard: known.hard + after.hard - before.hard,
@@ -45,7 +61,10 @@ fn share(schedule: &Schedule, league: &League, mv: Move, main: Touched, sides: T
     ensures value { result ≡ cost_share league.now mv main sides schedule.now }
     ensures small { IsSmall result }
 {
-    let of_sides = Touched { teams: sides, rounds: main.rounds };
+    let of_sides = Touched {
+        teams: sides,
+        rounds: main.rounds,
+    };
     let runs = runs_part(schedule, league, of_sides);
     let hard = hard_of_seen_rules(schedule, league, main.teams);
     Cost {

@@ -119,5 +119,9 @@ fn seen_deviation(schedule: &Schedule, rule: &Rule, main: TeamSet) -> u64
     ensures value { result ≡ seen_deviation main schedule.now rule.now.body }
     ensures most { result ≤ 10000000 }
 {
-    if looks_past(rule, main) { 0 } else { deviation(schedule, rule) }
+    if looks_past(rule, main) {
+        0
+    } else {
+        deviation(schedule, rule)
+    }
 }

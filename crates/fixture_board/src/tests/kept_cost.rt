@@ -1,8 +1,9 @@
-use super::shift;
+use super::{shift, undo};
 use crate::{Board, Proposal, cost_of};
 use league::{League, read_league};
 use moves::Move;
 use std::alloc::Global;
+use std::process::Abort;
 use std::test::Fail;
 
 /// One rule of each class, of teams and slots that each league has.
@@ -40,7 +41,9 @@ fn league(alloc: Global, teams: u8) -> Result<League, Fail> {
 
 /// A number below `bound`, drawn by a linear congruence.
 fn drawn(state: &mut u64, bound: u8) -> u8 {
-    *state = state.wrapping_mul(6364136223846793005).wrapping_add(1442695040888963407);
+    *state = state
+        .wrapping_mul(6364136223846793005)
+        .wrapping_add(1442695040888963407);
     ((*state >> 33) % u64::from(bound.max(1))) as u8
 }
 
@@ -58,26 +61,49 @@ fn drawn_move(state: &mut u64, teams: u8) -> Move {
     }
 }
 
-/// Some moves are withdrawn, since the score may rise by little, and each eighth change is undone.
+/// Makes the move, or undoes a change in one of eight cases, or withdraws the move where the score rises by much.
+fn change(board: &mut Board, state: &mut u64, mv: Move) {
+    match drawn(state, 8) {
+        0 => undo(board),
+        1..4 => {
+            let version = board.version();
+            let slack = u64::from(drawn(state, 100));
+            let proposal = Proposal {
+                version,
+                mv,
+                claim: None,
+                slack,
+            };
+            board.propose(0, proposal)
+        }
+        _ => shift(board, mv),
+    };
+}
+
+/// Over changes that are drawn, of which a fourth at least has to be made.
+fn keeps_its_cost(rt: &impl Abort, board: &mut Board, state: &mut u64, changes: u64) {
+    for _ in 0..changes {
+        let mv = drawn_move(state, board.schedule().teams());
+        change(board, state, mv);
+        let whole = cost_of(board.schedule(), board.league());
+        assert_eq!(rt; board.cost(), whole, "{mv:?}");
+    }
+    assert!(rt; board.version() > changes / 4);
+}
+
 #[test]
 fn the_kept_cost_is_that_of_the_whole_schedule(rt: HostRuntime) -> Result<(), Fail> {
     let mut state = 1;
-    for (teams, tries) in [(4, 2000), (6, 1000), (8, 1000), (10, 1000), (20, 400), (40, 200)] {
+    for (teams, changes) in [
+        (4, 2000),
+        (6, 1000),
+        (8, 1000),
+        (10, 1000),
+        (20, 400),
+        (40, 200),
+    ] {
         let mut board = Board::new(rt.alloc(), league(rt.alloc(), teams)?, 4096)?;
-        for _ in 0..tries {
-            let mv = drawn_move(&mut state, teams);
-            if drawn(&mut state, 8) == 0 {
-                let version = board.version();
-                board.undo(0, version);
-            } else if drawn(&mut state, 2) == 0 {
-                let version = board.version();
-                let slack = u64::from(drawn(&mut state, 100));
-                board.propose(0, Proposal { version, mv, claim: None, slack });
-            } else {
-                shift(&mut board, mv);
-            }
-            assert_eq!(rt; board.cost(), cost_of(board.schedule(), board.league()), "{teams} teams, {mv:?}");
-        }
+        keeps_its_cost(&rt, &mut board, &mut state, changes);
     }
     Ok(())
 }
