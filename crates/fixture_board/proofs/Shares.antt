@@ -1,5 +1,5 @@
 -- A move changes no more of the costs than their shares.
-use Rattle.std.proofs.Common.{◌≡◌, ℕ, ◌+◌, ◌-◌, ◌<◌, Bool, true, false, if◌then◌else◌, List, length, slice_get, Option, Some, None, Ok, refl, sym, ◌∙◌, ap, subst, arith}
+use Rattle.std.proofs.Common.{◌≡◌, ℕ, ◌+◌, ◌<◌, Bool, true, false, if◌then◌else◌, length, slice_get, Option, Some, None, refl, sym, ◌∙◌, ap, subst, arith}
 use Rattle.std.proofs.Math.Path.{fun_ext}
 use Rattle.std.proofs.lemmas.List.Elements.{All-from_recursion, All-get_or}
 use Rattle.std.proofs.lemmas.Option.{slice_get_within, get_or_from_slice_get}
@@ -10,7 +10,7 @@ use Rattle.league.specs.declared.rule.Rule.{Rule}
 use Rattle.league.specs.declared.rule.Weight.{Weight}
 use Rattle.league.proofs.ForCallers.{sum_below_balance}
 use Rattle.fixtures.specs.Changes.{DiffersOnlyIn}
-use Rattle.fixtures.specs.Games.{Games, IsDoubleRoundRobin}
+use Rattle.fixtures.specs.Games.{Games}
 use Rattle.fixtures.specs.TouchedCells.{TouchedCells}
 use Rattle.moves.specs.declared.moves.Move.{Move}
 use Rattle.moves.specs.declared.moves.Move.TheVariants.{Homes, Rounds, Teams, PartRounds, PartTeams}
@@ -19,9 +19,7 @@ use Rattle.moves.specs.Moves.{moved, touched_team}
 use Rattle.moves.proofs.EachMove.{each-differs}
 use Rattle.moves.proofs.ForCallers.{differs_around, each_double_round_robin, each_keeps_meetings, sides_differ_at}
 use Rattle.tours.specs.Repeats.{repeats}
-use Rattle.tours.specs.Runs.{runs_over}
 use Rattle.tours.specs.Tours.{travel}
-use Rattle.tours.specs.Parts.{runs_part}
 use Rattle.tours.proofs.ForCallers.{travel_balance, travel_balance_around, runs_balance_sides, repeats_balance_around, repeats_of_same_pairs}
 use Rattle.robinx.specs.Deviations.{deviation}
 use Rattle.robinx.specs.LooksPast.{looks_past}
@@ -42,23 +40,25 @@ differs_in_main g mv main are same =
 
 travel_balances : (l : LeagueData) (g : Games) (mv : Move) (main : TouchedCells) → AreMainCells g mv main →
     travel l (moved g mv) + travel_share l mv main g ≡ travel l g + travel_share l mv main (moved g mv)
-travel_balances l g (Homes i j) main are = travel_balance l g (moved g (Homes i j)) (has main.teams) (has main.rounds) (differs_in_main g (Homes i j) main are (λ t. refl))
-travel_balances l g (Rounds k m) main are = travel_balance l g (moved g (Rounds k m)) (has main.teams) (has main.rounds) (differs_in_main g (Rounds k m) main are (λ t. refl))
-travel_balances l g (PartRounds i k m) main are = travel_balance l g (moved g (PartRounds i k m)) (has main.teams) (has main.rounds) (differs_in_main g (PartRounds i k m) main are (λ t. refl))
-travel_balances l g (Teams i j) main are = travel_balance_around l g (moved g (Teams i j)) (has main.teams) (has main.rounds) (differs_around g (Teams i j) main are)
-travel_balances l g (PartTeams i j k) main are = travel_balance_around l g (moved g (PartTeams i j k)) (has main.teams) (has main.rounds) (differs_around g (PartTeams i j k) main are)
+travel_balances l g (Homes i j) main are = travel_balance l g _ _ _ (differs_in_main g (Homes i j) main are (λ t. refl))
+travel_balances l g (Rounds k m) main are = travel_balance l g _ _ _ (differs_in_main g (Rounds k m) main are (λ t. refl))
+travel_balances l g (PartRounds i k m) main are = travel_balance l g _ _ _ (differs_in_main g (PartRounds i k m) main are (λ t. refl))
+travel_balances l g (Teams i j) main are = travel_balance_around l g _ _ _ (differs_around g (Teams i j) main are)
+travel_balances l g (PartTeams i j k) main are = travel_balance_around l g _ _ _ (differs_around g (PartTeams i j k) main are)
 
 -- repeats
 
 repeats_balances : (g : Games) (mv : Move) (main : TouchedCells) → AreMainCells g mv main →
     repeats (moved g mv) + repeats_share mv main g ≡ repeats g + repeats_share mv main (moved g mv)
 repeats_balances g (Homes i j) main are =
-    ap (λ n. n + 0) (repeats_of_same_pairs g (moved g (Homes i j)) i i are.round_robin (each_keeps_meetings g (Homes i j) are.round_robin are.checked))
+    let keeps = each_keeps_meetings g (Homes i j) are.round_robin are.checked in
+    ap (λ n. n + 0) (repeats_of_same_pairs g _ i i are.round_robin keeps)
 repeats_balances g (Teams i j) main are =
-    ap (λ n. n + 0) (repeats_of_same_pairs g (moved g (Teams i j)) i j are.round_robin (each_keeps_meetings g (Teams i j) are.round_robin are.checked))
-repeats_balances g (Rounds k m) main are = repeats_balance_around g (moved g (Rounds k m)) (has main.teams) (has main.rounds) (differs_around g (Rounds k m) main are)
-repeats_balances g (PartRounds i k m) main are = repeats_balance_around g (moved g (PartRounds i k m)) (has main.teams) (has main.rounds) (differs_around g (PartRounds i k m) main are)
-repeats_balances g (PartTeams i j k) main are = repeats_balance_around g (moved g (PartTeams i j k)) (has main.teams) (has main.rounds) (differs_around g (PartTeams i j k) main are)
+    let keeps = each_keeps_meetings g (Teams i j) are.round_robin are.checked in
+    ap (λ n. n + 0) (repeats_of_same_pairs g _ i j are.round_robin keeps)
+repeats_balances g (Rounds k m) main are = repeats_balance_around g _ _ _ (differs_around g (Rounds k m) main are)
+repeats_balances g (PartRounds i k m) main are = repeats_balance_around g _ _ _ (differs_around g (PartRounds i k m) main are)
+repeats_balances g (PartTeams i j k) main are = repeats_balance_around g _ _ _ (differs_around g (PartTeams i j k) main are)
 
 -- rules
 
@@ -78,7 +78,8 @@ rule_balances share g mv main are (Some rule) for =
     (each_double_round_robin g mv are.round_robin are.checked) (for rule refl) (differs_around g mv main are)
     (looks_past_tested main.teams rule.body past))
 
-rule_for : (l : LeagueData) (g : Games) (i : ℕ) → IsLeague l → teams l ≡ g.teams → (rule : Rule) → slice_get l.rules i ≡ Some rule → IsBodyFor g.teams rule.body
+rule_for : (l : LeagueData) (g : Games) (i : ℕ) → IsLeague l → teams l ≡ g.teams → (rule : Rule) →
+    slice_get l.rules i ≡ Some rule → IsBodyFor g.teams rule.body
 rule_for l g i is same rule at =
     let for : IsRuleFor (teams l) rule =
     subst (IsRuleFor (teams l)) (get_or_from_slice_get l.rules i rule rule at)
@@ -86,7 +87,8 @@ rule_for l g i is same rule at =
     (All-from_recursion (IsRuleFor (teams l)) l.rules is.rules)) in
     subst (λ n. IsBodyFor n rule.body) same for.body
 
-rules_balance : (share : Weight → ℕ → ℕ) (l : LeagueData) (g : Games) (mv : Move) (main : TouchedCells) → IsLeague l → teams l ≡ g.teams → AreMainCells g mv main →
+rules_balance : (share : Weight → ℕ → ℕ) (l : LeagueData) (g : Games) (mv : Move) (main : TouchedCells) →
+    IsLeague l → teams l ≡ g.teams → AreMainCells g mv main →
     sum_over_rules share l.rules (moved g mv) + sum_over_seen_rules share l.rules main.teams g ≡
     sum_over_rules share l.rules g + sum_over_seen_rules share l.rules main.teams (moved g mv)
 unfolding sum_over_rules sum_over_seen_rules
@@ -96,9 +98,11 @@ rules_balance share l g mv main is same are =
 
 -- all costs
 
-costs_balance : (l : LeagueData) (g : Games) (mv : Move) (main : TouchedCells) (sides : ℕ) → IsLeague l → teams l ≡ g.teams → AreMainCells g mv main →
+costs_balance : (l : LeagueData) (g : Games) (mv : Move) (main : TouchedCells) (sides : ℕ) →
+    IsLeague l → teams l ≡ g.teams → AreMainCells g mv main →
     ((t : ℕ) → has sides t ≡ side_team g mv t) →
-    CostsBalance (cost_of l (moved g mv)) (cost_of l g) (cost_share l mv main sides g) (cost_share l mv main sides (moved g mv))
+    CostsBalance (cost_of l (moved g mv)) (cost_of l g)
+    (cost_share l mv main sides g) (cost_share l mv main sides (moved g mv))
 unfolding cost_of cost_share
 costs_balance l g mv main sides is same are of_sides = record {
   travel = travel_balances l g mv main are;
@@ -119,7 +123,8 @@ share_balances l g g' mv main sides known before after is same are of_sides know
     rw (known_is, before_is, after_is, made) (costs_balance l g mv main sides is same are of_sides)
 
 -- what balances is one cost
-pub same_cost : (cost new known before after : Cost) → CostsBalance cost known before after → CostsBalance new known before after → cost ≡ new
+pub same_cost : (cost new known before after : Cost) →
+    CostsBalance cost known before after → CostsBalance new known before after → cost ≡ new
 same_cost cost new known before after one other =
     let travel : cost.travel ≡ new.travel = omega (arith, one.travel, other.travel) in
     let hard : cost.hard ≡ new.hard = omega (arith, one.hard, other.hard) in
