@@ -1,1 +1,3 @@
 pub mod SeatLaws
+pub mod Chains
+pub mod Credited

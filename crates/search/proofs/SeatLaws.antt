@@ -17,7 +17,7 @@ use Rattle.shared_board.proofs.Counts.{under_append}
 use Rattle.search.specs.Doors.{done_count}
 
 -- no entry of the seat's is after what it knows
-under_known : (held : List ℕ) (seen h : List Entry) → Knows held seen h → under held h ≡ under held seen
+pub under_known : (held : List ℕ) (seen h : List Entry) → Knows held seen h → under held h ≡ under held seen
 under_known held seen h k =
     omega (arith, ap (under held) k.begins, under_append held seen k.after, k.none_after)
 

@@ -2,3 +2,5 @@ pub mod Draws
 pub mod Doors
 pub mod Reports
 pub mod Steps
+pub mod Outcomes
+pub mod Crews

@@ -1,4 +1,5 @@
-//! Workers that search for a cheaper schedule on one board: the moves that they draw, and their doors to the board.
+//! Workers that search for a cheaper schedule on one board: the moves that they draw, their
+//! doors to the board, what each does, and runs of several in threads.
 //!
 //! Teams and rounds are numbered from 0.
 #![tactic(auto)]
@@ -6,6 +7,7 @@
 mod doors;
 mod draws;
 mod gates;
+mod runs;
 #[cfg(test)]
 mod tests;
 mod workers;
@@ -13,4 +15,5 @@ mod workers;
 pub use doors::{Door, LockedDoor, OwnDoor, SeatDoor};
 pub use draws::draw;
 pub use gates::{Gate, NoGate};
+pub use runs::{Outcome, Reports, RunFault, RunRefused, SearchPlan, run, run_with};
 pub use workers::{Report, WorkerPlan, worker};

@@ -1,0 +1,71 @@
+-- The seats of a run: numbers that rise.
+use Rattle.std.proofs.Common.{◌≡◌, ℕ, ◌+◌, ◌<◌, List, [], ◌∷◌, ◌++◌, length, map, get_or, sym, ap, ◌∙◌, subst, arith, length-append, append_assoc}
+use Rattle.std.specs.List.{All}
+use Rattle.std.specs.List.Sorted.{IsStrictlyIncreasing}
+use Rattle.std.proofs.Math.Seq.{get_or-append_seam}
+use Rattle.std.proofs.lemmas.List.{get_or_append_left, map-append}
+use Rattle.std.proofs.lemmas.List.Elements.{All-nil, All-push, All-same, All-weaker}
+use mathlib.Core.Logic.{dite}
+use native.Mathlib.Decide.{ℕ_discrete}
+use Rattle.shared_board.specs.Seats.{BoardId, SeatValue, IsNew}
+use Rattle.shared_board.specs.Setting.{Setting}
+use Rattle.search.specs.declared.runs.threads.Job.{Job}
+use Rattle.search.specs.Crews.{IsChain, IsFresh, IsJob, job_number}
+
+increasing_push : (ns : List ℕ) (n : ℕ) → IsStrictlyIncreasing ns → All (λ m. m < n) ns → IsStrictlyIncreasing (ns ++ n ∷ [])
+increasing_push ns n was below k within =
+    let long = length-append ns (n ∷ []) in
+    let low : k < length ns = omega arith in
+    let here = get_or_append_left ns (n ∷ []) 0 k low in
+    dite (ℕ_discrete (k + 1) (length ns))
+    (λ e.
+    let seam = ap (λ (i : ℕ). get_or (ns ++ n ∷ []) i 0) e ∙ get_or-append_seam ns n [] 0 in
+    let less = below k 0 low in
+    omega (arith, here, seam, less))
+    (λ ne.
+    let more : k + 1 < length ns = omega arith in
+    let next = get_or_append_left ns (n ∷ []) 0 (k + 1) more in
+    let less = was k more in
+    omega (arith, here, next, less))
+
+below_push : (ns : List ℕ) (n m : ℕ) → All (λ k. k < n) ns → n < m → All (λ k. k < m) (ns ++ n ∷ [])
+below_push ns n m was less =
+    All-push (λ k. k < m) ns n (All-weaker (λ k. k < n) (λ k. k < m) (λ k h. omega arith) ns was) less
+
+-- a new seat is fresh, where the old one is
+fresh_next : (table : BoardId) (a b : SeatValue) → IsFresh table a → IsNew a b → IsFresh table b
+fresh_next table a b fresh new = record {
+  table_is = ap (λ (s : SeatValue). s.table) new.now ∙ fresh.table_is;
+  held = ap (λ (s : SeatValue). s.held) new.now;
+  seen = ap (λ (s : SeatValue). s.seen) new.now ∙ fresh.seen;
+  given = ap (λ (s : SeatValue). s.given) new.now;
+}
+
+-- the first of what is left comes to the end of what is done
+pub numbers_more : (done done' left left' all : List ℕ) (n m : ℕ) → done' ≡ done ++ n ∷ [] → left ≡ m ∷ left' → n ≡ m → done ++ left ≡ all → done' ++ left' ≡ all
+numbers_more done done' left left' all n m one_more one_less same is =
+    ap (λ (ns : List ℕ). ns ++ left') one_more ∙ append_assoc done (n ∷ []) left' ∙ ap (λ (k : ℕ). done ++ (k ∷ left')) same ∙
+    ap (λ (ns : List ℕ). done ++ ns) (sym one_less) ∙ is
+
+-- one more job gets the seat, and the run the one that was split from it
+pub chain_more : (table : BoardId) (setting : Setting) (jobs jobs' : List Job) (job : Job) (a b own : SeatValue) →
+    IsChain table setting jobs a → IsNew a b → own ≡ b → jobs' ≡ jobs ++ job ∷ [] → job.seat ≡ a → IsChain table setting jobs' own
+chain_more table setting jobs jobs' job a b own was new own_is items given =
+    let fresh = was.fresh in
+    let later = new.later in
+    let rises : a.number < b.number = omega (arith, fresh.given) in
+    let numbers : map job_number jobs' ≡ map job_number jobs ++ a.number ∷ [] =
+    ap (map job_number) items ∙ map-append job_number jobs (job ∷ []) ∙ ap (λ (s : SeatValue). map job_number jobs ++ s.number ∷ []) given
+    in
+    let P : SeatValue → Type 0 = λ s. IsChain table setting jobs' s in
+    let Rises : List ℕ → Type 0 = λ ns. IsStrictlyIncreasing ns in
+    let Below : List ℕ → Type 0 = λ ns. All (λ n. n < b.number) ns in
+    let Fresh : SeatValue → Type 0 = λ s. IsFresh table s in
+    subst P (sym own_is) (record {
+      fresh = fresh_next table a b was.fresh new;
+      setting_is = ap (λ (s : SeatValue). s.setting) new.now ∙ was.setting_is;
+      jobs_are = All-same (IsJob table) jobs' (jobs ++ job ∷ []) items
+          (All-push (IsJob table) jobs job was.jobs_are (subst Fresh (sym given) was.fresh));
+      rising = subst Rises (sym numbers) (increasing_push (map job_number jobs) a.number was.rising was.below);
+      below = subst Below (sym numbers) (below_push (map job_number jobs) a.number b.number was.below rises);
+    })

@@ -1,0 +1,81 @@
+-- What the run's seat knows of the entries of the seats that it took in.
+use Rattle.std.proofs.Common.{◌≡◌, ◌⊎◌, ℕ, ◌+◌, List, [], ◌∷◌, ◌++◌, map, refl, sym, ap, ◌∙◌, subst, arith, append_assoc}
+use Rattle.std.specs.List.{All}
+use Rattle.std.specs.declared.thread.PromisedHandle.{PromisedHandle}
+use mathlib.Core.Logic.{inl, inr}
+use Rattle.std.proofs.lemmas.List.{map-append}
+use Rattle.std.proofs.lemmas.List.Elements.{All-push, All-same}
+use Rattle.fixture_board.specs.declared.change.Entry.{Entry}
+use Rattle.shared_board.specs.Held.{under}
+use Rattle.shared_board.specs.Rule.{Knows}
+use Rattle.shared_board.specs.Seats.{BoardId, SeatValue, Absorbed}
+use Rattle.shared_board.proofs.Counts.{under_append, under_both}
+use Rattle.search.specs.declared.runs.threads.Ended.{Ended}
+use Rattle.search.specs.declared.runs.threads.Given.{Given}
+use Rattle.search.specs.declared.workers.Report.{Report}
+use Rattle.search.specs.Crews.{IsBack, IsGathered, IsHandle, handle_number}
+use Rattle.search.specs.Outcomes.{accepted_of, made_by}
+use Rattle.search.specs.Reports.{IsReport}
+use Rattle.search.proofs.SeatLaws.{under_known}
+
+-- entries under none of the numbers change none of their counts
+unmoved : (ns : List ℕ) (seen after : List Entry) → under ns after ≡ 0 → map (λ n. made_by n (seen ++ after)) ns ≡ map (λ n. made_by n seen) ns
+unmoved [] seen after none = refl
+unmoved (n ∷ ns) seen after none =
+    let both = under_both (n ∷ []) ns after in
+    let more = under_append (n ∷ []) seen after in
+    let first : made_by n (seen ++ after) ≡ made_by n seen = omega arith in
+    let rest = unmoved ns seen after (omega arith) in
+    cc
+
+-- after a seat with one number was taken in, the earlier numbers' counts are what they were, and this one's is its own
+counts_joined : (a other b : SeatValue) (own ns : List ℕ) (n : ℕ) → Absorbed a other b → a.held ≡ own ++ ns → other.held ≡ n ∷ [] →
+    (map (λ m. made_by m b.seen) ns ≡ map (λ m. made_by m a.seen) ns) × (made_by n b.seen ≡ made_by n other.seen)
+counts_joined a other b own ns n joined mine theirs =
+    elim joined.kept [
+      | inl k ↦
+          let own_is : made_by n a.seen ≡ under other.held a.seen = ap (λ (hs : List ℕ). under hs a.seen) (sym theirs) in
+          let other_is : under other.held other.seen ≡ made_by n other.seen = ap (λ (hs : List ℕ). under hs other.seen) theirs in
+          let seen : made_by n b.seen ≡ made_by n a.seen = ap (made_by n) k.0 in
+          (ap (λ (s : List Entry). map (λ m. made_by m s) ns) k.0, seen ∙ own_is ∙ under_known other.held other.seen a.seen k.1 ∙ other_is)
+      | inr k ↦
+          let after = k.1.after in
+          let parts = under_both own ns after in
+          let held : under a.held after ≡ under (own ++ ns) after = ap (λ (hs : List ℕ). under hs after) mine in
+          let gone = k.1.none_after in
+          let none : under ns after ≡ 0 = omega arith in
+          let seen : b.seen ≡ a.seen ++ after = k.0 ∙ k.1.begins in
+          (ap (λ (s : List Entry). map (λ m. made_by m s) ns) seen ∙ unmoved ns a.seen after none, ap (made_by n) k.0)
+    ]
+
+-- one more thread's seat is taken in
+pub gathered_more : (steps : ℕ) (table : BoardId) (was a other b : SeatValue) (done : List (PromisedHandle Ended Given)) (h : PromisedHandle Ended Given) (reports reports' : List Report) (report : Report) →
+    IsGathered steps table was a done reports → IsHandle steps table h → IsBack h.promise.steps h.promise.seat.value report other → Absorbed a other b → reports' ≡ reports ++ report ∷ [] →
+    IsGathered steps table was b (done ++ h ∷ []) reports'
+gathered_more steps table was a other b done h reports reports' report so given back joined items =
+    let numbers = map handle_number done in
+    let n = handle_number h in
+    let fresh = given.1 in
+    let theirs : other.held ≡ n ∷ [] = sym back.held ∙ fresh.held in
+    let counts = counts_joined a other b was.held numbers n joined so.held theirs in
+    let longer : map handle_number (done ++ h ∷ []) ≡ numbers ++ n ∷ [] = map-append handle_number done (h ∷ []) in
+    let of : ℕ → ℕ = λ m. made_by m b.seen in
+    let old : map of numbers ≡ map accepted_of reports = counts.0 ∙ so.credits in
+    let other_is : made_by n other.seen ≡ under other.held other.seen = ap (λ (hs : List ℕ). under hs other.seen) (sym theirs) in
+    let nothing : under h.promise.seat.value.held h.promise.seat.value.seen ≡ 0 = ap (under h.promise.seat.value.held) fresh.seen in
+    let told = back.counted in
+    let same = counts.1 in
+    let new : of n ≡ report.accepted = omega arith in
+    let front : map of (numbers ++ n ∷ []) ≡ map of numbers ++ (of n ∷ []) = map-append of numbers (n ∷ []) in
+    let back_is : map accepted_of reports' ≡ map accepted_of reports ++ (report.accepted ∷ []) = ap (map accepted_of) items ∙ map-append accepted_of reports (report ∷ []) in
+    let ends : map of numbers ++ (of n ∷ []) ≡ map accepted_of reports ++ (report.accepted ∷ []) = cc in
+    let IsOf : ℕ → Type 0 = λ k. IsReport k report in
+    record {
+      table_is = ap (λ (s : SeatValue). s.table) joined.now ∙ so.table_is;
+      setting = ap (λ (s : SeatValue). s.setting) joined.now ∙ so.setting;
+      held = ap (λ (s : SeatValue). s.held) joined.now ∙ ap (λ (hs : List ℕ). hs ++ other.held) so.held ∙
+          append_assoc was.held numbers other.held ∙ ap (λ (hs : List ℕ). was.held ++ (numbers ++ hs)) theirs ∙ ap (λ (hs : List ℕ). was.held ++ hs) (sym longer);
+      each = All-same (IsReport steps) reports' (reports ++ report ∷ []) items
+          (All-push (IsReport steps) reports report so.each (subst IsOf given.0 back.report_is));
+      credits = ap (map of) longer ∙ front ∙ ends ∙ sym back_is;
+    }

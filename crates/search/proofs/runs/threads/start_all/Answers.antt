@@ -1,0 +1,31 @@
+use Rattle.std.proofs.Common.{◌≡◌, ◌∷◌, [], ◌++◌, length, map, ap, ◌∙◌, arith}
+use Rattle.std.proofs.lemmas.List.{map-append}
+use Rattle.std.proofs.lemmas.List.Elements.{All-push, All-rest, All-same}
+use Rattle.std.specs.Vec.Iter.{into_iter_items}
+use Rattle.search.specs.Crews.{IsHandle, IsJob, handle_number, job_number}
+use Rattle.search.proofs.Chains.{numbers_more}
+use Rattle.search.proofs.runs.threads.start_all.Goals as goal
+
+pub loop-job-preserved : goal.loop-job-preserved
+loop-job-preserved g c =
+    let was = c.loop-job.invariant in
+    let rest = into_iter_items c.next.new.self in
+    let steps : into_iter_items c.loop-job.job-iterator ≡ c.in-Some.job ∷ rest = c.in-Some.ensures.steps.0 in
+    let gone = c.in-Some.ensures.steps.1 in
+    let short = ap length steps in
+    let pushed = c.push_reserved.ensures in
+    let old = c.loop-job.handles.items in
+    let handle = c.in-Some-start.handle in
+    record {
+      jobs = All-rest (IsJob c.args.shared.now) c.in-Some.job rest (into_iter_items c.loop-job.job-iterator) steps was.jobs;
+      left = omega (arith, was.left, gone, short);
+      handles = All-same (IsHandle c.args.plan.steps c.args.shared.now) c.push_reserved.new.self.items (old ++ handle ∷ []) pushed.items
+          (All-push (IsHandle c.args.plan.steps c.args.shared.now) old handle was.handles c.in-Some-start.ensures.handle);
+      count = omega (arith, gone, pushed.len, was.count);
+      room = omega (arith, pushed.capacity, was.room);
+      numbers = numbers_more (map handle_number old) (map handle_number c.push_reserved.new.self.items)
+          (map job_number (into_iter_items c.loop-job.job-iterator)) (map job_number rest) (map job_number c.args.jobs.items)
+          (handle_number handle) (job_number c.in-Some.job)
+          (ap (map handle_number) pushed.items ∙ map-append handle_number old (handle ∷ []))
+          (ap (map job_number) steps) c.in-Some-start.ensures.number was.numbers;
+    }

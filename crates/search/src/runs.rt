@@ -1,0 +1,197 @@
+//! A run: workers in threads, on one shared board.
+
+ghost use Rattle.std.specs.Prelude.{◌≡◌, ◌<◌, [], length, slice_index_or, IfOk, IfErr};
+ghost use Rattle.shared_board.specs.Setting.{board_at};
+ghost use Rattle.search.specs.Outcomes.{IsOutcome, IsRefusal, IsWorkers};
+ghost use Rattle.search.specs.Crews.{HasRoom, IsFresh};
+ghost use Rattle.search.specs.declared.workers.Report.{Report};
+
+mod crew;
+mod threads;
+
+use crate::workers::Report;
+use crate::{Gate, NoGate};
+use crew::Crew;
+use fixture_board::Board;
+use league::League;
+use shared_board::{Closed, Seat, Shared};
+use std::alloc::Global;
+use std::marker::Model;
+use std::sync::Wait;
+use std::thread::Threads;
+use thiserror::Error;
+use threads::{accepted_in, gather, launch, seat_all};
+
+/// The most workers of a run.
+const MAX_WORKERS: u32 = 16;
+
+/// What a run is to do.
+#[derive(Clone, Copy, Debug, PartialEq, Eq)]
+pub struct SearchPlan {
+    /// 1 to 16.
+    pub workers: u32,
+    pub seed: u64,
+    /// How many steps each worker takes.
+    pub steps: u32,
+    /// By how much a score may rise at a worker's first step.
+    pub slack: u64,
+}
+
+/// The reports of a run's workers, in their order. Contracts see the list.
+#[derive(Drop)]
+pub struct Reports {
+    reports: Vec<Report>,
+}
+
+impl Model for Reports {
+    ghost use Rattle.std.specs.Prelude.{List};
+    ghost use Rattle.search.specs.declared.workers.Report.{Report};
+
+    ghost Value = { List Report };
+
+    ghost view = { λ r. r.reports.items };
+}
+
+impl Reports {
+    /// How many workers there were.
+    pub fn len(&self) -> usize
+        ensures { result ≡ length self.now }
+    {
+        self.reports.len()
+    }
+
+    /// The report of a worker, from 0.
+    pub fn at(&self, worker: usize) -> Report
+        requires { worker < length self.now }
+        ensures { (d : Report) → result ≡ slice_index_or self.now worker d }
+    {
+        self.reports[worker]
+    }
+}
+
+/// What a run came to.
+#[derive(Drop)]
+pub struct Outcome {
+    pub board: Board,
+    pub reports: Reports,
+    pub plan: SearchPlan,
+}
+
+/// Why a run came to nothing.
+#[derive(Clone, Copy, Debug, PartialEq, Eq, Error)]
+pub enum RunFault {
+    /// The number of workers is not 1 to 16.
+    #[error("the number of workers is not 1 to 16")]
+    Workers,
+    /// A worker couldn't be started. Those that were started ended first.
+    #[error("a worker could not be started")]
+    Spawn,
+    /// The accepted proposals of the reports are not the board's entries.
+    #[error("the reports do not add up to the board's history")]
+    Receipts,
+    /// Memory ran out before the first worker was started.
+    #[error("out of memory")]
+    Memory,
+}
+
+/// Why a run came to nothing, and the board. After Workers and Memory it is as it was, or there is none where the
+/// shared board itself got no memory.
+#[derive(Drop)]
+pub struct RunRefused {
+    pub why: RunFault,
+    pub board: Option<Board>,
+}
+
+/// Has the plan's workers search on the board, each in a thread of its own.
+pub fn run<R: Threads + Wait + Sync>(
+    rt: &R,
+    alloc: Global,
+    league: &League,
+    board: Board,
+    plan: SearchPlan,
+) -> Result<Outcome, RunRefused>
+    requires { board.history ≡ [] }
+    ensures done { IfOk result (IsOutcome plan board) }
+    ensures refused { IfErr result (IsRefusal plan board) }
+{
+    run_with(rt, alloc, &NoGate, league, board, plan)
+}
+
+/// As `run`, with a gate that the workers pass.
+pub fn run_with<R: Threads + Wait + Sync, G: Gate + Sync>(
+    rt: &R,
+    alloc: Global,
+    gate: &G,
+    league: &League,
+    board: Board,
+    plan: SearchPlan,
+) -> Result<Outcome, RunRefused>
+    requires { board.history ≡ [] }
+    ensures done { IfOk result (IsOutcome plan board) }
+    ensures refused { IfErr result (IsRefusal plan board) }
+{
+    if plan.workers < 1 || MAX_WORKERS < plan.workers {
+        let why = RunFault::Workers;
+        let board = Some(board);
+        return Err(RunRefused { why, board });
+    }
+    let Ok(crew) = Crew::new(alloc, board.schedule(), plan.workers) else {
+        let why = RunFault::Memory;
+        let board = Some(board);
+        return Err(RunRefused { why, board });
+    };
+    let Ok((shared, seat)) = Shared::new(alloc, board) else {
+        let why = RunFault::Memory;
+        return Err(RunRefused { why, board: None });
+    };
+    search(rt, gate, league, shared, seat, crew, plan)
+}
+
+/// Has the workers search on a shared board that has no other seat yet, and closes it.
+fn search<R: Threads + Wait + Sync, G: Gate + Sync>(
+    rt: &R,
+    gate: &G,
+    league: &League,
+    shared: Shared,
+    mut seat: Seat,
+    crew: Crew,
+    plan: SearchPlan,
+) -> Result<Outcome, RunRefused>
+    requires seat { IsFresh shared seat }
+    requires crew { HasRoom plan.workers crew }
+    requires workers { IsWorkers plan }
+    ensures done { IfOk result (IsOutcome plan (board_at seat.setting [])) }
+    ensures refused { IfErr result (IsRefusal plan (board_at seat.setting [])) }
+{
+    let Crew {
+        copies,
+        jobs,
+        handles,
+        reports,
+    } = crew;
+    let Ok(jobs) = seat_all(rt, &shared, &mut seat, copies, jobs) else {
+        let why = RunFault::Spawn;
+        let board = Some(shared.close(rt, seat).board);
+        return Err(RunRefused { why, board });
+    };
+    let (all, handles) = launch(rt, &shared, gate, league, plan, jobs, handles);
+    let reports = gather(rt, &shared, &mut seat, handles, reports, plan.steps);
+    let accepted = accepted_in(&reports);
+    let Closed { board, whole } = shared.close(rt, seat);
+    if !all {
+        let why = RunFault::Spawn;
+        let board = Some(board);
+        return Err(RunRefused { why, board });
+    }
+    if !whole || accepted != board.version() {
+        let why = RunFault::Receipts;
+        let board = Some(board);
+        return Err(RunRefused { why, board });
+    }
+    let reports = Reports { reports };
+    Ok(Outcome {
+        board,
+        reports,
+        plan,
+    })
+}

@@ -1,0 +1,36 @@
+//! The memory of a run.
+
+ghost use Rattle.std.specs.Prelude.{IfOk};
+ghost use Rattle.search.specs.Crews.{HasRoom};
+
+use super::threads::{Handle, Job};
+use crate::workers::Report;
+use fixtures::Schedule;
+use std::alloc::{AllocError, Global};
+
+/// All memory of a run but the shared board's: a copy for each worker, and room for what there is one of for each.
+#[derive(Drop)]
+pub(crate) struct Crew {
+    pub(crate) copies: Vec<Schedule>,
+    pub(crate) jobs: Vec<Job>,
+    pub(crate) handles: Vec<Handle>,
+    pub(crate) reports: Vec<Report>,
+}
+
+impl Crew {
+    pub(crate) fn new(alloc: Global, schedule: &Schedule, workers: u32) -> Result<Crew, AllocError>
+        ensures { IfOk result (HasRoom workers) }
+    {
+        let count = workers as usize;
+        let mut copies = Vec::with_capacity(alloc, count)?;
+        for _ in 0..count {
+            copies.push_reserved(schedule.duplicate(alloc)?);
+        }
+        Ok(Crew {
+            copies,
+            jobs: Vec::with_capacity(alloc, count)?,
+            handles: Vec::with_capacity(alloc, count)?,
+            reports: Vec::with_capacity(alloc, count)?,
+        })
+    }
+}

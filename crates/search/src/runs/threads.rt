@@ -1,0 +1,227 @@
+//! The threads of a run: their seats, their start, and what comes back from them.
+
+ghost use Rattle.std.specs.Prelude.{◌≡◌, ◌+◌, ◌≤◌, [], length, map, All, IfOk, IfSome, IsTrue, vec_len, vec_capacity};
+ghost use Rattle.std.specs.List.Sorted.{IsStrictlyIncreasing};
+ghost use Rattle.search.specs.Crews.{IsBack, IsFresh, IsHandle, IsJob, handle_number, job_number};
+ghost use Rattle.search.specs.Outcomes.{accepted_in, accepted_of, made_by};
+ghost use Rattle.search.specs.Reports.{IsReport};
+
+use super::SearchPlan;
+use crate::workers::{Report, WorkerPlan, worker};
+use crate::{Gate, SeatDoor};
+use fixtures::Schedule;
+use league::League;
+use shared_board::{Seat, Shared, SplitFault};
+use std::snapshot::Snapshot;
+use std::sync::Wait;
+use std::thread::{Promise, PromisedHandle, Scope, Threads};
+use std::{mem, thread};
+
+/// What a worker's thread is given.
+#[derive(Drop)]
+pub(crate) struct Job {
+    worker: u32,
+    seat: Seat,
+    copy: Schedule,
+}
+
+/// What a worker's thread gives back.
+#[derive(Drop)]
+pub(crate) struct Ended {
+    report: Report,
+    seat: Seat,
+}
+
+/// The promise of a worker's thread: it takes so many steps at most, by the seat that it was given.
+#[derive(Drop)]
+pub(crate) struct Given {
+    steps: u32,
+    seat: Snapshot<Seat>,
+}
+
+impl Promise<Ended> for Given {
+    ghost use Rattle.search.specs.Crews.{IsBack};
+
+    ghost kept_by = { λ p e. IsBack p.steps p.seat.value e.report e.seat };
+}
+
+pub(crate) type Handle = PromisedHandle<Ended, Given>;
+
+/// A job for each copy, in the order of the workers. Each seat is split from the one before, so their numbers rise. The
+/// last one stays with the run.
+pub(crate) fn seat_all<R: Wait>(
+    rt: &R,
+    shared: &Shared,
+    seat: &mut Seat,
+    copies: Vec<Schedule>,
+    mut jobs: Vec<Job>,
+) -> Result<Vec<Job>, SplitFault>
+    requires seat { IsFresh shared.now seat.old }
+    requires none { jobs.items ≡ [] }
+    requires room { vec_len copies ≤ vec_capacity jobs }
+    requires few { vec_len copies ≤ 16 }
+    ensures table { seat.new.table ≡ shared.now }
+    ensures setting { seat.new.setting ≡ seat.old.setting }
+    ensures jobs { IfOk result (λ v. All (IsJob shared.now) v.items) }
+    ensures many { IfOk result (λ v. vec_len v ≡ vec_len copies) }
+    ensures rising { IfOk result (λ v. IsStrictlyIncreasing (map job_number v.items)) }
+{
+    for copy in copies {
+        let worker = jobs.len() as u32;
+        let next = shared.split(rt, seat)?;
+        let job = Job {
+            worker,
+            seat: mem::replace(seat, next),
+            copy,
+        };
+        jobs.push_reserved(job);
+    }
+    Ok(jobs)
+}
+
+/// Starts a thread for each job, until one can't be started, and waits until all that were started have ended. Tells
+/// whether all were.
+pub(crate) fn launch<R: Threads + Wait + Sync, G: Gate + Sync>(
+    rt: &R,
+    shared: &Shared,
+    gate: &G,
+    league: &League,
+    plan: SearchPlan,
+    jobs: Vec<Job>,
+    handles: Vec<Handle>,
+) -> (bool, Vec<Handle>)
+    requires jobs { All (IsJob shared.now) jobs.items }
+    requires none { handles.items ≡ [] }
+    requires room { vec_len jobs ≤ vec_capacity handles }
+    ensures handles { All (IsHandle plan.steps shared.now) result.1.items }
+    ensures few { vec_len result.1 ≤ vec_len jobs }
+    ensures all { IsTrue result.0 → map handle_number result.1.items ≡ map job_number jobs.items }
+{
+    thread::scope(
+        thread::scope_env(),
+        rt,
+        move |scope| -> (bool, Vec<Handle>)
+            requires jobs { All (IsJob shared.now) jobs.items }
+            requires none { handles.items ≡ [] }
+            requires room { vec_len jobs ≤ vec_capacity handles }
+            ensures handles { All (IsHandle plan.steps shared.entry.now) result.1.items }
+            ensures few { vec_len result.1 ≤ vec_len jobs }
+            ensures all { IsTrue result.0 → map handle_number result.1.items ≡ map job_number jobs.items }
+        { start_all(scope, rt, shared, gate, league, plan, jobs, handles) },
+    )
+}
+
+/// Starts a thread for each job, until one can't be started. Tells whether all were.
+fn start_all<'s, E, R: Wait + Sync, G: Gate + Sync>(
+    scope: &Scope<'s, E>,
+    rt: &'s R,
+    shared: &'s Shared,
+    gate: &'s G,
+    league: &'s League,
+    plan: SearchPlan,
+    jobs: Vec<Job>,
+    mut handles: Vec<Handle>,
+) -> (bool, Vec<Handle>)
+    requires jobs { All (IsJob shared.now) jobs.items }
+    requires none { handles.items ≡ [] }
+    requires room { vec_len jobs ≤ vec_capacity handles }
+    ensures handles { All (IsHandle plan.steps shared.now) result.1.items }
+    ensures few { vec_len result.1 ≤ vec_len jobs }
+    ensures all { IsTrue result.0 → map handle_number result.1.items ≡ map job_number jobs.items }
+{
+    for job in jobs {
+        let Some(handle) = start(scope, rt, shared, gate, league, plan, job) else {
+            return (false, handles);
+        };
+        handles.push_reserved(handle);
+    }
+    (true, handles)
+}
+
+/// Starts a worker's thread. Where that fails its seat is lost.
+fn start<'s, E, R: Wait + Sync, G: Gate + Sync>(
+    scope: &Scope<'s, E>,
+    rt: &'s R,
+    shared: &'s Shared,
+    gate: &'s G,
+    league: &'s League,
+    plan: SearchPlan,
+    job: Job,
+) -> Option<Handle>
+    requires { IsJob shared.now job }
+    ensures handle { IfSome result (IsHandle plan.steps shared.now) }
+    ensures number { IfSome result (λ h. handle_number h ≡ job_number job) }
+{
+    let given = Given {
+        steps: plan.steps,
+        seat: Snapshot::of(&job.seat),
+    };
+    scope
+        .spawn_with(given, move || work(rt, shared, gate, league, plan, job))
+        .ok()
+}
+
+/// What a worker's thread does.
+fn work<R: Wait, G: Gate>(
+    rt: &R,
+    shared: &Shared,
+    gate: &G,
+    league: &League,
+    plan: SearchPlan,
+    job: Job,
+) -> Ended
+    requires { IsJob shared.now job }
+    ensures { IsBack plan.steps job.seat result.report result.seat }
+{
+    let Job {
+        worker: number,
+        seat,
+        mut copy,
+    } = job;
+    let plan = WorkerPlan {
+        worker: number,
+        seed: plan.seed,
+        steps: plan.steps,
+        slack: plan.slack,
+    };
+    let mut door = SeatDoor { shared, seat };
+    let report = worker(rt, &mut door, gate, league, plan, &mut copy);
+    let SeatDoor { shared: _, seat } = door;
+    Ended { report, seat }
+}
+
+/// Takes in the seats of the threads, and gives their reports, in order.
+pub(crate) fn gather<R: Threads>(
+    rt: &R,
+    shared: &Shared,
+    seat: &mut Seat,
+    handles: Vec<Handle>,
+    mut reports: Vec<Report>,
+    steps: u32,
+) -> Vec<Report>
+    requires table { seat.old.table ≡ shared.now }
+    requires handles { All (IsHandle steps shared.now) handles.items }
+    requires none { reports.items ≡ [] }
+    requires room { vec_len handles ≤ vec_capacity reports }
+    ensures table { seat.new.table ≡ shared.now }
+    ensures setting { seat.new.setting ≡ seat.old.setting }
+    ensures many { vec_len result ≡ vec_len handles }
+    ensures each { All (IsReport steps) result.items }
+    ensures credits { map (λ n. made_by n seat.new.seen) (map handle_number handles.items) ≡ map accepted_of result.items }
+{
+    for handle in handles {
+        let ended = handle.join(rt);
+        prove!(ended.report.made <= steps);
+        shared.absorb(seat, ended.seat);
+        reports.push_reserved(ended.report);
+    }
+    reports
+}
+
+/// How many proposals were accepted in all.
+pub(crate) fn accepted_in(reports: &[Report]) -> u64
+    requires { length reports.now ≤ 16 }
+    ensures { result ≡ accepted_in reports.now }
+{
+    reports.iter().map(|r| u64::from(r.accepted)).sum()
+}
