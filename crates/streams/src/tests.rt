@@ -322,6 +322,35 @@ fn sends_pieces_longer_than_what_may_wait(rt: HostRuntime) -> Result<(), Fail> {
     assert_eq!(rt; &held[5001..8001], short.as_slice());
     assert_eq!(rt; &held[8001..11_001], short.as_slice());
     assert_eq!(rt; &held[11_001..], b">".as_slice());
+    assert_eq!(rt; sink.tally().calls, 4);
+    Ok(())
+}
+
+#[test]
+fn hands_a_sink_with_room_the_whole_text_at_once(rt: HostRuntime) -> Result<(), Fail> {
+    let text = vec![in rt.alloc(); b'x'; 12_000]?;
+    let mut room = vec![in rt.alloc(); 0; 12_000]?;
+    let mut sink = MemorySink::new(&mut room);
+    write_all(&mut sink, &text)?;
+    assert_eq!(rt; sink.tally().calls, 1);
+    Ok(())
+}
+
+// Two calls in a row carry more than the 4,096 bytes that may wait, whatever the pieces.
+#[test]
+fn makes_a_call_for_each_half_buffer_at_most(rt: HostRuntime) -> Result<(), Fail> {
+    let text = vec![in rt.alloc(); b'x'; 12_000]?;
+    for step in 1..64 {
+        let mut room = vec![in rt.alloc(); 0; 12_000]?;
+        let mut sink = MemorySink::new(&mut room);
+        let mut out = BufferedSink::new(&mut sink);
+        for piece in text.chunks(step * 81) {
+            out.write(piece)?;
+        }
+        out.flush()?;
+        assert_eq!(rt; sink.held(), text.as_slice());
+        assert!(rt; sink.tally().calls <= 7, "pieces of {} bytes", step * 81);
+    }
     Ok(())
 }
 
