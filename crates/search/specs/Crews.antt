@@ -1,5 +1,6 @@
 -- The parts of a run, as its own functions hand them on: memory, seats, jobs and threads.
-use Rattle.std.specs.Prelude.{◌≡◌, ℕ, ◌+◌, ◌<◌, ◌≤◌, List, [], ◌∷◌, ◌++◌, map, All, vec_len, vec_capacity}
+use Rattle.std.specs.Prelude.{◌≡◌, ℕ, ◌+◌, ◌<◌, ◌≤◌, List, [], ◌∷◌, ◌++◌, Bool, IsTrue, map, All, Vec, vec_len, vec_capacity}
+use Rattle.std.specs.declared.alloc.Global.{Global}
 use Rattle.std.specs.List.Sorted.{IsStrictlyIncreasing}
 use Rattle.std.specs.declared.thread.PromisedHandle.{PromisedHandle}
 use Rattle.shared_board.specs.Held.{under}
@@ -50,6 +51,18 @@ IsHandle steps table h = (h.promise.steps ≡ steps) × IsFresh table h.promise.
 
 abbrev pub handle_number : PromisedHandle Ended Given → ℕ
 handle_number h = h.promise.seat.value.number
+
+-- jobs by fresh seats, and room for their threads
+pub record CanStart (table : BoardId) (jobs : Vec Job Global) (handles : Vec (PromisedHandle Ended Given) Global) : Type 0 where
+  pub jobs_are : All (IsJob table) jobs.items
+  pub no_handle : handles.items ≡ []
+  pub room : vec_len jobs ≤ vec_capacity handles
+
+-- threads for the first of the jobs, or for all of them
+pub record AreStarted (steps : ℕ) (table : BoardId) (jobs : Vec Job Global) (all : Bool) (handles : Vec (PromisedHandle Ended Given) Global) : Type 0 where
+  pub handles_are : All (IsHandle steps table) handles.items
+  pub few : vec_len handles ≤ vec_len jobs
+  pub numbers : IsTrue all → map handle_number handles.items ≡ map job_number jobs.items
 
 -- what comes back from a thread that takes so many steps at most, with the seat that it was given
 pub record IsBack (steps : ℕ) (given : SeatValue) (report : Report) (seat : SeatValue) : Type 0 where

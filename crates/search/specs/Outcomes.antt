@@ -2,6 +2,7 @@
 use Rattle.std.specs.Prelude.{◌≡◌, ◌⊎◌, ℕ, ◌≤◌, List, [], ◌∷◌, length, map, sum_by, All, Option, Some, None}
 use Rattle.std.specs.List.Sorted.{IsStrictlyIncreasing}
 use Rattle.fixture_board.specs.declared.change.Entry.{Entry}
+use Rattle.fixture_board.specs.History.{IsLegal}
 use Rattle.fixture_board.specs.Record.{Book}
 use Rattle.shared_board.specs.Held.{under}
 use Rattle.search.specs.declared.workers.Report.{Report}
@@ -36,6 +37,7 @@ pub record IsOutcome (plan : SearchPlan) (was : Book) (o : Outcome) : Type 0 whe
   pub workers : IsWorkers plan
   pub league : o.board.league ≡ was.league
   pub room : o.board.room ≡ was.room
+  pub legal : IsLegal o.board.league o.board.room o.board.history
   pub many : length o.reports ≡ plan.workers
   pub each : All (IsReport plan.steps) o.reports
   pub sum : accepted_in o.reports ≡ length o.board.history

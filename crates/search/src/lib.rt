@@ -15,5 +15,5 @@ mod workers;
 pub use doors::{Door, LockedDoor, OwnDoor, SeatDoor};
 pub use draws::draw;
 pub use gates::{Gate, NoGate};
-pub use runs::{Outcome, Reports, RunFault, RunRefused, SearchPlan, run, run_with};
+pub use runs::{MAX_WORKERS, Outcome, Reports, RunFault, RunRefused, SearchPlan, run, run_with};
 pub use workers::{Report, WorkerPlan, worker};

@@ -23,7 +23,7 @@ use thiserror::Error;
 use threads::{accepted_in, gather, launch, seat_all};
 
 /// The most workers of a run.
-const MAX_WORKERS: u32 = 16;
+pub const MAX_WORKERS: u32 = 16;
 
 /// What a run is to do.
 #[derive(Clone, Copy, Debug, PartialEq, Eq)]

@@ -1,8 +1,8 @@
 //! The threads of a run: their seats, their start, and what comes back from them.
 
-ghost use Rattle.std.specs.Prelude.{◌≡◌, ◌+◌, ◌≤◌, [], length, map, All, IfOk, IfSome, IsTrue, vec_len, vec_capacity};
+ghost use Rattle.std.specs.Prelude.{◌≡◌, ◌+◌, ◌≤◌, [], length, map, All, IfOk, IfSome, vec_len, vec_capacity};
 ghost use Rattle.std.specs.List.Sorted.{IsStrictlyIncreasing};
-ghost use Rattle.search.specs.Crews.{IsBack, IsFresh, IsHandle, IsJob, handle_number, job_number};
+ghost use Rattle.search.specs.Crews.{AreStarted, CanStart, IsBack, IsFresh, IsHandle, IsJob, handle_number, job_number};
 ghost use Rattle.search.specs.Outcomes.{accepted_in, accepted_of, made_by};
 ghost use Rattle.search.specs.Reports.{IsReport};
 
@@ -90,23 +90,15 @@ pub(crate) fn launch<R: Threads + Wait + Sync, G: Gate + Sync>(
     jobs: Vec<Job>,
     handles: Vec<Handle>,
 ) -> (bool, Vec<Handle>)
-    requires jobs { All (IsJob shared.now) jobs.items }
-    requires none { handles.items ≡ [] }
-    requires room { vec_len jobs ≤ vec_capacity handles }
-    ensures handles { All (IsHandle plan.steps shared.now) result.1.items }
-    ensures few { vec_len result.1 ≤ vec_len jobs }
-    ensures all { IsTrue result.0 → map handle_number result.1.items ≡ map job_number jobs.items }
+    requires { CanStart shared.now jobs handles }
+    ensures { AreStarted plan.steps shared.now jobs result.0 result.1 }
 {
     thread::scope(
         thread::scope_env(),
         rt,
         move |scope| -> (bool, Vec<Handle>)
-            requires jobs { All (IsJob shared.now) jobs.items }
-            requires none { handles.items ≡ [] }
-            requires room { vec_len jobs ≤ vec_capacity handles }
-            ensures handles { All (IsHandle plan.steps shared.entry.now) result.1.items }
-            ensures few { vec_len result.1 ≤ vec_len jobs }
-            ensures all { IsTrue result.0 → map handle_number result.1.items ≡ map job_number jobs.items }
+            requires { CanStart shared.now jobs handles }
+            ensures { AreStarted plan.steps shared.entry.now jobs result.0 result.1 }
         { start_all(scope, rt, shared, gate, league, plan, jobs, handles) },
     )
 }
@@ -122,12 +114,8 @@ fn start_all<'s, E, R: Wait + Sync, G: Gate + Sync>(
     jobs: Vec<Job>,
     mut handles: Vec<Handle>,
 ) -> (bool, Vec<Handle>)
-    requires jobs { All (IsJob shared.now) jobs.items }
-    requires none { handles.items ≡ [] }
-    requires room { vec_len jobs ≤ vec_capacity handles }
-    ensures handles { All (IsHandle plan.steps shared.now) result.1.items }
-    ensures few { vec_len result.1 ≤ vec_len jobs }
-    ensures all { IsTrue result.0 → map handle_number result.1.items ≡ map job_number jobs.items }
+    requires { CanStart shared.now jobs handles }
+    ensures { AreStarted plan.steps shared.now jobs result.0 result.1 }
 {
     for job in jobs {
         let Some(handle) = start(scope, rt, shared, gate, league, plan, job) else {

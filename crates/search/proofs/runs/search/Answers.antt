@@ -15,7 +15,7 @@ returns-clause-done g c =
     let closed = c.close-board in
     let all : c.launch-all.result.0 ≡ true = search rules in
     let whole : closed.result.whole ≡ true = search rules in
-    let numbers : map handle_number handles.items ≡ map job_number c.in-Ok.jobs.items = c.launch-all.ensures.all all in
+    let numbers : map handle_number handles.items ≡ map job_number c.in-Ok.jobs.items = c.launch-all.ensures.numbers all in
     let setting = c.gather-reports.ensures.setting ∙ c.in-Ok.ensures.setting in
     let history : closed.result.board.history ≡ c.gather-reports.new.seat.seen =
     ap (λ (b : Book). b.history) closed.ensures.board ∙ (closed.ensures.whole whole).0
@@ -32,6 +32,7 @@ returns-clause-done g c =
       workers = c.requires.workers;
       league = ap (λ (b : Book). b.league) closed.ensures.board ∙ ap (λ (s : Setting). s.league) setting;
       room = ap (λ (b : Book). b.room) closed.ensures.board ∙ ap (λ (s : Setting). s.room) setting;
+      legal = c.version.ensures.legal;
       many = omega (arith, reports.ok.0, handles.ok.0, c.in-Ok.jobs.ok.0, c.gather-reports.ensures.many, c.in-Ok.ensures.many, c.requires.crew.copies, long, long_handles, long_jobs);
       each = c.gather-reports.ensures.each;
       sum = omega arith;
