@@ -1,24 +1,25 @@
-//! How many moves a second are made and taken back, by kind, for 4, 10, 20 and 40 teams.
+//! How fast moves, tries, a worker's steps and turns are, on the starts of leagues in a circle.
 //!
-//! The one argument says how many moves of each kind are tried, 100 where it is absent. How many were made, and how
-//! many refused, goes to standard output; how many are made and taken back in a second to standard error.
+//! The first argument says how many of each are measured, 100 where it is absent. What became of them goes to standard
+//! output, how fast they were to standard error.
 #![tactic(auto)]
-
-ghost use Rattle.std.specs.Prelude.{◌≡◌, ◌≤◌, ◌%◌};
 
 mod kind;
 mod measure;
+mod reports;
+mod steps;
+mod tries;
+mod turns;
 
-use kind::Kind;
-use measure::{Count, measure};
+use reports::{report_moves, report_steps, report_tries, report_turns};
 use std::process::ExitCode;
 use std::rt::Runtime;
-use std::time::Instant;
+use std::sync::Wait;
+use std::thread::Threads;
 use std::{env, io};
+use turns::Turn;
 
-const DEFAULT_MOVES: u32 = 100;
-
-const NANOSECONDS: u128 = 1_000_000_000;
+const DEFAULT_COUNT: u32 = 100;
 
 fn main(rt: HostRuntime) -> ExitCode {
     match run(&rt) {
@@ -30,48 +31,31 @@ fn main(rt: HostRuntime) -> ExitCode {
     }
 }
 
-fn run<R: Runtime + AllocGlobal>(rt: &R) -> io::Result<()> {
-    let moves = moves_of(rt)?;
-    report_size(rt, 4, moves)?;
-    report_size(rt, 10, moves)?;
-    report_size(rt, 20, moves)?;
-    report_size(rt, 40, moves)
-}
-
-/// The number that the one argument gives.
-fn moves_of<R: Runtime + AllocGlobal>(rt: &R) -> io::Result<u32> {
-    let words: Vec<String> = env::args(rt)?.collect(rt.alloc())?;
-    match words.get(1) {
-        None => Ok(DEFAULT_MOVES),
-        Some(word) => match word.as_str().parse() {
-            Ok(moves) => Ok(moves),
-            Err(_) => Err(io::Error::from(io::ErrorKind::InvalidInput)),
-        },
+fn run<R: Runtime + AllocGlobal + Threads + Wait + Sync>(rt: &R) -> io::Result<()> {
+    let count = count_of(rt)?;
+    for teams in [4, 10, 20, 40] {
+        report_moves(rt, teams, count)?;
     }
-}
-
-fn report_size<R: Runtime + AllocGlobal>(rt: &R, teams: u8, moves: u32) -> io::Result<()>
-    requires even { teams % 2 ≡ 0 }
-    requires four { 4 ≤ teams }
-    requires forty { teams ≤ 40 }
-{
-    for kind in Kind::ALL {
-        report(rt, teams, kind, moves)?;
+    for teams in [4, 8, 10, 20, 40] {
+        report_tries(rt, teams, count)?;
+        report_steps(rt, teams, count)?;
+    }
+    for turn in Turn::ALL {
+        for teams in [10, 40] {
+            report_turns(rt, teams, turn, count)?;
+        }
     }
     Ok(())
 }
 
-/// Measures moves of one kind on the Berger start.
-fn report<R: Runtime + AllocGlobal>(rt: &R, teams: u8, kind: Kind, moves: u32) -> io::Result<()>
-    requires even { teams % 2 ≡ 0 }
-    requires four { 4 ≤ teams }
-    requires forty { teams ≤ 40 }
-{
-    let mut schedule = fixtures::berger(rt.alloc(), teams)?;
-    let start = Instant::now(rt)?;
-    let Count { made, refused } = measure(&mut schedule, kind, moves);
-    let nanoseconds = start.elapsed(rt)?.as_nanos().max(1);
-    let a_second = u128::from(made) * NANOSECONDS / nanoseconds;
-    println!(rt; "{teams} teams {kind}: made {made} refused {refused}")?;
-    eprintln!(rt; "{teams} teams {kind}: {a_second} a second")
+/// The number that the one argument gives.
+fn count_of<R: Runtime + AllocGlobal>(rt: &R) -> io::Result<u32> {
+    let words: Vec<String> = env::args(rt)?.collect(rt.alloc())?;
+    match words.get(1) {
+        None => Ok(DEFAULT_COUNT),
+        Some(word) => match word.as_str().parse() {
+            Ok(count) => Ok(count),
+            Err(_) => Err(io::Error::from(io::ErrorKind::InvalidInput)),
+        },
+    }
 }

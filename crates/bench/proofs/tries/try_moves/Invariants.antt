@@ -1,0 +1,12 @@
+use Rattle.std.proofs.Common.{◌≡◌, ◌+◌, ◌≤◌}
+use Rattle.league.specs.League.{teams}
+use Rattle.search.specs.Steps.{IsKnown}
+use Rattle.bench.proofs.tries.try_moves.Given as goal
+
+abbrev pub invariant-loop : goal.invariant-loop
+invariant-loop l = record {
+  counted : l.kept + l.withdrawn ≤ l.counter;
+  same_size : teams l.league ≡ l.schedule.teams;
+  size : l.schedule.teams ≡ l.teams;
+  known : IsKnown l.league l.schedule l.known.cost l.known.score;
+}

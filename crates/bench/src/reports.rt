@@ -1,0 +1,142 @@
+//! What was measured, as lines: what it came to on standard output, and how fast it was on standard error.
+
+ghost use Rattle.std.specs.Prelude.{◌≡◌, ◌<◌, [], IfOk};
+
+use crate::kind::Kind;
+use crate::measure::{Count, measure};
+use crate::steps::{own_steps, seat_steps};
+use crate::tries::{Tries, try_moves};
+use crate::turns::{Turn, Work, take_turns};
+use fixture_board::{Board, MAX_ROOM};
+use league::{League, circular};
+use search::Report;
+use shared_board::{Seat, Shared};
+use std::alloc::Global;
+use std::io;
+use std::rt::Runtime;
+use std::sync::Wait;
+use std::thread::Threads;
+use std::time::Instant;
+
+/// Moves of each kind, made and taken back.
+pub fn report_moves<R: Runtime + AllocGlobal>(rt: &R, teams: u8, count: u32) -> io::Result<()> {
+    for kind in Kind::ALL {
+        report_kind(rt, teams, kind, count)?;
+    }
+    Ok(())
+}
+
+fn report_kind<R: Runtime + AllocGlobal>(
+    rt: &R,
+    teams: u8,
+    kind: Kind,
+    count: u32,
+) -> io::Result<()> {
+    let league = league_of(rt.alloc(), teams)?;
+    let mut schedule = fixtures::start(rt.alloc(), &league)?;
+    let start = Instant::now(rt)?;
+    let Count { made, refused } = measure(&mut schedule, kind, count);
+    let each = nanoseconds_each(rt, start, made)?;
+    println!(rt; "{teams} teams {kind}: made {made} refused {refused}")?;
+    eprintln!(rt; "{teams} teams {kind}: {each} ns each")
+}
+
+/// Tries of drawn moves.
+pub fn report_tries<R: Runtime + AllocGlobal>(rt: &R, teams: u8, count: u32) -> io::Result<()> {
+    let league = league_of(rt.alloc(), teams)?;
+    let mut schedule = fixtures::start(rt.alloc(), &league)?;
+    let start = Instant::now(rt)?;
+    let Tries {
+        kept,
+        withdrawn,
+        refused,
+    } = try_moves(&mut schedule, &league, count);
+    let each = nanoseconds_each(rt, start, count)?;
+    println!(rt; "{teams} teams tries: kept {kept} withdrawn {withdrawn} refused {refused}")?;
+    eprintln!(rt; "{teams} teams tries: {each} ns each")
+}
+
+/// Steps of a worker that has the board for itself, and of one that has the only seat of a shared board.
+pub fn report_steps<R: Runtime + AllocGlobal + Wait>(
+    rt: &R,
+    teams: u8,
+    count: u32,
+) -> io::Result<()> {
+    let league = league_of(rt.alloc(), teams)?;
+    let mut copy = fixtures::start(rt.alloc(), &league)?;
+
+    let board = board_of(rt.alloc(), teams, count)?;
+    let start = Instant::now(rt)?;
+    let Report { made, accepted, .. } = own_steps(rt, &league, board, &mut copy, count);
+    let each = nanoseconds_each(rt, start, count)?;
+    println!(rt; "{teams} teams own board: proposed {made} accepted {accepted}")?;
+    eprintln!(rt; "{teams} teams own board: {each} ns each")?;
+
+    let (shared, seat) = Shared::new(rt.alloc(), board_of(rt.alloc(), teams, count)?)?;
+    let start = Instant::now(rt)?;
+    let Report { made, accepted, .. } = seat_steps(rt, &league, &shared, seat, &mut copy, count);
+    let each = nanoseconds_each(rt, start, count)?;
+    println!(rt; "{teams} teams shared board: proposed {made} accepted {accepted}")?;
+    eprintln!(rt; "{teams} teams shared board: {each} ns each")
+}
+
+/// Turns of 1 to 16 threads on one shared board.
+pub fn report_turns<R: Runtime + AllocGlobal + Threads + Wait + Sync>(
+    rt: &R,
+    teams: u8,
+    turn: Turn,
+    count: u32,
+) -> io::Result<()> {
+    for threads in [1, 2, 4, 8, 16] {
+        report_threads(rt, teams, turn, threads, count)?;
+    }
+    Ok(())
+}
+
+fn report_threads<R: Runtime + AllocGlobal + Threads + Wait + Sync>(
+    rt: &R,
+    teams: u8,
+    turn: Turn,
+    threads: u32,
+    count: u32,
+) -> io::Result<()>
+    requires { 0 < threads }
+{
+    let board = board_of(rt.alloc(), teams, count)?;
+    let copy = board.schedule().duplicate(rt.alloc())?;
+    let (shared, seat) = Shared::new(rt.alloc(), board)?;
+    let turns = count / threads;
+    let work = Work { turn, turns };
+    let start = Instant::now(rt)?;
+    let Some(seat) = take_turns(rt, rt.alloc(), &shared, seat, copy, threads, work) else {
+        return Err(io::Error::from(io::ErrorKind::OutOfMemory));
+    };
+    let each = nanoseconds_each(rt, start, count)?;
+    let (held, accepted) = (seat.held(), seat.accepted());
+    let closed = shared.close(rt, seat);
+    if !closed.whole || held != threads || accepted != closed.board.version() {
+        return Err(io::Error::from(io::ErrorKind::InvalidData));
+    }
+    println!(rt; "{teams} teams {turn}: {threads} threads, {turns} turns each")?;
+    eprintln!(rt; "{teams} teams {turn}, {threads} threads: {each} ns each")
+}
+
+fn league_of(alloc: Global, teams: u8) -> io::Result<League> {
+    circular(alloc, teams).map_err(|_| io::Error::from(io::ErrorKind::OutOfMemory))
+}
+
+/// A board with room for so many entries, where there may be so many.
+fn board_of(alloc: Global, teams: u8, count: u32) -> io::Result<Board>
+    ensures { IfOk result (λ b. b.history ≡ []) }
+{
+    let league = league_of(alloc, teams)?;
+    match Board::new(alloc, league, count.min(MAX_ROOM)) {
+        Ok(board) => Ok(board),
+        Err(_) => Err(io::Error::from(io::ErrorKind::OutOfMemory)),
+    }
+}
+
+/// How long each of so many took.
+fn nanoseconds_each<R: Runtime>(rt: &R, start: Instant, count: u32) -> io::Result<u128> {
+    Ok(start.elapsed(rt)?.as_nanos() / u128::from(count.max(1)))
+}
