@@ -1,10 +1,28 @@
 //! What no contract says.
 
+ghost use Rattle.std.specs.Prelude.{◌≡◌, [], IfOk};
+
+mod doors;
+mod memory;
+mod runs;
+mod steps;
+
 use crate::draw;
+use fixture_board::Board;
+use league::circular;
 use moves::Move;
 use rand_pcg::Lcg64Xsh32;
+use std::alloc::Global;
+use std::test::Fail;
 
-/// The expected moves are those of `scripts/drawn-moves`, a program written apart from the definitions of PCG-XSH-RR 64/32
+/// A new board of a league in a circle.
+fn board(alloc: Global, teams: u8, room: u32) -> Result<Board, Fail>
+    ensures { IfOk result (λ b. b.history ≡ []) }
+{
+    Ok(Board::new(alloc, circular(alloc, teams)?, room)?)
+}
+
+/// The expected moves are those of `scripts/worker-steps`, a program written apart from the definitions of PCG-XSH-RR 64/32
 /// (O'Neill 2014) and of Canon's method.
 #[test]
 fn first_moves_of_the_first_worker(rt: HostRuntime) {

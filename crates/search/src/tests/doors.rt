@@ -1,0 +1,108 @@
+//! The worker of `worker_alone` in `steps.rt` over each kind of door: seven proposals, each granted.
+
+use super::board;
+use crate::{Door, LockedDoor, NoGate, OwnDoor, Report, SeatDoor, WorkerPlan, worker};
+use fixture_board::{Board, Change, Cost, Entry};
+use fixtures::berger;
+use league::circular;
+use moves::Move;
+use shared_board::Shared;
+use std::process::Abort;
+use std::sync::Mutex;
+use std::test::Fail;
+
+const PLAN: WorkerPlan = WorkerPlan {
+    worker: 0,
+    seed: 5,
+    steps: 16,
+    slack: 100,
+};
+
+const SEVEN: Report = Report {
+    made: 7,
+    accepted: 7,
+    refused: 0,
+};
+
+/// The last of seven entries is the caller's, and the last claim is the travel.
+fn check_board(rt: &impl Abort, board: &Board, caller: u32) {
+    assert!(rt; board.version() == 7);
+    let change = Change::Shift(Move::Rounds { k: 9, l: 8 });
+    assert_eq!(rt; board.entry(6), Entry { caller, change });
+    let cost = Cost {
+        travel: 90,
+        hard: 0,
+        soft: 0,
+    };
+    assert_eq!(rt; board.cost(), cost);
+}
+
+#[test]
+fn worker_with_an_own_board(rt: HostRuntime) -> Result<(), Fail> {
+    let league = circular(rt.alloc(), 6)?;
+    let board = board(rt.alloc(), 6, 1024)?;
+    let mut copy = board.schedule().duplicate(rt.alloc())?;
+    let mut door = OwnDoor {
+        board,
+        caller: 5,
+        dones: 0,
+    };
+    let report = worker(&rt, &mut door, &NoGate, &league, PLAN, &mut copy);
+    assert_eq!(rt; report, SEVEN);
+    assert_eq!(rt; door.dones(), 7);
+    check_board(&rt, &door.board, 5);
+    Ok(())
+}
+
+#[test]
+fn worker_with_a_board_under_a_lock(rt: HostRuntime) -> Result<(), Fail> {
+    let league = circular(rt.alloc(), 6)?;
+    let board = board(rt.alloc(), 6, 1024)?;
+    let mut copy = board.schedule().duplicate(rt.alloc())?;
+    let board = Mutex::new(board);
+    let mut door = LockedDoor {
+        board: &board,
+        caller: 6,
+        dones: 0,
+    };
+    let report = worker(&rt, &mut door, &NoGate, &league, PLAN, &mut copy);
+    assert_eq!(rt; report, SEVEN);
+    assert_eq!(rt; door.dones(), 7);
+    check_board(&rt, &board.lock(&rt), 6);
+    Ok(())
+}
+
+#[test]
+fn worker_with_a_seat(rt: HostRuntime) -> Result<(), Fail> {
+    let league = circular(rt.alloc(), 6)?;
+    let board = board(rt.alloc(), 6, 1024)?;
+    let mut copy = board.schedule().duplicate(rt.alloc())?;
+    let (shared, seat) = Shared::new(rt.alloc(), board)?;
+    let mut door = SeatDoor {
+        shared: &shared,
+        seat,
+    };
+    let report = worker(&rt, &mut door, &NoGate, &league, PLAN, &mut copy);
+    assert_eq!(rt; report, SEVEN);
+    assert_eq!(rt; door.dones(), 7);
+    let SeatDoor { shared: _, seat } = door;
+    let closed = shared.close(&rt, seat);
+    assert!(rt; closed.whole);
+    check_board(&rt, &closed.board, 0);
+    Ok(())
+}
+
+#[test]
+fn worker_with_a_copy_for_other_teams(rt: HostRuntime) -> Result<(), Fail> {
+    let league = circular(rt.alloc(), 6)?;
+    let mut copy = berger(rt.alloc(), 4)?;
+    let mut door = OwnDoor {
+        board: board(rt.alloc(), 6, 1024)?,
+        caller: 0,
+        dones: 0,
+    };
+    let report = worker(&rt, &mut door, &NoGate, &league, PLAN, &mut copy);
+    assert_eq!(rt; report.made, 0);
+    assert_eq!(rt; door.board.version(), 0);
+    Ok(())
+}

@@ -1,0 +1,202 @@
+//! Runs of workers in threads.
+
+ghost use Rattle.std.specs.Prelude.{◌≡◌, [], length, IfOk};
+
+use super::board;
+use crate::{Gate, NoGate, Outcome, RunFault, SearchPlan, run, run_with};
+use fixture_board::{Best, Board, Change, Proposal, Reply};
+use league::{League, circular};
+use std::alloc::Global;
+use std::hint::spin_loop;
+use std::process::Abort;
+use std::sync::Wait;
+use std::sync::atomic::{AtomicU64, Ordering};
+use std::test::Fail;
+use std::thread::Threads;
+
+/// How often a worker turns at the gate at most.
+const TURNS: u32 = 100_000_000;
+
+fn plan(workers: u32) -> SearchPlan {
+    SearchPlan {
+        workers,
+        seed: 1,
+        steps: 100,
+        slack: u64::MAX,
+    }
+}
+
+/// What a run on the circle of four teams comes to. Its history leads a board of one thread to the same.
+fn searched<R: Threads + Wait + Sync + Abort, G: Gate + Sync>(
+    rt: &R,
+    alloc: Global,
+    gate: &G,
+    plan: SearchPlan,
+) -> Result<Outcome, Fail>
+    ensures { IfOk result (λ o. length o.reports ≡ plan.workers) }
+{
+    let league = circular(alloc, 4)?;
+    let board = board(alloc, 4, 1024)?;
+    match run_with(rt, alloc, gate, &league, board, plan) {
+        Ok(outcome) => {
+            check_replay(rt, alloc, &outcome.board)?;
+            Ok(outcome)
+        }
+        Err(refused) => Err(refused.why.into()),
+    }
+}
+
+/// The history, made by one thread on a board of its own, gives the same schedule, cost and best.
+fn check_replay(rt: &impl Abort, alloc: Global, played: &Board) -> Result<(), Fail> {
+    let mut again = board(alloc, 4, 1024)?;
+    for i in 0..played.version() {
+        let entry = played.entry(i);
+        let Change::Shift(mv) = entry.change else {
+            panic!(rt; "workers only move");
+        };
+        let proposal = Proposal {
+            version: i,
+            mv,
+            claim: None,
+            slack: u64::MAX,
+        };
+        let reply = again.propose(entry.caller, proposal);
+        assert!(rt; matches!(reply, Reply::Done { .. }));
+    }
+    assert_eq!(rt; again.version(), played.version());
+    assert_eq!(rt; again.cost(), played.cost());
+    assert_eq!(rt; again.best(), played.best());
+    let (one, other) = (again.schedule(), played.schedule());
+    assert_eq!(rt; one.teams(), other.teams());
+    for team in 0..one.teams() {
+        for round in 0..one.rounds() {
+            assert_eq!(rt; one.game_at(team, round), other.game_at(team, round));
+        }
+    }
+    Ok(())
+}
+
+/// Each of two workers waits at its first proposal until the other is at its own, or TURNS is over.
+#[derive(Drop)]
+struct Meet {
+    first: AtomicU64,
+    second: AtomicU64,
+    late: AtomicU64,
+}
+
+impl Gate for Meet {
+    fn enter<R: Wait>(&self, _rt: &R, worker: u32, made: u32) {
+        if made != 0 {
+            return;
+        }
+        let (own, other) = if worker == 0 {
+            (&self.first, &self.second)
+        } else {
+            (&self.second, &self.first)
+        };
+        own.store(1, Ordering::SeqCst);
+        for _ in 0..TURNS {
+            if other.load(Ordering::SeqCst) == 1 {
+                return;
+            }
+            spin_loop();
+        }
+        self.late.store(1, Ordering::SeqCst);
+    }
+
+    fn left<R: Wait>(&self, _rt: &R, _worker: u32, _made: u32) {}
+}
+
+#[test]
+fn two_workers_at_once_20_times(rt: HostRuntime) -> Result<(), Fail> {
+    for _ in 0..20 {
+        let gate = Meet {
+            first: AtomicU64::new(0),
+            second: AtomicU64::new(0),
+            late: AtomicU64::new(0),
+        };
+        let outcome = searched(&rt, rt.alloc(), &gate, plan(2))?;
+        assert_eq!(rt; gate.late.load(Ordering::SeqCst), 0);
+        assert_eq!(rt; outcome.reports.len(), 2);
+        assert!(rt; 0 < outcome.reports.at(0).made);
+        assert!(rt; 0 < outcome.reports.at(1).made);
+    }
+    Ok(())
+}
+
+#[test]
+fn one_to_sixteen_workers(rt: HostRuntime) -> Result<(), Fail> {
+    for workers in [1, 2, 3, 16] {
+        let outcome = searched(&rt, rt.alloc(), &NoGate, plan(workers))?;
+        assert_eq!(rt; outcome.reports.len(), workers as usize);
+        assert_eq!(rt; outcome.plan, plan(workers));
+    }
+    Ok(())
+}
+
+#[test]
+fn one_worker_does_the_same_twice(rt: HostRuntime) -> Result<(), Fail> {
+    let one = searched(&rt, rt.alloc(), &NoGate, plan(1))?;
+    let two = searched(&rt, rt.alloc(), &NoGate, plan(1))?;
+    assert_eq!(rt; one.reports.len(), 1);
+    assert_eq!(rt; two.reports.len(), 1);
+    assert!(rt; 0 < one.reports.at(0).accepted);
+    assert_eq!(rt; one.reports.at(0), two.reports.at(0));
+    assert_eq!(rt; one.board.version(), two.board.version());
+    for i in 0..one.board.version() {
+        assert_eq!(rt; one.board.entry(i), two.board.entry(i));
+    }
+    Ok(())
+}
+
+#[test]
+fn no_steps_change_nothing(rt: HostRuntime) -> Result<(), Fail> {
+    let plan = SearchPlan {
+        workers: 2,
+        seed: 7,
+        steps: 0,
+        slack: 0,
+    };
+    let outcome = searched(&rt, rt.alloc(), &NoGate, plan)?;
+    assert_eq!(rt; outcome.reports.len(), 2);
+    assert_eq!(rt; outcome.reports.at(1).made, 0);
+    assert_eq!(rt; outcome.board.version(), 0);
+    assert_eq!(rt; outcome.board.best(), Some(Best { at: 0, total: 30 }));
+    Ok(())
+}
+
+#[test]
+fn none_and_seventeen_workers_are_refused(rt: HostRuntime) -> Result<(), Fail> {
+    let league = circular(rt.alloc(), 4)?;
+    let board = board(rt.alloc(), 4, 1024)?;
+    let board = refused(&rt, rt.alloc(), &league, board, 0)?;
+    let board = refused(&rt, rt.alloc(), &league, board, 17)?;
+    match run(&rt, rt.alloc(), &league, board, plan(1)) {
+        Ok(outcome) => {
+            assert!(rt; 0 < outcome.board.version());
+            check_replay(&rt, rt.alloc(), &outcome.board)?;
+        }
+        Err(refused) => return Err(refused.why.into()),
+    }
+    Ok(())
+}
+
+/// The board that comes back where there are none or too many workers.
+fn refused<R: Threads + Wait + Sync>(
+    rt: &R,
+    alloc: Global,
+    league: &League,
+    board: Board,
+    workers: u32,
+) -> Result<Board, Fail>
+    requires { board.history ≡ [] }
+    ensures { IfOk result (λ b. b.history ≡ []) }
+{
+    match run(rt, alloc, league, board, plan(workers)) {
+        Ok(_) => Err("it ran".into()),
+        Err(refused) => match (refused.why, refused.board) {
+            (RunFault::Workers, Some(board)) => Ok(board),
+            _ => Err("another fault".into()),
+        },
+    }
+}
