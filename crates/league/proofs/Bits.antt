@@ -1,9 +1,11 @@
 -- A set of numbers as the number of its bits.
-use Rattle.std.proofs.Common.{◌≡◌, ℕ, ◌-◌, ◌*◌, ◌^◌, ◌%◌, ◌<◌, ◌≤◌, ◌||◌, ◌==◌, nat_lt, max, bit_or, true, false, refl, sym, ◌∙◌, ap, inl, inr, arith}
+use Rattle.std.proofs.Common.{◌≡◌, ℕ, ◌-◌, ◌*◌, ◌^◌, ◌%◌, ◌<◌, ◌≤◌, ◌||◌, ◌==◌, nat_lt, max, bit_or, true, false, refl}
+use Rattle.std.proofs.Common.{sym, ◌∙◌, ap, inl, inr, arith}
 use Rattle.std.proofs.Math.Nat.{pow-le-pow_right, max-zero}
 use Rattle.std.proofs.lemmas.Bool.{cases_eq, cases_lt, eq-eqb, ne_eqb, lt-ltb, le-ltb, or_left, false≢true}
 use Rattle.std.proofs.lemmas.Nat.{pow_pos, pow_below, or_lt, le_or_l, one_shl}
-use Rattle.std.proofs.lemmas.Nat.Bits.{bit_at_or, bit_at-lt, bit_at-pow_same, bit_at-pow_other, bit_at_ones, bit_at_ones_above, bit_at_above}
+use Rattle.std.proofs.lemmas.Nat.Bits.{bit_at_or, bit_at-lt, bit_at-pow_same, bit_at-pow_other, bit_at_ones}
+use Rattle.std.proofs.lemmas.Nat.Bits.{bit_at_ones_above, bit_at_above}
 use Rattle.std.specs.Int.{bit_at}
 use Rattle.league.specs.Sets.{has, IsBelow, with_number, all_numbers}
 
@@ -35,7 +37,8 @@ one_bit b small = eq-eqb (max b 1) 1 (omega arith)
 pub has_with_number : (set k t : ℕ) → has (with_number set k) t ≡ (t == k || has set t)
 unfolding with_number
 has_with_number set k t = elim (cases_eq t k) [
-  | inl same ↦ rw (same, bit_at_or set (2 ^ k) k, bit_at-pow_same k, eq-eqb k k refl) (one_bit (bit_at set k) (bit_at-lt set k))
+  | inl same ↦
+      rw (same, bit_at_or set (2 ^ k) k, bit_at-pow_same k, eq-eqb k k refl) (one_bit (bit_at set k) (bit_at-lt set k))
   | inr other ↦ rw (bit_at_or set (2 ^ k) t, bit_at-pow_other k t other, max-zero (bit_at set t), ne_eqb t k other) refl
 ]
 
@@ -58,4 +61,5 @@ pub with_number-grows : (set k : ℕ) → has set k ≡ false → set < with_num
 with_number-grows set k out = omega (arith, le-with_number set k, other)
   where
     other : set ≡ with_number set k → ⊥
-    other same = false≢true (sym out ∙ ap (λ s. has s k) same ∙ has_with_number set k k ∙ or_left (k == k) (has set k) (eq-eqb k k refl))
+    other same =
+        false≢true (sym out ∙ ap (λ s. has s k) same ∙ has_with_number set k k ∙ or_left (k == k) (has set k) (eq-eqb k k refl))

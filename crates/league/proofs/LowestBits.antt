@@ -1,9 +1,12 @@
 -- The lowest number of a set, and the set without it, as the bits of two words.
-use Rattle.std.proofs.Common.{◌≡◌, ℕ, suc, Bool, ◌+◌, ◌-◌, ◌*◌, ◌/◌, ◌^◌, ◌%◌, ◌<◌, ◌≤◌, ◌≢◌, ◌&&◌, ◌==◌, not, min, bit_and, true, false, refl, sym, ◌∙◌, ap, inl, inr, arith}
+use Rattle.std.proofs.Common.{◌≡◌, ℕ, suc, Bool, ◌+◌, ◌-◌, ◌*◌, ◌/◌, ◌^◌, ◌%◌, ◌<◌, ◌&&◌, ◌==◌, not, min}
+use Rattle.std.proofs.Common.{bit_and, true, false, refl, sym, ◌∙◌, ap, inl, inr, arith}
 use Rattle.std.proofs.Math.Nat.{min-zero, zero-min}
-use Rattle.std.proofs.lemmas.Bool.{cases_eq, cases_lt, eq-eqb, ne_eqb, and_left, and_right}
+use Rattle.std.proofs.lemmas.Bool.{cases_eq, cases_lt, eq-eqb, ne_eqb, and_right}
 use Rattle.std.proofs.lemmas.Nat.{pow_pos, shr_split, mod_below, and_le_r}
-use Rattle.std.proofs.lemmas.Nat.Bits.{bit_at_and, bit_at-lt, bit_at-suc, bit_at-zero, bit_at_lowest, bit_at_ones, bit_at_cat_low, bit_at_cat_high, same_from_bits_below, bit_at_above, bit_at-trailing_zeros}
+use Rattle.std.proofs.lemmas.Nat.Bits.{bit_at_and, bit_at-suc, bit_at-zero, bit_at_lowest}
+use Rattle.std.proofs.lemmas.Nat.Bits.{bit_at_cat_low, bit_at_cat_high, same_from_bits_below}
+use Rattle.std.proofs.lemmas.Nat.Bits.{bit_at-trailing_zeros}
 use Rattle.std.specs.Int.{bit_at, Width, trailing_zeros}
 use mir.Val.{bits}
 use Rattle.league.specs.Sets.{has, IsWithoutLowest}
@@ -32,7 +35,8 @@ before_shifted set k lowest = before (set / 2 ^ k) (2 ^ k) set (as_shifted set k
     one_more q p = omega arith
 
     before : (q p n : ℕ) → n ≡ q * p + 0 → 0 < p → q % 2 ≡ 1 → n - 1 ≡ (q - 1) * p + (p - 1)
-    before q p n is pos is_odd = let one_less : q - 1 + 1 ≡ q = omega arith in omega (arith, sym (ap (λ m. m * p) one_less) ∙ one_more (q - 1) p)
+    before q p n is pos is_odd =
+        let one_less : q - 1 + 1 ≡ q = omega arith in omega (arith, sym (ap (λ m. m * p) one_less) ∙ one_more (q - 1) p)
 
 -- above its lowest bit, an odd number and the one before it have the same bits
 odd_before : (q i : ℕ) → q % 2 ≡ 1 → bit_at (q - 1) (suc i) ≡ bit_at q (suc i)
@@ -44,14 +48,18 @@ min_same : (b : ℕ) → min b b ≡ b
 min_same b = omega arith
 
 bit_without_below : (set k i : ℕ) → IsLowest set k → i < k → bit_at (bit_and set (set - 1)) i ≡ 0
-bit_without_below set k i lowest lt = rw (bit_at_and set (set - 1) i, lowest.none_below i lt, zero-min (bit_at (set - 1) i)) refl
+bit_without_below set k i lowest lt =
+    rw (bit_at_and set (set - 1) i, lowest.none_below i lt, zero-min (bit_at (set - 1) i)) refl
 
 bit_without_at : (set k : ℕ) → IsLowest set k → bit_at (bit_and set (set - 1)) k ≡ 0
 bit_without_at set k lowest =
     let low : 2 ^ k - 1 < 2 ^ k = omega (arith, pow_pos k) in
     let nowhere : k - k ≡ 0 = omega arith in
-    let even : bit_at (set / 2 ^ k - 1) (k - k) ≡ 0 = ap (λ i. bit_at (set / 2 ^ k - 1) i) nowhere ∙ bit_at_lowest (set / 2 ^ k - 1) ∙ omega (arith, odd set k lowest) in
-    let gone : bit_at (set - 1) k ≡ 0 = ap (λ n. bit_at n k) (before_shifted set k lowest) ∙ bit_at_cat_high (set / 2 ^ k - 1) k (2 ^ k - 1) k low (omega arith) ∙ even in
+    let even : bit_at (set / 2 ^ k - 1) (k - k) ≡ 0 =
+    ap (λ i. bit_at (set / 2 ^ k - 1) i) nowhere ∙ bit_at_lowest (set / 2 ^ k - 1) ∙ omega (arith, odd set k lowest) in
+    let gone : bit_at (set - 1) k ≡ 0 =
+    ap (λ n. bit_at n k) (before_shifted set k lowest)
+    ∙ bit_at_cat_high (set / 2 ^ k - 1) k (2 ^ k - 1) k low (omega arith) ∙ even in
     rw (bit_at_and set (set - 1) k, gone, min-zero (bit_at set k)) refl
 
 bit_without_above : (set k j : ℕ) → IsLowest set k → bit_at (bit_and set (set - 1)) (k + suc j) ≡ bit_at set (k + suc j)
@@ -60,10 +68,13 @@ bit_without_above set k j lowest =
     let back : k + suc j - k ≡ suc j = omega arith in
     let high : (q : ℕ) → bit_at q (k + suc j - k) ≡ bit_at q (suc j) = λ q. ap (λ i. bit_at q i) back in
     let before : bit_at (set - 1) (k + suc j) ≡ bit_at (set / 2 ^ k - 1) (suc j) =
-    ap (λ n. bit_at n (k + suc j)) (before_shifted set k lowest) ∙ bit_at_cat_high (set / 2 ^ k - 1) k (2 ^ k - 1) (k + suc j) low (omega arith) ∙ high (set / 2 ^ k - 1) in
+    ap (λ n. bit_at n (k + suc j)) (before_shifted set k lowest)
+    ∙ bit_at_cat_high (set / 2 ^ k - 1) k (2 ^ k - 1) (k + suc j) low (omega arith) ∙ high (set / 2 ^ k - 1) in
     let whole : bit_at set (k + suc j) ≡ bit_at (set / 2 ^ k) (suc j) =
-    ap (λ n. bit_at n (k + suc j)) (as_shifted set k lowest) ∙ bit_at_cat_high (set / 2 ^ k) k 0 (k + suc j) (pow_pos k) (omega arith) ∙ high (set / 2 ^ k) in
-    let same : bit_at (set - 1) (k + suc j) ≡ bit_at set (k + suc j) = before ∙ odd_before (set / 2 ^ k) j (odd set k lowest) ∙ sym whole in
+    ap (λ n. bit_at n (k + suc j)) (as_shifted set k lowest)
+    ∙ bit_at_cat_high (set / 2 ^ k) k 0 (k + suc j) (pow_pos k) (omega arith) ∙ high (set / 2 ^ k) in
+    let same : bit_at (set - 1) (k + suc j) ≡ bit_at set (k + suc j) =
+    before ∙ odd_before (set / 2 ^ k) j (odd set k lowest) ∙ sym whole in
     rw (bit_at_and set (set - 1) (k + suc j), same) (min_same (bit_at set (k + suc j)))
 
 has_without : (set k i : ℕ) → IsLowest set k → has (bit_and set (set - 1)) i ≡ (has set i && not (i == k))
@@ -74,7 +85,8 @@ has_without set k i lowest = elim (cases_eq i k) [
     | inr from ↦
         let above : i ≡ k + suc (i - k - 1) = omega arith in
         let kept : bit_at (bit_and set (set - 1)) i ≡ bit_at set i =
-        ap (λ n. bit_at (bit_and set (set - 1)) n) above ∙ bit_without_above set k (i - k - 1) lowest ∙ ap (λ n. bit_at set n) (sym above) in
+        ap (λ n. bit_at (bit_and set (set - 1)) n) above ∙ bit_without_above set k (i - k - 1) lowest
+        ∙ ap (λ n. bit_at set n) (sym above) in
         rw (kept, ne_eqb i k other) (sym (kept_and (has set i)))
   ]
 ]
@@ -84,7 +96,8 @@ has_without set k i lowest = elim (cases_eq i k) [
     kept_and false = refl
 
 -- the bit that `n & (n - 1)` takes out of a word is the one that `trailing_zeros` tells
-pub lowest_taken : (w : Width) (set : ℕ) → 0 < set → set < 2 ^ bits w → IsWithoutLowest set (trailing_zeros w set) (bit_and set (set - 1))
+pub lowest_taken : (w : Width) (set : ℕ) → 0 < set → set < 2 ^ bits w
+    → IsWithoutLowest set (trailing_zeros w set) (bit_and set (set - 1))
 lowest_taken w set some fits =
     let zeros = bit_at-trailing_zeros w set some fits in
     let lowest : IsLowest set (trailing_zeros w set) = record { is_set = zeros.1; none_below = zeros.2 } in

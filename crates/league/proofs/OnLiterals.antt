@@ -4,9 +4,9 @@ use Rattle.std.specs.Fmt.{digits}
 use Rattle.std.specs.Str.{is_utf8, chars}
 use Rattle.serde_json.proofs.OnLiterals.{serde_json_on_literals}
 use Rattle.league.specs.Sums.{all_below}
-use Rattle.league.specs.Limits.{checked, has_zero_diagonal, is_symmetric, is_mirrored_at}
+use Rattle.league.specs.Checks.{checked, has_zero_diagonal, is_symmetric, is_mirrored_at}
 use Rattle.league.specs.Sets.{with_number, all_numbers}
-use Rattle.league.specs.Rules.{ca1_of, ca2_of, ca3_of, ca4_of, ga1_of, br1_of, br2_of, se1_of}
+use Rattle.league.specs.RuleClasses.{ca1_of, ca2_of, ca3_of, ca4_of, ga1_of, br1_of, br2_of, se1_of}
 use Rattle.league.specs.League.{rule_of, league_of, league_of_data}
 use Rattle.league.specs.Made.{made, apart}
 

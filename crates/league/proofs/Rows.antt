@@ -1,14 +1,16 @@
 -- A row of numbers in the code, and in the definitions; a table's rows one after another.
-use Rattle.std.proofs.Common.{◌≡◌, ℕ, zero, suc, ◌+◌, ◌-◌, ◌*◌, ◌<◌, ◌≤◌, List, [], ◌∷◌, ◌++◌, length, get_or, take, drop, Vec, String, string_bytes, Global, refl, sym, ◌∙◌, ap, arith}
-use Rattle.std.proofs.lemmas.List.{get_or-map, get_or-take, get_or-drop, length-take, length-drop, length-map, get_or_default, drop_all, append-nil}
+use Rattle.std.proofs.Common.{◌≡◌, ℕ, zero, suc, ◌+◌, ◌*◌, ◌<◌, ◌≤◌, List, [], ◌∷◌, ◌++◌, length, get_or, take}
+use Rattle.std.proofs.Common.{drop, Vec, String, string_bytes, Global, refl, sym, ◌∙◌, ap, arith}
+use Rattle.std.proofs.lemmas.List.{get_or-map, get_or-take, get_or-drop, length-take, length-drop, length-map}
+use Rattle.std.proofs.lemmas.List.{get_or_default, drop_all, append-nil}
 use Rattle.std.proofs.lemmas.Nat.{mul-add-lt}
-use Rattle.std.specs.List.{AllByRecursion}
-use Rattle.league.specs.Limits.{distance_of, IsTable}
+use Rattle.league.specs.Checks.{distance_of, IsTable}
 use Rattle.league.specs.Rows.{cut, table_of}
 use Rattle.league.specs.Views.{texts, rows, row_items}
 use Rattle.league.proofs.Tables.{HasColumns}
 
-pub get_or-rows : (table : List (Vec ℕ Global)) (a : ℕ) (row : Vec ℕ Global) → a < length table → row ≡ get_or table a row → get_or (rows table) a [] ≡ row.items
+pub get_or-rows : (table : List (Vec ℕ Global)) (a : ℕ) (row : Vec ℕ Global) → a < length table
+    → row ≡ get_or table a row → get_or (rows table) a [] ≡ row.items
 get_or-rows table a row lt is = get_or-map row_items table a row [] lt ∙ sym (ap row_items is)
 
 abbrev pub joined : List (List ℕ) → List ℕ
@@ -28,11 +30,14 @@ cut-joined : (n : ℕ) (table : List (List ℕ)) → HasColumns n table → cut 
 unfolding cut
 cut-joined n [] fit = refl
 cut-joined n (row ∷ table) fit =
-    let first : take n (row ++ joined table) ≡ row = ap (λ m. take m (row ++ joined table)) (sym fit.0) ∙ take_row row (joined table) in
-    let others : drop n (row ++ joined table) ≡ joined table = ap (λ m. drop m (row ++ joined table)) (sym fit.0) ∙ drop_row row (joined table) in
+    let first : take n (row ++ joined table) ≡ row =
+    ap (λ m. take m (row ++ joined table)) (sym fit.0) ∙ take_row row (joined table) in
+    let others : drop n (row ++ joined table) ≡ joined table =
+    ap (λ m. drop m (row ++ joined table)) (sym fit.0) ∙ drop_row row (joined table) in
     rw (first, others) (ap (λ t. row ∷ t) (cut-joined n table fit.1))
 
-pub table_of-joined : (n : ℕ) (table : List (List ℕ)) → length table ≡ n → HasColumns n table → table_of n (joined table) ≡ table
+pub table_of-joined : (n : ℕ) (table : List (List ℕ)) → length table ≡ n → HasColumns n table
+    → table_of n (joined table) ≡ table
 table_of-joined n table size fit = ap (λ m. cut n m (joined table)) (sym size) ∙ cut-joined n table fit
 
 -- there are as many numbers as the rows have
@@ -42,33 +47,43 @@ length-cut n zero numbers fit = omega arith
 length-cut n (suc count) numbers fit =
     omega (arith, length-cut n count (drop n numbers) fit.1, length-drop n numbers, length-take n numbers, fit.0)
 
-get_or-cut : (n count : ℕ) (numbers : List ℕ) (a b : ℕ) → a < count → b < n → get_or (get_or (cut n count numbers) a []) b 0 ≡ get_or numbers (a * n + b) 0
+get_or-cut : (n count : ℕ) (numbers : List ℕ) (a b : ℕ) → a < count → b < n
+    → get_or (get_or (cut n count numbers) a []) b 0 ≡ get_or numbers (a * n + b) 0
 unfolding cut
 get_or-cut n zero numbers a b a_below b_below = absurd (omega arith)
-get_or-cut n (suc count) numbers zero b a_below b_below = get_or-take n numbers b 0 b_below ∙ ap (λ i. get_or numbers i 0) (omega arith)
+get_or-cut n (suc count) numbers zero b a_below b_below =
+    get_or-take n numbers b 0 b_below ∙ ap (λ i. get_or numbers i 0) (omega arith)
 get_or-cut n (suc count) numbers (suc a) b a_below b_below =
-    get_or-cut n count (drop n numbers) a b (omega arith) b_below ∙ get_or-drop n numbers (a * n + b) 0 ∙ ap (λ i. get_or numbers i 0) (omega arith)
+    get_or-cut n count (drop n numbers) a b (omega arith) b_below ∙ get_or-drop n numbers (a * n + b) 0
+    ∙ ap (λ i. get_or numbers i 0) (omega arith)
 
 -- where a number of the table lies
-pub place_in_table : (n : ℕ) (numbers : List ℕ) (a b : ℕ) → HasColumns n (table_of n numbers) → a < n → b < n → a * n + b < length numbers
-place_in_table n numbers a b fit a_below b_below = omega (arith, length-cut n n numbers fit, mul-add-lt a n b n a_below b_below)
+pub place_in_table : (n : ℕ) (numbers : List ℕ) (a b : ℕ) → HasColumns n (table_of n numbers) → a < n → b < n
+    → a * n + b < length numbers
+place_in_table n numbers a b fit a_below b_below =
+    omega (arith, length-cut n n numbers fit, mul-add-lt a n b n a_below b_below)
 
-pub distance_of-table_of : (n : ℕ) (numbers : List ℕ) (a b : ℕ) → a < n → b < n → distance_of (table_of n numbers) a b ≡ get_or numbers (a * n + b) 0
+pub distance_of-table_of : (n : ℕ) (numbers : List ℕ) (a b : ℕ) → a < n → b < n
+    → distance_of (table_of n numbers) a b ≡ get_or numbers (a * n + b) 0
 distance_of-table_of n numbers a b a_below b_below = get_or-cut n n numbers a b a_below b_below
 
 -- the numbers of all rows, where none is left
-pub table_of-all : (n : ℕ) (numbers : List ℕ) (table : List (Vec ℕ Global)) (i : ℕ) → length table ≤ i → IsTable n (rows table)
+pub table_of-all : (n : ℕ) (numbers : List ℕ) (table : List (Vec ℕ Global)) (i : ℕ) → length table ≤ i
+    → IsTable n (rows table)
     → numbers ++ joined (rows (drop i table)) ≡ joined (rows table) → table_of n numbers ≡ rows table
 table_of-all n numbers table i past is_table so_far =
-    let none_left : numbers ++ joined (rows (drop i table)) ≡ numbers = ap (λ rest. numbers ++ joined (rows rest)) (drop_all i table past) ∙ append-nil numbers in
+    let none_left : numbers ++ joined (rows (drop i table)) ≡ numbers =
+    ap (λ rest. numbers ++ joined (rows rest)) (drop_all i table past) ∙ append-nil numbers in
     ap (λ xs. table_of n xs) (sym none_left ∙ so_far) ∙ table_of-joined n (rows table) is_table.rows is_table.columns
 
 -- a number read where it lies is the distance
-pub read_in_table : (n : ℕ) (numbers : List ℕ) (a b i x : ℕ) → HasColumns n (table_of n numbers) → a < n → b < n → i ≡ a * n + b → x ≡ get_or numbers i x
+pub read_in_table : (n : ℕ) (numbers : List ℕ) (a b i x : ℕ) → HasColumns n (table_of n numbers) → a < n → b < n
+    → i ≡ a * n + b → x ≡ get_or numbers i x
     → x ≡ distance_of (table_of n numbers) a b
 read_in_table n numbers a b i x fit a_below b_below place is =
     let inside : i < length numbers = omega (arith, place, place_in_table n numbers a b fit a_below b_below) in
-    is ∙ get_or_default numbers i x 0 inside ∙ ap (λ k. get_or numbers k 0) place ∙ sym (distance_of-table_of n numbers a b a_below b_below)
+    is ∙ get_or_default numbers i x 0 inside ∙ ap (λ k. get_or numbers k 0) place
+    ∙ sym (distance_of-table_of n numbers a b a_below b_below)
 
 pub length-texts : (names : List (String Global)) → length (texts names) ≡ length names
 length-texts names = length-map names string_bytes

@@ -1,9 +1,13 @@
 -- What operations on the bits of words do to sets.
-use Rattle.std.proofs.Common.{◌≡◌, ℕ, zero, suc, ◌+◌, ◌-◌, ◌*◌, ◌/◌, ◌%◌, ◌^◌, ◌<◌, ◌≤◌, ◌&&◌, ◌||◌, ◌==◌, ◌⊎◌, not, nat_lt, min, max, bit_and, bit_or, bit_xor, Bool, true, false, if◌then◌else◌, refl, sym, ◌∙◌, ap, inl, inr, arith}
+use Rattle.std.proofs.Common.{◌≡◌, ℕ, zero, suc, ◌+◌, ◌-◌, ◌*◌, ◌/◌, ◌%◌, ◌^◌, ◌<◌, ◌≤◌, ◌&&◌, ◌||◌, ◌==◌, ◌⊎◌, not}
+use Rattle.std.proofs.Common.{nat_lt, min, max, bit_and, bit_or, bit_xor, Bool, true, false, if◌then◌else◌, refl, sym}
+use Rattle.std.proofs.Common.{◌∙◌, ap, inl, inr, arith}
 use Rattle.std.proofs.Math.Nat.{mod-eq_of_lt}
-use Rattle.std.proofs.lemmas.Bool.{cases_eq, cases_lt, eq-eqb, ne_eqb, eqb-true, and_left}
-use Rattle.std.proofs.lemmas.Nat.{pow_pos, shr-shr, shr_split, shr_le, mod_below, shr_below, and_le_l, and_le_r, or_lt, xor_lt, ones_cat, one_shl}
-use Rattle.std.proofs.lemmas.Nat.Bits.{bit_at_and, bit_at_or, bit_at_xor, bit_at_not, bit_at-lt, bit_at-zero, bit_at_above, bit_at_cat_low, bit_at_cat_high, bit_at-trailing_zeros}
+use Rattle.std.proofs.lemmas.Bool.{cases_eq, cases_lt, ne_eqb}
+use Rattle.std.proofs.lemmas.Nat.{pow_pos, shr-shr, shr_split, shr_le, mod_below, shr_below, and_le_l, and_le_r, or_lt}
+use Rattle.std.proofs.lemmas.Nat.{xor_lt, ones_cat}
+use Rattle.std.proofs.lemmas.Nat.Bits.{bit_at_and, bit_at_or, bit_at_xor, bit_at_not, bit_at-lt, bit_at-zero}
+use Rattle.std.proofs.lemmas.Nat.Bits.{bit_at_cat_low, bit_at_cat_high}
 use Rattle.std.specs.Int.{bit_at, Width, bit_not, trailing_zeros}
 use Rattle.std.specs.Int.RustNames.{count_ones}
 use mir.Val.{bits}
@@ -45,7 +49,8 @@ has_toggled a b k = rw (bit_at_xor a b k) (of_bits (bit_at a k) (bit_at b k) (bi
     ]
 
 -- a word's bits that another lacks, where the first has none beyond the word
-pub has_difference : (w : Width) (a b k : ℕ) → IsBelow (bits w) a → IsBelow (bits w) b → has (bit_and a (bit_not w b)) k ≡ (has a k && not (has b k))
+pub has_difference : (w : Width) (a b k : ℕ) → IsBelow (bits w) a → IsBelow (bits w) b
+    → has (bit_and a (bit_not w b)) k ≡ (has a k && not (has b k))
 has_difference w a b k a_below b_below = has_common a (bit_not w b) k ∙ elim (cases_lt k (bits w)) [
   | inl inside ↦ ap (λ c. has a k && c) (rw (bit_at_not w b k b_below inside) (of_bit (bit_at b k) (bit_at-lt b k)))
   | inr beyond ↦ rw (has_beyond (bits w) a k a_below beyond) refl
@@ -72,13 +77,15 @@ IsBelow_shifted m set k below = omega (arith, shr_le set k)
 
 -- one number in a row
 pub has_one_in_row : (set s : ℕ) → has set s ≡ all_below 1 (λ k. has set (s + k))
-has_one_in_row set s = sym (all_below_more 0 (λ k. has set (s + k)) ∙ ap (λ b. b && has set (s + 0)) (all_below_none (λ k. has set (s + k))) ∙ ap (λ n. has set n) (omega arith))
+has_one_in_row set s =
+    sym (all_below_more 0 (λ k. has set (s + k)) ∙ ap (λ b. b && has set (s + 0)) (all_below_none (λ k. has set (s + k))) ∙ ap (λ n. has set n) (omega arith))
 
 -- one number more in a row
 pub has_more_in_row : (set starts k s : ℕ) → has starts s ≡ all_below k (λ j. has set (s + j))
     → has (bit_and starts (set / 2 ^ k)) s ≡ all_below (k + 1) (λ j. has set (s + j))
 has_more_in_row set starts k s so_far =
-    has_common starts (set / 2 ^ k) s ∙ ap (λ b. b && has (set / 2 ^ k) s) so_far ∙ ap (λ b. all_below k (λ j. has set (s + j)) && b) (has_shifted set k s)
+    has_common starts (set / 2 ^ k) s ∙ ap (λ b. b && has (set / 2 ^ k) s) so_far
+    ∙ ap (λ b. all_below k (λ j. has set (s + j)) && b) (has_shifted set k s)
     ∙ sym (all_below_more k (λ j. has set (s + j)))
 
 -- the numbers that come next
@@ -86,8 +93,10 @@ pub has_next : (set s : ℕ) → has (set * 2 ^ 1) s ≡ (not (s == 0) && has se
 has_next set s =
     let as_sum : set * 2 ^ 1 ≡ set * 2 ^ 1 + 0 = omega arith in
     elim (cases_eq s 0) [
-      | inl first ↦ rw (first) (ap (λ n. n == 1) (ap (λ n. bit_at n 0) as_sum ∙ bit_at_cat_low set 1 0 0 (omega arith) ∙ bit_at-zero 0))
-      | inr later ↦ rw (ne_eqb s 0 later) (ap (λ n. n == 1) (ap (λ n. bit_at n s) as_sum ∙ bit_at_cat_high set 1 0 s (omega arith) (omega arith)))
+      | inl first ↦
+          rw (first) (ap (λ n. n == 1) (ap (λ n. bit_at n 0) as_sum ∙ bit_at_cat_low set 1 0 0 (omega arith) ∙ bit_at-zero 0))
+      | inr later ↦
+          rw (ne_eqb s 0 later) (ap (λ n. n == 1) (ap (λ n. bit_at n s) as_sum ∙ bit_at_cat_high set 1 0 s (omega arith) (omega arith)))
     ]
 
 -- how many bits a word has
@@ -109,12 +118,15 @@ ones_count (suc m) set below =
     top bit small = elim (is_zero_or_one bit small) [ inl none ↦ rw none refl | inr one ↦ rw one refl ]
 
 -- whether some bit is in both words
-pub meets_of_bits : (w : Width) (m a b : ℕ) → m ≤ bits w → IsBelow m a → not (bit_and a b == 0) ≡ any_below m (λ k. has a k && has b k)
+pub meets_of_bits : (w : Width) (m a b : ℕ) → m ≤ bits w → IsBelow m a
+    → not (bit_and a b == 0) ≡ any_below m (λ k. has a k && has b k)
 meets_of_bits w m a b fits below = elim (cases_eq (bit_and a b) 0) [
-  | inl none ↦ rw none (sym (any_below_from_none m (λ k. has a k && has b k) (λ k k_below. sym (has_common a b k) ∙ ap (λ s. has s k) none ∙ has_empty k)))
+  | inl none ↦
+      rw none (sym (any_below_from_none m (λ k. has a k && has b k) (λ k k_below. sym (has_common a b k) ∙ ap (λ s. has s k) none ∙ has_empty k)))
   | inr some ↦
       let common_below : IsBelow m (bit_and a b) = IsBelow_common m a b below in
-      let taken = lowest_taken w (bit_and a b) (omega arith) (IsBelow_more m (bits w) (bit_and a b) fits common_below) in
+      let taken =
+      lowest_taken w (bit_and a b) (omega arith) (IsBelow_more m (bits w) (bit_and a b) fits common_below) in
       rw (ne_eqb (bit_and a b) 0 some)
       (sym (any_below_found m (λ k. has a k && has b k) (trailing_zeros w (bit_and a b)) (lowest_below m (bit_and a b) _ _ common_below taken)
       (sym (has_common a b (trailing_zeros w (bit_and a b))) ∙ taken.in_set)))
@@ -136,4 +148,5 @@ has_with_next w set m k fits lt =
     and_turned false false = refl
 
 pub IsBelow_with_next : (w a m : ℕ) → m < w → IsBelow m (bit_and a (1 * 2 ^ m % 2 ^ w - 1))
-IsBelow_with_next w a m lt = rw (all_numbers_shifted m w lt) (omega (arith, and_le_r a (all_numbers m), IsBelow_all_numbers m))
+IsBelow_with_next w a m lt =
+    rw (all_numbers_shifted m w lt) (omega (arith, and_le_r a (all_numbers m), IsBelow_all_numbers m))

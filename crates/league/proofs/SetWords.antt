@@ -1,64 +1,96 @@
--- The same at the words in which the code holds sets: 64 bits for teams below 40, 128 for slots below 78.
-use Rattle.std.proofs.Common.{◌≡◌, ℕ, ◌-◌, ◌*◌, ◌/◌, ◌^◌, ◌%◌, ◌<◌, ◌≤◌, ◌&&◌, ◌||◌, ◌==◌, not, nat_lt, bit_and, bit_or, bit_xor, arith}
+-- The same at the words in which the code holds sets: 64 bits for teams, 128 for slots.
+use Rattle.std.proofs.Common.{◌≡◌, ℕ, ◌-◌, ◌*◌, ◌/◌, ◌^◌, ◌%◌, ◌<◌, ◌≤◌, ◌&&◌, ◌==◌, not, nat_lt, bit_and, bit_or}
+use Rattle.std.proofs.Common.{bit_xor, arith}
 use Rattle.std.proofs.lemmas.Nat.{ones-le}
 use Rattle.std.specs.Int.{w64, w128}
 use Rattle.std.specs.Int.RustNames.{count_ones}
+use Rattle.league.specs.Limits.{max_teams, max_rounds}
 use Rattle.league.specs.Sums.{any_below}
-use Rattle.league.specs.Sets.{has, IsBelow, with_number, all_numbers}
-use Rattle.league.proofs.Bits.{IsBelow_more, IsBelow_all_numbers, IsBelow_with_number, all_numbers_shifted, with_number_shifted}
-use Rattle.league.proofs.SetBits.{has_difference, IsBelow_union, IsBelow_shifted, IsBelow_toggled, meets_of_bits, has_with_next, IsBelow_with_next}
+use Rattle.league.specs.Sets.{has, IsBelow, has_or_follows, with_number, all_numbers}
+use Rattle.league.proofs.Bits.{IsBelow_more, has_all_numbers, IsBelow_all_numbers, has_with_number, IsBelow_with_number}
+use Rattle.league.proofs.Bits.{all_numbers_shifted, with_number_shifted}
+use Rattle.league.proofs.SetBits.{has_union, has_difference, has_toggled, has_shifted, IsBelow_union, IsBelow_shifted}
+use Rattle.league.proofs.SetBits.{IsBelow_toggled, meets_of_bits, has_with_next, IsBelow_with_next}
+use Rattle.league.proofs.Sums.{any_below_none, any_below_more}
 
-pub teams_below : (teams : ℕ) → teams ≤ 40 → 1 * 2 ^ teams % 2 ^ 64 - 1 ≡ all_numbers teams
+pub teams_below : (teams : ℕ) → teams ≤ max_teams → 1 * 2 ^ teams % 2 ^ 64 - 1 ≡ all_numbers teams
 teams_below teams most = all_numbers_shifted teams 64 (omega arith)
 
-pub IsBelow_teams_below : (teams : ℕ) → teams ≤ 40 → IsBelow 40 (all_numbers teams)
-IsBelow_teams_below teams most = IsBelow_more teams 40 _ most (IsBelow_all_numbers teams)
+pub IsBelow_teams_below : (teams : ℕ) → teams ≤ max_teams → IsBelow max_teams (all_numbers teams)
+IsBelow_teams_below teams most = IsBelow_more teams max_teams _ most (IsBelow_all_numbers teams)
 
-pub team_added : (set team : ℕ) → team < 40 → bit_or set (1 * 2 ^ team % 2 ^ 64) ≡ with_number set team
+pub team_added : (set team : ℕ) → team < max_teams → bit_or set (1 * 2 ^ team % 2 ^ 64) ≡ with_number set team
 team_added set team below = with_number_shifted set team 64 (omega arith)
 
-pub IsBelow_team_added : (set team : ℕ) → IsBelow 40 set → team < 40 → IsBelow 40 (with_number set team)
-IsBelow_team_added set team = IsBelow_with_number 40 set team
+pub IsBelow_team_added : (set team : ℕ) → IsBelow max_teams set → team < max_teams
+    → IsBelow max_teams (with_number set team)
+IsBelow_team_added set team = IsBelow_with_number max_teams set team
 
-pub teams_meet : (a b : ℕ) → IsBelow 40 a → not (bit_and a b == 0) ≡ any_below 40 (λ t. has a t && has b t)
-teams_meet a b below = meets_of_bits w64 40 a b (omega arith) below
+pub teams_meet : (a b : ℕ) → IsBelow max_teams a
+    → not (bit_and a b == 0) ≡ any_below max_teams (λ t. has a t && has b t)
+teams_meet a b below = meets_of_bits w64 max_teams a b (omega arith) below
 
-pub slots_below : (slots : ℕ) → slots ≤ 78 → 1 * 2 ^ slots % 2 ^ 128 - 1 ≡ all_numbers slots
+pub slots_below : (slots : ℕ) → slots ≤ max_rounds → 1 * 2 ^ slots % 2 ^ 128 - 1 ≡ all_numbers slots
 slots_below slots most = all_numbers_shifted slots 128 (omega arith)
 
-pub IsBelow_slots_below : (slots : ℕ) → slots ≤ 78 → IsBelow 78 (all_numbers slots)
-IsBelow_slots_below slots most = IsBelow_more slots 78 _ most (IsBelow_all_numbers slots)
+pub IsBelow_slots_below : (slots : ℕ) → slots ≤ max_rounds → IsBelow max_rounds (all_numbers slots)
+IsBelow_slots_below slots most = IsBelow_more slots max_rounds _ most (IsBelow_all_numbers slots)
 
-pub slot_added : (set slot : ℕ) → slot < 78 → bit_or set (1 * 2 ^ slot % 2 ^ 128) ≡ with_number set slot
+pub slot_added : (set slot : ℕ) → slot < max_rounds → bit_or set (1 * 2 ^ slot % 2 ^ 128) ≡ with_number set slot
 slot_added set slot below = with_number_shifted set slot 128 (omega arith)
 
-pub IsBelow_slot_added : (set slot : ℕ) → IsBelow 78 set → slot < 78 → IsBelow 78 (with_number set slot)
-IsBelow_slot_added set slot = IsBelow_with_number 78 set slot
+pub IsBelow_slot_added : (set slot : ℕ) → IsBelow max_rounds set → slot < max_rounds
+    → IsBelow max_rounds (with_number set slot)
+IsBelow_slot_added set slot = IsBelow_with_number max_rounds set slot
 
-pub slots_len : (set : ℕ) → IsBelow 78 set → count_ones set ≤ 78
-slots_len set below = ones-le 78 set below
+pub slots_len : (set : ℕ) → IsBelow max_rounds set → count_ones set ≤ max_rounds
+slots_len set below = ones-le max_rounds set below
 
-pub IsBelow_slots_union : (a b : ℕ) → IsBelow 78 a → IsBelow 78 b → IsBelow 78 (bit_or a b)
-IsBelow_slots_union a b = IsBelow_union 78 a b
+pub IsBelow_slots_union : (a b : ℕ) → IsBelow max_rounds a → IsBelow max_rounds b → IsBelow max_rounds (bit_or a b)
+IsBelow_slots_union a b = IsBelow_union max_rounds a b
 
-pub IsBelow_slots_shifted : (set k : ℕ) → IsBelow 78 set → IsBelow 78 (set / 2 ^ k)
-IsBelow_slots_shifted set k = IsBelow_shifted 78 set k
+pub IsBelow_slots_shifted : (set k : ℕ) → IsBelow max_rounds set → IsBelow max_rounds (set / 2 ^ k)
+IsBelow_slots_shifted set k = IsBelow_shifted max_rounds set k
 
-pub IsBelow_slots_toggled : (a b : ℕ) → IsBelow 78 a → IsBelow 78 b → IsBelow 78 (bit_xor a b)
-IsBelow_slots_toggled a b = IsBelow_toggled 78 a b
+pub IsBelow_slots_toggled : (a b : ℕ) → IsBelow max_rounds a → IsBelow max_rounds b → IsBelow max_rounds (bit_xor a b)
+IsBelow_slots_toggled a b = IsBelow_toggled max_rounds a b
 
-pub slots_without : (a b s : ℕ) → IsBelow 78 a → IsBelow 78 b → has (bit_and a (2 ^ 128 - 1 - b)) s ≡ (has a s && not (has b s))
-slots_without a b s a_below b_below = has_difference w128 a b s (IsBelow_more 78 128 a (omega arith) a_below) (IsBelow_more 78 128 b (omega arith) b_below)
+pub slots_without : (a b s : ℕ) → IsBelow max_rounds a → IsBelow max_rounds b
+    → has (bit_and a (2 ^ 128 - 1 - b)) s ≡ (has a s && not (has b s))
+slots_without a b s a_below b_below =
+    has_difference w128 a b s (IsBelow_more max_rounds 128 a (omega arith) a_below) (IsBelow_more max_rounds 128 b (omega arith) b_below)
 
-pub slots_meet : (a b : ℕ) → IsBelow 78 a → not (bit_and a b == 0) ≡ any_below 78 (λ s. has a s && has b s)
-slots_meet a b below = meets_of_bits w128 78 a b (omega arith) below
+pub slots_meet : (a b : ℕ) → IsBelow max_rounds a
+    → not (bit_and a b == 0) ≡ any_below max_rounds (λ s. has a s && has b s)
+slots_meet a b below = meets_of_bits w128 max_rounds a b (omega arith) below
 
-pub slots_with_next : (set slots s : ℕ) → IsBelow 78 set → slots ≤ 78
-    → has (bit_and (bit_or set (set * 2 ^ 1 % 2 ^ 128)) (1 * 2 ^ slots % 2 ^ 128 - 1)) s ≡ (nat_lt s slots && (has set s || (not (s == 0) && has set (s - 1))))
+pub slots_with_next : (set slots s : ℕ) → IsBelow max_rounds set → slots ≤ max_rounds
+    → has (bit_and (bit_or set (set * 2 ^ 1 % 2 ^ 128)) (1 * 2 ^ slots % 2 ^ 128 - 1)) s ≡ (nat_lt s slots && has_or_follows set s)
 slots_with_next set slots s below most = has_with_next 128 set slots s (omega arith) (omega arith)
 
-pub IsBelow_slots_with_next : (a slots : ℕ) → slots ≤ 78 → IsBelow slots (bit_and a (1 * 2 ^ slots % 2 ^ 128 - 1))
+pub IsBelow_slots_with_next : (a slots : ℕ) → slots ≤ max_rounds
+    → IsBelow slots (bit_and a (1 * 2 ^ slots % 2 ^ 128 - 1))
 IsBelow_slots_with_next a slots most = IsBelow_with_next 128 a slots (omega arith)
 
-pub IsBelow_78_slots_with_next : (a slots : ℕ) → slots ≤ 78 → IsBelow 78 (bit_and a (1 * 2 ^ slots % 2 ^ 128 - 1))
-IsBelow_78_slots_with_next a slots most = IsBelow_more slots 78 _ most (IsBelow_slots_with_next a slots most)
+pub IsBelow_max_slots_with_next : (a slots : ℕ) → slots ≤ max_rounds
+    → IsBelow max_rounds (bit_and a (1 * 2 ^ slots % 2 ^ 128 - 1))
+IsBelow_max_slots_with_next a slots most = IsBelow_more slots max_rounds _ most (IsBelow_slots_with_next a slots most)
+
+-- what each operation of the sets needs
+
+pub ruleset all_teams_below = (teams_below, IsBelow_teams_below, has_all_numbers, IsBelow_all_numbers)
+
+pub ruleset teams_and_one = (team_added, IsBelow_team_added, has_with_number, IsBelow_with_number)
+
+pub ruleset all_slots_below = (slots_below, IsBelow_slots_below, has_all_numbers, IsBelow_all_numbers)
+
+pub ruleset slots_and_one = (slot_added, IsBelow_slot_added, has_with_number, IsBelow_with_number)
+
+pub ruleset slots_of_either = (has_union, IsBelow_union, IsBelow_slots_union)
+
+pub ruleset slots_turned = (has_toggled, IsBelow_toggled, IsBelow_slots_toggled)
+
+pub ruleset slots_and_next = (slots_with_next, IsBelow_slots_with_next, IsBelow_max_slots_with_next)
+
+pub ruleset slots_in_rows =
+    (any_below_none, any_below_more, has_union, has_shifted, IsBelow_union, IsBelow_shifted, IsBelow_slots_union, IsBelow_slots_shifted)

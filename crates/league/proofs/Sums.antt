@@ -1,9 +1,10 @@
 -- Laws of sums, counts and tests over the numbers below n.
-use Rattle.std.proofs.Common.{◌≡◌, ℕ, zero, suc, ◌+◌, ◌*◌, ◌<◌, ◌≤◌, ◌≢◌, ◌&&◌, ◌||◌, not, Bool, true, false, if◌then◌else◌, refl, sym, ◌∙◌, ap, inl, inr, arith}
-use Rattle.std.proofs.Math.Nat.{mul-le-mul_right, le_of_lt, add-zero, zero-add, add-suc}
+use Rattle.std.proofs.Common.{◌≡◌, ℕ, zero, suc, ◌+◌, ◌*◌, ◌<◌, ◌≤◌, ◌≢◌, ◌&&◌, ◌||◌, not, Bool, true, false}
+use Rattle.std.proofs.Common.{if◌then◌else◌, refl, sym, ◌∙◌, ap, inl, inr, arith}
+use Rattle.std.proofs.Math.Nat.{mul-le-mul_right, le_of_lt, zero-add}
 use Rattle.std.proofs.Math.Numerals.{suc-eq-add-one}
-use Rattle.std.proofs.lemmas.Bool.{cases_eq, and_parts, and_from, and_cases, or_cases, or_from, or_left, or_right, false_from_ne_true, cond-true, cond-false}
-use Rattle.std.specs.Bool.{Decides}
+use Rattle.std.proofs.lemmas.Bool.{cases_eq, and_parts, or_from, or_left, or_right}
+use Rattle.std.proofs.lemmas.Bool.{false_from_ne_true, cond-true, cond-false}
 use Rattle.league.specs.Sums.{sum_below, sum_where, count_where, sum_of_pairs, all_below, any_below}
 
 -- what a loop over the numbers below n begins with, and what a step adds
@@ -24,6 +25,8 @@ pub all_below_more : (n : ℕ) (test : ℕ → Bool) → all_below (n + 1) test 
 unfolding all_below
 all_below_more n test = rw (← suc-eq-add-one n) refl
 
+pub ruleset each_below = (all_below_none, all_below_more)
+
 pub any_below_none : (test : ℕ → Bool) → any_below 0 test ≡ false
 unfolding any_below
 any_below_none test = refl
@@ -37,63 +40,33 @@ any_below_more n test = rw (← suc-eq-add-one n) refl
 pub sum_below_same : (n : ℕ) (f g : ℕ → ℕ) → ((k : ℕ) → k < n → f k ≡ g k) → sum_below n f ≡ sum_below n g
 unfolding sum_below
 sum_below_same zero f g same = refl
-sum_below_same (suc n) f g same = omega (arith, sum_below_same n f g (λ k below. same k (omega arith)), same n (omega arith))
+sum_below_same (suc n) f g same =
+    omega (arith, sum_below_same n f g (λ k below. same k (omega arith)), same n (omega arith))
 
 pub sum_below_zero : (n : ℕ) (f : ℕ → ℕ) → ((k : ℕ) → k < n → f k ≡ 0) → sum_below n f ≡ 0
 unfolding sum_below
 sum_below_zero zero f each = refl
-sum_below_zero (suc n) f each = omega (arith, sum_below_zero n f (λ k below. each k (omega arith)), each n (omega arith))
+sum_below_zero (suc n) f each =
+    omega (arith, sum_below_zero n f (λ k below. each k (omega arith)), each n (omega arith))
 
 -- each term at most the other
 pub sum_below_le_each : (n : ℕ) (f g : ℕ → ℕ) → ((k : ℕ) → k < n → f k ≤ g k) → sum_below n f ≤ sum_below n g
 unfolding sum_below
 sum_below_le_each zero f g each = omega arith
-sum_below_le_each (suc n) f g each = omega (arith, sum_below_le_each n f g (λ k below. each k (omega arith)), each n (omega arith))
+sum_below_le_each (suc n) f g each =
+    omega (arith, sum_below_le_each n f g (λ k below. each k (omega arith)), each n (omega arith))
 
 -- each term at most a bound
 pub sum_below_le : (n most : ℕ) (f : ℕ → ℕ) → ((k : ℕ) → k < n → f k ≤ most) → sum_below n f ≤ n * most
 unfolding sum_below
 sum_below_le zero most f each = omega arith
-sum_below_le (suc n) most f each = omega (arith, sum_below_le n most f (λ k below. each k (omega arith)), each n (omega arith))
-
--- a sum up to m is at most the sum up to n
-pub sum_below_le_more : (m n : ℕ) (f : ℕ → ℕ) → m ≤ n → sum_below m f ≤ sum_below n f
-unfolding sum_below
-sum_below_le_more m zero f le = let none : m ≡ 0 = omega arith in rw none (omega arith)
-sum_below_le_more m (suc n) f le = elim (cases_eq m (suc n)) [
-  | inl same ↦ rw same (omega arith)
-  | inr other ↦ omega (arith, sum_below_le_more m n f (omega arith))
-]
-
--- a term is at most the sum
-pub sum_below_term_le : (n j : ℕ) (f : ℕ → ℕ) → j < n → f j ≤ sum_below n f
-unfolding sum_below
-sum_below_term_le zero j f below = omega arith
-sum_below_term_le (suc n) j f below = elim (cases_eq j n) [
-  | inl same ↦ rw same (omega arith)
-  | inr other ↦ omega (arith, sum_below_term_le n j f (omega arith))
-]
+sum_below_le (suc n) most f each =
+    omega (arith, sum_below_le n most f (λ k below. each k (omega arith)), each n (omega arith))
 
 pub sum_below_add : (n : ℕ) (f g : ℕ → ℕ) → sum_below n (λ k. f k + g k) ≡ sum_below n f + sum_below n g
 unfolding sum_below
 sum_below_add zero f g = refl
 sum_below_add (suc n) f g = omega (arith, sum_below_add n f g)
-
-pub sum_below_times : (n c : ℕ) (f : ℕ → ℕ) → sum_below n (λ k. c * f k) ≡ c * sum_below n f
-unfolding sum_below
-sum_below_times zero c f = omega arith
-sum_below_times (suc n) c f = omega (arith, sum_below_times n c f)
-
-pub sum_below_constant : (n c : ℕ) → sum_below n (λ _. c) ≡ n * c
-unfolding sum_below
-sum_below_constant zero c = omega arith
-sum_below_constant (suc n) c = omega (arith, sum_below_constant n c)
-
--- the first m terms, and n more
-pub sum_below_append : (m n : ℕ) (f : ℕ → ℕ) → sum_below (m + n) f ≡ sum_below m f + sum_below n (λ k. f (m + k))
-unfolding sum_below
-sum_below_append m zero f = rw (add-zero m) (omega arith)
-sum_below_append m (suc n) f = rw (add-suc m n) (omega (arith, sum_below_append m n f))
 
 -- what comes from m on is 0
 pub sum_below_past : (m n : ℕ) (f : ℕ → ℕ) → m ≤ n → ((k : ℕ) → m ≤ k → k < n → f k ≡ 0) → sum_below n f ≡ sum_below m f
@@ -101,31 +74,38 @@ unfolding sum_below
 sum_below_past m zero f le past = let none : m ≡ 0 = omega arith in rw none refl
 sum_below_past m (suc n) f le past = elim (cases_eq m (suc n)) [
   | inl same ↦ rw same refl
-  | inr other ↦ omega (arith, sum_below_past m n f (omega arith) (λ k from below. past k from (omega arith)), past n (omega arith) (omega arith))
+  | inr other ↦
+      omega (arith, sum_below_past m n f (omega arith) (λ k from below. past k from (omega arith)), past n (omega arith) (omega arith))
 ]
 
 -- The order of two sums is free.
-pub sum_below_swap : (m n : ℕ) (f : ℕ → ℕ → ℕ) → sum_below m (λ i. sum_below n (f i)) ≡ sum_below n (λ j. sum_below m (λ i. f i j))
+pub sum_below_swap : (m n : ℕ) (f : ℕ → ℕ → ℕ)
+    → sum_below m (λ i. sum_below n (f i)) ≡ sum_below n (λ j. sum_below m (λ i. f i j))
 unfolding sum_below
 sum_below_swap zero n f = sym (sum_below_zero n (λ j. sum_below 0 (λ i. f i j)) (λ j below. refl))
 sum_below_swap (suc m) n f = omega (arith, sum_below_swap m n f, sum_below_add n (λ j. sum_below m (λ i. f i j)) (f m))
 
 -- one term of g is larger by d than that of f, and the others are the same
-pub sum_below_one : (n j d : ℕ) (f g : ℕ → ℕ) → j < n → g j ≡ f j + d → ((k : ℕ) → k < n → k ≢ j → g k ≡ f k) → sum_below n g ≡ sum_below n f + d
+pub sum_below_one : (n j d : ℕ) (f g : ℕ → ℕ) → j < n → g j ≡ f j + d → ((k : ℕ) → k < n → k ≢ j → g k ≡ f k)
+    → sum_below n g ≡ sum_below n f + d
 unfolding sum_below
 sum_below_one zero j d f g below larger others = omega arith
 sum_below_one (suc n) j d f g below larger others = elim (cases_eq j n) [
-  | inl last ↦ omega (arith, sum_below_same n g f (λ k k_below. others k (omega arith) (omega (arith, last))), ap f last, ap g last, larger)
-  | inr other ↦ omega (arith, sum_below_one n j d f g (omega arith) larger (λ k k_below. others k (omega arith)), others n (omega arith) (λ is. other (sym is)))
+  | inl last ↦
+      omega (arith, sum_below_same n g f (λ k k_below. others k (omega arith) (omega (arith, last))), ap f last, ap g last, larger)
+  | inr other ↦
+      omega (arith, sum_below_one n j d f g (omega arith) larger (λ k k_below. others k (omega arith)), others n (omega arith) (λ is. other (sym is)))
 ]
 
 -- all terms but one are 0
 pub sum_below_only : (n j : ℕ) (f : ℕ → ℕ) → j < n → ((k : ℕ) → k < n → k ≢ j → f k ≡ 0) → sum_below n f ≡ f j
 sum_below_only n j f below others =
-    sum_below_one n j (f j) (λ _. 0) f below (sym (zero-add (f j))) others ∙ omega (arith, sum_below_zero n (λ _. 0) (λ k k_below. refl))
+    sum_below_one n j (f j) (λ _. 0) f below (sym (zero-add (f j))) others
+    ∙ omega (arith, sum_below_zero n (λ _. 0) (λ k k_below. refl))
 
 -- a part changes by as much as the whole, where it does so in each term
-pub sum_below_balance : (n : ℕ) (new old part_new part_old : ℕ → ℕ) → ((k : ℕ) → k < n → new k + part_old k ≡ old k + part_new k)
+pub sum_below_balance : (n : ℕ) (new old part_new part_old : ℕ → ℕ)
+    → ((k : ℕ) → k < n → new k + part_old k ≡ old k + part_new k)
     → sum_below n new + sum_below n part_old ≡ sum_below n old + sum_below n part_new
 unfolding sum_below
 sum_below_balance zero new old part_new part_old each = refl
@@ -143,70 +123,55 @@ pub sum_where_same : (n : ℕ) (test other : ℕ → Bool) (f g : ℕ → ℕ) �
 sum_where_same n test other f g tests terms =
     sum_below_same n (λ k. if test k then f k else 0) (λ k. if other k then g k else 0) (λ k below. if_same (test k) (other k) (f k) (g k) (tests k below) (terms k below))
 
-pub count_where_same : (n : ℕ) (test other : ℕ → Bool) → ((k : ℕ) → k < n → test k ≡ other k) → count_where n test ≡ count_where n other
+pub count_where_same : (n : ℕ) (test other : ℕ → Bool) → ((k : ℕ) → k < n → test k ≡ other k)
+    → count_where n test ≡ count_where n other
 count_where_same n test other tests = sum_where_same n test other (λ _. 1) (λ _. 1) tests (λ k below passes. refl)
 
 pub sum_where_none : (n : ℕ) (test : ℕ → Bool) (f : ℕ → ℕ) → ((k : ℕ) → k < n → test k ≡ false) → sum_where n test f ≡ 0
-sum_where_none n test f fails = sum_below_zero n (λ k. if test k then f k else 0) (λ k below. cond-false (test k) (f k) 0 (fails k below))
+sum_where_none n test f fails =
+    sum_below_zero n (λ k. if test k then f k else 0) (λ k below. cond-false (test k) (f k) 0 (fails k below))
 
 pub count_where_none : (n : ℕ) (test : ℕ → Bool) → ((k : ℕ) → k < n → test k ≡ false) → count_where n test ≡ 0
 count_where_none n test fails = sum_where_none n test (λ _. 1) fails
 
-pub sum_where_all : (n : ℕ) (test : ℕ → Bool) (f : ℕ → ℕ) → ((k : ℕ) → k < n → test k ≡ true) → sum_where n test f ≡ sum_below n f
-sum_where_all n test f passes = sum_below_same n (λ k. if test k then f k else 0) f (λ k below. cond-true (test k) (f k) 0 (passes k below))
-
-pub count_where_all : (n : ℕ) (test : ℕ → Bool) → ((k : ℕ) → k < n → test k ≡ true) → count_where n test ≡ n
-count_where_all n test passes = sum_where_all n test (λ _. 1) passes ∙ sum_below_constant n 1 ∙ omega arith
+pub sum_where_all : (n : ℕ) (test : ℕ → Bool) (f : ℕ → ℕ) → ((k : ℕ) → k < n → test k ≡ true)
+    → sum_where n test f ≡ sum_below n f
+sum_where_all n test f passes =
+    sum_below_same n (λ k. if test k then f k else 0) f (λ k below. cond-true (test k) (f k) 0 (passes k below))
 
 if_le : (b : Bool) (x most : ℕ) → (b ≡ true → x ≤ most) → (if b then x else 0) ≤ most
 if_le true x most le = le refl
 if_le false x most le = omega arith
 
-pub sum_where_le : (n most : ℕ) (test : ℕ → Bool) (f : ℕ → ℕ) → ((k : ℕ) → k < n → test k ≡ true → f k ≤ most) → sum_where n test f ≤ n * most
-sum_where_le n most test f each = sum_below_le n most (λ k. if test k then f k else 0) (λ k below. if_le (test k) (f k) most (each k below))
-
-pub sum_where_le_all : (n : ℕ) (test : ℕ → Bool) (f : ℕ → ℕ) → sum_where n test f ≤ sum_below n f
-sum_where_le_all n test f = sum_below_le_each n (λ k. if test k then f k else 0) f (λ k below. if_le (test k) (f k) (f k) (λ passes. omega arith))
+pub sum_where_le : (n most : ℕ) (test : ℕ → Bool) (f : ℕ → ℕ) → ((k : ℕ) → k < n → test k ≡ true → f k ≤ most)
+    → sum_where n test f ≤ n * most
+sum_where_le n most test f each =
+    sum_below_le n most (λ k. if test k then f k else 0) (λ k below. if_le (test k) (f k) most (each k below))
 
 pub count_where_le : (n : ℕ) (test : ℕ → Bool) → count_where n test ≤ n
 count_where_le n test = omega (arith, sum_where_le n 1 test (λ _. 1) (λ k below passes. omega arith))
-
--- a stricter test counts no more
-pub count_where_le_each : (n : ℕ) (test other : ℕ → Bool) → ((k : ℕ) → k < n → test k ≡ true → other k ≡ true) → count_where n test ≤ count_where n other
-count_where_le_each n test other each =
-    sum_below_le_each n (λ k. if test k then 1 else 0) (λ k. if other k then 1 else 0)
-    (λ k below. if_le (test k) 1 (if other k then 1 else 0) (λ passes. rw (each k below passes) (omega arith)))
 
 if_split : (b : Bool) (x : ℕ) → (if b then x else 0) + (if not b then x else 0) ≡ x
 if_split true x = omega arith
 if_split false x = zero-add x
 
 -- those that pass and those that don't are all
-pub sum_where_split : (n : ℕ) (test : ℕ → Bool) (f : ℕ → ℕ) → sum_where n test f + sum_where n (λ k. not (test k)) f ≡ sum_below n f
+pub sum_where_split : (n : ℕ) (test : ℕ → Bool) (f : ℕ → ℕ)
+    → sum_where n test f + sum_where n (λ k. not (test k)) f ≡ sum_below n f
 sum_where_split n test f =
     sym (sum_below_add n (λ k. if test k then f k else 0) (λ k. if not (test k) then f k else 0))
     ∙ sum_below_same n (λ k. (if test k then f k else 0) + (if not (test k) then f k else 0)) f (λ k below. if_split (test k) (f k))
 
-if_balance : (b : Bool) (new old part_new part_old : ℕ) → (b ≡ true → new + part_old ≡ old + part_new)
-    → (if b then new else 0) + (if b then part_old else 0) ≡ (if b then old else 0) + (if b then part_new else 0)
-if_balance true new old part_new part_old balance = balance refl
-if_balance false new old part_new part_old balance = refl
-
-pub sum_where_balance : (n : ℕ) (test : ℕ → Bool) (new old part_new part_old : ℕ → ℕ)
-    → ((k : ℕ) → k < n → test k ≡ true → new k + part_old k ≡ old k + part_new k)
-    → sum_where n test new + sum_where n test part_old ≡ sum_where n test old + sum_where n test part_new
-sum_where_balance n test new old part_new part_old each =
-    sum_below_balance n (λ k. if test k then new k else 0) (λ k. if test k then old k else 0) (λ k. if test k then part_new k else 0) (λ k. if test k then part_old k else 0)
-    (λ k below. if_balance (test k) (new k) (old k) (part_new k) (part_old k) (each k below))
-
 -- sums over pairs
 
-pub sum_of_pairs_same : (n : ℕ) (f g : ℕ → ℕ → ℕ) → ((i j : ℕ) → i < j → j < n → f i j ≡ g i j) → sum_of_pairs n f ≡ sum_of_pairs n g
+pub sum_of_pairs_same : (n : ℕ) (f g : ℕ → ℕ → ℕ) → ((i j : ℕ) → i < j → j < n → f i j ≡ g i j)
+    → sum_of_pairs n f ≡ sum_of_pairs n g
 sum_of_pairs_same n f g same =
     sum_below_same n (λ j. sum_below j (λ i. f i j)) (λ j. sum_below j (λ i. g i j))
     (λ j j_below. sum_below_same j (λ i. f i j) (λ i. g i j) (λ i i_below. same i j i_below j_below))
 
-pub sum_of_pairs_le : (n most : ℕ) (f : ℕ → ℕ → ℕ) → ((i j : ℕ) → i < j → j < n → f i j ≤ most) → sum_of_pairs n f ≤ n * (n * most)
+pub sum_of_pairs_le : (n most : ℕ) (f : ℕ → ℕ → ℕ) → ((i j : ℕ) → i < j → j < n → f i j ≤ most)
+    → sum_of_pairs n f ≤ n * (n * most)
 sum_of_pairs_le n most f each =
     sum_below_le n (n * most) (λ j. sum_below j (λ i. f i j))
     (λ j j_below. omega (arith, sum_below_le j most (λ i. f i j) (λ i i_below. each i j i_below j_below), mul-le-mul_right most (le_of_lt j_below)))
@@ -220,11 +185,6 @@ sum_of_pairs_balance n new old part_new part_old each =
 
 -- whether all pass
 
-pub all_below_from : (n : ℕ) (test : ℕ → Bool) → ((k : ℕ) → k < n → test k ≡ true) → all_below n test ≡ true
-unfolding all_below
-all_below_from zero test each = refl
-all_below_from (suc n) test each = and_from (all_below n test) (test n) (all_below_from n test (λ k below. each k (omega arith))) (each n (omega arith))
-
 pub all_below_passes : (n : ℕ) (test : ℕ → Bool) → all_below n test ≡ true → (k : ℕ) → k < n → test k ≡ true
 unfolding all_below
 all_below_passes zero test passed k below = absurd (omega arith)
@@ -236,25 +196,15 @@ all_below_passes (suc n) test passed k below =
     ]
 
 pub all_below_fails : (n : ℕ) (test : ℕ → Bool) (k : ℕ) → k < n → test k ≡ false → all_below n test ≡ false
-all_below_fails n test k below fails = false_from_ne_true (all_below n test) (λ passed. cc (all_below_passes n test passed k below, fails))
+all_below_fails n test k below fails =
+    false_from_ne_true (all_below n test) (λ passed. cc (all_below_passes n test passed k below, fails))
 
--- one that fails, where not all pass
-pub all_below_failing : (n : ℕ) (test : ℕ → Bool) → all_below n test ≡ false → (k : ℕ) × (k < n) × (test k ≡ false)
-unfolding all_below
-all_below_failing zero test failed = cc failed
-all_below_failing (suc n) test failed = elim (and_cases (all_below n test) (test n) failed) [
-  | inl before ↦ let found = all_below_failing n test before in (found.0, omega (arith, found.1), found.2)
-  | inr last ↦ (n, omega arith, last)
-]
-
-pub all_below_same : (n : ℕ) (test other : ℕ → Bool) → ((k : ℕ) → k < n → test k ≡ other k) → all_below n test ≡ all_below n other
+pub all_below_same : (n : ℕ) (test other : ℕ → Bool) → ((k : ℕ) → k < n → test k ≡ other k)
+    → all_below n test ≡ all_below n other
 unfolding all_below
 all_below_same zero test other same = refl
-all_below_same (suc n) test other same = rw (all_below_same n test other (λ k below. same k (omega arith)), same n (omega arith)) refl
-
-pub Decides_all_below : (test : ℕ → Bool) (P : ℕ → Type 0) → ((k : ℕ) → Decides (test k) (P k)) → (n : ℕ) → Decides (all_below n test) ((k : ℕ) → k < n → P k)
-Decides_all_below test P each n =
-    ((λ passed k below. (each k).0 (all_below_passes n test passed k below)), (λ holds. all_below_from n test (λ k below. (each k).1 (holds k below))))
+all_below_same (suc n) test other same =
+    rw (all_below_same n test other (λ k below. same k (omega arith)), same n (omega arith)) refl
 
 -- whether one passes
 
@@ -266,28 +216,19 @@ any_below_found (suc n) test k below passes = elim (cases_eq k n) [
   | inr other ↦ or_left (any_below n test) (test n) (any_below_found n test k (omega arith) passes)
 ]
 
--- one that passes, where any does
-pub any_below_passing : (n : ℕ) (test : ℕ → Bool) → any_below n test ≡ true → (k : ℕ) × (k < n) × (test k ≡ true)
-unfolding any_below
-any_below_passing zero test passed = cc passed
-any_below_passing (suc n) test passed = elim (or_cases (any_below n test) (test n) passed) [
-  | inl before ↦ let found = any_below_passing n test before in (found.0, omega (arith, found.1), found.2)
-  | inr last ↦ (n, omega arith, last)
-]
-
 pub any_below_from_none : (n : ℕ) (test : ℕ → Bool) → ((k : ℕ) → k < n → test k ≡ false) → any_below n test ≡ false
 unfolding any_below
 any_below_from_none zero test each = refl
-any_below_from_none (suc n) test each = or_from (any_below n test) (test n) (any_below_from_none n test (λ k below. each k (omega arith))) (each n (omega arith))
+any_below_from_none (suc n) test each =
+    or_from (any_below n test) (test n) (any_below_from_none n test (λ k below. each k (omega arith))) (each n (omega arith))
 
 pub any_below_fails : (n : ℕ) (test : ℕ → Bool) → any_below n test ≡ false → (k : ℕ) → k < n → test k ≡ false
-any_below_fails n test failed k below = false_from_ne_true (test k) (λ passes. cc (any_below_found n test k below passes, failed))
+any_below_fails n test failed k below =
+    false_from_ne_true (test k) (λ passes. cc (any_below_found n test k below passes, failed))
 
-pub any_below_same : (n : ℕ) (test other : ℕ → Bool) → ((k : ℕ) → k < n → test k ≡ other k) → any_below n test ≡ any_below n other
+pub any_below_same : (n : ℕ) (test other : ℕ → Bool) → ((k : ℕ) → k < n → test k ≡ other k)
+    → any_below n test ≡ any_below n other
 unfolding any_below
 any_below_same zero test other same = refl
-any_below_same (suc n) test other same = rw (any_below_same n test other (λ k below. same k (omega arith)), same n (omega arith)) refl
-
-pub Decides_any_below : (test : ℕ → Bool) (P : ℕ → Type 0) → ((k : ℕ) → Decides (test k) (P k)) → (n : ℕ) → Decides (any_below n test) ((k : ℕ) × (k < n) × P k)
-Decides_any_below test P each n =
-    ((λ passed. let found = any_below_passing n test passed in (found.0, found.1, (each found.0).0 found.2)), (λ holds. any_below_found n test holds.0 holds.1 ((each holds.0).1 holds.2)))
+any_below_same (suc n) test other same =
+    rw (any_below_same n test other (λ k below. same k (omega arith)), same n (omega arith)) refl

@@ -1,9 +1,10 @@
 -- Sums that a loop over the numbers of a set makes.
-use Rattle.std.proofs.Common.{◌≡◌, ℕ, ◌+◌, ◌*◌, ◌<◌, ◌≤◌, ◌≢◌, ◌&&◌, ◌==◌, not, Bool, true, false, if◌then◌else◌, refl, sym, ◌∙◌, ap, inl, inr, arith}
+use Rattle.std.proofs.Common.{◌≡◌, ℕ, ◌+◌, ◌*◌, ◌<◌, ◌≤◌, ◌≢◌, ◌&&◌, ◌==◌, not, Bool, true, false, if◌then◌else◌, refl}
+use Rattle.std.proofs.Common.{sym, ◌∙◌, ap, inl, inr, arith}
 use Rattle.std.proofs.Math.Nat.{mul-le-mul_left, zero-add}
 use Rattle.std.proofs.lemmas.Bool.{cases_lt, eq-eqb, ne_eqb, and_right, cond-true, cond-false, true≢false}
 use Rattle.std.proofs.lemmas.Nat.Bits.{bit_at-zero}
-use Rattle.league.specs.Sums.{sum_below, sum_where, count_where}
+use Rattle.league.specs.Sums.{sum_where, count_where}
 use Rattle.league.specs.Sets.{has, IsBelow, IsWithoutLowest}
 use Rattle.league.proofs.Bits.{has_beyond}
 use Rattle.league.proofs.Sums.{sum_below_one, sum_where_none, sum_where_same, count_where_le}
@@ -24,7 +25,8 @@ pub record IsSumWithout (n set left total most : ℕ) (f : ℕ → ℕ) : Type 0
   pub sum : total + sum_where n (has left) f ≡ sum_where n (has set) f
   pub within : total + most * count_where n (has left) ≤ most * n
 
-pub sum_without_none : (n set left most : ℕ) (f : ℕ → ℕ) → IsBelow n left → left ≡ set → IsSumWithout n set left 0 most f
+pub sum_without_none : (n set left most : ℕ) (f : ℕ → ℕ) → IsBelow n left → left ≡ set
+    → IsSumWithout n set left 0 most f
 sum_without_none n set left most f below whole = record {
   below = below;
   sum = ap (λ s. 0 + sum_where n (has s) f) whole ∙ zero-add (sum_where n (has set) f);
@@ -40,7 +42,8 @@ sum_where_without n set lowest rest f below taken =
     (λ k k_below other. ap (λ b. if b then f k else 0) (sym (kept k other)))
   where
     gone : has rest lowest ≡ false
-    gone = taken.others lowest ∙ and_right (has set lowest) (not (lowest == lowest)) (ap not (eq-eqb lowest lowest refl))
+    gone =
+        taken.others lowest ∙ and_right (has set lowest) (not (lowest == lowest)) (ap not (eq-eqb lowest lowest refl))
 
     and_true : (b : Bool) → (b && true) ≡ b
     and_true true = refl
@@ -53,9 +56,12 @@ pub sum_without_more : (n set left lowest rest total term most : ℕ) (f : ℕ �
     → IsWithoutLowest left lowest rest → term ≡ f lowest → term ≤ most → IsSumWithout n set rest (total + term) most f
 sum_without_more n set left lowest rest total term most f so_far taken is small =
     let in_range : lowest < n = lowest_below n left lowest rest so_far.below taken in
-    let one_term : sum_where n (has left) f ≡ sum_where n (has rest) f + f lowest = sum_where_without n left lowest rest f in_range taken in
-    let one_fewer : count_where n (has left) ≡ count_where n (has rest) + 1 = sum_where_without n left lowest rest (λ _. 1) in_range taken in
-    let by_most : most * count_where n (has left) ≡ most * count_where n (has rest) + most = ap (λ m. most * m) one_fewer ∙ one_more most (count_where n (has rest)) in
+    let one_term : sum_where n (has left) f ≡ sum_where n (has rest) f + f lowest =
+    sum_where_without n left lowest rest f in_range taken in
+    let one_fewer : count_where n (has left) ≡ count_where n (has rest) + 1 =
+    sum_where_without n left lowest rest (λ _. 1) in_range taken in
+    let by_most : most * count_where n (has left) ≡ most * count_where n (has rest) + most =
+    ap (λ m. most * m) one_fewer ∙ one_more most (count_where n (has rest)) in
     record {
       below = omega (arith, so_far.below, taken.fewer);
       sum = omega (arith, so_far.sum, one_term, is);
@@ -65,17 +71,9 @@ sum_without_more n set left lowest rest total term most f so_far taken is small 
     one_more : (a b : ℕ) → a * (b + 1) ≡ a * b + a
     one_more a b = omega arith
 
--- the next term fits
-pub sum_without_fits : (n set left lowest rest total most : ℕ) (f : ℕ → ℕ) → IsSumWithout n set left total most f
-    → IsWithoutLowest left lowest rest → total + most ≤ most * n
-sum_without_fits n set left lowest rest total most f so_far taken =
-    let in_range : lowest < n = lowest_below n left lowest rest so_far.below taken in
-    let one_fewer : count_where n (has left) ≡ count_where n (has rest) + 1 = sum_where_without n left lowest rest (λ _. 1) in_range taken in
-    let some_left : most * 1 ≤ most * count_where n (has left) = mul-le-mul_left most (omega (arith, one_fewer)) in
-    omega (arith, so_far.within, some_left)
-
 -- the whole sum, where none is left and the set has those that pass a test
-pub sum_without_all : (n set left total most : ℕ) (test : ℕ → Bool) (f : ℕ → ℕ) → IsSumWithout n set left total most f → left ≡ 0
+pub sum_without_all : (n set left total most : ℕ) (test : ℕ → Bool) (f : ℕ → ℕ) → IsSumWithout n set left total most f
+    → left ≡ 0
     → ((k : ℕ) → k < n → has set k ≡ test k) → total ≡ sum_where n test f
 sum_without_all n set left total most test f so_far none_left members =
     omega (arith, so_far.sum, sum_where_none n (has left) f (λ k below. ap (λ s. has s k) none_left ∙ has_empty k), sum_where_same n (has set) test f f members (λ k below passes. refl))

@@ -2,7 +2,9 @@
 use Rattle.std.proofs.Common.{◌≡◌, ℕ, List, [], ◌∷◌, ◌++◌, take, Ok, Err, refl}
 use Rattle.std.specs.Prelude.{codes}
 use Rattle.league.specs.declared.fault.Field.TheVariants.{Whole, Format, Teams, AtMost, Rules}
-use Rattle.league.specs.declared.fault.LeagueFault.TheVariants.{NotJson, MissingField, WrongKind, TeamCount, DistanceShape, DistanceRange, Diagonal, Asymmetric, RuleClass, RuleValue}
+use Rattle.league.specs.declared.fault.LeagueFault.TheVariants.{NotJson, MissingField, WrongKind, TeamCount}
+use Rattle.league.specs.declared.fault.LeagueFault.TheVariants.{DistanceShape, DistanceRange, Diagonal, Asymmetric}
+use Rattle.league.specs.declared.fault.LeagueFault.TheVariants.{RuleClass, RuleValue}
 use Rattle.league.specs.declared.rule.Rule.{Rule}
 use Rattle.league.specs.declared.rule.RuleBody.TheVariants.{Ca1, Ga1}
 use Rattle.league.specs.declared.rule.Side.TheVariants.{Away}
@@ -38,7 +40,8 @@ circular_of-forty_two = refl
 
 -- the text of four teams with these distances and further members
 abbrev four_teams : List ℕ → List ℕ → List ℕ
-four_teams distances more = codes "{\"format\":1,\"teams\":[\"T1\",\"T2\",\"T3\",\"T4\"],\"distances\":" ++ distances ++ more ++ codes "}"
+four_teams distances more =
+    codes "{\"format\":1,\"teams\":[\"T1\",\"T2\",\"T3\",\"T4\"],\"distances\":" ++ distances ++ more ++ codes "}"
 
 abbrev circle : List ℕ
 circle = codes "[[0,1,2,1],[1,0,1,2],[2,1,0,1],[1,2,1,0]]"
@@ -113,7 +116,8 @@ abbrev with_rules : List ℕ → List ℕ
 with_rules rules = four_teams circle (codes ",\"rules\":[" ++ rules ++ codes "]")
 
 abbrev circle_with : List Rule → LeagueData
-circle_with rules = league_data four_names ((0 ∷ 1 ∷ 2 ∷ 1 ∷ []) ∷ (1 ∷ 0 ∷ 1 ∷ 2 ∷ []) ∷ (2 ∷ 1 ∷ 0 ∷ 1 ∷ []) ∷ (1 ∷ 2 ∷ 1 ∷ 0 ∷ []) ∷ []) 3 100 rules
+circle_with rules =
+    league_data four_names ((0 ∷ 1 ∷ 2 ∷ 1 ∷ []) ∷ (1 ∷ 0 ∷ 1 ∷ 2 ∷ []) ∷ (2 ∷ 1 ∷ 0 ∷ 1 ∷ []) ∷ (1 ∷ 2 ∷ 1 ∷ 0 ∷ []) ∷ []) 3 100 rules
 
 -- team 4 away in rounds 1, 3 and 5: as sets 2^3, and 2^0 + 2^2 + 2^4
 pub league_of-CA1 : league_of (with_rules (codes "{\"class\":\"CA1\",\"kind\":\"hard\",\"teams\":[4],\"mode\":\"A\",\"slots\":[1,3,5,3],\"max\":1}"))

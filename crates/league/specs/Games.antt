@@ -2,6 +2,7 @@
 use Rattle.std.specs.Prelude.{◌≢◌, ℕ, ◌<◌, ◌&&◌, ◌==◌, List, [], ◌∷◌, ◌++◌, Bool, if◌then◌else◌}
 use Rattle.std.specs.List.{list_any, AllByRecursion, IsDistinct}
 use Rattle.league.specs.declared.rule.Pairing.{Pairing}
+use Rattle.league.specs.Limits.{max_teams}
 
 -- two distinct teams of n
 pub record IsGameFor (n : ℕ) (game : Pairing) : Type 0 where
@@ -12,10 +13,10 @@ pub record IsGameFor (n : ℕ) (game : Pairing) : Type 0 where
 abbrev pub is_same_game : Pairing → Pairing → Bool
 is_same_game p q = (p.home == q.home) && (p.away == q.away)
 
--- games of distinct teams, each once; no league has more than 40 teams
+-- games of distinct teams, each once
 pub record IsGameList (games : List Pairing) : Type 0 where
   pub each_once : IsDistinct is_same_game games
-  pub fit : AllByRecursion (IsGameFor 40) games
+  pub fit : AllByRecursion (IsGameFor max_teams) games
 
 abbrev pub has_game : List Pairing → Pairing → Bool
 has_game games game = list_any (λ other. is_same_game other game) games

@@ -9,10 +9,13 @@ use Rattle.league.specs.declared.fault.LeagueFault.TheVariants.{NotJson, WrongKi
 use Rattle.league.specs.declared.rule.Rule.{Rule}
 use Rattle.league.specs.Json.{json_of, is_object}
 use Rattle.league.specs.Reading.{◌>>=◌, or_fault, unless}
-use Rattle.league.specs.Members.{is_team_name, format_of, teams_of, distances_of, at_most_of, hard_weight_of, rules_of}
-use Rattle.league.specs.Limits.{distance_of, checked, IsTable}
+use Rattle.league.specs.Rows.{table_of}
+use Rattle.league.specs.LeagueMembers.{is_team_name, format_of, teams_of, distances_of}
+use Rattle.league.specs.LeagueMembers.{at_most_of, hard_weight_of, rules_of}
+use Rattle.league.specs.Checks.{distance_of, checked, IsTable}
+use Rattle.league.specs.Limits.{max_rounds, max_weight, max_rules}
 use Rattle.league.specs.RuleLimits.{IsRuleFor}
-use Rattle.league.specs.Rules.{class_of, rule_of_class}
+use Rattle.league.specs.RuleClasses.{class_of, rule_of_class}
 
 pub record LeagueData : Type 0 where
   pub names : List (List ℕ)
@@ -22,7 +25,18 @@ pub record LeagueData : Type 0 where
   pub rules : List Rule
 
 abbrev pub league_data : List (List ℕ) → List (List ℕ) → ℕ → ℕ → List Rule → LeagueData
-league_data names distances at_most hard_weight rules = record { names = names; distances = distances; at_most = at_most; hard_weight = hard_weight; rules = rules }
+league_data names distances at_most hard_weight rules = record {
+  names = names;
+  distances = distances;
+  at_most = at_most;
+  hard_weight = hard_weight;
+  rules = rules;
+}
+
+-- the same of a table kept as its numbers, row by row
+abbrev pub league_of_numbers : List (List ℕ) → List ℕ → ℕ → ℕ → List Rule → LeagueData
+league_of_numbers names numbers at_most hard_weight rules =
+    league_data names (table_of (length names) numbers) at_most hard_weight rules
 
 -- how many teams there are
 abbrev pub teams : LeagueData → ℕ
@@ -40,11 +54,11 @@ distance l a b = distance_of l.distances a b
 pub record IsLeague (l : LeagueData) : Type 0 where
   pub table : IsTable (length l.names) l.distances
   pub at_most_least : 1 ≤ l.at_most
-  pub at_most_most : l.at_most ≤ 78
+  pub at_most_most : l.at_most ≤ max_rounds
   pub weight_least : 1 ≤ l.hard_weight
-  pub weight_most : l.hard_weight ≤ 1000000
+  pub weight_most : l.hard_weight ≤ max_weight
   pub names : IsTrue (list_all is_team_name l.names)
-  pub rule_count : length l.rules ≤ 256
+  pub rule_count : length l.rules ≤ max_rules
   pub rules : AllByRecursion (IsRuleFor (length l.names)) l.rules
 
 -- the rule at an index, among n teams

@@ -2,14 +2,15 @@ pub mod Json
 pub mod Reading
 pub mod Views
 pub mod Rows
-pub mod Members
+pub mod LeagueMembers
 pub mod Messages
 pub mod Limits
+pub mod Checks
 pub mod Sums
 pub mod Sets
 pub mod Games
 pub mod RuleLimits
 pub mod RuleMembers
-pub mod Rules
+pub mod RuleClasses
 pub mod League
 pub mod Made

@@ -1,58 +1,49 @@
--- The limits of a league, each a test of its parts, and what they leave true of a table of distances.
-use Rattle.std.specs.Prelude.{◌≡◌, ℕ, ◌%◌, ◌≤◌, ◌&&◌, ◌==◌, List, [], length, slice_index, slice_index_or, Bool, nat_le, Result, ⊤}
-use Rattle.std.specs.List.{list_all, AllByRecursion}
-use Rattle.league.specs.declared.fault.LeagueFault.{LeagueFault}
-use Rattle.league.specs.declared.fault.LeagueFault.TheVariants.{TeamCount, DistanceShape, DistanceRange, Diagonal, Asymmetric, TooManyRules}
-use Rattle.league.specs.Reading.{◌>>=◌, unless}
-use Rattle.league.specs.Sums.{all_below}
+-- How large leagues, their seasons and their rules may be.
+use Rattle.std.specs.Prelude.{ℕ, ◌-◌, ◌*◌}
 
--- the number at column b of row a, or 0 beyond the table
-abbrev pub distance_of : List (List ℕ) → ℕ → ℕ → ℕ
-distance_of table a b = slice_index (slice_index_or table a []) b
+abbrev pub min_teams : ℕ
+min_teams = 4
 
--- even, and from 4 to 40
-abbrev pub is_team_count : ℕ → Bool
-is_team_count n = (n % 2 == 0) && (nat_le 4 n && nat_le n 40)
+abbrev pub max_teams : ℕ
+max_teams = 40
 
--- n numbers in each row
-abbrev pub has_columns : ℕ → List (List ℕ) → Bool
-has_columns n = list_all (λ row. length row == n)
+-- the bytes of a team's name
+abbrev pub max_name : ℕ
+max_name = 40
 
--- n rows of n numbers
-abbrev pub is_square : ℕ → List (List ℕ) → Bool
-is_square n table = (length table == n) && has_columns n table
+-- how many rounds n teams play: each meets each other twice
+abbrev pub round_count : ℕ → ℕ
+round_count n = 2 * (n - 1)
 
-abbrev pub is_in_range : List (List ℕ) → Bool
-is_in_range = list_all (list_all (λ x. nat_le x 1000000))
+-- the rounds of the most teams
+abbrev pub max_rounds : ℕ
+max_rounds = 78
 
--- no distance from a team to itself
-unfoldable pub has_zero_diagonal : ℕ → List (List ℕ) → Bool
-has_zero_diagonal n table = all_below n (λ a. distance_of table a a == 0)
+-- no list has more games, each once, of the most teams
+abbrev pub max_games : ℕ
+max_games = 1600
 
--- the first n numbers of row a are those of column a
-unfoldable pub is_mirrored_at : List (List ℕ) → ℕ → ℕ → Bool
-is_mirrored_at table n a = all_below n (λ b. distance_of table a b == distance_of table b a)
+abbrev pub max_distance : ℕ
+max_distance = 1000000
 
-unfoldable pub is_symmetric : ℕ → List (List ℕ) → Bool
-is_symmetric n table = all_below n (is_mirrored_at table n)
+-- of a hard limit, and of a soft rule
+abbrev pub max_weight : ℕ
+max_weight = 1000000
 
--- the checks of the whole, in their order: n teams, this table of distances, so many rules
-unfoldable pub checked : ℕ → List (List ℕ) → ℕ → Result ⊤ LeagueFault
-checked n table rules = do
-  counted ← unless (is_team_count n) TeamCount
-  shaped ← unless (is_square n table) DistanceShape
-  ranged ← unless (is_in_range table) DistanceRange
-  zeroed ← unless (has_zero_diagonal n table) Diagonal
-  mirrored ← unless (is_symmetric n table) Asymmetric
-  unless (nat_le rules 256) TooManyRules
+abbrev pub max_rules : ℕ
+max_rules = 256
 
--- What the checks leave true of n teams and their distances. Beyond the table a distance is 0, so its facts hold of all a and b.
-pub record IsTable (n : ℕ) (table : List (List ℕ)) : Type 0 where
-  pub even : n % 2 ≡ 0
-  pub least : 4 ≤ n
-  pub most : n ≤ 40
-  pub rows : length table ≡ n
-  pub columns : AllByRecursion (λ row. length row ≡ n) table
-  pub near : (a b : ℕ) → distance_of table a b ≤ 1000000
-  pub diagonal : (a : ℕ) → distance_of table a a ≡ 0
-  pub symmetric : (a b : ℕ) → distance_of table a b ≡ distance_of table b a
+-- the numbers of a rule
+abbrev pub max_count : ℕ
+max_count = 10000
+
+-- each deviation of a rule is less
+abbrev pub deviation_limit : ℕ
+deviation_limit = 10000000
+
+-- the games in a row at home, or away, of a league that doesn't say
+abbrev pub default_at_most : ℕ
+default_at_most = 3
+
+abbrev pub default_hard_weight : ℕ
+default_hard_weight = 100

@@ -1,5 +1,6 @@
 -- The members of a rule's text. Teams and rounds count from 1 there, and from 0 here.
-use Rattle.std.specs.Prelude.{ℕ, ◌-◌, ◌==◌, not, List, [], ◌∷◌, codes, Bool, true, false, Option, Some, None, option_map, option_and_then, if◌then◌else◌}
+use Rattle.std.specs.Prelude.{ℕ, ◌-◌, ◌==◌, not, List, [], ◌∷◌, codes, Bool, true, false, Option, Some, None}
+use Rattle.std.specs.Prelude.{option_map, option_and_then, if◌then◌else◌}
 use Rattle.std.specs.Str.{bytes_eq}
 use Rattle.serde_json.specs.Data.{Data, Items, no_items, item}
 use Rattle.serde_json.specs.Find.{get, as_str, as_array}
@@ -11,7 +12,7 @@ use Rattle.league.specs.declared.rule.Weight.TheVariants.{Hard, Soft}
 use Rattle.league.specs.Json.{only_if, number_within, array_of}
 use Rattle.league.specs.Sets.{with_number, all_numbers}
 use Rattle.league.specs.Games.{with_games}
-use Rattle.league.specs.RuleLimits.{rounds_of}
+use Rattle.league.specs.Limits.{round_count, max_weight, max_count}
 
 abbrev pub text_member : List ℕ → Data → Option (List ℕ)
 text_member name d = option_and_then as_str (get name d)
@@ -39,14 +40,14 @@ opponents_member n d = set_or_all n (get (codes "teams2") d)
 
 -- the rounds, or all rounds where none are given
 abbrev pub slots_member : ℕ → Data → Option ℕ
-slots_member n d = set_or_all (rounds_of n) (get (codes "slots") d)
+slots_member n d = set_or_all (round_count n) (get (codes "slots") d)
 
 abbrev pub count_member : List ℕ → Data → Option ℕ
-count_member name d = option_and_then (number_within 0 10000) (get name d)
+count_member name d = option_and_then (number_within 0 max_count) (get name d)
 
 -- so many rounds in a row: one at least, and all at most
 abbrev pub window_member : ℕ → Data → Option ℕ
-window_member n d = option_and_then (number_within 1 (rounds_of n)) (get (codes "intp") d)
+window_member n d = option_and_then (number_within 1 (round_count n)) (get (codes "intp") d)
 
 abbrev pub one_side : List ℕ → Option Side
 one_side mode =
@@ -84,10 +85,11 @@ game_of n d = option_and_then (game_of_items n) (as_array d)
 
 -- a game given twice counts once
 abbrev pub games_member : ℕ → Data → Option (List Pairing)
-games_member n d = option_and_then (λ games. option_map (with_games []) (array_of (game_of n) games)) (get (codes "games") d)
+games_member n d =
+    option_and_then (λ games. option_map (with_games []) (array_of (game_of n) games)) (get (codes "games") d)
 
 abbrev pub soft_weight : Data → Option Weight
-soft_weight d = option_map Soft (option_and_then (number_within 1 1000000) (get (codes "weight") d))
+soft_weight d = option_map Soft (option_and_then (number_within 1 max_weight) (get (codes "weight") d))
 
 abbrev pub weight_of_kind : Data → List ℕ → Option Weight
 weight_of_kind d kind =

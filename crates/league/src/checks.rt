@@ -2,7 +2,8 @@
 
 ghost use Rattle.std.specs.Prelude.{◌≡◌, ◌<◌, ◌≤◌, [], length, slice_index_or, nat_le, OnOk, IsTrue};
 ghost use Rattle.std.specs.List.{list_all};
-ghost use Rattle.league.specs.Limits.{distance_of, is_team_count, is_square, is_in_range, has_zero_diagonal, is_mirrored_at, is_symmetric, checked, IsTable};
+ghost use Rattle.league.specs.Checks.{distance_of, is_team_count, is_square, is_in_range, has_zero_diagonal, is_mirrored_at, is_symmetric, checked, IsTable};
+ghost use Rattle.league.specs.Limits.{max_distance, max_rules};
 ghost use Rattle.league.specs.Views.{rows};
 
 use crate::fault::LeagueFault;
@@ -39,7 +40,7 @@ fn is_square(n: usize, table: &[Vec<u64>]) -> bool
 }
 
 fn is_row_in_range(row: &[u64]) -> bool
-    ensures { result ≡ list_all (λ x. nat_le x MAX_DISTANCE) row.now }
+    ensures { result ≡ list_all (λ x. nat_le x max_distance) row.now }
 {
     row.iter().all(|distance| *distance <= MAX_DISTANCE)
 }
@@ -55,7 +56,7 @@ fn is_in_range(table: &[Vec<u64>]) -> bool
     true
 }
 
-#[tactic(auto, using(crate::proofs::Sums::all_below_none, crate::proofs::Sums::all_below_more), unfolding(crate::specs::Limits::has_zero_diagonal))]
+#[tactic(auto, using(crate::proofs::Sums::each_below), unfolding(crate::specs::Checks::has_zero_diagonal))]
 fn has_zero_diagonal(n: usize, table: &[Vec<u64>]) -> bool
     requires { IsTrue (is_square n (rows table.now)) }
     ensures { result ≡ has_zero_diagonal n (rows table.now) }
@@ -68,7 +69,7 @@ fn has_zero_diagonal(n: usize, table: &[Vec<u64>]) -> bool
     true
 }
 
-#[tactic(auto, using(crate::proofs::Sums::all_below_none, crate::proofs::Sums::all_below_more), unfolding(crate::specs::Limits::is_mirrored_at))]
+#[tactic(auto, using(crate::proofs::Sums::each_below), unfolding(crate::specs::Checks::is_mirrored_at))]
 fn is_mirrored_at(n: usize, table: &[Vec<u64>], a: usize) -> bool
     requires square { IsTrue (is_square n (rows table.now)) }
     requires row { a < n }
@@ -82,7 +83,7 @@ fn is_mirrored_at(n: usize, table: &[Vec<u64>], a: usize) -> bool
     true
 }
 
-#[tactic(auto, using(crate::proofs::Sums::all_below_none, crate::proofs::Sums::all_below_more), unfolding(crate::specs::Limits::is_symmetric))]
+#[tactic(auto, using(crate::proofs::Sums::each_below), unfolding(crate::specs::Checks::is_symmetric))]
 fn is_symmetric(n: usize, table: &[Vec<u64>]) -> bool
     requires { IsTrue (is_square n (rows table.now)) }
     ensures { result ≡ is_symmetric n (rows table.now) }
@@ -96,11 +97,11 @@ fn is_symmetric(n: usize, table: &[Vec<u64>]) -> bool
 }
 
 /// Checks `n` teams, their distances and the number of their rules.
-#[tactic(auto, unfolding(crate::specs::Limits::checked))]
+#[tactic(auto, unfolding(crate::specs::Checks::checked))]
 pub fn check(n: usize, table: &[Vec<u64>], rules: usize) -> Result<(), LeagueFault>
     ensures value { result ≡ checked n (rows table.now) rules }
     ensures table { OnOk result (IsTable n (rows table.now)) }
-    ensures count { OnOk result (rules ≤ 256) }
+    ensures count { OnOk result (rules ≤ max_rules) }
 {
     if !is_team_count(n) {
         return Err(LeagueFault::TeamCount);

@@ -5,7 +5,7 @@ ghost use Rattle.std.specs.List.{list_all};
 ghost use Rattle.serde_json.specs.Events.{items_len};
 ghost use Rattle.serde_json.specs.View.{view, items_view};
 ghost use Rattle.league.specs.Json.{number_within, objects, all_objects};
-ghost use Rattle.league.specs.Members.{is_name_byte, is_team_name, team_name, team_names, distance_row, distance_rows};
+ghost use Rattle.league.specs.LeagueMembers.{is_name_byte, is_team_name, team_name, team_names, distance_row, distance_rows};
 ghost use Rattle.league.specs.Views.{texts, rows};
 
 use crate::limits::MAX_NAME;

@@ -1,18 +1,14 @@
 //! A league in memory.
 
 ghost use Rattle.std.specs.Prelude.{◌≡◌, ℕ, ◌<◌, ◌≤◌, ◌%◌, ◌++◌, Some, length, slice_get, slice_index, IfOk, OnOk};
-ghost use Rattle.league.specs.Limits.{IsTable};
+ghost use Rattle.league.specs.Checks.{IsTable};
+ghost use Rattle.league.specs.Limits.{min_teams, max_teams, max_rounds, max_distance, max_weight, max_rules};
 ghost use Rattle.league.specs.Rows.{table_of};
 ghost use Rattle.league.specs.Views.{texts, rows};
 
 use crate::rule::Rule;
 use std::alloc::{AllocError, Global};
 use std::marker::Model;
-
-/// How many rounds in a row at home, or away, a league allows that does not say.
-pub(crate) const DEFAULT_AT_MOST: u8 = 3;
-/// The hard weight of a league that does not say.
-pub(crate) const DEFAULT_HARD_WEIGHT: u32 = 100;
 
 /// Teams, the distances between their homes, the limits of a schedule and the rules on it. Teams are numbered from 0.
 #[derive(Debug, Drop)]
@@ -26,16 +22,14 @@ pub struct League {
 }
 
 impl Model for League {
-    ghost use Rattle.std.specs.Prelude.{length};
-    ghost use Rattle.league.specs.League.{LeagueData, league_data, IsLeague};
-    ghost use Rattle.league.specs.Rows.{table_of};
+    ghost use Rattle.league.specs.League.{LeagueData, league_of_numbers, IsLeague};
     ghost use Rattle.league.specs.Views.{texts};
 
     ghost Value = { LeagueData };
 
-    ghost view = { λ l. league_data (texts l.names.items) (table_of (length (texts l.names.items)) l.distances.items) l.at_most l.hard_weight l.rules.items };
+    ghost view = { λ l. league_of_numbers (texts l.names.items) l.distances.items l.at_most l.hard_weight l.rules.items };
 
-    ghost invariant = { λ l. IsLeague (league_data (texts l.names.items) (table_of (length (texts l.names.items)) l.distances.items) l.at_most l.hard_weight l.rules.items) };
+    ghost invariant = { λ l. IsLeague (league_of_numbers (texts l.names.items) l.distances.items l.at_most l.hard_weight l.rules.items) };
 }
 
 impl League {
@@ -66,8 +60,8 @@ impl League {
     /// How many teams there are: even, and from 4 to 40.
     pub fn teams(&self) -> u8
         ensures value { result ≡ teams self.now }
-        ensures least { 4 ≤ result }
-        ensures most { result ≤ 40 }
+        ensures least { min_teams ≤ result }
+        ensures most { result ≤ max_teams }
         ensures even { result % 2 ≡ 0 }
         ensures limits { IsLeague self.now }
     {
@@ -87,7 +81,7 @@ impl League {
         requires a_in { a < teams self.now }
         requires b_in { b < teams self.now }
         ensures value { result ≡ distance self.now a b }
-        ensures near { result ≤ 1000000 }
+        ensures near { result ≤ max_distance }
     {
         self.distances[usize::from(a) * self.names.len() + usize::from(b)]
     }
@@ -96,7 +90,7 @@ impl League {
     pub fn at_most(&self) -> u8
         ensures value { result ≡ self.now.at_most }
         ensures least { 1 ≤ result }
-        ensures most { result ≤ 78 }
+        ensures most { result ≤ max_rounds }
     {
         self.at_most
     }
@@ -105,7 +99,7 @@ impl League {
     pub fn hard_weight(&self) -> u32
         ensures value { result ≡ self.now.hard_weight }
         ensures least { 1 ≤ result }
-        ensures most { result ≤ 1000000 }
+        ensures most { result ≤ max_weight }
     {
         self.hard_weight
     }
@@ -113,7 +107,7 @@ impl League {
     /// How many rules there are.
     pub fn rule_count(&self) -> usize
         ensures value { result ≡ length self.now.rules }
-        ensures most { result ≤ 256 }
+        ensures most { result ≤ max_rules }
     {
         self.rules.len()
     }
@@ -161,7 +155,7 @@ fn one_after_another(
 }
 
 fn push_row(numbers: &mut Vec<u32>, row: &[u64]) -> Result<(), AllocError>
-    requires { (b : ℕ) → slice_index row.now b ≤ 1000000 }
+    requires { (b : ℕ) → slice_index row.now b ≤ max_distance }
     ensures { OnOk result (numbers.new.items ≡ numbers.old.items ++ row.now) }
 {
     for distance in row {

@@ -5,14 +5,14 @@
 mod checks;
 mod fault;
 mod forms;
+mod league_members;
 mod leagues;
 pub mod limits;
 mod made;
-mod members;
 mod reader;
 mod rule;
+mod rule_classes;
 mod rule_members;
-mod rules;
 mod sets;
 #[cfg(test)]
 mod tests;

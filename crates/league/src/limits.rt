@@ -1,5 +1,7 @@
-//! The limits of leagues, of their seasons and of their rules.
+//! How large leagues, their seasons and their rules may be.
 
+/// The only format of a league's text.
+pub(crate) const FORMAT: u64 = 1;
 /// The fewest teams of a league.
 pub const MIN_TEAMS: u8 = 4;
 /// The most teams of a league.
@@ -9,7 +11,7 @@ pub const MAX_ROUNDS: u8 = 78;
 /// The longest distance between two homes.
 pub const MAX_DISTANCE: u64 = 1_000_000;
 /// The most rounds in a row that a league may allow at home, or away.
-pub const MAX_AT_MOST: u8 = 78;
+pub const MAX_AT_MOST: u8 = MAX_ROUNDS;
 /// The largest weight: that of hard limits, and that of a soft rule.
 pub const MAX_WEIGHT: u32 = 1_000_000;
 /// The most rules of a league.
@@ -18,3 +20,7 @@ pub const MAX_RULES: usize = 256;
 pub const MAX_COUNT: u32 = 10_000;
 /// The most bytes of a team's name.
 pub const MAX_NAME: usize = 40;
+/// How many rounds in a row at home, or away, a league allows that does not say.
+pub(crate) const DEFAULT_AT_MOST: u8 = 3;
+/// The hard weight of a league that does not say.
+pub(crate) const DEFAULT_HARD_WEIGHT: u32 = 100;

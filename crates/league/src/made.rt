@@ -2,14 +2,15 @@
 
 ghost use Rattle.std.specs.Prelude.{◌≡◌, ◌<◌, ◌↔◌, IfOk, IsErrOf, false};
 ghost use Rattle.league.specs.Reading.{Gives};
-ghost use Rattle.league.specs.Limits.{is_team_count};
+ghost use Rattle.league.specs.Checks.{is_team_count};
 ghost use Rattle.league.specs.League.{IsLeague};
 ghost use Rattle.league.specs.Made.{apart, made_names, made_row, made_rows, made, circular_of, constant_of};
 ghost use Rattle.league.specs.Views.{texts, rows};
 
 use crate::checks::is_team_count;
 use crate::fault::LeagueFault;
-use crate::leagues::{DEFAULT_AT_MOST, DEFAULT_HARD_WEIGHT, League};
+use crate::leagues::League;
+use crate::limits::{DEFAULT_AT_MOST, DEFAULT_HARD_WEIGHT};
 use std::alloc::{AllocError, Global};
 
 /// How the homes of a made league lie.

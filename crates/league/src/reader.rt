@@ -10,9 +10,11 @@ ghost use Rattle.league.specs.declared.fault.LeagueFault.TheVariants.{NotJson};
 use crate::checks::check;
 use crate::fault::{Field, LeagueFault};
 use crate::forms::item_count;
+use crate::league_members::{
+    at_most_of, distances_of, format_of, hard_weight_of, rules_of, teams_of,
+};
 use crate::leagues::League;
-use crate::members::{at_most_of, distances_of, format_of, hard_weight_of, rules_of, teams_of};
-use crate::rules::read_rules;
+use crate::rule_classes::read_rules;
 use serde_json::{Category, Value};
 use std::alloc::Global;
 

@@ -3,6 +3,7 @@
 
 ghost use Rattle.std.specs.Prelude.{◌≡◌, ◌<◌, ◌≤◌, ◌↔◌, [], Some, length, slice_get, IsTrue, IfOk};
 ghost use Rattle.league.specs.Games.{IsGameFor, IsGameList, with_game};
+ghost use Rattle.league.specs.Limits.{max_teams, max_games};
 
 use crate::sets::{SlotSet, TeamSet};
 use std::alloc::{AllocError, Global};
@@ -141,9 +142,9 @@ impl GameList {
 
     /// Adds a game, unless it is there.
     pub(crate) fn add(&mut self, game: Pairing) -> Result<(), AllocError>
-        requires { IsGameFor 40 game }
+        requires { IsGameFor max_teams game }
         ensures value { IfOk result (λ _. self.new ≡ with_game self.old game) }
-        ensures most { IfOk result (λ _. length self.new ≤ 1600) }
+        ensures most { IfOk result (λ _. length self.new ≤ max_games) }
     {
         if !self.games.contains(&game) {
             self.games.push(game)?;
@@ -154,7 +155,7 @@ impl GameList {
     /// How many games there are, at most 1,600.
     pub fn len(&self) -> usize
         ensures value { result ≡ length self.now }
-        ensures most { result ≤ 1600 }
+        ensures most { result ≤ max_games }
         ensures games { IsGameList self.now }
     {
         self.games.len()

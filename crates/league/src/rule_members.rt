@@ -6,7 +6,8 @@ ghost use Rattle.std.specs.List.{AllByRecursion};
 ghost use Rattle.serde_json.specs.View.{view};
 ghost use Rattle.league.specs.declared.rule.Side.TheVariants.{Any};
 ghost use Rattle.league.specs.Games.{IsGameFor};
-ghost use Rattle.league.specs.RuleLimits.{rounds_of, IsCount, IsWeight};
+ghost use Rattle.league.specs.Limits.{round_count, max_teams, max_rounds, max_games};
+ghost use Rattle.league.specs.RuleLimits.{IsCount, IsWeight};
 ghost use Rattle.league.specs.RuleMembers.{text_member, number_set, teams_member, opponents_member, slots_member, count_member, window_member, one_side, one_side_member, any_side_member, each_member, game_of, games_member, soft_weight, weight_of};
 ghost use Rattle.league.specs.Sets.{IsBelow};
 
@@ -26,7 +27,7 @@ pub fn text_member<'a>(rule: &'a Value, name: &str) -> Option<&'a str>
 
 // an array of numbers from 1 to the number of teams
 fn team_set(value: &Value, teams: u8) -> Option<TeamSet>
-    requires { teams ≤ 40 }
+    requires { teams ≤ max_teams }
     ensures value { result ≡ number_set teams (view value.now) }
     ensures range { IfSome result (λ set. IsBelow teams set) }
 {
@@ -40,7 +41,7 @@ fn team_set(value: &Value, teams: u8) -> Option<TeamSet>
 
 // an array of numbers from 1 to the number of rounds
 fn slot_set(value: &Value, rounds: u8) -> Option<SlotSet>
-    requires { rounds ≤ 78 }
+    requires { rounds ≤ max_rounds }
     ensures value { result ≡ number_set rounds (view value.now) }
     ensures range { IfSome result (λ set. IsBelow rounds set) }
 {
@@ -54,7 +55,7 @@ fn slot_set(value: &Value, rounds: u8) -> Option<SlotSet>
 
 /// A set of teams.
 pub fn teams_member(rule: &Value, name: &str, teams: u8) -> Option<TeamSet>
-    requires { teams ≤ 40 }
+    requires { teams ≤ max_teams }
     ensures value { result ≡ teams_member teams name.now (view rule.now) }
     ensures range { IfSome result (λ set. IsBelow teams set) }
 {
@@ -63,7 +64,7 @@ pub fn teams_member(rule: &Value, name: &str, teams: u8) -> Option<TeamSet>
 
 /// The opponents that count: all teams where the member is absent.
 pub fn opponents_member(rule: &Value, teams: u8) -> Option<TeamSet>
-    requires { teams ≤ 40 }
+    requires { teams ≤ max_teams }
     ensures value { result ≡ opponents_member teams (view rule.now) }
     ensures range { IfSome result (λ set. IsBelow teams set) }
 {
@@ -76,9 +77,9 @@ pub fn opponents_member(rule: &Value, teams: u8) -> Option<TeamSet>
 /// The rounds that count: all rounds where the member is absent.
 pub fn slots_member(rule: &Value, teams: u8) -> Option<SlotSet>
     requires least { 1 ≤ teams }
-    requires most { teams ≤ 40 }
+    requires most { teams ≤ max_teams }
     ensures value { result ≡ slots_member teams (view rule.now) }
-    ensures range { IfSome result (λ set. IsBelow (rounds_of teams) set) }
+    ensures range { IfSome result (λ set. IsBelow (round_count teams) set) }
 {
     let rounds = 2 * (teams - 1);
     match rule.get("slots") {
@@ -99,10 +100,10 @@ pub fn count_member(rule: &Value, name: &str) -> Option<u32>
 /// A number of rounds in a row, from 1 to all.
 pub fn window_member(rule: &Value, teams: u8) -> Option<u32>
     requires least { 1 ≤ teams }
-    requires most { teams ≤ 40 }
+    requires most { teams ≤ max_teams }
     ensures value { result ≡ window_member teams (view rule.now) }
     ensures least { IfSome result (λ window. 1 ≤ window) }
-    ensures most { IfSome result (λ window. window ≤ rounds_of teams) }
+    ensures most { IfSome result (λ window. window ≤ round_count teams) }
 {
     let rounds = 2 * (teams - 1);
     let number = number_within(rule.get("intp")?, 1, rounds.into())?;
@@ -152,7 +153,7 @@ pub fn each_member(rule: &Value) -> Option<bool>
 // two numbers of distinct teams, the home team first
 #[tactic(auto, using(crate::proofs::Items::game_of_items_none))]
 fn game_of(value: &Value, teams: u8) -> Option<Pairing>
-    requires { teams ≤ 40 }
+    requires { teams ≤ max_teams }
     ensures value { result ≡ game_of teams (view value.now) }
     ensures range { IfSome result (IsGameFor teams) }
 {
@@ -172,10 +173,10 @@ fn game_of(value: &Value, teams: u8) -> Option<Pairing>
 
 /// A list of games, each once.
 pub fn games_member(alloc: Global, rule: &Value, teams: u8) -> Result<Option<GameList>, AllocError>
-    requires { teams ≤ 40 }
+    requires { teams ≤ max_teams }
     ensures value { IfOk result (λ games. games ≡ games_member teams (view rule.now)) }
     ensures range { IfOk result (λ games. IfSome games (AllByRecursion (IsGameFor teams))) }
-    ensures most { IfOk result (λ games. IfSome games (λ list. length list ≤ 1600)) }
+    ensures most { IfOk result (λ games. IfSome games (λ list. length list ≤ max_games)) }
 {
     let Some(list) = rule.get("games").and_then(|member| member.as_array()) else {
         return Ok(None);

@@ -2,8 +2,9 @@
 
 ghost use Rattle.std.specs.Prelude.{◌≡◌, ℕ, ◌+◌, ◌-◌, ◌<◌, ◌≤◌, ◌&&◌, ◌||◌, ◌==◌, not, nat_lt, false, if◌then◌else◌};
 ghost use Rattle.std.specs.Iterator.{at_most};
+ghost use Rattle.league.specs.Limits.{max_teams, max_rounds};
 ghost use Rattle.league.specs.Sums.{count_where, all_below, any_below};
-ghost use Rattle.league.specs.Sets.{has, IsBelow, with_number, all_numbers, TakesLowest};
+ghost use Rattle.league.specs.Sets.{has, has_or_follows, IsBelow, with_number, all_numbers, TakesLowest};
 
 use std::marker::Model;
 
@@ -18,7 +19,7 @@ impl Model for TeamSet {
 
     ghost view = { λ s. s.bits };
 
-    ghost invariant = { λ s. IsBelow 40 s.bits };
+    ghost invariant = { λ s. IsBelow max_teams s.bits };
 
     ghost inverse = { λ bits. record { bits = bits } };
 }
@@ -34,9 +35,9 @@ impl TeamSet {
     }
 
     /// The set of the teams from 0 to `teams - 1`.
-    #[tactic(auto, using(crate::proofs::SetWords::teams_below, crate::proofs::SetWords::IsBelow_teams_below, crate::proofs::Bits::has_all_numbers, crate::proofs::Bits::IsBelow_all_numbers))]
+    #[tactic(auto, using(crate::proofs::SetWords::all_teams_below))]
     pub fn below(teams: u8) -> Self
-        requires { teams ≤ 40 }
+        requires { teams ≤ max_teams }
         ensures value { result ≡ all_numbers teams }
         ensures members { (t : ℕ) → has result t ≡ nat_lt t teams }
         ensures below { IsBelow teams result }
@@ -47,9 +48,9 @@ impl TeamSet {
     }
 
     /// The set with this team added.
-    #[tactic(auto, using(crate::proofs::SetWords::team_added, crate::proofs::SetWords::IsBelow_team_added, crate::proofs::Bits::has_with_number, crate::proofs::Bits::IsBelow_with_number))]
+    #[tactic(auto, using(crate::proofs::SetWords::teams_and_one))]
     pub fn with(self, team: u8) -> Self
-        requires { team < 40 }
+        requires { team < max_teams }
         ensures value { result ≡ with_number self team }
         ensures members { (t : ℕ) → has result t ≡ (t == team || has self t) }
         ensures below { (m : ℕ) → IsBelow m self → team < m → IsBelow m result }
@@ -61,7 +62,7 @@ impl TeamSet {
 
     /// Whether the set has this team.
     pub fn has(self, team: u8) -> bool
-        requires { team < 40 }
+        requires { team < max_teams }
         ensures { result ≡ has self team }
     {
         self.bits >> team & 1 == 1
@@ -81,7 +82,7 @@ impl TeamSet {
     /// Whether some team is in both sets.
     #[tactic(auto, using(crate::proofs::SetWords::teams_meet))]
     pub fn meets(self, teams: TeamSet) -> bool
-        ensures { result ≡ any_below 40 (λ t. has self t && has teams t) }
+        ensures { result ≡ any_below max_teams (λ t. has self t && has teams t) }
     {
         self.bits & teams.bits != 0
     }
@@ -110,7 +111,7 @@ impl Model for Teams {
 
     ghost view = { λ s. s.left };
 
-    ghost invariant = { λ s. IsBelow 40 s.left };
+    ghost invariant = { λ s. IsBelow max_teams s.left };
 
     ghost inverse = { λ left. record { left = left } };
 }
@@ -143,7 +144,7 @@ impl Model for SlotSet {
 
     ghost view = { λ s. s.bits };
 
-    ghost invariant = { λ s. IsBelow 78 s.bits };
+    ghost invariant = { λ s. IsBelow max_rounds s.bits };
 
     ghost inverse = { λ bits. record { bits = bits } };
 }
@@ -159,9 +160,9 @@ impl SlotSet {
     }
 
     /// The set of the slots from 0 to `slots - 1`.
-    #[tactic(auto, using(crate::proofs::SetWords::slots_below, crate::proofs::SetWords::IsBelow_slots_below, crate::proofs::Bits::has_all_numbers, crate::proofs::Bits::IsBelow_all_numbers))]
+    #[tactic(auto, using(crate::proofs::SetWords::all_slots_below))]
     pub fn below(slots: u8) -> Self
-        requires { slots ≤ 78 }
+        requires { slots ≤ max_rounds }
         ensures value { result ≡ all_numbers slots }
         ensures members { (s : ℕ) → has result s ≡ nat_lt s slots }
         ensures below { IsBelow slots result }
@@ -172,9 +173,9 @@ impl SlotSet {
     }
 
     /// The set with this slot added.
-    #[tactic(auto, using(crate::proofs::SetWords::slot_added, crate::proofs::SetWords::IsBelow_slot_added, crate::proofs::Bits::has_with_number, crate::proofs::Bits::IsBelow_with_number))]
+    #[tactic(auto, using(crate::proofs::SetWords::slots_and_one))]
     pub fn with(self, slot: u8) -> Self
-        requires { slot < 78 }
+        requires { slot < max_rounds }
         ensures value { result ≡ with_number self slot }
         ensures members { (s : ℕ) → has result s ≡ (s == slot || has self s) }
         ensures below { (m : ℕ) → IsBelow m self → slot < m → IsBelow m result }
@@ -186,7 +187,7 @@ impl SlotSet {
 
     /// Whether the set has this slot.
     pub fn has(self, slot: u8) -> bool
-        requires { slot < 78 }
+        requires { slot < max_rounds }
         ensures { result ≡ has self slot }
     {
         self.bits >> slot & 1 == 1
@@ -195,15 +196,15 @@ impl SlotSet {
     /// How many slots there are.
     #[tactic(auto, using(crate::proofs::SetBits::ones_count, crate::proofs::SetWords::slots_len))]
     pub fn len(self) -> u32
-        ensures value { result ≡ count_where 78 (has self) }
+        ensures value { result ≡ count_where max_rounds (has self) }
         ensures among { (m : ℕ) → IsBelow m self → result ≡ count_where m (has self) }
-        ensures most { result ≤ 78 }
+        ensures most { result ≤ max_rounds }
     {
         self.bits.count_ones()
     }
 
     /// The slots that are in one of the sets, or in both.
-    #[tactic(auto, using(crate::proofs::SetBits::has_union, crate::proofs::SetBits::IsBelow_union, crate::proofs::SetWords::IsBelow_slots_union))]
+    #[tactic(auto, using(crate::proofs::SetWords::slots_of_either))]
     pub fn union(self, slots: SlotSet) -> Self
         ensures members { (s : ℕ) → has result s ≡ (has self s || has slots s) }
         ensures below { (m : ℕ) → IsBelow m self → IsBelow m slots → IsBelow m result }
@@ -236,7 +237,7 @@ impl SlotSet {
     }
 
     /// The set with each slot of the other added where it lacks it, and taken out where it has it.
-    #[tactic(auto, using(crate::proofs::SetBits::has_toggled, crate::proofs::SetBits::IsBelow_toggled, crate::proofs::SetWords::IsBelow_slots_toggled))]
+    #[tactic(auto, using(crate::proofs::SetWords::slots_turned))]
     pub fn toggled(self, slots: SlotSet) -> Self
         ensures members { (s : ℕ) → has result s ≡ (if has slots s then not (has self s) else has self s) }
         ensures below { (m : ℕ) → IsBelow m self → IsBelow m slots → IsBelow m result }
@@ -249,16 +250,16 @@ impl SlotSet {
     /// Whether some slot is in both sets.
     #[tactic(auto, using(crate::proofs::SetWords::slots_meet))]
     pub fn meets(self, slots: SlotSet) -> bool
-        ensures { result ≡ any_below 78 (λ s. has self s && has slots s) }
+        ensures { result ≡ any_below max_rounds (λ s. has self s && has slots s) }
     {
         self.bits & slots.bits != 0
     }
 
     /// The slots and those that come next after one, from 0 to `slots - 1`.
-    #[tactic(auto, using(crate::proofs::SetWords::slots_with_next, crate::proofs::SetWords::IsBelow_slots_with_next, crate::proofs::SetWords::IsBelow_78_slots_with_next))]
+    #[tactic(auto, using(crate::proofs::SetWords::slots_and_next))]
     pub fn with_next_below(self, slots: u8) -> Self
-        requires { slots ≤ 78 }
-        ensures members { (s : ℕ) → has result s ≡ (nat_lt s slots && (has self s || (not (s == 0) && has self (s - 1)))) }
+        requires { slots ≤ max_rounds }
+        ensures members { (s : ℕ) → has result s ≡ (nat_lt s slots && has_or_follows self s) }
         ensures below { IsBelow slots result }
     {
         SlotSet {
@@ -266,11 +267,11 @@ impl SlotSet {
         }
     }
 
-    /// The slots from which on `length` slots in a row are in the set; `length` is at most one more than there are slots.
+    /// The slots from which on `length` slots in a row are in the set; `length` is at most one more than all slots.
     #[tactic(auto, using(crate::proofs::SetBits::has_one_in_row))]
     pub fn starts_within(self, length: u8) -> Self
         requires least { 1 ≤ length }
-        requires most { length ≤ 79 }
+        requires most { length ≤ max_rounds + 1 }
         ensures members { (s : ℕ) → has result s ≡ all_below length (λ k. has self (s + k)) }
         ensures below { (m : ℕ) → IsBelow m self → IsBelow m result }
     {
@@ -282,10 +283,10 @@ impl SlotSet {
         SlotSet { bits: starts }
     }
 
-    /// The slots from which on one of `length` slots in a row is in the set; `length` is at most one more than there are slots.
-    #[tactic(auto, using(crate::proofs::Sums::any_below_none, crate::proofs::Sums::any_below_more, crate::proofs::SetBits::has_union, crate::proofs::SetBits::has_shifted, crate::proofs::SetBits::IsBelow_union, crate::proofs::SetBits::IsBelow_shifted, crate::proofs::SetWords::IsBelow_slots_union, crate::proofs::SetWords::IsBelow_slots_shifted))]
+    /// The slots from which on one of `length` slots in a row is in the set; `length` is at most one more than all slots.
+    #[tactic(auto, using(crate::proofs::SetWords::slots_in_rows))]
     pub fn starts_meeting(self, length: u8) -> Self
-        requires { length ≤ 79 }
+        requires { length ≤ max_rounds + 1 }
         ensures members { (s : ℕ) → has result s ≡ any_below length (λ k. has self (s + k)) }
         ensures below { (m : ℕ) → IsBelow m self → IsBelow m result }
     {
@@ -321,7 +322,7 @@ impl Model for Slots {
 
     ghost view = { λ s. s.left };
 
-    ghost invariant = { λ s. IsBelow 78 s.left };
+    ghost invariant = { λ s. IsBelow max_rounds s.left };
 
     ghost inverse = { λ left. record { left = left } };
 }

@@ -1,6 +1,6 @@
 -- The teams below a pass.
 use Rattle.std.proofs.Common.{◌≡◌, true}
-use Rattle.league.specs.Limits.{has_zero_diagonal}
+use Rattle.league.specs.Checks.{has_zero_diagonal}
 use Rattle.league.specs.Views.{rows}
 use Rattle.league.proofs.checks.has_zero_diagonal.Given as goal
 

@@ -1,6 +1,6 @@
 -- The rows that are left decide.
 use Rattle.std.proofs.Common.{◌≡◌, drop}
-use Rattle.league.specs.Limits.{is_in_range}
+use Rattle.league.specs.Checks.{is_in_range}
 use Rattle.league.specs.Views.{rows}
 use Rattle.league.proofs.checks.is_in_range.Given as goal
 

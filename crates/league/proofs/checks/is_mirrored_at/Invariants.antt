@@ -1,6 +1,6 @@
 -- The numbers before column b pass.
 use Rattle.std.proofs.Common.{◌≡◌, true}
-use Rattle.league.specs.Limits.{is_mirrored_at}
+use Rattle.league.specs.Checks.{is_mirrored_at}
 use Rattle.league.specs.Views.{rows}
 use Rattle.league.proofs.checks.is_mirrored_at.Given as goal
 

@@ -1,6 +1,6 @@
 -- The rows that are left decide.
 use Rattle.std.proofs.Common.{◌≡◌, drop}
-use Rattle.league.specs.Limits.{has_columns}
+use Rattle.league.specs.Checks.{has_columns}
 use Rattle.league.specs.Views.{rows}
 use Rattle.league.proofs.checks.is_square.Given as goal
 

@@ -2,10 +2,11 @@
 use Rattle.std.proofs.Common.{◌≡◌, drop}
 use Rattle.serde_json.specs.View.{items_view}
 use Rattle.league.specs.Json.{all_items}
-use Rattle.league.specs.Members.{distance_row}
+use Rattle.league.specs.LeagueMembers.{distance_row}
 use Rattle.league.specs.Views.{rows}
 use Rattle.league.proofs.Items.{with_front}
 use Rattle.league.proofs.forms.distance_rows.Given as goal
 
 abbrev pub invariant-loop-item : goal.invariant-loop-item
-invariant-loop-item l = with_front (rows l.table.items) (all_items distance_row (items_view (drop l.item-index l.item-items))) ≡ all_items distance_row (items_view l.item-items)
+invariant-loop-item l =
+    with_front (rows l.table.items) (all_items distance_row (items_view (drop l.item-index l.item-items))) ≡ all_items distance_row (items_view l.item-items)

@@ -3,7 +3,7 @@ use Rattle.std.proofs.Common.{◌≡◌, drop, true}
 use Rattle.std.specs.List.{list_all}
 use Rattle.serde_json.specs.View.{items_view}
 use Rattle.league.specs.Json.{all_items}
-use Rattle.league.specs.Members.{is_team_name, team_name}
+use Rattle.league.specs.LeagueMembers.{is_team_name, team_name}
 use Rattle.league.specs.Views.{texts}
 use Rattle.league.proofs.Items.{with_front}
 use Rattle.league.proofs.forms.team_names.Given as goal

@@ -8,4 +8,5 @@ push_row-requires c = λ b.
     (c.requires.near c.loop-row.row-index b)
 
 pub returns : goal.returns
-returns c = table_of-all c.args.teams c.loop-row.numbers.items c.args.table.now c.loop-row.row-index (omega arith) c.requires c.loop-row.invariant
+returns c =
+    table_of-all c.args.teams c.loop-row.numbers.items c.args.table.now c.loop-row.row-index (omega arith) c.requires c.loop-row.invariant

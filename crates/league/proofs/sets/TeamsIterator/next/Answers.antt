@@ -1,8 +1,11 @@
 use Rattle.std.proofs.Common.{arith}
 use Rattle.std.specs.Int.{w64}
+use Rattle.league.specs.Limits.{max_teams}
 use Rattle.league.proofs.Bits.{IsBelow_more}
 use Rattle.league.proofs.LowestBits.{lowest_taken}
 use Rattle.league.proofs.sets.TeamsIterator.next.Goals as goal
 
 pub returns-clause-steps : goal.returns-clause-steps
-returns-clause-steps c = rw (← c.self.view_is) (lowest_taken w64 c.self.inside.left (omega arith) (IsBelow_more 40 64 c.self.inside.left (omega arith) c.self.invariant))
+returns-clause-steps c =
+    let fits = IsBelow_more max_teams 64 c.self.inside.left (omega arith) c.self.invariant in
+    rw (← c.self.view_is) (lowest_taken w64 c.self.inside.left (omega arith) fits)

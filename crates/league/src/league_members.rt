@@ -4,14 +4,14 @@
 ghost use Rattle.std.specs.Prelude.{◌≡◌, ◌≤◌, IsTrue, IfOk};
 ghost use Rattle.std.specs.List.{list_all};
 ghost use Rattle.serde_json.specs.View.{view, items_view};
+ghost use Rattle.league.specs.Limits.{max_rounds, max_weight};
 ghost use Rattle.league.specs.Reading.{Gives, seen};
-ghost use Rattle.league.specs.Members.{is_team_name, format_of, teams_of, distances_of, at_most_of, hard_weight_of, rules_of};
+ghost use Rattle.league.specs.LeagueMembers.{is_team_name, format_of, teams_of, distances_of, at_most_of, hard_weight_of, rules_of};
 ghost use Rattle.league.specs.Views.{texts, rows};
 
 use crate::fault::{Field, LeagueFault};
 use crate::forms::{distance_rows, number_within, objects, team_names};
-use crate::leagues::{DEFAULT_AT_MOST, DEFAULT_HARD_WEIGHT};
-use crate::limits::{MAX_AT_MOST, MAX_WEIGHT};
+use crate::limits::{DEFAULT_AT_MOST, DEFAULT_HARD_WEIGHT, FORMAT, MAX_AT_MOST, MAX_WEIGHT};
 use serde_json::Value;
 use std::alloc::Global;
 
@@ -21,7 +21,7 @@ pub fn format_of(object: &Value) -> Result<u64, LeagueFault>
     let member = object
         .get("format")
         .ok_or(LeagueFault::MissingField(Field::Format))?;
-    number_within(member, 1, 1).ok_or(LeagueFault::WrongKind(Field::Format))
+    number_within(member, FORMAT, FORMAT).ok_or(LeagueFault::WrongKind(Field::Format))
 }
 
 pub fn teams_of(alloc: Global, object: &Value) -> Result<Vec<String>, LeagueFault>
@@ -46,7 +46,7 @@ pub fn distances_of(alloc: Global, object: &Value) -> Result<Vec<Vec<u64>>, Leag
 pub fn at_most_of(object: &Value) -> Result<u8, LeagueFault>
     ensures value { result ≡ at_most_of (view object.now) }
     ensures least { IfOk result (λ n. 1 ≤ n) }
-    ensures most { IfOk result (λ n. n ≤ 78) }
+    ensures most { IfOk result (λ n. n ≤ max_rounds) }
 {
     let Some(member) = object.get("at_most") else {
         return Ok(DEFAULT_AT_MOST);
@@ -60,7 +60,7 @@ pub fn at_most_of(object: &Value) -> Result<u8, LeagueFault>
 pub fn hard_weight_of(object: &Value) -> Result<u32, LeagueFault>
     ensures value { result ≡ hard_weight_of (view object.now) }
     ensures least { IfOk result (λ n. 1 ≤ n) }
-    ensures most { IfOk result (λ n. n ≤ 1000000) }
+    ensures most { IfOk result (λ n. n ≤ max_weight) }
 {
     let Some(member) = object.get("hard_weight") else {
         return Ok(DEFAULT_HARD_WEIGHT);

@@ -6,6 +6,7 @@ use Rattle.serde_json.specs.Find.{get, as_str}
 use Rattle.league.specs.declared.fault.Field.TheVariants.{Format, Teams, Distances, AtMost, HardWeight, Rules}
 use Rattle.league.specs.declared.fault.LeagueFault.{LeagueFault}
 use Rattle.league.specs.Json.{only_if, whole_number, number_within, array_of, objects}
+use Rattle.league.specs.Limits.{max_name, max_rounds, max_weight, default_at_most, default_hard_weight}
 use Rattle.league.specs.Reading.{needed, optional}
 
 -- no control byte: neither below 32 nor 127
@@ -13,7 +14,7 @@ abbrev pub is_name_byte : ℕ → Bool
 is_name_byte b = nat_le 32 b && not (b == 127)
 
 abbrev pub is_team_name : List ℕ → Bool
-is_team_name name = nat_le 1 (length name) && nat_le (length name) 40 && list_all is_name_byte name
+is_team_name name = nat_le 1 (length name) && nat_le (length name) max_name && list_all is_name_byte name
 
 abbrev pub team_name : Data → Option (List ℕ)
 team_name d = option_and_then (λ name. only_if (is_team_name name) name) (as_str d)
@@ -37,10 +38,10 @@ abbrev pub distances_of : Data → Result (List (List ℕ)) LeagueFault
 distances_of d = needed Distances distance_rows (get (codes "distances") d)
 
 abbrev pub at_most_of : Data → Result ℕ LeagueFault
-at_most_of d = optional AtMost (number_within 1 78) 3 (get (codes "at_most") d)
+at_most_of d = optional AtMost (number_within 1 max_rounds) default_at_most (get (codes "at_most") d)
 
 abbrev pub hard_weight_of : Data → Result ℕ LeagueFault
-hard_weight_of d = optional HardWeight (number_within 1 1000000) 100 (get (codes "hard_weight") d)
+hard_weight_of d = optional HardWeight (number_within 1 max_weight) default_hard_weight (get (codes "hard_weight") d)
 
 abbrev pub rules_of : Data → Result Items LeagueFault
 rules_of d = optional Rules objects no_items (get (codes "rules") d)

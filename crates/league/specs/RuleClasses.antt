@@ -5,10 +5,12 @@ use Rattle.serde_json.specs.Data.{Data}
 use Rattle.league.specs.declared.rule.Rule.{Rule}
 use Rattle.league.specs.declared.rule.RuleBody.{RuleBody}
 use Rattle.league.specs.declared.rule.RuleBody.TheVariants.{Ca1, Ca2, Ca3, Ca4, Ga1, Br1, Br2, Se1}
-use Rattle.league.specs.declared.rules.Class.{Class}
-use Rattle.league.specs.declared.rules.Class.TheVariants as class
+use Rattle.league.specs.declared.rule_classes.Class.{Class}
+use Rattle.league.specs.declared.rule_classes.Class.TheVariants as class
 use Rattle.league.specs.Json.{only_if}
-use Rattle.league.specs.RuleMembers.{text_member, teams_member, opponents_member, slots_member, count_member, window_member, one_side_member, any_side_member, each_member, games_member, weight_of}
+use Rattle.league.specs.RuleMembers.{text_member, teams_member, opponents_member, slots_member, count_member}
+use Rattle.league.specs.RuleMembers.{window_member, one_side_member, any_side_member, each_member, games_member}
+use Rattle.league.specs.RuleMembers.{weight_of}
 
 infixl 10 ◌>>=◌
 abbrev pub ◌>>=◌ : {A B : Type 0} → Option A → (A → Option B) → Option B

@@ -3,9 +3,10 @@
 ghost use Rattle.std.specs.Prelude.{◌≡◌, ◌≤◌, length, IfOk, IfSome};
 ghost use Rattle.std.specs.List.{AllByRecursion};
 ghost use Rattle.serde_json.specs.View.{view, items_view};
+ghost use Rattle.league.specs.Limits.{max_teams, max_rules};
 ghost use Rattle.league.specs.Reading.{Gives};
 ghost use Rattle.league.specs.RuleLimits.{IsBodyFor, IsRuleFor};
-ghost use Rattle.league.specs.Rules.{class_of, ca1_of, ca2_of, ca3_of, ca4_of, ga1_of, br1_of, br2_of, se1_of, body_of, rule_of_class};
+ghost use Rattle.league.specs.RuleClasses.{class_of, ca1_of, ca2_of, ca3_of, ca4_of, ga1_of, br1_of, br2_of, se1_of, body_of, rule_of_class};
 ghost use Rattle.league.specs.League.{rule_of, rules_from};
 
 use crate::fault::LeagueFault;
@@ -46,10 +47,10 @@ fn class_of(rule: &Value) -> Option<Class>
     }
 }
 
-#[tactic(auto, unfolding(crate::specs::Rules::ca1_of))]
+#[tactic(auto, unfolding(crate::specs::RuleClasses::ca1_of))]
 fn ca1_of(rule: &Value, teams: u8) -> Option<RuleBody>
     requires least { 1 ≤ teams }
-    requires most { teams ≤ 40 }
+    requires most { teams ≤ max_teams }
     ensures value { result ≡ ca1_of teams (view rule.now) }
     ensures range { IfSome result (IsBodyFor teams) }
 {
@@ -61,10 +62,10 @@ fn ca1_of(rule: &Value, teams: u8) -> Option<RuleBody>
     })
 }
 
-#[tactic(auto, unfolding(crate::specs::Rules::ca2_of))]
+#[tactic(auto, unfolding(crate::specs::RuleClasses::ca2_of))]
 fn ca2_of(rule: &Value, teams: u8) -> Option<RuleBody>
     requires least { 1 ≤ teams }
-    requires most { teams ≤ 40 }
+    requires most { teams ≤ max_teams }
     ensures value { result ≡ ca2_of teams (view rule.now) }
     ensures range { IfSome result (IsBodyFor teams) }
 {
@@ -77,10 +78,10 @@ fn ca2_of(rule: &Value, teams: u8) -> Option<RuleBody>
     })
 }
 
-#[tactic(auto, unfolding(crate::specs::Rules::ca3_of))]
+#[tactic(auto, unfolding(crate::specs::RuleClasses::ca3_of))]
 fn ca3_of(rule: &Value, teams: u8) -> Option<RuleBody>
     requires least { 1 ≤ teams }
-    requires most { teams ≤ 40 }
+    requires most { teams ≤ max_teams }
     ensures value { result ≡ ca3_of teams (view rule.now) }
     ensures range { IfSome result (IsBodyFor teams) }
 {
@@ -93,10 +94,10 @@ fn ca3_of(rule: &Value, teams: u8) -> Option<RuleBody>
     })
 }
 
-#[tactic(auto, unfolding(crate::specs::Rules::ca4_of))]
+#[tactic(auto, unfolding(crate::specs::RuleClasses::ca4_of))]
 fn ca4_of(rule: &Value, teams: u8) -> Option<RuleBody>
     requires least { 1 ≤ teams }
-    requires most { teams ≤ 40 }
+    requires most { teams ≤ max_teams }
     ensures value { result ≡ ca4_of teams (view rule.now) }
     ensures range { IfSome result (IsBodyFor teams) }
 {
@@ -110,10 +111,10 @@ fn ca4_of(rule: &Value, teams: u8) -> Option<RuleBody>
     })
 }
 
-#[tactic(auto, unfolding(crate::specs::Rules::ga1_of))]
+#[tactic(auto, unfolding(crate::specs::RuleClasses::ga1_of))]
 fn ga1_of(alloc: Global, rule: &Value, teams: u8) -> Result<Option<RuleBody>, AllocError>
     requires least { 1 ≤ teams }
-    requires most { teams ≤ 40 }
+    requires most { teams ≤ max_teams }
     ensures value { IfOk result (λ body. body ≡ ga1_of teams (view rule.now)) }
     ensures range { IfOk result (λ body. IfSome body (IsBodyFor teams)) }
 {
@@ -137,10 +138,10 @@ fn ga1_of(alloc: Global, rule: &Value, teams: u8) -> Result<Option<RuleBody>, Al
     }))
 }
 
-#[tactic(auto, unfolding(crate::specs::Rules::br1_of))]
+#[tactic(auto, unfolding(crate::specs::RuleClasses::br1_of))]
 fn br1_of(rule: &Value, teams: u8) -> Option<RuleBody>
     requires least { 1 ≤ teams }
-    requires most { teams ≤ 40 }
+    requires most { teams ≤ max_teams }
     ensures value { result ≡ br1_of teams (view rule.now) }
     ensures range { IfSome result (IsBodyFor teams) }
 {
@@ -152,10 +153,10 @@ fn br1_of(rule: &Value, teams: u8) -> Option<RuleBody>
     })
 }
 
-#[tactic(auto, unfolding(crate::specs::Rules::br2_of))]
+#[tactic(auto, unfolding(crate::specs::RuleClasses::br2_of))]
 fn br2_of(rule: &Value, teams: u8) -> Option<RuleBody>
     requires least { 1 ≤ teams }
-    requires most { teams ≤ 40 }
+    requires most { teams ≤ max_teams }
     ensures value { result ≡ br2_of teams (view rule.now) }
     ensures range { IfSome result (IsBodyFor teams) }
 {
@@ -166,9 +167,9 @@ fn br2_of(rule: &Value, teams: u8) -> Option<RuleBody>
     })
 }
 
-#[tactic(auto, unfolding(crate::specs::Rules::se1_of))]
+#[tactic(auto, unfolding(crate::specs::RuleClasses::se1_of))]
 fn se1_of(rule: &Value, teams: u8) -> Option<RuleBody>
-    requires { teams ≤ 40 }
+    requires { teams ≤ max_teams }
     ensures value { result ≡ se1_of teams (view rule.now) }
     ensures range { IfSome result (IsBodyFor teams) }
 {
@@ -185,7 +186,7 @@ fn body_of(
     class: Class,
 ) -> Result<Option<RuleBody>, AllocError>
     requires least { 1 ≤ teams }
-    requires most { teams ≤ 40 }
+    requires most { teams ≤ max_teams }
     ensures value { IfOk result (λ body. body ≡ body_of teams (view rule.now) class) }
     ensures range { IfOk result (λ body. IfSome body (IsBodyFor teams)) }
 {
@@ -208,7 +209,7 @@ fn rule_of_class(
     class: Class,
 ) -> Result<Option<Rule>, AllocError>
     requires least { 1 ≤ teams }
-    requires most { teams ≤ 40 }
+    requires most { teams ≤ max_teams }
     ensures value { IfOk result (λ rule'. rule' ≡ rule_of_class teams (view rule.now) class) }
     ensures range { IfOk result (λ rule'. IfSome rule' (IsRuleFor teams)) }
 {
@@ -222,7 +223,7 @@ fn rule_of_class(
 #[tactic(auto, unfolding(crate::specs::League::rule_of))]
 fn rule_of(alloc: Global, rule: &Value, teams: u8, index: u8) -> Result<Rule, LeagueFault>
     requires least { 1 ≤ teams }
-    requires most { teams ≤ 40 }
+    requires most { teams ≤ max_teams }
     ensures exact { Gives (λ r. r) result (rule_of teams index (view rule.now)) }
     ensures range { IfOk result (IsRuleFor teams) }
 {
@@ -233,11 +234,11 @@ fn rule_of(alloc: Global, rule: &Value, teams: u8, index: u8) -> Result<Rule, Le
 /// Reads the rules of a league of so many teams, or tells the first fault.
 pub fn read_rules(alloc: Global, items: &[Value], teams: u8) -> Result<Vec<Rule>, LeagueFault>
     requires least { 1 ≤ teams }
-    requires most { teams ≤ 40 }
-    requires count { length items.now ≤ 256 }
+    requires most { teams ≤ max_teams }
+    requires count { length items.now ≤ max_rules }
     ensures exact { Gives (λ rules. rules.items) result (rules_from teams 0 (items_view items.now)) }
     ensures range { IfOk result (λ rules. AllByRecursion (IsRuleFor teams) rules.items) }
-    ensures count { IfOk result (λ rules. length rules.items ≤ 256) }
+    ensures count { IfOk result (λ rules. length rules.items ≤ max_rules) }
 {
     let mut rules = Vec::with_capacity(alloc, items.len())?;
     for (index, item) in items.iter().enumerate() {

@@ -5,7 +5,7 @@ use Rattle.serde_json.specs.View.{items_view}
 use Rattle.league.specs.League.{rules_from}
 use Rattle.league.specs.RuleLimits.{IsRuleFor}
 use Rattle.league.proofs.Items.{with_front_or_fault}
-use Rattle.league.proofs.rules.read_rules.Given as goal
+use Rattle.league.proofs.rule_classes.read_rules.Given as goal
 
 abbrev pub invariant-loop-index : goal.invariant-loop-index
 invariant-loop-index l = record {
