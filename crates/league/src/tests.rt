@@ -4,11 +4,14 @@ mod sets;
 
 use crate::{Field, LeagueFault, circular, constant, read_league};
 use std::alloc::{AllocError, Global};
+use std::fmt::Write;
 use std::test::Fail;
 
 const TEAMS: &str = r#"["T1","T2","T3","T4"]"#;
 
 const CIRCLE: &str = "[[0,1,2,1],[1,0,1,2],[2,1,0,1],[1,2,1,0]]";
+
+const GOOD_RULE: &str = r#"{"class":"SE1","kind":"hard","teams":[1,4],"min":3}"#;
 
 const FOUR_TEAMS: &str =
     r#"{"format":1,"teams":["T1","T2","T3","T4"],"distances":[[0,1,2,1],[1,0,1,2],[2,1,0,1],[1,2,1,0]]}"#;
@@ -20,6 +23,24 @@ fn league_text(
     more: &str,
 ) -> Result<String, AllocError> {
     format!(in alloc; "{{\"format\":1,\"teams\":{teams},\"distances\":{distances}{more}}}")
+}
+
+// forty teams with one rule, which lists each game of theirs
+fn all_games_text(alloc: Global) -> Result<String, AllocError> {
+    let mut games = String::new(alloc);
+    for home in 1..=40 {
+        for away in 1..=40 {
+            if home != away {
+                let comma = if games.is_empty() { "" } else { "," };
+                write!(games, "{comma}[{home},{away}]").map_err(|_| AllocError)?;
+            }
+        }
+    }
+    let rules = format!(in alloc;
+        ",\"rules\":[{{\"class\":\"GA1\",\"kind\":\"hard\",\"games\":[{games}],\"min\":0,\"max\":1560}}]"
+    )?;
+    let (teams, distances) = (list(alloc, 40, "\"T\"")?, square(alloc, 40, "1")?);
+    league_text(alloc, teams.as_str(), distances.as_str(), rules.as_str())
 }
 
 fn fault_of(alloc: Global, text: &str) -> Option<LeagueFault> {

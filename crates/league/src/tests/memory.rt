@@ -3,9 +3,9 @@
 //! `rt try --test --fail-alloc N` refuses the Nth allocation of each test. A test `.._tells_refused_memory` passes at
 //! every N; `.._with_ample_memory` fails while N is among its allocations.
 
-use super::FOUR_TEAMS;
+use super::{CIRCLE, FOUR_TEAMS, GOOD_RULE, TEAMS, all_games_text, league_text, list};
 use crate::{League, LeagueFault, RuleBody, Weight, circular, constant, read_league};
-use std::alloc::AllocError;
+use std::alloc::{AllocError, Global};
 use std::process::Abort;
 use std::test::Fail;
 
@@ -20,8 +20,9 @@ const WITH_RULES: &str = r#"{
     ]
 }"#;
 
-fn check_table_of_four(rt: &impl Abort, league: &League, distances: &[[u32; 4]; 4]) {
+fn check_table_of_four(rt: &impl Abort, league: &League, rules: usize, distances: &[[u32; 4]; 4]) {
     assert_eq!(rt; league.teams(), 4);
+    assert_eq!(rt; league.rule_count(), rules);
     let names = ["T1", "T2", "T3", "T4"];
     for a in 0..4 {
         assert_eq!(rt; league.name(a), names[usize::from(a)]);
@@ -34,10 +35,11 @@ fn check_table_of_four(rt: &impl Abort, league: &League, distances: &[[u32; 4]; 
     assert_eq!(rt; league.hard_weight(), 100);
 }
 
-fn check_circle_of_four(rt: &impl Abort, league: &League) {
+fn check_circle_of_four(rt: &impl Abort, league: &League, rules: usize) {
     check_table_of_four(
         rt,
         league,
+        rules,
         &[[0, 1, 2, 1], [1, 0, 1, 2], [2, 1, 0, 1], [1, 2, 1, 0]],
     );
 }
@@ -46,8 +48,16 @@ fn check_constant_of_four(rt: &impl Abort, league: &League) {
     check_table_of_four(
         rt,
         league,
+        0,
         &[[0, 1, 1, 1], [1, 0, 1, 1], [1, 1, 0, 1], [1, 1, 1, 0]],
     );
+}
+
+// four teams in a circle with so many rules
+fn rules_text(alloc: Global, count: usize) -> Result<String, AllocError> {
+    let rules = list(alloc, count, GOOD_RULE)?;
+    let more = format!(in alloc; ",\"rules\":{rules}")?;
+    league_text(alloc, TEAMS, CIRCLE, more.as_str())
 }
 
 // the league, or memory was refused
@@ -63,14 +73,14 @@ fn told(rt: &impl Abort, answer: Result<League, LeagueFault>) -> Option<League> 
 
 #[test]
 fn read_league_succeeds_with_ample_memory(rt: HostRuntime) -> Result<(), Fail> {
-    check_circle_of_four(&rt, &read_league(rt.alloc(), FOUR_TEAMS.as_bytes())?);
+    check_circle_of_four(&rt, &read_league(rt.alloc(), FOUR_TEAMS.as_bytes())?, 0);
     Ok(())
 }
 
 #[test]
 fn read_league_tells_refused_memory(rt: HostRuntime) {
     if let Some(league) = told(&rt, read_league(rt.alloc(), FOUR_TEAMS.as_bytes())) {
-        check_circle_of_four(&rt, &league);
+        check_circle_of_four(&rt, &league, 0);
     }
 }
 
@@ -81,6 +91,7 @@ fn read_league_tells_refused_memory_before_a_later_fault(rt: HostRuntime) {
 }
 
 fn check_rules(rt: &impl Abort, league: &League) {
+    check_circle_of_four(rt, league, 2);
     assert_eq!(rt; league.rule_count(), 2);
     assert_eq!(rt; league.rule(0).weight, Weight::Soft(10));
     assert!(rt; matches!(&league.rule(0).body, RuleBody::Ga1 { games, .. } if games.len() == 2));
@@ -91,11 +102,8 @@ fn check_rules(rt: &impl Abort, league: &League) {
 #[test]
 fn read_league_with_rules_succeeds_with_ample_memory(rt: HostRuntime) -> Result<(), Fail> {
     let league = read_league(rt.alloc(), WITH_RULES.as_bytes())?;
-    check_circle_of_four(&rt, &league);
     check_rules(&rt, &league);
-    let copy = league.duplicate(rt.alloc())?;
-    check_circle_of_four(&rt, &copy);
-    check_rules(&rt, &copy);
+    check_rules(&rt, &league.duplicate(rt.alloc())?);
     Ok(())
 }
 
@@ -111,15 +119,43 @@ fn read_league_with_rules_tells_refused_memory(rt: HostRuntime) {
 }
 
 #[test]
+fn read_league_tells_refused_memory_at_each_number_of_rules(rt: HostRuntime) {
+    for count in [0, 1, 256] {
+        let Ok(text) = rules_text(rt.alloc(), count) else {
+            continue;
+        };
+        if let Some(league) = told(&rt, read_league(rt.alloc(), text.as_bytes())) {
+            check_circle_of_four(&rt, &league, count);
+            if let Ok(copy) = league.duplicate(rt.alloc()) {
+                check_circle_of_four(&rt, &copy, count);
+            }
+        }
+    }
+}
+
+#[test]
+fn read_league_tells_refused_memory_at_all_games(rt: HostRuntime) {
+    let Ok(text) = all_games_text(rt.alloc()) else {
+        return;
+    };
+    if let Some(league) = told(&rt, read_league(rt.alloc(), text.as_bytes())) {
+        assert_eq!(rt; league.rule_count(), 1);
+        assert!(rt;
+            matches!(&league.rule(0).body, RuleBody::Ga1 { games, .. } if games.len() == 1560)
+        );
+    }
+}
+
+#[test]
 fn circular_succeeds_with_ample_memory(rt: HostRuntime) -> Result<(), Fail> {
-    check_circle_of_four(&rt, &circular(rt.alloc(), 4)?);
+    check_circle_of_four(&rt, &circular(rt.alloc(), 4)?, 0);
     Ok(())
 }
 
 #[test]
 fn circular_tells_refused_memory(rt: HostRuntime) {
     if let Some(league) = told(&rt, circular(rt.alloc(), 4)) {
-        check_circle_of_four(&rt, &league);
+        check_circle_of_four(&rt, &league, 0);
     }
 }
 
@@ -139,8 +175,8 @@ fn constant_tells_refused_memory(rt: HostRuntime) {
 #[test]
 fn duplicate_succeeds_with_ample_memory(rt: HostRuntime) -> Result<(), Fail> {
     let league = circular(rt.alloc(), 4)?;
-    check_circle_of_four(&rt, &league.duplicate(rt.alloc())?);
-    check_circle_of_four(&rt, &league);
+    check_circle_of_four(&rt, &league.duplicate(rt.alloc())?, 0);
+    check_circle_of_four(&rt, &league, 0);
     Ok(())
 }
 
@@ -148,10 +184,10 @@ fn duplicate_succeeds_with_ample_memory(rt: HostRuntime) -> Result<(), Fail> {
 fn duplicate_tells_refused_memory(rt: HostRuntime) {
     if let Some(league) = told(&rt, circular(rt.alloc(), 4)) {
         match league.duplicate(rt.alloc()) {
-            Ok(copy) => check_circle_of_four(&rt, &copy),
+            Ok(copy) => check_circle_of_four(&rt, &copy, 0),
             Err(AllocError) => {}
         }
-        check_circle_of_four(&rt, &league);
+        check_circle_of_four(&rt, &league, 0);
     }
 }
 

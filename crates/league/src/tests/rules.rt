@@ -1,10 +1,11 @@
 //! Rules as they are read, and their faults.
 
-use super::{CIRCLE, TEAMS, league_text, list};
+use super::{CIRCLE, GOOD_RULE, TEAMS, all_games_text, league_text, list};
 use crate::{
     Field, League, LeagueFault, Pairing, RuleBody, Side, SlotSet, TeamSet, Weight, read_league,
 };
 use std::alloc::{AllocError, Global};
+use std::process::Abort;
 use std::test::Fail;
 
 fn four_teams(alloc: Global, rules: &str) -> Result<Result<League, LeagueFault>, AllocError> {
@@ -34,9 +35,19 @@ fn slot_set(slots: &[u8]) -> SlotSet {
     set
 }
 
+// each text is read as one rule, of this body
+fn check_bodies(rt: &impl Abort, alloc: Global, cases: &[(&str, RuleBody)]) -> Result<(), Fail> {
+    for (text, body) in cases {
+        let league = four_teams(alloc, text)??;
+        assert_eq!(rt; league.rule_count(), 1, "{text}");
+        let read = format!(in alloc; "{:?}", league.rule(0).body)?;
+        assert_eq!(rt; read, format!(in alloc; "{body:?}")?, "{text}");
+    }
+    Ok(())
+}
+
 #[test]
 fn reads_each_class(rt: HostRuntime) -> Result<(), Fail> {
-    let alloc = rt.alloc();
     let cases = [
         (
             r#"[{"class":"CA1","kind":"hard","teams":[4],"mode":"A","slots":[1,3,5],"max":1}]"#,
@@ -103,18 +114,11 @@ fn reads_each_class(rt: HostRuntime) -> Result<(), Fail> {
             },
         ),
     ];
-    for (text, body) in &cases {
-        let league = four_teams(alloc, text)??;
-        assert_eq!(rt; league.rule_count(), 1, "{text}");
-        let read = format!(in alloc; "{:?}", league.rule(0).body)?;
-        assert_eq!(rt; read, format!(in alloc; "{body:?}")?, "{text}");
-    }
-    Ok(())
+    check_bodies(&rt, rt.alloc(), &cases)
 }
 
 #[test]
 fn absent_sets_are_whole(rt: HostRuntime) -> Result<(), Fail> {
-    let alloc = rt.alloc();
     let cases = [
         (
             r#"[{"class":"CA2","kind":"hard","teams1":[1],"mode":"HA","max":0}]"#,
@@ -148,13 +152,7 @@ fn absent_sets_are_whole(rt: HostRuntime) -> Result<(), Fail> {
             },
         ),
     ];
-    for (text, body) in &cases {
-        let league = four_teams(alloc, text)??;
-        assert_eq!(rt; league.rule_count(), 1, "{text}");
-        let read = format!(in alloc; "{:?}", league.rule(0).body)?;
-        assert_eq!(rt; read, format!(in alloc; "{body:?}")?, "{text}");
-    }
-    Ok(())
+    check_bodies(&rt, rt.alloc(), &cases)
 }
 
 #[test]
@@ -188,6 +186,20 @@ fn games_count_once(rt: HostRuntime) -> Result<(), Fail> {
 }
 
 #[test]
+fn reads_all_games_of_forty_teams(rt: HostRuntime) -> Result<(), Fail> {
+    let league = read_league(rt.alloc(), all_games_text(rt.alloc())?.as_bytes())?;
+    assert_eq!(rt; league.rule_count(), 1);
+    let RuleBody::Ga1 { games, slots, .. } = &league.rule(0).body else {
+        panic!(rt; "not of its class");
+    };
+    assert_eq!(rt; games.len(), 1560);
+    assert_eq!(rt; games.at(0), Pairing { home: 0, away: 1 });
+    assert_eq!(rt; games.at(1559), Pairing { home: 39, away: 38 });
+    assert_eq!(rt; *slots, SlotSet::below(78));
+    Ok(())
+}
+
+#[test]
 fn reads_weights(rt: HostRuntime) -> Result<(), Fail> {
     let alloc = rt.alloc();
     let cases = [
@@ -204,8 +216,6 @@ fn reads_weights(rt: HostRuntime) -> Result<(), Fail> {
     }
     Ok(())
 }
-
-const GOOD: &str = r#"{"class":"SE1","kind":"hard","teams":[1,4],"min":3}"#;
 
 #[test]
 fn tells_rules_of_no_class(rt: HostRuntime) -> Result<(), Fail> {
@@ -284,7 +294,7 @@ fn tells_the_first_faulty_rule(rt: HostRuntime) -> Result<(), Fail> {
         (r#"{"class":"XX1"},1"#, LeagueFault::WrongKind(Field::Rules)),
     ];
     for (rules, fault) in cases {
-        let text = format!(in alloc; "[{GOOD},{rules}]")?;
+        let text = format!(in alloc; "[{GOOD_RULE},{rules}]")?;
         assert_eq!(rt;
             four_teams(alloc, text.as_str())?.err(),
             Some(fault),
@@ -297,10 +307,10 @@ fn tells_the_first_faulty_rule(rt: HostRuntime) -> Result<(), Fail> {
 #[test]
 fn counts_rules_to_their_limit(rt: HostRuntime) -> Result<(), Fail> {
     let alloc = rt.alloc();
-    let league = four_teams(alloc, list(alloc, 256, GOOD)?.as_str())??;
+    let league = four_teams(alloc, list(alloc, 256, GOOD_RULE)?.as_str())??;
     assert_eq!(rt; league.rule_count(), 256);
     assert!(rt; matches!(league.rule(255).body, RuleBody::Se1 { min: 3, .. }));
-    let mut text = list(alloc, 255, GOOD)?;
+    let mut text = list(alloc, 255, GOOD_RULE)?;
     text.pop();
     text.push_str(r#",{"class":"SE1"}]"#)?;
     assert_eq!(rt;
