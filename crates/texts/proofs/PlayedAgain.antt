@@ -13,12 +13,13 @@ use Rattle.fixture_board.specs.declared.change.Change.{Change}
 use Rattle.fixture_board.specs.declared.change.Change.TheVariants as change
 use Rattle.fixture_board.specs.declared.change.Entry.{Entry}
 use Rattle.fixture_board.specs.declared.reply.Why.{Why}
-use Rattle.fixture_board.specs.History.{effective, games_of, is_in_range, pins_of, legal_after, IsLegal, May}
+use Rattle.fixture_board.specs.History.{best_of, effective, games_of, is_in_range, pins_of, legal_after, IsLegal, May}
 use Rattle.fixture_board.specs.Replay.{changes_of, under_caller_0}
 use Rattle.fixture_board.specs.Replies.{ask_of, entry, next_if, next_of, refusal, played_from as changes_played}
 use Rattle.fixture_board.proofs.ForCallers.{FitFrom, all_stand_fit, fit_from_more, games_of_teams, is_legal_next, is_legal_none, is_scored_league, pinned_stands, replayed}
 use Rattle.texts.specs.Command.{line_of}
 use Rattle.texts.specs.PlayText.{IsPlayedAgain, asked, change_lines, history_after, played, played_from, slack_after}
+use Rattle.texts.specs.SearchText.{PlaysBack}
 use Rattle.texts.specs.declared.script_line.ScriptLine.{ScriptLine}
 use Rattle.texts.specs.declared.script_line.ScriptLine.TheVariants as line
 use Rattle.texts.proofs.WrittenLines.{AreSmall, IsSmall, IsSmallGame, IsSmallMove, bare_lines, line_read, lines-change_lines}
@@ -143,14 +144,28 @@ lines_played league room before (e ∷ h) small =
     ap (λ ask. played_from league room (next_of league room before 0 ask) 18446744073709551615 (bare_lines h)) (asked-greatest (length before) e.change) ∙
     lines_played league room (next_of league room before 0 (ask_of (length before) e.change)) h small.1
 
-written_played : (league : LeagueData) (room : ℕ) (h : List Entry) → IsLeague league → IsPlayed league room h → played league room (lines (change_lines h)) ≡ h
+-- a legal history, written and given as a script, leads to the same changes under caller 0
+pub written_played : (league : LeagueData) (room : ℕ) (h : List Entry) → IsLeague league → IsLegal league room h
+    → played league room (lines (change_lines h)) ≡ under_caller_0 h
 unfolding played
-written_played league room h is of_play =
-    let small = AreSmall-legal league room h is of_play.legal in
+written_played league room h is legal =
+    let small = AreSmall-legal league room h is legal in
     ap (λ script. played_from league room [] 18446744073709551615 script) (lines-change_lines h small) ∙
     lines_played league room [] h small ∙
-    (replayed league room h (is_scored_league league is) of_play.legal).history ∙
-    of_play.same
+    (replayed league room h (is_scored_league league is) legal).history
 
 pub played_again : (league : LeagueData) (room : ℕ) (script : List (List ℕ)) → IsLeague league → IsPlayedAgain league room script
-played_again league room script is = written_played league room (played league room script) is (IsPlayed-played league room script)
+played_again league room script is =
+    let of_play = IsPlayed-played league room script in
+    written_played league room (played league room script) is of_play.legal ∙ of_play.same
+
+-- so it leads to the same games and the same best
+pub plays_back : (league : LeagueData) (room : ℕ) (h : List Entry) → IsLeague league → IsLegal league room h → PlaysBack league room h
+plays_back league room h is legal =
+    let again = replayed league room h (is_scored_league league is) legal in
+    let history = written_played league room h is legal in
+    record {
+      history = history;
+      games = ap (games_of league) history ∙ again.games;
+      best = ap (best_of league) history ∙ again.best;
+    }

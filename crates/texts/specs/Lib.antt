@@ -4,3 +4,4 @@ pub mod Input
 pub mod Command
 pub mod Sheet
 pub mod PlayText
+pub mod SearchText

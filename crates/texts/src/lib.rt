@@ -1,6 +1,6 @@
 //! The texts of the fixture board, as bytes: an input's league and script, the lines of a script, the sheet of a
-//! schedule, and the play text. Teams and rounds are numbered from 0 in calls, and from 1 in texts. Nothing here takes
-//! memory: a text goes out piece by piece.
+//! schedule, the play text, and the parts of a search text. Teams and rounds are numbered from 0 in calls, and from 1
+//! in texts. Nothing here takes memory: a text goes out piece by piece.
 #![tactic(auto)]
 
 mod answers;
@@ -10,6 +10,7 @@ mod lines;
 mod numerals;
 mod play_text;
 mod script_line;
+mod search_text;
 mod sheets;
 #[cfg(test)]
 mod tests;
@@ -18,4 +19,5 @@ mod words;
 pub use input::{next_line, split_input};
 pub use play_text::play_script;
 pub use script_line::{ScriptLine, parse_line};
+pub use search_text::{write_found, write_plan, write_worker};
 pub use sheets::sheet;

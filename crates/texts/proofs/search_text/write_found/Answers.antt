@@ -1,0 +1,17 @@
+use Rattle.texts.specs.PlayText.{best_line}
+use Rattle.texts.specs.SearchText.{best_sheet, found_text}
+use Rattle.fixture_board.specs.History.{best_of}
+use Rattle.streams.proofs.Pieces.{Adds-stops, Adds-then, Adds-writes, Stops-more, Stops-writes}
+use Rattle.texts.proofs.search_text.write_found.Goals as goal
+
+pub returns-in_err-write_history : goal.returns-in_err-write_history
+unfolding found_text
+returns-in_err-write_history g c = Stops-writes c.from_residual.ensures.0 (Stops-more (best_line (best_of c.args.board.now.league c.args.board.now.history)) (Stops-more (best_sheet c.args.board.now.league c.args.board.now.history) c.in_err-write_history.ensures.err))
+
+pub returns-in_err-write_best_sheet : goal.returns-in_err-write_best_sheet
+unfolding found_text
+returns-in_err-write_best_sheet g c = Stops-writes c.from_residual-in_err-write_best_sheet.ensures.0 (Stops-more (best_line (best_of c.args.board.now.league c.args.board.now.history)) (Adds-stops c.in_ok-write_history.ensures.ok c.in_err-write_best_sheet.ensures.err))
+
+pub returns : goal.returns
+unfolding found_text
+returns g c = Adds-writes (Adds-then c.in_ok-write_history.ensures.ok c.in_ok-write_best_sheet.ensures.ok) (rw c.best.ensures.value at c.write_best.ensures)

@@ -1,0 +1,38 @@
+-- The parts of a search text. Workers are numbered from 1.
+use Rattle.std.specs.Prelude.{◌≡◌, ℕ, List, ◌++◌, Option, Some, None, codes}
+use Rattle.std.specs.Str.Lines.{lines}
+use Rattle.league.specs.League.{LeagueData}
+use Rattle.fixtures.specs.Games.{Games}
+use Rattle.fixture_board.specs.declared.change.Entry.{Entry}
+use Rattle.fixture_board.specs.History.{best_of, best_prefix, games_of}
+use Rattle.fixture_board.specs.Replay.{under_caller_0}
+use Rattle.texts.specs.PlayText.{best_line, change_lines, counted, history_text, numbered, played}
+use Rattle.texts.specs.Sheet.{sheet_of}
+
+-- what was asked for
+abbrev pub plan_line : ℕ → ℕ → ℕ → List ℕ
+plan_line workers steps seed = counted (codes "workers ") workers ++ counted (codes " steps ") steps ++ numbered (codes " seed ") seed
+
+-- how many proposals a worker made, and how many of them were accepted and refused
+abbrev pub worker_line : ℕ → ℕ → ℕ → ℕ → List ℕ
+worker_line number made accepted refused =
+    counted (codes "worker ") number ++ counted (codes " made ") made ++ counted (codes " accepted ") accepted ++ numbered (codes " refused ") refused
+
+-- the games after the best prefix of a history, or after all of it where no prefix is feasible
+abbrev pub games_at_best : LeagueData → List Entry → Option (List Entry) → Games
+games_at_best league h None = games_of league h
+games_at_best league h (Some prefix) = games_of league prefix
+
+-- the sheet of the best schedule, or of the present one where there is no best
+unfoldable pub best_sheet : LeagueData → List Entry → List ℕ
+best_sheet league h = sheet_of (games_at_best league h (best_prefix league h)) league
+
+-- a board after its history: the history, the sheet of its best schedule and the best version
+unfoldable pub found_text : LeagueData → List Entry → List ℕ
+found_text league h = history_text h ++ best_sheet league h ++ best_line (best_of league h)
+
+-- a history, written and given as a script, leads to the same changes of caller 0, to the same games and the same best
+pub record PlaysBack (league : LeagueData) (room : ℕ) (h : List Entry) : Type 0 where
+  pub history : played league room (lines (change_lines h)) ≡ under_caller_0 h
+  pub games : games_of league (played league room (lines (change_lines h))) ≡ games_of league h
+  pub best : best_of league (played league room (lines (change_lines h))) ≡ best_of league h
