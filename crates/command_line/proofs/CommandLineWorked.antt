@@ -4,7 +4,7 @@ use Rattle.clap.specs.Words.{Text, fault_of}
 use Rattle.clap.specs.declared.error.kind.ErrorKind.TheVariants.{ArgumentConflict, DisplayHelp, MissingSubcommand, UnknownArgument, ValueValidation}
 use Rattle.clap.proofs.OnLiterals.{clap_on_literals}
 use Rattle.command_line.specs.CommandLine.{job_of_words, program}
-use Rattle.command_line.specs.declared.job.Job.TheVariants.{Play, Start}
+use Rattle.command_line.specs.declared.job.Job.TheVariants.{Find, Play, Start}
 
 abbrev ttp : List Text → List Text
 ttp words = codes "ttp" ∷ words
@@ -56,3 +56,16 @@ room_is_given_once = refl
 no_command_is_no_job : job_of_words (ttp []) ≡ None
 unfolding clap_on_literals
 no_command_is_no_job = refl
+
+search_has_its_defaults : job_of_words (ttp (codes "search" ∷ [])) ≡ Some (Find 1024 (record { workers = 2; seed = 1; steps = 1000; slack = 0 }))
+unfolding clap_on_literals
+search_has_its_defaults = refl
+
+search_has_its_numbers : job_of_words (ttp (codes "search" ∷ codes "--workers" ∷ codes "4" ∷ codes "--slack=7" ∷ codes "--room" ∷ codes "8" ∷ []))
+    ≡ Some (Find 8 (record { workers = 4; seed = 1; steps = 1000; slack = 7 }))
+unfolding clap_on_literals
+search_has_its_numbers = refl
+
+some_worker_is_needed : fault_of program (ttp (codes "search" ∷ codes "--workers" ∷ codes "0" ∷ [])) ≡ ValueValidation ∷ []
+unfolding clap_on_literals
+some_worker_is_needed = refl

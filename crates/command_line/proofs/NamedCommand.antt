@@ -1,18 +1,21 @@
 -- Where the words are no fault, they name a command, and each of its options has a number.
-use Rattle.std.proofs.Common.{◌≡◌, ◌&&◌, ◌||◌, cond, ℕ, Bool, true, false, List, [], ◌∷◌, Option, Some, None, is_some, refl, sym, subst, codes, inl, inr, option_map, true≢false, map, ◌++◌}
-use Rattle.std.specs.Prelude.{find, fold}
+use Rattle.std.proofs.Common.{◌≡◌, ◌∙◌, ap, ◌&&◌, ◌||◌, cond, ℕ, Bool, true, false, List, [], ◌∷◌, Option, Some, None, is_some, refl, sym, subst, codes, inl, inr, option_map, true≢false, map, ◌++◌}
+use Rattle.std.specs.Prelude.{Box, find, fold}
+use Rattle.std.specs.Box.{box_value}
 use Rattle.std.specs.Option.{option_map_or}
 use Rattle.std.specs.Str.{bytes_eq}
 use Rattle.std.proofs.lemmas.Slice.Eq.{bytes_eq-Decides}
 use Rattle.clap.specs.Lexer.{long_of, short_of}
 use Rattle.clap.specs.Kinds.{or_else}
 use Rattle.clap.specs.Faults.{check_fault, defaults_fault, entered_fault, fault_of, level_fault, other_fault, settle_fault, step_fault, turn_fault, walk_fault, word_fault}
-use Rattle.clap.specs.Simple.{Shape, argument_words, built, built_leaf, entered, help_shape, inherited, label_of, names_of, rows_at, subcommand_of}
+use Rattle.clap.specs.Simple.{Shape, argument_words, built, built_leaf, entered, help_shape, inherited, label_of, names_of, rows_at, subcommand_of, subcommand_rows}
+use Rattle.clap.specs.declared.parser.matches.ArgMatches.TheViews.{out-SubCommand}
+use Rattle.clap.specs.declared.parser.matches.SubCommand.{SubCommand}
 use Rattle.clap.specs.Walk.{Held, Names, Outcome, Row, Rule, Step, Text, Waiting, Walk, after_flag, after_step, answers_to, arg_by_index, finished, long_or_other, nothing_held, plain_word, settled, short_or_plain, subcommand_met, subcommand_or_other, to_positional, walk, walk_from, walked, walked_from, word_met}
 use Rattle.clap.specs.Walk.{done, waits, plain, refused, idle, option, positional, next, trailing, subcommand, value}
 use Rattle.clap.specs.declared.error.kind.ErrorKind.TheVariants.{DisplayHelp, InvalidSubcommand}
 use Rattle.clap.proofs.OnLiterals.{clap_on_literals}
-use Rattle.command_line.specs.CommandLine.{CommandForm, HasNumbers, NamesACommand, NamesOneOf, NumberOption, app_of_command, commands, play_command, program, room_option, start_command}
+use Rattle.command_line.specs.CommandLine.{CommandForm, HasNumbers, NamesACommand, NamesOneOf, NumberOption, app_of_command, commands, play_command, program, room_option, search_command, start_command}
 use Rattle.command_line.proofs.Options.{both_pass, no_kind}
 use Rattle.command_line.proofs.OptionWords.{has_numbers}
 
@@ -124,7 +127,10 @@ commands_are_read : AreRead commands
 unfolding clap_on_literals
 commands_are_read = (
   record { named = refl; has = has_numbers [] tt (built_command start_command) },
-  (record { named = refl; has = has_numbers (room_option ∷ []) (record { first = refl; default_fits = refl }, tt) (built_command play_command) }, tt),
+  (
+    record { named = refl; has = has_numbers (room_option ∷ []) (record { first = refl; default_fits = refl }, tt) (built_command play_command) },
+    (record { named = refl; has = has_numbers search_command.options (record { first = refl; default_fits = refl }, (record { first = refl; default_fits = refl }, (record { first = refl; default_fits = refl }, (record { first = refl; default_fits = refl }, (record { first = refl; default_fits = refl }, tt))))) (built_command search_command) }, tt),
+  ),
 )
 
 named_help : (name : Text) → answers_to name (label_of built_help) ≡ true → bytes_eq name (codes "help") ≡ false → ⊥
@@ -186,3 +192,27 @@ names_a_command words e =
     let rest = both_pass (settle_fault top.rules false end.held) _ below.1 in
     let last = both_pass (defaults_fault (settled top.rules end.held).rows top.rules) _ rest.1 in
     entered_is end.stopped (finished top.rules end.held) (walk_on (walk_from nothing_held) (argument_words program words) met.0 tt) below.0 last.1
+
+-- a command that is named and has this name has the numbers of its options
+pub play_numbers : (found : Text × List Row) → NamesOneOf commands found → found.0 ≡ codes "play" → HasNumbers found.1 play_command.options
+play_numbers found (inl of_start) is = absurd (true≢false (ap (λ t. bytes_eq t (codes "start")) (sym of_start.0 ∙ is)))
+play_numbers found (inr (inl of_play)) is = of_play.1
+play_numbers found (inr (inr (inl of_search))) is = absurd (true≢false (ap (λ t. bytes_eq t (codes "search")) (sym of_search.0 ∙ is)))
+play_numbers found (inr (inr (inr none))) is = absurd none
+
+pub search_numbers : (found : Text × List Row) → NamesOneOf commands found → found.0 ≡ codes "search" → HasNumbers found.1 search_command.options
+search_numbers found (inl of_start) is = absurd (true≢false (ap (λ t. bytes_eq t (codes "start")) (sym of_start.0 ∙ is)))
+search_numbers found (inr (inl of_play)) is = absurd (true≢false (ap (λ t. bytes_eq t (codes "play")) (sym of_play.0 ∙ is)))
+search_numbers found (inr (inr (inl of_search))) is = of_search.1
+search_numbers found (inr (inr (inr none))) is = absurd none
+
+-- so the values of the subcommand that a parse met, where it has this name, have the numbers of its options
+pub numbers_of_met : {Z : Type 0} (word : Text) (options : List NumberOption) → ((found : Text × List Row) → NamesOneOf commands found → found.0 ≡ word → HasNumbers found.1 options)
+    → (met : Option (Box SubCommand Z)) (name : Text) (rows : List Row) → NamesACommand (subcommand_rows met)
+    → Some name ≡ option_map (λ b. (out-SubCommand (box_value b)).name.now) met → Some rows ≡ option_map (λ found. found.1) (subcommand_rows met)
+    → name ≡ word → HasNumbers rows options
+numbers_of_met word options numbers None name rows named is_name are_rows is = absurd named
+numbers_of_met word options numbers (Some b) name rows named is_name are_rows is =
+    let same_name = ap (λ o. option_map_or (λ x. x) o name) is_name in
+    let same_rows = ap (λ o. option_map_or (λ x. x) o rows) are_rows in
+    subst (λ rs. HasNumbers rs options) (sym same_rows) (numbers _ named (sym same_name ∙ is))

@@ -34,3 +34,8 @@ module _ (o : NumberOption) (f : Found) (r : Option ℕ) (has : HasNumber (rows_
   number_in_range n is =
       let g = rw is at read in
       rw g.0.1 accepted.3
+
+  pub number_from_range : (n : ℕ) → r ≡ Some n → o.least ≤ n
+  number_from_range n is =
+      let g = rw is at read in
+      rw g.0.1 accepted.2

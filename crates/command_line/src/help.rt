@@ -3,7 +3,7 @@
 pub(crate) const PROGRAM_ABOUT: &str = "A fixture board for the Travelling Tournament Problem";
 
 pub(crate) const PROGRAM_EXAMPLE: &str = "Example:
-  ttp start < leagues/circular-4.json";
+  ttp search --slack 8 < leagues/circular-4.json";
 
 pub(crate) const START_ABOUT: &str =
     "Reads a league from standard input and writes the sheet of its Berger start";
@@ -28,5 +28,21 @@ pub(crate) const PLAY_LINES: &str = "Script lines (docs/script.md), with teams a
 
 Example:
   (cat leagues/circular-4.json; echo script; echo 'homes 1 2'; echo undo) | ttp play --room 8";
+
+pub(crate) const SEARCH_ABOUT: &str =
+    "Reads a league from standard input, has workers search for a cheaper schedule on one board,
+and writes their counts, the history, the sheet of the best schedule and the best version";
+
+pub(crate) const SEARCH_EXAMPLE: &str = "Example (docs/search.md says how to choose the numbers):
+  ttp search --workers 4 --steps 200000 --slack 8 --room 1048576 < leagues/circular-10.json";
+
+pub(crate) const WORKERS_HELP: &str = "How many workers search at once, 1 to 16";
+
+pub(crate) const SEED_HELP: &str = "What the workers' draws begin with, any number of 64 bits";
+
+pub(crate) const STEPS_HELP: &str = "How many moves each worker draws, 0 to 1000000";
+
+pub(crate) const SLACK_HELP: &str =
+    "By how much a score may rise at the first step, any number of 64 bits; it falls to 0";
 
 pub(crate) const ROOM_HELP: &str = "How many changes the board has room for, 0 to 1048576";

@@ -1,22 +1,18 @@
 //! The program's command line.
 
-ghost use Rattle.std.specs.Prelude.{◌≡◌, ◌≤◌, [], ◌∷◌, Some, IfOk, map, option_and_then, string_bytes};
+ghost use Rattle.std.specs.Prelude.{◌≡◌, [], ◌∷◌, Some, IfOk, map, option_and_then, string_bytes};
 ghost use Rattle.clap.specs.Words.{app_of, fault_of, found_of, rows_of, FailsBy, subcommand_rows_of};
-ghost use Rattle.command_line.specs.CommandLine.{app_of_command, job_of_command, job_of_words, number_in, play_command, program, program_of, room_option, start_command};
-ghost use Rattle.command_line.specs.CommandLine.{HasNumber, IsInRange, NamesACommand};
+ghost use Rattle.command_line.specs.CommandLine.{app_of_command, job_of_command, job_of_words, play_command, plan_in, program, program_of};
+ghost use Rattle.command_line.specs.CommandLine.{search_command, start_command, HasNumbers, IsInRange, IsPlanInRange, NamesACommand};
 
 use crate::help::{
-    PLAY_ABOUT, PLAY_LINES, PROGRAM_ABOUT, PROGRAM_EXAMPLE, ROOM_HELP, START_ABOUT, START_EXAMPLE,
+    PLAY_ABOUT, PLAY_LINES, PROGRAM_ABOUT, PROGRAM_EXAMPLE, SEARCH_ABOUT, SEARCH_EXAMPLE,
+    START_ABOUT, START_EXAMPLE,
 };
-use clap::builder::ValueParser;
-use clap::{Arg, ArgMatches, Command, Error};
+use crate::number_args::{ROOM, SEED, SLACK, STEPS, WORKERS};
+use clap::{ArgMatches, Command, Error};
+use search::SearchPlan;
 use std::alloc::{AllocError, Global};
-
-/// The greatest room of a board.
-const MAX_ROOM: u64 = 1_048_576;
-
-/// The room where none is given.
-const DEFAULT_ROOM: &str = "1024";
 
 /// What the program is asked to do.
 #[derive(Clone, Copy, Debug, PartialEq, Eq)]
@@ -25,6 +21,8 @@ pub enum Job {
     Start,
     /// Play the script on standard input, on a board with room for so many changes.
     Play { room: u32 },
+    /// Search for a cheaper schedule of the league on standard input, on a board with room for so many changes.
+    Find { room: u32, plan: SearchPlan },
 }
 
 /// Reads the program's words, the first of which is its name. The error is clap's: its text, which
@@ -52,35 +50,49 @@ fn job_of(matches: &ArgMatches) -> Job
     match matches.subcommand() {
         Some(("start", _)) => Job::Start,
         Some(("play", values)) => Job::Play {
-            room: room_of(values),
+            room: ROOM.number(values) as u32,
+        },
+        Some(("search", values)) => Job::Find {
+            room: ROOM.number(values) as u32,
+            plan: plan_of(values),
         },
         // a command is required, and `help` is answered as an error
         _ => unreachable!(),
     }
 }
 
-fn room_of(values: &ArgMatches) -> u32
-    requires { HasNumber (rows_of (found_of values.now)) room_option }
-    ensures room { number_in room_option.name (rows_of (found_of values.now)) ≡ Some result }
-    ensures in_range { result ≤ 1048576 }
+fn plan_of(values: &ArgMatches) -> SearchPlan
+    requires { HasNumbers (rows_of (found_of values.now)) search_command.options }
+    ensures plan { plan_in (rows_of (found_of values.now)) ≡ Some result }
+    ensures in_range { IsPlanInRange result }
 {
-    match values.get_one::<u64>("room") {
-        Some(room) => room as u32,
-        // the option has a default, and a value that is no room is an error
-        None => unreachable!(),
+    SearchPlan {
+        workers: WORKERS.number(values) as u32,
+        seed: SEED.number(values),
+        steps: STEPS.number(values) as u32,
+        slack: SLACK.number(values),
     }
 }
 
 fn command<'a>(alloc: Global) -> Result<Command<'a>, AllocError>
     ensures { IfOk result (λ c. app_of c ≡ program) }
 {
-    let play = play_command(alloc)?;
-    let with_start = with_start(alloc)?;
-    let program = with_start.subcommand(play)?;
+    let search = search_command(alloc)?;
+    let with_play = with_play(alloc)?;
+    let program = with_play.subcommand(search)?;
     program.bin_name("ttp")
 }
 
-/// The program's command line without `play`.
+/// The program's command line without `search`.
+fn with_play<'a>(alloc: Global) -> Result<Command<'a>, AllocError>
+    ensures { IfOk result (λ c. app_of c ≡ program_of (start_command ∷ play_command ∷ [])) }
+{
+    let play = play_command(alloc)?;
+    let with_start = with_start(alloc)?;
+    with_start.subcommand(play)
+}
+
+/// The program's command line without `play` and `search`.
 fn with_start<'a>(alloc: Global) -> Result<Command<'a>, AllocError>
     ensures { IfOk result (λ c. app_of c ≡ program_of (start_command ∷ [])) }
 {
@@ -97,14 +109,21 @@ fn with_start<'a>(alloc: Global) -> Result<Command<'a>, AllocError>
 fn play_command<'a>(alloc: Global) -> Result<Command<'a>, AllocError>
     ensures { IfOk result (λ c. app_of c ≡ app_of_command play_command) }
 {
-    let room = Arg::new(alloc, "room")
-        .long("room")
-        .value_name("N")
-        .value_parser(ValueParser::unsigned(0, MAX_ROOM))
-        .default_value(DEFAULT_ROOM)
-        .help(ROOM_HELP);
     Command::new(alloc, "play")
         .about(PLAY_ABOUT)
         .after_help(PLAY_LINES)
-        .arg(room)
+        .arg(ROOM.arg(alloc))
+}
+
+fn search_command<'a>(alloc: Global) -> Result<Command<'a>, AllocError>
+    ensures { IfOk result (λ c. app_of c ≡ app_of_command search_command) }
+{
+    Command::new(alloc, "search")
+        .about(SEARCH_ABOUT)
+        .after_help(SEARCH_EXAMPLE)
+        .arg(ROOM.arg(alloc))?
+        .arg(WORKERS.arg(alloc))?
+        .arg(SEED.arg(alloc))?
+        .arg(STEPS.arg(alloc))?
+        .arg(SLACK.arg(alloc))
 }

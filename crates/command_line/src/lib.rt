@@ -3,7 +3,9 @@
 
 mod help;
 mod job;
+mod number_args;
 #[cfg(test)]
 mod tests;
 
 pub use job::{Job, args};
+pub use search::SearchPlan;

@@ -2,7 +2,7 @@
 //! --fail-alloc N` refuses the Nth allocation of each test. A test `.._tells_refused_memory` passes at every N;
 //! `.._with_ample_memory` fails while N is among its allocations.
 
-use crate::{Job, args};
+use crate::{Job, SearchPlan, args};
 use clap::error::ErrorKind;
 use std::alloc::{AllocError, Global};
 use std::test::Fail;
@@ -38,9 +38,104 @@ fn command_line_asks_for_a_play_with_room(rt: HostRuntime) -> Result<(), Fail> {
     Ok(())
 }
 
+/// The words of a search, its room and its plan.
+type Search<'a> = (&'a [&'a str], u32, SearchPlan);
+
+#[test]
+fn command_line_asks_for_a_search(rt: HostRuntime) -> Result<(), Fail> {
+    let plain = SearchPlan {
+        workers: 2,
+        seed: 1,
+        steps: 1000,
+        slack: 0,
+    };
+    let greatest = SearchPlan {
+        workers: 16,
+        seed: u64::MAX,
+        steps: 1_000_000,
+        slack: u64::MAX,
+    };
+    let cases: [Search; 6] = [
+        (&["ttp", "search"], 1024, plain),
+        (&["ttp", "search", "--room", "0"], 0, plain),
+        (
+            &["ttp", "search", "--workers", "1", "--steps=0"],
+            1024,
+            SearchPlan {
+                workers: 1,
+                steps: 0,
+                ..plain
+            },
+        ),
+        (
+            &["ttp", "search", "--seed", "0"],
+            1024,
+            SearchPlan { seed: 0, ..plain },
+        ),
+        (
+            &["ttp", "search", "--slack", "7", "--seed", "8"],
+            1024,
+            SearchPlan {
+                seed: 8,
+                slack: 7,
+                ..plain
+            },
+        ),
+        (
+            &[
+                "ttp",
+                "search",
+                "--slack=18446744073709551615",
+                "--steps=1000000",
+                "--seed=18446744073709551615",
+                "--workers=16",
+                "--room=1048576",
+            ],
+            1_048_576,
+            greatest,
+        ),
+    ];
+    for (given, room, plan) in cases {
+        let words = words(rt.alloc(), given)?;
+        assert_eq!(rt;
+            args(rt.alloc(), &words)?,
+            Job::Find { room, plan },
+            "{given:?}"
+        );
+    }
+    Ok(())
+}
+
+#[test]
+fn jobs_differ_in_each_number(rt: HostRuntime) {
+    let plan = SearchPlan {
+        workers: 2,
+        seed: 1,
+        steps: 1000,
+        slack: 0,
+    };
+    let search = |plan| Job::Find { room: 8, plan };
+    let others = [
+        Job::Start,
+        Job::Play { room: 8 },
+        Job::Find { room: 9, plan },
+        search(SearchPlan { workers: 3, ..plan }),
+        search(SearchPlan { seed: 2, ..plan }),
+        search(SearchPlan {
+            steps: 1001,
+            ..plan
+        }),
+        search(SearchPlan { slack: 1, ..plan }),
+    ];
+    for other in others {
+        assert!(rt; search(plan) != other, "{other:?}");
+    }
+    assert!(rt; Job::Play { room: 8 } != Job::Play { room: 9 });
+}
+
 #[test]
 fn wrong_command_lines_end_with_two_and_help_with_zero(rt: HostRuntime) -> Result<(), Fail> {
-    let cases: [(&[&str], ErrorKind, i32); 10] = [
+    let cases: [(&[&str], ErrorKind, i32); 17] = [
         (&["ttp"], ErrorKind::MissingSubcommand, 2),
         (&["ttp", "stop"], ErrorKind::InvalidSubcommand, 2),
         (&["ttp", "start", "now"], ErrorKind::UnknownArgument, 2),
@@ -60,8 +155,39 @@ fn wrong_command_lines_end_with_two_and_help_with_zero(rt: HostRuntime) -> Resul
             2,
         ),
         (&["ttp", "play", "--room"], ErrorKind::InvalidValue, 2),
+        (
+            &["ttp", "search", "--workers", "0"],
+            ErrorKind::ValueValidation,
+            2,
+        ),
+        (
+            &["ttp", "search", "--workers", "17"],
+            ErrorKind::ValueValidation,
+            2,
+        ),
+        (
+            &["ttp", "search", "--steps", "1000001"],
+            ErrorKind::ValueValidation,
+            2,
+        ),
+        (
+            &["ttp", "search", "--room", "1048577"],
+            ErrorKind::ValueValidation,
+            2,
+        ),
+        (
+            &["ttp", "search", "--seed", "18446744073709551616"],
+            ErrorKind::ValueValidation,
+            2,
+        ),
+        (
+            &["ttp", "search", "--slack=-1"],
+            ErrorKind::ValueValidation,
+            2,
+        ),
         (&["ttp", "--help"], ErrorKind::DisplayHelp, 0),
         (&["ttp", "play", "--help"], ErrorKind::DisplayHelp, 0),
+        (&["ttp", "search", "--help"], ErrorKind::DisplayHelp, 0),
         (&["ttp", "start", "--help"], ErrorKind::DisplayHelp, 0),
     ];
     for (given, kind, status) in cases {
@@ -82,14 +208,15 @@ fn told(alloc: Global, given: &[&str]) -> Result<String, Fail> {
 
 #[test]
 fn help_tells_what_is_read_and_written(rt: HostRuntime) -> Result<(), Fail> {
-    let cases: [(&[&str], &[&str]); 3] = [
+    let cases: [(&[&str], &[&str]); 4] = [
         (
             &["ttp", "--help"],
             &[
                 "A fixture board for the Travelling Tournament Problem\n",
                 "\n  start ",
                 "\n  play ",
-                "Example:\n  ttp start < leagues/circular-4.json\n",
+                "\n  search ",
+                "Example:\n  ttp search --slack 8 < leagues/circular-4.json\n",
             ],
         ),
         (
@@ -118,6 +245,30 @@ fn help_tells_what_is_read_and_written(rt: HostRuntime) -> Result<(), Fail> {
                 "\n  undo ",
                 "\n  slack S ",
                 "echo script; echo 'homes 1 2'; echo undo) | ttp play --room 8\n",
+            ],
+        ),
+        (
+            &["ttp", "search", "--help"],
+            &[
+                "Reads a league from standard input, has workers search for a cheaper schedule on one board,\n",
+                "and writes their counts, the history, the sheet of the best schedule and the best version\n",
+                "--room <N>",
+                "How many changes the board has room for, 0 to 1048576",
+                "[default: 1024]",
+                "--workers <W>",
+                "How many workers search at once, 1 to 16",
+                "[default: 2]",
+                "--seed <S>",
+                "What the workers' draws begin with, any number of 64 bits",
+                "[default: 1]",
+                "--steps <T>",
+                "How many moves each worker draws, 0 to 1000000",
+                "[default: 1000]",
+                "--slack <X>",
+                "By how much a score may rise at the first step, any number of 64 bits; it falls to 0",
+                "[default: 0]",
+                "docs/search.md",
+                "ttp search --workers 4 --steps 200000 --slack 8 --room 1048576 < leagues/circular-10.json\n",
             ],
         ),
     ];

@@ -5,8 +5,10 @@ use Rattle.league.specs.declared.fault.LeagueFault.{LeagueFault}
 use Rattle.league.specs.declared.fault.LeagueFault.TheVariants as league
 use Rattle.fixture_board.specs.declared.board.BoardFault.{BoardFault}
 use Rattle.fixture_board.specs.declared.board.BoardFault.TheVariants as board
+use Rattle.search.specs.declared.runs.RunFault.{RunFault}
+use Rattle.search.specs.declared.runs.RunFault.TheVariants as run
 use Rattle.commands.specs.declared.fault.ProgramFault.{ProgramFault}
-use Rattle.commands.specs.declared.fault.ProgramFault.TheVariants.{Read, TooLong, League, Room, Memory}
+use Rattle.commands.specs.declared.fault.ProgramFault.TheVariants.{Read, TooLong, League, Room, Workers, Spawn, Receipts, Memory}
 
 abbrev pub of_reading : ReadFault → ProgramFault
 of_reading read.Read = Read
@@ -21,3 +23,9 @@ of_league fault = League fault
 abbrev pub of_board : BoardFault → ProgramFault
 of_board board.RoomRange = Room
 of_board board.Memory = Memory
+
+abbrev pub of_run : RunFault → ProgramFault
+of_run run.Workers = Workers
+of_run run.Spawn = Spawn
+of_run run.Receipts = Receipts
+of_run run.Memory = Memory

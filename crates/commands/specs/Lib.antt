@@ -2,3 +2,4 @@ pub mod Fault
 pub mod Outcome
 pub mod Start
 pub mod Play
+pub mod Find

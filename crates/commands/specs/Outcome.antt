@@ -7,7 +7,7 @@ use Rattle.streams.specs.Reading.{StopsPast}
 use Rattle.streams.specs.Sending.{AppendsFront}
 use Rattle.streams.specs.Tally.{FailsReading, FailsWriting}
 use Rattle.commands.specs.declared.fault.ProgramFault.{ProgramFault}
-use Rattle.commands.specs.declared.fault.ProgramFault.TheVariants.{Read, TooLong, League, Room, Write, Memory}
+use Rattle.commands.specs.declared.fault.ProgramFault.TheVariants.{Read, TooLong, League, Room, Workers, Spawn, Receipts, Write, Memory}
 
 -- A command answers an input with the text that it writes, or with a fault that lies in the input.
 abbrev pub Answers : Type 1
@@ -33,6 +33,9 @@ module _ {R W : Type 0} (left : R → Option (List ℕ)) (pulls : R → Tally) (
   EndsBy old new before after (Err TooLong) = StopsPast left pulls input_limit old new × (after ≡ before)
   EndsBy old new before after (Err (League fault)) = IsAnswered old new (Err (League fault)) × (after ≡ before)
   EndsBy old new before after (Err Room) = IsAnswered old new (Err Room) × (after ≡ before)
+  EndsBy old new before after (Err Workers) = IsAnswered old new (Err Workers) × (after ≡ before)
+  EndsBy old new before after (Err Spawn) = IsAnswered old new (Err Spawn) × (after ≡ before)
+  EndsBy old new before after (Err Receipts) = IsAnswered old new (Err Receipts) × (after ≡ before)
   EndsBy old new before after (Err Memory) = after ≡ before
 
   -- a command's whole outcome: how it ends, and how often it read

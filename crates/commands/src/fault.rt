@@ -2,10 +2,11 @@
 
 ghost use Rattle.std.specs.Prelude.{◌≡◌};
 ghost use Rattle.commands.specs.declared.fault.ProgramFault.TheVariants.{Write, Memory};
-ghost use Rattle.commands.specs.Fault.{of_board, of_reading, of_league};
+ghost use Rattle.commands.specs.Fault.{of_board, of_league, of_reading, of_run};
 
 use fixture_board::BoardFault;
 use league::LeagueFault;
+use search::RunFault;
 use std::alloc::AllocError;
 use streams::{ReadFault, WriteFault};
 use thiserror::Error;
@@ -25,6 +26,15 @@ pub enum ProgramFault {
     /// The room is over that of any board.
     #[error("room is over 1048576")]
     Room,
+    /// The number of workers is none that a search has.
+    #[error("workers must be 1 to 16")]
+    Workers,
+    /// A worker couldn't be started.
+    #[error("a worker cannot be started")]
+    Spawn,
+    /// The accepted proposals of the workers aren't the history's entries.
+    #[error("receipts do not add up")]
+    Receipts,
     /// A write failed, took no byte or was interrupted too often in a row.
     #[error("output cannot be written")]
     Write,
@@ -63,6 +73,19 @@ impl From<BoardFault> for ProgramFault {
         match fault {
             BoardFault::RoomRange => ProgramFault::Room,
             BoardFault::Memory => ProgramFault::Memory,
+        }
+    }
+}
+
+impl From<RunFault> for ProgramFault {
+    ghost from_gives = { λ fault gives. gives ≡ of_run fault };
+
+    fn from(fault: RunFault) -> ProgramFault {
+        match fault {
+            RunFault::Workers => ProgramFault::Workers,
+            RunFault::Spawn => ProgramFault::Spawn,
+            RunFault::Receipts => ProgramFault::Receipts,
+            RunFault::Memory => ProgramFault::Memory,
         }
     }
 }

@@ -2,13 +2,17 @@
 #![tactic(auto)]
 
 mod fault;
+mod finding;
 mod playing;
+mod search_text;
 mod starting;
 #[cfg(test)]
 mod tests;
 
 pub use fault::ProgramFault;
+pub use finding::{find, find_from};
 pub use playing::{play, play_from};
+pub use search_text::search_report;
 pub use starting::{start, start_from};
 pub use streams::{Sink, Source, Step};
 pub use texts::sheet;

@@ -67,7 +67,10 @@ fn write_closing<W: Sink>(out: &mut BufferedSink<'_, W>, board: &Board) -> Resul
     write_best(out, board.best())
 }
 
-pub(crate) fn write_best<W: Sink>(out: &mut BufferedSink<'_, W>, best: Option<Best>) -> Result<(), WriteFault>
+pub(crate) fn write_best<W: Sink>(
+    out: &mut BufferedSink<'_, W>,
+    best: Option<Best>,
+) -> Result<(), WriteFault>
     ensures { Writes W.held W.tally out.old out.new result (best_line best) }
 {
     let Some(best) = best else {

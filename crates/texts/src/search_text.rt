@@ -51,10 +51,7 @@ pub fn write_found<W: Sink>(out: &mut BufferedSink<'_, W>, board: &Board) -> Res
     write_best(out, board.best())
 }
 
-fn write_best_sheet<W: Sink>(
-    out: &mut BufferedSink<'_, W>,
-    board: &Board,
-) -> Result<(), WriteFault>
+fn write_best_sheet<W: Sink>(out: &mut BufferedSink<'_, W>, board: &Board) -> Result<(), WriteFault>
     ensures { Writes W.held W.tally out.old out.new result
         (best_sheet board.now.league board.now.history) }
 {

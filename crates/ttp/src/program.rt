@@ -12,10 +12,12 @@ ghost use Rattle.ttp.specs.Program.{AnswersJob, status_of};
 
 use clap::error::ErrorKind;
 use command_line::{Job, args};
-use commands::{ProgramFault, Sink, Source, play, start};
+use commands::{ProgramFault, Sink, Source, find, play, start};
 use std::alloc::Global;
 use std::process::ExitCode;
 use std::rt::Runtime;
+use std::sync::Wait;
+use std::thread::Threads;
 use std::{env, io};
 use streams::{ReaderSource, WriterSink};
 
@@ -24,7 +26,7 @@ const MISUSE: u8 = 2;
 
 /// Does what the program's words ask for. The exit status is 0 on success, 1 after a fault, and 2
 /// where the words are wrong.
-pub fn run<R: Runtime + AllocGlobal>(rt: &R) -> ExitCode {
+pub fn run<R: Runtime + AllocGlobal + Threads + Wait + Sync>(rt: &R) -> ExitCode {
     match words_of(rt) {
         Ok(words) => answer(rt, &words),
         Err(error) => words_not_had(rt, error),
@@ -36,7 +38,7 @@ fn words_of<R: Runtime + AllocGlobal>(rt: &R) -> io::Result<Vec<String>> {
 }
 
 /// Does what these words ask for, between standard input and output.
-fn answer<R: Runtime + AllocGlobal>(rt: &R, words: &[String]) -> ExitCode
+fn answer<R: Runtime + AllocGlobal + Threads + Wait + Sync>(rt: &R, words: &[String]) -> ExitCode
     ensures taken { fault_of program (map string_bytes words.now) ≡ [] → exit_status result ≤ 1 }
     ensures shown { fault_of program (map string_bytes words.now) ≡ ErrorKind.DisplayHelp ∷ [] → exit_status result ≤ 1 }
     ensures wrong { (kind : Kind) → fault_of program (map string_bytes words.now) ≡ kind ∷ []
@@ -48,12 +50,13 @@ fn answer<R: Runtime + AllocGlobal>(rt: &R, words: &[String]) -> ExitCode
     };
     let source = ReaderSource::new(rt.reader());
     let mut sink = WriterSink::new(io::writer(rt));
-    let outcome = perform(rt.alloc(), job, source, &mut sink);
+    let outcome = perform(rt, rt.alloc(), job, source, &mut sink);
     ended(rt, outcome)
 }
 
 /// Does what the job asks for, from this source to this sink.
-fn perform<R: Source + Drop, W: Sink>(
+fn perform<T: Threads + Wait + Sync, R: Source + Drop, W: Sink>(
+    rt: &T,
     alloc: Global,
     job: Job,
     source: R,
@@ -64,6 +67,7 @@ fn perform<R: Source + Drop, W: Sink>(
     match job {
         Job::Start => start(alloc, source, sink),
         Job::Play { room } => play(alloc, source, sink, room),
+        Job::Find { room, plan } => find(rt, alloc, source, sink, room, plan),
     }
 }
 

@@ -7,7 +7,7 @@ use Rattle.command_line.proofs.job.command.Goals as goal
 
 pub returns : goal.returns
 returns c =
-    let is_play = c.in_ok-play.ensures in
-    let plain = plain_fields c.in_ok-play.play (ap (λ (a : App). a.top.is_plain) is_play) in
-    let whole = c.in_ok-program.ensures.shape plain.globals ∙ ap₂ with_subcommand c.in_ok-with_start.ensures (ap (λ (a : App). a.top) is_play) in
+    let is_search = c.in_ok-search.ensures in
+    let plain = plain_fields c.in_ok-search.search (ap (λ (a : App). a.top.is_plain) is_search) in
+    let whole = c.in_ok-program.ensures.shape plain.globals ∙ ap₂ with_subcommand c.in_ok-with_play.ensures (ap (λ (a : App). a.top) is_search) in
     IfOk-weaker c.bin_name.result _ _ (λ m named. ap app_of_fields named.0 ∙ whole) c.bin_name.ensures

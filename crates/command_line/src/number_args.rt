@@ -1,0 +1,100 @@
+//! The options of the commands: `--name N`, where N is a whole number.
+
+ghost use Rattle.std.specs.Prelude.{◌≡◌, ◌≤◌, Some, false};
+ghost use Rattle.clap.specs.Words.{found_of, rows_of, rule_of as rule_of_arg};
+ghost use Rattle.command_line.specs.CommandLine.{HasNumber, form_of, number_in, rule_of};
+
+use crate::help::{ROOM_HELP, SEED_HELP, SLACK_HELP, STEPS_HELP, WORKERS_HELP};
+use clap::builder::ValueParser;
+use clap::{Arg, ArgMatches};
+use fixture_board::MAX_ROOM;
+use search::MAX_WORKERS;
+use std::alloc::Global;
+
+/// The most steps of each worker.
+const MAX_STEPS: u64 = 1_000_000;
+
+/// An option: the range of its number, and what stands for it where it isn't given.
+#[derive(Clone, Copy)]
+pub(crate) struct NumberArg {
+    name: &'static str,
+    value_name: &'static str,
+    least: u64,
+    most: u64,
+    default: &'static str,
+    help: &'static str,
+}
+
+pub(crate) const ROOM: NumberArg = NumberArg {
+    name: "room",
+    value_name: "N",
+    least: 0,
+    most: MAX_ROOM as u64,
+    default: "1024",
+    help: ROOM_HELP,
+};
+
+pub(crate) const WORKERS: NumberArg = NumberArg {
+    name: "workers",
+    value_name: "W",
+    least: 1,
+    most: MAX_WORKERS as u64,
+    default: "2",
+    help: WORKERS_HELP,
+};
+
+pub(crate) const SEED: NumberArg = NumberArg {
+    name: "seed",
+    value_name: "S",
+    least: 0,
+    most: u64::MAX,
+    default: "1",
+    help: SEED_HELP,
+};
+
+pub(crate) const STEPS: NumberArg = NumberArg {
+    name: "steps",
+    value_name: "T",
+    least: 0,
+    most: MAX_STEPS,
+    default: "1000",
+    help: STEPS_HELP,
+};
+
+pub(crate) const SLACK: NumberArg = NumberArg {
+    name: "slack",
+    value_name: "X",
+    least: 0,
+    most: u64::MAX,
+    default: "0",
+    help: SLACK_HELP,
+};
+
+impl NumberArg {
+    /// The option as clap has it.
+    pub(crate) fn arg<'a>(&self, alloc: Global) -> Arg<'a>
+        ensures rule { rule_of_arg result ≡ rule_of (form_of self.now) }
+        ensures local { result.global ≡ false }
+    {
+        Arg::new(alloc, self.name)
+            .long(self.name)
+            .value_name(self.value_name)
+            .value_parser(ValueParser::unsigned(self.least, self.most))
+            .default_value(self.default)
+            .help(self.help)
+    }
+
+    /// The number that was given, or that stands for it.
+    pub(crate) fn number(&self, values: &ArgMatches) -> u64
+        requires { HasNumber (rows_of (found_of values.now)) (form_of self.now) }
+        ensures number { number_in (form_of self.now).name (rows_of (found_of values.now)) ≡ Some result }
+        ensures least { self.now.least ≤ result }
+        ensures most { result ≤ self.now.most }
+    {
+        match values.get_one::<u64>(self.name) {
+            Some(number) => number,
+            // an option has a default, and a value out of its range is an error
+            None => unreachable!(),
+        }
+    }
+}
