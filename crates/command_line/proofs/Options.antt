@@ -1,6 +1,6 @@
 -- Lists of options as clap's arguments, and what the rows of an option are.
-use Rattle.std.proofs.Common.{◌≡◌, ◌||◌, cond, Bool, true, false, List, [], ◌∷◌, ◌++◌, Option, Some, None, refl, sym, subst, ap, true≢false, codes, map, append-nil, ◌∙◌, option_and_then}
-use Rattle.std.specs.Prelude.{find, fold, not, ◌&&◌}
+use Rattle.std.proofs.Common.{◌≡◌, ◌||◌, cond, Bool, true, false, List, [], ◌∷◌, ◌++◌, Option, Some, None, refl, sym, subst, ap, true≢false, map, append-nil, ◌∙◌, option_and_then}
+use Rattle.std.specs.Prelude.{find, fold, ◌&&◌}
 use Rattle.std.specs.Str.{bytes_eq}
 use Rattle.std.proofs.lemmas.Slice.Eq.{bytes_eq-Decides}
 use Rattle.clap.specs.ValueTests.{is_unsigned_in}

@@ -1,5 +1,5 @@
 use Rattle.std.proofs.Common.{rules, ◌≡◌, [], length, vec_len}
-use Rattle.fixture_board.specs.Record.{Book, book}
+use Rattle.fixture_board.specs.Record.{book}
 use Rattle.commands.specs.declared.fault.ProgramFault.TheVariants.{Write}
 use Rattle.commands.specs.Outcome.{Ends}
 use Rattle.commands.specs.Find.{AnswersFind}
