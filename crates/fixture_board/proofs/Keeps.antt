@@ -11,6 +11,7 @@ use Rattle.fixture_board.specs.declared.cost.Best.{Best}
 use Rattle.fixture_board.specs.declared.change.Change.{Change}
 use Rattle.fixture_board.specs.declared.change.Change.TheVariants.{Shift, Pin, Unpin, Undo}
 use Rattle.fixture_board.specs.declared.change.Entry.{Entry}
+use Rattle.fixture_board.specs.declared.ask.Ask.{Ask}
 use Rattle.fixture_board.specs.declared.ask.Ask.TheVariants as ask
 use Rattle.fixture_board.specs.declared.ask.Proposal.{Proposal}
 use Rattle.fixtures.specs.Start.{start_of}
@@ -18,11 +19,11 @@ use Rattle.fixture_board.specs.History.{effect, effective, shifted, games_after,
 use Rattle.fixture_board.specs.PinPlaces.{ArePinsAt, taken_back}
 use Rattle.fixture_board.specs.Kept.{IsLeader, Kept, IsKept, IsGranted, entered, CanTakeBack, leads, led_by}
 use Rattle.fixture_board.specs.Laws.{IsSound}
-use Rattle.fixture_board.specs.Replies.{refusal, entry}
+use Rattle.fixture_board.specs.Replies.{change_of, refusal, entry}
 use Rattle.fixture_board.proofs.OneMore.{effective-none, effective-more, games_of-none, pins_of-none, games_of-by, pins_of-by, games_after-more, pins_after-more, games_of-more, pins_of-more, effective-undo, IsLegal-none, IsLegal-more, best_prefix-none, best_prefix-more}
 use Rattle.fixture_board.proofs.Scores.{moved-teams, games_of-teams, score_below}
 use Rattle.fixture_board.proofs.Stand.{pinned_stands}
-use Rattle.fixture_board.proofs.Next.{CanMake, can_make, IsLegal-within}
+use Rattle.fixture_board.proofs.Next.{can_make, IsLegal-within}
 use Rattle.fixture_board.proofs.Sound.{IsSound-legal, IsLastMade, IsLastMade-legal}
 use Rattle.fixture_board.proofs.PinTable.{IsPair-in_range, ArePinsAt-games, ArePinsAt-pin, ArePinsAt-unpin, ArePinsAt-pin_back, ArePinsAt-unpin_back, ArePinsAt-none}
 use Rattle.moves.proofs.EachMove.{each-its_own_inverse, each-double_round_robin}
@@ -113,83 +114,90 @@ known_cost {league} kept = kept.cost_is ∙ ap (cost_of league) (sym kept.games_
 
 -- a granted change
 
-pub IsGranted-pin : {league : LeagueData} {k : Kept} (version : ℕ) (game : Game) → IsKept league k →
-    refusal league k.room k.history (ask.Pin version game) ≡ None →
-    IsGranted league k (record k { changes = k.changes ++ Pin game ∷ []; pins = slice_set k.pins (game.home * 40 + game.away) game.round })
-    (ask.Pin version game)
-IsGranted-pin {league} {k} version game kept granted =
-    let can : CanMake league k.room k.history (ask.Pin version game) = can_make league k.room k.history (ask.Pin version game) kept.within granted in
-    let sound = IsSound-kept kept in
-    let table : List ℕ = slice_set k.pins (game.home * 40 + game.away) game.round in
-    let range : is_in_range k.games game ≡ true = subst (λ x. is_in_range x game ≡ true) (sym kept.games_are) can.may.0 in
-    let there : is_there k.games game ≡ true = subst (λ x. is_there x game ≡ true) (sym kept.games_are) can.may.1 in
+IsGranted-by : {league : LeagueData} {k : Kept} (asked : Ask) (changes : List Change) (g : Games) (pins : List ℕ) (cost : Cost) →
+    IsKept league k → refusal league k.room k.history asked ≡ None → changes ≡ effect k.changes (change_of asked) →
+    ((caller : ℕ) → g ≡ games_of league (k.history ++ entry caller asked ∷ [])) → length pins ≡ 1600 →
+    ((caller : ℕ) → ArePinsAt g (pins_of (k.history ++ entry caller asked ∷ [])) pins) → cost ≡ cost_of league g →
+    IsGranted league k (record k { changes = changes; games = g; pins = pins; cost = cost }) asked
+IsGranted-by {league} {k} asked changes g pins cost kept granted changes_are games_are size pins_are cost_is =
+    let can = can_make league k.room k.history asked kept.within granted in
     record {
       no_reason = granted;
       same_room = refl;
       same_history = refl;
       under = can.under;
       kept = λ caller.
-          let e : Entry = entry caller (ask.Pin version game) in
-          IsKept-more e (k.changes ++ Pin game ∷ []) k.games table k.cost kept can.under can.may refl
-          (kept.games_are ∙ sym (games_of-more league k.history e refl))
-          (length-set k.pins (game.home * 40 + game.away) game.round ∙ kept.pins_length)
-          (subst (λ p. ArePinsAt k.games p table) (sym (pins_of-more k.history e refl))
-          (ArePinsAt-pin k.games (pins_of k.history) k.pins game sound.0.forty kept.pins_length range there kept.pins_are))
-          (known_cost kept);
+          IsKept-more (entry caller asked) changes g pins cost kept can.under can.may changes_are (games_are caller) size
+          (pins_are caller) cost_is;
     }
+
+-- a change of the pins alone
+IsGranted-pins : {league : LeagueData} {k : Kept} (asked : Ask) (table : List ℕ) → IsKept league k →
+    refusal league k.room k.history asked ≡ None →
+    ((changes : List Change) → effect changes (change_of asked) ≡ changes ++ change_of asked ∷ []) →
+    ((g : Games) → shifted g (change_of asked) ≡ g) → length table ≡ length k.pins →
+    ArePinsAt k.games (pinned (pins_of k.history) (change_of asked)) table →
+    IsGranted league k (record k { changes = k.changes ++ change_of asked ∷ []; pins = table }) asked
+IsGranted-pins {league} {k} asked table kept granted appended stays size are =
+    IsGranted-by asked (k.changes ++ change_of asked ∷ []) k.games table k.cost kept granted (sym (appended k.changes))
+    (λ caller.
+    kept.games_are ∙
+    sym (games_of-more league k.history (entry caller asked) (appended (effective k.history)) ∙ stays (games_of league k.history)))
+    (size ∙ kept.pins_length)
+    (λ caller.
+    subst (λ p. ArePinsAt k.games p table) (sym (pins_of-more k.history (entry caller asked) (appended (effective k.history)))) are)
+    (known_cost kept)
+
+pub IsGranted-pin : {league : LeagueData} {k : Kept} (version : ℕ) (game : Game) → IsKept league k →
+    refusal league k.room k.history (ask.Pin version game) ≡ None →
+    IsGranted league k (record k { changes = k.changes ++ Pin game ∷ []; pins = slice_set k.pins (game.home * 40 + game.away) game.round })
+    (ask.Pin version game)
+IsGranted-pin {league} {k} version game kept granted =
+    let fits : Fits (games_of league k.history) (pins_of k.history) (Pin game) =
+    (can_make league k.room k.history (ask.Pin version game) kept.within granted).may in
+    let range : is_in_range k.games game ≡ true = subst (λ x. is_in_range x game ≡ true) (sym kept.games_are) fits.0 in
+    let there : is_there k.games game ≡ true = subst (λ x. is_there x game ≡ true) (sym kept.games_are) fits.1 in
+    IsGranted-pins (ask.Pin version game) (slice_set k.pins (game.home * 40 + game.away) game.round) kept granted (λ changes. refl) (λ g. refl)
+    (length-set k.pins (game.home * 40 + game.away) game.round)
+    (ArePinsAt-pin k.games (pins_of k.history) k.pins game (IsSound-kept kept).0.forty kept.pins_length range there kept.pins_are)
 
 pub IsGranted-unpin : {league : LeagueData} {k : Kept} (version : ℕ) (game : Game) → IsKept league k →
     refusal league k.room k.history (ask.Unpin version game) ≡ None →
     IsGranted league k (record k { changes = k.changes ++ Unpin game ∷ []; pins = slice_set k.pins (game.home * 40 + game.away) 255 })
     (ask.Unpin version game)
 IsGranted-unpin {league} {k} version game kept granted =
-    let can : CanMake league k.room k.history (ask.Unpin version game) = can_make league k.room k.history (ask.Unpin version game) kept.within granted in
+    let fits : Fits (games_of league k.history) (pins_of k.history) (Unpin game) =
+    (can_make league k.room k.history (ask.Unpin version game) kept.within granted).may in
     let sound = IsSound-kept kept in
-    let table : List ℕ = slice_set k.pins (game.home * 40 + game.away) 255 in
-    let stands = pinned_stands k.games (pins_of k.history) game sound.1 can.may in
-    record {
-      no_reason = granted;
-      same_room = refl;
-      same_history = refl;
-      under = can.under;
-      kept = λ caller.
-          let e : Entry = entry caller (ask.Unpin version game) in
-          IsKept-more e (k.changes ++ Unpin game ∷ []) k.games table k.cost kept can.under can.may refl
-          (kept.games_are ∙ sym (games_of-more league k.history e refl))
-          (length-set k.pins (game.home * 40 + game.away) 255 ∙ kept.pins_length)
-          (subst (λ p. ArePinsAt k.games p table) (sym (pins_of-more k.history e refl))
-          (ArePinsAt-unpin k.games (pins_of k.history) k.pins game sound.0.forty kept.pins_length stands.0 stands.1 sound.1 kept.pins_are))
-          (known_cost kept);
-    }
+    let stands = pinned_stands k.games (pins_of k.history) game sound.1 fits in
+    IsGranted-pins (ask.Unpin version game) (slice_set k.pins (game.home * 40 + game.away) 255) kept granted (λ changes. refl) (λ g. refl)
+    (length-set k.pins (game.home * 40 + game.away) 255)
+    (ArePinsAt-unpin k.games (pins_of k.history) k.pins game sound.0.forty kept.pins_length stands.0 stands.1 sound.1 kept.pins_are)
 
 pub IsGranted-shift : {league : LeagueData} {k : Kept} (p : Proposal) (g : Games) (cost : Cost) → IsKept league k →
     refusal league k.room k.history (ask.Shift p) ≡ None → g ≡ moved k.games p.mv → cost ≡ cost_of league g →
     IsGranted league k (record k { changes = k.changes ++ Shift p.mv ∷ []; games = g; cost = cost }) (ask.Shift p)
 IsGranted-shift {league} {k} p g cost kept granted moved_is cost_is =
-    let can : CanMake league k.room k.history (ask.Shift p) = can_make league k.room k.history (ask.Shift p) kept.within granted in
-    let sound = IsSound-kept kept in
-    record {
-      no_reason = granted;
-      same_room = refl;
-      same_history = refl;
-      under = can.under;
-      kept = λ caller.
-          let e : Entry = entry caller (ask.Shift p) in
-          let h : List Entry = k.history ++ e ∷ [] in
-          let after : IsSound league h =
-          IsSound-legal each-double_round_robin league k.room h kept.league_is
-          (IsLegal-more league k.room k.history e kept.legal can.under can.may) in
-          let pins_are : pins_of h ≡ pins_of k.history = pins_of-more k.history e refl in
-          let games_are : g ≡ games_of league h =
-          moved_is ∙ ap (λ x. moved x p.mv) kept.games_are ∙ sym (games_of-more league k.history e refl) in
-          let stand : AllStand g (pins_of k.history) =
-          subst (λ x. AllStand x (pins_of k.history)) (sym games_are)
-          (subst (AllStand (games_of league h)) pins_are after.stand) in
-          IsKept-more e (k.changes ++ Shift p.mv ∷ []) g k.pins cost kept can.under can.may refl games_are kept.pins_length
-          (subst (λ q. ArePinsAt g q k.pins) (sym pins_are)
-          (ArePinsAt-games k.games g (pins_of k.history) k.pins (ap (λ (x : Games). x.teams) moved_is ∙ moved-teams k.games p.mv) sound.1 stand kept.pins_are))
-          cost_is;
-    }
+    let can = can_make league k.room k.history (ask.Shift p) kept.within granted in
+    let games_are : (caller : ℕ) → g ≡ games_of league (k.history ++ entry caller (ask.Shift p) ∷ []) =
+    λ caller.
+    moved_is ∙
+    ap (λ x. moved x p.mv) kept.games_are ∙
+    sym (games_of-more league k.history (entry caller (ask.Shift p)) refl) in
+    let pins_are : (caller : ℕ) → pins_of (k.history ++ entry caller (ask.Shift p) ∷ []) ≡ pins_of k.history =
+    λ caller. pins_of-more k.history (entry caller (ask.Shift p)) refl in
+    let after : IsSound league (k.history ++ entry 0 (ask.Shift p) ∷ []) =
+    IsSound-legal each-double_round_robin league k.room (k.history ++ entry 0 (ask.Shift p) ∷ []) kept.league_is
+    (IsLegal-more league k.room k.history (entry 0 (ask.Shift p)) kept.legal can.under can.may) in
+    let stand : AllStand g (pins_of k.history) =
+    subst (λ x. AllStand x (pins_of k.history)) (sym (games_are 0))
+    (subst (AllStand (games_of league (k.history ++ entry 0 (ask.Shift p) ∷ []))) (pins_are 0) after.stand) in
+    IsGranted-by (ask.Shift p) (k.changes ++ Shift p.mv ∷ []) g k.pins cost kept granted refl games_are kept.pins_length
+    (λ caller.
+    subst (λ q. ArePinsAt g q k.pins) (sym (pins_are caller))
+    (ArePinsAt-games k.games g (pins_of k.history) k.pins (ap (λ (x : Games). x.teams) moved_is ∙ moved-teams k.games p.mv)
+    (IsSound-kept kept).1 stand kept.pins_are))
+    cost_is
 
 -- the change that was the last in effect, taken back
 
@@ -265,37 +273,31 @@ pub IsGranted-undo : {league : LeagueData} {k : Kept} (version : ℕ) (front : L
       cost = cost_of league (shifted k.games change);
     }) (ask.Undo version)
 IsGranted-undo {league} {k} version front change kept granted are =
-    let can : CanMake league k.room k.history (ask.Undo version) = can_make league k.room k.history (ask.Undo version) kept.within granted in
-    let sound = IsSound-kept kept in
     let known = last_kept front change kept are in
     let before : Games = games_after (start_of league) front in
     let held : List Game = pins_after [] front in
     let back : shifted k.games change ≡ before =
     ap (λ x. shifted x change) known.games_are ∙ unshifted before held change known.last.robin known.last.fits in
     let stand : AllStand (shifted before change) (pinned held change) =
-    subst (λ x. AllStand x (pinned held change)) known.games_are (subst (AllStand k.games) known.pins_are sound.1) in
+    subst (λ x. AllStand x (pinned held change)) known.games_are
+    (subst (AllStand k.games) known.pins_are (IsSound-kept kept).1) in
     let table : ArePinsAt (shifted before change) (pinned held change) k.pins =
     subst (λ x. ArePinsAt x (pinned held change) k.pins) known.games_are
     (subst (λ q. ArePinsAt k.games q k.pins) known.pins_are kept.pins_are) in
     let written : ArePinsAt before held (taken_back k.pins change) =
     ArePinsAt-taken_back before held k.pins change known.last.robin known.last.stand known.last.fits stand kept.pins_length table in
-    record {
-      no_reason = granted;
-      same_room = refl;
-      same_history = refl;
-      under = can.under;
-      kept = λ caller.
-          let e : Entry = entry caller (ask.Undo version) in
-          let effective_is : effective (k.history ++ e ∷ []) ≡ front =
-          effective-undo k.history caller front change (sym kept.effective_is ∙ are) in
-          IsKept-more e front (shifted k.games change) (taken_back k.pins change) (cost_of league (shifted k.games change)) kept can.under can.may
-          (sym effective_is ∙ effective-more k.history e ∙ ap (λ c. effect c Undo) (sym kept.effective_is))
-          (back ∙ sym (games_of-by league (k.history ++ e ∷ []) front effective_is))
-          (taken_back-length k.pins change ∙ kept.pins_length)
-          (subst (λ q. ArePinsAt (shifted k.games change) q (taken_back k.pins change)) (sym (pins_of-by (k.history ++ e ∷ []) front effective_is))
-          (subst (λ x. ArePinsAt x held (taken_back k.pins change)) (sym back) written))
-          refl;
-    }
+    let effective_is : (caller : ℕ) → effective (k.history ++ entry caller (ask.Undo version) ∷ []) ≡ front =
+    λ caller. effective-undo k.history caller front change (sym kept.effective_is ∙ are) in
+    IsGranted-by (ask.Undo version) front (shifted k.games change) (taken_back k.pins change) (cost_of league (shifted k.games change))
+    kept granted
+    (sym (effective_is 0) ∙ effective-more k.history (entry 0 (ask.Undo version)) ∙ ap (λ c. effect c Undo) (sym kept.effective_is))
+    (λ caller. back ∙ sym (games_of-by league (k.history ++ entry caller (ask.Undo version) ∷ []) front (effective_is caller)))
+    (taken_back-length k.pins change ∙ kept.pins_length)
+    (λ caller.
+    subst (λ q. ArePinsAt (shifted k.games change) q (taken_back k.pins change))
+    (sym (pins_of-by (k.history ++ entry caller (ask.Undo version) ∷ []) front (effective_is caller)))
+    (subst (λ x. ArePinsAt x held (taken_back k.pins change)) (sym back) written))
+    refl
 
 -- a new board
 

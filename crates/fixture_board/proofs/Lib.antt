@@ -10,4 +10,3 @@ pub mod PinTable
 pub mod Keeps
 pub mod Reasons
 pub mod ForCallers
-mod Worked

@@ -13,7 +13,7 @@ use Rattle.fixture_board.specs.declared.ask.Ask.TheVariants as ask
 use Rattle.fixture_board.specs.declared.reply.Why.{Why}
 use Rattle.fixture_board.specs.declared.reply.Why.TheVariants as why
 use Rattle.fixture_board.specs.History.{effect, effective, games_of, pins_of, has_game, is_in_range, is_there, moves_pin, May, legal_after, IsLegal, cost_at, better, best_prefix, as_best, best_of}
-use Rattle.fixture_board.specs.Replies.{change_of, is_bad, is_meeting, is_wrong, first_of, refusal, entry, next_if, reply_if, next_of, reply_of, greatest}
+use Rattle.fixture_board.specs.Replies.{change_of, is_bad, is_meeting, first_of, version_rows, game_rows, move_rows, score_rows, refusal, entry, next_if, reply_if, next_of, reply_of, greatest}
 use Rattle.fixture_board.specs.Laws.{as_number, least_of, TellsOf}
 use Rattle.fixture_board.proofs.OneMore.{effective-more, games_of-by, IsLegal-more, best_prefix-more}
 use Rattle.fixture_board.proofs.Scores.{score_below, games_of-teams}
@@ -51,50 +51,28 @@ unfolding refusal
 can_make league room h (ask.Shift p) within none =
     let g : Games = games_of league h in
     let after : ℕ = score_of league (cost_of league (moved g p.mv)) in
-    let rows = passed (
-    (nat_lt (length h) p.version, why.Ahead) ∷
-    (length h == room, why.Full) ∷
-    (is_bad (fault_of g p.mv), why.BadMove) ∷
-    (is_meeting (fault_of g p.mv), why.Meet) ∷
-    (moves_pin (moved g p.mv) (pins_of h), why.Pinned) ∷
-    (length h == p.version && is_wrong p.claim after, why.WrongClaim) ∷
-    (nat_lt (score_of league (cost_of league g) + p.slack) after, why.Worse) ∷ []) none in
+    let rows = passed (move_rows (length h) room p.version g p.mv ++
+    (moves_pin (moved g p.mv) (pins_of h), why.Pinned) ∷ score_rows (length h) p (score_of league (cost_of league g)) after) none in
     record {
       under = has_room (length h) room within rows.1.0;
       may = (no_fault (fault_of g p.mv) rows.1.1.0 rows.1.1.1.0, rows.1.1.1.1.0);
     }
 can_make league room h (ask.Pin version game) within none =
     let g : Games = games_of league h in
-    let rows = passed (
-    (nat_lt (length h) version, why.Ahead) ∷
-    (nat_lt version (length h), why.Old) ∷
-    (length h == room, why.Full) ∷
-    (not (is_in_range g game), why.BadGame) ∷
-    (not (is_there g game), why.NotThere) ∷
-    (has_game (pins_of h) game, why.AlreadyPinned) ∷ []) none in
+    let rows = passed (game_rows (length h) room version g game ++ (has_game (pins_of h) game, why.AlreadyPinned) ∷ []) none in
     record {
       under = has_room (length h) room within rows.1.1.0;
       may = (not-false (is_in_range g game) rows.1.1.1.0, not-false (is_there g game) rows.1.1.1.1.0, rows.1.1.1.1.1.0);
     }
 can_make league room h (ask.Unpin version game) within none =
-    let g : Games = games_of league h in
-    let rows = passed (
-    (nat_lt (length h) version, why.Ahead) ∷
-    (nat_lt version (length h), why.Old) ∷
-    (length h == room, why.Full) ∷
-    (not (is_in_range g game), why.BadGame) ∷
-    (not (is_there g game), why.NotThere) ∷
-    (not (has_game (pins_of h) game), why.NotPinned) ∷ []) none in
+    let rows = passed (game_rows (length h) room version (games_of league h) game ++ (not (has_game (pins_of h) game), why.NotPinned) ∷ [])
+    none in
     record {
       under = has_room (length h) room within rows.1.1.0;
       may = not-false (has_game (pins_of h) game) rows.1.1.1.1.1.0;
     }
 can_make league room h (ask.Undo version) within none =
-    let rows = passed (
-    (nat_lt (length h) version, why.Ahead) ∷
-    (nat_lt version (length h), why.Old) ∷
-    (length h == room, why.Full) ∷
-    (length (effective h) == 0, why.NothingToUndo) ∷ []) none in
+    let rows = passed (version_rows (length h) room version ++ (length (effective h) == 0, why.NothingToUndo) ∷ []) none in
     record {
       under = has_room (length h) room within rows.1.1.0;
       may = omega (arith, eqb-false (length (effective h)) 0 rows.1.1.1.0);

@@ -1,5 +1,5 @@
 -- What a board keeps behind what it shows.
-use Rattle.std.specs.Prelude.{◌≡◌, ℕ, ◌+◌, ◌<◌, ◌≤◌, Bool, if◌then◌else◌, List, [], ◌∷◌, ◌++◌, length, Option, Some, None, ◌&&◌, ◌==◌, nat_lt, Ok}
+use Rattle.std.specs.Prelude.{◌≡◌, ℕ, ◌+◌, ◌<◌, ◌≤◌, Bool, if◌then◌else◌, List, [], ◌∷◌, ◌++◌, length, Option, Some, None, ◌&&◌, ◌==◌, nat_lt, Result, Ok, Err}
 use Rattle.std.specs.Vec.{vec_capacity}
 use Rattle.league.specs.League.{LeagueData, teams, IsLeague}
 use Rattle.fixtures.specs.Games.{Games}
@@ -96,9 +96,9 @@ pub record IsGranted (league : LeagueData) (old new : Kept) (asked : Ask) : Type
   pub under : length new.history < new.room
   pub kept : (caller : ℕ) → IsKept league (entered new (entry caller asked))
 
-abbrev pub IsStep : LeagueData → Kept → Kept → Ask → Option Why → Type 0
-IsStep league old new asked None = IsGranted league old new asked
-IsStep league old new asked (Some why) = IsRefused league old new asked why
+abbrev pub IsStep : LeagueData → Kept → Kept → Ask → Result (Unit {0}) Why → Type 0
+IsStep league old new asked (Ok done) = IsGranted league old new asked
+IsStep league old new asked (Err why) = IsRefused league old new asked why
 
 -- the change can be taken back from this schedule
 abbrev pub CanTakeBack : Games → Change → Type 0

@@ -4,6 +4,7 @@ use Rattle.fixtures.specs.declared.game.Game.{Game}
 use Rattle.fixtures.specs.Games.{Games}
 use Rattle.moves.specs.declared.fault.MoveFault.{MoveFault}
 use Rattle.moves.specs.declared.fault.MoveFault.TheVariants.{BadMove, Meet}
+use Rattle.moves.specs.declared.moves.Move.{Move}
 use Rattle.moves.specs.Moves.{moved, fault_of}
 use Rattle.league.specs.League.{LeagueData}
 use Rattle.fixture_board.specs.Costs.{cost_of, score_of}
@@ -12,6 +13,7 @@ use Rattle.fixture_board.specs.declared.change.Change.TheVariants.{Shift, Pin, U
 use Rattle.fixture_board.specs.declared.change.Entry.{Entry}
 use Rattle.fixture_board.specs.declared.ask.Ask.{Ask}
 use Rattle.fixture_board.specs.declared.ask.Ask.TheVariants as ask
+use Rattle.fixture_board.specs.declared.ask.Proposal.{Proposal}
 use Rattle.fixture_board.specs.declared.reply.Why.{Why}
 use Rattle.fixture_board.specs.declared.reply.Why.TheVariants as why
 use Rattle.fixture_board.specs.declared.reply.Reply.{Reply}
@@ -44,40 +46,42 @@ abbrev pub first_of : List (Bool × Why) → Option Why
 first_of [] = None
 first_of (row ∷ rows) = if row.0 then Some row.1 else first_of rows
 
+-- of what may only be asked for at the board's version `at`
+abbrev pub version_rows : ℕ → ℕ → ℕ → List (Bool × Why)
+version_rows at room version = (nat_lt at version, why.Ahead) ∷ (nat_lt version at, why.Old) ∷ (at == room, why.Full) ∷ []
+
+-- of a pin and an unpin, whatever is pinned
+abbrev pub game_rows : ℕ → ℕ → ℕ → Games → Game → List (Bool × Why)
+game_rows at room version g game =
+    version_rows at room version ++ (not (is_in_range g game), why.BadGame) ∷ (not (is_there g game), why.NotThere) ∷ []
+
+-- of a move, before it is tried
+abbrev pub move_rows : ℕ → ℕ → ℕ → Games → Move → List (Bool × Why)
+move_rows at room version g mv =
+    (nat_lt at version, why.Ahead) ∷
+    (at == room, why.Full) ∷
+    (is_bad (fault_of g mv), why.BadMove) ∷
+    (is_meeting (fault_of g mv), why.Meet) ∷ []
+
+-- of a proposal, by the scores before its move and after
+abbrev pub score_rows : ℕ → Proposal → ℕ → ℕ → List (Bool × Why)
+score_rows at p before after =
+    (at == p.version && is_wrong p.claim after, why.WrongClaim) ∷ (nat_lt (before + p.slack) after, why.Worse) ∷ []
+
 -- why a board with this schedule and these pins refuses, the first reason that applies. `at` is the version, and
 -- `count` the number of changes in effect
 abbrev pub refusal_at : LeagueData → ℕ → ℕ → ℕ → Games → List Game → Ask → Option Why
 refusal_at league room at count g pins (ask.Shift p) =
     first_of (
-    (nat_lt at p.version, why.Ahead) ∷
-    (at == room, why.Full) ∷
-    (is_bad (fault_of g p.mv), why.BadMove) ∷
-    (is_meeting (fault_of g p.mv), why.Meet) ∷
+    move_rows at room p.version g p.mv ++
     (moves_pin (moved g p.mv) pins, why.Pinned) ∷
-    (at == p.version && is_wrong p.claim (score_of league (cost_of league (moved g p.mv))), why.WrongClaim) ∷
-    (nat_lt (score_of league (cost_of league g) + p.slack) (score_of league (cost_of league (moved g p.mv))), why.Worse) ∷ [])
+    score_rows at p (score_of league (cost_of league g)) (score_of league (cost_of league (moved g p.mv))))
 refusal_at league room at count g pins (ask.Pin version game) =
-    first_of (
-    (nat_lt at version, why.Ahead) ∷
-    (nat_lt version at, why.Old) ∷
-    (at == room, why.Full) ∷
-    (not (is_in_range g game), why.BadGame) ∷
-    (not (is_there g game), why.NotThere) ∷
-    (has_game pins game, why.AlreadyPinned) ∷ [])
+    first_of (game_rows at room version g game ++ (has_game pins game, why.AlreadyPinned) ∷ [])
 refusal_at league room at count g pins (ask.Unpin version game) =
-    first_of (
-    (nat_lt at version, why.Ahead) ∷
-    (nat_lt version at, why.Old) ∷
-    (at == room, why.Full) ∷
-    (not (is_in_range g game), why.BadGame) ∷
-    (not (is_there g game), why.NotThere) ∷
-    (not (has_game pins game), why.NotPinned) ∷ [])
+    first_of (game_rows at room version g game ++ (not (has_game pins game), why.NotPinned) ∷ [])
 refusal_at league room at count g pins (ask.Undo version) =
-    first_of (
-    (nat_lt at version, why.Ahead) ∷
-    (nat_lt version at, why.Old) ∷
-    (at == room, why.Full) ∷
-    (count == 0, why.NothingToUndo) ∷ [])
+    first_of (version_rows at room version ++ (count == 0, why.NothingToUndo) ∷ [])
 
 unfoldable pub refusal : LeagueData → ℕ → List Entry → Ask → Option Why
 refusal league room h ask = refusal_at league room (length h) (length (effective h)) (games_of league h) (pins_of h) ask

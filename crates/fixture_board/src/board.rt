@@ -2,7 +2,7 @@
 
 ghost use Rattle.std.specs.Prelude.{◌≡◌, ◌<◌, ◌≤◌, ℕ, [], List, Some, None, length, nat_lt, slice_index_or, if◌then◌else◌, IfOk, IfErr, IfNone, IfSome};
 ghost use Rattle.fixtures.specs.Games.{IsPair};
-ghost use Rattle.league.specs.League.{teams};
+ghost use Rattle.league.specs.League.{teams, IsLeague};
 ghost use Rattle.fixture_board.specs.History.{games_of, pins_of, is_pinned, cost_at, best_of, best_prefix, AllStand, IsLegal};
 ghost use Rattle.fixture_board.specs.Record.{book};
 ghost use Rattle.fixture_board.specs.declared.change.Entry.{Entry};
@@ -118,6 +118,7 @@ impl Board {
     pub fn best(&self) -> Option<Best>
         ensures value { result ≡ best_of self.now.league self.now.history }
         ensures legal { IsLegal self.now.league self.now.room self.now.history }
+        ensures limits { IsLeague self.now.league }
     {
         self.state.best
     }
@@ -137,6 +138,7 @@ impl Board {
         ensures none { IfNone result (best_prefix self.now.league self.now.history ≡ None) }
         ensures some { IfSome result (λ s. (p : List Entry) × (best_prefix self.now.league self.now.history ≡ Some p) × (s.now ≡ games_of self.now.league p)) }
         ensures size { IfSome result (λ s. s.now.teams ≡ teams self.now.league) }
+        ensures legal { IsLegal self.now.league self.now.room self.now.history }
     {
         match self.state.best {
             Some(_) => Some(&self.state.best_schedule),

@@ -5,7 +5,7 @@ ghost use Rattle.league.specs.League.{teams, IsLeague};
 ghost use Rattle.fixture_board.specs.Costs.{cost_of, score_of, score_limit};
 
 use crate::cost::Cost;
-use crate::rule_costs::{hard_of_rules, soft_of_rules};
+use crate::rule_costs::costs_of_rules;
 use fixtures::Schedule;
 use league::League;
 use tours::{repeats, runs_over, travel};
@@ -21,7 +21,10 @@ pub fn cost_of(schedule: &Schedule, league: &League) -> Cost
     prove_eq!(league.teams(), schedule.teams());
     let travel = travel(schedule, league);
     let runs = runs_over(schedule, league);
-    let hard = runs + repeats(schedule) + hard_of_rules(schedule, league);
-    let soft = soft_of_rules(schedule, league);
-    Cost { travel, hard, soft }
+    let rules = costs_of_rules(schedule, league);
+    Cost {
+        travel,
+        hard: runs + repeats(schedule) + rules.hard,
+        soft: rules.soft,
+    }
 }

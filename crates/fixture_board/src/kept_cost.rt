@@ -8,7 +8,7 @@ ghost use Rattle.fixture_board.specs.Costs.{cost_of, score_of, score_limit};
 ghost use Rattle.fixture_board.specs.CostShares.{travel_share, repeats_share, cost_share, CostsBalance, IsSmall};
 
 use crate::cost::Cost;
-use crate::rule_costs::{hard_of_seen_rules, soft_of_seen_rules};
+use crate::rule_costs::costs_of_seen_rules;
 use fixtures::{Schedule, Touched};
 use league::{League, TeamSet};
 use moves::{Move, make, side_teams};
@@ -66,11 +66,11 @@ fn share(schedule: &Schedule, league: &League, mv: Move, main: Touched, sides: T
         rounds: main.rounds,
     };
     let runs = runs_part(schedule, league, of_sides);
-    let hard = hard_of_seen_rules(schedule, league, main.teams);
+    let rules = costs_of_seen_rules(schedule, league, main.teams);
     Cost {
         travel: travel_share(schedule, league, mv, main),
-        hard: runs + repeats_share(schedule, mv, main) + hard,
-        soft: soft_of_seen_rules(schedule, league, main.teams),
+        hard: runs + repeats_share(schedule, mv, main) + rules.hard,
+        soft: rules.soft,
     }
 }
 

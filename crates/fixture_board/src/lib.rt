@@ -13,7 +13,6 @@ mod counting;
 mod kept_cost;
 mod laws;
 mod pins;
-mod refusals;
 mod reply;
 mod rule_costs;
 mod state;

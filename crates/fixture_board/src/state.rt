@@ -1,5 +1,6 @@
 //! What a board keeps beside its league.
 
+mod checks;
 mod steps;
 
 use crate::best::keep_best;

@@ -58,7 +58,7 @@ impl Board {
         ensures legal { IsLegal self.old.league self.old.room self.old.history }
     {
         let at = self.state.version();
-        if let Some(why) = self.state.step(&self.league, ask) {
+        if let Err(why) = self.state.step(&self.league, ask) {
             return Reply::No { at, why };
         }
         let change = ask.change();

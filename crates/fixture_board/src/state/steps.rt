@@ -3,7 +3,6 @@
 use crate::ask::{Ask, Proposal};
 use crate::change::Change;
 use crate::kept_cost::make_at_cost;
-use crate::refusals::{move_refusal, pin_refusal, score_refusal, unpin_refusal, version_refusal};
 use crate::reply::Why;
 use crate::state::State;
 use fixtures::Game;
@@ -19,7 +18,7 @@ impl State {
     ghost use Rattle.fixture_board.specs.Kept.{kept_of, HasMemory, IsKept, IsStep, CanTakeBack};
 
     /// Judges what is asked, and makes it where no reason speaks against it.
-    pub(crate) fn step(&mut self, league: &League, ask: Ask) -> Option<Why>
+    pub(crate) fn step(&mut self, league: &League, ask: Ask) -> Result<(), Why>
         requires memory { HasMemory self.old }
         requires kept { IsKept league.now (kept_of self.old) }
         ensures memory { HasMemory self.new }
@@ -34,36 +33,31 @@ impl State {
     }
 
     /// Tries a move. One that would give a pinned game another round is refused before its cost is counted.
-    fn shift(&mut self, league: &League, proposal: Proposal) -> Option<Why>
+    fn shift(&mut self, league: &League, proposal: Proposal) -> Result<(), Why>
         requires memory { HasMemory self.old }
         requires kept { IsKept league.now (kept_of self.old) }
         ensures memory { HasMemory self.new }
         ensures step { IsStep league.now (kept_of self.old) (kept_of self.new) (Ask.Shift proposal) result }
     {
-        let at = self.version();
         let mv = proposal.mv;
-        let refusal = move_refusal(&self.schedule, at, self.room, proposal.version, mv);
-        if let Some(why) = refusal {
-            return Some(why);
-        }
+        self.check_move(proposal.version, mv)?;
         let main = main_cells(&self.schedule, mv);
         if self.pins.would_be_moved(&mut self.schedule, mv, main) {
-            return Some(Why::Pinned);
+            return Err(Why::Pinned);
         }
         let before = self.cost.score(league);
         let cost = make_at_cost(&mut self.schedule, league, mv, main, self.cost);
-        let worse = score_refusal(at, proposal, before, cost.score(league));
-        if let Some(why) = worse {
+        if let Err(why) = self.check_score(proposal, before, cost.score(league)) {
             make(&mut self.schedule, mv, main);
-            return Some(why);
+            return Err(why);
         }
         self.cost = cost;
         self.changes.push_reserved(Change::Shift(mv));
-        None
+        Ok(())
     }
 
     /// Pins a game to its round.
-    fn pin(&mut self, version: u64, game: Game) -> Option<Why>
+    fn pin(&mut self, version: u64, game: Game) -> Result<(), Why>
         requires memory { HasMemory self.old }
         requires within { length self.old.history.items ≤ self.old.room }
         requires no_more { length self.old.changes.items ≤ length self.old.history.items }
@@ -71,18 +65,16 @@ impl State {
         ensures step { (league : LeagueData) → IsKept league (kept_of self.old) →
             IsStep league (kept_of self.old) (kept_of self.new) (Ask.Pin version game) result }
     {
-        let at = self.version();
-        let refusal = pin_refusal(&self.schedule, &self.pins, at, self.room, version, game);
-        if let Some(why) = refusal {
-            return Some(why);
+        if self.check_game(version, game)? {
+            return Err(Why::AlreadyPinned);
         }
         self.pins.pin(game);
         self.changes.push_reserved(Change::Pin(game));
-        None
+        Ok(())
     }
 
     /// Lets a pinned game get another round again.
-    fn unpin(&mut self, version: u64, game: Game) -> Option<Why>
+    fn unpin(&mut self, version: u64, game: Game) -> Result<(), Why>
         requires memory { HasMemory self.old }
         requires within { length self.old.history.items ≤ self.old.room }
         requires no_more { length self.old.changes.items ≤ length self.old.history.items }
@@ -90,32 +82,27 @@ impl State {
         ensures step { (league : LeagueData) → IsKept league (kept_of self.old) →
             IsStep league (kept_of self.old) (kept_of self.new) (Ask.Unpin version game) result }
     {
-        let at = self.version();
-        let refusal = unpin_refusal(&self.schedule, &self.pins, at, self.room, version, game);
-        if let Some(why) = refusal {
-            return Some(why);
+        if !self.check_game(version, game)? {
+            return Err(Why::NotPinned);
         }
         self.pins.unpin(game);
         self.changes.push_reserved(Change::Unpin(game));
-        None
+        Ok(())
     }
 
     /// Drops the last change in effect.
-    fn undo(&mut self, league: &League, version: u64) -> Option<Why>
+    fn undo(&mut self, league: &League, version: u64) -> Result<(), Why>
         requires memory { HasMemory self.old }
         requires kept { IsKept league.now (kept_of self.old) }
         ensures memory { HasMemory self.new }
         ensures step { IsStep league.now (kept_of self.old) (kept_of self.new) (Ask.Undo version) result }
     {
-        let refusal = version_refusal(self.version(), self.room, version);
-        if let Some(why) = refusal {
-            return Some(why);
-        }
+        self.check_version(version)?;
         let Some(last) = self.changes.pop() else {
-            return Some(Why::NothingToUndo);
+            return Err(Why::NothingToUndo);
         };
         self.take_back(league, last);
-        None
+        Ok(())
     }
 
     /// Takes a change back that was the last in effect.

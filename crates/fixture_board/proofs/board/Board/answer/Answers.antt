@@ -5,13 +5,13 @@ use Rattle.fixture_board.specs.Record.{book}
 use Rattle.fixture_board.proofs.Reasons.{refused_call, granted_call}
 use Rattle.fixture_board.proofs.board.Board.answer.Goals as goal
 
-pub returns-in-Some-clause-reply : goal.returns-in-Some-clause-reply
-returns-in-Some-clause-reply c =
-    ap (λ (n : ℕ). No n c.in-Some.why) c.version-at.ensures ∙
-    (refused_call _ _ _ _ c.args.caller c.args.ask _ c.in-Some.ensures.step c.self.view_is).0
+pub returns-in-Err-clause-reply : goal.returns-in-Err-clause-reply
+returns-in-Err-clause-reply c =
+    ap (λ (n : ℕ). No n c.in-Err.why) c.version-at.ensures ∙
+    (refused_call _ _ _ _ c.args.caller c.args.ask _ c.in-Err.ensures.step c.self.view_is).0
 
-pub returns-in-Some-clause-history : goal.returns-in-Some-clause-history
-returns-in-Some-clause-history c = (refused_call _ _ _ _ c.args.caller c.args.ask _ c.in-Some.ensures.step c.self.view_is).1
+pub returns-in-Err-clause-history : goal.returns-in-Err-clause-history
+returns-in-Err-clause-history c = (refused_call _ _ _ _ c.args.caller c.args.ask _ c.in-Err.ensures.step c.self.view_is).1
 
 pub enter-requires-clause-total : goal.enter-requires-clause-total
 enter-requires-clause-total c =
