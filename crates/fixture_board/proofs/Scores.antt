@@ -3,12 +3,13 @@ use Rattle.std.proofs.Common.{◌≡◌, ℕ, ◌+◌, ◌-◌, ◌*◌, ◌^◌
 use Rattle.std.proofs.lemmas.List.Elements.{All-from_recursion, All-get_or}
 use Rattle.std.proofs.lemmas.Option.{slice_get_within, get_or_from_slice_get}
 use Rattle.std.proofs.Math.Nat.{mul-le-mul}
+use Rattle.league.specs.Limits.{deviation_limit, max_rules, max_weight}
 use Rattle.league.specs.League.{LeagueData, teams, IsLeague}
 use Rattle.league.specs.RuleLimits.{IsRuleFor, IsWeight}
 use Rattle.league.specs.declared.rule.Rule.{Rule}
 use Rattle.league.specs.declared.rule.Weight.{Weight}
 use Rattle.league.specs.declared.rule.Weight.TheVariants.{Hard, Soft}
-use Rattle.league.proofs.Sums.{sum_below_le, sum_of_pairs_le, count_where_le}
+use Rattle.league.proofs.ForCallers.{sum_below_le, sum_of_pairs_le, count_where_le}
 use Rattle.fixtures.specs.Games.{Games, round_count, meets}
 use Rattle.moves.specs.declared.moves.Move.{Move}
 use Rattle.moves.specs.declared.moves.Move.TheVariants.{Homes, Rounds, Teams, PartRounds, PartTeams}
@@ -98,8 +99,8 @@ hard_share_le : (weight : Weight) (deviation : ℕ) → hard_share weight deviat
 hard_share_le Hard deviation = omega arith
 hard_share_le (Soft weight) deviation = omega arith
 
-soft_share_le : (weight : Weight) (deviation : ℕ) → IsWeight weight → deviation ≤ 16000000 →
-    soft_share weight deviation ≤ 16000000000000
+soft_share_le : (weight : Weight) (deviation : ℕ) → IsWeight weight → deviation ≤ deviation_limit →
+    soft_share weight deviation ≤ max_weight * deviation_limit
 soft_share_le Hard deviation is few = omega arith
 soft_share_le (Soft weight) deviation is few = omega (arith, mul-le-mul is.1 few)
 
@@ -116,7 +117,7 @@ share_le l g share most is each i (Some rule) at =
 
 sum_over_rules_le : (l : LeagueData) (g : Games) (share : Weight → ℕ → ℕ) (most : ℕ) → IsLeague l →
     ((rule : Rule) → IsRuleFor (teams l) rule → share rule.weight (deviation g rule.body) ≤ most) →
-    sum_over_rules share l.rules g ≤ 256 * most
+    sum_over_rules share l.rules g ≤ max_rules * most
 unfolding sum_over_rules
 sum_over_rules_le l g share most is each =
     omega (
@@ -127,29 +128,29 @@ sum_over_rules_le l g share most is each =
     )
 
 deviation_of : (l : LeagueData) (g : Games) (rule : Rule) → g.teams ≡ teams l → g.teams ≤ 40 → IsRuleFor (teams l) rule →
-    deviation g rule.body ≤ 16000000
+    deviation g rule.body ≤ deviation_limit
 deviation_of l g rule same forty is =
     let own : IsRuleFor g.teams rule = subst (λ n. IsRuleFor n rule) (sym same) is in
     omega (arith, deviation_below g rule.body forty own.body)
 
 -- hard limits count by the league's weight
-hard_le : (l : LeagueData) (g : Games) → IsLeague l → g.teams ≡ teams l → g.teams ≤ 40 → (cost_of l g).hard ≤ 4096126360
+hard_le : (l : LeagueData) (g : Games) → IsLeague l → g.teams ≡ teams l → g.teams ≤ 40 → (cost_of l g).hard ≤ max_rules * deviation_limit + 126360
 unfolding cost_of
 hard_le l g is same forty =
     omega (
       arith,
       runs_over_le g l.at_most forty,
       repeats_le g forty,
-      sum_over_rules_le l g hard_share 16000000 is
+      sum_over_rules_le l g hard_share deviation_limit is
           (λ rule for. omega (arith, hard_share_le rule.weight (deviation g rule.body), deviation_of l g rule same forty for)),
     )
 
-soft_le : (l : LeagueData) (g : Games) → IsLeague l → g.teams ≡ teams l → g.teams ≤ 40 → (cost_of l g).soft ≤ 4096000000000000
+soft_le : (l : LeagueData) (g : Games) → IsLeague l → g.teams ≡ teams l → g.teams ≤ 40 → (cost_of l g).soft ≤ max_rules * (max_weight * deviation_limit)
 unfolding cost_of
 soft_le l g is same forty =
     omega (
       arith,
-      sum_over_rules_le l g soft_share 16000000000000 is
+      sum_over_rules_le l g soft_share (max_weight * deviation_limit) is
           (λ rule for. soft_share_le rule.weight (deviation g rule.body) for.weight (deviation_of l g rule same forty for)),
     )
 

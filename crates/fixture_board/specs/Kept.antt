@@ -1,6 +1,7 @@
 -- What a board keeps behind what it shows.
 use Rattle.std.specs.Prelude.{◌≡◌, ℕ, ◌+◌, ◌<◌, ◌≤◌, Bool, if◌then◌else◌, List, [], ◌∷◌, ◌++◌, length, Option, Some, None, ◌&&◌, ◌==◌, nat_lt, Result, Ok, Err}
 use Rattle.std.specs.Vec.{vec_capacity}
+use Rattle.league.specs.Limits.{max_teams}
 use Rattle.league.specs.League.{LeagueData, teams, IsLeague}
 use Rattle.fixtures.specs.Games.{Games}
 use Rattle.moves.specs.Moves.{fault_of}
@@ -14,7 +15,7 @@ use Rattle.fixture_board.specs.declared.reply.Why.{Why}
 use Rattle.fixture_board.specs.declared.state.State.{State}
 use Rattle.fixture_board.specs.Costs.{score_of, score_limit, total_of}
 use Rattle.fixture_board.specs.History.{effective, games_of, pins_of, cost_at, best_prefix, best_at, max_room, IsLegal}
-use Rattle.fixture_board.specs.PinPlaces.{ArePinsAt}
+use Rattle.fixture_board.specs.PinPlaces.{ArePinsAt, pin_places}
 use Rattle.fixture_board.specs.Replies.{refusal, entry}
 
 -- the kept best, and the schedule beside it, are those of the best prefix
@@ -69,7 +70,7 @@ pub record IsKept (league : LeagueData) (k : Kept) : Type 0 where
   pub no_more : length k.changes ≤ length k.history
   pub games_are : k.games ≡ games_of league k.history
   pub same_size : k.games.teams ≡ teams league
-  pub pins_length : length k.pins ≡ 1600
+  pub pins_length : length k.pins ≡ pin_places
   pub pins_are : ArePinsAt k.games (pins_of k.history) k.pins
   pub cost_is : k.cost ≡ cost_at league k.history
   pub small : score_of league k.cost < score_limit
@@ -103,6 +104,6 @@ IsStep league old new asked (Err why) = IsRefused league old new asked why
 -- the change can be taken back from this schedule
 abbrev pub CanTakeBack : Games → Change → Type 0
 CanTakeBack g (Shift mv) = fault_of g mv ≡ Ok tt
-CanTakeBack g (Pin game) = (game.home < 40) × (game.away < 40)
-CanTakeBack g (Unpin game) = (game.home < 40) × (game.away < 40)
+CanTakeBack g (Pin game) = (game.home < max_teams) × (game.away < max_teams)
+CanTakeBack g (Unpin game) = (game.home < max_teams) × (game.away < max_teams)
 CanTakeBack g Undo = Unit {0}

@@ -117,12 +117,16 @@ replies league room asks = replies_from league room [] asks
 abbrev pub greatest : ℕ
 greatest = 2 ^ 64 - 1
 
--- a line of a script as a call at the version: no claim, and the greatest slack
+-- a change as a call at the version, where a move has no claim and this slack
+abbrev pub ask_with : ℕ → ℕ → Change → Ask
+ask_with version slack (Shift mv) = ask.Shift (record { version = version; mv = mv; claim = None; slack = slack })
+ask_with version slack (Pin game) = ask.Pin version game
+ask_with version slack (Unpin game) = ask.Unpin version game
+ask_with version slack Undo = ask.Undo version
+
+-- a line of a script as a call at the version, with the greatest slack
 abbrev pub ask_of : ℕ → Change → Ask
-ask_of version (Shift mv) = ask.Shift (record { version = version; mv = mv; claim = None; slack = greatest })
-ask_of version (Pin game) = ask.Pin version game
-ask_of version (Unpin game) = ask.Unpin version game
-ask_of version Undo = ask.Undo version
+ask_of version line = ask_with version greatest line
 
 -- the history that a script leads to, and its answers
 abbrev pub played_from : LeagueData → ℕ → List Entry → List Change → List Entry

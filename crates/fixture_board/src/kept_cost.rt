@@ -1,7 +1,8 @@
 //! The cost of a schedule, kept over a move: what the move can change is counted before it and after it.
 
-ghost use Rattle.std.specs.Prelude.{◌≡◌, ◌*◌, ◌<◌, ◌≤◌};
+ghost use Rattle.std.specs.Prelude.{◌≡◌, ◌+◌, ◌*◌, ◌<◌, ◌≤◌};
 ghost use Rattle.league.specs.League.{teams};
+ghost use Rattle.league.specs.Limits.{max_distance, max_rounds, max_teams};
 ghost use Rattle.moves.specs.Moves.{moved};
 ghost use Rattle.moves.specs.MainCells.{AreMainCells};
 ghost use Rattle.fixture_board.specs.Costs.{cost_of, score_of, score_limit};
@@ -78,7 +79,7 @@ fn share(schedule: &Schedule, league: &League, mv: Move, main: Touched, sides: T
 fn travel_share(schedule: &Schedule, league: &League, mv: Move, main: Touched) -> u64
     requires same_size { teams league.now ≡ schedule.now.teams }
     ensures value { result ≡ travel_share league.now mv main schedule.now }
-    ensures most { result ≤ 10000000000 }
+    ensures most { result ≤ max_teams * ((max_rounds + 1) * max_distance) }
 {
     match mv {
         Move::Teams { .. } | Move::PartTeams { .. } => travel_around(schedule, league, main),
@@ -91,7 +92,7 @@ fn travel_share(schedule: &Schedule, league: &League, mv: Move, main: Touched) -
 /// What the meetings that the move can change add to the repeats.
 fn repeats_share(schedule: &Schedule, mv: Move, main: Touched) -> u64
     ensures value { result ≡ repeats_share mv main schedule.now }
-    ensures most { result ≤ 78 * 40 }
+    ensures most { result ≤ max_rounds * max_teams }
 {
     match mv {
         Move::Homes { .. } | Move::Teams { .. } => 0,

@@ -1,14 +1,16 @@
 //! Which games are pinned to their rounds.
 
 ghost use Rattle.std.specs.Prelude.{◌≡◌, ◌≢◌, ℕ, ◌+◌, ◌*◌, ◌<◌, ◌&&◌, ◌==◌, not, true, false, if◌then◌else◌, List, replicate, slice_set, IfOk};
+ghost use Rattle.league.specs.Limits.{max_teams};
 ghost use Rattle.fixtures.specs.Games.{round_of, IsPair};
 ghost use Rattle.fixtures.specs.declared.game.Game.{Game};
 ghost use Rattle.moves.specs.Moves.{moved};
 ghost use Rattle.moves.specs.MainCells.{AreMainCells};
 ghost use Rattle.fixture_board.specs.History.{moves_pin, AllStand};
-ghost use Rattle.fixture_board.specs.PinPlaces.{pin_at, ArePinsAt};
+ghost use Rattle.fixture_board.specs.PinPlaces.{free, pin_at, pin_place, pin_places, ArePinsAt};
 
 use fixtures::{Game, Schedule, Touched};
+use league::limits::MAX_TEAMS;
 use moves::{Move, make};
 use std::alloc::{AllocError, Global};
 use std::marker::Model;
@@ -16,10 +18,9 @@ use std::marker::Model;
 /// What the table has of a game that isn't pinned.
 const FREE: u8 = 255;
 
-const TEAM_PLACES: usize = 40;
+const TEAM_PLACES: usize = MAX_TEAMS as usize;
 
-/// The round in which the game of a pair is pinned, or `FREE`, for each of 40 teams as the team at home and the team
-/// away.
+/// The round in which the game of a pair is pinned, or `FREE`, for each of `MAX_TEAMS` teams at home and away.
 #[derive(Drop)]
 pub(crate) struct Pins {
     rounds: Vec<u8>,
@@ -29,18 +30,19 @@ pub(crate) struct Pins {
 
 impl Model for Pins {
     ghost use Rattle.std.specs.Prelude.{◌≡◌, ◌==◌, ℕ, List, length, count_by, not};
+    ghost use Rattle.fixture_board.specs.PinPlaces.{free, pin_places};
 
     ghost Value = { List ℕ };
 
     ghost view = { λ p. p.rounds.items };
 
-    ghost invariant = { λ p. (length p.rounds.items ≡ 1600) × (p.count ≡ count_by (λ round. not (round == 255)) p.rounds.items) };
+    ghost invariant = { λ p. (length p.rounds.items ≡ pin_places) × (p.count ≡ count_by (λ round. not (round == free)) p.rounds.items) };
 }
 
 impl Pins {
     /// No game is pinned.
     pub(crate) fn none(alloc: Global) -> Result<Pins, AllocError>
-        ensures { IfOk result (λ p. p ≡ replicate 1600 255) }
+        ensures { IfOk result (λ p. p ≡ replicate pin_places free) }
     {
         Ok(Pins {
             rounds: vec![in alloc; FREE; TEAM_PLACES * TEAM_PLACES]?,
@@ -50,33 +52,33 @@ impl Pins {
 
     /// Whether the game of the pair is pinned.
     pub(crate) fn has(&self, home: u8, away: u8) -> bool
-        requires home { home < 40 }
-        requires away { away < 40 }
-        ensures { result ≡ not (pin_at self.now home away == 255) }
+        requires home { home < max_teams }
+        requires away { away < max_teams }
+        ensures { result ≡ not (pin_at self.now home away == free) }
     {
         self.rounds[place(home, away)] != FREE
     }
 
     /// Pins the game to its round.
     pub(crate) fn pin(&mut self, game: Game)
-        requires home { game.home < 40 }
-        requires away { game.away < 40 }
-        ensures { self.new ≡ slice_set self.old (game.home * 40 + game.away) game.round }
+        requires home { game.home < max_teams }
+        requires away { game.away < max_teams }
+        ensures { self.new ≡ slice_set self.old (pin_place game.home game.away) game.round }
     {
         self.write(place(game.home, game.away), game.round);
     }
 
     /// Lets the game get another round again.
     pub(crate) fn unpin(&mut self, game: Game)
-        requires home { game.home < 40 }
-        requires away { game.away < 40 }
-        ensures { self.new ≡ slice_set self.old (game.home * 40 + game.away) 255 }
+        requires home { game.home < max_teams }
+        requires away { game.away < max_teams }
+        ensures { self.new ≡ slice_set self.old (pin_place game.home game.away) free }
     {
         self.write(place(game.home, game.away), FREE);
     }
 
     fn write(&mut self, place: usize, round: u8)
-        requires { place < 1600 }
+        requires { place < pin_places }
         ensures { self.new ≡ slice_set self.old place round }
     {
         self.count = self.count + pinned(round) - pinned(self.rounds[place]);
@@ -101,8 +103,8 @@ impl Pins {
 
     /// Whether a pinned game has another round in the schedule.
     fn are_moved_in(&self, schedule: &Schedule) -> bool
-        ensures none { result ≡ false → (h a : ℕ) → IsPair schedule.now.teams h a → pin_at self.now h a ≢ 255 → round_of schedule.now h a ≡ pin_at self.now h a }
-        ensures some { result ≡ true → (h : ℕ) × (a : ℕ) × IsPair schedule.now.teams h a × (pin_at self.now h a ≢ 255) × (round_of schedule.now h a ≢ pin_at self.now h a) }
+        ensures none { result ≡ false → (h a : ℕ) → IsPair schedule.now.teams h a → pin_at self.now h a ≢ free → round_of schedule.now h a ≡ pin_at self.now h a }
+        ensures some { result ≡ true → (h : ℕ) × (a : ℕ) × IsPair schedule.now.teams h a × (pin_at self.now h a ≢ free) × (round_of schedule.now h a ≢ pin_at self.now h a) }
     {
         for home in 0..schedule.teams() {
             if self.are_moved_of(schedule, home) {
@@ -115,8 +117,8 @@ impl Pins {
     /// Whether a pinned home game of the team has another round in the schedule.
     fn are_moved_of(&self, schedule: &Schedule, home: u8) -> bool
         requires { home < schedule.now.teams }
-        ensures none { result ≡ false → (a : ℕ) → IsPair schedule.now.teams home a → pin_at self.now home a ≢ 255 → round_of schedule.now home a ≡ pin_at self.now home a }
-        ensures some { result ≡ true → (a : ℕ) × IsPair schedule.now.teams home a × (pin_at self.now home a ≢ 255) × (round_of schedule.now home a ≢ pin_at self.now home a) }
+        ensures none { result ≡ false → (a : ℕ) → IsPair schedule.now.teams home a → pin_at self.now home a ≢ free → round_of schedule.now home a ≡ pin_at self.now home a }
+        ensures some { result ≡ true → (a : ℕ) × IsPair schedule.now.teams home a × (pin_at self.now home a ≢ free) × (round_of schedule.now home a ≢ pin_at self.now home a) }
     {
         for away in 0..schedule.teams() {
             if home != away && self.is_moved(schedule, home, away) {
@@ -129,7 +131,7 @@ impl Pins {
     /// Whether the game of the pair is pinned to another round than it has in the schedule.
     fn is_moved(&self, schedule: &Schedule, home: u8, away: u8) -> bool
         requires { IsPair schedule.now.teams home away }
-        ensures { result ≡ (not (pin_at self.now home away == 255) && not (pin_at self.now home away == round_of schedule.now home away)) }
+        ensures { result ≡ (not (pin_at self.now home away == free) && not (pin_at self.now home away == round_of schedule.now home away)) }
     {
         let round = schedule.round_of(home, away);
         let pinned = self.rounds[place(home, away)];
@@ -139,14 +141,14 @@ impl Pins {
 
 /// The place of a pair in the table.
 fn place(home: u8, away: u8) -> usize
-    ensures { result ≡ home * 40 + away }
+    ensures { result ≡ pin_place home away }
 {
     usize::from(home) * TEAM_PLACES + usize::from(away)
 }
 
 /// 1 for a pinned game's round, and 0 for none.
 fn pinned(round: u8) -> u16
-    ensures { result ≡ (if not (round == 255) then 1 else 0) }
+    ensures { result ≡ (if not (round == free) then 1 else 0) }
 {
     if round == FREE { 0 } else { 1 }
 }

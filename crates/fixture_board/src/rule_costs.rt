@@ -2,6 +2,7 @@
 
 ghost use Rattle.std.specs.Prelude.{◌≡◌, ◌*◌, ◌≤◌};
 ghost use Rattle.league.specs.League.{teams};
+ghost use Rattle.league.specs.Limits.{deviation_limit, max_rules, max_weight};
 ghost use Rattle.league.specs.RuleLimits.{IsRuleFor, IsWeight};
 ghost use Rattle.robinx.specs.Deviations.{deviation};
 ghost use Rattle.fixture_board.specs.Costs.{hard_share, soft_share, sum_over_rules};
@@ -24,11 +25,11 @@ impl RuleCosts {
     /// What a rule of this weight adds.
     fn of_rule(weight: Weight, deviation: u64) -> RuleCosts
         requires weight { IsWeight weight }
-        requires deviation { deviation ≤ 10000000 }
+        requires deviation { deviation ≤ deviation_limit }
         ensures hard { result.hard ≡ hard_share weight deviation }
         ensures soft { result.soft ≡ soft_share weight deviation }
-        ensures hard_most { result.hard ≤ 10000000 }
-        ensures soft_most { result.soft ≤ 1000000 * 10000000 }
+        ensures hard_most { result.hard ≤ deviation_limit }
+        ensures soft_most { result.soft ≤ max_weight * deviation_limit }
     {
         match weight {
             Weight::Hard => RuleCosts {
@@ -49,8 +50,8 @@ pub(crate) fn costs_of_rules(schedule: &Schedule, league: &League) -> RuleCosts
     requires { teams league.now ≡ schedule.now.teams }
     ensures hard { result.hard ≡ sum_over_rules hard_share league.now.rules schedule.now }
     ensures soft { result.soft ≡ sum_over_rules soft_share league.now.rules schedule.now }
-    ensures hard_most { result.hard ≤ 256 * 10000000 }
-    ensures soft_most { result.soft ≤ 256 * (1000000 * 10000000) }
+    ensures hard_most { result.hard ≤ max_rules * deviation_limit }
+    ensures soft_most { result.soft ≤ max_rules * (max_weight * deviation_limit) }
 {
     let mut costs = RuleCosts { hard: 0, soft: 0 };
     for i in 0..league.rule_count() {
@@ -68,8 +69,8 @@ pub(crate) fn costs_of_seen_rules(schedule: &Schedule, league: &League, main: Te
     requires { teams league.now ≡ schedule.now.teams }
     ensures hard { result.hard ≡ sum_over_seen_rules hard_share league.now.rules main schedule.now }
     ensures soft { result.soft ≡ sum_over_seen_rules soft_share league.now.rules main schedule.now }
-    ensures hard_most { result.hard ≤ 256 * 10000000 }
-    ensures soft_most { result.soft ≤ 256 * (1000000 * 10000000) }
+    ensures hard_most { result.hard ≤ max_rules * deviation_limit }
+    ensures soft_most { result.soft ≤ max_rules * (max_weight * deviation_limit) }
 {
     let mut costs = RuleCosts { hard: 0, soft: 0 };
     for i in 0..league.rule_count() {
@@ -85,7 +86,7 @@ pub(crate) fn costs_of_seen_rules(schedule: &Schedule, league: &League, main: Te
 fn seen_deviation(schedule: &Schedule, rule: &Rule, main: TeamSet) -> u64
     requires { IsRuleFor schedule.now.teams rule.now }
     ensures value { result ≡ seen_deviation main schedule.now rule.now.body }
-    ensures most { result ≤ 10000000 }
+    ensures most { result ≤ deviation_limit }
 {
     if looks_past(rule, main) {
         0

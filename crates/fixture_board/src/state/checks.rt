@@ -2,6 +2,7 @@
 
 ghost use Rattle.std.specs.Prelude.{◌≡◌, ◌≢◌, ◌<◌, List, length, IfOk};
 ghost use Rattle.std.specs.Result.{result_err};
+ghost use Rattle.league.specs.Limits.{max_teams};
 ghost use Rattle.fixtures.specs.declared.game.Game.{Game};
 ghost use Rattle.fixture_board.specs.History.{has_game, is_in_range, AllStand};
 ghost use Rattle.fixture_board.specs.PinPlaces.{ArePinsAt};
@@ -36,8 +37,8 @@ impl State {
         ensures pinned { IfOk result (λ is. (held : List Game) → AllStand self.now.schedule held → ArePinsAt self.now.schedule held self.now.pins →
             is ≡ has_game held game) }
         ensures room { IfOk result (λ _. length self.now.history.items ≢ self.now.room) }
-        ensures home { IfOk result (λ _. game.home < 40) }
-        ensures away { IfOk result (λ _. game.away < 40) }
+        ensures home { IfOk result (λ _. game.home < max_teams) }
+        ensures away { IfOk result (λ _. game.away < max_teams) }
     {
         self.check_version(version)?;
         if !is_in_range(&self.schedule, game) {
