@@ -1,5 +1,5 @@
--- A history with one entry more: its changes in effect, games, pins, best prefix and legality; and which row of a
--- table of reasons applies.
+-- A history with one entry more: its changes in effect, games, pins, best prefix and legality; and what a call makes of
+-- it.
 use Rattle.std.proofs.Common.{◌≡◌, ℕ, ◌-◌, ◌+◌, ◌<◌, Bool, true, false, List, [], ◌∷◌, ◌++◌, length, take, Option, Some, None, refl, sym, ◌∙◌, ap, subst, append_assoc, arith}
 use Rattle.std.proofs.lemmas.List.{append-nil}
 use Rattle.std.proofs.Math.Seq.{take-append_seam}
@@ -132,14 +132,6 @@ pub best_prefix-more : (league : LeagueData) (h : List Entry) (e : Entry) →
     best_prefix league (h ++ e ∷ []) ≡ better league (best_prefix league h) (h ++ e ∷ [])
 unfolding best_prefix
 best_prefix-more league h e = best_after-more league [] (better league None []) h e
-
--- which row of a table of reasons applies
-
-pub skip : (test : Bool) (reason : Why) (rows : List (Bool × Why)) → test ≡ false → first_of ((test, reason) ∷ rows) ≡ first_of rows
-skip test reason rows never = rw never refl
-
-pub hit : (test : Bool) (reason : Why) (rows : List (Bool × Why)) → test ≡ true → first_of ((test, reason) ∷ rows) ≡ Some reason
-hit test reason rows applies = rw applies refl
 
 -- what a call makes of the history, and its answer
 

@@ -202,12 +202,6 @@ shift_judged {league} {k} p g1 g2 cost before after moves judged kept told is mo
     after_is ∙ ap (score_of league) cost_is ∙ ap (λ x. score_of league (cost_of league x)) games in
     rw stay at (shift_told p kept told is moves_is) ∙ sym (rw (before_is, last) at judged_is)
 
-pub can_be_tried : {answer : Result (Unit {0}) Why} {value : Unit {0}} (at room version : ℕ) (g : Games) (mv : Move) →
-    result_err answer ≡ first_of (move_rows at room version g mv) → answer ≡ Ok value → fault_of g mv ≡ Ok tt
-can_be_tried at room version g mv told is =
-    let rows = passed (move_rows at room version g mv) (sym told ∙ ap result_err is) in
-    no_fault (fault_of g mv) rows.1.1.0 rows.1.1.1.0
-
 -- the answers of a call, where the board shows `v`
 
 pub refused_call : (league : LeagueData) (old new : Kept) (v : Book) (caller : ℕ) (asked : Ask) (reason : Why) →

@@ -55,10 +55,10 @@ kept_of s = record {
   best_games = s.best_schedule;
 }
 
--- there is memory for a full history, all of it in effect
+-- there is memory for a full history, all of it in effect, and for no more
 pub record HasMemory (s : State) : Type 0 where
-  pub history : s.room ≤ vec_capacity s.history
-  pub changes : s.room ≤ vec_capacity s.changes
+  pub history : vec_capacity s.history ≡ s.room
+  pub changes : vec_capacity s.changes ≡ s.room
 
 -- what is kept is what follows from the history in this league
 pub record IsKept (league : LeagueData) (k : Kept) : Type 0 where

@@ -105,14 +105,6 @@ next_of league room h caller ask = next_if (refusal league room h ask) h (entry 
 unfoldable pub reply_of : LeagueData → ℕ → List Entry → Ask → Reply
 reply_of league room h ask = reply_if league (refusal league room h ask) h (entry 0 ask)
 
--- the answers to calls of caller 0, one after another, from a history on
-abbrev pub replies_from : LeagueData → ℕ → List Entry → List Ask → List Reply
-replies_from league room h [] = []
-replies_from league room h (ask ∷ asks) = reply_of league room h ask ∷ replies_from league room (next_of league room h 0 ask) asks
-
-abbrev pub replies : LeagueData → ℕ → List Ask → List Reply
-replies league room asks = replies_from league room [] asks
-
 -- the greatest number of 64 bits
 abbrev pub greatest : ℕ
 greatest = 2 ^ 64 - 1

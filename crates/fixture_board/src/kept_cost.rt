@@ -1,8 +1,8 @@
 //! The cost of a schedule, kept over a move: what the move can change is counted before it and after it.
 
-ghost use Rattle.std.specs.Prelude.{◌≡◌, ◌+◌, ◌*◌, ◌<◌, ◌≤◌};
+ghost use Rattle.std.specs.Prelude.{◌≡◌, ◌*◌, ◌<◌, ◌≤◌};
 ghost use Rattle.league.specs.League.{teams};
-ghost use Rattle.league.specs.Limits.{max_distance, max_rounds, max_teams};
+ghost use Rattle.league.specs.Limits.{max_rounds, max_teams};
 ghost use Rattle.moves.specs.Moves.{moved};
 ghost use Rattle.moves.specs.MainCells.{AreMainCells};
 ghost use Rattle.fixture_board.specs.Costs.{cost_of, score_of, score_limit};
@@ -79,7 +79,7 @@ fn share(schedule: &Schedule, league: &League, mv: Move, main: Touched, sides: T
 fn travel_share(schedule: &Schedule, league: &League, mv: Move, main: Touched) -> u64
     requires same_size { teams league.now ≡ schedule.now.teams }
     ensures value { result ≡ travel_share league.now mv main schedule.now }
-    ensures most { result ≤ max_teams * ((max_rounds + 1) * max_distance) }
+    ensures small { result < score_limit }
 {
     match mv {
         Move::Teams { .. } | Move::PartTeams { .. } => travel_around(schedule, league, main),

@@ -1,3 +1,4 @@
+mod equality;
 mod kept_cost;
 mod memory;
 mod rules;
@@ -9,6 +10,7 @@ use moves::Move;
 use std::alloc::Global;
 use std::process::Abort;
 use std::test::Fail;
+use tours::travel_of;
 
 /// A board of four teams on a circle.
 fn board(alloc: Global, room: u32) -> Result<Board, Fail> {
@@ -107,6 +109,13 @@ fn round_of(rt: &impl Abort, schedule: &Schedule, home: u8, away: u8) -> u8 {
     schedule.round_of(game.home, game.away) + 1
 }
 
+/// How far each of the four teams travels.
+fn travels(rt: &impl Abort, board: &Board) -> [u64; 4] {
+    let (schedule, league) = (board.schedule(), board.league());
+    assert!(rt; schedule.teams() == 4 && league.teams() == 4);
+    [0, 1, 2, 3].map(|team| travel_of(schedule, league, team))
+}
+
 #[test]
 fn undo_restores_the_travel_and_leaves_the_best(rt: HostRuntime) -> Result<(), Fail> {
     let mut board = board(rt.alloc(), 1024)?;
@@ -202,6 +211,22 @@ fn a_claim_at_an_old_version_is_ignored(rt: HostRuntime) -> Result<(), Fail> {
         slack: 0,
     };
     assert_eq!(rt; board.propose(0, old), done(2, 26, 0));
+    assert_eq!(rt; travels(&rt, &board), [8, 4, 6, 8]);
+    Ok(())
+}
+
+#[test]
+fn each_team_travels_its_own_tour(rt: HostRuntime) -> Result<(), Fail> {
+    let cases = [
+        (homes(1, 2), [4, 6, 8, 8]),
+        (teams(1, 2), [6, 6, 6, 8]),
+        (rounds(5, 6), [6, 6, 8, 8]),
+    ];
+    for (mv, tours) in cases {
+        let mut board = board(rt.alloc(), 8)?;
+        shift(&mut board, mv);
+        assert_eq!(rt; travels(&rt, &board), tours, "{mv:?}");
+    }
     Ok(())
 }
 
@@ -222,6 +247,20 @@ fn pinned_games_keep_their_rounds(rt: HostRuntime) -> Result<(), Fail> {
     assert_eq!(rt; board.best(), best(0, 30));
     assert_eq!(rt; unpin(&mut board, game(1, 1, 4)), done(3, 30, 0));
     assert!(rt; !is_pinned(&rt, &board, 1, 4));
+    Ok(())
+}
+
+#[test]
+fn a_pin_is_for_the_version_that_there_is(rt: HostRuntime) -> Result<(), Fail> {
+    let mut board = board(rt.alloc(), 8)?;
+    let game = game(1, 1, 4);
+    assert_eq!(rt; board.pin(0, 1, game), no(0, Why::Ahead));
+    assert_eq!(rt; board.unpin(0, 1, game), no(0, Why::Ahead));
+    assert_eq!(rt; board.pin(0, 0, game), done(1, 30, 0));
+    assert_eq!(rt; board.pin(0, 0, game), no(1, Why::Old));
+    assert_eq!(rt; board.unpin(0, 0, game), no(1, Why::Old));
+    assert_eq!(rt; board.unpin(0, 2, game), no(1, Why::Ahead));
+    assert!(rt; is_pinned(&rt, &board, 1, 4));
     Ok(())
 }
 
@@ -263,6 +302,9 @@ fn the_best_stays_at_its_first_version(rt: HostRuntime) -> Result<(), Fail> {
 fn no_entry_beyond_the_room(rt: HostRuntime) -> Result<(), Fail> {
     let mut none = board(rt.alloc(), 0)?;
     assert_eq!(rt; shift(&mut none, homes(1, 2)), no(0, Why::Full));
+    assert_eq!(rt; pin(&mut none, game(1, 1, 4)), no(0, Why::Full));
+    assert_eq!(rt; unpin(&mut none, game(1, 1, 4)), no(0, Why::Full));
+    assert_eq!(rt; undo(&mut none), no(0, Why::Full));
     assert_eq!(rt; none.best(), best(0, 30));
     let mut one = board(rt.alloc(), 1)?;
     assert_eq!(rt; shift(&mut one, homes(1, 2)), done(1, 26, 0));
@@ -288,6 +330,26 @@ fn a_board_of_the_greatest_league_and_room(rt: HostRuntime) -> Result<(), Fail> 
     let board = Board::new(rt.alloc(), circular(rt.alloc(), 40)?, 1_048_576)?;
     assert_eq!(rt; board.room(), 1_048_576);
     assert_eq!(rt; board.league().teams(), 40);
+    Ok(())
+}
+
+#[test]
+fn a_board_of_each_number_of_teams(rt: HostRuntime) -> Result<(), Fail> {
+    for half in 2..21 {
+        let teams = 2 * half;
+        let board = Board::new(rt.alloc(), circular(rt.alloc(), teams)?, 8)?;
+        assert_eq!(rt; board.schedule().teams(), teams);
+        assert_eq!(rt; board.version(), 0);
+    }
+    Ok(())
+}
+
+#[test]
+fn the_faults_in_words(rt: HostRuntime) -> Result<(), Fail> {
+    let range = format!(in rt.alloc(); "{}", BoardFault::RoomRange)?;
+    assert_eq!(rt; range.as_str(), "the room is over 1048576");
+    let memory = format!(in rt.alloc(); "{}", BoardFault::Memory)?;
+    assert_eq!(rt; memory.as_str(), "out of memory");
     Ok(())
 }
 
