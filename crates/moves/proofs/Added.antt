@@ -22,6 +22,7 @@ abbrev pub with_added : ℕ → (ℕ → Bool) → ℕ → Bool
 with_added x set y = eqb y x || set y
 
 -- a set of one number
-pub only-new : (x : ℕ) (none set : ℕ → Bool) → ((y : ℕ) → none y ≡ false) → Adds x none set → (y : ℕ) → IsTrue (set y) → y ≡ x
+pub only-new : (x : ℕ) (none set : ℕ → Bool) → ((y : ℕ) → none y ≡ false) → Adds x none set → (y : ℕ) →
+    IsTrue (set y) → y ≡ x
 only-new x none set empty adds y here =
     elim (Adds-cases x none set adds y here) [ inl e ↦ e | inr listed ↦ absurd (false≢true (sym (empty y) ∙ listed)) ]

@@ -55,7 +55,8 @@ module _ (g : Games) (rr : IsDoubleRoundRobin g) (k l : ℕ) (p : IsPair (round_
       let alike : is_home g t k ≡ is_home g t l = same_by (is_home g t k) (is_home g t l) same in
       elim (cases_exchanged k l r) [
         | inl e ↦ ap (is_home g t) (ap (exchanged k l) e ∙ exchanged_first k l) ∙ sym alike ∙ ap (is_home g t) (sym e)
-        | inr (inl e) ↦ ap (is_home g t) (ap (exchanged k l) e ∙ exchanged_second k l) ∙ alike ∙ ap (is_home g t) (sym e)
+        | inr (inl e) ↦ ap (is_home g t) (ap (exchanged k l) e ∙ exchanged_second k l) ∙ alike ∙
+            ap (is_home g t) (sym e)
         | inr (inr ne) ↦ ap (is_home g t) (exchanged_other k l r ne.0 ne.1)
       ]
     where
@@ -78,10 +79,12 @@ module _ (g : Games) (rr : IsDoubleRoundRobin g) (k l : ℕ) (p : IsPair (round_
   pub sides-rounds_exchanged : DiffersOnlyAt is_home g after (box (λ t. among t && turns g k l t) (is_either k l))
   sides-rounds_exchanged = record {
     same_size = refl;
-    same = λ t r in_t in_r out. is_home-after t r in_t in_r ∙ by_tests t r (among t) (turns g k l t) (is_either k l r) refl refl refl out;
+    same = λ t r in_t in_r out. is_home-after t r in_t in_r ∙
+        by_tests t r (among t) (turns g k l t) (is_either k l r) refl refl refl out;
   }
     where
-      by_tests : (t r : ℕ) (a b c : Bool) → among t ≡ a → turns g k l t ≡ b → is_either k l r ≡ c → ((a && b) && c) ≡ false →
+      by_tests : (t r : ℕ) (a b c : Bool) → among t ≡ a → turns g k l t ≡ b → is_either k l r ≡ c →
+          ((a && b) && c) ≡ false →
           cond a (is_home g t (exchanged k l r)) (is_home g t r) ≡ is_home g t r
       by_tests t r true true true _ _ _ out = absurd (cc)
       by_tests t r true true false _ _ e _ =
@@ -109,7 +112,8 @@ module _ (g : Games) (rr : IsDoubleRoundRobin g) (i j : ℕ) (p : IsPair g.teams
     others = λ t r in_t in_r out. guest t r in_t in_r out (cases_Bool (among r));
   }
     where
-      guest : (t r : ℕ) → t < g.teams → r < round_count g.teams → is_either i j t ≡ false → (among r ≡ true) ⊎ (among r ≡ false) →
+      guest : (t r : ℕ) → t < g.teams → r < round_count g.teams → is_either i j t ≡ false →
+          (among r ≡ true) ⊎ (among r ≡ false) →
           IsKeptOrMeets (is_either i j) g after_teams t r
       guest t r in_t in_r out (inr elsewhere) =
           kept g after_teams (is_either i j) t r (cell-after_teams t r in_t in_r ∙ cond-false _ _ _ elsewhere)
@@ -117,19 +121,28 @@ module _ (g : Games) (rr : IsDoubleRoundRobin g) (i j : ℕ) (p : IsPair g.teams
           let parts = or_parts (eqb t i) (eqb t j) out in
           let is : cell after_teams t r ≡ other_cell i j (cell g t r) =
           cell-after_teams t r in_t in_r ∙ cond-true _ _ _ there ∙
-          ap (λ x. other_cell i j (cell g x r)) (exchanged_other i j t (eqb-false t i parts.0) (eqb-false t j parts.1)) in
+          ap (λ x. other_cell i j (cell g x r))
+          (exchanged_other i j t (eqb-false t i parts.0) (eqb-false t j parts.1)) in
           record {
             same_side = ap (λ (c : Cell). c.home) is;
-            same_or_in = meets_other (cell g t r).opponent (cell after_teams t r).opponent (ap (λ (c : Cell). c.opponent) is);
+            same_or_in = meets_other (cell g t r).opponent (cell after_teams t r).opponent
+                (ap (λ (c : Cell). c.opponent) is);
           }
         where
-          meets_other : (x y : ℕ) → y ≡ exchanged i j x → (y ≡ x) ⊎ ((is_either i j x ≡ true) × (is_either i j y ≡ true))
+          meets_other : (x y : ℕ) → y ≡ exchanged i j x →
+              (y ≡ x) ⊎ ((is_either i j x ≡ true) × (is_either i j y ≡ true))
           meets_other x y is =
               elim (cases_exchanged i j x) [
                 | inl e ↦
-                    inr (or_left _ _ (eq-eqb x i e), or_right _ _ (eq-eqb y j (is ∙ ap (exchanged i j) e ∙ exchanged_first i j)))
+                    inr (
+                      or_left _ _ (eq-eqb x i e),
+                      or_right _ _ (eq-eqb y j (is ∙ ap (exchanged i j) e ∙ exchanged_first i j)),
+                    )
                 | inr (inl e) ↦
-                    inr (or_right _ _ (eq-eqb x j e), or_left _ _ (eq-eqb y i (is ∙ ap (exchanged i j) e ∙ exchanged_second i j)))
+                    inr (
+                      or_right _ _ (eq-eqb x j e),
+                      or_left _ _ (eq-eqb y i (is ∙ ap (exchanged i j) e ∙ exchanged_second i j)),
+                    )
                 | inr (inr ne) ↦ inl (is ∙ exchanged_other i j x ne.0 ne.1)
               ]
 
@@ -142,7 +155,8 @@ sides-around g g' teams rounds around = record {
   same = λ t r in_t in_r out. by_tests t r in_t in_r (teams t) (rounds r) refl refl out;
 }
   where
-    by_tests : (t r : ℕ) → t < g.teams → r < round_count g.teams → (a b : Bool) → teams t ≡ a → rounds r ≡ b → (a && b) ≡ false →
+    by_tests : (t r : ℕ) → t < g.teams → r < round_count g.teams → (a b : Bool) → teams t ≡ a → rounds r ≡ b →
+        (a && b) ≡ false →
         is_home g' t r ≡ is_home g t r
     by_tests t r in_t in_r true true _ _ out = absurd (cc)
     by_tests t r in_t in_r true false _ e _ = ap (λ (c : Cell). c.home) (around.same_cells t r in_t in_r e)

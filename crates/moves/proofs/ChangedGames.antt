@@ -51,14 +51,17 @@ exchanged-stays k l r none =
     exchanged_other k l r (eqb-false r k parts.0) (eqb-false r l parts.1)
 
 -- for the teams of a set
-pub changed-rounds : (g : Games) (k l : ℕ) (among : ℕ → Bool) → k ≢ l → (h a : ℕ) → IsPair g.teams h a → among h ≡ true →
-    (eqb (round_of g h a) k || eqb (round_of g h a) l) ≡ true → round_of (rounds_exchanged g k l among) h a ≢ round_of g h a
+pub changed-rounds : (g : Games) (k l : ℕ) (among : ℕ → Bool) → k ≢ l → (h a : ℕ) → IsPair g.teams h a →
+    among h ≡ true →
+    (eqb (round_of g h a) k || eqb (round_of g h a) l) ≡ true → round_of (rounds_exchanged g k l among) h a ≢
+    round_of g h a
 changed-rounds g k l among ne h a p e one same =
     exchanged-moves k l (round_of g h a) ne one
     (sym (round_of_rounds_exchanged g k l among h a p ∙ cond-true _ _ _ e) ∙ same)
 
 pub kept-other_rounds : (g : Games) (k l : ℕ) (among : ℕ → Bool) → (h a : ℕ) → IsPair g.teams h a →
-    (eqb (round_of g h a) k || eqb (round_of g h a) l) ≡ false → round_of (rounds_exchanged g k l among) h a ≡ round_of g h a
+    (eqb (round_of g h a) k || eqb (round_of g h a) l) ≡ false → round_of (rounds_exchanged g k l among) h a ≡
+    round_of g h a
 kept-other_rounds g k l among h a p none =
     round_of_rounds_exchanged g k l among h a p ∙ either (among h) (exchanged-stays k l (round_of g h a) none)
   where
@@ -102,7 +105,8 @@ is_one_of-second i j x e = or_right _ _ (eq-eqb x j e)
 is_one_of-neither : (i j x : ℕ) → (x ≢ i) × (x ≢ j) → is_one_of i j x ≡ false
 is_one_of-neither i j x ne = or_from _ _ (ne_eqb x i ne.0) (ne_eqb x j ne.1)
 
-module _ (g : Games) (rr : IsDoubleRoundRobin g) (i j : ℕ) (pair : IsPair g.teams i j) (h a : ℕ) (p : IsPair g.teams h a) where
+module _ (g : Games) (rr : IsDoubleRoundRobin g) (i j : ℕ) (pair : IsPair g.teams i j) (h a : ℕ)
+    (p : IsPair g.teams h a) where
   abbrev other_round : ℕ
   other_round = round_of g (exchanged i j h) (exchanged i j a)
 
@@ -154,7 +158,8 @@ module _ (g : Games) (rr : IsDoubleRoundRobin g) (i j : ℕ) (pair : IsPair g.te
   }
 
   -- one whose round isn't exchanged
-  unmoved : has_one i j h a ≡ false → ((round_of g h a ≡ round_of g i j) ⊎ (round_of g h a ≡ round_of g j i)) ⊎ (other_round ≡ round_of g h a) →
+  unmoved : has_one i j h a ≡ false → ((round_of g h a ≡ round_of g i j) ⊎ (round_of g h a ≡ round_of g j i)) ⊎
+      (other_round ≡ round_of g h a) →
       HasBothOrNeither g i j h a
   unmoved none (inl (inl e)) = record {
     both_or_neither = none;
@@ -180,15 +185,18 @@ module _ (g : Games) (rr : IsDoubleRoundRobin g) (i j : ℕ) (pair : IsPair g.te
           HasOne g i j h a ⊎ HasBothOrNeither g i j h a
       by_teams (inl hi) (inl ai) = absurd (p.distinct (hi ∙ sym ai))
       by_teams (inl hi) (inr (inl aj)) =
-          inr (unmoved (has_one-by true true (is_one_of-first i j h hi) (is_one_of-second i j a aj)) (inl (inl (ap₂ (round_of g) hi aj))))
+          inr (unmoved (has_one-by true true (is_one_of-first i j h hi) (is_one_of-second i j a aj))
+          (inl (inl (ap₂ (round_of g) hi aj))))
       by_teams (inl hi) (inr (inr ne)) =
           inl (with_one (has_one-by true false (is_one_of-first i j h hi) (is_one_of-neither i j a ne)) j a (first h hi)
           (exchanged_other i j a ne.0 ne.1) (home_moves i j pair.distinct (sym hi) pair.away_in (λ e. ne.1 (sym e))))
       by_teams (inr (inl hj)) (inl ai) =
-          inr (unmoved (has_one-by true true (is_one_of-second i j h hj) (is_one_of-first i j a ai)) (inl (inr (ap₂ (round_of g) hj ai))))
+          inr (unmoved (has_one-by true true (is_one_of-second i j h hj) (is_one_of-first i j a ai))
+          (inl (inr (ap₂ (round_of g) hj ai))))
       by_teams (inr (inl hj)) (inr (inl aj)) = absurd (p.distinct (hj ∙ sym aj))
       by_teams (inr (inl hj)) (inr (inr ne)) =
-          inl (with_one (has_one-by true false (is_one_of-second i j h hj) (is_one_of-neither i j a ne)) i a (second h hj)
+          inl (with_one (has_one-by true false (is_one_of-second i j h hj) (is_one_of-neither i j a ne)) i
+          a (second h hj)
           (exchanged_other i j a ne.0 ne.1)
           (home_moves j i (λ e. pair.distinct (sym e)) (sym hj) pair.home_in (λ e. ne.0 (sym e))))
       by_teams (inr (inr ne)) (inl ai) =
@@ -204,7 +212,8 @@ module _ (g : Games) (rr : IsDoubleRoundRobin g) (i j : ℕ) (pair : IsPair g.te
           (inr (ap₂ (round_of g) (exchanged_other i j h ne.0 ne.1) (exchanged_other i j a ne'.0 ne'.1))))
 
   -- with i and j exchanged in a set of rounds in which they don't meet
-  pub TellsChange-teams : (among : ℕ → Bool) → StaysAmong g.teams i j among (round_of g) → among (round_of g i j) ≡ false →
+  pub TellsChange-teams : (among : ℕ → Bool) → StaysAmong g.teams i j among (round_of g) →
+      among (round_of g i j) ≡ false →
       among (round_of g j i) ≡ false → (test : Bool) → (HasOne g i j h a → test ≡ among (round_of g h a)) →
       (HasBothOrNeither g i j h a → test ≡ false) →
       TellsChange test (round_of (teams_exchanged g i j among) h a) (round_of g h a)
@@ -235,7 +244,8 @@ pub tells-part_rounds : (g : Games) (i k l : ℕ) → k ≢ l → (h a : ℕ) �
     (round_of (moved g (PartRounds i k l)) h a) (round_of g h a)
 tells-part_rounds g i k l ne h a p =
     TellsChange-by _ _ _
-    (λ e. let parts = and_parts (is_one_of k l (round_of g h a)) (among h) e in changed-rounds g k l among ne h a p parts.1 parts.0)
+    (λ e. let parts = and_parts (is_one_of k l (round_of g h a))
+    (among h) e in changed-rounds g k l among ne h a p parts.1 parts.0)
     (λ e. elim (and_cases (is_one_of k l (round_of g h a)) (among h) e) [
       | inl none ↦ kept-other_rounds g k l among h a p none
       | inr out ↦ kept-other_teams g k l among h a p out
@@ -247,17 +257,20 @@ tells-part_rounds g i k l ne h a p =
 pub tells-teams : (g : Games) → IsDoubleRoundRobin g → (i j : ℕ) → IsPair g.teams i j → (h a : ℕ) → IsPair g.teams h a →
     TellsChange (has_one i j h a) (round_of (moved g (Teams i j)) h a) (round_of g h a)
 tells-teams g rr i j pair h a p =
-    subst (λ (x : Games). TellsChange (has_one i j h a) (round_of x h a) (round_of g h a)) (sym (all_rounds g rr i j pair))
+    subst (λ (x : Games). TellsChange (has_one i j h a) (round_of x h a) (round_of g h a))
+    (sym (all_rounds g rr i j pair))
     (TellsChange-teams g rr i j pair h a p (apart g rr i j pair) (stays_apart g rr i j pair) (apart-first g rr i j pair)
     (apart-second g rr i j pair) (has_one i j h a)
     (λ has. has.one ∙ sym (and_from _ _ (lt-ltb (round_of g h a) (round_count g.teams) (rr.in_range h a p)) has.apart))
     (λ not_one. not_one.both_or_neither))
 
-pub tells-part_teams : (g : Games) → IsDoubleRoundRobin g → (i j k : ℕ) → IsPartTeams g i j k → (h a : ℕ) → IsPair g.teams h a →
+pub tells-part_teams : (g : Games) → IsDoubleRoundRobin g → (i j k : ℕ) → IsPartTeams g i j k → (h a : ℕ) →
+    IsPair g.teams h a →
     TellsChange (has_one i j h a && member (moved_rounds_of g i j k) (round_of g h a))
     (round_of (moved g (PartTeams i j k)) h a) (round_of g h a)
 tells-part_teams g rr i j k known h a p =
-    TellsChange-teams g rr i j known.pair h a p (taken g rr i j k known) (stays_taken g rr i j k known) (taken-first g rr i j k known)
+    TellsChange-teams g rr i j known.pair h a p (taken g rr i j k known) (stays_taken g rr i j k known)
+    (taken-first g rr i j k known)
     (taken-second g rr i j k known) (has_one i j h a && member (moved_rounds_of g i j k) (round_of g h a))
     (λ has. ap (λ b. b && member (moved_rounds_of g i j k) (round_of g h a)) has.one)
     (λ not_one. and_left _ _ not_one.both_or_neither)
@@ -280,14 +293,17 @@ module _ (g : Games) (rr : IsDoubleRoundRobin g) (mv : Move) (checked : fault_of
   pub of-homes : (i j : ℕ) → mv ≡ Homes i j → result ≡ (eqb h i && eqb a j || eqb h j && eqb a i) →
       TellsChange result (round_of (moved g mv) h a) r
   of-homes i j of_variant is =
-      tells-variant (Homes i j) (λ _. eqb h i && eqb a j || eqb h j && eqb a i) of_variant is (TellsChange-homes g rr i j h a p)
+      tells-variant (Homes i j) (λ _. eqb h i && eqb a j || eqb h j && eqb a i) of_variant is
+      (TellsChange-homes g rr i j h a p)
 
-  pub of-rounds : (k l : ℕ) → mv ≡ Rounds k l → result ≡ is_one_of k l r → TellsChange result (round_of (moved g mv) h a) r
+  pub of-rounds : (k l : ℕ) → mv ≡ Rounds k l → result ≡ is_one_of k l r →
+      TellsChange result (round_of (moved g mv) h a) r
   of-rounds k l of_variant is =
       tells-variant (Rounds k l) (is_one_of k l) of_variant is
       (tells-rounds g k l (rounds-checked g k l (can_be (Rounds k l) of_variant)).distinct h a p)
 
-  pub of-teams : (i j : ℕ) → mv ≡ Teams i j → result ≡ has_one i j h a → TellsChange result (round_of (moved g mv) h a) r
+  pub of-teams : (i j : ℕ) → mv ≡ Teams i j → result ≡ has_one i j h a →
+      TellsChange result (round_of (moved g mv) h a) r
   of-teams i j of_variant is =
       tells-variant (Teams i j) (λ _. has_one i j h a) of_variant is
       (tells-teams g rr i j (teams-checked g i j (can_be (Teams i j) of_variant)) h a p)
@@ -299,7 +315,8 @@ module _ (g : Games) (rr : IsDoubleRoundRobin g) (mv : Move) (checked : fault_of
       (tells-part_rounds g i k l (part_rounds-checked g i k l (can_be (PartRounds i k l) of_variant)).1.distinct h a p)
 
   pub of-part_teams : (i j k : ℕ) → mv ≡ PartTeams i j k →
-      result ≡ (has_one i j h a && member (moved_rounds_of g i j k) r) → TellsChange result (round_of (moved g mv) h a) r
+      result ≡ (has_one i j h a && member (moved_rounds_of g i j k) r) →
+      TellsChange result (round_of (moved g mv) h a) r
   of-part_teams i j k of_variant is =
       tells-variant (PartTeams i j k) (λ x. has_one i j h a && member (moved_rounds_of g i j k) x) of_variant is
       (tells-part_teams g rr i j k (part_teams-checked g i j k (can_be (PartTeams i j k) of_variant)) h a p)

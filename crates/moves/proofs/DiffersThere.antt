@@ -21,12 +21,15 @@ use Rattle.moves.proofs.EachAround.{home_rounds}
 
 -- ---- rounds
 
-module _ (g : Games) (rr : IsDoubleRoundRobin g) (mv : Move) (k l : ℕ) (p : IsPair (round_count g.teams) k l) (among : ℕ → Bool)
+module _ (g : Games) (rr : IsDoubleRoundRobin g) (mv : Move) (k l : ℕ) (p : IsPair (round_count g.teams) k l)
+    (among : ℕ → Bool)
     (exchanges : ExchangesRounds g mv k l among) where
   -- a team has no cell twice
-  other_cells : (t r s : ℕ) → t < g.teams → r < round_count g.teams → s < round_count g.teams → r ≢ s → cell g t r ≢ cell g t s
+  other_cells : (t r s : ℕ) → t < g.teams → r < round_count g.teams → s < round_count g.teams → r ≢ s →
+      cell g t r ≢ cell g t s
   other_cells t r s in_t in_r in_s ne e =
-      ne (sym (is_cell g rr t r in_t in_r).in_round ∙ ap (cell_round g t) e ∙ (is_cell g rr t s in_t in_s).in_round)
+      ne (sym (is_cell g rr t r in_t in_r).in_round ∙ ap (cell_round (round_of g) t) e ∙
+      (is_cell g rr t s in_t in_s).in_round)
 
   cell-moved : (t r : ℕ) → t < g.teams → among t ≡ true → r < round_count g.teams →
       cell (moved g mv) t r ≡ cell g t (exchanged k l r)
@@ -63,19 +66,23 @@ module _ (g : Games) (rr : IsDoubleRoundRobin g) (mv : Move) (k l : ℕ) (p : Is
   }
     where
       in_round : (r : ℕ) → (eqb r k ≡ true) ⊎ (eqb r l ≡ true) → DiffersAt g (moved g mv) some r
-      in_round r (inl e) = subst (DiffersAt g (moved g mv) some) (sym (eqb-true r k e)) (differs_in-first some (below some is_in) is_in)
-      in_round r (inr e) = subst (DiffersAt g (moved g mv) some) (sym (eqb-true r l e)) (differs_in-second some (below some is_in) is_in)
+      in_round r (inl e) = subst (DiffersAt g (moved g mv) some) (sym (eqb-true r k e))
+          (differs_in-first some (below some is_in) is_in)
+      in_round r (inr e) = subst (DiffersAt g (moved g mv) some) (sym (eqb-true r l e))
+          (differs_in-second some (below some is_in) is_in)
 
 -- ---- teams
 
 module _ (g : Games) (rr : IsDoubleRoundRobin g) (mv : Move) (i j : ℕ) (p : IsPair g.teams i j) (among : ℕ → Bool)
     (exchanges : ExchangesTeams g mv i j among) (below : (r : ℕ) → among r ≡ true → r < round_count g.teams)
     (apart : (r : ℕ) → among r ≡ true → are_apart g i j r ≡ true) where
-  cell-in : (t r : ℕ) → t < g.teams → among r ≡ true → cell (moved g mv) t r ≡ other_cell i j (cell g (exchanged i j t) r)
+  cell-in : (t r : ℕ) → t < g.teams → among r ≡ true → cell (moved g mv) t r ≡
+      other_cell i j (cell g (exchanged i j t) r)
   cell-in t r in_t is_in =
       ap (λ (x : Games). cell x t r) exchanges.is ∙
       cell_teams_exchanged g rr i j among p.home_in p.away_in
-      (stays_among_closed g i j among exchanges.first_out exchanges.second_out exchanges.closed) t r in_t (below r is_in) ∙
+      (stays_among_closed g i j among exchanges.first_out exchanges.second_out exchanges.closed) t r in_t
+      (below r is_in) ∙
       cond-true _ _ _ is_in
 
   -- a and b are i and j, or j and i
@@ -141,7 +148,8 @@ module _ (g : Games) (rr : IsDoubleRoundRobin g) (mv : Move) (i j : ℕ) (p : Is
   pub differs_of-second : (r : ℕ) → among r ≡ true → DiffersAt g (moved g mv) j r
   differs_of-second = differs_of-two j i the_two-back
 
-  pub differs_of-opponent : (t r : ℕ) → t ≢ i → t ≢ j → Meets g t i r ⊎ Meets g t j r → among r ≡ true → DiffersAt g (moved g mv) t r
+  pub differs_of-opponent : (t r : ℕ) → t ≢ i → t ≢ j → Meets g t i r ⊎ Meets g t j r → among r ≡ true →
+      DiffersAt g (moved g mv) t r
   differs_of-opponent t r not_i not_j (inl met) = differs_of-guest i j the_two t r not_i not_j met
   differs_of-opponent t r not_i not_j (inr met) = differs_of-guest j i the_two-back t r not_j not_i met
 
@@ -173,19 +181,23 @@ two_below n i j p t e =
 
 in_each-homes : (g : Games) → IsDoubleRoundRobin g → (i j : ℕ) → IsPair g.teams i j → DiffersInEachTouched g (Homes i j)
 in_each-homes g rr i j p =
-    in_each-rounds g rr (Homes i j) (round_of g i j) (round_of g j i) (home_rounds g rr i j p) _ (ExchangesRounds-homes g rr i j p)
+    in_each-rounds g rr (Homes i j) (round_of g i j) (round_of g j i) (home_rounds g rr i j p) _
+    (ExchangesRounds-homes g rr i j p)
     (λ t. refl) (λ r. refl) (two_below g.teams i j p) i (or_left _ _ (eq-eqb i i refl))
 
-in_each-whole_rounds : (g : Games) → IsDoubleRoundRobin g → (k l : ℕ) → IsPair (round_count g.teams) k l → DiffersInEachTouched g (Rounds k l)
+in_each-whole_rounds : (g : Games) → IsDoubleRoundRobin g → (k l : ℕ) → IsPair (round_count g.teams) k l →
+    DiffersInEachTouched g (Rounds k l)
 in_each-whole_rounds g rr k l p =
     in_each-rounds g rr (Rounds k l) k l p _ (ExchangesRounds-rounds g rr k l p) (λ t. refl) (λ r. refl)
     (λ t e. ltb-true t g.teams e) 0 (lt-ltb 0 g.teams (omega (arith, rr.four)))
 
-in_each-part_rounds : (g : Games) → IsDoubleRoundRobin g → (i k l : ℕ) → i < g.teams → IsPair (round_count g.teams) k l →
+in_each-part_rounds : (g : Games) → IsDoubleRoundRobin g → (i k l : ℕ) → i < g.teams →
+    IsPair (round_count g.teams) k l →
     DiffersInEachTouched g (PartRounds i k l)
 in_each-part_rounds g rr i k l in_i p =
     let least = IsLeastClosed-moved_teams g rr i k l in_i p in
-    in_each-rounds g rr (PartRounds i k l) k l p _ (ExchangesRounds-part_rounds g rr i k l in_i p) (λ t. refl) (λ r. refl)
+    in_each-rounds g rr (PartRounds i k l) k l p _ (ExchangesRounds-part_rounds g rr i k l in_i p)
+    (λ t. refl) (λ r. refl)
     (λ t e.
     let way = least.reached t e in
     ltb-true t g.teams (closed_walk (plays_in g k l) (λ x. ltb x g.teams)
@@ -216,7 +228,8 @@ in_each-teams g rr i j p = record {
         let found = third_number (round_of g i j) (round_of g j i) in (
           found.0,
           and_from _ _ (lt-ltb found.0 (round_count g.teams) (omega (arith, found.1, rr.four)))
-              (not_from_false _ (or_from _ _ (ne_eqb found.0 (round_of g i j) found.2) (ne_eqb found.0 (round_of g j i) found.3))),
+              (not_from_false _ (or_from _ _ (ne_eqb found.0 (round_of g i j) found.2)
+              (ne_eqb found.0 (round_of g j i) found.3))),
         )
 
     of_team : (t : ℕ) → t < g.teams → (t ≡ i) ⊎ ((t ≡ j) ⊎ ((t ≢ i) × (t ≢ j))) →
@@ -224,7 +237,8 @@ in_each-teams g rr i j p = record {
     of_team t in_t (inl e) =
         (some.0, some.1, subst (λ x. DiffersAt g (moved g (Teams i j)) x some.0) (sym e) (first some.0 some.1))
     of_team t in_t (inr (inl e)) =
-        let second = differs_of-second g rr (Teams i j) i j p apart (ExchangesTeams-teams g rr i j p) below are some.0 some.1 in
+        let second = differs_of-second g rr (Teams i j) i j p apart
+        (ExchangesTeams-teams g rr i j p) below are some.0 some.1 in
         (some.0, some.1, subst (λ x. DiffersAt g (moved g (Teams i j)) x some.0) (sym e) second)
     of_team t in_t (inr (inr ne)) =
         let q : IsPair g.teams t i = record { home_in = in_t; away_in = p.home_in; distinct = ne.0 } in
@@ -232,14 +246,17 @@ in_each-teams g rr i j p = record {
         let is_in : apart (round_of g t i) ≡ true =
         and_from _ _ (lt-ltb (round_of g t i) (round_count g.teams) (rr.in_range t i q))
         (are_apart_true g i j (round_of g t i)
-        (λ theirs. ne.1 (same_opponent g rr i t j (round_of g t i) (meets_swapped g t i (round_of g t i) met) theirs)) p) in (
+        (λ theirs. ne.1 (same_opponent g rr i t j (round_of g t i) (meets_swapped g t i (round_of g t i) met) theirs))
+        p) in (
           round_of g t i,
           is_in,
-          differs_of-opponent g rr (Teams i j) i j p apart (ExchangesTeams-teams g rr i j p) below are t (round_of g t i) ne.0 ne.1
+          differs_of-opponent g rr (Teams i j) i j p apart (ExchangesTeams-teams g rr i j p) below are t
+              (round_of g t i) ne.0 ne.1
               (inl met) is_in,
         )
 
-in_each-part_teams : (g : Games) → IsDoubleRoundRobin g → (i j k : ℕ) → IsPartTeams g i j k → DiffersInEachTouched g (PartTeams i j k)
+in_each-part_teams : (g : Games) → IsDoubleRoundRobin g → (i j k : ℕ) → IsPartTeams g i j k →
+    DiffersInEachTouched g (PartTeams i j k)
 in_each-part_teams g rr i j k known = record {
   teams = λ t e. of_team t e (cases_exchanged i j t);
   rounds = λ r e. (i, touched-first g rr i j k known, first r e);
@@ -260,17 +277,20 @@ in_each-part_teams g rr i j k known = record {
 
     first : (r : ℕ) → taken g rr i j k known r ≡ true → DiffersAt g (moved g (PartTeams i j k)) i r
     first =
-        differs_of-first g rr (PartTeams i j k) i j known.pair (taken g rr i j k known) (ExchangesTeams-part_teams g rr i j k known)
+        differs_of-first g rr (PartTeams i j k) i j known.pair (taken g rr i j k known)
+        (ExchangesTeams-part_teams g rr i j k known)
         below (taken-apart g rr i j k known)
 
     there : ℕ → Type 0
     there t = (r : ℕ) × (taken g rr i j k known r ≡ true) × DiffersAt g (moved g (PartTeams i j k)) t r
 
-    opponent : (t : ℕ) → t ≢ i → t ≢ j → (r : ℕ) → Meets g t i r ⊎ Meets g t j r → taken g rr i j k known r ≡ true → there t
+    opponent : (t : ℕ) → t ≢ i → t ≢ j → (r : ℕ) → Meets g t i r ⊎ Meets g t j r →
+        taken g rr i j k known r ≡ true → there t
     opponent t not_i not_j r met is_in = (
       r,
       is_in,
-      differs_of-opponent g rr (PartTeams i j k) i j known.pair (taken g rr i j k known) (ExchangesTeams-part_teams g rr i j k known)
+      differs_of-opponent g rr (PartTeams i j k) i j known.pair (taken g rr i j k known)
+          (ExchangesTeams-part_teams g rr i j k known)
           below (taken-apart g rr i j k known) t r not_i not_j met is_in,
     )
 
@@ -287,7 +307,8 @@ in_each-part_teams g rr i j k known = record {
         (k, least.has_start, subst (λ x. DiffersAt g (moved g (PartTeams i j k)) x k) (sym e) second)
     of_team t touched (inr (inr ne)) =
         let parts =
-        and_parts (ltb t g.teams) (among (round_of g i t) || among (round_of g t i) || among (round_of g j t) || among (round_of g t j))
+        and_parts (ltb t g.teams) (among (round_of g i t) || among (round_of g t i) || among (round_of g j t) || among
+        (round_of g t j))
         (second (eqb t i || eqb t j) _ touched (or_from _ _ (ne_eqb t i ne.0) (ne_eqb t j ne.1))) in
         let in_t = ltb-true t g.teams parts.0 in
         let pair_i : IsPair g.teams t i = record { home_in = in_t; away_in = known.pair.home_in; distinct = ne.0 } in
@@ -314,14 +335,16 @@ each-differs_in_touched g (PartTeams i j k) rr checked =
     in_each-part_teams g rr i j k (part_teams-checked g i j k checked)
 
 -- each main team is touched
-main_team-touched : (g : Games) (mv : Move) → fault_of g mv ≡ Ok tt → (t : ℕ) → main_team g mv t ≡ true → touched_team g mv t ≡ true
+main_team-touched : (g : Games) (mv : Move) → fault_of g mv ≡ Ok tt → (t : ℕ) → main_team g mv t ≡ true →
+    touched_team g mv t ≡ true
 main_team-touched g (Homes i j) checked t e = e
 main_team-touched g (Rounds k l) checked t e = e
 main_team-touched g (Teams i j) checked t e = lt-ltb t g.teams (two_below g.teams i j (teams-checked g i j checked) t e)
 main_team-touched g (PartRounds i k l) checked t e = e
 main_team-touched g (PartTeams i j k) checked t e = or_left _ _ e
 
-pub main_team-below : (g : Games) (mv : Move) → IsDoubleRoundRobin g → fault_of g mv ≡ Ok tt → (t : ℕ) → main_team g mv t ≡ true →
+pub main_team-below : (g : Games) (mv : Move) → IsDoubleRoundRobin g → fault_of g mv ≡ Ok tt → (t : ℕ) →
+    main_team g mv t ≡ true →
     t < g.teams
 main_team-below g mv rr checked t e =
     ((each-differs_in_touched g mv rr checked).teams t (main_team-touched g mv checked t e)).2.team_in

@@ -32,7 +32,8 @@ sides-rounds : (g : Games) (mv : Move) → IsDoubleRoundRobin g → (k l : ℕ) 
     (among : ℕ → Bool) → ExchangesRounds g mv k l among →
     DiffersOnlyAt is_home g (moved g mv) (box (λ t. among t && turns g k l t) (is_either k l))
 sides-rounds g mv rr k l p among exchanges =
-    subst (λ (x : Games). DiffersOnlyAt is_home g x (box (λ t. among t && turns g k l t) (is_either k l))) (sym exchanges.is)
+    subst (λ (x : Games). DiffersOnlyAt is_home g x (box (λ t. among t && turns g k l t) (is_either k l)))
+    (sym exchanges.is)
     (sides-rounds_exchanged g rr k l p among exchanges.closed)
 
 around-teams : (g : Games) (mv : Move) → IsDoubleRoundRobin g → (i j : ℕ) → IsPair g.teams i j → (among : ℕ → Bool) →

@@ -63,7 +63,8 @@ each-exchanges_rounds g mv cells main k l is =
     by_variant : (mv ≡ Rounds k l) ⊎ ((i : ℕ) × (mv ≡ PartRounds i k l)) → ExchangesRounds g mv k l (main_team g mv)
     by_variant (inl e) =
         subst (λ (m : Move). ExchangesRounds g m k l (main_team g m)) (sym e)
-        (ExchangesRounds-rounds g main.round_robin k l (rounds-checked g k l (at_variant g mv (Rounds k l) e main.checked)))
+        (ExchangesRounds-rounds g main.round_robin k l
+        (rounds-checked g k l (at_variant g mv (Rounds k l) e main.checked)))
     by_variant (inr e) =
         let known = part_rounds-checked g e.0 k l (at_variant g mv (PartRounds e.0 k l) e.1 main.checked) in
         subst (λ (m : Move). ExchangesRounds g m k l (main_team g m)) (sym e.1)
@@ -85,14 +86,16 @@ each-exchanges_teams g mv cells main i j is =
         (part_teams-checked g i j e.0 (at_variant g mv (PartTeams i j e.0) e.1 main.checked)))
 
 -- the main teams are the same on the schedule that the move gives
-same_main_team : (g : Games) (mv : Move) → IsItsOwnInverse g mv → (t : ℕ) → main_team (moved g mv) mv t ≡ main_team g mv t
+same_main_team : (g : Games) (mv : Move) → IsItsOwnInverse g mv → (t : ℕ) → main_team (moved g mv) mv t ≡
+    main_team g mv t
 same_main_team g (Homes i j) twice t = twice.teams t
 same_main_team g (Rounds k l) twice t = twice.teams t
 same_main_team g (Teams i j) twice t = refl
 same_main_team g (PartRounds i k l) twice t = twice.teams t
 same_main_team g (PartTeams i j k) twice t = refl
 
-pub AreMainCells-moved : (g : Games) (mv : Move) (cells : TouchedCells) → AreMainCells g mv cells → AreMainCells (moved g mv) mv cells
+pub AreMainCells-moved : (g : Games) (mv : Move) (cells : TouchedCells) → AreMainCells g mv cells →
+    AreMainCells (moved g mv) mv cells
 AreMainCells-moved g mv cells main =
     let twice = each-its_own_inverse g mv main.round_robin main.checked in
     record {
@@ -103,9 +106,12 @@ AreMainCells-moved g mv cells main =
     }
 
 -- made, it can be made once more with the same cells, and is then taken back
-pub made-again : (g g' : Games) (mv : Move) (cells : TouchedCells) → AreMainCells g mv cells → g' ≡ moved g mv → AreMainCells g' mv cells
-made-again g g' mv cells main is = subst (λ (x : Games). AreMainCells x mv cells) (sym is) (AreMainCells-moved g mv cells main)
+pub made-again : (g g' : Games) (mv : Move) (cells : TouchedCells) → AreMainCells g mv cells → g' ≡ moved g mv →
+    AreMainCells g' mv cells
+made-again g g' mv cells main is = subst (λ (x : Games). AreMainCells x mv cells) (sym is)
+    (AreMainCells-moved g mv cells main)
 
-pub made-back : (g g' : Games) (mv : Move) (cells : TouchedCells) → AreMainCells g mv cells → g' ≡ moved g mv → moved g' mv ≡ g
+pub made-back : (g g' : Games) (mv : Move) (cells : TouchedCells) → AreMainCells g mv cells → g' ≡ moved g mv →
+    moved g' mv ≡ g
 made-back g g' mv cells main is =
     ap (λ (x : Games). moved x mv) is ∙ (each-its_own_inverse g mv main.round_robin main.checked).back

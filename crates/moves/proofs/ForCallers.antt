@@ -11,8 +11,8 @@ use Rattle.moves.specs.MainCells.{side_team, AreMainCells}
 use Rattle.moves.proofs.EachAround.{each-around, each-sides}
 use Rattle.moves.proofs.DiffersThere.{each-differs_in_touched, main_team-below}
 -- of each move that can be made on a double round robin
-pub use Rattle.moves.proofs.EachMove.{each-its_own_inverse as each_its_own_inverse, each-double_round_robin as each_double_round_robin}
-pub use Rattle.moves.proofs.EachMove.{AreMainCells-moved as main_cells_moved}
+pub use Rattle.moves.proofs.EachMove.{each-its_own_inverse as each_its_own_inverse, each-differs as each_differs}
+pub use Rattle.moves.proofs.EachMove.{each-double_round_robin as each_double_round_robin}
 pub use Rattle.moves.proofs.KeptMeetings.{each-keeps_meetings as each_keeps_meetings}
 
 -- what differs after a move is around the main cells
@@ -20,11 +20,13 @@ pub differs_around : (g : Games) (mv : Move) (cells : TouchedCells) → AreMainC
     DiffersOnlyAround g (moved g mv) (has cells.teams) (has cells.rounds)
 differs_around g mv cells main =
     subst (λ teams. DiffersOnlyAround g (moved g mv) teams (has cells.rounds)) (sym (fun_ext main.teams))
-    (subst (DiffersOnlyAround g (moved g mv) _) (sym (fun_ext main.rounds)) (each-around g mv main.round_robin main.checked))
+    (subst (DiffersOnlyAround g (moved g mv) _) (sym (fun_ext main.rounds))
+    (each-around g mv main.round_robin main.checked))
 
 -- and the sides that differ are those of the side teams
 pub sides_differ_at : (g : Games) (mv : Move) (cells : TouchedCells) (sides : ℕ) → AreMainCells g mv cells →
-    ((t : ℕ) → has sides t ≡ side_team g mv t) → DiffersOnlyAt is_home g (moved g mv) (box (has sides) (has cells.rounds))
+    ((t : ℕ) → has sides t ≡ side_team g mv t) →
+    DiffersOnlyAt is_home g (moved g mv) (box (has sides) (has cells.rounds))
 sides_differ_at g mv cells sides main same =
     subst (λ teams. DiffersOnlyAt is_home g (moved g mv) (box teams (has cells.rounds))) (sym (fun_ext same))
     (subst (λ rounds. DiffersOnlyAt is_home g (moved g mv) (box (side_team g mv) rounds)) (sym (fun_ext main.rounds))

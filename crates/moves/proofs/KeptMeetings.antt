@@ -35,19 +35,23 @@ module _ (g : Games) (rr : IsDoubleRoundRobin g) (i j : ℕ) (p : IsPair g.teams
   l = round_of g j i
 
   -- the two teams meet each other in both rounds
-  same_opponent-either : (t o r : ℕ) → Meets g t o k → Meets g t o l → (cell g t (exchanged k l r)).opponent ≡ (cell g t r).opponent
+  same_opponent-either : (t o r : ℕ) → Meets g t o k → Meets g t o l →
+      (cell g t (exchanged k l r)).opponent ≡ (cell g t r).opponent
   same_opponent-either t o r in_k in_l =
       elim (cases_exchanged k l r) [
         | inl e ↦
             ap (λ x. (cell g t (exchanged k l x)).opponent) e ∙ ap (λ x. (cell g t x).opponent) (exchanged_first k l) ∙
-            opponent-meets g rr t o l in_l ∙ sym (opponent-meets g rr t o k in_k) ∙ ap (λ x. (cell g t x).opponent) (sym e)
+            opponent-meets g rr t o l in_l ∙ sym (opponent-meets g rr t o k in_k) ∙
+            ap (λ x. (cell g t x).opponent) (sym e)
         | inr (inl e) ↦
             ap (λ x. (cell g t (exchanged k l x)).opponent) e ∙ ap (λ x. (cell g t x).opponent) (exchanged_second k l) ∙
-            opponent-meets g rr t o k in_k ∙ sym (opponent-meets g rr t o l in_l) ∙ ap (λ x. (cell g t x).opponent) (sym e)
+            opponent-meets g rr t o k in_k ∙ sym (opponent-meets g rr t o l in_l) ∙
+            ap (λ x. (cell g t x).opponent) (sym e)
         | inr (inr ne) ↦ ap (λ x. (cell g t x).opponent) (exchanged_other k l r ne.0 ne.1)
       ]
 
-  same_opponent-two : (t r : ℕ) → touched_team g (Homes i j) t ≡ true → (cell g t (exchanged k l r)).opponent ≡ (cell g t r).opponent
+  same_opponent-two : (t r : ℕ) → touched_team g (Homes i j) t ≡ true →
+      (cell g t (exchanged k l r)).opponent ≡ (cell g t r).opponent
   same_opponent-two t r e =
       elim (or_cases (eqb t i) (eqb t j) e) [
         | inl at_i ↦
@@ -82,7 +86,8 @@ module _ (g : Games) (rr : IsDoubleRoundRobin g) (i j : ℕ) (p : IsPair g.teams
 
 module _ (g : Games) (rr : IsDoubleRoundRobin g) (i j : ℕ) (p : IsPair g.teams i j) where
   -- in a round in which i and j meet, whom a team meets is whom the other met, under the other name
-  where_they_meet : (t r : ℕ) → t < g.teams → Meets g i j r → (cell g t r).opponent ≡ exchanged i j (cell g (exchanged i j t) r).opponent
+  where_they_meet : (t r : ℕ) → t < g.teams → Meets g i j r → (cell g t r).opponent ≡
+      exchanged i j (cell g (exchanged i j t) r).opponent
   where_they_meet t r in_t met =
       let back = meets_swapped g i j r met in
       elim (cases_exchanged i j t) [
@@ -97,7 +102,8 @@ module _ (g : Games) (rr : IsDoubleRoundRobin g) (i j : ℕ) (p : IsPair g.teams
         | inr (inr ne) ↦
             sym (exchanged_other i j (cell g t r).opponent
             (λ e. ne.1 (same_opponent g rr i t j r (meets_swapped g t i r (subst (λ o. Meets g t o r) e opponent)) met))
-            (λ e. ne.0 (same_opponent g rr j t i r (meets_swapped g t j r (subst (λ o. Meets g t o r) e opponent)) back))) ∙
+            (λ e. ne.0 (same_opponent g rr j t i r
+            (meets_swapped g t j r (subst (λ o. Meets g t o r) e opponent)) back))) ∙
             ap (λ x. exchanged i j (cell g x r).opponent) (sym (exchanged_other i j t ne.0 ne.1))
       ]
     where

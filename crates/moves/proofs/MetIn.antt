@@ -1,5 +1,5 @@
 -- The opponents of a team that a loop over some rounds has met.
-use Rattle.std.proofs.Common.{◌≡◌, ◌≢◌, ℕ, ◌<◌, ◌⊎◌, inl, inr, Bool, true, false, not, ◌&&◌, ◌||◌, eqb, ltb, refl, sym, ◌∙◌, ap, ap₂}
+use Rattle.std.proofs.Common.{◌≡◌, ◌≢◌, ℕ, ◌<◌, inl, inr, Bool, true, false, not, ◌&&◌, ◌||◌, eqb, ltb, refl, sym, ◌∙◌, ap, ap₂}
 use Rattle.std.proofs.lemmas.Bool.{cases_eq, and_parts, and_from, and_right, or_parts, or_left, or_right, eq-eqb, ne_eqb, eqb-false, lt-ltb, ltb-true}
 use Rattle.league.specs.Sets.{has, IsWithoutLowest}
 use Rattle.league.proofs.ForCallers.{has_empty}
@@ -8,7 +8,8 @@ use Rattle.fixtures.proofs.ForCallers.{Meets, same_opponent, and_agree, or_agree
 
 -- i and j, and the opponents of i in the rounds that pass
 abbrev pub opponents_in : Games → ℕ → ℕ → (ℕ → Bool) → ℕ → Bool
-opponents_in g i j passes t = eqb t i || eqb t j || (ltb t g.teams && (passes (round_of g i t) || passes (round_of g t i)))
+opponents_in g i j passes t =
+    eqb t i || eqb t j || (ltb t g.teams && (passes (round_of g i t) || passes (round_of g t i)))
 
 -- whether the round is of the set and no longer left
 abbrev pub is_passed : ℕ → ℕ → ℕ → Bool
@@ -21,7 +22,8 @@ pub record IsMetIn (g : Games) (i j all left found : ℕ) : Type 0 where
 
 -- tests that agree on the rounds of i's games give the same opponents
 opponents_same : (g : Games) (i j : ℕ) (old new : ℕ → Bool) (t : ℕ) →
-    (t ≢ i → t < g.teams → (old (round_of g i t) ≡ new (round_of g i t)) × (old (round_of g t i) ≡ new (round_of g t i))) →
+    (t ≢ i → t < g.teams →
+    (old (round_of g i t) ≡ new (round_of g i t)) × (old (round_of g t i) ≡ new (round_of g t i))) →
     opponents_in g i j old t ≡ opponents_in g i j new t
 opponents_same g i j old new t same =
     or_agree (eqb t i || eqb t j) _ _ (λ out. and_agree (ltb t g.teams) _ _ (λ below.
@@ -29,10 +31,13 @@ opponents_same g i j old new t same =
     ap₂ (λ x y. x || y) agree.0 agree.1))
 
 -- the opponent in the lowest round that is left is met
-module _ (g : Games) (rr : IsDoubleRoundRobin g) (i j all left lowest rest found new o : ℕ) (met : IsMetIn g i j all left found)
-    (taken : IsWithoutLowest left lowest rest) (meets : Meets g i o lowest) (put : (t : ℕ) → has new t ≡ (eqb t o || has found t)) where
+module _ (g : Games) (rr : IsDoubleRoundRobin g) (i j all left lowest rest found new o : ℕ)
+    (met : IsMetIn g i j all left found)
+    (taken : IsWithoutLowest left lowest rest) (meets : Meets g i o lowest)
+    (put : (t : ℕ) → has new t ≡ (eqb t o || has found t)) where
   other_round : (r : ℕ) → r ≢ lowest → is_passed all left r ≡ is_passed all rest r
-  other_round r ne = ap (λ b. has all r && not b) (sym (taken.others r ∙ ap (λ b. has left r && not b) (ne_eqb r lowest ne) ∙ kept (has left r)))
+  other_round r ne = ap (λ b. has all r && not b)
+      (sym (taken.others r ∙ ap (λ b. has left r && not b) (ne_eqb r lowest ne) ∙ kept (has left r)))
     where
       kept : (x : Bool) → (x && true) ≡ x
       kept true = refl
@@ -41,7 +46,8 @@ module _ (g : Games) (rr : IsDoubleRoundRobin g) (i j all left lowest rest found
   lowest_passed : is_passed all rest lowest ≡ true
   lowest_passed =
       and_from _ _ (met.within lowest taken.in_set)
-      (ap not (taken.others lowest ∙ ap (λ b. has left lowest && not b) (eq-eqb lowest lowest refl) ∙ and_right (has left lowest) false refl))
+      (ap not (taken.others lowest ∙ ap (λ b. has left lowest && not b) (eq-eqb lowest lowest refl) ∙
+      and_right (has left lowest) false refl))
 
   at_opponent : (t : ℕ) → t ≡ o → opponents_in g i j (is_passed all rest) t ≡ true
   at_opponent t e =
@@ -54,7 +60,11 @@ module _ (g : Games) (rr : IsDoubleRoundRobin g) (i j all left lowest rest found
   at_other : (t : ℕ) → t ≢ o → opponents_in g i j (is_passed all left) t ≡ opponents_in g i j (is_passed all rest) t
   at_other t ne =
       opponents_same g i j (is_passed all left) (is_passed all rest) t (λ not_i below.
-      let pair : IsPair g.teams i t = record { home_in = meets.0.home_in; away_in = below; distinct = λ e. not_i (sym e) } in (
+      let pair : IsPair g.teams i t = record {
+        home_in = meets.0.home_in;
+        away_in = below;
+        distinct = λ e. not_i (sym e);
+      } in (
         other_round (round_of g i t) (λ e. ne (same_opponent g rr i t o lowest (pair, inl e) meets)),
         other_round (round_of g t i) (λ e. ne (same_opponent g rr i t o lowest (pair, inr e) meets)),
       ))
@@ -71,7 +81,8 @@ module _ (g : Games) (rr : IsDoubleRoundRobin g) (i j all left lowest rest found
 pub met_all : (g : Games) (i j all left found : ℕ) → IsMetIn g i j all left found → left ≡ 0 → (t : ℕ) →
     has found t ≡ opponents_in g i j (has all) t
 met_all g i j all left found met none_left t =
-    met.is_met t ∙ opponents_same g i j (is_passed all left) (has all) t (λ _ _. (passed (round_of g i t), passed (round_of g t i)))
+    met.is_met t ∙ opponents_same g i j (is_passed all left) (has all) t
+    (λ _ _. (passed (round_of g i t), passed (round_of g t i)))
   where
     passed : (r : ℕ) → is_passed all left r ≡ has all r
     passed r = ap (λ b. has all r && not b) (ap (λ s. has s r) none_left ∙ has_empty r) ∙ kept (has all r)

@@ -19,7 +19,8 @@ or_twice false false = refl
 
 -- ---- rounds
 
-module _ (g : Games) (rr : IsDoubleRoundRobin g) (i k l : ℕ) (in_i : i < g.teams) (p : IsPair (round_count g.teams) k l) where
+module _ (g : Games) (rr : IsDoubleRoundRobin g) (i k l : ℕ) (in_i : i < g.teams)
+    (p : IsPair (round_count g.teams) k l) where
   abbrev pub movers : ℕ → Bool
   movers = member (moved_teams_of g i k l)
 
@@ -34,7 +35,8 @@ module _ (g : Games) (rr : IsDoubleRoundRobin g) (i k l : ℕ) (in_i : i < g.tea
   IsDoubleRoundRobin-part_rounds =
       round_robin_rounds_exchanged g rr k l p.home_in p.away_in movers IsLeastClosed-moved_teams.closed
 
-  pub DiffersOnlyIn-part_rounds : DiffersOnlyIn g (moved g (PartRounds i k l)) (touched_team g (PartRounds i k l)) (touched_round g (PartRounds i k l))
+  pub DiffersOnlyIn-part_rounds : DiffersOnlyIn g (moved g (PartRounds i k l)) (touched_team g (PartRounds i k l))
+      (touched_round g (PartRounds i k l))
   DiffersOnlyIn-part_rounds =
       differs_only_in_games g _ movers (touched_round g (PartRounds i k l)) rr IsDoubleRoundRobin-part_rounds refl
       (kept_rounds_exchanged g k l movers IsLeastClosed-moved_teams.closed)
@@ -60,7 +62,8 @@ module _ (g : Games) (rr : IsDoubleRoundRobin g) (i j k : ℕ) (known : IsPartTe
 
   pub IsLeastClosed-moved_rounds : IsLeastClosed (shares_opponent g i j) k taken
   IsLeastClosed-moved_rounds =
-      least_closed_is_least (shares_opponent g i j) (round_count g.teams) k (shares_in_range g rr i j known.pair) known.in_range
+      least_closed_is_least (shares_opponent g i j) (round_count g.teams) k
+      (shares_in_range g rr i j known.pair) known.in_range
 
   -- in none of the rounds i and j meet
   pub taken-apart : (r : ℕ) → taken r ≡ true → are_apart g i j r ≡ true
@@ -107,7 +110,8 @@ module _ (g : Games) (rr : IsDoubleRoundRobin g) (i j k : ℕ) (known : IsPartTe
   touched-other t below e = or_right _ _ (and_from (ltb t g.teams) (plays_taken t) (lt-ltb t g.teams below) e)
 
   -- both teams of a game that has i or j in one of the rounds
-  both_touched : (h a : ℕ) → IsPair g.teams h a → taken (round_of g h a) ≡ true → ((h ≡ i) ⊎ (h ≡ j)) ⊎ ((a ≡ i) ⊎ (a ≡ j)) →
+  both_touched : (h a : ℕ) → IsPair g.teams h a → taken (round_of g h a) ≡ true →
+      ((h ≡ i) ⊎ (h ≡ j)) ⊎ ((a ≡ i) ⊎ (a ≡ j)) →
       (touched h ≡ true) × (touched a ≡ true)
   both_touched h a q e (inl (inl of_i)) = (
     ap touched of_i ∙ touched-first,
@@ -117,20 +121,24 @@ module _ (g : Games) (rr : IsDoubleRoundRobin g) (i j k : ℕ) (known : IsPartTe
   both_touched h a q e (inl (inr of_j)) = (
     ap touched of_j ∙ touched-second,
     touched-other a q.away_in
-        (or_left _ _ (or_right (taken (round_of g i a) || taken (round_of g a i)) _ (ap (λ x. taken (round_of g x a)) (sym of_j) ∙ e))),
+        (or_left _ _ (or_right (taken (round_of g i a) || taken (round_of g a i)) _
+        (ap (λ x. taken (round_of g x a)) (sym of_j) ∙ e))),
   )
   both_touched h a q e (inr (inl of_i)) = (
     touched-other h q.home_in
-        (or_left _ _ (or_left _ _ (or_right (taken (round_of g i h)) _ (ap (λ x. taken (round_of g h x)) (sym of_i) ∙ e)))),
+        (or_left _ _ (or_left _ _
+        (or_right (taken (round_of g i h)) _ (ap (λ x. taken (round_of g h x)) (sym of_i) ∙ e)))),
     ap touched of_i ∙ touched-first,
   )
   both_touched h a q e (inr (inr of_j)) = (
     touched-other h q.home_in
-        (or_right (taken (round_of g i h) || taken (round_of g h i) || taken (round_of g j h)) _ (ap (λ x. taken (round_of g h x)) (sym of_j) ∙ e)),
+        (or_right (taken (round_of g i h) || taken (round_of g h i) || taken (round_of g j h)) _
+        (ap (λ x. taken (round_of g h x)) (sym of_j) ∙ e)),
     ap touched of_j ∙ touched-second,
   )
 
-  pub DiffersOnlyIn-part_teams : DiffersOnlyIn g (moved g (PartTeams i j k)) (touched_team g (PartTeams i j k)) (touched_round g (PartTeams i j k))
+  pub DiffersOnlyIn-part_teams : DiffersOnlyIn g (moved g (PartTeams i j k)) (touched_team g (PartTeams i j k))
+      (touched_round g (PartTeams i j k))
   DiffersOnlyIn-part_teams =
       differs_only_in_games g _ touched taken rr IsDoubleRoundRobin-part_teams refl
       (λ h a q. elim (kept_teams_exchanged g i j taken known.pair.home_in known.pair.away_in stays_taken h a q) [
@@ -156,12 +164,14 @@ module _ (g : Games) (rr : IsDoubleRoundRobin g) (i j k : ℕ) (known : IsPartTe
 
   -- the test of a game's round gives the same
   same_test : (h a : ℕ) → IsPair g.teams h a →
-      member (moved_rounds_of (moved g (PartTeams i j k)) i j k) (round_of (moved g (PartTeams i j k)) h a) ≡ taken (round_of g h a)
+      member (moved_rounds_of (moved g (PartTeams i j k)) i j k) (round_of (moved g (PartTeams i j k)) h a) ≡
+      taken (round_of g h a)
   same_test h a q =
       ap (λ (xs : List ℕ). member xs (round_of (moved g (PartTeams i j k)) h a)) same_taken ∙
       among_teams_exchanged g i j taken known.pair.home_in known.pair.away_in stays_taken h a q
 
-  same_touched : (t : ℕ) → touched_team (moved g (PartTeams i j k)) (PartTeams i j k) t ≡ touched_team g (PartTeams i j k) t
+  same_touched : (t : ℕ) → touched_team (moved g (PartTeams i j k)) (PartTeams i j k) t ≡
+      touched_team g (PartTeams i j k) t
   same_touched t =
       or_agree (eqb t i || eqb t j) _ _ (λ other. and_agree (ltb t g.teams) _ _ (λ below.
       let apart = or_parts (eqb t i) (eqb t j) other in
@@ -190,7 +200,11 @@ module _ (g : Games) (rr : IsDoubleRoundRobin g) (i j k : ℕ) (known : IsPartTe
   plays_taken-first : (t : ℕ) → t < g.teams → t ≢ i → t ≢ j →
       (taken (round_of g i t) || taken (round_of g t i)) ≡ plays_taken t
   plays_taken-first t below ne_i ne_j =
-      let pair : IsPair g.teams i t = record { home_in = known.pair.home_in; away_in = below; distinct = λ e. ne_i (sym e) } in
+      let pair : IsPair g.teams i t = record {
+        home_in = known.pair.home_in;
+        away_in = below;
+        distinct = λ e. ne_i (sym e);
+      } in
       let other = exchanged_other i j t ne_i ne_j in
       let home : taken (round_of g j t) ≡ taken (round_of g i t) =
       sym (ap taken (ap₂ (round_of g) (exchanged_first i j) other)) ∙

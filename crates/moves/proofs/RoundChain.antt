@@ -3,14 +3,15 @@
 use Rattle.std.proofs.Common.{◌≡◌, ◌≢◌, ℕ, ◌<◌, inl, inr, Bool, false, refl, sym, subst}
 use Rattle.std.specs.Prelude.{IsTrue}
 use Rattle.std.proofs.lemmas.Bool.{cases_eq, false_from_ne_true}
-use Rattle.fixtures.specs.Games.{Games, IsCell, IsDoubleRoundRobin, round_count, cell, cell_round}
+use Rattle.fixtures.specs.Games.{Games, IsCell, IsDoubleRoundRobin, round_count, cell, cell_round, round_of}
 use Rattle.fixtures.specs.Closed.{IsLeastClosed, shares_opponent}
 use Rattle.fixtures.proofs.ForCallers.{is_cell, IsReached, reached_start, reached_step, Meets, meets_swapped, meets_in_range, same_opponent, meets_cell, Follows, follows_once, follows_back, shares_opponent_forward, shares_opponent_cases}
 use Rattle.moves.proofs.Added.{Adds, Adds-new, Adds-old, Adds-cases, only-new}
 
 -- i has a cell in the first round, and j the same in the second
 pub Follows-cell : (g : Games) → IsDoubleRoundRobin g → (i j first second : ℕ) → i < g.teams → j < g.teams →
-    first < round_count g.teams → ¬ Meets g i j first → second ≡ cell_round g j (cell g i first) → Follows g i j first second
+    first < round_count g.teams → ¬ Meets g i j first → second ≡ cell_round (round_of g) j (cell g i first) →
+    Follows g i j first second
 Follows-cell g rr i j first second in_i in_j in_range apart is =
     let of_i : IsCell g i first (cell g i first) = is_cell g rr i first in_i in_range in (
       cell g i first,
@@ -43,7 +44,8 @@ IsRoundChain-start g i j start none set below apart empty adds = record {
   last_in = Adds-new start none set adds;
   last_below = below;
   last_apart = apart;
-  reached = λ r here. subst (IsReached (shares_opponent g i j) start) (sym (only r here)) (reached_start (shares_opponent g i j) start);
+  reached = λ r here. subst (IsReached (shares_opponent g i j) start) (sym (only r here))
+      (reached_start (shares_opponent g i j) start);
   followed = λ r s here other follows. absurd (other (only r here));
   following = λ r s here other follows. absurd (other (only s here));
 }
@@ -61,13 +63,15 @@ module _ (g : Games) (rr : IsDoubleRoundRobin g) (i j start last next : ℕ) (se
     closed = λ r s shares here. elim (shares_opponent_cases g i j r s in_i in_j shares) [
       | inl forward ↦ elim (cases_eq r last) [
         | inl e ↦
-            let is : start ≡ s = follows_once g rr i j last start s to_start (subst (λ q. Follows g i j q s) e forward) in
+            let is : start ≡ s = follows_once g rr i j last start s to_start
+            (subst (λ q. Follows g i j q s) e forward) in
             subst (λ q. IsTrue (set q)) is chain.start_in
         | inr other ↦ chain.followed r s here other forward
       ]
       | inr backward ↦ elim (cases_eq r start) [
         | inl e ↦
-            let is : last ≡ s = follows_back g rr i j last s start to_start (subst (λ q. Follows g i j s q) e backward) in
+            let is : last ≡ s = follows_back g rr i j last s start to_start
+            (subst (λ q. Follows g i j s q) e backward) in
             subst (λ q. IsTrue (set q)) is chain.last_in
         | inr other ↦ (chain.following s r here other backward).0
       ]

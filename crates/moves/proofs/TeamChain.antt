@@ -1,5 +1,5 @@
--- The chain of the teams that follow a team in a partial exchange of rounds k and l: its opponent in round k, that one's
--- opponent in round l, and so on in turn, until the first team comes back.
+-- The chain of the teams that follow a team in a partial exchange of rounds k and l: its opponent in round k, that
+-- one's opponent in round l, and so on in turn, until the first team comes back.
 use Rattle.std.proofs.Common.{◌≡◌, ◌≢◌, ℕ, ◌<◌, inl, inr, Bool, false, refl, sym, subst}
 use Rattle.std.specs.Prelude.{IsTrue}
 use Rattle.std.proofs.lemmas.Bool.{cases_eq, false_from_ne_true}
@@ -8,8 +8,8 @@ use Rattle.fixtures.specs.Closed.{IsLeastClosed, plays_in}
 use Rattle.fixtures.proofs.ForCallers.{IsReached, reached_start, reached_step, Meets, meets_swapped, same_opponent, plays_in_first, plays_in_second, plays_in_cases}
 use Rattle.moves.proofs.Added.{Adds, Adds-new, Adds-old, Adds-cases, only-new}
 
--- The set has the chain from the start to `last`, which was entered over round l: the set without `last` is closed under
--- opponents in round k, and the set without the start under those in round l.
+-- The set has the chain from the start to `last`, which was entered over round l: the set without `last` is closed
+-- under opponents in round k, and the set without the start under those in round l.
 pub record IsTeamChain (g : Games) (k l start last : ℕ) (set : ℕ → Bool) : Type 0 where
   pub start_in : IsTrue (set start)
   pub last_in : IsTrue (set last)
@@ -24,7 +24,8 @@ IsTeamChain-start g k l start none set below empty adds = record {
   start_in = Adds-new start none set adds;
   last_in = Adds-new start none set adds;
   last_below = below;
-  reached = λ t here. subst (IsReached (plays_in g k l) start) (sym (only t here)) (reached_start (plays_in g k l) start);
+  reached = λ t here. subst (IsReached (plays_in g k l) start) (sym (only t here))
+      (reached_start (plays_in g k l) start);
   in_first = λ t u here other are. absurd (other (only t here));
   in_second = λ t u here other are. absurd (other (only t here));
 }
@@ -47,7 +48,8 @@ module _ (g : Games) (rr : IsDoubleRoundRobin g) (k l start last middle next : �
 
   middle_reached : IsReached (plays_in g k l) start middle
   middle_reached =
-      reached_step (plays_in g k l) start last middle (chain.reached last chain.last_in) (plays_in_first g k l last middle to_middle)
+      reached_step (plays_in g k l) start last middle (chain.reached last chain.last_in)
+      (plays_in_first g k l last middle to_middle)
 
   next_reached : IsReached (plays_in g k l) start next
   next_reached =

@@ -31,7 +31,8 @@ module _ (g : Games) (rr : IsDoubleRoundRobin g) (i j : ℕ) (p : IsPair g.teams
   as_rounds : rounds_exchanged g (round_of g i j) (round_of g j i) two ≡ homes_exchanged g i j
   as_rounds = homes_rounds_exchanged g rr i j p two is_two
 
-  pub ExchangesRounds-homes : ExchangesRounds g (Homes i j) (round_of g i j) (round_of g j i) (touched_team g (Homes i j))
+  pub ExchangesRounds-homes : ExchangesRounds g (Homes i j) (round_of g i j) (round_of g j i)
+      (touched_team g (Homes i j))
   ExchangesRounds-homes = record { closed = closed_two; is = sym as_rounds }
 
   by_rounds : IsDoubleRoundRobin (rounds_exchanged g (round_of g i j) (round_of g j i) two)
@@ -42,7 +43,8 @@ module _ (g : Games) (rr : IsDoubleRoundRobin g) (i j : ℕ) (p : IsPair g.teams
   pub IsDoubleRoundRobin-homes : IsDoubleRoundRobin (homes_exchanged g i j)
   IsDoubleRoundRobin-homes = subst IsDoubleRoundRobin as_rounds by_rounds
 
-  pub DiffersOnlyIn-homes : DiffersOnlyIn g (homes_exchanged g i j) (touched_team g (Homes i j)) (touched_round g (Homes i j))
+  pub DiffersOnlyIn-homes : DiffersOnlyIn g (homes_exchanged g i j) (touched_team g (Homes i j))
+      (touched_round g (Homes i j))
   DiffersOnlyIn-homes =
       subst (λ (x : Games). DiffersOnlyIn g x two (touched_round g (Homes i j))) as_rounds
       (differs_only_in_games g _ two (touched_round g (Homes i j)) rr by_rounds refl
@@ -56,7 +58,8 @@ module _ (g : Games) (rr : IsDoubleRoundRobin g) (i j : ℕ) (p : IsPair g.teams
   there : round_of (homes_exchanged g i j) j i ≡ round_of g i j
   there =
       round_of_homes_exchanged g i j j i (pair_swapped g.teams i j p) ∙
-      cond-true _ _ _ (or_right (eqb j i && eqb i j) _ (and_from (eqb j j) (eqb i i) (eq-eqb j j refl) (eq-eqb i i refl)))
+      cond-true _ _ _ (or_right (eqb j i && eqb i j) _
+      (and_from (eqb j j) (eqb i i) (eq-eqb j j refl) (eq-eqb i i refl)))
 
   pub IsItsOwnInverse-homes : fault_of g (Homes i j) ≡ Ok tt → IsItsOwnInverse g (Homes i j)
   IsItsOwnInverse-homes checked = record {
@@ -64,7 +67,8 @@ module _ (g : Games) (rr : IsDoubleRoundRobin g) (i j : ℕ) (p : IsPair g.teams
     back = homes_exchanged_twice g i j rr.pairs_alone;
     least_set = tt;
     teams = λ t. refl;
-    rounds = λ r. ap₂ (λ x y. eqb r x || eqb r y) here there ∙ or_comm (eqb r (round_of g j i)) (eqb r (round_of g i j));
+    rounds = λ r. ap₂ (λ x y. eqb r x || eqb r y) here there ∙
+        or_comm (eqb r (round_of g j i)) (eqb r (round_of g i j));
   }
 
 -- ---- rounds
@@ -76,9 +80,11 @@ module _ (g : Games) (rr : IsDoubleRoundRobin g) (k l : ℕ) (p : IsPair (round_
   pub IsDoubleRoundRobin-rounds : IsDoubleRoundRobin (rounds_exchanged g k l (λ _. true))
   IsDoubleRoundRobin-rounds = round_robin_rounds_exchanged g rr k l p.home_in p.away_in (λ _. true) closed_all
 
-  pub DiffersOnlyIn-rounds : DiffersOnlyIn g (rounds_exchanged g k l (λ _. true)) (touched_team g (Rounds k l)) (touched_round g (Rounds k l))
+  pub DiffersOnlyIn-rounds : DiffersOnlyIn g (rounds_exchanged g k l (λ _. true)) (touched_team g (Rounds k l))
+      (touched_round g (Rounds k l))
   DiffersOnlyIn-rounds =
-      differs_only_in_games g _ (touched_team g (Rounds k l)) (touched_round g (Rounds k l)) rr IsDoubleRoundRobin-rounds refl
+      differs_only_in_games g _ (touched_team g (Rounds k l))
+      (touched_round g (Rounds k l)) rr IsDoubleRoundRobin-rounds refl
       (λ h a q. elim (kept_rounds_exchanged g k l (λ _. true) closed_all h a q) [
         | inl same ↦ inl same
         | inr in_both ↦ inr (lt-ltb h g.teams q.home_in, lt-ltb a g.teams q.away_in, in_both.2)
@@ -89,7 +95,8 @@ module _ (g : Games) (rr : IsDoubleRoundRobin g) (k l : ℕ) (p : IsPair (round_
   ExchangesRounds-rounds = record {
     closed = λ t u plays _. lt-ltb u g.teams (plays_in_parts g k l t u plays).0.away_in;
     is = games_ext g.teams _ _
-        (λ h a q. sym (cond-true (ltb h g.teams) (exchanged k l (round_of g h a)) (round_of g h a) (lt-ltb h g.teams q.home_in)));
+        (λ h a q. sym (cond-true (ltb h g.teams) (exchanged k l (round_of g h a)) (round_of g h a)
+        (lt-ltb h g.teams q.home_in)));
   }
 
   pub IsItsOwnInverse-rounds : fault_of g (Rounds k l) ≡ Ok tt → IsItsOwnInverse g (Rounds k l)
@@ -119,7 +126,8 @@ module _ (g : Games) (rr : IsDoubleRoundRobin g) (i j : ℕ) (p : IsPair g.teams
 
   closed_apart : IsClosed (shares_opponent g i j) apart
   closed_apart r s step _ =
-      and_from _ _ (lt-ltb s (round_count g.teams) (shares_in_range g rr i j p r s step)) (are_apart_step g rr i j p r s step)
+      and_from _ _ (lt-ltb s (round_count g.teams) (shares_in_range g rr i j p r s step))
+      (are_apart_step g rr i j p r s step)
 
   pub stays_apart : StaysAmong g.teams i j apart (round_of g)
   stays_apart = stays_among_closed g i j apart apart-first apart-second closed_apart
@@ -141,7 +149,8 @@ module _ (g : Games) (rr : IsDoubleRoundRobin g) (i j : ℕ) (p : IsPair g.teams
   pub IsDoubleRoundRobin-teams : IsDoubleRoundRobin (all_games_exchanged g i j)
   IsDoubleRoundRobin-teams = subst IsDoubleRoundRobin (sym all_rounds) by_teams
 
-  pub DiffersOnlyIn-teams : DiffersOnlyIn g (all_games_exchanged g i j) (touched_team g (Teams i j)) (touched_round g (Teams i j))
+  pub DiffersOnlyIn-teams : DiffersOnlyIn g (all_games_exchanged g i j) (touched_team g (Teams i j))
+      (touched_round g (Teams i j))
   DiffersOnlyIn-teams =
       subst (λ (x : Games). DiffersOnlyIn g x (touched_team g (Teams i j)) apart) (sym all_rounds)
       (differs_only_in_games g _ (touched_team g (Teams i j)) apart rr by_teams refl
@@ -158,7 +167,8 @@ module _ (g : Games) (rr : IsDoubleRoundRobin g) (i j : ℕ) (p : IsPair g.teams
   own_second : round_of (all_games_exchanged g i j) j i ≡ round_of g j i
   own_second =
       round_of_games g.teams _ j i (pair_swapped g.teams i j p) ∙
-      cond-true _ _ _ (or_right (eqb j i && eqb i j) _ (and_from (eqb j j) (eqb i i) (eq-eqb j j refl) (eq-eqb i i refl)))
+      cond-true _ _ _ (or_right (eqb j i && eqb i j) _
+      (and_from (eqb j j) (eqb i i) (eq-eqb j j refl) (eq-eqb i i refl)))
 
   still_apart : (r : ℕ) → are_apart (all_games_exchanged g i j) i j r ≡ are_apart g i j r
   still_apart r = ap₂ (λ x y. not (eqb r x || eqb r y)) own_first own_second

@@ -1,58 +1,24 @@
--- Moves of Berger tables, by computation. The numbers of moves and of sets count from 0, those of a sheet from 1, and a
--- round has its games by the home team's number.
-use Rattle.std.proofs.Common.{◌≡◌, [], ◌∷◌, map, Err, refl}
+-- Moves of Berger tables, by computation. Teams and rounds are numbered from 0.
+use Rattle.std.proofs.Common.{◌≡◌, [], ◌∷◌, Err, refl}
 use Rattle.fixtures.specs.Berger.{berger_games}
-use Rattle.fixtures.specs.Closed.{moved_teams_of, moved_rounds_of}
-use Rattle.fixtures.proofs.ForCallers.{games_in, sheet}
+use Rattle.fixtures.specs.Edits.{rounds_exchanged, teams_exchanged}
+use Rattle.fixtures.specs.Closed.{member}
 use Rattle.moves.specs.declared.moves.Move.TheVariants.{Homes, Rounds, Teams, PartRounds, PartTeams}
 use Rattle.moves.specs.declared.fault.MoveFault.TheVariants.{BadMove, Meet}
 use Rattle.moves.specs.Moves.{fault_of, moved}
 
--- ---- what has to follow
+-- ---- moves that are an exchange of `fixtures`, whose sheets and least sets stand there
 
-all_teams_of_four : moved_teams_of (berger_games 4) 0 0 1 ≡ 0 ∷ 1 ∷ 2 ∷ 3 ∷ []
-all_teams_of_four = refl
+teams_of_four : moved (berger_games 4) (Teams 0 1) ≡ teams_exchanged (berger_games 4) 0 1 (member (0 ∷ 2 ∷ 3 ∷ 5 ∷ []))
+teams_of_four = refl
 
-two_teams_of_four : moved_teams_of (berger_games 4) 0 0 3 ≡ 0 ∷ 3 ∷ []
-two_teams_of_four = refl
+rounds_of_ten_in_part : moved (berger_games 10) (PartRounds 0 0 3) ≡
+    rounds_exchanged (berger_games 10) 0 3 (member (0 ∷ 3 ∷ 6 ∷ 9 ∷ []))
+rounds_of_ten_in_part = refl
 
-four_teams_of_ten : moved_teams_of (berger_games 10) 0 0 3 ≡ 0 ∷ 3 ∷ 6 ∷ 9 ∷ []
-four_teams_of_ten = refl
-
-four_rounds_of_four_teams : moved_rounds_of (berger_games 4) 0 1 0 ≡ 0 ∷ 2 ∷ 3 ∷ 5 ∷ []
-four_rounds_of_four_teams = refl
-
-two_rounds_of_four_teams : moved_rounds_of (berger_games 4) 0 2 0 ≡ 0 ∷ 4 ∷ []
-two_rounds_of_four_teams = refl
-
-four_rounds_of_six_teams : moved_rounds_of (berger_games 6) 0 3 0 ≡ 0 ∷ 2 ∷ 6 ∷ 9 ∷ []
-four_rounds_of_six_teams = refl
-
--- ---- schedules after a move
-
-teams_exchanged : sheet (moved (berger_games 4) (Teams 0 1)) 6 ≡
-    ((1, 3) ∷ (2, 4) ∷ [])
-    ∷ ((1, 2) ∷ (4, 3) ∷ [])
-    ∷ ((1, 4) ∷ (3, 2) ∷ [])
-    ∷ ((3, 1) ∷ (4, 2) ∷ [])
-    ∷ ((2, 1) ∷ (3, 4) ∷ [])
-    ∷ ((2, 3) ∷ (4, 1) ∷ [])
-    ∷ []
-teams_exchanged = refl
-
-rounds_exchanged_in_part : map (games_in (moved (berger_games 10) (PartRounds 0 0 3))) (1 ∷ 4 ∷ []) ≡
-    ((1, 4) ∷ (2, 9) ∷ (3, 8) ∷ (5, 6) ∷ (10, 7) ∷ [])
-    ∷ ((1, 10) ∷ (2, 3) ∷ (4, 7) ∷ (8, 6) ∷ (9, 5) ∷ [])
-    ∷ []
-rounds_exchanged_in_part = refl
-
-teams_exchanged_in_part : map (games_in (moved (berger_games 6) (PartTeams 0 3 0))) (1 ∷ 3 ∷ 7 ∷ 10 ∷ []) ≡
-    ((2, 5) ∷ (3, 1) ∷ (4, 6) ∷ [])
-    ∷ ((1, 5) ∷ (2, 6) ∷ (3, 4) ∷ [])
-    ∷ ((1, 6) ∷ (2, 4) ∷ (3, 5) ∷ [])
-    ∷ ((2, 1) ∷ (4, 5) ∷ (6, 3) ∷ [])
-    ∷ []
-teams_exchanged_in_part = refl
+teams_of_six_in_part : moved (berger_games 6) (PartTeams 0 3 0) ≡
+    teams_exchanged (berger_games 6) 0 3 (member (0 ∷ 2 ∷ 6 ∷ 9 ∷ []))
+teams_of_six_in_part = refl
 
 -- ---- partial moves of four teams that are whole ones
 

@@ -64,5 +64,7 @@ pub record DiffersAt (g g' : Games) (team round : ℕ) : Type 0 where
 -- each touched team has a cell that differs after the move, in a touched round, and each touched round has one of a
 -- touched team
 pub record DiffersInEachTouched (g : Games) (mv : Move) : Type 0 where
-  pub teams : (t : ℕ) → touched_team g mv t ≡ true → (r : ℕ) × (touched_round g mv r ≡ true) × DiffersAt g (moved g mv) t r
-  pub rounds : (r : ℕ) → touched_round g mv r ≡ true → (t : ℕ) × (touched_team g mv t ≡ true) × DiffersAt g (moved g mv) t r
+  pub teams : (t : ℕ) → touched_team g mv t ≡ true → (r : ℕ) × (touched_round g mv r ≡ true) ×
+      DiffersAt g (moved g mv) t r
+  pub rounds : (r : ℕ) → touched_round g mv r ≡ true → (t : ℕ) × (touched_team g mv t ≡ true) ×
+      DiffersAt g (moved g mv) t r

@@ -11,8 +11,8 @@ use crate::{Move, moved_rounds, moved_teams};
 use fixtures::{Schedule, Touched};
 use league::{SlotSet, TeamSet};
 
-/// The main teams of a move that `check` lets pass, `i` and `j` in the two moves of teams and else the touched ones, and
-/// its touched rounds. A chain is walked once. Takes no memory.
+/// The main teams of a move that `check` lets pass, `i` and `j` in the two moves of teams and else the touched ones,
+/// and its touched rounds. A chain is walked once. Takes no memory.
 pub fn main_cells(schedule: &Schedule, mv: Move) -> Touched
     requires { fault_of schedule.now mv ≡ Ok tt }
     ensures { AreMainCells schedule.now mv result }
@@ -104,7 +104,8 @@ fn two_rounds(k: u8, l: u8) -> SlotSet
 fn rounds_apart(schedule: &Schedule, i: u8, j: u8) -> SlotSet
     requires { IsPair schedule.now.teams i j }
     ensures { (r : ℕ) → has result r ≡
-        (nat_lt r (round_count schedule.now.teams) && not (r == round_of schedule.now i j || r == round_of schedule.now j i)) }
+        (nat_lt r (round_count schedule.now.teams) &&
+        not (r == round_of schedule.now i j || r == round_of schedule.now j i)) }
 {
     let theirs = two_rounds(schedule.round_of(i, j), schedule.round_of(j, i));
     SlotSet::below(schedule.rounds()).difference(theirs)

@@ -58,7 +58,7 @@ fn round_of_same_opponent(schedule: &Schedule, i: u8, j: u8, round: u8) -> u8
     requires round { round < round_count schedule.now.teams }
     requires first { round_of schedule.now i j ≢ round }
     requires second { round_of schedule.now j i ≢ round }
-    ensures value { result ≡ cell_round schedule.now j (cell schedule.now i round) }
+    ensures value { result ≡ cell_round (round_of schedule.now) j (cell schedule.now i round) }
     ensures round_robin { IsDoubleRoundRobin schedule.now }
 {
     let cell = schedule.game_at(i, round);

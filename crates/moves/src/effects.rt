@@ -83,7 +83,8 @@ fn teams_with_opponents(schedule: &Schedule, i: u8, j: u8, rounds: SlotSet) -> T
     requires below { (r : ℕ) → has rounds r ≡ true → r < round_count schedule.now.teams }
     ensures { (t : ℕ) → has result t ≡
         (t == i || t == j ||
-        (nat_lt t schedule.now.teams && (has rounds (round_of schedule.now i t) || has rounds (round_of schedule.now t i)))) }
+        (nat_lt t schedule.now.teams &&
+        (has rounds (round_of schedule.now i t) || has rounds (round_of schedule.now t i)))) }
 {
     let mut found = two_teams(i, j);
     for round in rounds {

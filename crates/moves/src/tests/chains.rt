@@ -1,27 +1,8 @@
+use super::{rounds_of, teams_of};
 use crate::{Move, check, moved_rounds, moved_teams};
 use fixtures::{Schedule, berger};
-use league::{SlotSet, TeamSet};
+use league::TeamSet;
 use std::test::Fail;
-
-fn teams_of(teams: &[u8]) -> TeamSet {
-    let mut set = TeamSet::empty();
-    for &team in teams {
-        if team < 40 {
-            set = set.with(team);
-        }
-    }
-    set
-}
-
-fn rounds_of(rounds: &[u8]) -> SlotSet {
-    let mut set = SlotSet::empty();
-    for &round in rounds {
-        if round < 78 {
-            set = set.with(round);
-        }
-    }
-    set
-}
 
 /// Whether just these teams exchange rounds `k` and `l` with `i`.
 fn move_along(schedule: &Schedule, (i, k, l): (u8, u8, u8), teams: &[u8]) -> bool {

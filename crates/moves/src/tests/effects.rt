@@ -1,181 +1,172 @@
-use crate::{Move, apply, check, main_cells, make, touched, would_change};
-use fixtures::{Cell, Game, Schedule, Touched, berger};
+ghost use Rattle.std.specs.Prelude.{◌<◌};
+ghost use Rattle.fixtures.specs.Games.{round_count};
+
+use crate::{Move, apply, check, main_cells, make, side_teams, touched, would_change};
+use fixtures::{Game, Schedule, berger};
+use league::limits::MAX_ROUNDS;
 use league::{SlotSet, TeamSet};
+use std::alloc::{AllocError, Global};
+use std::process::Abort;
 use std::test::Fail;
 
-/// Four teams after an exchange of teams 1 and 2: round, home and away, from 1.
-const FOUR_AFTER_TEAMS: [(u8, u8, u8); 12] = [
-    (1, 1, 3),
-    (1, 2, 4),
-    (2, 1, 2),
-    (2, 4, 3),
-    (3, 1, 4),
-    (3, 3, 2),
-    (4, 3, 1),
-    (4, 4, 2),
-    (5, 2, 1),
-    (5, 3, 4),
-    (6, 2, 3),
-    (6, 4, 1),
-];
-
-/// Rounds 1 and 4 of ten teams after their exchange for team 1 and those that have to follow.
-const TEN_AFTER_PART_ROUNDS: [(u8, u8, u8); 10] = [
-    (1, 1, 4),
-    (1, 2, 9),
-    (1, 3, 8),
-    (1, 5, 6),
-    (1, 10, 7),
-    (4, 1, 10),
-    (4, 2, 3),
-    (4, 4, 7),
-    (4, 8, 6),
-    (4, 9, 5),
-];
-
-/// Rounds 1, 3, 7 and 10 of six teams after the exchange of teams 1 and 4 in them.
-const SIX_AFTER_PART_TEAMS: [(u8, u8, u8); 12] = [
-    (1, 2, 5),
-    (1, 3, 1),
-    (1, 4, 6),
-    (3, 1, 5),
-    (3, 2, 6),
-    (3, 3, 4),
-    (7, 1, 6),
-    (7, 2, 4),
-    (7, 3, 5),
-    (10, 2, 1),
-    (10, 4, 5),
-    (10, 6, 3),
-];
-
-/// The game of a sheet, whose numbers count from 1.
-fn game((round, home, away): (u8, u8, u8)) -> Game {
-    Game {
-        round: round.saturating_sub(1),
-        home: home.saturating_sub(1),
-        away: away.saturating_sub(1),
-    }
-}
-
-/// Whether the schedule has the game, by its pair and by the cells of both teams.
-fn has_game(schedule: &Schedule, game: Game) -> bool {
-    let teams = schedule.teams();
-    if game.home >= teams || game.away >= teams || game.home == game.away {
-        return false;
-    }
-    if game.round >= schedule.rounds() {
-        return false;
-    }
-    let home = Cell {
-        opponent: game.away,
-        home: true,
-    };
-    let away = Cell {
-        opponent: game.home,
-        home: false,
-    };
-    schedule.round_of(game.home, game.away) == game.round
-        && schedule.game_at(game.home, game.round) == home
-        && schedule.game_at(game.away, game.round) == away
-}
-
-/// Whether the schedule has the games of a sheet.
-fn has_games(schedule: &Schedule, sheet: &[(u8, u8, u8)]) -> bool {
-    sheet.iter().all(|&row| has_game(schedule, game(row)))
-}
-
-/// Whether the two schedules have the same games.
-fn are_equal(left: &Schedule, right: &Schedule) -> bool {
-    let teams = left.teams();
-    if right.teams() != teams {
-        return false;
-    }
-    for home in 0..teams {
-        for away in 0..teams {
-            if home != away && left.round_of(home, away) != right.round_of(home, away) {
-                return false;
-            }
+/// Adds the games of the round to a sheet, whose numbers count from 1.
+fn write_round(text: &mut String, schedule: &Schedule, round: u8) -> Result<(), AllocError>
+    requires { round < round_count schedule.now.teams }
+{
+    let number = round.wrapping_add(1);
+    write!(text, " {number}:")?;
+    for team in 0..schedule.teams() {
+        let cell = schedule.game_at(team, round);
+        if cell.home {
+            let home = team.wrapping_add(1);
+            let away = cell.opponent.wrapping_add(1);
+            write!(text, " {home}-{away}")?;
         }
     }
-    true
+    Ok(())
 }
 
-/// The cells of these teams in these rounds.
-fn cells(teams: &[u8], rounds: &[u8]) -> Touched {
-    let mut touched = Touched {
-        teams: TeamSet::empty(),
-        rounds: SlotSet::empty(),
-    };
-    for &team in teams {
-        if team < 40 {
-            touched.teams = touched.teams.with(team);
+/// The games of these rounds, each round before its games.
+fn sheet(alloc: Global, schedule: &Schedule, rounds: SlotSet) -> Result<String, AllocError> {
+    let mut text = String::new(alloc);
+    for round in rounds {
+        if round < schedule.rounds() {
+            write_round(&mut text, schedule, round)?;
         }
     }
-    for &round in rounds {
-        if round < 78 {
-            touched.rounds = touched.rounds.with(round);
-        }
-    }
-    touched
+    Ok(text)
 }
 
-/// Makes the move, where it can be made and touches what it was said to touch.
-fn made(schedule: &mut Schedule, mv: Move) -> Option<Touched> {
-    match check(schedule, mv) {
-        Ok(()) => {
-            let before = touched(schedule, mv);
-            let after = apply(schedule, mv);
-            (before == after).then_some(after)
-        }
-        Err(_) => None,
-    }
+fn whole_sheet(alloc: Global, schedule: &Schedule) -> Result<String, AllocError> {
+    sheet(alloc, schedule, SlotSet::below(MAX_ROUNDS))
 }
 
-/// Whether the move touches just these cells of the start, leaves these games, and made again gives the start back.
-fn makes(
+fn teams_text(alloc: Global, teams: TeamSet) -> Result<String, AllocError> {
+    let mut text = String::new(alloc);
+    for team in teams {
+        let number = team.wrapping_add(1);
+        write!(text, " {number}")?;
+    }
+    Ok(text)
+}
+
+/// A move, the teams that are said of it from 1, and the games of its rounds after it.
+type Effect = (Move, &'static str, &'static str);
+
+/// Asserts what the move makes of the start, and that made once more it gives the start back.
+fn assert_effect(
+    rt: &impl Abort,
+    alloc: Global,
     start: &Schedule,
-    schedule: &mut Schedule,
-    mv: Move,
-    cells: Touched,
-    sheet: &[(u8, u8, u8)],
-) -> bool {
-    schedule.copy_from(start);
-    made(schedule, mv) == Some(cells)
-        && has_games(schedule, sheet)
-        && made(schedule, mv) == Some(cells)
-        && are_equal(schedule, start)
+    (mv, teams, after): Effect,
+) -> Result<(), Fail> {
+    let mut schedule = start.duplicate(alloc)?;
+    check(&schedule, mv)?;
+    let main = main_cells(&schedule, mv);
+    let main_teams = teams_text(alloc, main.teams)?;
+    let sides = teams_text(alloc, side_teams(&schedule, mv, main))?;
+    let touched = touched(&schedule, mv);
+    let touched_teams = teams_text(alloc, touched.teams)?;
+    let said = format!(in alloc; "main{main_teams} sides{sides} touched{touched_teams}")?;
+    assert_eq!(rt; said.as_str(), teams, "{mv:?}");
+    assert_eq!(rt; main.rounds, touched.rounds, "{mv:?}");
+    make(&mut schedule, mv, main);
+    assert_eq!(rt;
+        sheet(alloc, &schedule, touched.rounds)?.as_str(),
+        after,
+        "{mv:?}"
+    );
+    make(&mut schedule, mv, main);
+    assert_eq!(rt;
+        whole_sheet(alloc, &schedule)?,
+        whole_sheet(alloc, start)?,
+        "{mv:?}"
+    );
+    assert_eq!(rt; apply(&mut schedule, mv), touched, "{mv:?}");
+    assert_eq!(rt;
+        sheet(alloc, &schedule, touched.rounds)?.as_str(),
+        after,
+        "{mv:?}"
+    );
+    Ok(())
 }
 
-/// Whether the move, made with its main cells, leaves these games, and made again with them gives the start back.
-fn makes_with(
-    start: &Schedule,
-    schedule: &mut Schedule,
-    mv: Move,
-    main: Touched,
-    sheet: &[(u8, u8, u8)],
-) -> bool {
-    schedule.copy_from(start);
-    if check(schedule, mv).is_err() {
-        return false;
+#[test]
+fn whole_moves_of_four(rt: HostRuntime) -> Result<(), Fail> {
+    let start = berger(rt.alloc(), 4)?;
+    let effects: [Effect; 3] = [
+        (
+            Move::Homes { i: 0, j: 1 },
+            "main 1 2 sides 1 2 touched 1 2",
+            " 2: 2-1 4-3 5: 1-2 3-4",
+        ),
+        (
+            Move::Rounds { k: 4, l: 5 },
+            "main 1 2 3 4 sides 1 2 3 4 touched 1 2 3 4",
+            " 5: 1-3 4-2 6: 2-1 3-4",
+        ),
+        (
+            Move::Teams { i: 0, j: 1 },
+            "main 1 2 sides 1 2 touched 1 2 3 4",
+            " 1: 1-3 2-4 3: 1-4 3-2 4: 3-1 4-2 6: 2-3 4-1",
+        ),
+    ];
+    for effect in effects {
+        assert_effect(&rt, rt.alloc(), &start, effect)?;
     }
-    let cells = main_cells(schedule, mv);
-    make(schedule, mv, cells);
-    let leaves = has_games(schedule, sheet);
-    make(schedule, mv, cells);
-    cells == main && leaves && are_equal(schedule, start)
+    Ok(())
 }
 
-/// Whether two moves make the same of the start.
-fn make_the_same(
-    start: &Schedule,
-    left: &mut Schedule,
-    right: &mut Schedule,
-    (mv, same): (Move, Move),
-) -> bool {
-    left.copy_from(start);
-    right.copy_from(start);
-    made(left, mv).is_some() && made(right, same).is_some() && are_equal(left, right)
+#[test]
+fn partial_moves_of_ten_and_six(rt: HostRuntime) -> Result<(), Fail> {
+    let ten = berger(rt.alloc(), 10)?;
+    let of_four_teams: Effect = (
+        Move::PartRounds { i: 0, k: 0, l: 3 },
+        "main 1 4 7 10 sides 4 10 touched 1 4 7 10",
+        " 1: 1-4 2-9 3-8 5-6 10-7 4: 1-10 2-3 4-7 8-6 9-5",
+    );
+    assert_effect(&rt, rt.alloc(), &ten, of_four_teams)?;
+    let of_some_teams: Effect = (
+        Move::PartTeams { i: 0, j: 3, k: 4 },
+        "main 1 4 sides 1 4 touched 1 2 4 5 8",
+        " 2: 4-2 7-5 8-1 9-3 10-6 5: 1-2 3-10 5-4 6-9 7-8 17: 5-1 6-3 7-2 8-4 9-10",
+    );
+    assert_effect(&rt, rt.alloc(), &ten, of_some_teams)?;
+    let six = berger(rt.alloc(), 6)?;
+    let of_all_teams: Effect = (
+        Move::PartTeams { i: 0, j: 3, k: 0 },
+        "main 1 4 sides 1 4 touched 1 2 3 4 5 6",
+        " 1: 2-5 3-1 4-6 3: 1-5 2-6 3-4 7: 1-6 2-4 3-5 10: 2-1 4-5 6-3",
+    );
+    assert_effect(&rt, rt.alloc(), &six, of_all_teams)
+}
+
+/// The sheet of the schedule after the move.
+fn sheet_after(alloc: Global, start: &Schedule, mv: Move) -> Result<String, Fail> {
+    let mut schedule = start.duplicate(alloc)?;
+    check(&schedule, mv)?;
+    apply(&mut schedule, mv);
+    Ok(whole_sheet(alloc, &schedule)?)
+}
+
+#[test]
+fn partial_moves_of_four_that_are_whole(rt: HostRuntime) -> Result<(), Fail> {
+    let four = berger(rt.alloc(), 4)?;
+    let (k, l) = (0, 1);
+    let rounds = sheet_after(rt.alloc(), &four, Move::Rounds { k, l })?;
+    let of_all_teams = Move::PartRounds { i: 0, k, l };
+    assert_eq!(rt; sheet_after(rt.alloc(), &four, of_all_teams)?, rounds);
+    let (i, j) = (0, 1);
+    let teams = sheet_after(rt.alloc(), &four, Move::Teams { i, j })?;
+    let in_all_rounds = Move::PartTeams { i, j, k: 0 };
+    assert_eq!(rt; sheet_after(rt.alloc(), &four, in_all_rounds)?, teams);
+    let homes = sheet_after(rt.alloc(), &four, Move::Homes { i: 0, j: 3 })?;
+    let of_two_teams = Move::PartRounds { i: 0, k: 0, l: 3 };
+    assert_eq!(rt; sheet_after(rt.alloc(), &four, of_two_teams)?, homes);
+    let rounds = sheet_after(rt.alloc(), &four, Move::Rounds { k: 0, l: 4 })?;
+    let in_two_rounds = Move::PartTeams { i: 0, j: 2, k: 0 };
+    assert_eq!(rt; sheet_after(rt.alloc(), &four, in_two_rounds)?, rounds);
+    Ok(())
 }
 
 /// Whether the move changes the game, where it can be made and the game is there.
@@ -194,133 +185,23 @@ fn changes(schedule: &Schedule, mv: Move, game: Game) -> Option<bool> {
 }
 
 #[test]
-fn whole_moves_of_four(rt: HostRuntime) -> Result<(), Fail> {
-    let start = berger(rt.alloc(), 4)?;
-    let mut four = start.duplicate(rt.alloc())?;
-    let homes = Move::Homes { i: 0, j: 1 };
-    let two_rounds = [(2, 2, 1), (2, 4, 3), (5, 1, 2), (5, 3, 4)];
-    assert!(rt;
-        makes(
-            &start,
-            &mut four,
-            homes,
-            cells(&[0, 1], &[1, 4]),
-            &two_rounds
-        )
-    );
-    let all = [0, 1, 2, 3];
-    let teams = Move::Teams { i: 0, j: 1 };
-    assert!(rt;
-        makes(
-            &start,
-            &mut four,
-            teams,
-            cells(&all, &[0, 2, 3, 5]),
-            &FOUR_AFTER_TEAMS
-        )
-    );
-    let rounds = Move::Rounds { k: 4, l: 5 };
-    let last_rounds = [(5, 1, 3), (5, 4, 2), (6, 2, 1), (6, 3, 4)];
-    assert!(rt;
-        makes(
-            &start,
-            &mut four,
-            rounds,
-            cells(&all, &[4, 5]),
-            &last_rounds
-        )
-    );
-    Ok(())
-}
-
-#[test]
-fn partial_moves_of_ten_and_six(rt: HostRuntime) -> Result<(), Fail> {
-    let start = berger(rt.alloc(), 10)?;
-    let mut ten = start.duplicate(rt.alloc())?;
-    let rounds = Move::PartRounds { i: 0, k: 0, l: 3 };
-    let four_teams = cells(&[0, 3, 6, 9], &[0, 3]);
-    assert!(rt; makes(&start, &mut ten, rounds, four_teams, &TEN_AFTER_PART_ROUNDS));
-    let start = berger(rt.alloc(), 6)?;
-    let mut six = start.duplicate(rt.alloc())?;
-    let teams = Move::PartTeams { i: 0, j: 3, k: 0 };
-    let four_rounds = cells(&[0, 1, 2, 3, 4, 5], &[0, 2, 6, 9]);
-    assert!(rt; makes(&start, &mut six, teams, four_rounds, &SIX_AFTER_PART_TEAMS));
-    Ok(())
-}
-
-#[test]
-fn moves_made_with_main_cells(rt: HostRuntime) -> Result<(), Fail> {
-    let start = berger(rt.alloc(), 6)?;
-    let mut six = start.duplicate(rt.alloc())?;
-    let teams = Move::PartTeams { i: 0, j: 3, k: 0 };
-    let two_teams = cells(&[0, 3], &[0, 2, 6, 9]);
-    assert!(rt; makes_with(&start, &mut six, teams, two_teams, &SIX_AFTER_PART_TEAMS));
-    let start = berger(rt.alloc(), 10)?;
-    let mut ten = start.duplicate(rt.alloc())?;
-    let rounds = Move::PartRounds { i: 0, k: 0, l: 3 };
-    let four_teams = cells(&[0, 3, 6, 9], &[0, 3]);
-    assert!(rt; makes_with(&start, &mut ten, rounds, four_teams, &TEN_AFTER_PART_ROUNDS));
-    let teams = Move::PartTeams { i: 0, j: 3, k: 4 };
-    assert!(rt; makes_with(&start, &mut ten, teams, cells(&[0, 3], &[1, 4, 16]), &[]));
-    assert_eq!(rt;
-        made(&mut ten, teams),
-        Some(cells(&[0, 1, 3, 4, 7], &[1, 4, 16]))
-    );
-    Ok(())
-}
-
-#[test]
-fn partial_moves_of_four_that_are_whole(rt: HostRuntime) -> Result<(), Fail> {
-    let start = berger(rt.alloc(), 4)?;
-    let mut left = start.duplicate(rt.alloc())?;
-    let mut right = start.duplicate(rt.alloc())?;
-    let moves = [
-        (
-            Move::PartRounds { i: 0, k: 0, l: 1 },
-            Move::Rounds { k: 0, l: 1 },
-        ),
-        (
-            Move::PartRounds { i: 0, k: 0, l: 3 },
-            Move::Homes { i: 0, j: 3 },
-        ),
-        (
-            Move::PartTeams { i: 0, j: 1, k: 0 },
-            Move::Teams { i: 0, j: 1 },
-        ),
-        (
-            Move::PartTeams { i: 0, j: 2, k: 0 },
-            Move::Rounds { k: 0, l: 4 },
-        ),
-    ];
-    for pair in moves {
-        assert!(rt;
-            make_the_same(&start, &mut left, &mut right, pair),
-            "{pair:?}"
-        );
-    }
-    Ok(())
-}
-
-#[test]
 fn games_of_four_that_would_change(rt: HostRuntime) -> Result<(), Fail> {
     let start = berger(rt.alloc(), 4)?;
+    // round, home and away of a game
     let cases = [
-        (Move::Rounds { k: 0, l: 1 }, (1, 1, 4), true),
-        (Move::Teams { i: 0, j: 1 }, (1, 1, 4), true),
-        (Move::Teams { i: 0, j: 1 }, (2, 1, 2), false),
-        (Move::Homes { i: 1, j: 2 }, (1, 1, 4), false),
-        (Move::Homes { i: 1, j: 2 }, (1, 2, 3), true),
-        (Move::PartRounds { i: 0, k: 0, l: 3 }, (1, 1, 4), true),
-        (Move::PartRounds { i: 0, k: 0, l: 3 }, (1, 2, 3), false),
-        (Move::PartTeams { i: 0, j: 2, k: 0 }, (1, 1, 4), true),
-        (Move::PartTeams { i: 0, j: 2, k: 0 }, (2, 1, 2), false),
+        (Move::Rounds { k: 0, l: 1 }, (0, 0, 3), true),
+        (Move::Teams { i: 0, j: 1 }, (0, 0, 3), true),
+        (Move::Teams { i: 0, j: 1 }, (1, 0, 1), false),
+        (Move::Homes { i: 1, j: 2 }, (0, 0, 3), false),
+        (Move::Homes { i: 1, j: 2 }, (0, 1, 2), true),
+        (Move::PartRounds { i: 0, k: 0, l: 3 }, (0, 0, 3), true),
+        (Move::PartRounds { i: 0, k: 0, l: 3 }, (0, 1, 2), false),
+        (Move::PartTeams { i: 0, j: 2, k: 0 }, (0, 0, 3), true),
+        (Move::PartTeams { i: 0, j: 2, k: 0 }, (1, 0, 1), false),
     ];
-    for (mv, row, answer) in cases {
-        assert_eq!(rt;
-            changes(&start, mv, game(row)),
-            Some(answer),
-            "{mv:?} {row:?}"
-        );
+    for (mv, (round, home, away), answer) in cases {
+        let game = Game { round, home, away };
+        assert_eq!(rt; changes(&start, mv, game), Some(answer), "{mv:?} {game:?}");
     }
     Ok(())
 }

@@ -56,9 +56,27 @@ fn teams_of_four_that_meet(rt: HostRuntime) -> Result<(), Fail> {
 
 #[test]
 fn texts_of_faults(rt: HostRuntime) -> Result<(), Fail> {
-    let bad_move = format!(in rt.alloc(); "{}", MoveFault::BadMove)?;
-    assert_eq!(rt; bad_move.as_str(), "bad move");
-    let meet = format!(in rt.alloc(); "{}", MoveFault::Meet)?;
-    assert_eq!(rt; meet.as_str(), "meet");
+    for (fault, text) in [(MoveFault::BadMove, "bad move"), (MoveFault::Meet, "meet")] {
+        assert_eq!(rt; format!(in rt.alloc(); "{fault}")?.as_str(), text);
+    }
+    assert_ne!(rt; MoveFault::BadMove, MoveFault::Meet);
     Ok(())
+}
+
+// Tests compare moves by `==`, so it has to see the kind and each number.
+#[test]
+fn moves_that_differ_in_one_number(rt: HostRuntime) {
+    let pairs = [(0, 1), (2, 1), (0, 2), (3, 4)];
+    let homes = pairs.map(|(i, j)| Move::Homes { i, j });
+    let rounds = pairs.map(|(k, l)| Move::Rounds { k, l });
+    let teams = pairs.map(|(i, j)| Move::Teams { i, j });
+    let triples = [(0, 1, 2), (3, 1, 2), (0, 3, 2), (0, 1, 3)];
+    let part_rounds = triples.map(|(i, k, l)| Move::PartRounds { i, k, l });
+    let part_teams = triples.map(|(i, j, k)| Move::PartTeams { i, j, k });
+    let moves = [homes, rounds, teams, part_rounds, part_teams];
+    for (i, one) in moves.as_flattened().iter().enumerate() {
+        for (j, other) in moves.as_flattened().iter().enumerate() {
+            assert_eq!(rt; one == other, i == j, "{one:?} {other:?}");
+        }
+    }
 }

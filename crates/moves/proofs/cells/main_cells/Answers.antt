@@ -8,14 +8,18 @@ pub returns-in-PartRounds : goal.returns-in-PartRounds
 returns-in-PartRounds c = record {
   round_robin = c.teams-teams.ensures.round_robin;
   checked = c.requires;
-  teams = λ t. c.moved_teams.ensures.members t ∙ ap (λ (m : Move). main_team c.args.schedule.now m t) (sym c.in-PartRounds.is);
-  rounds = λ r. c.two_rounds-in-PartRounds.ensures r ∙ ap (λ (m : Move). touched_round c.args.schedule.now m r) (sym c.in-PartRounds.is);
+  teams = λ t. c.moved_teams.ensures.members t ∙
+      ap (λ (m : Move). main_team c.args.schedule.now m t) (sym c.in-PartRounds.is);
+  rounds = λ r. c.two_rounds-in-PartRounds.ensures r ∙ ap (λ (m : Move). touched_round c.args.schedule.now m r)
+      (sym c.in-PartRounds.is);
 }
 
 pub returns-in-PartTeams : goal.returns-in-PartTeams
 returns-in-PartTeams c = record {
   round_robin = c.teams-teams.ensures.round_robin;
   checked = c.requires;
-  teams = λ t. c.two_teams-in-PartTeams.ensures t ∙ ap (λ (m : Move). main_team c.args.schedule.now m t) (sym c.in-PartTeams.is);
-  rounds = λ r. c.moved_rounds.ensures.members r ∙ ap (λ (m : Move). touched_round c.args.schedule.now m r) (sym c.in-PartTeams.is);
+  teams = λ t. c.two_teams-in-PartTeams.ensures t ∙
+      ap (λ (m : Move). main_team c.args.schedule.now m t) (sym c.in-PartTeams.is);
+  rounds = λ r. c.moved_rounds.ensures.members r ∙ ap (λ (m : Move). touched_round c.args.schedule.now m r)
+      (sym c.in-PartTeams.is);
 }

@@ -5,4 +5,5 @@ use Rattle.moves.proofs.cells.side_teams.Goals as goal
 
 pub turning_teams-requires-clause-below : goal.turning_teams-requires-clause-below
 turning_teams-requires-clause-below c =
-    main_teams_below c.args.schedule.now c.args.mv _ (subst (AreMainCells c.args.schedule.now c.args.mv) (sym c.main.view_is) c.requires)
+    main_teams_below c.args.schedule.now c.args.mv _
+    (subst (AreMainCells c.args.schedule.now c.args.mv) (sym c.main.view_is) c.requires)

@@ -7,5 +7,6 @@ use Rattle.moves.proofs.cells.turning_teams.Given as goal
 abbrev pub invariant-loop-team : goal.invariant-loop-team
 invariant-loop-team l = record {
   within : (t : ℕ) → has l.team-iterator t ≡ true → has l.fn.among t ≡ true;
-  is_found : (t : ℕ) → has l.turning t ≡ (has l.fn.among t && not (has l.team-iterator t) && turns l.schedule l.k l.l t);
+  is_found : (t : ℕ) → has l.turning t ≡
+      (has l.fn.among t && not (has l.team-iterator t) && turns l.schedule l.k l.l t);
 }

@@ -1,9 +1,9 @@
 use Rattle.std.proofs.Common.{◌≡◌, ℕ, ◌-◌, ◌^◌, ◌<◌, false, inl, inr, ◌||◌, eqb, refl, sym, ◌∙◌, ap, subst, arith}
 use Rattle.std.proofs.Math.Path.{fun_ext}
 use Rattle.league.specs.Sets.{has, with_number}
-use Rattle.league.proofs.Bits.{with_number-grows}
+use Rattle.league.proofs.ForCallers.{with_number-grows}
 use Rattle.fixtures.specs.Closed.{IsLeastClosed, shares_opponent}
-use Rattle.fixtures.proofs.ForCallers.{member_least_closed, shares_in_range, are_apart_never, Follows}
+use Rattle.fixtures.proofs.ForCallers.{member_least_closed, shares_in_range, are_apart_never}
 use Rattle.moves.proofs.Added.{with_added}
 use Rattle.moves.proofs.Checked.{IsPartTeams, part_teams-checked}
 use Rattle.moves.proofs.RoundChain.{Follows-cell, IsRoundChain-start, IsLeastClosed-chain, IsRoundChain-next, next-false}
@@ -13,8 +13,10 @@ pub loop-found-init : goal.loop-found-init
 loop-found-init c =
     let checked = part_teams-checked c.args.schedule.now c.args.i c.args.j c.args.k c.requires.checked in
     record {
-      chain = IsRoundChain-start c.args.schedule.now c.args.i c.args.j c.args.k (has c.empty-found.result) _ checked.in_range
-          (are_apart_never c.args.schedule.now c.args.i c.args.j c.args.k checked.apart) c.empty-found.ensures.members (λ r. refl);
+      chain = IsRoundChain-start c.args.schedule.now c.args.i c.args.j c.args.k
+          (has c.empty-found.result) _ checked.in_range
+          (are_apart_never c.args.schedule.now c.args.i c.args.j c.args.k checked.apart)
+          c.empty-found.ensures.members (λ r. refl);
       fresh = c.empty-found.ensures.members c.args.k;
       below = c.empty-found.ensures.below 78;
     }
@@ -38,13 +40,16 @@ least : (c : goal.Then-next-k) →
     IsLeastClosed (shares_opponent c.args.schedule.now c.args.i c.args.j) c.args.k (has c.with-found.result)
 least c =
     let checked = part_teams-checked c.args.schedule.now c.args.i c.args.j c.args.k c.requires.checked in
-    let follows : Follows c.args.schedule.now c.args.i c.args.j c.loop-found.round c.round_of_same_opponent-next.result =
+    let follows =
     Follows-cell _ c.round_of_same_opponent-next.ensures.round_robin _ _ _ _ checked.pair.home_in checked.pair.away_in
-    c.loop-found.invariant.chain.last_below c.loop-found.invariant.chain.last_apart c.round_of_same_opponent-next.ensures.value in
+    c.loop-found.invariant.chain.last_below c.loop-found.invariant.chain.last_apart
+    c.round_of_same_opponent-next.ensures.value in
     subst (IsLeastClosed (shares_opponent c.args.schedule.now c.args.i c.args.j) c.args.k)
     (fun_ext (λ r. sym (c.with-found.ensures.members r)))
-    (IsLeastClosed-chain c.args.schedule.now c.round_of_same_opponent-next.ensures.round_robin c.args.i c.args.j c.args.k
-    c.loop-found.round _ (with_added c.loop-found.round (has c.loop-found.found)) checked.pair.home_in checked.pair.away_in
+    (IsLeastClosed-chain c.args.schedule.now c.round_of_same_opponent-next.ensures.round_robin c.args.i
+    c.args.j c.args.k
+    c.loop-found.round _ (with_added c.loop-found.round (has c.loop-found.found)) checked.pair.home_in
+    checked.pair.away_in
     c.loop-found.invariant.chain follows c.if-next-k.true)
 
 pub returns-then-next-k-clause-least : goal.returns-then-next-k-clause-least
@@ -54,7 +59,8 @@ pub returns-then-next-k-clause-members : goal.returns-then-next-k-clause-members
 returns-then-next-k-clause-members c =
     let checked = part_teams-checked c.args.schedule.now c.args.i c.args.j c.args.k c.requires.checked in
     member_least_closed _ _ _
-    (shares_in_range c.args.schedule.now c.round_of_same_opponent-next.ensures.round_robin c.args.i c.args.j checked.pair)
+    (shares_in_range c.args.schedule.now c.round_of_same_opponent-next.ensures.round_robin c.args.i
+    c.args.j checked.pair)
     checked.in_range (has c.with-found.result) (least c)
 
 -- the set grows by the last round
@@ -64,23 +70,29 @@ smaller found more round is fresh below = omega (arith, with_number-grows found 
 
 pub loop-found-smaller : goal.loop-found-smaller
 loop-found-smaller c =
-    smaller c.loop-found.found c.with-found.result c.loop-found.round c.with-found.ensures.value c.loop-found.invariant.fresh
+    smaller c.loop-found.found c.with-found.result c.loop-found.round c.with-found.ensures.value
+    c.loop-found.invariant.fresh
     c.loop-found.invariant.below
 
 pub loop-found-preserved : goal.loop-found-preserved
 loop-found-preserved c =
     let checked = part_teams-checked c.args.schedule.now c.args.i c.args.j c.args.k c.requires.checked in
-    let follows : Follows c.args.schedule.now c.args.i c.args.j c.loop-found.round c.round_of_same_opponent-next.result =
+    let follows =
     Follows-cell _ c.round_of_same_opponent-next.ensures.round_robin _ _ _ _ checked.pair.home_in checked.pair.away_in
-    c.loop-found.invariant.chain.last_below c.loop-found.invariant.chain.last_apart c.round_of_same_opponent-next.ensures.value in
+    c.loop-found.invariant.chain.last_below c.loop-found.invariant.chain.last_apart
+    c.round_of_same_opponent-next.ensures.value in
     record {
-      chain = IsRoundChain-next c.args.schedule.now c.round_of_same_opponent-next.ensures.round_robin c.args.i c.args.j c.args.k
-          c.loop-found.round _ (with_added c.loop-found.round (has c.loop-found.found)) checked.pair.home_in checked.pair.away_in
+      chain = IsRoundChain-next c.args.schedule.now c.round_of_same_opponent-next.ensures.round_robin c.args.i
+          c.args.j c.args.k
+          c.loop-found.round _ (with_added c.loop-found.round (has c.loop-found.found)) checked.pair.home_in
+          checked.pair.away_in
           c.loop-found.invariant.chain follows c.if-next-k.false _
           (λ r. ap (λ b. eqb r c.round_of_same_opponent-next.result || b) (c.with-found.ensures.members r));
       fresh = c.with-found.ensures.members c.round_of_same_opponent-next.result ∙
           next-false c.args.schedule.now c.round_of_same_opponent-next.ensures.round_robin c.args.i c.args.j c.args.k
-          c.loop-found.round _ (with_added c.loop-found.round (has c.loop-found.found)) checked.pair.home_in checked.pair.away_in
+          c.loop-found.round _ (with_added c.loop-found.round (has c.loop-found.found)) checked.pair.home_in
+          checked.pair.away_in
           c.loop-found.invariant.chain follows c.if-next-k.false;
-      below = c.with-found.ensures.below 78 c.loop-found.invariant.below (omega (arith, c.loop-found.invariant.chain.last_below));
+      below = c.with-found.ensures.below 78 c.loop-found.invariant.below
+          (omega (arith, c.loop-found.invariant.chain.last_below));
     }

@@ -1,6 +1,6 @@
 use Rattle.std.proofs.Common.{◌≡◌, ℕ, ◌-◌, ◌^◌, ◌<◌, false, ◌||◌, eqb, refl, ◌∙◌, ap, arith}
 use Rattle.league.specs.Sets.{has, with_number}
-use Rattle.league.proofs.Bits.{le-with_number, with_number-grows}
+use Rattle.league.proofs.ForCallers.{le-with_number, with_number-grows}
 use Rattle.fixtures.specs.Closed.{IsLeastClosed, plays_in}
 use Rattle.fixtures.proofs.ForCallers.{member_least_closed, meets_cell, plays_in_below}
 use Rattle.moves.proofs.Added.{Adds, with_added}
@@ -25,7 +25,8 @@ adds team middle found once twice first second t = second t ∙ ap (λ b. eqb t 
 least : (c : goal.Then-team-i) →
     IsLeastClosed (plays_in c.args.schedule.now c.args.k c.args.l) c.args.i (has c.with-found.result)
 least c =
-    IsLeastClosed-chain c.args.schedule.now c.game_at-middle.ensures.round_robin c.args.k c.args.l c.args.i c.loop-team.team _ _ _ _
+    IsLeastClosed-chain c.args.schedule.now c.game_at-middle.ensures.round_robin c.args.k c.args.l c.args.i
+    c.loop-team.team _ _ _ _
     c.loop-team.invariant.chain (meets_cell _ _ _ _ c.game_at-middle.ensures.cell)
     (meets_cell _ _ _ _ c.game_at-team.ensures.cell)
     (adds c.loop-team.team _ c.loop-team.found _ _ c.with.ensures.members c.with-found.ensures.members) c.if-team-i.true
@@ -35,7 +36,8 @@ returns-then-team-i-clause-least c = least c
 
 pub returns-then-team-i-clause-members : goal.returns-then-team-i-clause-members
 returns-then-team-i-clause-members c =
-    member_least_closed _ _ _ (plays_in_below c.args.schedule.now c.args.k c.args.l) c.requires.i (has c.with-found.result) (least c)
+    member_least_closed _ _ _ (plays_in_below c.args.schedule.now c.args.k c.args.l) c.requires.i
+    (has c.with-found.result) (least c)
 
 -- the set grows by the team in the middle
 smaller : (found once twice team middle : ℕ) → once ≡ with_number found team → twice ≡ with_number once middle →
@@ -47,7 +49,8 @@ pub loop-team-smaller : goal.loop-team-smaller
 loop-team-smaller c =
     let out : has c.with.result c.game_at-middle.result.opponent ≡ false =
     c.with.ensures.members c.game_at-middle.result.opponent ∙
-    middle-false c.args.schedule.now c.game_at-middle.ensures.round_robin c.args.k c.args.l c.args.i c.loop-team.team _ _ _ _
+    middle-false c.args.schedule.now c.game_at-middle.ensures.round_robin c.args.k c.args.l c.args.i
+    c.loop-team.team _ _ _ _
     c.loop-team.invariant.chain (meets_cell _ _ _ _ c.game_at-middle.ensures.cell)
     (meets_cell _ _ _ _ c.game_at-team.ensures.cell)
     (adds c.loop-team.team _ c.loop-team.found _ _ c.with.ensures.members c.with-found.ensures.members) in
@@ -56,10 +59,12 @@ loop-team-smaller c =
 
 pub loop-team-preserved : goal.loop-team-preserved
 loop-team-preserved c = record {
-  chain = IsTeamChain-next c.args.schedule.now c.game_at-middle.ensures.round_robin c.args.k c.args.l c.args.i c.loop-team.team _ _ _ _
+  chain = IsTeamChain-next c.args.schedule.now c.game_at-middle.ensures.round_robin c.args.k c.args.l c.args.i
+      c.loop-team.team _ _ _ _
       c.loop-team.invariant.chain (meets_cell _ _ _ _ c.game_at-middle.ensures.cell)
       (meets_cell _ _ _ _ c.game_at-team.ensures.cell)
-      (adds c.loop-team.team _ c.loop-team.found _ _ c.with.ensures.members c.with-found.ensures.members) c.if-team-i.false _ (λ t. refl);
+      (adds c.loop-team.team _ c.loop-team.found _ _ c.with.ensures.members c.with-found.ensures.members)
+      c.if-team-i.false _ (λ t. refl);
   below = c.with-found.ensures.below 40
       (c.with.ensures.below 40 c.loop-team.invariant.below (omega (arith, c.loop-team.invariant.chain.last_below)))
       (omega (arith, c.game_at-middle.ensures.cell.pair.away_in));

@@ -4,17 +4,20 @@ use Rattle.moves.proofs.changes.would_change.Goals as goal
 
 pub returns-in-Homes : goal.returns-in-Homes
 returns-in-Homes c =
-    of-homes c.args.schedule.now c.round_of.ensures.round_robin c.args.mv c.requires.checked c.args.game.home c.args.game.away _
+    of-homes c.args.schedule.now c.round_of.ensures.round_robin c.args.mv c.requires.checked c.args.game.home
+    c.args.game.away _
     c.requires.pair c.requires.there _ _ _ c.in-Homes.is c.is_between.ensures
 
 pub returns-in-Rounds : goal.returns-in-Rounds
 returns-in-Rounds c =
-    of-rounds c.args.schedule.now c.round_of.ensures.round_robin c.args.mv c.requires.checked c.args.game.home c.args.game.away _
+    of-rounds c.args.schedule.now c.round_of.ensures.round_robin c.args.mv c.requires.checked c.args.game.home
+    c.args.game.away _
     c.requires.pair c.requires.there _ _ _ c.in-Rounds.is c.is_either.ensures
 
 pub returns-in-Teams : goal.returns-in-Teams
 returns-in-Teams c =
-    of-teams c.args.schedule.now c.round_of.ensures.round_robin c.args.mv c.requires.checked c.args.game.home c.args.game.away _
+    of-teams c.args.schedule.now c.round_of.ensures.round_robin c.args.mv c.requires.checked c.args.game.home
+    c.args.game.away _
     c.requires.pair c.requires.there _ _ _ c.in-Teams.is c.has_one.ensures
 
 pub returns-then-is_either : goal.returns-then-is_either

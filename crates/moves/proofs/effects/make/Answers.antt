@@ -11,13 +11,17 @@ use Rattle.moves.proofs.EachMove.{made-again, made-back, each-exchanges_rounds, 
 use Rattle.moves.proofs.effects.make.Goals as goal
 
 -- over the sets that are handed on, which are those of the cells
-exchanges_rounds : (g : Games) (mv : Move) (cells view : TouchedCells) → view ≡ cells → AreMainCells g mv cells → (k l : ℕ) →
+exchanges_rounds : (g : Games) (mv : Move) (cells view : TouchedCells) → view ≡ cells →
+    AreMainCells g mv cells → (k l : ℕ) →
     (mv ≡ Rounds k l) ⊎ ((i : ℕ) × (mv ≡ PartRounds i k l)) → ExchangesRounds g mv k l (has view.teams)
-exchanges_rounds g mv cells view is main k l one = each-exchanges_rounds g mv view (subst (AreMainCells g mv) (sym is) main) k l one
+exchanges_rounds g mv cells view is main k l one = each-exchanges_rounds g mv view
+    (subst (AreMainCells g mv) (sym is) main) k l one
 
-exchanges_teams : (g : Games) (mv : Move) (cells view : TouchedCells) → view ≡ cells → AreMainCells g mv cells → (i j : ℕ) →
+exchanges_teams : (g : Games) (mv : Move) (cells view : TouchedCells) → view ≡ cells →
+    AreMainCells g mv cells → (i j : ℕ) →
     (mv ≡ Teams i j) ⊎ ((k : ℕ) × (mv ≡ PartTeams i j k)) → ExchangesTeams g mv i j (has view.rounds)
-exchanges_teams g mv cells view is main i j one = each-exchanges_teams g mv view (subst (AreMainCells g mv) (sym is) main) i j one
+exchanges_teams g mv cells view is main i j one = each-exchanges_teams g mv view
+    (subst (AreMainCells g mv) (sym is) main) i j one
 
 pub exchange_teams-requires-clause-first_out : goal.exchange_teams-requires-clause-first_out
 exchange_teams-requires-clause-first_out c =
@@ -37,7 +41,8 @@ exchange_rounds-requires-clause-closed c =
 
 pub returns-in-Homes : goal.returns-in-Homes
 returns-in-Homes c =
-    let is : c.exchange_homes.new.self ≡ moved c.args.schedule.now c.args.mv = c.exchange_homes.ensures ∙ ap (moved c.args.schedule.now) (sym c.in-Homes.is) in
+    let is : c.exchange_homes.new.self ≡ moved c.args.schedule.now c.args.mv = c.exchange_homes.ensures ∙
+    ap (moved c.args.schedule.now) (sym c.in-Homes.is) in
     record {
       moved = is;
       again = made-again c.args.schedule.now _ c.args.mv _ c.requires is;

@@ -18,4 +18,5 @@ returns-in-PartTeams-clause-teams c t =
 
 pub teams_with_opponents-requires-clause-below : goal.teams_with_opponents-requires-clause-below
 teams_with_opponents-requires-clause-below c =
-    main_rounds_below c.args.schedule.now c.args.mv _ (subst (AreMainCells c.args.schedule.now c.args.mv) (sym c.main.view_is) c.requires)
+    main_rounds_below c.args.schedule.now c.args.mv _
+    (subst (AreMainCells c.args.schedule.now c.args.mv) (sym c.main.view_is) c.requires)
