@@ -19,25 +19,29 @@ use Rattle.shared_board.specs.Stage.{away, holds, kept}
 use Rattle.shared_board.specs.Held.{times, once_below, under, callers_below}
 use Rattle.shared_board.specs.Rule.{Knows}
 use Rattle.shared_board.specs.Plays.{Place, Meets, Took, Counted, Parted, counting, drawing, newcomer, joined, longer, saw, at_stage, on_board}
-use Rattle.shared_board.specs.Seats.{BoardId, seat_value, IsSeat, Met, Answered, IsNew, Absorbed, ClosedBy, given_at}
+use Rattle.shared_board.specs.Seats.{BoardId, SeatValue, seat_value, IsIdle, IsSeat, Met, Answered, IsNew, Absorbed, given_at}
+use Rattle.shared_board.specs.Ending.{IsSeatAfter, IsOfBoth, BroughtOut}
 use Rattle.shared_board.specs.Judging.{IsJudged}
 use Rattle.shared_board.proofs.BoardLaws.{reply_tells}
 use Rattle.shared_board.proofs.Counts.{times_append, times_own, times_self, under_append, under_both, under_most, under_none, under_all, callers_front, once_most, once_none, all_held, held_most}
 use Rattle.shared_board.proofs.Seating.{longer_cases, begins_longer}
 
--- what the board granted is one entry more
+-- what the answer of the board tells
+tells : (s : Setting) (h : List Entry) (number : ℕ) (ask : Ask) (j : Judged) (r : Reply) → IsJudged s h number ask j → j.reply ≡ r
+    → TellsOf s.league h (entry number ask) (next_of s.league s.room h number ask) r
+tells s h number ask j r judged is =
+    let P : Reply → Type 0 = λ x. TellsOf s.league h (entry number ask) (next_of s.league s.room h number ask) x in
+    subst P (sym judged.reply ∙ is) (reply_tells s.league s.room h number ask)
+
+-- what it granted is one entry more
 pub done_adds : (s : Setting) (h : List Entry) (number : ℕ) (ask : Ask) (j : Judged) (at : ℕ) (cost : Cost) → IsJudged s h number ask j → j.reply ≡ Done at cost
     → next_of s.league s.room h number ask ≡ h ++ entry number ask ∷ []
-done_adds s h number ask j at cost judged is =
-    let P : Reply → Type 0 = λ r. TellsOf s.league h (entry number ask) (next_of s.league s.room h number ask) r in
-    (subst P (sym judged.reply ∙ is) (reply_tells s.league s.room h number ask)).0
+done_adds s h number ask j at cost judged is = (tells s h number ask j (Done at cost) judged is).0
 
 -- and what it refused is none
 pub no_stays : (s : Setting) (h : List Entry) (number : ℕ) (ask : Ask) (j : Judged) (at : ℕ) (why : Why) → IsJudged s h number ask j → j.reply ≡ No at why
     → next_of s.league s.room h number ask ≡ h
-no_stays s h number ask j at why judged is =
-    let P : Reply → Type 0 = λ r. TellsOf s.league h (entry number ask) (next_of s.league s.room h number ask) r in
-    (subst P (sym judged.reply ∙ is) (reply_tells s.league s.room h number ask)).0
+no_stays s h number ask j at why judged is = (tells s h number ask j (No at why) judged is).0
 
 -- a seat's entries in the history that it met are those that it had seen
 pub accepted_same : (v : View) (h : List Entry) → Meets v h → under v.held h ≡ under v.held v.seen
@@ -49,11 +53,6 @@ pub accepted_more : (v : View) (h g : List Entry) (number : ℕ) (ask : Ask) →
     → under v.held g ≡ under v.held v.seen + 1
 accepted_more v h g number ask own met is =
     let a = ap (under v.held) is in let b = under_append v.held h (entry number ask ∷ []) in let c = accepted_same v h met in let d = met.single number in omega arith
-
-pub accepted_fits : (v : View) (h g : List Entry) (number : ℕ) (ask : Ask) → 0 < times number v.held → Meets v h → g ≡ h ++ entry number ask ∷ []
-    → under v.held v.seen + 1 ≤ length g
-accepted_fits v h g number ask own met is =
-    let a = accepted_more v h g number ask own met is in let b = under_most v.held g met.single in omega arith
 
 -- the fields of a seat that has seen a history
 pub seat_saw : (me n : Place) (number held seen accepted : ℕ) (g : List Entry) (version more : ℕ) → IsSeat me number held seen accepted
@@ -89,40 +88,34 @@ asked_left me taken told done number ask j a =
     let f : View → Place = λ v. (saw v (next_of v.setting.league v.setting.room (kept v.stage) number ask) away, []) in
     a.left ∙ ap f (a.same ∙ ap (λ (m : Place). m.0) a.took.2)
 
-pub seat_done : (me taken told done : Place) (number held seen accepted : ℕ) (ask : Ask) (j : Judged) (at : ℕ) (cost : Cost) → IsSeat me number held seen accepted
-    → Asked me taken told done number ask j → j.reply ≡ Done at cost → IsSeat done number held j.version (accepted + 1)
-seat_done me taken told done number held seen accepted ask j at cost seat a is =
+pub seat_after : (me taken told done : Place) (number held seen accepted : ℕ) (ask : Ask) (j : Judged) (r : Reply) → IsSeat me number held seen accepted
+    → Asked me taken told done number ask j → j.reply ≡ r → IsSeatAfter done number held accepted r
+seat_after me taken told done number held seen accepted ask j (Done at cost) seat a is =
     let s = me.0.setting in let h = a.took.0 in let judged = asked_judged me taken told done number ask j a in
     let g = next_of s.league s.room h number ask in
-    let more = accepted_more me.0 h g number ask seat.own a.took.1 (done_adds s h number ask j at cost judged is) in
-    seat_saw me done number held seen accepted g j.version (accepted + 1) seat (asked_left me taken told done number ask j a) judged.version (let e = seat.entries in omega arith)
-
-pub seat_done_fits : (me taken told done : Place) (number held seen accepted : ℕ) (ask : Ask) (j : Judged) (at : ℕ) (cost : Cost) → IsSeat me number held seen accepted
-    → Asked me taken told done number ask j → j.reply ≡ Done at cost → accepted + 1 ≤ j.version
-seat_done_fits me taken told done number held seen accepted ask j at cost seat a is =
+    let t = tells s h number ask j (Done at cost) judged is in
+    let e = seat.entries in let b = under_most me.0.held g a.took.1.single in
+    let more = accepted_more me.0 h g number ask seat.own a.took.1 t.0 in
+    let long : at ≡ length g = t.1 in (
+      seat_saw me done number held seen accepted g at (accepted + 1) seat (asked_left me taken told done number ask j a) long (omega arith),
+      omega arith,
+    )
+seat_after me taken told done number held seen accepted ask j (No at why) seat a is =
     let s = me.0.setting in let h = a.took.0 in let judged = asked_judged me taken told done number ask j a in
     let g = next_of s.league s.room h number ask in
-    let fits = accepted_fits me.0 h g number ask seat.own a.took.1 (done_adds s h number ask j at cost judged is) in
-    let e = seat.entries in let long = judged.version in omega arith
+    let t = tells s h number ask j (No at why) judged is in
+    seat_saw me done number held seen accepted g at accepted seat (asked_left me taken told done number ask j a) t.1
+    (seat.entries ∙ (sym (accepted_same me.0 h a.took.1) ∙ ap (under me.0.held) (sym t.0)))
 
-pub seat_no : (me taken told done : Place) (number held seen accepted : ℕ) (ask : Ask) (j : Judged) (at : ℕ) (why : Why) → IsSeat me number held seen accepted
-    → Asked me taken told done number ask j → j.reply ≡ No at why → IsSeat done number held j.version accepted
-seat_no me taken told done number held seen accepted ask j at why seat a is =
-    let s = me.0.setting in let h = a.took.0 in let judged = asked_judged me taken told done number ask j a in
-    let g = next_of s.league s.room h number ask in
-    let stays : g ≡ h = no_stays s h number ask j at why judged is in
-    seat_saw me done number held seen accepted g j.version accepted seat (asked_left me taken told done number ask j a) judged.version
-    (seat.entries ∙ (sym (accepted_same me.0 h a.took.1) ∙ ap (under me.0.held) (sym stays)))
-
-pub answered : (table after : BoardId) (me taken told done : Place) (number : ℕ) (ask : Ask) (j : Judged) → after ≡ table → Asked me taken told done number ask j
-    → Answered (seat_value table number me.0) (seat_value after number done.0) ask j.reply
-answered table after me taken told done number ask j same a =
+pub answered : (table : BoardId) (me taken told done : Place) (number : ℕ) (ask : Ask) (j : Judged) → Asked me taken told done number ask j
+    → Answered (seat_value table number me.0) (seat_value table number done.0) ask j.reply
+answered table me taken told done number ask j a =
     let h = a.took.0 in let judged = asked_judged me taken told done number ask j a in
     record {
       history = h;
       met = met_of table number me.0 h a.took.1;
       replied = judged.reply;
-      now = ap (λ (t : BoardId). seat_value t number done.0) same ∙ ap (λ (m : Place). seat_value table number m.0) (asked_left me taken told done number ask j a);
+      now = ap (λ (m : Place). seat_value table number m.0) (asked_left me taken told done number ask j a);
     }
 
 -- a turn in which nothing was asked
@@ -259,22 +252,15 @@ value_given table after me done number r w same e le is made =
     ∙ (ap (λ (u : View). seat_value table number u) (ap (λ (m : Place). m.0) made ∙ (ap (λ (u : View). joined v u) e ∙ joined_fresh v r le))
     ∙ ap (λ (n : ℕ). given_at (seat_value table number v) n) is)
 
--- two seats that were made one, as the steps tell it
-pub record Merged (me other done : Place) : Type 0 where
-  pub done_is : done ≡ (joined me.0 other.0, me.1)
-  pub parted : Parted done
-
--- what they were told
+-- what two seats that were made one were told
 pub record Both (v w : View) : Type 0 where
   pub history : List Entry
   pub first : Knows v.held v.seen history
   pub second : Knows w.held w.seen history
   pub single : (x : ℕ) → times x (v.held ++ w.held) ≤ once_below x 64
 
-pub merged_both : (me other done : Place) → Merged me other done → Both me.0 other.0
-merged_both me other done a =
-    let p : Parted (joined me.0 other.0, me.1) = subst Parted a.done_is a.parted in
-    record { history = p.history; first = p.each.1; second = p.each.2.1; single = p.single }
+told_both : (me other : Place) → Parted (joined me.0 other.0, me.1) → Both me.0 other.0
+told_both me other p = record { history = p.history; first = p.each.1; second = p.each.2.1; single = p.single }
 
 -- what the longer of the two histories has under the numbers of both
 pub entries_both : (v w : View) → Both v w → under (v.held ++ w.held) (longer v.seen w.seen) ≡ under v.held v.seen + under w.held w.seen
@@ -288,61 +274,47 @@ entries_both v w b =
     let k = seen_by w.held w.seen v.seen b.history v.held less b.second b.first in
     omega (arith, under_both v.held w.held v.seen, k))
 
-pub held_fits : (v w : View) → Both v w → length v.held + length w.held ≤ 64
+held_fits : (v w : View) → Both v w → length v.held + length w.held ≤ 64
 held_fits v w b = omega (arith, held_most 64 (v.held ++ w.held) b.single, length-append v.held w.held)
 
-pub entries_fit : (v w : View) → Both v w → under v.held v.seen + under w.held w.seen ≤ max (length v.seen) (length w.seen)
-entries_fit v w b =
-    let e = entries_both v w b in
-    let m = under_most (v.held ++ w.held) (longer v.seen w.seen) (λ x. let a = b.single x in let c = once_most x 64 in omega arith) in
-    let P : List Entry → Type 0 = λ l. length l ≤ max (length v.seen) (length w.seen) in
-    let l = longer_cases P v.seen w.seen (λ less. omega arith) (λ less. omega arith) in
-    omega arith
+longer_length : (a b : List Entry) → length (longer a b) ≡ max (length a) (length b)
+longer_length a b = let P : List Entry → Type 0 = λ l. length l ≡ max (length a) (length b) in longer_cases P a b (λ less. omega arith) (λ le. omega arith)
 
-pub seat_joined : (me other done : Place) (number held seen accepted number' held' seen' accepted' long : ℕ) → IsSeat me number held seen accepted → IsSeat other number' held' seen' accepted'
-    → Merged me other done → long ≡ length (longer me.0.seen other.0.seen) → IsSeat done number (held + held') long (accepted + accepted')
-seat_joined me other done number held seen accepted number' held' seen' accepted' long seat seat' a is =
+pub of_both : (me other done : Place) → IsIdle me → done ≡ (joined me.0 other.0, me.1) → Parted done → IsOfBoth me other done
+of_both me other done idle is told =
     let v = me.0 in let w = other.0 in
-    let b = merged_both me other done a in
-    let P : Place → Type 0 = λ m. IsSeat m number (held + held') long (accepted + accepted') in
-    let own = seat.own in let count = seat.count in let count' = seat'.count in let entries = seat.entries in let entries' = seat'.entries in
-    subst P (sym a.done_is) (record {
-      idle = record { live = seat.idle.live; away_is = seat.idle.away_is; no_slot = seat.idle.no_slot };
-      own = omega (arith, times_append number v.held w.held);
-      count = omega (arith, length-append v.held w.held);
-      long = is;
-      entries = omega (arith, entries_both v w b);
-      below = λ x le. (let c = seat.below x (omega arith) in let d = seat'.below x (omega arith) in omega (arith, times_append x v.held w.held));
+    let both = told_both me other (subst Parted is told) in
+    let P : Place → Type 0 = λ m. IsOfBoth me other m in
+    subst P (sym is) (record {
+      idle = record { live = idle.live; away_is = idle.away_is; no_slot = idle.no_slot };
+      own = λ x. times_append x v.held w.held;
+      count = length-append v.held w.held;
+      few = omega (arith, held_fits v w both, length-append v.held w.held);
+      long = longer_length v.seen w.seen;
+      entries = entries_both v w both;
+      most = under_most (v.held ++ w.held) (longer v.seen w.seen) (λ x. let a = both.single x in let c = once_most x 64 in omega arith);
+      below = λ mine theirs x le. (let c = mine x (omega arith) in let d = theirs x (omega arith) in omega (arith, times_append x v.held w.held));
     })
 
-pub longer_second : (a b : List Entry) → length a < length b → longer a b ≡ b
-longer_second a b less = let P : List Entry → Type 0 = λ l. l ≡ b in longer_cases P a b (λ _. refl) (λ le. absurd (omega arith))
-
-pub longer_first : (a b : List Entry) → length b ≤ length a → longer a b ≡ a
-longer_first a b le = let P : List Entry → Type 0 = λ l. l ≡ a in longer_cases P a b (λ less. absurd (omega arith)) (λ _. refl)
-
-pub absorbed : (table table' after : BoardId) (me other done : Place) (number number' : ℕ) → after ≡ table → Merged me other done
-    → Absorbed (seat_value table number me.0) (seat_value table' number' other.0) (seat_value after number done.0)
-absorbed table table' after me other done number number' same a =
+pub absorbed : (table table' after : BoardId) (me other done : Place) (number number' : ℕ) (a o : SeatValue) → after ≡ table → done ≡ (joined me.0 other.0, me.1) → Parted done
+    → seat_value table number me.0 ≡ a → seat_value table' number' other.0 ≡ o → Absorbed a o (seat_value after number done.0)
+absorbed table table' after me other done number number' a o same is told first second =
     let v = me.0 in let w = other.0 in
-    let b = merged_both me other done a in
+    let b = told_both me other (subst Parted is told) in
     let K : List Entry → Type 0 = λ l. ((l ≡ v.seen) × Knows w.held w.seen v.seen) ⊎ ((l ≡ w.seen) × Knows v.held v.seen w.seen) in
-    let D : Place → Type 0 = λ m. K m.0.seen in
-    record {
-      kept = subst D (sym a.done_is) (longer_cases K v.seen w.seen
+    let made : Absorbed (seat_value table number v) (seat_value table' number' w) (seat_value table number (joined v w)) = record {
+      kept = longer_cases K v.seen w.seen
           (λ less. inr (refl, knows_less v.held v.seen w.seen b.history w.held (omega arith) b.first b.second))
-          (λ less. inl (refl, knows_less w.held w.seen v.seen b.history v.held less b.second b.first)));
+          (λ less. inl (refl, knows_less w.held w.seen v.seen b.history v.held less b.second b.first));
       apart = λ x. (let c = b.single x in let d = once_most x 64 in omega (arith, times_append x v.held w.held));
-      now = ap (λ (t : BoardId). seat_value t number done.0) same
-          ∙ (ap (λ (m : Place). seat_value table number m.0) a.done_is
-          ∙ ap (λ (l : List Entry). record (seat_value table number v) {
-            held = v.held ++ w.held;
-            seen = l;
-            glanced = max v.glanced w.glanced;
-            lowest = min v.lowest w.lowest;
-            given = max v.given w.given;
-          }) (ap (λ (m : Place). m.0.seen) (sym a.done_is)));
-    }
+      now = refl;
+    } in
+    let A : SeatValue → Type 0 = λ t. Absorbed t o (seat_value after number done.0) in
+    let O : SeatValue → Type 0 = λ t. Absorbed (seat_value table number v) t (seat_value after number done.0) in
+    let B : SeatValue → Type 0 = λ t. Absorbed (seat_value table number v) (seat_value table' number' w) t in
+    let result : seat_value table number (joined v w) ≡ seat_value after number done.0 =
+    ap (λ (t : BoardId). seat_value t number (joined v w)) (sym same) ∙ ap (λ (m : Place). seat_value after number m.0) (sym is) in
+    subst A first (subst O second (subst B result made))
 
 -- where a seat holds each number, the history that it met is what it had seen
 pub whole_seen : (v : View) (h : List Entry) (r : ℕ) → Meets v h → callers_below r h → ((x : ℕ) → times x v.held ≤ once_below x r) → length v.held ≡ r
@@ -368,16 +340,16 @@ pub has_board : (me taken counted : Place) (r : ℕ) (t : Took me taken) → Cou
 has_board me taken counted r t count nothing =
     ap (λ (m : Place). m.1) count.now ∙ (ap (λ (m : Place). m.1) t.2 ∙ ap (λ (l : List (ℕ × Option Book)). (0, Some (board_at me.0.setting t.0)) ∷ l) nothing)
 
-pub closed : (table : BoardId) (me taken counted : Place) (number held seen accepted r k : ℕ) (b : Book) → IsSeat me number held seen accepted → Took me taken → Counted taken r counted
-    → counted.1 ≡ (0, Some b) ∷ rest counted.1 → k ≡ held → ClosedBy (seat_value table number me.0) (record { board = b; whole = k == r })
-closed table me taken counted number held seen accepted r k b seat t count found is =
+pub brought_out : (me taken counted : Place) (r : ℕ) (b : Book) → me.1 ≡ [] → Took me taken → Counted taken r counted → counted.1 ≡ (0, Some b) ∷ rest counted.1
+    → BroughtOut me b r
+brought_out me taken counted r b nothing t count found =
     let h = t.0 in
-    let c = has_board me taken counted r t count seat.idle.no_slot in
+    let c = has_board me taken counted r t count nothing in
     let K : Place → Type 0 = λ m. callers_below r (kept m.0.stage) in
     let O : Place → Type 0 = λ m. (x : ℕ) → times x m.0.held ≤ once_below x r in
     record {
       history = h;
-      met = met_of table number me.0 h t.1;
-      board = ap (in_hand b) (sym found ∙ c);
-      whole = λ all. whole_seen me.0 h r t.1 (subst K t.2 count.callers) (subst O t.2 count.own) (sym seat.count ∙ (sym is ∙ eqb-true k r all));
+      met = t.1;
+      board_is = ap (in_hand b) (sym found ∙ c);
+      whole = λ all. whole_seen me.0 h r t.1 (subst K t.2 count.callers) (subst O t.2 count.own) all;
     }

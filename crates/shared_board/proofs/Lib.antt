@@ -1,8 +1,9 @@
-pub mod BoardLaws
+mod BoardLaws
 pub mod Counts
-pub mod Views
-pub mod Steps
-pub mod Turns
-pub mod Seating
-pub mod Ends
-pub mod Betweens
+mod Views
+mod Steps
+mod Turns
+mod Seating
+mod Ends
+mod Betweens
+pub mod ForCallers

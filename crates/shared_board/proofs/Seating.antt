@@ -20,7 +20,7 @@ use Rattle.shared_board.specs.Between.{Table}
 use Rattle.shared_board.proofs.BoardLaws.{least_falls_on}
 use Rattle.shared_board.proofs.Counts.{times_append, under_append, under_both, once_more, total_set}
 use Rattle.shared_board.proofs.Views.{fits_at, fits_from, each_set, turns_aside}
-use Rattle.shared_board.proofs.Steps.{aside, arrives, held_once}
+use Rattle.shared_board.proofs.Steps.{with_views, aside, arrives, held_once}
 
 -- the view of a seat that is away
 pub fits_away : (s : Table) (r : Ruled s) (id : ℕ) (v : View) → get_elem? s.views id ≡ some v → v.live ≡ true → v.stage ≡ away → Fits r.setting r.posted (length r.history) r.numbers v
@@ -216,26 +216,13 @@ join_keeps id v other w live e live' e' s r at ne at' =
     let F : View → Type 0 = λ u. Fits r.setting (upto u.stage r.posted r.history) (length r.history) r.numbers u in
     let f = fits_joined r.setting r.posted (length r.history) r.numbers v w r.limits (fits_away s r id v at live e) (fits_away s r other w there live' e') in
     let g : F both = fits_from r.setting r.posted r.history r.posted (length r.history) r.numbers both away e refl f in
-    record {
-      setting = r.setting;
-      posted = r.posted;
-      history = r.history;
-      turn = r.turn;
-      numbers = r.numbers;
-      home = r.home;
-      words = r.words;
-      homes = r.homes;
-      limits = r.limits;
-      legal = r.legal;
-      callers = r.callers;
-      few = r.few;
-      once = λ x.
-          let a = total_set (λ (u : View). times x u.held) s.views id v both at in
-          let b = total_set (λ (u : View). times x u.held) views other w spent_view at' in
-          let c = times_append x v.held w.held in
-          let d = r.once x in
-          omega arith;
-      seats = each_set F F views other spent_view (each_set F F s.views id both r.seats (λ j u ne' at'' h. h) (λ _. g)) (λ j u ne' at'' h. h) (λ is. absurd cc);
-      turns = turns_aside r.setting r.posted r.history r.turn r.numbers r.home views other w spent_view at' e' refl
-          (turns_aside r.setting r.posted r.history r.turn r.numbers r.home s.views id v both at e e r.turns);
-    }
+    with_views s r s.words (set views other spent_view) refl
+    (λ x.
+    let a = total_set (λ (u : View). times x u.held) s.views id v both at in
+    let b = total_set (λ (u : View). times x u.held) views other w spent_view at' in
+    let c = times_append x v.held w.held in
+    let d = r.once x in
+    omega arith)
+    (each_set F F views other spent_view (each_set F F s.views id both r.seats (λ j u ne' at'' h. h) (λ _. g)) (λ j u ne' at'' h. h) (λ is. absurd cc))
+    (turns_aside r.setting r.posted r.history r.turn r.numbers r.home views other w spent_view at' e' refl
+    (turns_aside r.setting r.posted r.history r.turn r.numbers r.home s.views id v both at e e r.turns))

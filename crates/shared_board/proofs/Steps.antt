@@ -1,5 +1,5 @@
 -- What a step of one seat leaves of the rule.
-use Rattle.std.proofs.Common.{◌≡◌, ◌≢◌, ℕ, ◌+◌, ◌≤◌, Option, Some, List, [], ◌∷◌, ◌++◌, length, set, refl, ap, sym, ◌∙◌, subst, inl, inr, ⊎_elim, arith, true}
+use Rattle.std.proofs.Common.{◌≡◌, ◌≢◌, ℕ, ◌+◌, ◌≤◌, Option, Some, List, [], ◌∷◌, ◌++◌, length, set, refl, ap, sym, ◌∙◌, subst, ◌⊎◌, inl, inr, ⊎_elim, arith, true}
 use mathlib.Core.Option.{none, some, some-injective}
 use mathlib.Core.Option as maybe
 use lib.ListN.{get_elem?}
@@ -8,14 +8,55 @@ use Rattle.fixture_board.specs.declared.change.Entry.{Entry}
 use Rattle.fixture_board.specs.History.{IsLegal}
 use Rattle.fixture_board.specs.Laws.{least_of}
 use Rattle.fixture_board.specs.Record.{Book}
+use Rattle.league.specs.League.{IsLeague}
 use Rattle.shared_board.specs.declared.view.View.{View}
 use Rattle.shared_board.specs.Setting.{Setting, board_at}
 use Rattle.shared_board.specs.Stage.{Stage, away}
 use Rattle.shared_board.specs.Held.{times, once_below, total, callers_below}
-use Rattle.shared_board.specs.Rule.{Fits, upto, IsHolder, IsFree, Ruled}
+use Rattle.shared_board.specs.Rule.{Fits, upto, IsHolder, IsFree, IsHeld, Ruled}
 use Rattle.shared_board.specs.Between.{Table}
 use Rattle.shared_board.proofs.Counts.{total_append, total_at}
 use Rattle.shared_board.proofs.Views.{Owned, OthersAway, fits_at, fits_from, each_set, away_set, away_else, there_set, once_set, turns_aside}
+
+-- what the rule is made of, but for the words and who holds the turn
+pub record Made (setting : Setting) (posted history : List Entry) (numbers : ℕ) (views : List View) : Type 0 where
+  pub legal : IsLegal setting.league setting.room history
+  pub callers : callers_below numbers history
+  pub few : numbers ≤ 64
+  pub once : (x : ℕ) → total (λ (v : View). times x v.held) views ≤ once_below x numbers
+  pub seats : (j : ℕ) (v : View) → get_elem? views j ≡ some v → v.live ≡ true → Fits setting (upto v.stage posted history) (length history) numbers v
+
+-- the rule of these parts
+ruled_of : (setting : Setting) (posted history : List Entry) (turn numbers : ℕ) (home : maybe.Option (Option Book)) (s : Table) → IsLeague setting.league → Made setting posted history numbers s.views
+    → s.words ≡ turn ∷ length history ∷ numbers ∷ least_of setting.league posted ∷ [] → s.homes ≡ home ∷ []
+    → IsFree setting posted history turn home s.views ⊎ IsHeld posted history numbers turn home s.views → Ruled s
+ruled_of setting posted history turn numbers home s limits made words homes turns = record {
+  setting = setting;
+  posted = posted;
+  history = history;
+  turn = turn;
+  numbers = numbers;
+  home = home;
+  words = words;
+  homes = homes;
+  limits = limits;
+  legal = made.legal;
+  callers = made.callers;
+  few = made.few;
+  once = made.once;
+  seats = made.seats;
+  turns = turns;
+}
+
+-- other views of one table, by the same history
+pub with_views : (s : Table) (r : Ruled s) (words : List ℕ) (views : List View) → words ≡ s.words
+    → ((x : ℕ) → total (λ (v : View). times x v.held) views ≤ once_below x r.numbers)
+    → ((j : ℕ) (v : View) → get_elem? views j ≡ some v → v.live ≡ true → Fits r.setting (upto v.stage r.posted r.history) (length r.history) r.numbers v)
+    → IsFree r.setting r.posted r.history r.turn r.home views ⊎ IsHeld r.posted r.history r.numbers r.turn r.home views
+    → Ruled (record { words = words; homes = s.homes; views = views })
+with_views s r words views same once seats turns =
+    ruled_of r.setting r.posted r.history r.turn r.numbers r.home (record { words = words; homes = s.homes; views = views }) r.limits
+    (record { legal = r.legal; callers = r.callers; few = r.few; once = once; seats = seats }) (same ∙ r.words) r.homes turns
 
 -- a seat that is away stays away, and may know more
 pub aside : (s : Table) (r : Ruled s) (id : ℕ) (v w : View) (words : List ℕ) → get_elem? s.views id ≡ some v → v.live ≡ true → v.stage ≡ away → w.stage ≡ away
@@ -26,23 +67,10 @@ aside s r id v w words at live e d fewer learns same =
     let G : View → Type 0 = λ u. Fits r.setting (upto u.stage r.posted r.history) (length r.history) r.numbers u in
     let f : G v = r.seats id v at live in
     let g : G w = fits_from r.setting r.posted r.history r.posted (length r.history) r.numbers w away d refl (learns (fits_at r.setting r.posted r.history r.posted (length r.history) r.numbers v away e refl f)) in
-    record {
-      setting = r.setting;
-      posted = r.posted;
-      history = r.history;
-      turn = r.turn;
-      numbers = r.numbers;
-      home = r.home;
-      words = same ∙ r.words;
-      homes = r.homes;
-      limits = r.limits;
-      legal = r.legal;
-      callers = r.callers;
-      few = r.few;
-      once = once_set s.views id v w r.numbers r.numbers at r.once (λ x. let a = fewer x in omega arith);
-      seats = each_set G G s.views id w r.seats (λ j u ne at' h. h) (λ _. g);
-      turns = turns_aside r.setting r.posted r.history r.turn r.numbers r.home s.views id v w at e d r.turns;
-    }
+    with_views s r words (set s.views id w) same
+    (once_set s.views id v w r.numbers r.numbers at r.once (λ x. let a = fewer x in omega arith))
+    (each_set G G s.views id w r.seats (λ j u ne at' h. h) (λ _. g))
+    (turns_aside r.setting r.posted r.history r.turn r.numbers r.home s.views id v w at e d r.turns)
 
 -- a new seat with no number comes, and is away
 pub arrives : (s : Table) (r : Ruled s) (w : View) → w.stage ≡ away → w.held ≡ [] → Fits r.setting r.posted (length r.history) r.numbers w
@@ -51,48 +79,27 @@ arrives s r w d nothing f =
     let g = fits_from r.setting r.posted r.history r.posted (length r.history) r.numbers w away d refl f in
     let G : View → Type 0 = λ u. Fits r.setting (upto u.stage r.posted r.history) (length r.history) r.numbers u in
     let stage : View → Stage = λ u. u.stage in
-    record {
-      setting = r.setting;
-      posted = r.posted;
-      history = r.history;
-      turn = r.turn;
-      numbers = r.numbers;
-      home = r.home;
-      words = r.words;
-      homes = r.homes;
-      limits = r.limits;
-      legal = r.legal;
-      callers = r.callers;
-      few = r.few;
-      once = λ x. let a = r.once x in let b = total_append (λ (u : View). times x u.held) s.views (w ∷ []) in let c : times x w.held ≡ 0 = ap (times x) nothing in omega arith;
-      seats = λ j u at live. ⊎_elim (λ at'. r.seats j u at' live) (λ e. subst G e g) (at_snoc s.views w u j at);
-      turns = elim r.turns [
-        | inl free ↦ inl (record {
-          turn_is = free.turn_is;
-          home_is = free.home_is;
-          all_posted = free.all_posted;
-          all_away = λ j u at. ⊎_elim (λ at'. free.all_away j u at') (λ e. ap stage (sym e) ∙ d) (at_snoc s.views w u j at);
-        })
-        | inr held ↦ inr (record {
-          turn_is = held.turn_is;
-          home_is = held.home_is;
-          seat = held.seat;
-          view = held.view;
-          there = at_longer s.views (w ∷ []) held.seat held.view held.there;
-          live = held.live;
-          holder = held.holder;
-          others_away = λ j u other at. ⊎_elim (λ at'. held.others_away j u other at') (λ e. ap stage (sym e) ∙ d) (at_snoc s.views w u j at);
-        })
-      ];
-    }
-
--- what the rule is made of, but for the words and who holds the turn
-pub record Made (setting : Setting) (posted history : List Entry) (numbers : ℕ) (views : List View) : Type 0 where
-  pub legal : IsLegal setting.league setting.room history
-  pub callers : callers_below numbers history
-  pub few : numbers ≤ 64
-  pub once : (x : ℕ) → total (λ (v : View). times x v.held) views ≤ once_below x numbers
-  pub seats : (j : ℕ) (v : View) → get_elem? views j ≡ some v → v.live ≡ true → Fits setting (upto v.stage posted history) (length history) numbers v
+    with_views s r s.words (s.views ++ w ∷ []) refl
+    (λ x. let a = r.once x in let b = total_append (λ (u : View). times x u.held) s.views (w ∷ []) in let c : times x w.held ≡ 0 = ap (times x) nothing in omega arith)
+    (λ j u at live. ⊎_elim (λ at'. r.seats j u at' live) (λ e. subst G e g) (at_snoc s.views w u j at))
+    (elim r.turns [
+      | inl free ↦ inl (record {
+        turn_is = free.turn_is;
+        home_is = free.home_is;
+        all_posted = free.all_posted;
+        all_away = λ j u at. ⊎_elim (λ at'. free.all_away j u at') (λ e. ap stage (sym e) ∙ d) (at_snoc s.views w u j at);
+      })
+      | inr held ↦ inr (record {
+        turn_is = held.turn_is;
+        home_is = held.home_is;
+        seat = held.seat;
+        view = held.view;
+        there = at_longer s.views (w ∷ []) held.seat held.view held.there;
+        live = held.live;
+        holder = held.holder;
+        others_away = λ j u other at. ⊎_elim (λ at'. held.others_away j u other at') (λ e. ap stage (sym e) ∙ d) (at_snoc s.views w u j at);
+      })
+    ])
 
 -- the holder of the turn made it so: the others stand to what is posted as they did
 pub record Does (s : Table) (r : Ruled s) (id : ℕ) (v w : View) (posted history : List Entry) (numbers : ℕ) : Type 0 where
@@ -121,6 +128,32 @@ makes s r id v w posted history numbers at others does =
           (λ _. does.mine);
     }
 
+-- where the history and the numbers stay
+does_same : (s : Table) (r : Ruled s) (id : ℕ) (v w : View) → ((x : ℕ) → times x w.held ≤ times x v.held)
+    → Fits r.setting (upto w.stage r.posted r.history) (length r.history) r.numbers w → Does s r id v w r.posted r.history r.numbers
+does_same s r id v w fewer f = record {
+  legal = r.legal;
+  callers = r.callers;
+  few = r.few;
+  grown = λ x. let a = fewer x in omega arith;
+  others = λ j u ne at' g. g;
+  mine = f;
+}
+
+-- the seat holds the turn with its new view
+held_by : (posted history : List Entry) (numbers turn : ℕ) (home : maybe.Option (Option Book)) (views : List View) (id : ℕ) (v w : View) → get_elem? views id ≡ some v → OthersAway views id
+    → turn ≡ 1 → home ≡ none → w.live ≡ true → IsHolder posted history numbers w.held w.given w.stage → IsHeld posted history numbers turn home (set views id w)
+held_by posted history numbers turn home views id v w at others turn_is home_is live holder = record {
+  turn_is = turn_is;
+  home_is = home_is;
+  seat = id;
+  view = w;
+  there = there_set views id v w at;
+  live = live;
+  holder = holder;
+  others_away = away_else views id w others;
+}
+
 -- the holder changes what it knows and keeps the turn
 pub holds_on : (s : Table) (r : Ruled s) (id : ℕ) (v w : View) (posted history : List Entry) (numbers : ℕ) (words : List ℕ) → get_elem? s.views id ≡ some v → w.live ≡ true
     → Owned r.posted r.history r.numbers r.turn r.home s.views id v
@@ -129,33 +162,9 @@ pub holds_on : (s : Table) (r : Ruled s) (id : ℕ) (v w : View) (posted history
     → IsHolder posted history numbers w.held w.given w.stage
     → Ruled (record { words = words; homes = s.homes; views = set s.views id w })
 holds_on s r id v w posted history numbers words at live o does same holder =
-    let made = makes s r id v w posted history numbers at o.others_away does in
-    record {
-      setting = r.setting;
-      posted = posted;
-      history = history;
-      turn = r.turn;
-      numbers = numbers;
-      home = r.home;
-      words = same;
-      homes = r.homes;
-      limits = r.limits;
-      legal = made.legal;
-      callers = made.callers;
-      few = made.few;
-      once = made.once;
-      seats = made.seats;
-      turns = inr (record {
-        turn_is = o.turn_is;
-        home_is = o.home_is;
-        seat = id;
-        view = w;
-        there = there_set s.views id v w at;
-        live = live;
-        holder = holder;
-        others_away = away_else s.views id w o.others_away;
-      });
-    }
+    ruled_of r.setting posted history r.turn numbers r.home (record { words = words; homes = s.homes; views = set s.views id w }) r.limits
+    (makes s r id v w posted history numbers at o.others_away does) same r.homes
+    (inr (held_by posted history numbers r.turn r.home s.views id v w at o.others_away o.turn_is o.home_is live holder))
 
 -- the holder gives the turn and the board back
 pub gives_back : (s : Table) (r : Ruled s) (id : ℕ) (v w : View) (words : List ℕ) (homes : List (maybe.Option (Option Book))) → get_elem? s.views id ≡ some v
@@ -167,37 +176,15 @@ pub gives_back : (s : Table) (r : Ruled s) (id : ℕ) (v w : View) (words : List
     → homes ≡ some (Some (board_at r.setting r.history)) ∷ []
     → Ruled (record { words = words; homes = homes; views = set s.views id w })
 gives_back s r id v w words homes at o all_posted fewer d f same back =
-    let does : Does s r id v w r.posted r.history r.numbers = record {
-      legal = r.legal;
-      callers = r.callers;
-      few = r.few;
-      grown = λ x. let a = fewer x in omega arith;
-      others = λ j u ne at' g. g;
-      mine = fits_from r.setting r.posted r.history r.posted (length r.history) r.numbers w away d refl f;
-    } in
-    let made = makes s r id v w r.posted r.history r.numbers at o.others_away does in
-    record {
-      setting = r.setting;
-      posted = r.posted;
-      history = r.history;
-      turn = 0;
-      numbers = r.numbers;
-      home = some (Some (board_at r.setting r.history));
-      words = same;
-      homes = back;
-      limits = r.limits;
-      legal = made.legal;
-      callers = made.callers;
-      few = made.few;
-      once = made.once;
-      seats = made.seats;
-      turns = inl (record {
-        turn_is = refl;
-        home_is = refl;
-        all_posted = all_posted;
-        all_away = away_set s.views id w o.others_away d;
-      });
-    }
+    let does = does_same s r id v w fewer (fits_from r.setting r.posted r.history r.posted (length r.history) r.numbers w away d refl f) in
+    ruled_of r.setting r.posted r.history 0 r.numbers (some (Some (board_at r.setting r.history))) (record { words = words; homes = homes; views = set s.views id w }) r.limits
+    (makes s r id v w r.posted r.history r.numbers at o.others_away does) same back
+    (inl (record {
+      turn_is = refl;
+      home_is = refl;
+      all_posted = all_posted;
+      all_away = away_set s.views id w o.others_away d;
+    }))
 
 -- the turn is taken, and the board with it
 pub takes_hold : (s : Table) (r : Ruled s) (id : ℕ) (v w : View) (words : List ℕ) (homes : List (maybe.Option (Option Book))) → get_elem? s.views id ≡ some v → w.live ≡ true
@@ -210,41 +197,9 @@ pub takes_hold : (s : Table) (r : Ruled s) (id : ℕ) (v w : View) (words : List
     → Ruled (record { words = words; homes = homes; views = set s.views id w })
 takes_hold s r id v w words homes at live free fewer f holder same out =
     let others : OthersAway s.views id = λ j u ne. free.all_away j u in
-    let does : Does s r id v w r.posted r.history r.numbers = record {
-      legal = r.legal;
-      callers = r.callers;
-      few = r.few;
-      grown = λ x. let a = fewer x in omega arith;
-      others = λ j u ne at' g. g;
-      mine = f;
-    } in
-    let made = makes s r id v w r.posted r.history r.numbers at others does in
-    record {
-      setting = r.setting;
-      posted = r.posted;
-      history = r.history;
-      turn = 1;
-      numbers = r.numbers;
-      home = none;
-      words = same;
-      homes = out;
-      limits = r.limits;
-      legal = made.legal;
-      callers = made.callers;
-      few = made.few;
-      once = made.once;
-      seats = made.seats;
-      turns = inr (record {
-        turn_is = refl;
-        home_is = refl;
-        seat = id;
-        view = w;
-        there = there_set s.views id v w at;
-        live = live;
-        holder = holder;
-        others_away = away_else s.views id w others;
-      });
-    }
+    ruled_of r.setting r.posted r.history 1 r.numbers none (record { words = words; homes = homes; views = set s.views id w }) r.limits
+    (makes s r id v w r.posted r.history r.numbers at others (does_same s r id v w fewer f)) same out
+    (inr (held_by r.posted r.history r.numbers 1 none s.views id v w at others refl refl live holder))
 
 -- no number is held twice, and none that isn't given out
 pub held_once : (s : Table) (r : Ruled s) (j : ℕ) (v : View) (x : ℕ) → get_elem? s.views j ≡ some v → times x v.held ≤ once_below x r.numbers

@@ -5,5 +5,6 @@ pub mod Rule
 pub mod Plays
 pub mod Seats
 pub mod Judging
+pub mod Ending
 pub mod Between
 pub mod Fixtures

@@ -7,6 +7,8 @@ ghost use Rattle.shared_board.specs.Held.{times, under};
 mod calls;
 mod seats;
 mod turn;
+#[cfg(test)]
+mod waits;
 
 use crate::view::{Order, View};
 use atomic_table::Table;

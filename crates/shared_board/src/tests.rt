@@ -2,6 +2,7 @@ ghost use Rattle.std.specs.Prelude.{◌≡◌, IfOk};
 
 mod drawn;
 mod memory;
+mod values;
 
 use crate::{Seat, Seen, Shared, SplitFault};
 use fixture_board::{Board, Change, Cost, Entry, Proposal, Reply, Why};
@@ -195,8 +196,9 @@ fn a_refused_split_draws_no_number(rt: HostRuntime) -> Result<(), Fail> {
 
 #[test]
 fn a_dropped_seat_makes_the_board_not_whole(rt: HostRuntime) -> Result<(), Fail> {
-    let (shared, mut a, _copy) = four(rt.alloc())?;
+    let (shared, mut a, mut copy) = four(rt.alloc())?;
     drop(shared.split(&rt, &mut a)?);
+    assert_eq!(rt; shared.look(&rt, &mut a, &mut copy), seen(0, 30));
     let closed = shared.close(&rt, a);
     assert!(rt; !closed.whole);
     assert_eq!(rt; closed.board.version(), 0);

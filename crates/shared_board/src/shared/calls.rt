@@ -47,14 +47,15 @@ impl Shared {
         requires { seat.old.table ≡ self.now }
         ensures { Answered seat.old seat.new ask result }
     {
-        self.take(rt, &mut seat.place);
-        let judged = self.judge(&mut seat.place, seat.number, ask);
-        self.conclude(&mut seat.place, seat.number, ask, &judged);
-        seat.seen = judged.version;
-        if let Reply::Done { .. } = judged.reply {
-            seat.accepted += 1;
+        let reply = self.asked(rt, &mut seat.place, seat.number, ask);
+        match reply {
+            Reply::Done { at, .. } => {
+                seat.seen = at;
+                seat.accepted += 1;
+            }
+            Reply::No { at, .. } => seat.seen = at,
         }
-        judged.reply
+        reply
     }
 
     /// What the board shows now. The copy becomes the board's schedule, where it is for as many teams.

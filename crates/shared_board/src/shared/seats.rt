@@ -3,8 +3,8 @@
 ghost use Rattle.std.specs.Prelude.{◌≡◌, MatchResult};
 ghost use Rattle.shared_board.specs.Seats.{IsNew, Absorbed, ClosedBy, given_at};
 
-use crate::plays::{Both, Newcomer, Tell};
-use crate::shared::{Closed, MAX_SEATS, SLOT, Seat, Shared, SplitFault, TURN};
+use crate::plays::{Both, Newcomer};
+use crate::shared::{Closed, MAX_SEATS, Seat, Shared, SplitFault};
 use std::sync::Wait;
 
 impl Shared {
@@ -45,13 +45,10 @@ impl Shared {
             seen,
             accepted,
         } = other;
-        self.table.shared.join_seat::<Both>(&mut seat.place, place);
-        self.table.shared.load::<Tell>(&mut seat.place, TURN);
+        self.merge(&mut seat.place, place);
         seat.held += held;
+        seat.seen = seat.seen.max(seen);
         seat.accepted += accepted;
-        if seat.seen < seen {
-            seat.seen = seen;
-        }
     }
 
     /// Ends the sharing. The board is whole where the seat holds every number that was given out.
@@ -66,14 +63,10 @@ impl Shared {
             seen: _,
             accepted: _,
         } = seat;
-        self.take(rt, &mut place);
-        let numbers = self.count(&mut place);
-        match self.table.shared.exchange(&mut place, SLOT, None) {
-            Some(board) => Closed {
-                board,
-                whole: u64::from(held) == numbers,
-            },
-            None => unreachable!(),
+        let (board, numbers) = self.bring_out(rt, &mut place);
+        Closed {
+            board,
+            whole: u64::from(held) == numbers,
         }
     }
 }

@@ -1,6 +1,6 @@
 //! The steps of a turn, each with what it does to the seat of the table.
 
-ghost use Rattle.std.specs.Prelude.{◌≡◌, ◌<◌, ◌≤◌, ◌^◌, ◌+◌, [], ◌∷◌, length, true, MatchBool};
+ghost use Rattle.std.specs.Prelude.{◌≡◌, ℕ, ◌<◌, ◌≤◌, ◌^◌, ◌+◌, [], ◌∷◌, length, true, MatchBool};
 ghost use Rattle.fixture_board.specs.History.{IsLegal, games_of, cost_at};
 ghost use Rattle.fixture_board.specs.Laws.{least_of, as_number};
 ghost use Rattle.fixture_board.specs.Replies.{next_of};
@@ -8,12 +8,13 @@ ghost use Rattle.shared_board.specs.Held.{times};
 ghost use Rattle.shared_board.specs.Stage.{away, holds, counts, owes, kept, owed, IsSettled};
 ghost use Rattle.shared_board.specs.Rule.{Added};
 ghost use Rattle.shared_board.specs.Plays.{Took, Counted, at_stage, saw, on_board, drawing};
-ghost use Rattle.shared_board.specs.Seats.{HasBoard, copied};
+ghost use Rattle.shared_board.specs.Seats.{SeatValue, HasBoard, IsIdle, IsSeat, Answered, Absorbed, seat_value, copied};
+ghost use Rattle.shared_board.specs.Ending.{IsSeatAfter, IsOfBoth, BroughtOut};
 ghost use Rattle.shared_board.specs.Judging.{IsJudged};
 
-use crate::plays::{Commit, Count, Draw, Leave, Post, Quit, Take};
+use crate::plays::{Both, Commit, Count, Draw, Leave, Post, Quit, Take, Tell};
 use crate::shared::{BEST, FRONT, Judged, NUMBERS, Place, SLOT, Seen, Shared, TURN};
-use fixture_board::{Ask, Best, Reply};
+use fixture_board::{Ask, Best, Board, Reply};
 use fixtures::Schedule;
 use std::hint::spin_loop;
 use std::sync::Wait;
@@ -37,6 +38,47 @@ impl Shared {
             yield_now();
         }
         unreachable!()
+    }
+
+    /// Takes the turn, asks the board, and leaves the turn.
+    pub(crate) fn asked<R: Wait>(&self, rt: &R, place: &mut Place, number: u32, ask: Ask) -> Reply
+        requires table { place.old.table_id ≡ self.now }
+        requires idle { IsIdle place.old.me }
+        requires own { 0 < times number place.old.me.0.held }
+        ensures same { place.new.table_id ≡ place.old.table_id }
+        ensures answered { Answered (seat_value place.old.table_id number place.old.me.0) (seat_value place.old.table_id number place.new.me.0) ask result }
+        ensures seat { (held seen accepted : ℕ) → IsSeat place.old.me number held seen accepted → IsSeatAfter place.new.me number held accepted result }
+    {
+        self.take(rt, place);
+        let judged = self.judge(place, number, ask);
+        self.conclude(place, number, ask, &judged);
+        judged.reply
+    }
+
+    /// Takes the turn for good: the board, and how many numbers are given out.
+    pub(crate) fn bring_out<R: Wait>(&self, rt: &R, place: &mut Place) -> (Board, u64)
+        requires table { place.old.table_id ≡ self.now }
+        requires idle { IsIdle place.old.me }
+        ensures { BroughtOut place.old.me result.0 result.1 }
+    {
+        self.take(rt, place);
+        let numbers = self.count(place);
+        match self.table.shared.exchange(place, SLOT, None) {
+            Some(board) => (board, numbers),
+            None => unreachable!(),
+        }
+    }
+
+    /// The first seat takes in what the other knows.
+    pub(crate) fn merge(&self, place: &mut Place, other: Place)
+        requires table { (place.old.table_id ≡ self.now) × (other.table_id ≡ self.now) }
+        requires idle { IsIdle place.old.me × IsIdle other.me }
+        ensures same { place.new.table_id ≡ place.old.table_id }
+        ensures both { IsOfBoth place.old.me other.me place.new.me }
+        ensures absorbed { (number theirs : ℕ) (a o : SeatValue) → seat_value place.old.table_id number place.old.me.0 ≡ a → seat_value other.table_id theirs other.me.0 ≡ o → Absorbed a o (seat_value place.new.table_id number place.new.me.0) }
+    {
+        self.table.shared.join_seat::<Both>(place, other);
+        self.table.shared.load::<Tell>(place, TURN);
     }
 
     /// Tries for the turn a few times, and says whether it was taken.
