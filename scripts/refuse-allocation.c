@@ -4,6 +4,7 @@
 extern char *getenv(const char *);
 extern unsigned long strtoul(const char *, char **, int);
 extern int dprintf(int, const char *, ...);
+extern long syscall(long, ...);
 extern void *__libc_malloc(unsigned long);
 extern void *__libc_realloc(void *, unsigned long);
 
@@ -17,6 +18,13 @@ __attribute__((constructor)) static void begin(void) {
 
 __attribute__((destructor)) static void end(void) {
     dprintf(2, "allocations: %lu\n", asked);
+}
+
+// A program that ends by this call runs no destructor.
+void _exit(int status) {
+    end();
+    for (;;)
+        syscall(231, status); // exit_group
 }
 
 static int is_refused(void) {
