@@ -152,8 +152,6 @@ impl Shared {
         requires { board.history ≡ [] }
         ensures { IfOk result (λ r. r.1 ≡ first_seat r.0 (record { league = board.league; room = board.room })) }
     {
-        // for the proof: the league is within its limits
-        let _ = board.league().teams();
         let best = turn::number_of(board.best());
         let key = Snapshot::of(&board);
         let mut slots = Vec::with_capacity(alloc, 1)?;

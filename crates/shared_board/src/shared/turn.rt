@@ -18,13 +18,17 @@ use fixture_board::{Ask, Best, Board, Reply};
 use fixtures::Schedule;
 use std::hint::spin_loop;
 use std::sync::Wait;
-use std::thread::yield_now;
+use std::time::Duration;
 
-/// How often a seat tries for the turn before it yields to other threads.
+/// How often a seat tries for the turn before its thread sleeps.
 const TRIES: u32 = 64;
 
+/// How many microseconds it sleeps, where the turn is still taken. Nobody wakes it: that would cost each turn a call of the
+/// system.
+const NAP: u64 = 50;
+
 impl Shared {
-    /// Takes the turn, and the board with it. Where the turn is long taken, it yields to other threads.
+    /// Takes the turn, and the board with it. Where the turn is long taken, the thread sleeps a little.
     pub(crate) fn take<R: Wait>(&self, rt: &R, place: &mut Place)
         requires table { place.old.table_id ≡ self.now }
         requires idle { (place.old.me.0.live ≡ true) × (place.old.me.0.stage ≡ away) }
@@ -35,7 +39,8 @@ impl Shared {
             if self.try_take(place) {
                 return;
             }
-            yield_now();
+            let nap = Duration::from_micros(NAP);
+            self.table.shared.park_timeout(rt, TURN, 1, nap);
         }
         unreachable!()
     }

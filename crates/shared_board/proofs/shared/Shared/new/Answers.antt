@@ -11,7 +11,7 @@ use Rattle.shared_board.proofs.shared.Shared.new.Goals as goal
 pub new-requires : goal.new-requires
 new-requires c =
     let b : Book = c.args.board in
-    let limits : IsLeague b.league = subst IsLeague c.league.ensures c.teams.ensures.limits in
+    let limits : IsLeague b.league = c.best.ensures.limits in
     let best : c.number_of-best.result ≡ least_of b.league [] =
     c.number_of-best.ensures ∙ (ap as_number c.best.ensures.value ∙ (number_of_best b.league b.history ∙ ap (least_of b.league) c.requires)) in
     let items : c.push_reserved.new.self.items ≡ Some b ∷ [] = c.push_reserved.ensures.items ∙ ap (λ (l : List (Option Book)). l ++ Some b ∷ []) c.in_ok-slots.ensures.items in
