@@ -1,20 +1,23 @@
 -- What the run's seat knows of the entries of the seats that it took in.
-use Rattle.std.proofs.Common.{◌≡◌, ◌⊎◌, ℕ, ◌+◌, List, [], ◌∷◌, ◌++◌, map, refl, sym, ap, ◌∙◌, subst, arith, append_assoc}
-use Rattle.std.specs.List.{All}
+use Rattle.std.proofs.Common.{◌≡◌, ℕ, Bool, true, List, [], ◌∷◌, ◌++◌, Vec, map, refl, sym, ap, ◌∙◌, subst, arith, append_assoc}
+use Rattle.std.specs.List.Sorted.{IsStrictlyIncreasing}
+use Rattle.std.specs.declared.alloc.Global.{Global}
 use Rattle.std.specs.declared.thread.PromisedHandle.{PromisedHandle}
 use mathlib.Core.Logic.{inl, inr}
 use Rattle.std.proofs.lemmas.List.{map-append}
 use Rattle.std.proofs.lemmas.List.Elements.{All-push, All-same}
 use Rattle.fixture_board.specs.declared.change.Entry.{Entry}
+use Rattle.fixture_board.specs.Record.{Book}
+use Rattle.shared_board.specs.declared.shared.Closed.{Closed}
 use Rattle.shared_board.specs.Held.{under}
-use Rattle.shared_board.specs.Rule.{Knows}
-use Rattle.shared_board.specs.Seats.{BoardId, SeatValue, Absorbed}
+use Rattle.shared_board.specs.Seats.{BoardId, SeatValue, Absorbed, ClosedBy}
 use Rattle.shared_board.proofs.Counts.{under_append, under_both}
 use Rattle.search.specs.declared.runs.threads.Ended.{Ended}
 use Rattle.search.specs.declared.runs.threads.Given.{Given}
+use Rattle.search.specs.declared.runs.threads.Job.{Job}
 use Rattle.search.specs.declared.workers.Report.{Report}
-use Rattle.search.specs.Crews.{IsBack, IsGathered, IsHandle, handle_number}
-use Rattle.search.specs.Outcomes.{accepted_of, made_by}
+use Rattle.search.specs.Crews.{AreStarted, IsBack, IsGathered, IsHandle, handle_number, job_number}
+use Rattle.search.specs.Outcomes.{Credits, accepted_of, made_by}
 use Rattle.search.specs.Reports.{IsReport}
 use Rattle.search.proofs.SeatLaws.{under_known}
 
@@ -78,4 +81,18 @@ gathered_more steps table was a other b done h reports reports' report so given 
       each = All-same (IsReport steps) reports' (reports ++ report ∷ []) items
           (All-push (IsReport steps) reports report so.each (subst IsOf given.0 back.report_is));
       credits = ap (map of) longer ∙ front ∙ ends ∙ sym back_is;
+    }
+
+-- where all threads were started and the board is whole, the reports are credited with its entries
+pub credits_of : (steps : ℕ) (table : BoardId) (all : Bool) (jobs : Vec Job Global) (handles : Vec (PromisedHandle Ended Given) Global) (reports : List Report) (seat : SeatValue) (closed : Closed) →
+    AreStarted steps table jobs all handles → all ≡ true → IsStrictlyIncreasing (map job_number jobs.items) →
+    map (λ n. made_by n seat.seen) (map handle_number handles.items) ≡ map accepted_of reports → ClosedBy seat closed →
+    closed.whole ≡ true → Credits reports closed.board.history
+credits_of steps table all jobs handles reports seat closed started is_all rising credits is_closed whole =
+    let history : closed.board.history ≡ seat.seen = ap (λ (b : Book). b.history) is_closed.board ∙ (is_closed.whole whole).0 in
+    let P : List ℕ → Type 0 = λ ns. IsStrictlyIncreasing ns in
+    record {
+      numbers = map handle_number handles.items;
+      rising = subst P (sym (started.numbers is_all)) rising;
+      each = ap (λ (h : List Entry). map (λ n. made_by n h) (map handle_number handles.items)) history ∙ credits;
     }

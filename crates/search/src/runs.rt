@@ -1,8 +1,10 @@
 //! A run: workers in threads, on one shared board.
 
-ghost use Rattle.std.specs.Prelude.{◌≡◌, ◌<◌, [], length, slice_index_or, IfOk, IfErr};
+ghost use Rattle.std.specs.Prelude.{◌≡◌, ◌<◌, [], length, slice_index_or, All, IfOk, IfErr, IsTrue};
 ghost use Rattle.shared_board.specs.Setting.{board_at};
-ghost use Rattle.search.specs.Outcomes.{IsOutcome, IsRefusal, IsWorkers};
+ghost use Rattle.search.specs.Outcomes.{Credits, IsAlike, IsOutcome, IsRefusal, IsWorkers};
+ghost use Rattle.search.specs.Reports.{IsReport};
+ghost use Rattle.search.specs.declared.runs.RunFault.TheVariants.{Receipts};
 ghost use Rattle.search.specs.Crews.{HasRoom, IsFresh};
 ghost use Rattle.search.specs.declared.workers.Report.{Report};
 
@@ -176,13 +178,26 @@ fn search<R: Threads + Wait + Sync, G: Gate + Sync>(
     };
     let (all, handles) = launch(rt, &shared, gate, league, plan, jobs, handles);
     let reports = gather(rt, &shared, &mut seat, handles, reports, plan.steps);
-    let accepted = accepted_in(&reports);
-    let Closed { board, whole } = shared.close(rt, seat);
+    let closed = shared.close(rt, seat);
     if !all {
         let why = RunFault::Spawn;
-        let board = Some(board);
+        let board = Some(closed.board);
         return Err(RunRefused { why, board });
     }
+    conclude(plan, closed, reports)
+}
+
+/// The outcome, where the board is whole and the accepted proposals of the reports are its entries.
+fn conclude(plan: SearchPlan, closed: Closed, reports: Vec<Report>) -> Result<Outcome, RunRefused>
+    requires workers { IsWorkers plan }
+    requires many { length reports.items ≡ plan.workers }
+    requires each { All (IsReport plan.steps) reports.items }
+    requires credits { IsTrue closed.whole → Credits reports.items closed.board.history }
+    ensures done { IfOk result (IsOutcome plan closed.board) }
+    ensures refused { IfErr result (λ e. (e.why ≡ Receipts) × IsAlike closed.board e.board) }
+{
+    let accepted = accepted_in(&reports);
+    let Closed { board, whole } = closed;
     if !whole || accepted != board.version() {
         let why = RunFault::Receipts;
         let board = Some(board);

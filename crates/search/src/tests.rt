@@ -4,6 +4,7 @@ ghost use Rattle.std.specs.Prelude.{◌≡◌, [], IfOk};
 
 mod doors;
 mod memory;
+mod recorder;
 mod runs;
 mod steps;
 
