@@ -11,7 +11,7 @@ use Rattle.fixture_board.specs.Record.{Book}
 use Rattle.shared_board.specs.declared.shared.Closed.{Closed}
 use Rattle.shared_board.specs.Held.{under}
 use Rattle.shared_board.specs.Seats.{BoardId, SeatValue, Absorbed, ClosedBy}
-use Rattle.shared_board.proofs.Counts.{under_append, under_both}
+use Rattle.shared_board.proofs.ForCallers.{under_append, under_both}
 use Rattle.search.specs.declared.runs.threads.Ended.{Ended}
 use Rattle.search.specs.declared.runs.threads.Given.{Given}
 use Rattle.search.specs.declared.runs.threads.Job.{Job}

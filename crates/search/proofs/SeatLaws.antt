@@ -13,7 +13,7 @@ use Rattle.shared_board.specs.declared.shared.Seen.{Seen}
 use Rattle.shared_board.specs.Held.{times, under}
 use Rattle.shared_board.specs.Rule.{Knows}
 use Rattle.shared_board.specs.Seats.{SeatValue, Answered, Looked}
-use Rattle.shared_board.proofs.Counts.{under_append}
+use Rattle.shared_board.proofs.ForCallers.{under_append}
 use Rattle.search.specs.Doors.{done_count}
 
 -- no entry of the seat's is after what it knows
