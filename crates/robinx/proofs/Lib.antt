@@ -1,10 +1,14 @@
 mod AllTeams
+mod CountedRounds
+mod Filters
 pub mod ForCallers
 mod GameCounts
-mod Limits
+pub mod Limits
 mod LookedPast
+mod Pairs
 mod RoundsKept
 pub mod Searches
 mod SeesSame
+mod Sets
 mod Untouched
 mod Worked

@@ -1,67 +1,51 @@
 //! Capacity rules: at most so many games of a side, against some opponents, in some rounds.
 
-ghost use Rattle.std.specs.Prelude.{◌≡◌, ◌+◌, ◌*◌, ◌<◌, ◌≤◌, true, false};
-ghost use Rattle.league.specs.Sets.{has};
+ghost use Rattle.std.specs.Prelude.{◌≡◌, ◌+◌, ◌*◌, ◌<◌, ◌≤◌};
+ghost use Rattle.league.specs.Sets.{has, IsBelow};
+ghost use Rattle.league.specs.Sums.{sum_where, count_where};
 ghost use Rattle.league.specs.declared.rule.RuleBody.TheVariants as RuleBody;
-ghost use Rattle.fixtures.specs.Games.{round_count};
-ghost use Rattle.robinx.specs.Deviations.{over_in_windows, deviation};
+ghost use Rattle.fixtures.specs.Games.{round_count, IsDoubleRoundRobin};
+ghost use Rattle.robinx.specs.Deviations.{over, games_in_round, over_in_windows, deviation};
 
-use crate::counts::{games_in_round, games_in_window, games_of_team, over};
+use crate::counts::{CountedGames, counted_rounds, games_in_round, games_of_team, over};
 use fixtures::Schedule;
-use league::{Side, SlotSet, TeamSet};
+use league::SlotSet;
 
-/// The games of each team against the opponents in the slots, over the most.
-#[tactic(auto, using(league::proofs::ForCallers::sums), unfolding(crate::specs::Deviations::deviation))]
-pub(crate) fn ca2(
-    schedule: &Schedule,
-    teams: TeamSet,
-    side: Side,
-    opponents: TeamSet,
-    slots: SlotSet,
-    most: u32,
-) -> u64
-    ensures value { result ≡ deviation schedule.now (RuleBody.Ca2 teams side opponents slots most) }
-    ensures most { result ≤ 40 * 78 }
+/// The games of each team that count in the slots, over the most.
+#[tactic(auto, unfolding(crate::specs::Deviations::deviation))]
+pub(crate) fn ca2(schedule: &Schedule, games: &CountedGames, slots: SlotSet, most: u32) -> u64
+    requires round_robin { IsDoubleRoundRobin schedule.now }
+    requires teams { IsBelow schedule.now.teams games.now.teams }
+    ensures { result ≡ deviation schedule.now (RuleBody.Ca2 games.now.teams games.now.side games.now.opponents slots most) }
 {
     let mut total = 0;
-    for team in 0..schedule.teams() {
-        if teams.has(team) {
-            total += over(games_of_team(schedule, side, opponents, slots, team), most);
-        }
+    for team in games.teams {
+        total += over(games_of_team(schedule, games, slots, team), most);
     }
     total
 }
 
-/// The games of each team against the opponents in each window of consecutive rounds, over the most.
-#[tactic(auto, using(league::proofs::ForCallers::sums), unfolding(crate::specs::Deviations::deviation))]
-pub(crate) fn ca3(
-    schedule: &Schedule,
-    teams: TeamSet,
-    side: Side,
-    opponents: TeamSet,
-    window: u32,
-    most: u32,
-) -> u64
+/// The games of each team that count in each window of consecutive rounds, over the most.
+#[tactic(auto, unfolding(crate::specs::Deviations::deviation))]
+pub(crate) fn ca3(schedule: &Schedule, games: &CountedGames, window: u32, most: u32) -> u64
+    requires round_robin { IsDoubleRoundRobin schedule.now }
+    requires teams { IsBelow schedule.now.teams games.now.teams }
     requires least { 1 ≤ window }
     requires window { window ≤ round_count schedule.now.teams }
-    ensures value { result ≡ deviation schedule.now (RuleBody.Ca3 teams side opponents window most) }
-    ensures most { result ≤ 40 * (78 * 78) }
+    ensures { result ≡ deviation schedule.now (RuleBody.Ca3 games.now.teams games.now.side games.now.opponents window most) }
 {
     let mut total = 0;
-    for team in 0..schedule.teams() {
-        if teams.has(team) {
-            total += over_in_windows(schedule, side, opponents, window as u8, most, team);
-        }
+    for team in games.teams {
+        total += over_in_windows(schedule, games, window as u8, most, team);
     }
     total
 }
 
-/// The games of the team against the opponents in each window of consecutive rounds, over the most.
-#[tactic(auto, using(league::proofs::ForCallers::sums), unfolding(crate::specs::Deviations::over_in_windows))]
+/// The games of the team that count in each window of consecutive rounds, over the most.
+#[tactic(auto, using(league::proofs::ForCallers::sums))]
 fn over_in_windows(
     schedule: &Schedule,
-    side: Side,
-    opponents: TeamSet,
+    games: &CountedGames,
     window: u8,
     most: u32,
     team: u8,
@@ -69,62 +53,74 @@ fn over_in_windows(
     requires team { team < schedule.now.teams }
     requires least { 1 ≤ window }
     requires window { window ≤ round_count schedule.now.teams }
-    ensures value { result ≡ over_in_windows schedule.now side (has opponents) window most team }
+    ensures value { result ≡ over_in_windows schedule.now games.now.side (has games.now.opponents) window most team }
     ensures most { result ≤ 78 * 78 }
 {
+    let season = SlotSet::below(schedule.rounds());
+    let counted = counted_rounds(schedule, games, season, team);
     let mut total = 0;
     for first in 0..schedule.rounds() + 1 - window {
-        total += over(
-            games_in_window(schedule, side, opponents, window, team, first),
-            most,
-        );
+        total += over(rounds_in_window(counted, first, window), most);
     }
     total
 }
 
-/// The games of all the teams against the opponents in all the slots, over the most.
-#[tactic(auto, using(league::proofs::ForCallers::sums), unfolding(crate::specs::Deviations::deviation))]
-pub(crate) fn ca4_global(
-    schedule: &Schedule,
-    teams: TeamSet,
-    side: Side,
-    opponents: TeamSet,
-    slots: SlotSet,
-    most: u32,
-) -> u64
-    ensures value { result ≡ deviation schedule.now (RuleBody.Ca4 teams side opponents slots false most) }
-    ensures most { result ≤ 78 * 40 }
+/// How many of the rounds are in the window that begins with the round `first`.
+fn rounds_in_window(rounds: SlotSet, first: u8, window: u8) -> u32
+    requires { first + window ≤ 78 }
+    ensures value { result ≡ count_where window (λ k. has rounds (first + k)) }
+    ensures most { result ≤ window }
 {
-    let mut count = 0;
-    for round in 0..schedule.rounds() {
-        if slots.has(round) {
-            count += games_in_round(schedule, side, teams, opponents, round);
-        }
-    }
-    over(count, most)
+    let past = SlotSet::below(first);
+    let until_end = SlotSet::below(first + window);
+    until_end.difference(past).common(rounds).len()
 }
 
-/// The games of all the teams against the opponents in each of the slots, over the most.
-#[tactic(auto, using(league::proofs::ForCallers::sums), unfolding(crate::specs::Deviations::deviation))]
-pub(crate) fn ca4_every(
+/// The games of all the teams that count, over the most: in each of the slots, or in all of them together.
+pub(crate) fn ca4(
     schedule: &Schedule,
-    teams: TeamSet,
-    side: Side,
-    opponents: TeamSet,
+    games: &CountedGames,
     slots: SlotSet,
+    each: bool,
     most: u32,
 ) -> u64
-    ensures value { result ≡ deviation schedule.now (RuleBody.Ca4 teams side opponents slots true most) }
-    ensures most { result ≤ 78 * 40 }
+    requires round_robin { IsDoubleRoundRobin schedule.now }
+    requires teams { IsBelow schedule.now.teams games.now.teams }
+    requires slots { IsBelow (round_count schedule.now.teams) slots }
+    ensures { result ≡ deviation schedule.now (RuleBody.Ca4 games.now.teams games.now.side games.now.opponents slots each most) }
+{
+    if each {
+        over_in_slots(schedule, games, slots, most)
+    } else {
+        over(games_of_all(schedule, games, slots), most)
+    }
+}
+
+/// The games of all the teams that count in each of the slots, over the most.
+fn over_in_slots(schedule: &Schedule, games: &CountedGames, slots: SlotSet, most: u32) -> u64
+    requires round_robin { IsDoubleRoundRobin schedule.now }
+    requires teams { IsBelow schedule.now.teams games.now.teams }
+    requires slots { IsBelow (round_count schedule.now.teams) slots }
+    ensures { result ≡
+        sum_where (round_count schedule.now.teams) (has slots) (λ r. over (games_in_round schedule.now games.now.side (has games.now.teams) (has games.now.opponents) r) most) }
 {
     let mut total = 0;
-    for round in 0..schedule.rounds() {
-        if slots.has(round) {
-            total += over(
-                games_in_round(schedule, side, teams, opponents, round),
-                most,
-            );
-        }
+    for round in slots {
+        total += over(games_in_round(schedule, games, round), most);
     }
     total
+}
+
+/// How many games of the teams count in the slots.
+fn games_of_all(schedule: &Schedule, games: &CountedGames, slots: SlotSet) -> u32
+    requires round_robin { IsDoubleRoundRobin schedule.now }
+    requires teams { IsBelow schedule.now.teams games.now.teams }
+    ensures { result ≡
+        sum_where (round_count schedule.now.teams) (has slots) (games_in_round schedule.now games.now.side (has games.now.teams) (has games.now.opponents)) }
+{
+    let mut count = 0;
+    for team in games.teams {
+        count += games_of_team(schedule, games, slots, team);
+    }
+    count
 }

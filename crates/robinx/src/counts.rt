@@ -1,12 +1,34 @@
-//! Which games of a team count for a rule, and how many.
+//! Which games count for a rule.
 
-ghost use Rattle.std.specs.Prelude.{◌≡◌, ◌+◌, ◌*◌, ◌<◌, ◌≤◌};
-ghost use Rattle.league.specs.Sets.{has};
-ghost use Rattle.fixtures.specs.Games.{round_count};
-ghost use Rattle.robinx.specs.Deviations.{over, is_on_side, is_counted, games_of_team, games_in_window, games_in_round};
+ghost use Rattle.std.specs.Prelude.{◌≡◌, ℕ, ◌<◌, ◌≤◌, ◌&&◌, nat_lt};
+ghost use Rattle.league.specs.Sets.{has, IsBelow};
+ghost use Rattle.fixtures.specs.Games.{round_count, cell, is_home, IsDoubleRoundRobin};
+ghost use Rattle.robinx.specs.Deviations.{over, is_on_side, is_counted, games_of_team, games_in_round};
 
 use fixtures::Schedule;
 use league::{Side, SlotSet, TeamSet};
+
+/// The games that count for a rule: those of these teams, on this side, against these opponents.
+#[derive(Clone, Copy, Drop)]
+pub(crate) struct CountedGames {
+    pub teams: TeamSet,
+    pub side: Side,
+    pub opponents: TeamSet,
+}
+
+impl CountedGames {
+    pub(crate) fn new(teams: TeamSet, side: Side, opponents: TeamSet) -> Self
+        ensures teams { result.teams ≡ teams }
+        ensures side { result.side ≡ side }
+        ensures opponents { result.opponents ≡ opponents }
+    {
+        CountedGames {
+            teams,
+            side,
+            opponents,
+        }
+    }
+}
 
 /// By how much a count is over the most.
 pub(crate) fn over(count: u32, most: u32) -> u64
@@ -16,8 +38,111 @@ pub(crate) fn over(count: u32, most: u32) -> u64
     count.saturating_sub(most).into()
 }
 
+/// The rounds in which the team is on this side.
+pub(crate) fn rounds_on_side(schedule: &Schedule, side: Side, team: u8) -> SlotSet
+    requires { team < schedule.now.teams }
+    ensures members { (r : ℕ) → has result r ≡ (nat_lt r (round_count schedule.now.teams) && is_on_side side (is_home schedule.now team r)) }
+    ensures below { IsBelow (round_count schedule.now.teams) result }
+{
+    let home = schedule.home_rounds(team);
+    let all = SlotSet::below(schedule.rounds());
+    match side {
+        Side::Home => home,
+        Side::Away => all.difference(home),
+        Side::Any => all,
+    }
+}
+
+/// The rounds of the slots in which a team's game counts, where the team does.
+pub(crate) fn counted_rounds(
+    schedule: &Schedule,
+    games: &CountedGames,
+    slots: SlotSet,
+    team: u8,
+) -> SlotSet
+    requires { team < schedule.now.teams }
+    ensures members { (r : ℕ) → has result r ≡
+        (nat_lt r (round_count schedule.now.teams) && (has slots r && is_counted schedule.now games.now.side (has games.now.opponents) team r)) }
+    ensures below { IsBelow (round_count schedule.now.teams) result }
+{
+    let rounds = rounds_on_side(schedule, games.side, team).common(slots);
+    if games.opponents == TeamSet::below(schedule.teams()) {
+        rounds
+    } else {
+        rounds_against(schedule, team, games.opponents, rounds)
+    }
+}
+
+/// Those of the rounds in which the team meets one of the opponents.
+fn rounds_against(schedule: &Schedule, team: u8, opponents: TeamSet, rounds: SlotSet) -> SlotSet
+    requires team { team < schedule.now.teams }
+    requires season { round_count schedule.now.teams ≤ 78 }
+    requires below { IsBelow (round_count schedule.now.teams) rounds }
+    ensures members { (r : ℕ) → has result r ≡ (has rounds r && has opponents (cell schedule.now team r).opponent) }
+    ensures below { IsBelow (round_count schedule.now.teams) result }
+{
+    let mut against = SlotSet::empty();
+    for round in rounds {
+        if meets_one_of(schedule, opponents, team, round) {
+            against = against.with(round);
+        }
+    }
+    against
+}
+
+/// Whether the team meets one of the opponents in the round.
+fn meets_one_of(schedule: &Schedule, opponents: TeamSet, team: u8, round: u8) -> bool
+    requires team { team < schedule.now.teams }
+    requires round { round < round_count schedule.now.teams }
+    ensures { result ≡ has opponents (cell schedule.now team round).opponent }
+{
+    opponents.has(schedule.game_at(team, round).opponent)
+}
+
+/// In how many rounds of the slots the team's game counts.
+pub(crate) fn games_of_team(
+    schedule: &Schedule,
+    games: &CountedGames,
+    slots: SlotSet,
+    team: u8,
+) -> u32
+    requires { team < schedule.now.teams }
+    ensures value { result ≡ games_of_team schedule.now games.now.side (has games.now.opponents) (has slots) team }
+    ensures most { result ≤ 78 }
+{
+    counted_rounds(schedule, games, slots, team).len()
+}
+
+/// For how many of the teams the game in the round counts.
+#[tactic(auto, unfolding(crate::specs::Deviations::games_in_round))]
+pub(crate) fn games_in_round(schedule: &Schedule, games: &CountedGames, round: u8) -> u32
+    requires teams { IsBelow schedule.now.teams games.now.teams }
+    requires round { round < round_count schedule.now.teams }
+    requires round_robin { IsDoubleRoundRobin schedule.now }
+    ensures value { result ≡ games_in_round schedule.now games.now.side (has games.now.teams) (has games.now.opponents) round }
+    ensures most { result ≤ 40 }
+{
+    let mut count = 0;
+    for team in games.teams {
+        count += u32::from(is_counted(schedule, games, team, round));
+    }
+    count
+}
+
+/// Whether the team's game in the round counts.
+#[tactic(auto, unfolding(crate::specs::Deviations::is_counted))]
+fn is_counted(schedule: &Schedule, games: &CountedGames, team: u8, round: u8) -> bool
+    requires forty { schedule.now.teams ≤ 40 }
+    requires team { team < schedule.now.teams }
+    requires round { round < round_count schedule.now.teams }
+    ensures { result ≡ is_counted schedule.now games.now.side (has games.now.opponents) team round }
+{
+    let cell = schedule.game_at(team, round);
+    is_on_side(games.side, cell.home) && games.opponents.has(cell.opponent)
+}
+
 /// Whether a game counts on this side, for a team that is at home in it or not.
-pub(crate) fn is_on_side(side: Side, home: bool) -> bool
+fn is_on_side(side: Side, home: bool) -> bool
     ensures { result ≡ is_on_side side home }
 {
     match side {
@@ -25,85 +150,4 @@ pub(crate) fn is_on_side(side: Side, home: bool) -> bool
         Side::Away => !home,
         Side::Any => true,
     }
-}
-
-/// Whether the team's game in the round counts: on this side, and against one of the opponents.
-#[tactic(auto, unfolding(crate::specs::Deviations::is_counted))]
-fn is_counted(schedule: &Schedule, side: Side, opponents: TeamSet, team: u8, round: u8) -> bool
-    requires forty { schedule.now.teams ≤ 40 }
-    requires team { team < schedule.now.teams }
-    requires round { round < round_count schedule.now.teams }
-    ensures { result ≡ is_counted schedule.now side (has opponents) team round }
-{
-    let cell = schedule.game_at(team, round);
-    is_on_side(side, cell.home) && opponents.has(cell.opponent)
-}
-
-/// In how many rounds of the slots the team's game counts.
-#[tactic(auto, using(league::proofs::ForCallers::sums), unfolding(crate::specs::Deviations::games_of_team))]
-pub(crate) fn games_of_team(
-    schedule: &Schedule,
-    side: Side,
-    opponents: TeamSet,
-    slots: SlotSet,
-    team: u8,
-) -> u32
-    requires { team < schedule.now.teams }
-    ensures value { result ≡ games_of_team schedule.now side (has opponents) (has slots) team }
-    ensures most { result ≤ 78 }
-{
-    let mut count = 0;
-    for round in 0..schedule.rounds() {
-        if slots.has(round) && is_counted(schedule, side, opponents, team, round) {
-            count += 1;
-        }
-    }
-    count
-}
-
-/// In how many rounds of the window, which begins with the round `first`, the team's game counts.
-#[tactic(auto, using(league::proofs::ForCallers::sums), unfolding(crate::specs::Deviations::games_in_window))]
-pub(crate) fn games_in_window(
-    schedule: &Schedule,
-    side: Side,
-    opponents: TeamSet,
-    window: u8,
-    team: u8,
-    first: u8,
-) -> u32
-    requires forty { schedule.now.teams ≤ 40 }
-    requires team { team < schedule.now.teams }
-    requires window { first + window ≤ round_count schedule.now.teams }
-    ensures value { result ≡ games_in_window schedule.now side (has opponents) window team first }
-    ensures most { result ≤ window }
-{
-    let mut count = 0;
-    for later in 0..window {
-        if is_counted(schedule, side, opponents, team, first + later) {
-            count += 1;
-        }
-    }
-    count
-}
-
-/// For how many of the teams the game in the round counts.
-#[tactic(auto, using(league::proofs::ForCallers::sums), unfolding(crate::specs::Deviations::games_in_round))]
-pub(crate) fn games_in_round(
-    schedule: &Schedule,
-    side: Side,
-    teams: TeamSet,
-    opponents: TeamSet,
-    round: u8,
-) -> u32
-    requires { round < round_count schedule.now.teams }
-    ensures value { result ≡ games_in_round schedule.now side (has teams) (has opponents) round }
-    ensures most { result ≤ 40 }
-{
-    let mut count = 0;
-    for team in 0..schedule.teams() {
-        if teams.has(team) && is_counted(schedule, side, opponents, team, round) {
-            count += 1;
-        }
-    }
-    count
 }

@@ -5,7 +5,8 @@ ghost use Rattle.league.specs.RuleLimits.{IsBodyFor};
 ghost use Rattle.robinx.specs.Deviations.{deviation};
 
 use crate::break_rules::{br1, br2};
-use crate::capacity_rules::{ca2, ca3, ca4_every, ca4_global};
+use crate::capacity_rules::{ca2, ca3, ca4};
+use crate::counts::CountedGames;
 use crate::game_rules::ga1;
 use crate::separation_rules::se1;
 use fixtures::Schedule;
@@ -14,6 +15,7 @@ use league::{Rule, RuleBody, TeamSet};
 /// By how much the schedule breaks the rule, whatever the rule's weight: 0 where it keeps it. What each class
 /// counts stands in `specs/Deviations.antt`. The numbers of the rule have to be in range for the schedule's
 /// teams, as those of each rule of a league are for the league's teams.
+#[tactic(auto, using(crate::proofs::Limits::deviation_below))]
 pub fn deviation(schedule: &Schedule, rule: &Rule) -> u64
     requires { IsBodyFor schedule.now.teams rule.now.body }
     ensures value { result ≡ deviation schedule.now rule.now.body }
@@ -26,37 +28,50 @@ pub fn deviation(schedule: &Schedule, rule: &Rule) -> u64
             side,
             slots,
             max,
-        } => ca2(schedule, *teams, *side, all_teams, *slots, *max),
+        } => ca2(
+            schedule,
+            &CountedGames::new(*teams, *side, all_teams),
+            *slots,
+            *max,
+        ),
         RuleBody::Ca2 {
             teams1,
             side,
             teams2,
             slots,
             max,
-        } => ca2(schedule, *teams1, *side, *teams2, *slots, *max),
+        } => ca2(
+            schedule,
+            &CountedGames::new(*teams1, *side, *teams2),
+            *slots,
+            *max,
+        ),
         RuleBody::Ca3 {
             teams1,
             side,
             teams2,
             window,
             max,
-        } => ca3(schedule, *teams1, *side, *teams2, *window, *max),
+        } => ca3(
+            schedule,
+            &CountedGames::new(*teams1, *side, *teams2),
+            *window,
+            *max,
+        ),
         RuleBody::Ca4 {
             teams1,
             side,
             teams2,
             slots,
-            each: false,
+            each,
             max,
-        } => ca4_global(schedule, *teams1, *side, *teams2, *slots, *max),
-        RuleBody::Ca4 {
-            teams1,
-            side,
-            teams2,
-            slots,
-            each: true,
-            max,
-        } => ca4_every(schedule, *teams1, *side, *teams2, *slots, *max),
+        } => ca4(
+            schedule,
+            &CountedGames::new(*teams1, *side, *teams2),
+            *slots,
+            *each,
+            *max,
+        ),
         RuleBody::Ga1 {
             games,
             slots,

@@ -21,8 +21,7 @@ pub(crate) fn ga1(
     most: u32,
 ) -> u64
     requires { AllByRecursion (IsGameFor schedule.now.teams) games.now }
-    ensures value { result ≡ deviation schedule.now (RuleBody.Ga1 games.now slots least most) }
-    ensures most { result ≤ 1600 + least }
+    ensures { result ≡ deviation schedule.now (RuleBody.Ga1 games.now slots least most) }
 {
     let count = listed_games_in(schedule, slots, games);
     over(count, most) + over(least, count)

@@ -1,43 +1,44 @@
 //! Separation rules: at least so many rounds between the two games of a pair.
 
-ghost use Rattle.std.specs.Prelude.{◌≡◌, ◌+◌, ◌*◌, ◌<◌, ◌≤◌};
-ghost use Rattle.league.specs.Sets.{has};
+ghost use Rattle.std.specs.Prelude.{◌≡◌, ◌*◌, ◌<◌, ◌≤◌};
+ghost use Rattle.league.specs.Sets.{has, IsBelow};
+ghost use Rattle.league.specs.Sums.{sum_where};
 ghost use Rattle.league.specs.declared.rule.RuleBody.TheVariants as RuleBody;
-ghost use Rattle.fixtures.specs.Games.{IsPair};
-ghost use Rattle.robinx.specs.Deviations.{rounds_between, short_pairs, deviation};
+ghost use Rattle.fixtures.specs.Games.{IsPair, IsDoubleRoundRobin};
+ghost use Rattle.robinx.specs.Deviations.{over, rounds_between, deviation};
 
 use crate::counts::over;
 use fixtures::Schedule;
 use league::TeamSet;
 
 /// The rounds between the two games of each pair of the teams, under the least.
-#[tactic(auto, using(league::proofs::ForCallers::sums), unfolding(crate::specs::Deviations::deviation))]
+#[tactic(auto, unfolding(crate::specs::Deviations::deviation))]
 pub(crate) fn se1(schedule: &Schedule, teams: TeamSet, least: u32) -> u64
-    requires { least ≤ 10000 }
-    ensures value { result ≡ deviation schedule.now (RuleBody.Se1 teams least) }
-    ensures most { result ≤ 8000000 }
+    requires round_robin { IsDoubleRoundRobin schedule.now }
+    requires teams { IsBelow schedule.now.teams teams }
+    requires least { least ≤ 10000 }
+    ensures { result ≡ deviation schedule.now (RuleBody.Se1 teams least) }
 {
     let mut total = 0;
-    for team in 0..schedule.teams() {
-        total += short_pairs(schedule, teams, least, team);
+    for team in teams {
+        let lower = TeamSet::below(team).common(teams);
+        total += short_with(schedule, lower, least, team);
     }
     total
 }
 
-/// The rounds between the two games of the team and of each lower team, under the least.
-#[tactic(auto, using(league::proofs::ForCallers::sums), unfolding(crate::specs::Deviations::short_pairs))]
-fn short_pairs(schedule: &Schedule, teams: TeamSet, least: u32, team: u8) -> u64
-    requires forty { schedule.now.teams ≤ 40 }
+/// The rounds between the two games of the team and of each of these lower teams, under the least.
+fn short_with(schedule: &Schedule, lower: TeamSet, least: u32, team: u8) -> u64
+    requires round_robin { IsDoubleRoundRobin schedule.now }
     requires team { team < schedule.now.teams }
+    requires lower { IsBelow team lower }
     requires least { least ≤ 10000 }
-    ensures value { result ≡ short_pairs schedule.now (has teams) least team }
-    ensures most { result ≤ team * 10000 }
+    ensures value { result ≡ sum_where team (has lower) (λ other. over least (rounds_between schedule.now other team)) }
+    ensures most { result ≤ 40 * 10000 }
 {
     let mut total = 0;
-    for other in 0..team {
-        if teams.has(other) && teams.has(team) {
-            total += over(least, rounds_between(schedule, other, team));
-        }
+    for other in lower {
+        total += over(least, rounds_between(schedule, other, team));
     }
     total
 }

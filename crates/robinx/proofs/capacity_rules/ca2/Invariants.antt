@@ -1,9 +1,9 @@
-use Rattle.std.proofs.Common.{◌≡◌, ◌*◌, ◌≤◌}
 use Rattle.league.specs.Sets.{has}
-use Rattle.league.specs.Sums.{sum_where}
+use Rattle.league.proofs.ForCallers.{IsSumWithout}
 use Rattle.robinx.specs.Deviations.{over, games_of_team}
 use Rattle.robinx.proofs.capacity_rules.ca2.Given as goal
 
 abbrev pub invariant-loop-team : goal.invariant-loop-team
 invariant-loop-team l =
-    (l.total ≡ sum_where l.team (has l.teams) (λ t. over (games_of_team l.schedule l.side (has l.opponents) (has l.slots) t) l.most)) × (l.total ≤ l.team * 78)
+    IsSumWithout l.schedule.teams l.games.teams l.team-iterator l.total 78
+    (λ t. over (games_of_team l.schedule l.games.side (has l.games.opponents) (has l.slots) t) l.most)

@@ -5,7 +5,7 @@ use Rattle.robinx.proofs.deviations.deviation.Goals as goal
 
 pub returns-in-Ca1-clause-value : goal.returns-in-Ca1-clause-value
 returns-in-Ca1-clause-value c =
-    c.ca2.ensures.value ∙
+    rw (c.new.ensures.teams, c.new.ensures.side, c.new.ensures.opponents) at c.ca2.ensures ∙
     Ca2-all c.args.schedule.now c.teams.ensures.round_robin c.in-Ca1.side c.below-all_teams.result
     (rw c.teams.ensures.number at c.below-all_teams.ensures.members)
     c.in-Ca1.teams c.in-Ca1.slots c.in-Ca1.max ∙

@@ -1,0 +1,112 @@
+-- The rounds in which a team's game counts, and those in which it has a break, as sets.
+use Rattle.std.proofs.Common.{◌≡◌, ℕ, ◌+◌, ◌-◌, ◌<◌, ◌&&◌, ◌||◌, ◌==◌, not, nat_lt, Bool, true, false, inl, inr, refl, ◌∙◌, ap, arith}
+use Rattle.std.specs.Bool.{beq}
+use Rattle.std.proofs.lemmas.Bool.{cases_eq, cases_lt, lt-ltb, le-ltb, ne_eqb}
+use Rattle.league.specs.Sets.{has}
+use Rattle.league.specs.Sums.{sum_below, sum_where, count_where}
+use Rattle.league.specs.declared.rule.Side.{Side}
+use Rattle.league.proofs.ForCallers.{sum_below_same, count_where_same}
+use Rattle.fixtures.specs.Games.{Games, round_count, cell, is_home}
+use Rattle.robinx.specs.Deviations.{over, is_on_side, is_counted, games_of_team, games_in_window, games_in_round, over_in_windows, is_break, breaks}
+use Rattle.robinx.proofs.Sets.{sum_of_counts_swap}
+
+-- a game on the side in a slot, against one of the opponents
+pub counted_from : (g : Games) (side : Side) (opponents : ℕ → Bool) (t r : ℕ) (slot : Bool) →
+    (((nat_lt r (round_count g.teams) && is_on_side side (is_home g t r)) && slot) && opponents (cell g t r).opponent) ≡
+    (nat_lt r (round_count g.teams) && (slot && is_counted g side opponents t r))
+unfolding is_counted is_home
+counted_from g side opponents t r slot =
+    regrouped (nat_lt r (round_count g.teams)) (is_on_side side (cell g t r).home) slot (opponents (cell g t r).opponent)
+  where
+    regrouped : (a b c d : Bool) → (((a && b) && c) && d) ≡ (a && (c && (b && d)))
+    regrouped true true c d = refl
+    regrouped true false true d = refl
+    regrouped true false false d = refl
+    regrouped false b c d = refl
+
+-- the windows of the counted rounds of the season
+pub windows_of_counted : (g : Games) (side : Side) (opponents : ℕ → Bool) (window most t season counted : ℕ) →
+    ((r : ℕ) → has season r ≡ nat_lt r (round_count g.teams)) →
+    ((r : ℕ) → has counted r ≡ (nat_lt r (round_count g.teams) && (has season r && is_counted g side opponents t r))) →
+    sum_below (round_count g.teams + 1 - window) (λ first. over (count_where window (λ k. has counted (first + k))) most) ≡
+    over_in_windows g side opponents window most t
+unfolding over_in_windows games_in_window
+windows_of_counted g side opponents window most t season counted all members =
+    sum_below_same (round_count g.teams + 1 - window) (λ first. over (count_where window (λ k. has counted (first + k))) most)
+    (λ first. over (count_where window (λ k. is_counted g side opponents t (first + k))) most)
+    (λ first below. ap (λ n. over n most)
+    (count_where_same window (λ k. has counted (first + k)) (λ k. is_counted g side opponents t (first + k))
+    (λ k k_below. in_season (first + k) (omega arith))))
+  where
+    in_season : (r : ℕ) → r < round_count g.teams → has counted r ≡ is_counted g side opponents t r
+    in_season r in_r =
+        members r ∙ ap (λ b. nat_lt r (round_count g.teams) && (b && is_counted g side opponents t r)) (all r) ∙
+        ap (λ b. b && (b && is_counted g side opponents t r)) (lt-ltb r (round_count g.teams) in_r)
+
+-- all games that count, team by team
+pub together_by_teams : (g : Games) (side : Side) (teams opponents slots : ℕ → Bool) →
+    sum_where g.teams teams (games_of_team g side opponents slots) ≡
+    sum_where (round_count g.teams) slots (games_in_round g side teams opponents)
+unfolding games_of_team games_in_round
+together_by_teams g side teams opponents slots =
+    sum_of_counts_swap g.teams (round_count g.teams) teams slots (is_counted g side opponents)
+
+-- whether a team is on the same side as before, where turns are rounds such that it or the one before is at home, and away
+pub without_turn : (n r : ℕ) (at : ℕ → Bool) →
+    ((nat_lt r n && not (nat_lt r 1)) &&
+    not ((nat_lt r n && ((nat_lt r n && at r) || (not (r == 0) && (nat_lt (r - 1) n && at (r - 1))))) &&
+    (nat_lt r n && ((nat_lt r n && not (at r)) || (not (r == 0) && (nat_lt (r - 1) n && not (at (r - 1)))))))) ≡
+    (nat_lt r n && (not (r == 0) && beq (at (r - 1)) (at r)))
+without_turn n r at = elim (cases_eq r 0) [
+  | inl first ↦ rw first (none (nat_lt 0 n) _)
+  | inr later ↦ elim (cases_lt r n) [
+    | inl in_r ↦ rw (lt-ltb r n in_r, le-ltb r 1 (omega arith), ne_eqb r 0 later, lt-ltb (r - 1) n (omega arith)) (same (at r) (at (r - 1)))
+    | inr past ↦ rw (le-ltb r n past) refl
+  ]
+]
+  where
+    none : (b c : Bool) → ((b && false) && c) ≡ (b && false)
+    none true c = refl
+    none false c = refl
+
+    same : (a b : Bool) → not ((a || b) && (not a || not b)) ≡ beq b a
+    same true true = refl
+    same true false = refl
+    same false true = refl
+    same false false = refl
+
+-- a break in a slot
+pub break_in_slot : (g : Games) (side : Side) (t r : ℕ) (slot : Bool) → r < round_count g.teams →
+    (((nat_lt r (round_count g.teams) && is_on_side side (is_home g t r)) &&
+    (nat_lt r (round_count g.teams) && (not (r == 0) && beq (is_home g t (r - 1)) (is_home g t r)))) && slot) ≡
+    (slot && is_break g side t r)
+unfolding is_break is_home
+break_in_slot g side t r slot in_r =
+    rw (lt-ltb r (round_count g.teams) in_r)
+    (regrouped (is_on_side side (cell g t r).home) (not (r == 0)) (beq (cell g t (r - 1)).home (cell g t r).home) slot)
+  where
+    regrouped : (a b c d : Bool) → ((a && (b && c)) && d) ≡ (d && (b && c && a))
+    regrouped true true true true = refl
+    regrouped true true true false = refl
+    regrouped true true false true = refl
+    regrouped true true false false = refl
+    regrouped true false c true = refl
+    regrouped true false c false = refl
+    regrouped false true true true = refl
+    regrouped false true true false = refl
+    regrouped false true false true = refl
+    regrouped false true false false = refl
+    regrouped false false c true = refl
+    regrouped false false c false = refl
+
+pub breaks_of_members : (g : Games) (side : Side) (t on_side stays both slots counted : ℕ) →
+    ((r : ℕ) → has on_side r ≡ (nat_lt r (round_count g.teams) && is_on_side side (is_home g t r))) →
+    ((r : ℕ) → has stays r ≡ (nat_lt r (round_count g.teams) && (not (r == 0) && beq (is_home g t (r - 1)) (is_home g t r)))) →
+    ((r : ℕ) → has both r ≡ (has on_side r && has stays r)) → ((r : ℕ) → has counted r ≡ (has both r && has slots r)) →
+    count_where (round_count g.teams) (has counted) ≡ breaks g t (has slots) side
+unfolding breaks
+breaks_of_members g side t on_side stays both slots counted on_sides all_stays boths members =
+    count_where_same (round_count g.teams) (has counted) (λ r. has slots r && is_break g side t r)
+    (λ r in_r. members r ∙ ap (λ b. b && has slots r) (boths r) ∙ ap (λ b. (b && has stays r) && has slots r) (on_sides r) ∙
+    ap (λ b. ((nat_lt r (round_count g.teams) && is_on_side side (is_home g t r)) && b) && has slots r) (all_stays r) ∙
+    break_in_slot g side t r (has slots r) in_r)

@@ -1,0 +1,79 @@
+-- How many numbers there are in the sets that counting makes.
+use Rattle.std.proofs.Common.{◌≡◌, ℕ, ◌+◌, ◌<◌, ◌&&◌, not, nat_lt, Bool, true, false, if◌then◌else◌, refl, sym, ◌∙◌, ap, arith}
+use Rattle.std.proofs.lemmas.Bool.{lt-ltb, le-ltb}
+use Rattle.league.specs.Sets.{has}
+use Rattle.league.specs.Sums.{sum_where, count_where}
+use Rattle.league.proofs.ForCallers.{sum_below_zero, sum_below_append, sum_below_swap, sum_below_same, sum_where_same, count_where_same, count_where_none}
+
+-- a set of those below n that pass a test
+pub count_of_members : (n set : ℕ) (test : ℕ → Bool) → ((k : ℕ) → has set k ≡ (nat_lt k n && test k)) →
+    count_where n (has set) ≡ count_where n test
+count_of_members n set test members =
+    count_where_same n (has set) test (λ k below. members k ∙ ap (λ b. b && test k) (lt-ltb k n below))
+
+-- those that pass a second test
+pub count_of_both : (n : ℕ) (test other : ℕ → Bool) →
+    sum_where n test (λ k. if other k then 1 else 0) ≡ count_where n (λ k. test k && other k)
+count_of_both n test other = sum_below_same n _ _ (λ k below. at (test k) (other k))
+  where
+    at : (b c : Bool) → ◌≡◌ {A = ℕ} (if b then (if c then 1 else 0) else 0) (if b && c then 1 else 0)
+    at true c = refl
+    at false c = refl
+
+-- those of a window
+pub count_in_window : (rounds set first window : ℕ) →
+    ((k : ℕ) → has set k ≡ ((nat_lt k (first + window) && not (nat_lt k first)) && has rounds k)) →
+    count_where (first + window) (has set) ≡ count_where window (λ k. has rounds (first + k))
+count_in_window rounds set first window members =
+    omega (
+      arith,
+      sum_below_append first window (λ k. if has set k then 1 else 0),
+      count_where_none first (has set) before,
+      count_where_same window (λ k. has set (first + k)) (λ k. has rounds (first + k)) inside,
+    )
+  where
+    neither : (b c : Bool) → ((b && false) && c) ≡ false
+    neither true c = refl
+    neither false c = refl
+
+    before : (k : ℕ) → k < first → has set k ≡ false
+    before k below =
+        members k ∙ ap (λ b. (nat_lt k (first + window) && not b) && has rounds k) (lt-ltb k first below) ∙
+        neither (nat_lt k (first + window)) (has rounds k)
+
+    inside : (k : ℕ) → k < window → has set (first + k) ≡ has rounds (first + k)
+    inside k below =
+        members (first + k) ∙
+        ap (λ b. (b && not (nat_lt (first + k) first)) && has rounds (first + k)) (lt-ltb (first + k) (first + window) (omega arith)) ∙
+        ap (λ b. not b && has rounds (first + k)) (le-ltb (first + k) first (omega arith))
+
+-- the lower numbers of a set
+pub sum_of_lower : (n lower all set : ℕ) (f : ℕ → ℕ) → ((k : ℕ) → has all k ≡ nat_lt k n) →
+    ((k : ℕ) → has lower k ≡ (has all k && has set k)) → sum_where n (has lower) f ≡ sum_where n (has set) f
+sum_of_lower n lower all set f is_all members =
+    sum_where_same n (has lower) (has set) f f
+    (λ k below. members k ∙ ap (λ b. b && has set k) (is_all k ∙ lt-ltb k n below)) (λ k below passes. refl)
+
+-- a count under a condition
+if_count : (b : Bool) (n : ℕ) (test : ℕ → Bool) → (if b then count_where n test else 0) ≡ count_where n (λ k. b && test k)
+if_count true n test = refl
+if_count false n test = sym (sum_below_zero n (λ k. if false && test k then 1 else 0) (λ k below. refl))
+
+exchanged : (a b c : Bool) → (a && (b && c)) ≡ (b && (a && c))
+exchanged true b c = refl
+exchanged false true c = refl
+exchanged false false c = refl
+
+-- counted by rows or by columns
+pub sum_of_counts_swap : (m n : ℕ) (rows columns : ℕ → Bool) (test : ℕ → ℕ → Bool) →
+    sum_where m rows (λ i. count_where n (λ j. columns j && test i j)) ≡ sum_where n columns (λ j. count_where m (λ i. rows i && test i j))
+sum_of_counts_swap m n rows columns test =
+    sum_below_same m (λ i. if rows i then count_where n (λ j. columns j && test i j) else 0)
+    (λ i. count_where n (λ j. rows i && (columns j && test i j))) (λ i below. if_count (rows i) n (λ j. columns j && test i j)) ∙
+    sum_below_swap m n (λ i j. if rows i && (columns j && test i j) then 1 else 0) ∙
+    sum_below_same n (λ j. count_where m (λ i. rows i && (columns j && test i j)))
+    (λ j. if columns j then count_where m (λ i. rows i && test i j) else 0)
+    (λ j j_below.
+    count_where_same m (λ i. rows i && (columns j && test i j)) (λ i. columns j && (rows i && test i j))
+    (λ i i_below. exchanged (rows i) (columns j) (test i j)) ∙
+    sym (if_count (columns j) m (λ i. rows i && test i j)))

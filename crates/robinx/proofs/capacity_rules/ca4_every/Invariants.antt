@@ -1,9 +1,0 @@
-use Rattle.std.proofs.Common.{◌≡◌, ◌*◌, ◌≤◌}
-use Rattle.league.specs.Sets.{has}
-use Rattle.league.specs.Sums.{sum_where}
-use Rattle.robinx.specs.Deviations.{over, games_in_round}
-use Rattle.robinx.proofs.capacity_rules.ca4_every.Given as goal
-
-abbrev pub invariant-loop-round : goal.invariant-loop-round
-invariant-loop-round l =
-    (l.total ≡ sum_where l.round (has l.slots) (λ r. over (games_in_round l.schedule l.side (has l.teams) (has l.opponents) r) l.most)) × (l.total ≤ l.round * 40)
