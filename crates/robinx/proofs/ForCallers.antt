@@ -1,4 +1,4 @@
--- What the crates above cite: which changes keep a deviation, and that it is below 10,000,000.
+-- What the crates above cite: which changes keep a deviation, and that it is below its limit.
 pub use Rattle.robinx.proofs.Untouched.{untouched_deviation}
 pub use Rattle.robinx.proofs.LookedPast.{looked_past_deviation, looks_past_tested}
 pub use Rattle.robinx.proofs.Limits.{deviation_below}

@@ -6,7 +6,6 @@ mod GameCounts
 pub mod Limits
 mod LookedPast
 mod Pairs
-mod RoundsKept
 pub mod Searches
 mod SeesSame
 mod Sets

@@ -1,7 +1,8 @@
--- A schedule of up to 40 teams is less than 10,000,000 from a rule whose numbers are in range.
+-- How far a schedule is from a rule whose numbers are in range, at most.
 use Rattle.std.proofs.Common.{ℕ, zero, suc, ◌+◌, ◌-◌, ◌*◌, ◌<◌, ◌≤◌, ◌&&◌, Bool, true, false, if◌then◌else◌, List, length, arith}
 use Rattle.std.proofs.Math.Nat.{mul-le-mul, mul-le-mul_left}
 use Rattle.std.proofs.lemmas.List.Sums.{count_by-le-length}
+use Rattle.league.specs.Limits.{max_teams, max_count, deviation_limit}
 use Rattle.league.specs.Sets.{has}
 use Rattle.league.specs.Sums.{sum_below, sum_where}
 use Rattle.league.specs.RuleLimits.{IsBodyFor}
@@ -35,7 +36,7 @@ unfolding games_in_window
 count_in_window_le g side opponents window team first =
     count_where_le window (λ k. is_counted g side opponents team (first + k))
 
-over_in_windows_le : (g : Games) (side : Side) (opponents : ℕ → Bool) (window most team : ℕ) → g.teams ≤ 40 →
+over_in_windows_le : (g : Games) (side : Side) (opponents : ℕ → Bool) (window most team : ℕ) → g.teams ≤ max_teams →
     window ≤ round_count g.teams → over_in_windows g side opponents window most team ≤ 6162
 unfolding over_in_windows
 over_in_windows_le g side opponents window most team forty within =
@@ -54,7 +55,7 @@ games_in_le : (g : Games) (slots : ℕ → Bool) (games : List Pairing) → list
 unfolding listed_games_in
 games_in_le g slots games = count_by-le-length (λ (game : Pairing). slots (round_of g game.home game.away)) games
 
-short_pairs_le : (g : Games) (teams : ℕ → Bool) (least team : ℕ) → least ≤ 10000 → short_pairs g teams least team ≤ team * 10000
+short_pairs_le : (g : Games) (teams : ℕ → Bool) (least team : ℕ) → least ≤ max_count → short_pairs g teams least team ≤ team * 10000
 unfolding short_pairs
 short_pairs_le g teams least team few =
     sum_below_le team 10000 (λ other. if teams other && teams team then over least (rounds_between g other team) else 0)
@@ -67,17 +68,17 @@ triangle zero = omega arith
 triangle (suc n) = omega (arith, triangle n)
 
 -- over some of the teams, and over some of the rounds
-over_teams_le : (g : Games) (test : ℕ → Bool) (f : ℕ → ℕ) (most : ℕ) → g.teams ≤ 40 → most ≤ 6162 →
+over_teams_le : (g : Games) (test : ℕ → Bool) (f : ℕ → ℕ) (most : ℕ) → g.teams ≤ max_teams → most ≤ 6162 →
     ((t : ℕ) → f t ≤ most) → sum_where g.teams test f ≤ 246480
 over_teams_le g test f most forty few each =
     omega (arith, sum_where_le g.teams 6162 test f (λ t under is. omega (arith, each t)))
 
-over_rounds_le : (g : Games) (test : ℕ → Bool) (f : ℕ → ℕ) → g.teams ≤ 40 → ((r : ℕ) → f r ≤ g.teams) →
+over_rounds_le : (g : Games) (test : ℕ → Bool) (f : ℕ → ℕ) → g.teams ≤ max_teams → ((r : ℕ) → f r ≤ g.teams) →
     sum_where (round_count g.teams) test f ≤ 3120
 over_rounds_le g test f forty each =
     omega (arith, sum_where_le (round_count g.teams) 40 test f (λ r under is. omega (arith, each r)))
 
-pub deviation_below : (g : Games) (body : RuleBody) → g.teams ≤ 40 → IsBodyFor g.teams body → deviation g body < 10000000
+pub deviation_below : (g : Games) (body : RuleBody) → g.teams ≤ max_teams → IsBodyFor g.teams body → deviation g body < deviation_limit
 unfolding deviation
 deviation_below g (Ca1 teams side slots most) forty is =
     omega (

@@ -1,9 +1,16 @@
 -- How many numbers there are in the sets that counting makes.
-use Rattle.std.proofs.Common.{◌≡◌, ℕ, ◌+◌, ◌<◌, ◌&&◌, not, nat_lt, Bool, true, false, if◌then◌else◌, refl, sym, ◌∙◌, ap, arith}
+use Rattle.std.proofs.Common.{◌≡◌, ℕ, zero, suc, ◌+◌, ◌<◌, ◌&&◌, not, nat_lt, Bool, true, false, if◌then◌else◌, refl, sym, ◌∙◌, ap, arith}
+use Rattle.std.proofs.Math.Nat.{add-zero, add-suc}
 use Rattle.std.proofs.lemmas.Bool.{lt-ltb, le-ltb}
 use Rattle.league.specs.Sets.{has}
-use Rattle.league.specs.Sums.{sum_where, count_where}
-use Rattle.league.proofs.ForCallers.{sum_below_zero, sum_below_append, sum_below_swap, sum_below_same, sum_where_same, count_where_same, count_where_none}
+use Rattle.league.specs.Sums.{sum_below, sum_where, count_where}
+use Rattle.league.proofs.ForCallers.{sum_below_zero, sum_below_swap, sum_below_same, sum_where_same, count_where_same, count_where_none}
+
+-- the first m terms, and n more
+sum_below_append : (m n : ℕ) (f : ℕ → ℕ) → sum_below (m + n) f ≡ sum_below m f + sum_below n (λ k. f (m + k))
+unfolding sum_below
+sum_below_append m zero f = rw (add-zero m) (omega arith)
+sum_below_append m (suc n) f = rw (add-suc m n) (omega (arith, sum_below_append m n f))
 
 -- a set of those below n that pass a test
 pub count_of_members : (n set : ℕ) (test : ℕ → Bool) → ((k : ℕ) → has set k ≡ (nat_lt k n && test k)) →

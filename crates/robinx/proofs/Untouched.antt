@@ -16,7 +16,7 @@ use Rattle.fixtures.specs.Games.{Games, round_count, round_of, cell, IsPair, IsD
 use Rattle.fixtures.specs.Changes.{DiffersOnlyIn}
 use Rattle.robinx.specs.Deviations.{over, deviation}
 use Rattle.robinx.specs.Touches.{has_touched_team, has_touched_slot, has_touched_round, has_touched_game, or_before, touches}
-use Rattle.robinx.proofs.RoundsKept.{round_of-kept}
+use Rattle.fixtures.proofs.ForCallers.{round_of_kept}
 use Rattle.robinx.proofs.SeesSame.{SeesSame, SeesSameBreaks, limited-same, together-same, each-same, windows-same, breaks_of_each-same, breaks_of_all-same, separation-same, listed_games_in-same}
 
 other_fails : (p q : Bool) → (p && q) ≡ false → p ≡ true → q ≡ false
@@ -116,7 +116,7 @@ module _ (g g' : Games) (rr : IsDoubleRoundRobin g) (in_teams in_rounds : ℕ �
   rounds_kept : IsDoubleRoundRobin g' → (teams : ℕ) → (has_touched_team teams in_teams && has_touched_round in_rounds) ≡ false →
       (i j : ℕ) → IsPair g.teams i j → has teams i ≡ true → has teams j ≡ true → round_of g' i j ≡ round_of g i j
   rounds_kept rr' teams untouched i j pair team other =
-      round_of-kept g g' rr rr' differs.same_size i j pair
+      round_of_kept g g' rr rr' differs.same_size i j pair
       (stays teams untouched i (round_of g i j) pair.home_in (rr.in_range i j pair) team)
 
   -- a game of a list is in the slots in both schedules or in neither
@@ -137,7 +137,7 @@ module _ (g g' : Games) (rr : IsDoubleRoundRobin g) (in_teams in_rounds : ℕ �
 
       kept : (in_teams game.home && in_rounds (round_of g game.home game.away)) ≡ false →
           round_of g' game.home game.away ≡ round_of g game.home game.away
-      kept out = round_of-kept g g' rr rr' differs.same_size game.home game.away pair (differs.same_cells _ _ is.home in_r out)
+      kept out = round_of_kept g g' rr rr' differs.same_size game.home game.away pair (differs.same_cells _ _ is.home in_r out)
 
       pair' : IsPair g'.teams game.home game.away
       pair' = rw differs.same_size pair
@@ -147,7 +147,7 @@ module _ (g g' : Games) (rr : IsDoubleRoundRobin g) (in_teams in_rounds : ℕ �
 
       kept_back : (in_teams game.home && in_rounds (round_of g' game.home game.away)) ≡ false →
           round_of g game.home game.away ≡ round_of g' game.home game.away
-      kept_back out = round_of-kept g' g rr' rr (sym differs.same_size) game.home game.away pair' (sym (differs.same_cells _ _ is.home in_r' out))
+      kept_back out = round_of_kept g' g rr' rr (sym differs.same_size) game.home game.away pair' (sym (differs.same_cells _ _ is.home in_r' out))
 
       slot_kept : any_below 78 (λ r. has slots r && in_rounds r) ≡ false → (r : ℕ) → r < round_count g.teams → has slots r ≡ true →
           in_rounds r ≡ false

@@ -2,6 +2,7 @@
 -- team keeps its side and its opponent, but that it may meet another of these teams.
 use Rattle.std.specs.Prelude.{◌≡◌, ℕ, ◌<◌, ◌&&◌, ◌||◌, not, Bool, true, false, List}
 use Rattle.std.specs.List.{list_any, AllByRecursion}
+use Rattle.league.specs.Limits.{max_teams}
 use Rattle.league.specs.Sets.{has}
 use Rattle.league.specs.Sums.{any_below}
 use Rattle.league.specs.declared.rule.Pairing.{Pairing}
@@ -9,13 +10,13 @@ use Rattle.league.specs.declared.rule.RuleBody.{RuleBody}
 use Rattle.league.specs.declared.rule.RuleBody.TheVariants.{Ca1, Ca2, Ca3, Ca4, Ga1, Br1, Br2, Se1}
 use Rattle.robinx.specs.Touches.{has_touched_team}
 
--- no team passes both; there are at most 40
+-- no team passes both
 abbrev pub AreApart : (ℕ → Bool) → (ℕ → Bool) → Type 0
-AreApart p q = (t : ℕ) → t < 40 → p t ≡ true → q t ≡ false
+AreApart p q = (t : ℕ) → t < max_teams → p t ≡ true → q t ≡ false
 
 -- the opponents have all of the teams, or none of them: to meet another of the teams makes no difference
 abbrev pub TakesAllOrNone : (ℕ → Bool) → (ℕ → Bool) → Type 0
-TakesAllOrNone teams opponents = (t u : ℕ) → t < 40 → u < 40 → teams t ≡ true → teams u ≡ true → opponents t ≡ opponents u
+TakesAllOrNone teams opponents = (t u : ℕ) → t < max_teams → u < max_teams → teams t ≡ true → teams u ≡ true → opponents t ≡ opponents u
 
 -- the rule looks at the games of none of the teams, and counts as opponents all of them or none
 abbrev pub LooksPast : (ℕ → Bool) → RuleBody → Type 0
@@ -30,9 +31,9 @@ LooksPast teams (Se1 t least) = AreApart (has t) teams
 
 -- The test of it, by searches.
 
--- whether one of the set isn't one of the teams, there being at most 40
+-- whether one of the set isn't one of the teams
 unfoldable pub has_team_outside : ℕ → (ℕ → Bool) → Bool
-has_team_outside set teams = any_below 40 (λ t. has set t && not (teams t))
+has_team_outside set teams = any_below max_teams (λ t. has set t && not (teams t))
 
 -- whether a team of one of the games is in the set
 unfoldable pub has_game_of : List Pairing → (ℕ → Bool) → Bool

@@ -1,23 +1,24 @@
 -- Which rules a change of some cells can touch: cells of the teams of one test in the rounds of another.
 use Rattle.std.specs.Prelude.{ℕ, ◌-◌, ◌&&◌, ◌||◌, ◌==◌, not, Bool, List}
 use Rattle.std.specs.List.{list_any}
+use Rattle.league.specs.Limits.{max_teams, max_rounds}
 use Rattle.league.specs.Sets.{has}
 use Rattle.league.specs.Sums.{any_below}
 use Rattle.league.specs.declared.rule.Pairing.{Pairing}
 use Rattle.league.specs.declared.rule.RuleBody.{RuleBody}
 use Rattle.league.specs.declared.rule.RuleBody.TheVariants.{Ca1, Ca2, Ca3, Ca4, Ga1, Br1, Br2, Se1}
 
--- whether one of the teams is touched; there are at most 40
+-- whether one of the teams is touched
 unfoldable pub has_touched_team : ℕ → (ℕ → Bool) → Bool
-has_touched_team teams touched = any_below 40 (λ t. has teams t && touched t)
+has_touched_team teams touched = any_below max_teams (λ t. has teams t && touched t)
 
--- whether one of the slots is touched; there are at most 78
+-- whether one of the slots is touched
 unfoldable pub has_touched_slot : ℕ → (ℕ → Bool) → Bool
-has_touched_slot slots touched = any_below 78 (λ r. has slots r && touched r)
+has_touched_slot slots touched = any_below max_rounds (λ r. has slots r && touched r)
 
 -- whether any round is touched
 unfoldable pub has_touched_round : (ℕ → Bool) → Bool
-has_touched_round touched = any_below 78 touched
+has_touched_round touched = any_below max_rounds touched
 
 -- whether the home team of one of the games is touched
 unfoldable pub has_touched_game : List Pairing → (ℕ → Bool) → Bool

@@ -2,6 +2,7 @@
 
 ghost use Rattle.std.specs.Prelude.{◌≡◌, ℕ, ◌-◌, ◌<◌, ◌≤◌, ◌&&◌, ◌==◌, not, nat_lt};
 ghost use Rattle.std.specs.Bool.{beq};
+ghost use Rattle.league.specs.Limits.{max_rounds};
 ghost use Rattle.league.specs.Sets.{has, IsBelow};
 ghost use Rattle.league.specs.declared.rule.RuleBody.TheVariants as RuleBody;
 ghost use Rattle.fixtures.specs.Games.{round_count, is_home, IsDoubleRoundRobin};
@@ -17,7 +18,7 @@ use league::{Side, SlotSet, TeamSet};
 pub fn breaks(schedule: &Schedule, team: u8, slots: SlotSet, side: Side) -> u32
     requires { team < schedule.now.teams }
     ensures value { result ≡ breaks schedule.now team (has slots) side }
-    ensures most { result ≤ 78 }
+    ensures most { result ≤ max_rounds }
 {
     let on_side = rounds_on_side(schedule, side, team);
     let stays = rounds_without_turn(schedule, team);

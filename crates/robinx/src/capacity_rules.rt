@@ -1,6 +1,7 @@
 //! Capacity rules: at most so many games of a side, against some opponents, in some rounds.
 
 ghost use Rattle.std.specs.Prelude.{◌≡◌, ◌+◌, ◌*◌, ◌<◌, ◌≤◌};
+ghost use Rattle.league.specs.Limits.{max_rounds};
 ghost use Rattle.league.specs.Sets.{has, IsBelow};
 ghost use Rattle.league.specs.Sums.{sum_where, count_where};
 ghost use Rattle.league.specs.declared.rule.RuleBody.TheVariants as RuleBody;
@@ -54,7 +55,7 @@ fn over_in_windows(
     requires least { 1 ≤ window }
     requires window { window ≤ round_count schedule.now.teams }
     ensures value { result ≡ over_in_windows schedule.now games.now.side (has games.now.opponents) window most team }
-    ensures most { result ≤ 78 * 78 }
+    ensures most { result ≤ max_rounds * max_rounds }
 {
     let season = SlotSet::below(schedule.rounds());
     let counted = counted_rounds(schedule, games, season, team);
@@ -67,7 +68,7 @@ fn over_in_windows(
 
 /// How many of the rounds are in the window that begins with the round `first`.
 fn rounds_in_window(rounds: SlotSet, first: u8, window: u8) -> u32
-    requires { first + window ≤ 78 }
+    requires { first + window ≤ max_rounds }
     ensures value { result ≡ count_where window (λ k. has rounds (first + k)) }
     ensures most { result ≤ window }
 {

@@ -1,6 +1,7 @@
 //! Which games count for a rule.
 
 ghost use Rattle.std.specs.Prelude.{◌≡◌, ℕ, ◌<◌, ◌≤◌, ◌&&◌, nat_lt};
+ghost use Rattle.league.specs.Limits.{max_teams, max_rounds};
 ghost use Rattle.league.specs.Sets.{has, IsBelow};
 ghost use Rattle.fixtures.specs.Games.{round_count, cell, is_home, IsDoubleRoundRobin};
 ghost use Rattle.robinx.specs.Deviations.{over, is_on_side, is_counted, games_of_team, games_in_round};
@@ -76,7 +77,7 @@ pub(crate) fn counted_rounds(
 /// Those of the rounds in which the team meets one of the opponents.
 fn rounds_against(schedule: &Schedule, team: u8, opponents: TeamSet, rounds: SlotSet) -> SlotSet
     requires team { team < schedule.now.teams }
-    requires season { round_count schedule.now.teams ≤ 78 }
+    requires season { round_count schedule.now.teams ≤ max_rounds }
     requires below { IsBelow (round_count schedule.now.teams) rounds }
     ensures members { (r : ℕ) → has result r ≡ (has rounds r && has opponents (cell schedule.now team r).opponent) }
     ensures below { IsBelow (round_count schedule.now.teams) result }
@@ -108,7 +109,7 @@ pub(crate) fn games_of_team(
 ) -> u32
     requires { team < schedule.now.teams }
     ensures value { result ≡ games_of_team schedule.now games.now.side (has games.now.opponents) (has slots) team }
-    ensures most { result ≤ 78 }
+    ensures most { result ≤ max_rounds }
 {
     counted_rounds(schedule, games, slots, team).len()
 }
@@ -120,7 +121,7 @@ pub(crate) fn games_in_round(schedule: &Schedule, games: &CountedGames, round: u
     requires round { round < round_count schedule.now.teams }
     requires round_robin { IsDoubleRoundRobin schedule.now }
     ensures value { result ≡ games_in_round schedule.now games.now.side (has games.now.teams) (has games.now.opponents) round }
-    ensures most { result ≤ 40 }
+    ensures most { result ≤ max_teams }
 {
     let mut count = 0;
     for team in games.teams {
@@ -132,7 +133,7 @@ pub(crate) fn games_in_round(schedule: &Schedule, games: &CountedGames, round: u
 /// Whether the team's game in the round counts.
 #[tactic(auto, unfolding(crate::specs::Deviations::is_counted))]
 fn is_counted(schedule: &Schedule, games: &CountedGames, team: u8, round: u8) -> bool
-    requires forty { schedule.now.teams ≤ 40 }
+    requires forty { schedule.now.teams ≤ max_teams }
     requires team { team < schedule.now.teams }
     requires round { round < round_count schedule.now.teams }
     ensures { result ≡ is_counted schedule.now games.now.side (has games.now.opponents) team round }

@@ -1,6 +1,7 @@
 //! The deviation of a schedule from a rule of any class.
 
 ghost use Rattle.std.specs.Prelude.{◌≡◌, ◌<◌};
+ghost use Rattle.league.specs.Limits.{deviation_limit};
 ghost use Rattle.league.specs.RuleLimits.{IsBodyFor};
 ghost use Rattle.robinx.specs.Deviations.{deviation};
 
@@ -19,7 +20,7 @@ use league::{Rule, RuleBody, TeamSet};
 pub fn deviation(schedule: &Schedule, rule: &Rule) -> u64
     requires { IsBodyFor schedule.now.teams rule.now.body }
     ensures value { result ≡ deviation schedule.now rule.now.body }
-    ensures below { result < 10000000 }
+    ensures below { result < deviation_limit }
 {
     let all_teams = TeamSet::below(schedule.teams());
     match &rule.body {

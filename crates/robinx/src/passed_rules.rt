@@ -1,6 +1,7 @@
 //! Rules that a change around some teams leaves as they are.
 
 ghost use Rattle.std.specs.Prelude.{◌≡◌, ◌<◌, ◌||◌};
+ghost use Rattle.league.specs.Limits.{max_teams};
 ghost use Rattle.league.specs.Sets.{has};
 ghost use Rattle.robinx.specs.LooksPast.{has_team_outside, has_game_of, takes_all_or_none, looks_past};
 
@@ -67,8 +68,8 @@ fn has_game_of(games: &GameList, teams: TeamSet) -> bool
 
 /// Whether a team of the game is in the set.
 fn is_game_of(game: Pairing, teams: TeamSet) -> bool
-    requires home { game.home < 40 }
-    requires away { game.away < 40 }
+    requires home { game.home < max_teams }
+    requires away { game.away < max_teams }
     ensures { result ≡ (has teams game.home || has teams game.away) }
 {
     teams.has(game.home) || teams.has(game.away)

@@ -1,6 +1,7 @@
 //! Separation rules: at least so many rounds between the two games of a pair.
 
 ghost use Rattle.std.specs.Prelude.{◌≡◌, ◌*◌, ◌<◌, ◌≤◌};
+ghost use Rattle.league.specs.Limits.{max_teams, max_count};
 ghost use Rattle.league.specs.Sets.{has, IsBelow};
 ghost use Rattle.league.specs.Sums.{sum_where};
 ghost use Rattle.league.specs.declared.rule.RuleBody.TheVariants as RuleBody;
@@ -16,7 +17,7 @@ use league::TeamSet;
 pub(crate) fn se1(schedule: &Schedule, teams: TeamSet, least: u32) -> u64
     requires round_robin { IsDoubleRoundRobin schedule.now }
     requires teams { IsBelow schedule.now.teams teams }
-    requires least { least ≤ 10000 }
+    requires least { least ≤ max_count }
     ensures { result ≡ deviation schedule.now (RuleBody.Se1 teams least) }
 {
     let mut total = 0;
@@ -32,9 +33,9 @@ fn short_with(schedule: &Schedule, lower: TeamSet, least: u32, team: u8) -> u64
     requires round_robin { IsDoubleRoundRobin schedule.now }
     requires team { team < schedule.now.teams }
     requires lower { IsBelow team lower }
-    requires least { least ≤ 10000 }
+    requires least { least ≤ max_count }
     ensures value { result ≡ sum_where team (has lower) (λ other. over least (rounds_between schedule.now other team)) }
-    ensures most { result ≤ 40 * 10000 }
+    ensures most { result ≤ max_teams * max_count }
 {
     let mut total = 0;
     for other in lower {

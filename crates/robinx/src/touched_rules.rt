@@ -5,6 +5,7 @@ ghost use Rattle.league.specs.Sets.{has};
 ghost use Rattle.robinx.specs.Touches.{has_touched_slot, has_touched_round, has_touched_game, or_before, touches};
 
 use fixtures::Touched;
+use league::limits::MAX_ROUNDS;
 use league::{GameList, Rule, RuleBody, SlotSet, TeamSet};
 
 /// Whether a change of these cells can alter how far a schedule is from the rule: the rule looks at a touched team
@@ -47,7 +48,7 @@ pub fn touches(rule: &Rule, touched: Touched) -> bool
 fn has_touched_round(touched: SlotSet) -> bool
     ensures { result ≡ has_touched_round (has touched) }
 {
-    SlotSet::below(78).meets(touched)
+    SlotSet::below(MAX_ROUNDS).meets(touched)
 }
 
 /// Whether one of the slots is touched, or the round before it.
@@ -55,7 +56,7 @@ fn has_touched_round(touched: SlotSet) -> bool
 fn has_touched_break(slots: SlotSet, touched: SlotSet) -> bool
     ensures { result ≡ has_touched_slot slots (or_before (has touched)) }
 {
-    slots.meets(touched.with_next_below(78))
+    slots.meets(touched.with_next_below(MAX_ROUNDS))
 }
 
 /// Whether the home team of one of the games is touched.

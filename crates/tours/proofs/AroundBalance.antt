@@ -3,7 +3,7 @@ use Rattle.std.proofs.Common.{◌≡◌, ℕ, ◌+◌, ◌-◌, ◌<◌, ◌≢�
 use Rattle.std.specs.Prelude.{◌==◌, nat_lt, if◌then◌else◌}
 use Rattle.std.proofs.lemmas.Bool.{cases_Bool, or_parts, or_left, and_cases, and_left, and_right, not-true, ltb-true, eqb-false, ne_eqb, false≢true}
 use Rattle.league.specs.League.{LeagueData}
-use Rattle.league.proofs.Sums.{sum_where_same, sum_below_same}
+use Rattle.league.proofs.ForCallers.{sum_where_same, sum_below_same}
 use Rattle.fixtures.specs.declared.game.Cell.{Cell}
 use Rattle.fixtures.specs.Games.{Games, round_count, cell, is_home, meets, place}
 use Rattle.fixtures.specs.Changes.{box, with_guests, DiffersOnlyAt, DiffersOnlyIn, MeetingsDifferOnlyIn, IsKeptOrMeets, DiffersOnlyAround}

@@ -2,7 +2,7 @@
 use Rattle.std.proofs.Common.{◌≡◌, ℕ, ◌+◌, ◌<◌, Bool, true, false, ◌&&◌, sym, subst, refl, ◌∙◌, ap, arith}
 use Rattle.std.specs.Prelude.{if◌then◌else◌}
 use Rattle.league.specs.Sums.{sum_below, sum_of_pairs}
-use Rattle.league.proofs.Sums.{sum_below_balance, sum_of_pairs_balance, sum_of_pairs_same}
+use Rattle.league.proofs.ForCallers.{sum_below_balance, sum_of_pairs_balance, sum_of_pairs_same}
 
 abbrev pub one : Bool → ℕ
 one b = if b then 1 else 0

@@ -8,6 +8,7 @@ pub use Rattle.tours.proofs.RepeatsBalance.{repeats_balance_with}
 pub use Rattle.tours.proofs.AroundBalance.{travel_balance_places, runs_balance_sides}
 -- of a change of cells of touched teams in touched rounds:
 pub use Rattle.tours.proofs.AroundBalance.{travel_balance, runs_balance, repeats_balance}
+pub use Rattle.tours.proofs.PhasedBalance.{unphased_balance}
 -- of a change around some teams:
 pub use Rattle.tours.proofs.AroundBalance.{travel_balance_around, runs_balance_around, repeats_balance_around}
 -- of a change of names:

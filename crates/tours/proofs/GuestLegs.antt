@@ -6,13 +6,14 @@ use Rattle.std.proofs.lemmas.Bool.Decides.{nat_tests}
 use Rattle.league.specs.League.{LeagueData}
 use Rattle.league.specs.Sums.{sum_below, sum_where}
 use Rattle.league.proofs.ForCallers.{sum_below_same, sum_below_swap, sum_below_more, sum_where_same, sum_where_split}
-use Rattle.fixtures.specs.Games.{Games, round_count, cell, place, IsDoubleRoundRobin}
+use Rattle.league.specs.Sets.{has}
+use Rattle.fixtures.specs.Games.{Games, round_count, cell, is_home, place, IsDoubleRoundRobin}
 use Rattle.fixtures.specs.Changes.{with_guests}
 use Rattle.tours.specs.Tours.{leg_count, leg}
 use Rattle.tours.specs.Parts.{touches_leg, travel_part_of, travel_at, travel_part, travel_around}
 use Rattle.tours.specs.Walked.{there_and_on, legs_of_guest}
 use Rattle.tours.proofs.AroundBalance.{touches_leg_of}
-use Rattle.tours.proofs.TravelWalk.{inside, outside}
+use Rattle.tours.proofs.TravelWalk.{inside, outside, sum_where_swap}
 use Rattle.tours.proofs.Turned.{sum_below_turned}
 use Rattle.tours.proofs.Opponents.{opponent_in, side_of_opponent, IsPairing-opponents}
 
@@ -169,9 +170,49 @@ guests_by_host g teams f r rr in_r =
         ((IsPairing-opponents g rr r in_r).turn.back t in_t) ∙
         hosted (cell g t r).home (teams t) (teams (opponent_in g r t)) (f (opponent_in g r t))
 
+-- host by host, in its rounds at home
+
+at_home : (round home own : Bool) (x : ℕ) → (if round then (if home && not own then x else 0) else 0) ≡ (if round && home then (if own then 0 else x) else 0)
+at_home true true true x = refl
+at_home true true false x = refl
+at_home true false own x = refl
+at_home false home own x = refl
+
+abbrev hosted_at : LeagueData → Games → (ℕ → Bool) → (ℕ → Bool) → ℕ → ℕ → ℕ
+hosted_at l g teams rounds r t = if (cell g t r).home && not (teams (opponent_in g r t)) then guest_legs l g teams rounds r (opponent_in g r t) else 0
+
+guests_of_hosts : (l : LeagueData) (g : Games) (teams rounds : ℕ → Bool) →
+    sum_where (round_count g.teams) rounds (λ r. sum_where g.teams teams (hosted_at l g teams rounds r)) ≡
+    sum_where g.teams teams (λ t. sum_where (round_count g.teams) (λ r. rounds r && is_home g t r) (legs_of_guest l g teams rounds t))
+unfolding is_home
+guests_of_hosts l g teams rounds =
+    sum_where_swap (round_count g.teams) g.teams rounds teams (hosted_at l g teams rounds) ∙
+    sum_where_same g.teams teams teams (λ t. sum_where (round_count g.teams) rounds (λ r. hosted_at l g teams rounds r t))
+    (λ t. sum_where (round_count g.teams) (λ r. rounds r && (cell g t r).home) (legs_of_guest l g teams rounds t)) (λ t in_t. refl)
+    (λ t in_t mine. sum_below_same (round_count g.teams) (λ r. if rounds r then hosted_at l g teams rounds r t else 0)
+    (λ r. if rounds r && (cell g t r).home then legs_of_guest l g teams rounds t r else 0)
+    (λ r in_r. at_home (rounds r) (cell g t r).home (teams (opponent_in g r t)) (guest_legs l g teams rounds r (opponent_in g r t))))
+
+-- the rounds of a set at home
+pub sum_of_visits : (g : Games) (f : ℕ → ℕ) (t home rounds visits : ℕ) →
+    ((r : ℕ) → has home r ≡ (nat_lt r (round_count g.teams) && is_home g t r)) → ((r : ℕ) → has visits r ≡ (has home r && has rounds r)) →
+    sum_where (round_count g.teams) (has visits) f ≡ sum_where (round_count g.teams) (λ r. has rounds r && is_home g t r) f
+sum_of_visits g f t home rounds visits homes members =
+    sum_where_same (round_count g.teams) (has visits) (λ r. has rounds r && is_home g t r) f f
+    (λ r in_r. members r ∙ ap (λ b. b && has rounds r) (homes r ∙ ap (λ b. b && is_home g t r) (lt-ltb r (round_count g.teams) in_r)) ∙
+    turned (is_home g t r) (has rounds r))
+    (λ r in_r passes. refl)
+  where
+    turned : (a b : Bool) → (a && b) ≡ (b && a)
+    turned true true = refl
+    turned true false = refl
+    turned false true = refl
+    turned false false = refl
+
 pub travel_around_walked : (l : LeagueData) (g : Games) (teams rounds : ℕ → Bool) → IsDoubleRoundRobin g →
     travel_around l g teams rounds ≡
-    travel_part l g teams rounds + sum_where (round_count g.teams) rounds (λ r. sum_where g.teams teams (legs_of_guest l g teams rounds r))
+    travel_part l g teams rounds +
+    sum_where g.teams teams (λ t. sum_where (round_count g.teams) (λ r. rounds r && is_home g t r) (legs_of_guest l g teams rounds t))
 unfolding travel_around travel_at travel_part
 travel_around_walked l g teams rounds rr =
     sym (sum_where_split g.teams teams (λ t. travel_part_of l g (with_guests g teams rounds t) t)) ∙
@@ -182,5 +223,6 @@ travel_around_walked l g teams rounds rr =
     (others_part l g teams rounds ∙
     sum_where_same (round_count g.teams) rounds rounds
     (λ r. sum_where g.teams (λ t. not (teams t) && teams (place g t r)) (guest_legs l g teams rounds r))
-    (λ r. sum_where g.teams teams (legs_of_guest l g teams rounds r)) (λ r in_r. refl)
-    (λ r in_r touched. guests_by_host g teams (guest_legs l g teams rounds r) r rr in_r))
+    (λ r. sum_where g.teams teams (hosted_at l g teams rounds r)) (λ r in_r. refl)
+    (λ r in_r touched. guests_by_host g teams (guest_legs l g teams rounds r) r rr in_r) ∙
+    guests_of_hosts l g teams rounds)

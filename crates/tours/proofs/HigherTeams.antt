@@ -3,7 +3,7 @@ use Rattle.std.proofs.Common.{◌≡◌, ℕ, zero, suc, ◌+◌, Bool, true, �
 use Rattle.std.specs.Prelude.{◌==◌, nat_lt, if◌then◌else◌}
 use Rattle.std.proofs.lemmas.Bool.Decides.{nat_tests}
 use Rattle.league.specs.Sums.{sum_below, count_where}
-use Rattle.league.proofs.Sums.{sum_below_same}
+use Rattle.league.proofs.ForCallers.{sum_below_same}
 use Rattle.fixtures.specs.declared.game.Cell.{Cell}
 use Rattle.fixtures.specs.Games.{Games, cell, meets}
 use Rattle.tours.specs.Parts.{repeats_with_after}

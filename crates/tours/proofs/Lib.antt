@@ -8,7 +8,8 @@ pub mod RunStarts
 pub mod Balances
 pub mod TravelBalance
 pub mod RunsBalance
-pub mod RepeatsBalance
+pub mod PhasedBalance
+mod RepeatsBalance
 pub mod AroundBalance
 pub mod ForCallers
 mod Worked

@@ -4,7 +4,7 @@ use Rattle.std.specs.Prelude.{◌==◌, nat_lt, if◌then◌else◌}
 use Rattle.std.proofs.lemmas.Bool.{cases_eq, eq-eqb, ne_eqb}
 use Rattle.std.proofs.lemmas.Bool.Decides.{nat_tests}
 use Rattle.league.specs.Sums.{sum_below, count_where, sum_where}
-use Rattle.league.proofs.Sums.{sum_below_same, sum_below_add}
+use Rattle.league.proofs.ForCallers.{sum_below_same, sum_below_add}
 use Rattle.fixtures.specs.Games.{Games, round_count, cell, IsDoubleRoundRobin}
 use Rattle.fixtures.specs.declared.game.Cell.{Cell}
 use Rattle.tours.specs.Parts.{repeats_with_after}

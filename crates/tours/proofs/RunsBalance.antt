@@ -1,7 +1,7 @@
 -- Runs change by as many as touch a round where a team changes sides.
 use Rattle.std.proofs.Common.{◌≡◌, ℕ, ◌+◌, ◌-◌, ◌<◌, ◌≤◌, Bool, true, false, not, ◌&&◌, refl, ap, arith}
 use Rattle.std.specs.Prelude.{if◌then◌else◌}
-use Rattle.league.proofs.Sums.{all_below_same, any_below_fails, any_below_from_none, count_where_none, sum_below_same}
+use Rattle.league.proofs.ForCallers.{all_below_same, any_below_fails, any_below_from_none, count_where_none, sum_below_same}
 use Rattle.fixtures.specs.Games.{Games, round_count, is_home}
 use Rattle.fixtures.specs.Changes.{DiffersOnlyAt, box}
 use Rattle.tours.specs.Runs.{is_run, windows, runs_of, runs_over}

@@ -4,7 +4,7 @@ use Rattle.std.specs.Prelude.{◌==◌, nat_lt}
 use Rattle.std.proofs.lemmas.Bool.{cases_eq, eq-eqb, ne_eqb}
 use Rattle.std.proofs.lemmas.Bool.Decides.{nat_tests}
 use Rattle.league.specs.Sums.{sum_below, count_where}
-use Rattle.league.proofs.Sums.{sum_below_same, sum_below_add}
+use Rattle.league.proofs.ForCallers.{sum_below_same, sum_below_add}
 use Rattle.fixtures.specs.Games.{Games, round_count, IsDoubleRoundRobin}
 use Rattle.fixtures.specs.Edits.{exchanged}
 use Rattle.fixtures.specs.Changes.{MeetingsExchanged}

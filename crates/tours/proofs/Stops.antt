@@ -5,7 +5,7 @@ use Rattle.std.specs.List.{range_with_len}
 use Rattle.std.proofs.lemmas.List.{get_or_append_left, get_or_at}
 use Rattle.std.proofs.lemmas.List.FromFn.{get_or-map-range_with_len, length-map-range_with_len}
 use Rattle.league.specs.League.{LeagueData, distance}
-use Rattle.league.proofs.Sums.{sum_below_none, sum_below_more}
+use Rattle.league.proofs.ForCallers.{sum_below_none, sum_below_more}
 use Rattle.fixtures.specs.Games.{Games, round_count, place}
 use Rattle.tours.specs.Tours.{tour, leg}
 

@@ -5,7 +5,7 @@ use Rattle.std.proofs.lemmas.Bool.{cases_lt, cases_eq}
 use Rattle.std.proofs.lemmas.Bool.Decides.{nat_tests}
 use Rattle.std.proofs.Math.Nat.{add_comm}
 use Rattle.league.specs.League.{LeagueData, distance}
-use Rattle.league.proofs.Sums.{sum_where_none, sum_below_same}
+use Rattle.league.proofs.ForCallers.{sum_where_none, sum_below_same}
 use Rattle.fixtures.specs.Games.{Games, round_count, place}
 use Rattle.fixtures.specs.Changes.{DiffersOnlyAt, box}
 use Rattle.tours.specs.Tours.{tour, leg_count, leg, travel_of, travel}

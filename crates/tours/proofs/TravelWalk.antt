@@ -40,18 +40,21 @@ pub outside : (b : Bool) (n : ℕ) (f : ℕ → ℕ) → sum_below n (λ t. if b
 outside true n f = refl
 outside false n f = sum_below_zero n (λ _. 0) (λ t below. refl)
 
+-- the order of two sums is free
+pub sum_where_swap : (m n : ℕ) (rows columns : ℕ → Bool) (f : ℕ → ℕ → ℕ) →
+    sum_where m rows (λ i. sum_where n columns (f i)) ≡ sum_where n columns (λ j. sum_where m rows (λ i. f i j))
+sum_where_swap m n rows columns f =
+    sum_below_same m (λ i. if rows i then sum_where n columns (f i) else 0) (λ i. sum_below n (λ j. if columns j then (if rows i then f i j else 0) else 0))
+    (λ i below. inside (rows i) n columns (f i)) ∙
+    sum_below_swap m n (λ i j. if columns j then (if rows i then f i j else 0) else 0) ∙
+    sum_below_same n (λ j. sum_below m (λ i. if columns j then (if rows i then f i j else 0) else 0)) (λ j. if columns j then sum_where m rows (λ i. f i j) else 0)
+    (λ j below. outside (columns j) m (λ i. if rows i then f i j else 0))
+
 -- legs outside, teams inside
 travel_part_by_legs : (l : LeagueData) (g : Games) (teams rounds : ℕ → Bool) →
     travel_part l g teams rounds ≡ sum_where (leg_count g) (touches_leg g rounds) (legs_of l g teams)
 unfolding travel_part travel_part_of
-travel_part_by_legs l g teams rounds =
-    sum_below_same g.teams (λ t. if teams t then sum_where (leg_count g) (touches_leg g rounds) (leg l g t) else 0)
-    (λ t. sum_below (leg_count g) (λ r. if touches_leg g rounds r then (if teams t then leg l g t r else 0) else 0))
-    (λ t below. inside (teams t) (leg_count g) (touches_leg g rounds) (leg l g t)) ∙
-    sum_below_swap g.teams (leg_count g) (λ t r. if touches_leg g rounds r then (if teams t then leg l g t r else 0) else 0) ∙
-    sum_below_same (leg_count g) (λ r. sum_below g.teams (λ t. if touches_leg g rounds r then (if teams t then leg l g t r else 0) else 0))
-    (λ r. if touches_leg g rounds r then legs_of l g teams r else 0)
-    (λ r below. outside (touches_leg g rounds r) g.teams (λ t. if teams t then leg l g t r else 0))
+travel_part_by_legs l g teams rounds = sum_where_swap g.teams (leg_count g) teams (touches_leg g rounds) (leg l g)
 
 touched_leg : (r rounds : ℕ) (at before : Bool) → r < rounds →
     (nat_lt r rounds && (at || (not (r == 0) && before))) ≡ ((not (r == 0) && before) || (nat_lt r rounds && at))

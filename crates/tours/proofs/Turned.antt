@@ -3,7 +3,7 @@ use Rattle.std.proofs.Common.{◌≡◌, ◌≢◌, ℕ, ◌<◌, refl, sym, ◌
 use Rattle.std.specs.Prelude.{◌==◌, if◌then◌else◌}
 use Rattle.std.proofs.lemmas.Bool.{cond-true, cond-false, eq-eqb, ne_eqb}
 use Rattle.league.specs.Sums.{sum_below}
-use Rattle.league.proofs.Sums.{sum_below_same, sum_below_swap, sum_below_only}
+use Rattle.league.proofs.ForCallers.{sum_below_same, sum_below_swap, sum_below_only}
 
 -- each number below n has one below n, whose own it is
 pub record IsTurn (n : ℕ) (a : ℕ → ℕ) : Type 0 where

@@ -2,4 +2,5 @@ pub mod Tours
 pub mod Runs
 pub mod Repeats
 pub mod Parts
+pub mod Phased
 pub mod Walked

@@ -9,11 +9,11 @@ use Rattle.tours.specs.Tours.{leg}
 abbrev pub there_and_on : LeagueData → Games → (ℕ → Bool) → ℕ → ℕ → ℕ
 there_and_on l g set t r = leg l g t r + (if nat_lt (r + 1) (round_count g.teams) && set (r + 1) then 0 else leg l g t (r + 1))
 
--- those of the team that a host receives in a round, unless it is one of the hosts
+-- those of a host's opponent, unless it is one of the hosts
 abbrev pub legs_of_guest : LeagueData → Games → (ℕ → Bool) → (ℕ → Bool) → ℕ → ℕ → ℕ
-legs_of_guest l g hosts rounds r host =
-    if (cell g host r).home && not (hosts (cell g host r).opponent)
-    then there_and_on l g (with_guests g hosts rounds (cell g host r).opponent) (cell g host r).opponent r else 0
+legs_of_guest l g hosts rounds host r =
+    if hosts (cell g host r).opponent then 0
+    else there_and_on l g (with_guests g hosts rounds (cell g host r).opponent) (cell g host r).opponent r
 
 -- 1 where a team meets the same team in a round and in the next, and that isn't a higher team of the set
 abbrev pub repeat_at : Games → (ℕ → Bool) → ℕ → ℕ → ℕ

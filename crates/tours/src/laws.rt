@@ -9,6 +9,7 @@ ghost use Rattle.fixtures.specs.Changes.{DiffersOnlyAt, DiffersOnlyIn, DiffersOn
 ghost use Rattle.tours.specs.Tours.{travel};
 ghost use Rattle.tours.specs.Runs.{runs_over};
 ghost use Rattle.tours.specs.Repeats.{repeats};
+ghost use Rattle.tours.specs.Phased.{unphased, unphased_part};
 ghost use Rattle.tours.specs.Parts.{travel_at, travel_part, travel_around, runs_at, runs_part, repeats_part, repeats_with};
 
 /// Places and sides that change in rounds of which each team has a set of its own, and meetings that change.
@@ -29,6 +30,8 @@ pub fn parts_balance()
         runs_over g' most + runs_part g most teams rounds ≡ runs_over g most + runs_part g' most teams rounds }
     ensures repeats { (g g' : Games) (teams rounds : ℕ → Bool) → DiffersOnlyIn g g' teams rounds →
         repeats g' + repeats_part g rounds ≡ repeats g + repeats_part g' rounds }
+    ensures unphased { (g g' : Games) (teams rounds : ℕ → Bool) → IsDoubleRoundRobin g → IsDoubleRoundRobin g' → DiffersOnlyIn g g' teams rounds →
+        unphased g' + unphased_part g teams ≡ unphased g + unphased_part g' teams }
 {}
 
 /// A change around some teams, of which the others notice at most that they meet another of these teams.

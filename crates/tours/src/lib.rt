@@ -8,6 +8,7 @@
 mod laws;
 mod legs;
 mod meetings;
+mod phases;
 mod runs;
 mod season;
 #[cfg(test)]
@@ -17,5 +18,6 @@ mod travel_parts;
 pub use laws::{changes_around_balance, changes_balance, parts_balance, same_pairs_repeat_alike};
 pub use legs::{travel, travel_of};
 pub use meetings::{repeats, repeats_part, repeats_with};
+pub use phases::{unphased, unphased_part};
 pub use runs::{runs_over, runs_part};
 pub use travel_parts::{travel_around, travel_part};

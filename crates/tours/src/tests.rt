@@ -7,77 +7,55 @@ use league::{League, SlotSet, TeamSet, circular, constant, read_league};
 use std::alloc::Global;
 use std::test::Fail;
 
-/// Home and away of each game, round by round.
-type Sheet = [[(u8, u8); 2]; 6];
+/// The start of four teams with the homes of teams 0 and 1 exchanged.
+fn homes_exchanged(alloc: Global) -> Result<Schedule, Fail> {
+    let mut schedule = berger(alloc, 4)?;
+    schedule.exchange_homes(0, 1);
+    Ok(schedule)
+}
 
-const START: &Sheet = &[
-    [(0, 3), (1, 2)],
-    [(0, 1), (3, 2)],
-    [(1, 3), (2, 0)],
-    [(2, 1), (3, 0)],
-    [(1, 0), (2, 3)],
-    [(0, 2), (3, 1)],
-];
+/// The start of four teams with two rounds exchanged.
+fn rounds_exchanged(alloc: Global, k: u8, l: u8) -> Result<Schedule, Fail> {
+    let mut schedule = berger(alloc, 4)?;
+    if k < 6 && l < 6 && k != l {
+        schedule.exchange_rounds(k, l, TeamSet::below(4));
+    }
+    Ok(schedule)
+}
 
-/// The start with the homes of teams 0 and 1 exchanged.
-const HOMES_0_1: &Sheet = &[
-    [(0, 3), (1, 2)],
-    [(1, 0), (3, 2)],
-    [(1, 3), (2, 0)],
-    [(2, 1), (3, 0)],
-    [(0, 1), (2, 3)],
-    [(0, 2), (3, 1)],
-];
-
-/// The start with rounds 0 and 2 exchanged.
-const ROUNDS_0_2: &Sheet = &[
-    [(1, 3), (2, 0)],
-    [(0, 1), (3, 2)],
-    [(0, 3), (1, 2)],
-    [(2, 1), (3, 0)],
-    [(1, 0), (2, 3)],
-    [(0, 2), (3, 1)],
-];
-
-/// The start with rounds 1 and 3 exchanged.
-const ROUNDS_1_3: &Sheet = &[
-    [(0, 3), (1, 2)],
-    [(2, 1), (3, 0)],
-    [(1, 3), (2, 0)],
-    [(0, 1), (3, 2)],
-    [(1, 0), (2, 3)],
-    [(0, 2), (3, 1)],
-];
-
-/// The start with rounds 4 and 5 exchanged.
-const ROUNDS_4_5: &Sheet = &[
-    [(0, 3), (1, 2)],
-    [(0, 1), (3, 2)],
-    [(1, 3), (2, 0)],
-    [(2, 1), (3, 0)],
-    [(0, 2), (3, 1)],
-    [(1, 0), (2, 3)],
-];
-
-/// The start with teams 0 and 1 exchanged.
-const TEAMS_0_1: &Sheet = &[
-    [(0, 2), (1, 3)],
-    [(0, 1), (3, 2)],
-    [(0, 3), (2, 1)],
-    [(2, 0), (3, 1)],
-    [(1, 0), (2, 3)],
-    [(1, 2), (3, 0)],
-];
-
-/// The schedule of four teams that has the games of the sheet.
-fn schedule_of(alloc: Global, sheet: &Sheet) -> Result<Schedule, Fail> {
-    let mut games = Vec::with_capacity(alloc, 12)?;
-    for (round, pairs) in (0..).zip(sheet) {
-        for &(home, away) in pairs {
-            games.push(Game { round, home, away })?;
+/// The schedule in which two teams have each other's games, but for the two between them.
+fn teams_exchanged(alloc: Global, schedule: &Schedule, i: u8, j: u8) -> Result<Schedule, Fail> {
+    let mut games = Vec::new(alloc);
+    for home in 0..schedule.teams() {
+        for away in 0..schedule.teams() {
+            if home != away {
+                let round = schedule.round_of(home, away);
+                games.push(exchanged_in(round, home, away, i, j))?;
+            }
         }
     }
-    Ok(from_games(alloc, 4, &games)?)
+    Ok(from_games(alloc, schedule.teams(), &games)?)
+}
+
+fn exchanged_in(round: u8, home: u8, away: u8, i: u8, j: u8) -> Game {
+    if exchanged(home, i, j) == away {
+        return Game { round, home, away };
+    }
+    Game {
+        round,
+        home: exchanged(home, i, j),
+        away: exchanged(away, i, j),
+    }
+}
+
+fn exchanged(team: u8, i: u8, j: u8) -> u8 {
+    if team == i {
+        j
+    } else if team == j {
+        i
+    } else {
+        team
+    }
 }
 
 /// The league of four teams in a circle that allows so many rounds in a row.
@@ -117,14 +95,16 @@ fn costs_of(schedule: &Schedule, league: &League) -> Option<(u64, u64, u64)> {
 fn tours_of_four_in_a_circle(rt: HostRuntime) -> Result<(), Fail> {
     let alloc = rt.alloc();
     let league = circular(alloc, 4)?;
-    for (sheet, tours) in [
-        (START, [6, 8, 8, 8]),
-        (HOMES_0_1, [4, 6, 8, 8]),
-        (TEAMS_0_1, [6, 6, 6, 8]),
-        (ROUNDS_4_5, [6, 6, 8, 8]),
+    let start = berger(alloc, 4)?;
+    let homes = homes_exchanged(alloc)?;
+    for (schedule, tours) in [
+        (&start, [6, 8, 8, 8]),
+        (&homes, [4, 6, 8, 8]),
+        (&teams_exchanged(alloc, &start, 0, 1)?, [6, 6, 6, 8]),
+        (&teams_exchanged(alloc, &homes, 0, 1)?, [8, 4, 6, 8]),
+        (&rounds_exchanged(alloc, 4, 5)?, [6, 6, 8, 8]),
     ] {
-        let schedule = schedule_of(alloc, sheet)?;
-        assert_eq!(rt; tours_of(&schedule, &league), Some(tours));
+        assert_eq!(rt; tours_of(schedule, &league), Some(tours));
     }
     Ok(())
 }
@@ -133,16 +113,16 @@ fn tours_of_four_in_a_circle(rt: HostRuntime) -> Result<(), Fail> {
 fn costs_after_moves(rt: HostRuntime) -> Result<(), Fail> {
     let alloc = rt.alloc();
     let league = circular(alloc, 4)?;
-    for (sheet, costs) in [
-        (START, (30, 0, 0)),
-        (HOMES_0_1, (26, 0, 0)),
-        (TEAMS_0_1, (26, 0, 0)),
-        (ROUNDS_4_5, (28, 0, 0)),
-        (ROUNDS_1_3, (30, 0, 4)),
-        (ROUNDS_0_2, (32, 0, 2)),
+    let start = berger(alloc, 4)?;
+    for (schedule, costs) in [
+        (&start, (30, 0, 0)),
+        (&homes_exchanged(alloc)?, (26, 0, 0)),
+        (&teams_exchanged(alloc, &start, 0, 1)?, (26, 0, 0)),
+        (&rounds_exchanged(alloc, 4, 5)?, (28, 0, 0)),
+        (&rounds_exchanged(alloc, 1, 3)?, (30, 0, 4)),
+        (&rounds_exchanged(alloc, 0, 2)?, (32, 0, 2)),
     ] {
-        let schedule = schedule_of(alloc, sheet)?;
-        assert_eq!(rt; costs_of(&schedule, &league), Some(costs));
+        assert_eq!(rt; costs_of(schedule, &league), Some(costs));
     }
     Ok(())
 }
@@ -265,11 +245,11 @@ fn parts_of_last_two_rounds(rt: HostRuntime) -> Result<(), Fail> {
         rounds: SlotSet::empty().with(4).with(5),
     };
     assert_eq!(rt;
-        parts_of(&schedule_of(alloc, START)?, &league, touched),
+        parts_of(&berger(alloc, 4)?, &league, touched),
         Some((14, 2))
     );
     assert_eq!(rt;
-        parts_of(&schedule_of(alloc, ROUNDS_4_5)?, &league, touched),
+        parts_of(&rounds_exchanged(alloc, 4, 5)?, &league, touched),
         Some((12, 0))
     );
     Ok(())
@@ -284,11 +264,11 @@ fn parts_of_two_teams(rt: HostRuntime) -> Result<(), Fail> {
         rounds: SlotSet::empty().with(1).with(4),
     };
     assert_eq!(rt;
-        parts_of(&schedule_of(alloc, START)?, &league, touched),
+        parts_of(&berger(alloc, 4)?, &league, touched),
         Some((10, 0))
     );
     assert_eq!(rt;
-        parts_of(&schedule_of(alloc, HOMES_0_1)?, &league, touched),
+        parts_of(&homes_exchanged(alloc)?, &league, touched),
         Some((6, 0))
     );
     Ok(())

@@ -4,7 +4,7 @@ ghost use Rattle.std.specs.Prelude.{◌≡◌, ◌+◌, ◌*◌, ◌-◌, ◌<�
 ghost use Rattle.league.specs.League.{teams};
 ghost use Rattle.league.specs.Sets.{has, IsBelow};
 ghost use Rattle.league.specs.Sums.{sum_where};
-ghost use Rattle.fixtures.specs.Games.{round_count, IsDoubleRoundRobin};
+ghost use Rattle.fixtures.specs.Games.{round_count, is_home, IsDoubleRoundRobin};
 ghost use Rattle.fixtures.specs.Changes.{with_guests};
 ghost use Rattle.tours.specs.Tours.{tour, leg};
 ghost use Rattle.tours.specs.Parts.{travel_part, travel_around};
@@ -152,41 +152,42 @@ fn guests_within(schedule: &Schedule, league: &League, hosts: TeamSet, rounds: S
     requires same { teams league.now ≡ schedule.now.teams }
     requires round_robin { IsDoubleRoundRobin schedule.now }
     requires hosts { IsBelow schedule.now.teams hosts }
-    requires below { IsBelow (round_count schedule.now.teams) rounds }
-    ensures value { result ≡ sum_where (round_count schedule.now.teams) (has rounds) (λ r.
-        sum_where schedule.now.teams (has hosts) (legs_of_guest league.now schedule.now (has hosts) (has rounds) r)) }
-    ensures most { result ≤ 80000000 * round_count schedule.now.teams }
+    ensures value { result ≡ sum_where schedule.now.teams (has hosts) (λ host.
+        sum_where (round_count schedule.now.teams) (λ r. has rounds r && is_home schedule.now host r) (legs_of_guest league.now schedule.now (has hosts) (has rounds) host)) }
+    ensures most { result ≤ 160000000 * schedule.now.teams }
 {
     let mut total = 0;
-    for round in rounds {
-        total += guest_legs(schedule, league, hosts, rounds, round);
+    for host in hosts {
+        let visits = schedule.home_rounds(host).common(rounds);
+        total += guest_legs(schedule, league, hosts, rounds, host, visits);
     }
     total
 }
 
-/// The legs of the teams that these teams receive in a round.
+/// The legs of the teams that a host receives in these of its rounds at home.
 fn guest_legs(
     schedule: &Schedule,
     league: &League,
     hosts: TeamSet,
     rounds: SlotSet,
-    round: u8,
+    host: u8,
+    visits: SlotSet,
 ) -> u64
     requires same { teams league.now ≡ schedule.now.teams }
     requires round_robin { IsDoubleRoundRobin schedule.now }
-    requires below { IsBelow schedule.now.teams hosts }
-    requires round { round < round_count schedule.now.teams }
-    ensures value { result ≡ sum_where schedule.now.teams (has hosts) (legs_of_guest league.now schedule.now (has hosts) (has rounds) round) }
-    ensures most { result ≤ 2000000 * schedule.now.teams }
+    requires host { host < schedule.now.teams }
+    requires below { IsBelow (round_count schedule.now.teams) visits }
+    ensures value { result ≡ sum_where (round_count schedule.now.teams) (has visits) (legs_of_guest league.now schedule.now (has hosts) (has rounds) host) }
+    ensures most { result ≤ 160000000 }
 {
     let mut total = 0;
-    for host in hosts {
+    for round in visits {
         total += legs_of_guest(schedule, league, hosts, rounds, host, round);
     }
     total
 }
 
-/// The legs around the game of the team that one of these teams receives in a round, unless it is one of them itself.
+/// The legs around a game of the host's opponent, unless that is one of the hosts itself.
 fn legs_of_guest(
     schedule: &Schedule,
     league: &League,
@@ -198,21 +199,18 @@ fn legs_of_guest(
     requires same { teams league.now ≡ schedule.now.teams }
     requires host { host < schedule.now.teams }
     requires round { round < round_count schedule.now.teams }
-    ensures value { result ≡ legs_of_guest league.now schedule.now (has hosts) (has rounds) round host }
+    ensures value { result ≡ legs_of_guest league.now schedule.now (has hosts) (has rounds) host round }
     ensures most { result ≤ 2000000 }
 {
-    let game = schedule.game_at(host, round);
-    if !game.home {
+    let guest = schedule.game_at(host, round).opponent;
+    if hosts.has(guest) {
         return 0;
     }
-    if hosts.has(game.opponent) {
-        return 0;
-    }
-    let there = leg(schedule, league, game.opponent, round);
-    if is_guest(schedule, hosts, rounds, game.opponent, round + 1) {
+    let there = leg(schedule, league, guest, round);
+    if is_guest(schedule, hosts, rounds, guest, round + 1) {
         return there;
     }
-    there + leg(schedule, league, game.opponent, round + 1)
+    there + leg(schedule, league, guest, round + 1)
 }
 
 /// Whether a team plays at the place of one of these teams in this round, which is one of the set.

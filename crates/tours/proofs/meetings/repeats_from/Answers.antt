@@ -5,9 +5,7 @@ use Rattle.fixtures.specs.Games.{round_count}
 use Rattle.tours.proofs.meetings.repeats_from.Goals as goal
 
 pub loop-round-init : goal.loop-round-init
-loop-round-init c =
-    let whole : c.into_iter-round-iterator.result ≡ c.args.firsts = c.into_iter-round-iterator.ensures.into_iter_gives in
-    sum_without_none _ _ _ _ _ (subst (IsBelow (round_count c.args.schedule.now.teams - 1)) (sym whole) c.requires.below) whole
+loop-round-init c = sum_without_none _ _ _ _ _ (omega arith) c.into_iter-round-iterator.ensures.into_iter_gives
 
 pub repeats_after-total-requires : goal.repeats_after-total-requires
 repeats_after-total-requires c = omega (arith, lowest_below (round_count c.args.schedule.now.teams - 1) _ _ _ c.loop-round.invariant.below c.in-Some.ensures.steps)

@@ -1,12 +1,10 @@
-use Rattle.std.proofs.Common.{◌≡◌, refl, sym, subst}
+use Rattle.std.proofs.Common.{◌≡◌, refl, sym, subst, arith}
 use Rattle.league.specs.Sets.{IsBelow}
 use Rattle.league.proofs.ForCallers.{sum_without_none, sum_without_more, sum_without_all, lowest_below}
 use Rattle.tours.proofs.runs.runs_from.Goals as goal
 
 pub loop-team-init : goal.loop-team-init
-loop-team-init c =
-    let whole : c.into_iter-team-iterator.result ≡ c.args.among = c.into_iter-team-iterator.ensures.into_iter_gives in
-    sum_without_none _ _ _ _ _ (subst (IsBelow c.args.schedule.now.teams) (sym whole) c.requires.below) whole
+loop-team-init c = sum_without_none _ _ _ _ _ (omega arith) c.into_iter-team-iterator.ensures.into_iter_gives
 
 pub runs_of_team-total-requires-clause-team : goal.runs_of_team-total-requires-clause-team
 runs_of_team-total-requires-clause-team c = lowest_below _ _ _ _ c.loop-team.invariant.below c.in-Some.ensures.steps

@@ -1,19 +1,23 @@
-use Rattle.std.proofs.Common.{◌≡◌, refl, sym, subst, arith}
-use Rattle.league.specs.Sets.{IsBelow}
+use Rattle.std.proofs.Common.{refl, ◌∙◌, arith}
 use Rattle.league.proofs.ForCallers.{sum_without_none, sum_without_more, sum_without_all, lowest_below}
-use Rattle.fixtures.specs.Games.{round_count}
+use Rattle.tours.proofs.GuestLegs.{sum_of_visits}
 use Rattle.tours.proofs.travel_parts.guests_within.Goals as goal
 
-pub loop-round-init : goal.loop-round-init
-loop-round-init c =
-    let whole : c.into_iter-round-iterator.result ≡ c.args.rounds = c.into_iter-round-iterator.ensures.into_iter_gives in
-    sum_without_none _ _ _ _ _ (subst (IsBelow (round_count c.args.schedule.now.teams)) (sym whole) c.requires.below) whole
+pub loop-host-init : goal.loop-host-init
+loop-host-init c = sum_without_none _ _ _ _ _ (omega arith) c.into_iter-host-iterator.ensures.into_iter_gives
 
-pub guest_legs-total-requires-clause-round : goal.guest_legs-total-requires-clause-round
-guest_legs-total-requires-clause-round c = omega (arith, lowest_below (round_count c.args.schedule.now.teams) _ _ _ c.loop-round.invariant.below c.in-Some.ensures.steps)
+pub home_rounds-requires : goal.home_rounds-requires
+home_rounds-requires c = lowest_below _ _ _ _ c.loop-host.invariant.below c.in-Some.ensures.steps
 
-pub loop-round-preserved : goal.loop-round-preserved
-loop-round-preserved c = sum_without_more _ _ _ _ _ _ _ _ _ c.loop-round.invariant c.in-Some.ensures.steps c.guest_legs-total.ensures.value (omega arith)
+pub guest_legs-total-requires-clause-host : goal.guest_legs-total-requires-clause-host
+guest_legs-total-requires-clause-host c = lowest_below _ _ _ _ c.loop-host.invariant.below c.in-Some.ensures.steps
+
+pub loop-host-preserved : goal.loop-host-preserved
+loop-host-preserved c =
+    sum_without_more _ _ _ _ _ _ _ _ _ c.loop-host.invariant c.in-Some.ensures.steps
+    (c.guest_legs-total.ensures.value ∙
+    sum_of_visits c.args.schedule.now _ c.in-Some.host _ _ _ c.home_rounds.ensures.members c.common-visits.ensures.members)
+    c.guest_legs-total.ensures.most
 
 pub returns-clause-value : goal.returns-clause-value
-returns-clause-value c = sum_without_all _ _ _ _ _ _ _ c.loop-round.invariant c.in-None.ensures.steps.0 (λ k below. refl)
+returns-clause-value c = sum_without_all _ _ _ _ _ _ _ c.loop-host.invariant c.in-None.ensures.steps.0 (λ k below. refl)

@@ -1,9 +1,13 @@
+use Rattle.std.proofs.Common.{◌&&◌}
 use Rattle.league.specs.Sets.{has}
 use Rattle.league.specs.Sums.{sum_where}
 use Rattle.league.proofs.ForCallers.{IsSumWithout}
-use Rattle.fixtures.specs.Games.{round_count}
+use Rattle.fixtures.specs.Games.{round_count, is_home}
 use Rattle.tours.specs.Walked.{legs_of_guest}
 use Rattle.tours.proofs.travel_parts.guests_within.Given as goal
 
-abbrev pub invariant-loop-round : goal.invariant-loop-round
-invariant-loop-round l = IsSumWithout (round_count l.schedule.teams) l.fn.rounds l.round-iterator l.total 80000000 (λ r. sum_where l.schedule.teams (has l.hosts) (legs_of_guest l.league l.schedule (has l.hosts) (has l.rounds) r))
+abbrev pub invariant-loop-host : goal.invariant-loop-host
+invariant-loop-host l =
+    IsSumWithout l.schedule.teams l.fn.hosts l.host-iterator l.total 160000000
+    (λ host. sum_where (round_count l.schedule.teams) (λ r. has l.rounds r && is_home l.schedule host r)
+    (legs_of_guest l.league l.schedule (has l.fn.hosts) (has l.rounds) host))

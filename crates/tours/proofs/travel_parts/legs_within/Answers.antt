@@ -5,9 +5,7 @@ use Rattle.fixtures.specs.Games.{round_count}
 use Rattle.tours.proofs.travel_parts.legs_within.Goals as goal
 
 pub loop-index-init : goal.loop-index-init
-loop-index-init c =
-    let whole : c.into_iter-index-iterator.result ≡ c.args.indices = c.into_iter-index-iterator.ensures.into_iter_gives in
-    sum_without_none _ _ _ _ _ (subst (IsBelow (round_count c.args.schedule.now.teams)) (sym whole) c.requires.below) whole
+loop-index-init c = sum_without_none _ _ _ _ _ (omega arith) c.into_iter-index-iterator.ensures.into_iter_gives
 
 pub legs_of-total-requires-clause-index : goal.legs_of-total-requires-clause-index
 legs_of-total-requires-clause-index c = omega (arith, lowest_below (round_count c.args.schedule.now.teams) _ _ _ c.loop-index.invariant.below c.in-Some.ensures.steps)
