@@ -18,7 +18,7 @@ use Rattle.fixtures.proofs.ForCallers.{is_cell}
 use Rattle.robinx.specs.Deviations.{over, deviation}
 use Rattle.robinx.specs.Touches.{has_touched_team}
 use Rattle.robinx.specs.LooksPast.{AreApart, TakesAllOrNone, LooksPast, has_team_outside, has_game_of, takes_all_or_none, looks_past}
-use Rattle.fixtures.proofs.ForCallers.{cell_home, round_of_kept}
+use Rattle.fixtures.proofs.ForCallers.{round_of_kept_around}
 use Rattle.robinx.proofs.SeesSame.{SeesSame, SeesSameBreaks, limited-same, together-same, each-same, windows-same, breaks_of_each-same, breaks_of_all-same, separation-same, listed_games_in-same}
 
 module _ (g g' : Games) (rr : IsDoubleRoundRobin g) (rr' : IsDoubleRoundRobin g') (main rounds : ℕ → Bool) (differs : DiffersOnlyAround g g' main rounds) where
@@ -62,31 +62,8 @@ module _ (g g' : Games) (rr : IsDoubleRoundRobin g) (rr' : IsDoubleRoundRobin g'
   }
 
   -- two teams that aren't main keep the rounds of their games
-  round_kept : (h a : ℕ) → IsPair g.teams h a → main h ≡ false → main a ≡ false →
-      round_of g' h a ≡ round_of g h a
-  round_kept h a pair home away =
-      round_of_kept g g' rr rr' differs.same_size h a pair (same_cell (cell g' h (round_of g h a)) (cell g h (round_of g h a)) same_side same_opponent)
-    where
-      in_r : round_of g h a < round_count g.teams
-      in_r = rr.in_range h a pair
-
-      is : (cell g h (round_of g h a)).opponent ≡ a
-      is = ap (λ (c : Cell). c.opponent) (cell_home g rr h a pair)
-
-      same_side : (cell g' h (round_of g h a)).home ≡ (cell g h (round_of g h a)).home
-      same_side = side_kept h (round_of g h a) pair.home_in in_r home
-
-      same_opponent : (cell g' h (round_of g h a)).opponent ≡ (cell g h (round_of g h a)).opponent
-      same_opponent = elim (differs.others h (round_of g h a) pair.home_in in_r home).same_or_in [
-        | inl same ↦ same
-        | inr both ↦ absurd (false≢true (sym away ∙ sym (ap main is) ∙ both.0))
-      ]
-
-      with_parts : ℕ → Bool → Cell
-      with_parts opponent home = record { opponent = opponent; home = home }
-
-      same_cell : (c d : Cell) → c.home ≡ d.home → c.opponent ≡ d.opponent → c ≡ d
-      same_cell c d same_home same_team = ap (λ (o : ℕ). with_parts o c.home) same_team ∙ ap (with_parts d.opponent) same_home
+  round_kept : (h a : ℕ) → IsPair g.teams h a → main h ≡ false → main a ≡ false → round_of g' h a ≡ round_of g h a
+  round_kept = round_of_kept_around g g' main rounds rr rr' differs
 
   games_kept : (slots : ℕ → Bool) (games : List Pairing) →
       AllByRecursion (IsGameFor g.teams) games →

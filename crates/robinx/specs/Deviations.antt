@@ -22,15 +22,18 @@ is_on_side Any home = true
 
 -- whether a team's game in a round counts: on this side, and against one of the opponents
 unfoldable pub is_counted : Games → Side → (ℕ → Bool) → ℕ → ℕ → Bool
-is_counted g side opponents team round = is_on_side side (cell g team round).home && opponents (cell g team round).opponent
+is_counted g side opponents team round =
+    is_on_side side (cell g team round).home && opponents (cell g team round).opponent
 
 -- in how many rounds of the slots a team's game counts
 unfoldable pub games_of_team : Games → Side → (ℕ → Bool) → (ℕ → Bool) → ℕ → ℕ
-games_of_team g side opponents slots team = count_where (round_count g.teams) (λ r. slots r && is_counted g side opponents team r)
+games_of_team g side opponents slots team =
+    count_where (round_count g.teams) (λ r. slots r && is_counted g side opponents team r)
 
 -- in how many rounds of a window, which begins with its first, a team's game counts
 unfoldable pub games_in_window : Games → Side → (ℕ → Bool) → ℕ → ℕ → ℕ → ℕ
-games_in_window g side opponents window team first = count_where window (λ k. is_counted g side opponents team (first + k))
+games_in_window g side opponents window team first =
+    count_where window (λ k. is_counted g side opponents team (first + k))
 
 -- for how many of the teams the game in a round counts
 unfoldable pub games_in_round : Games → Side → (ℕ → Bool) → (ℕ → Bool) → ℕ → ℕ
@@ -39,7 +42,8 @@ games_in_round g side teams opponents round = count_where g.teams (λ t. teams t
 -- whether a team is on the same side as in the round before, and that side counts
 unfoldable pub is_break : Games → Side → ℕ → ℕ → Bool
 is_break g side team round =
-    not (round == 0) && beq (cell g team (round - 1)).home (cell g team round).home && is_on_side side (cell g team round).home
+    not (round == 0) && beq (cell g team (round - 1)).home (cell g team round).home &&
+    is_on_side side (cell g team round).home
 
 -- the breaks of a team in the slots
 unfoldable pub breaks : Games → ℕ → (ℕ → Bool) → Side → ℕ
@@ -56,7 +60,8 @@ listed_games_in g slots games = count_by (λ (game : Pairing). slots (round_of g
 -- by how much the windows of a team, each of so many consecutive rounds, are over the most
 unfoldable pub over_in_windows : Games → Side → (ℕ → Bool) → ℕ → ℕ → ℕ → ℕ
 over_in_windows g side opponents window most team =
-    sum_below (round_count g.teams + 1 - window) (λ first. over (games_in_window g side opponents window team first) most)
+    sum_below (round_count g.teams + 1 - window)
+    (λ first. over (games_in_window g side opponents window team first) most)
 
 -- by how much the rounds between the games of a team and of each lower team are under the least
 unfoldable pub short_pairs : Games → (ℕ → Bool) → ℕ → ℕ → ℕ

@@ -1,5 +1,5 @@
--- Rules that a change around some teams leaves as they are: in it these teams play other games than before, and any other
--- team keeps its side and its opponent, but that it may meet another of these teams.
+-- Rules that a change around some teams leaves as they are: in it these teams play other games than before, and any
+-- other team keeps its side and its opponent, but that it may meet another of these teams.
 use Rattle.std.specs.Prelude.{◌≡◌, ℕ, ◌<◌, ◌&&◌, ◌||◌, not, Bool, true, false, List}
 use Rattle.std.specs.List.{list_any, AllByRecursion}
 use Rattle.league.specs.Limits.{max_teams}
@@ -16,7 +16,8 @@ AreApart p q = (t : ℕ) → t < max_teams → p t ≡ true → q t ≡ false
 
 -- the opponents have all of the teams, or none of them: to meet another of the teams makes no difference
 abbrev pub TakesAllOrNone : (ℕ → Bool) → (ℕ → Bool) → Type 0
-TakesAllOrNone teams opponents = (t u : ℕ) → t < max_teams → u < max_teams → teams t ≡ true → teams u ≡ true → opponents t ≡ opponents u
+TakesAllOrNone teams opponents =
+    (t u : ℕ) → t < max_teams → u < max_teams → teams t ≡ true → teams u ≡ true → opponents t ≡ opponents u
 
 -- the rule looks at the games of none of the teams, and counts as opponents all of them or none
 abbrev pub LooksPast : (ℕ → Bool) → RuleBody → Type 0
@@ -26,7 +27,8 @@ LooksPast teams (Ca3 t side opponents window most) = AreApart (has t) teams × T
 LooksPast teams (Ca4 t side opponents slots each most) = AreApart (has t) teams × TakesAllOrNone teams (has opponents)
 LooksPast teams (Br1 t side slots most) = AreApart (has t) teams
 LooksPast teams (Br2 t slots most) = AreApart (has t) teams
-LooksPast teams (Ga1 games slots least most) = AllByRecursion (λ (game : Pairing). (teams game.home ≡ false) × (teams game.away ≡ false)) games
+LooksPast teams (Ga1 games slots least most) =
+    AllByRecursion (λ (game : Pairing). (teams game.home ≡ false) × (teams game.away ≡ false)) games
 LooksPast teams (Se1 t least) = AreApart (has t) teams
 
 -- The test of it, by searches.
@@ -41,13 +43,17 @@ has_game_of games teams = list_any (λ (game : Pairing). teams game.home || team
 
 -- whether the opponents have all of the teams, or none of them
 unfoldable pub takes_all_or_none : ℕ → ℕ → Bool
-takes_all_or_none teams opponents = not (has_touched_team teams (has opponents)) || not (has_team_outside teams (has opponents))
+takes_all_or_none teams opponents =
+    not (has_touched_team teams (has opponents)) || not (has_team_outside teams (has opponents))
 
 unfoldable pub looks_past : ℕ → RuleBody → Bool
 looks_past teams (Ca1 t side slots most) = not (has_touched_team t (has teams))
-looks_past teams (Ca2 t side opponents slots most) = not (has_touched_team t (has teams)) && takes_all_or_none teams opponents
-looks_past teams (Ca3 t side opponents window most) = not (has_touched_team t (has teams)) && takes_all_or_none teams opponents
-looks_past teams (Ca4 t side opponents slots each most) = not (has_touched_team t (has teams)) && takes_all_or_none teams opponents
+looks_past teams (Ca2 t side opponents slots most) =
+    not (has_touched_team t (has teams)) && takes_all_or_none teams opponents
+looks_past teams (Ca3 t side opponents window most) =
+    not (has_touched_team t (has teams)) && takes_all_or_none teams opponents
+looks_past teams (Ca4 t side opponents slots each most) =
+    not (has_touched_team t (has teams)) && takes_all_or_none teams opponents
 looks_past teams (Br1 t side slots most) = not (has_touched_team t (has teams))
 looks_past teams (Br2 t slots most) = not (has_touched_team t (has teams))
 looks_past teams (Ga1 games slots least most) = not (has_game_of games (has teams))

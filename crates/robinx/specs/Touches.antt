@@ -29,11 +29,18 @@ abbrev pub or_before : (ℕ → Bool) → ℕ → Bool
 or_before touched r = touched r || (not (r == 0) && touched (r - 1))
 
 unfoldable pub touches : RuleBody → (ℕ → Bool) → (ℕ → Bool) → Bool
-touches (Ca1 teams side slots most) in_teams in_rounds = has_touched_team teams in_teams && has_touched_slot slots in_rounds
-touches (Ca2 teams1 side teams2 slots most) in_teams in_rounds = has_touched_team teams1 in_teams && has_touched_slot slots in_rounds
-touches (Ca3 teams1 side teams2 window most) in_teams in_rounds = has_touched_team teams1 in_teams && has_touched_round in_rounds
-touches (Ca4 teams1 side teams2 slots each most) in_teams in_rounds = has_touched_team teams1 in_teams && has_touched_slot slots in_rounds
-touches (Ga1 games slots least most) in_teams in_rounds = has_touched_game games in_teams && has_touched_slot slots in_rounds
-touches (Br1 teams side slots most) in_teams in_rounds = has_touched_team teams in_teams && has_touched_slot slots (or_before in_rounds)
-touches (Br2 teams slots most) in_teams in_rounds = has_touched_team teams in_teams && has_touched_slot slots (or_before in_rounds)
+touches (Ca1 teams side slots most) in_teams in_rounds =
+    has_touched_team teams in_teams && has_touched_slot slots in_rounds
+touches (Ca2 teams1 side teams2 slots most) in_teams in_rounds =
+    has_touched_team teams1 in_teams && has_touched_slot slots in_rounds
+touches (Ca3 teams1 side teams2 window most) in_teams in_rounds =
+    has_touched_team teams1 in_teams && has_touched_round in_rounds
+touches (Ca4 teams1 side teams2 slots each most) in_teams in_rounds =
+    has_touched_team teams1 in_teams && has_touched_slot slots in_rounds
+touches (Ga1 games slots least most) in_teams in_rounds =
+    has_touched_game games in_teams && has_touched_slot slots in_rounds
+touches (Br1 teams side slots most) in_teams in_rounds =
+    has_touched_team teams in_teams && has_touched_slot slots (or_before in_rounds)
+touches (Br2 teams slots most) in_teams in_rounds =
+    has_touched_team teams in_teams && has_touched_slot slots (or_before in_rounds)
 touches (Se1 teams least) in_teams in_rounds = has_touched_team teams in_teams && has_touched_round in_rounds

@@ -29,7 +29,8 @@ pub fn breaks(schedule: &Schedule, team: u8, slots: SlotSet, side: Side) -> u32
 fn rounds_without_turn(schedule: &Schedule, team: u8) -> SlotSet
     requires { team < schedule.now.teams }
     ensures { (r : ℕ) → has result r ≡
-        (nat_lt r (round_count schedule.now.teams) && (not (r == 0) && beq (is_home schedule.now team (r - 1)) (is_home schedule.now team r))) }
+        (nat_lt r (round_count schedule.now.teams) && (not (r == 0) &&
+        beq (is_home schedule.now team (r - 1)) (is_home schedule.now team r))) }
 {
     let rounds = schedule.rounds();
     let home = rounds_on_side(schedule, Side::Home, team);

@@ -17,7 +17,8 @@ use league::SlotSet;
 pub(crate) fn ca2(schedule: &Schedule, games: &CountedGames, slots: SlotSet, most: u32) -> u64
     requires round_robin { IsDoubleRoundRobin schedule.now }
     requires teams { IsBelow schedule.now.teams games.now.teams }
-    ensures { result ≡ deviation schedule.now (RuleBody.Ca2 games.now.teams games.now.side games.now.opponents slots most) }
+    ensures { result ≡
+        deviation schedule.now (RuleBody.Ca2 games.now.teams games.now.side games.now.opponents slots most) }
 {
     let mut total = 0;
     for team in games.teams {
@@ -33,7 +34,8 @@ pub(crate) fn ca3(schedule: &Schedule, games: &CountedGames, window: u32, most: 
     requires teams { IsBelow schedule.now.teams games.now.teams }
     requires least { 1 ≤ window }
     requires window { window ≤ round_count schedule.now.teams }
-    ensures { result ≡ deviation schedule.now (RuleBody.Ca3 games.now.teams games.now.side games.now.opponents window most) }
+    ensures { result ≡
+        deviation schedule.now (RuleBody.Ca3 games.now.teams games.now.side games.now.opponents window most) }
 {
     let mut total = 0;
     for team in games.teams {
@@ -88,7 +90,8 @@ pub(crate) fn ca4(
     requires round_robin { IsDoubleRoundRobin schedule.now }
     requires teams { IsBelow schedule.now.teams games.now.teams }
     requires slots { IsBelow (round_count schedule.now.teams) slots }
-    ensures { result ≡ deviation schedule.now (RuleBody.Ca4 games.now.teams games.now.side games.now.opponents slots each most) }
+    ensures { result ≡
+        deviation schedule.now (RuleBody.Ca4 games.now.teams games.now.side games.now.opponents slots each most) }
 {
     if each {
         over_in_slots(schedule, games, slots, most)
@@ -103,7 +106,9 @@ fn over_in_slots(schedule: &Schedule, games: &CountedGames, slots: SlotSet, most
     requires teams { IsBelow schedule.now.teams games.now.teams }
     requires slots { IsBelow (round_count schedule.now.teams) slots }
     ensures { result ≡
-        sum_where (round_count schedule.now.teams) (has slots) (λ r. over (games_in_round schedule.now games.now.side (has games.now.teams) (has games.now.opponents) r) most) }
+        sum_where (round_count schedule.now.teams) (has slots)
+        (λ r. over (games_in_round schedule.now games.now.side (has games.now.teams)
+        (has games.now.opponents) r) most) }
 {
     let mut total = 0;
     for round in slots {
@@ -117,7 +122,8 @@ fn games_of_all(schedule: &Schedule, games: &CountedGames, slots: SlotSet) -> u3
     requires round_robin { IsDoubleRoundRobin schedule.now }
     requires teams { IsBelow schedule.now.teams games.now.teams }
     ensures { result ≡
-        sum_where (round_count schedule.now.teams) (has slots) (games_in_round schedule.now games.now.side (has games.now.teams) (has games.now.opponents)) }
+        sum_where (round_count schedule.now.teams) (has slots) (games_in_round schedule.now games.now.side
+        (has games.now.teams) (has games.now.opponents)) }
 {
     let mut count = 0;
     for team in games.teams {

@@ -42,7 +42,8 @@ pub(crate) fn over(count: u32, most: u32) -> u64
 /// The rounds in which the team is on this side.
 pub(crate) fn rounds_on_side(schedule: &Schedule, side: Side, team: u8) -> SlotSet
     requires { team < schedule.now.teams }
-    ensures members { (r : ℕ) → has result r ≡ (nat_lt r (round_count schedule.now.teams) && is_on_side side (is_home schedule.now team r)) }
+    ensures members { (r : ℕ) → has result r ≡
+        (nat_lt r (round_count schedule.now.teams) && is_on_side side (is_home schedule.now team r)) }
     ensures below { IsBelow (round_count schedule.now.teams) result }
 {
     let home = schedule.home_rounds(team);
@@ -63,7 +64,8 @@ pub(crate) fn counted_rounds(
 ) -> SlotSet
     requires { team < schedule.now.teams }
     ensures members { (r : ℕ) → has result r ≡
-        (nat_lt r (round_count schedule.now.teams) && (has slots r && is_counted schedule.now games.now.side (has games.now.opponents) team r)) }
+        (nat_lt r (round_count schedule.now.teams) && (has slots r &&
+        is_counted schedule.now games.now.side (has games.now.opponents) team r)) }
     ensures below { IsBelow (round_count schedule.now.teams) result }
 {
     let rounds = rounds_on_side(schedule, games.side, team).common(slots);
@@ -120,7 +122,8 @@ pub(crate) fn games_in_round(schedule: &Schedule, games: &CountedGames, round: u
     requires teams { IsBelow schedule.now.teams games.now.teams }
     requires round { round < round_count schedule.now.teams }
     requires round_robin { IsDoubleRoundRobin schedule.now }
-    ensures value { result ≡ games_in_round schedule.now games.now.side (has games.now.teams) (has games.now.opponents) round }
+    ensures value { result ≡
+        games_in_round schedule.now games.now.side (has games.now.teams) (has games.now.opponents) round }
     ensures most { result ≤ max_teams }
 {
     let mut count = 0;

@@ -11,5 +11,6 @@ pub use Rattle.tours.proofs.AroundBalance.{travel_balance, runs_balance, repeats
 pub use Rattle.tours.proofs.PhasedBalance.{unphased_balance}
 -- of a change around some teams:
 pub use Rattle.tours.proofs.AroundBalance.{travel_balance_around, runs_balance_around, repeats_balance_around}
+pub use Rattle.tours.proofs.PhasedBalance.{unphased_balance_around}
 -- of a change of names:
 pub use Rattle.tours.proofs.SamePairs.{repeats_of_same_pairs}

@@ -7,31 +7,43 @@ use Rattle.league.specs.Sets.{has}
 use Rattle.league.specs.Sums.{sum_below, sum_where, sum_of_pairs}
 use Rattle.league.proofs.ForCallers.{sum_below_same, sum_of_pairs_same}
 use Rattle.fixtures.specs.Games.{Games, round_of, IsPair, IsDoubleRoundRobin}
-use Rattle.fixtures.specs.Changes.{DiffersOnlyIn}
-use Rattle.fixtures.proofs.ForCallers.{round_of_kept}
+use Rattle.fixtures.specs.Changes.{DiffersOnlyIn, DiffersOnlyAround}
+use Rattle.fixtures.proofs.ForCallers.{round_of_kept, round_of_kept_around}
 use Rattle.tours.specs.Phased.{is_early, is_unphased, unphased, unphased_part}
 use Rattle.tours.proofs.Balances.{one, count_balance, pairs_balance}
 
-pub unphased_balance : (g g' : Games) (teams rounds : ℕ → Bool) → IsDoubleRoundRobin g → IsDoubleRoundRobin g' → DiffersOnlyIn g g' teams rounds →
+-- where the games of two teams outside the set keep their rounds
+balance_where : (g g' : Games) (teams : ℕ → Bool) → g'.teams ≡ g.teams →
+    ((h a : ℕ) → IsPair g.teams h a → teams h ≡ false → teams a ≡ false → round_of g' h a ≡ round_of g h a) →
     unphased g' + unphased_part g teams ≡ unphased g + unphased_part g' teams
 unfolding unphased unphased_part is_unphased
-unphased_balance g g' teams rounds rr rr' differs =
+balance_where g g' teams same_size kept =
     pairs_balance g.teams g'.teams (λ i j. one (is_unphased g' i j)) (λ i j. one (is_unphased g i j))
-    (λ i j. one ((teams i || teams j) && is_unphased g' i j)) (λ i j. one ((teams i || teams j) && is_unphased g i j)) differs.same_size
+    (λ i j. one ((teams i || teams j) && is_unphased g' i j)) (λ i j. one ((teams i || teams j) && is_unphased g i j)) same_size
     (λ i j lower in_j. count_balance (teams i || teams j) (is_unphased g' i j) (is_unphased g i j)
     (λ apart. stays i j lower in_j (or_parts (teams i) (teams j) apart)))
   where
-    early_stays : (h a : ℕ) → IsPair g.teams h a → teams h ≡ false → is_early g' h a ≡ is_early g h a
-    early_stays h a pair out =
-        ap (λ (r : ℕ). nat_lt r (g'.teams - 1))
-        (round_of_kept g g' rr rr' differs.same_size h a pair
-        (differs.same_cells h (round_of g h a) pair.home_in (rr.in_range h a pair) (ap (λ b. b && rounds (round_of g h a)) out))) ∙
-        ap (λ (n : ℕ). nat_lt (round_of g h a) (n - 1)) differs.same_size
+    early_stays : (h a : ℕ) → IsPair g.teams h a → teams h ≡ false → teams a ≡ false → is_early g' h a ≡ is_early g h a
+    early_stays h a pair home away =
+        ap (λ (r : ℕ). nat_lt r (g'.teams - 1)) (kept h a pair home away) ∙
+        ap (λ (n : ℕ). nat_lt (round_of g h a) (n - 1)) same_size
 
     stays : (i j : ℕ) → i < j → j < g.teams → (teams i ≡ false) × (teams j ≡ false) → is_unphased g' i j ≡ is_unphased g i j
     stays i j lower in_j out =
-        ap (λ b. beq b (is_early g' j i)) (early_stays i j (record { home_in = omega arith; away_in = in_j; distinct = omega arith }) out.0) ∙
-        ap (beq (is_early g i j)) (early_stays j i (record { home_in = in_j; away_in = omega arith; distinct = omega arith }) out.1)
+        ap (λ b. beq b (is_early g' j i)) (early_stays i j (record { home_in = omega arith; away_in = in_j; distinct = omega arith }) out.0 out.1) ∙
+        ap (beq (is_early g i j)) (early_stays j i (record { home_in = in_j; away_in = omega arith; distinct = omega arith }) out.1 out.0)
+
+pub unphased_balance : (g g' : Games) (teams rounds : ℕ → Bool) → IsDoubleRoundRobin g → IsDoubleRoundRobin g' → DiffersOnlyIn g g' teams rounds →
+    unphased g' + unphased_part g teams ≡ unphased g + unphased_part g' teams
+unphased_balance g g' teams rounds rr rr' differs =
+    balance_where g g' teams differs.same_size
+    (λ h a pair home away. round_of_kept g g' rr rr' differs.same_size h a pair
+    (differs.same_cells h (round_of g h a) pair.home_in (rr.in_range h a pair) (ap (λ b. b && rounds (round_of g h a)) home)))
+
+pub unphased_balance_around : (g g' : Games) (teams rounds : ℕ → Bool) → IsDoubleRoundRobin g → IsDoubleRoundRobin g' →
+    DiffersOnlyAround g g' teams rounds → unphased g' + unphased_part g teams ≡ unphased g + unphased_part g' teams
+unphased_balance_around g g' teams rounds rr rr' differs =
+    balance_where g g' teams differs.same_size (round_of_kept_around g g' teams rounds rr rr' differs)
 
 -- the pairs of all teams
 pub unphased_of_all : (g : Games) (all : ℕ) → ((t : ℕ) → has all t ≡ nat_lt t g.teams) → unphased_part g (has all) ≡ unphased g

@@ -35,7 +35,8 @@ touches_window set first rounds = any_below rounds (λ k. set (first + k))
 -- the runs of a team that touch a round of the set
 unfoldable pub runs_part_of : Games → ℕ → (ℕ → Bool) → ℕ → ℕ
 runs_part_of g at_most rounds team =
-    count_where (windows g (at_most + 1)) (λ first. touches_window rounds first (at_most + 1) && is_run g team first (at_most + 1))
+    count_where (windows g (at_most + 1)) (λ first. touches_window rounds first (at_most + 1) &&
+    is_run g team first (at_most + 1))
 
 -- the runs of each team that touch a round of the team's set
 unfoldable pub runs_at : Games → ℕ → (ℕ → ℕ → Bool) → ℕ
@@ -57,4 +58,5 @@ repeats_with_after g teams round =
 
 -- the repeats of pairs with a team of the first set that have one of their two rounds in the second
 unfoldable pub repeats_with : Games → (ℕ → Bool) → (ℕ → Bool) → ℕ
-repeats_with g teams rounds = sum_where (round_count g.teams - 1) (λ r. rounds r || rounds (r + 1)) (repeats_with_after g teams)
+repeats_with g teams rounds =
+    sum_where (round_count g.teams - 1) (λ r. rounds r || rounds (r + 1)) (repeats_with_after g teams)

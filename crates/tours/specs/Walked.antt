@@ -7,7 +7,8 @@ use Rattle.tours.specs.Tours.{leg}
 
 -- the leg to a place and, unless the next round of the season is in the set too, the leg on from there
 abbrev pub there_and_on : LeagueData → Games → (ℕ → Bool) → ℕ → ℕ → ℕ
-there_and_on l g set t r = leg l g t r + (if nat_lt (r + 1) (round_count g.teams) && set (r + 1) then 0 else leg l g t (r + 1))
+there_and_on l g set t r =
+    leg l g t r + (if nat_lt (r + 1) (round_count g.teams) && set (r + 1) then 0 else leg l g t (r + 1))
 
 -- those of a host's opponent, unless it is one of the hosts
 abbrev pub legs_of_guest : LeagueData → Games → (ℕ → Bool) → (ℕ → Bool) → ℕ → ℕ → ℕ
@@ -18,4 +19,5 @@ legs_of_guest l g hosts rounds host r =
 -- 1 where a team meets the same team in a round and in the next, and that isn't a higher team of the set
 abbrev pub repeat_at : Games → (ℕ → Bool) → ℕ → ℕ → ℕ
 repeat_at g teams r t =
-    if (cell g t r).opponent == (cell g t (r + 1)).opponent && (nat_lt (cell g t r).opponent t || not (teams (cell g t r).opponent)) then 1 else 0
+    if (cell g t r).opponent == (cell g t (r + 1)).opponent &&
+    (nat_lt (cell g t r).opponent t || not (teams (cell g t r).opponent)) then 1 else 0

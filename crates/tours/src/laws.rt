@@ -30,7 +30,8 @@ pub fn parts_balance()
         runs_over g' most + runs_part g most teams rounds ≡ runs_over g most + runs_part g' most teams rounds }
     ensures repeats { (g g' : Games) (teams rounds : ℕ → Bool) → DiffersOnlyIn g g' teams rounds →
         repeats g' + repeats_part g rounds ≡ repeats g + repeats_part g' rounds }
-    ensures unphased { (g g' : Games) (teams rounds : ℕ → Bool) → IsDoubleRoundRobin g → IsDoubleRoundRobin g' → DiffersOnlyIn g g' teams rounds →
+    ensures unphased { (g g' : Games) (teams rounds : ℕ → Bool) → IsDoubleRoundRobin g → IsDoubleRoundRobin g' →
+        DiffersOnlyIn g g' teams rounds →
         unphased g' + unphased_part g teams ≡ unphased g + unphased_part g' teams }
 {}
 
@@ -42,6 +43,9 @@ pub fn changes_around_balance()
         runs_over g' most + runs_part g most teams rounds ≡ runs_over g most + runs_part g' most teams rounds }
     ensures repeats { (g g' : Games) (teams rounds : ℕ → Bool) → DiffersOnlyAround g g' teams rounds →
         repeats g' + repeats_with g teams rounds ≡ repeats g + repeats_with g' teams rounds }
+    ensures unphased { (g g' : Games) (teams rounds : ℕ → Bool) → IsDoubleRoundRobin g → IsDoubleRoundRobin g' →
+        DiffersOnlyAround g g' teams rounds →
+        unphased g' + unphased_part g teams ≡ unphased g + unphased_part g' teams }
 {}
 
 /// Where the same pairs meet, two teams under each other's names, as many meet twice in a row.

@@ -103,7 +103,8 @@ fn repeats_from_with(schedule: &Schedule, among: TeamSet, firsts: SlotSet) -> u6
     requires round_robin { IsDoubleRoundRobin schedule.now }
     requires among { IsBelow schedule.now.teams among }
     requires below { IsBelow (round_count schedule.now.teams - 1) firsts }
-    ensures value { result ≡ sum_where (round_count schedule.now.teams - 1) (has firsts) (repeats_with_after schedule.now (has among)) }
+    ensures value { result ≡
+        sum_where (round_count schedule.now.teams - 1) (has firsts) (repeats_with_after schedule.now (has among)) }
     ensures most { result ≤ 78 * 40 }
 {
     let mut total = 0;

@@ -51,7 +51,8 @@ fn runs_from(schedule: &Schedule, at_most: u8, among: TeamSet, starts: SlotSet) 
     requires round_robin { IsDoubleRoundRobin schedule.now }
     requires below { IsBelow schedule.now.teams among }
     ensures value { result ≡ sum_where schedule.now.teams (has among) (λ t.
-        count_where (windows schedule.now (at_most + 1)) (λ first. has starts first && is_run schedule.now t first (at_most + 1))) }
+        count_where (windows schedule.now (at_most + 1)) (λ first. has starts first &&
+        is_run schedule.now t first (at_most + 1))) }
     ensures most { result ≤ 40 * 78 }
 {
     let mut total = 0;
@@ -64,7 +65,9 @@ fn runs_from(schedule: &Schedule, at_most: u8, among: TeamSet, starts: SlotSet) 
 fn runs_of_team(schedule: &Schedule, at_most: u8, starts: SlotSet, team: u8) -> u64
     requires at_most { at_most ≤ 78 }
     requires team { team < schedule.now.teams }
-    ensures value { result ≡ count_where (windows schedule.now (at_most + 1)) (λ first. has starts first && is_run schedule.now team first (at_most + 1)) }
+    ensures value { result ≡
+        count_where (windows schedule.now (at_most + 1)) (λ first. has starts first &&
+        is_run schedule.now team first (at_most + 1)) }
     ensures most { result ≤ 78 }
 {
     let runs = run_starts(schedule, at_most + 1, team);
@@ -77,7 +80,8 @@ fn run_starts(schedule: &Schedule, length: u8, team: u8) -> SlotSet
     requires least { 1 ≤ length }
     requires most { length ≤ 79 }
     requires team { team < schedule.now.teams }
-    ensures members { (first : ℕ) → has result first ≡ (nat_lt first (windows schedule.now length) && is_run schedule.now team first length) }
+    ensures members { (first : ℕ) → has result first ≡
+        (nat_lt first (windows schedule.now length) && is_run schedule.now team first length) }
     ensures season { round_count schedule.now.teams ≤ 78 }
 {
     let home = schedule.home_rounds(team);

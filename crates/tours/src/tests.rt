@@ -1,6 +1,6 @@
 use crate::{
     repeats, repeats_part, repeats_with, runs_over, runs_part, travel, travel_around, travel_of,
-    travel_part,
+    travel_part, unphased, unphased_part,
 };
 use fixtures::{Game, Schedule, Touched, berger, from_games, start};
 use league::{League, SlotSet, TeamSet, circular, constant, read_league};
@@ -271,5 +271,26 @@ fn parts_of_two_teams(rt: HostRuntime) -> Result<(), Fail> {
         parts_of(&homes_exchanged(alloc)?, &league, touched),
         Some((6, 0))
     );
+    Ok(())
+}
+
+#[test]
+fn pairs_in_one_half(rt: HostRuntime) -> Result<(), Fail> {
+    let alloc = rt.alloc();
+    let start = berger(alloc, 4)?;
+    let exchanged = rounds_exchanged(alloc, 2, 3)?;
+    assert_eq!(rt; (unphased(&start), unphased(&exchanged)), (0, 4));
+    for (teams, pairs) in [
+        (TeamSet::empty().with(0), 2),
+        (TeamSet::below(2), 4),
+        (TeamSet::empty().with(0).with(2), 3),
+    ] {
+        let touched = Touched {
+            teams,
+            rounds: SlotSet::empty(),
+        };
+        assert_eq!(rt; unphased_part(&start, touched), 0);
+        assert_eq!(rt; unphased_part(&exchanged, touched), pairs);
+    }
     Ok(())
 }

@@ -77,7 +77,8 @@ fn home_legs(schedule: &Schedule, league: &League, among: TeamSet, rounds: SlotS
     requires round_robin { IsDoubleRoundRobin schedule.now }
     requires below { IsBelow schedule.now.teams among }
     ensures value { result ≡ (if has rounds (round_count schedule.now.teams - 1)
-        then sum_where schedule.now.teams (has among) (λ t. leg league.now schedule.now t (round_count schedule.now.teams)) else 0) }
+        then sum_where schedule.now.teams (has among)
+        (λ t. leg league.now schedule.now t (round_count schedule.now.teams)) else 0) }
     ensures most { result ≤ 40000000 }
 {
     if rounds.has(schedule.rounds() - 1) {
@@ -153,7 +154,8 @@ fn guests_within(schedule: &Schedule, league: &League, hosts: TeamSet, rounds: S
     requires round_robin { IsDoubleRoundRobin schedule.now }
     requires hosts { IsBelow schedule.now.teams hosts }
     ensures value { result ≡ sum_where schedule.now.teams (has hosts) (λ host.
-        sum_where (round_count schedule.now.teams) (λ r. has rounds r && is_home schedule.now host r) (legs_of_guest league.now schedule.now (has hosts) (has rounds) host)) }
+        sum_where (round_count schedule.now.teams) (λ r. has rounds r &&
+        is_home schedule.now host r) (legs_of_guest league.now schedule.now (has hosts) (has rounds) host)) }
     ensures most { result ≤ 160000000 * schedule.now.teams }
 {
     let mut total = 0;
@@ -177,7 +179,9 @@ fn guest_legs(
     requires round_robin { IsDoubleRoundRobin schedule.now }
     requires host { host < schedule.now.teams }
     requires below { IsBelow (round_count schedule.now.teams) visits }
-    ensures value { result ≡ sum_where (round_count schedule.now.teams) (has visits) (legs_of_guest league.now schedule.now (has hosts) (has rounds) host) }
+    ensures value { result ≡
+        sum_where (round_count schedule.now.teams) (has visits) (legs_of_guest league.now schedule.now
+        (has hosts) (has rounds) host) }
     ensures most { result ≤ 160000000 }
 {
     let mut total = 0;
@@ -218,7 +222,9 @@ fn legs_of_guest(
 fn is_guest(schedule: &Schedule, hosts: TeamSet, rounds: SlotSet, team: u8, round: u8) -> bool
     requires outside { has hosts team ≡ false }
     requires team { team < schedule.now.teams }
-    ensures { result ≡ (nat_lt round (round_count schedule.now.teams) && with_guests schedule.now (has hosts) (has rounds) team round) }
+    ensures { result ≡
+        (nat_lt round (round_count schedule.now.teams) &&
+        with_guests schedule.now (has hosts) (has rounds) team round) }
 {
     if round >= schedule.rounds() {
         return false;
