@@ -12,6 +12,7 @@ mod tests;
 pub use fault::ProgramFault;
 pub use finding::{find, find_from};
 pub use playing::{play, play_from};
+pub use search::{Outcome, SearchPlan};
 pub use search_text::search_report;
 pub use starting::{start, start_from};
 pub use streams::{Sink, Source, Step};

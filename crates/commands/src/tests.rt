@@ -2,6 +2,7 @@
 
 mod memory;
 mod play;
+mod search;
 mod session;
 mod worked;
 
@@ -173,6 +174,9 @@ fn faults_have_their_texts(rt: HostRuntime) -> Result<(), Fail> {
             "league is no object",
         ),
         (ProgramFault::Room, "room is over 1048576"),
+        (ProgramFault::Workers, "workers must be 1 to 16"),
+        (ProgramFault::Spawn, "a worker cannot be started"),
+        (ProgramFault::Receipts, "receipts do not add up"),
         (ProgramFault::Write, "output cannot be written"),
         (ProgramFault::Memory, "out of memory"),
     ];

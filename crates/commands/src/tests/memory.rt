@@ -4,8 +4,9 @@
 //! `.._tells_refused_memory` passes at every N; `.._with_ample_memory` fails while N is among its allocations.
 
 use super::play::{AFTER_UNDO, input};
+use super::search::{NO_STEPS, is_without_steps};
 use super::{CIRCLE, SHEET};
-use crate::{ProgramFault, play, start};
+use crate::{ProgramFault, find, play, start};
 use std::test::Fail;
 use streams::{MemorySink, MemorySource};
 
@@ -52,6 +53,31 @@ fn play_tells_refused_memory(rt: HostRuntime) {
         Ok(()) => assert_eq!(rt; sink.held(), AFTER_UNDO.as_bytes()),
         Err(fault) => {
             assert_eq!(rt; fault, ProgramFault::Memory);
+            assert_eq!(rt; sink.tally().calls, 0);
+        }
+    }
+}
+
+#[test]
+fn find_succeeds_with_ample_memory(rt: HostRuntime) -> Result<(), Fail> {
+    let mut room = [0; 1000];
+    let mut sink = MemorySink::new(&mut room);
+    let source = MemorySource::new(CIRCLE.as_bytes());
+    find(&rt, rt.alloc(), source, &mut sink, 8, NO_STEPS)?;
+    assert!(rt; is_without_steps(sink.held()));
+    Ok(())
+}
+
+/// Where the memory of a thread itself is refused, the answer is Spawn.
+#[test]
+fn find_tells_refused_memory(rt: HostRuntime) {
+    let mut room = [0; 1000];
+    let mut sink = MemorySink::new(&mut room);
+    let source = MemorySource::new(CIRCLE.as_bytes());
+    match find(&rt, rt.alloc(), source, &mut sink, 8, NO_STEPS) {
+        Ok(()) => assert!(rt; is_without_steps(sink.held())),
+        Err(fault) => {
+            assert!(rt; matches!(fault, ProgramFault::Memory | ProgramFault::Spawn));
             assert_eq!(rt; sink.tally().calls, 0);
         }
     }

@@ -48,7 +48,7 @@ fn play_writes_the_play_text(rt: HostRuntime) -> Result<(), Fail> {
 /// What `play` writes for a league and these script lines.
 pub(super) fn text(alloc: Global, league: &str, script: &[u8], room: u32) -> Result<Vec<u8>, Fail> {
     let input = input(alloc, league, script)?;
-    let mut memory = [0; 3000];
+    let mut memory = vec![in alloc; 0; 200_000]?;
     let mut sink = MemorySink::new(&mut memory);
     play(alloc, MemorySource::new(&input), &mut sink, room)?;
     Ok(Vec::from_slice(alloc, sink.held())?)

@@ -249,7 +249,7 @@ impl Worked<'_> {
 }
 
 /// What stands in the text from the history on, and the history's lines.
-fn closing(text: &[u8]) -> Option<(&[u8], &[u8])> {
+pub(super) fn closing(text: &[u8]) -> Option<(&[u8], &[u8])> {
     let start = text
         .windows(8)
         .position(|part| part == b"history ".as_slice())?;

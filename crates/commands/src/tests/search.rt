@@ -1,0 +1,194 @@
+//! Searches: the known text of one without a step, what is answered first, and histories that `play` leads back to.
+
+use super::worked::closing;
+use super::{CIRCLE, SHEET};
+use crate::{ProgramFault, SearchPlan, find};
+use league::LeagueFault;
+use std::alloc::Global;
+use std::sync::Wait;
+use std::test::Fail;
+use std::thread::Threads;
+use streams::{MemorySink, MemorySource, RehearsedSink, RehearsedSource, Step};
+
+pub(super) const NO_STEPS: SearchPlan = SearchPlan {
+    workers: 2,
+    seed: 7,
+    steps: 0,
+    slack: 0,
+};
+
+/// The lines before and after the sheet of the search without a step.
+pub(super) const COUNTS: &str = "workers 2 steps 0 seed 7\n\
+    worker 1 made 0 accepted 0 refused 0\n\
+    worker 2 made 0 accepted 0 refused 0\n\
+    history 0\n\
+    end\n";
+
+pub(super) const BEST: &str = "best 30 at 0\n";
+
+/// Whether it is the text of the search without a step.
+pub(super) fn is_without_steps(text: &[u8]) -> bool {
+    match text.strip_prefix(COUNTS.as_bytes()) {
+        Some(rest) => match rest.strip_prefix(SHEET.as_bytes()) {
+            Some(rest) => rest == BEST.as_bytes(),
+            None => false,
+        },
+        None => false,
+    }
+}
+
+#[test]
+fn search_without_steps_writes_the_start(rt: HostRuntime) -> Result<(), Fail> {
+    let mut room = [0; 1000];
+    let mut sink = MemorySink::new(&mut room);
+    let source = MemorySource::new(CIRCLE.as_bytes());
+    find(&rt, rt.alloc(), source, &mut sink, 1024, NO_STEPS)?;
+    assert!(rt;
+        is_without_steps(sink.held()),
+        "{}",
+        str::from_utf8(sink.held())?
+    );
+    Ok(())
+}
+
+#[test]
+fn search_reads_an_input_of_single_bytes(rt: HostRuntime) -> Result<(), Fail> {
+    let mut room = [0; 1000];
+    let mut sink = MemorySink::new(&mut room);
+    let source = MemorySource::in_pieces(CIRCLE.as_bytes(), 1);
+    find(&rt, rt.alloc(), source, &mut sink, 1024, NO_STEPS)?;
+    assert!(rt; is_without_steps(sink.held()));
+    Ok(())
+}
+
+/// What a search answers to an input, and whether it left the sink alone.
+fn answer<T: Threads + Wait + Sync>(
+    rt: &T,
+    alloc: Global,
+    input: &str,
+    room: u32,
+    workers: u32,
+) -> (Result<(), ProgramFault>, bool) {
+    let mut memory = [0; 1000];
+    let mut sink = MemorySink::new(&mut memory);
+    let source = MemorySource::new(input.as_bytes());
+    let plan = SearchPlan {
+        workers,
+        ..NO_STEPS
+    };
+    let answer = find(rt, alloc, source, &mut sink, room, plan);
+    (answer, sink.tally().calls == 0)
+}
+
+#[test]
+fn search_names_the_first_fault(rt: HostRuntime) {
+    let no_json = ProgramFault::League(LeagueFault::NotJson);
+    let cases = [
+        (CIRCLE, 1_048_577, 0, ProgramFault::Room),
+        (CIRCLE, 1024, 0, ProgramFault::Workers),
+        (CIRCLE, 1024, 17, ProgramFault::Workers),
+        ("", 1024, 0, no_json),
+    ];
+    for (input, room, workers, fault) in cases {
+        let (answer, untouched) = answer(&rt, rt.alloc(), input, room, workers);
+        assert_eq!(rt; answer, Err(fault));
+        assert!(rt; untouched);
+    }
+}
+
+#[test]
+fn search_stops_at_a_failed_read(rt: HostRuntime) {
+    let steps = [Step::Moved(7), Step::Failed];
+    let source = RehearsedSource::new(MemorySource::new(CIRCLE.as_bytes()), &steps);
+    let mut room = [0; 1000];
+    let mut sink = MemorySink::new(&mut room);
+    let answer = find(&rt, rt.alloc(), source, &mut sink, 8, NO_STEPS);
+    assert_eq!(rt; answer, Err(ProgramFault::Read));
+    assert_eq!(rt; sink.tally().calls, 0);
+}
+
+#[test]
+fn search_goes_on_after_an_interrupted_write(rt: HostRuntime) -> Result<(), Fail> {
+    let writes = [Step::Again, Step::Moved(7), Step::Again];
+    let mut room = [0; 1000];
+    let mut memory = MemorySink::new(&mut room);
+    let mut sink = RehearsedSink::new(&mut memory, &writes);
+    let source = MemorySource::new(CIRCLE.as_bytes());
+    find(&rt, rt.alloc(), source, &mut sink, 8, NO_STEPS)?;
+    assert!(rt; is_without_steps(memory.held()));
+    Ok(())
+}
+
+/// A sink that is full after any number of bytes has a front of the text of that length.
+#[test]
+fn search_leaves_a_front_wherever_a_write_fails(rt: HostRuntime) -> Result<(), Fail> {
+    let mut room = [0; 1000];
+    let mut sink = MemorySink::new(&mut room);
+    let source = MemorySource::new(CIRCLE.as_bytes());
+    find(&rt, rt.alloc(), source, &mut sink, 8, NO_STEPS)?;
+    let whole = sink.held();
+    for length in 0..whole.len() {
+        let mut room = [0; 1000];
+        let mut sink = MemorySink::new(&mut room[..length]);
+        let source = MemorySource::new(CIRCLE.as_bytes());
+        let answer = find(&rt, rt.alloc(), source, &mut sink, 8, NO_STEPS);
+        assert_eq!(rt; answer, Err(ProgramFault::Write));
+        assert_eq!(rt; sink.held(), &whole[..length]);
+    }
+    Ok(())
+}
+
+/// The text of a search on the circle, whose schedules are all accepted.
+fn searched<T: Threads + Wait + Sync>(
+    rt: &T,
+    alloc: Global,
+    workers: u32,
+) -> Result<Vec<u8>, Fail> {
+    let plan = SearchPlan {
+        workers,
+        seed: 1,
+        steps: 100,
+        slack: 30,
+    };
+    let mut memory = vec![in alloc; 0; 100_000]?;
+    let mut sink = MemorySink::new(&mut memory);
+    let source = MemorySource::new(CIRCLE.as_bytes());
+    find(rt, alloc, source, &mut sink, 2048, plan)?;
+    Ok(Vec::from_slice(alloc, sink.held())?)
+}
+
+/// The history of a text's closing, with its last line, which is the best version.
+fn history_and_best(closing: &[u8]) -> Option<(&[u8], &[u8])> {
+    let history = closing
+        .windows(5)
+        .position(|part| part == b"\nend\n".as_slice())?;
+    let best = closing
+        .windows(6)
+        .position(|part| part == b"\nbest ".as_slice())?;
+    Some((closing.get(..history)?, closing.get(best..)?))
+}
+
+#[test]
+fn histories_of_searches_played_lead_to_the_same_best(rt: HostRuntime) -> Result<(), Fail> {
+    for workers in [1, 2, 4, 16] {
+        let text = searched(&rt, rt.alloc(), workers)?;
+        let (board, script) = closing(&text).ok_or("a history")?;
+        assert!(rt; !script.is_empty());
+        let again = super::play::text(rt.alloc(), CIRCLE, script, 2048)?;
+        let (same, _) = closing(&again).ok_or("a history")?;
+        let (history, best) = history_and_best(board).ok_or("a best")?;
+        let (history_again, best_again) = history_and_best(same).ok_or("a best")?;
+        assert_eq!(rt; history_again, history);
+        assert_eq!(rt; best_again, best);
+        assert!(rt; best.starts_with(b"\nbest 2"), "{}", str::from_utf8(best)?);
+    }
+    Ok(())
+}
+
+#[test]
+fn searches_of_one_worker_write_the_same_twice(rt: HostRuntime) -> Result<(), Fail> {
+    let one = searched(&rt, rt.alloc(), 1)?;
+    let two = searched(&rt, rt.alloc(), 1)?;
+    assert_eq!(rt; str::from_utf8(&one)?, str::from_utf8(&two)?);
+    Ok(())
+}
