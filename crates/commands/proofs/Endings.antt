@@ -28,7 +28,7 @@ at_fault P fault (Err given) is holds = subst (λ f. P (Err f)) (sym is) holds
 
 -- a league and a script that were read are answered by their play text
 pub answered_play : {R W : Type 0} (left : R → Option (List ℕ)) (pulls : R → Tally) (held : W → Option (List ℕ)) (pushes : W → Tally) (old new : R) (room : ℕ) (league : LeagueData) (bytes : List ℕ)
-    → Consumes (left old) (left new) bytes → IsAtEnd (left new) → length bytes ≤ input_limit → league_of (league_text bytes) ≡ Ok league → IsLeague league → room ≤ 1048576
+    → Consumes (left old) (left new) bytes → IsAtEnd (left new) → length bytes ≤ input_limit → league_of (league_text bytes) ≡ Ok league → IsLeague league → room ≤ max_room
     → IsAnswered left pulls held pushes (AnswersPlay room) old new (Ok (play_text league room (script_lines bytes)))
 answered_play left pulls held pushes old new room league bytes taken ended within reading limits room_is = record {
   bytes = bytes;

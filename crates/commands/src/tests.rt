@@ -28,6 +28,18 @@ const SHEET: &str = "league 4 teams 6 rounds\n\
     round 5: 2-1 3-4\n\
     round 6: 1-3 4-2\n";
 
+/// Whether a text is these parts, one after another.
+fn is_made_of(text: &[u8], parts: &[&str]) -> bool {
+    let mut rest = text;
+    for part in parts {
+        let Some(after) = rest.strip_prefix(part.as_bytes()) else {
+            return false;
+        };
+        rest = after;
+    }
+    rest.is_empty()
+}
+
 #[test]
 fn start_writes_the_sheet_of_a_circle(rt: HostRuntime) -> Result<(), Fail> {
     let mut room = [0; 1000];

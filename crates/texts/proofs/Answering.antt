@@ -8,6 +8,7 @@ use Rattle.league.specs.League.{LeagueData}
 use Rattle.fixture_board.specs.declared.change.Entry.{Entry}
 use Rattle.texts.specs.Command.{line_of}
 use Rattle.texts.specs.Input.{TakesLine}
+use Rattle.fixture_board.specs.Replies.{greatest}
 use Rattle.texts.specs.PlayText.{answer_to, answers, answers_from, history_after, slack_after, played, played_from}
 use Rattle.texts.proofs.Parts.{AddsAllBut, none_added, one_added, one_stopped, all_added}
 
@@ -19,7 +20,7 @@ pub record IsAnsweredTo {S : Type 0} (held : S → Option (List ℕ)) (tally : S
   pub few : number + length rest ≤ 1 + length script
 
 module _ {S : Type 0} {held : S → Option (List ℕ)} {tally : S → Tally} (league : LeagueData) (room : ℕ) (script : List ℕ) where
-  pub none_answered : (a : BufferedSink S) → IsAnsweredTo held tally a a league room script script [] 18446744073709551615 1
+  pub none_answered : (a : BufferedSink S) → IsAnsweredTo held tally a a league room script script [] greatest 1
   unfolding answers played
   none_answered a = record { written = none_added a _; history_is = refl; few = omega arith }
 

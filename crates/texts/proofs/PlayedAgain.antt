@@ -15,10 +15,10 @@ use Rattle.fixture_board.specs.declared.change.Entry.{Entry}
 use Rattle.fixture_board.specs.declared.reply.Why.{Why}
 use Rattle.fixture_board.specs.History.{best_of, effective, games_of, is_in_range, pins_of, legal_after, IsLegal, May}
 use Rattle.fixture_board.specs.Replay.{changes_of, under_caller_0}
-use Rattle.fixture_board.specs.Replies.{ask_of, entry, next_if, next_of, refusal, played_from as changes_played}
+use Rattle.fixture_board.specs.Replies.{ask_of, ask_with, entry, greatest, next_if, next_of, refusal, played_from as changes_played}
 use Rattle.fixture_board.proofs.ForCallers.{FitFrom, all_stand_fit, fit_from_more, games_of_teams, is_legal_next, is_legal_none, is_scored_league, pinned_stands, replayed}
 use Rattle.texts.specs.Command.{line_of}
-use Rattle.texts.specs.PlayText.{IsPlayedAgain, asked, change_lines, history_after, played, played_from, slack_after}
+use Rattle.texts.specs.PlayText.{IsPlayedAgain, change_lines, history_after, played, played_from, slack_after}
 use Rattle.texts.specs.SearchText.{PlaysBack}
 use Rattle.texts.specs.declared.script_line.ScriptLine.{ScriptLine}
 use Rattle.texts.specs.declared.script_line.ScriptLine.TheVariants as line
@@ -110,8 +110,8 @@ IsPlayed-line : (league : LeagueData) (room : ℕ) (h : List Entry) (slack : ℕ
 IsPlayed-line league room h slack line.Skip is = is
 IsPlayed-line league room h slack (line.Slack given) is = is
 IsPlayed-line league room h slack (line.Asks c) is = record {
-  legal = is_legal_next league room h 0 (asked (length h) slack c) is.legal;
-  same = same-next league room h (asked (length h) slack c) is.same;
+  legal = is_legal_next league room h 0 (ask_with (length h) slack c) is.legal;
+  same = same-next league room h (ask_with (length h) slack c) is.same;
 }
 IsPlayed-line league room h slack line.Bad is = is
 
@@ -124,24 +124,16 @@ IsPlayed-from league room h slack (l ∷ script) is =
 IsPlayed-played : (league : LeagueData) (room : ℕ) (script : List (List ℕ)) → IsPlayed league room (played league room script)
 unfolding played
 IsPlayed-played league room script =
-    IsPlayed-from league room [] 18446744073709551615 script (record { legal = is_legal_none league room; same = refl })
+    IsPlayed-from league room [] greatest script (record { legal = is_legal_none league room; same = refl })
 
 -- ---- the written lines, played
 
--- a script's change at the greatest slack is asked for as the change itself is
-asked-greatest : (version : ℕ) (c : Change) → asked version 18446744073709551615 c ≡ ask_of version c
-asked-greatest version (change.Shift mv) = refl
-asked-greatest version (change.Pin game) = refl
-asked-greatest version (change.Unpin game) = refl
-asked-greatest version change.Undo = refl
-
 lines_played : (league : LeagueData) (room : ℕ) (before h : List Entry) → AreSmall h
-    → played_from league room before 18446744073709551615 (bare_lines h) ≡ changes_played league room before (changes_of h)
+    → played_from league room before greatest (bare_lines h) ≡ changes_played league room before (changes_of h)
 lines_played league room before [] small = refl
 lines_played league room before (e ∷ h) small =
-    ap (λ l. played_from league room (history_after league room before 18446744073709551615 l) (slack_after league room 18446744073709551615 l) (bare_lines h))
+    ap (λ l. played_from league room (history_after league room before greatest l) (slack_after league room greatest l) (bare_lines h))
     (line_read e.change small.0) ∙
-    ap (λ ask. played_from league room (next_of league room before 0 ask) 18446744073709551615 (bare_lines h)) (asked-greatest (length before) e.change) ∙
     lines_played league room (next_of league room before 0 (ask_of (length before) e.change)) h small.1
 
 -- a legal history, written and given as a script, leads to the same changes under caller 0
@@ -150,7 +142,7 @@ pub written_played : (league : LeagueData) (room : ℕ) (h : List Entry) → IsL
 unfolding played
 written_played league room h is legal =
     let small = AreSmall-legal league room h is legal in
-    ap (λ script. played_from league room [] 18446744073709551615 script) (lines-change_lines h small) ∙
+    ap (λ script. played_from league room [] greatest script) (lines-change_lines h small) ∙
     lines_played league room [] h small ∙
     (replayed league room h (is_scored_league league is) legal).history
 

@@ -5,8 +5,6 @@ use Rattle.std.specs.Str.Lines.{lines}
 use Rattle.league.specs.League.{LeagueData}
 use Rattle.moves.specs.declared.moves.Move.{Move}
 use Rattle.moves.specs.declared.moves.Move.TheVariants.{Homes, Rounds, Teams, PartRounds, PartTeams}
-use Rattle.fixture_board.specs.declared.ask.Ask.{Ask}
-use Rattle.fixture_board.specs.declared.ask.Ask.TheVariants as ask
 use Rattle.fixture_board.specs.declared.change.Change.{Change}
 use Rattle.fixture_board.specs.declared.change.Change.TheVariants as change
 use Rattle.fixture_board.specs.declared.change.Entry.{Entry}
@@ -17,7 +15,7 @@ use Rattle.fixture_board.specs.declared.reply.Reply.TheVariants.{Done, No}
 use Rattle.fixture_board.specs.declared.reply.Why.{Why}
 use Rattle.fixture_board.specs.declared.reply.Why.TheVariants as why
 use Rattle.fixture_board.specs.History.{games_of, cost_at, best_of}
-use Rattle.fixture_board.specs.Replies.{next_of, reply_of}
+use Rattle.fixture_board.specs.Replies.{ask_with, greatest, next_of, reply_of}
 use Rattle.texts.specs.Command.{line_of}
 use Rattle.texts.specs.Sheet.{sheet_of}
 use Rattle.texts.specs.declared.script_line.ScriptLine.{ScriptLine}
@@ -94,24 +92,17 @@ abbrev pub best_line : Option Best → List ℕ
 best_line None = codes "best none\n"
 best_line (Some best) = counted (codes "best ") best.total ++ numbered (codes " at ") best.at
 
--- a change that caller 0 asks for at this version: a proposal with this slack and no claim
-abbrev pub asked : ℕ → ℕ → Change → Ask
-asked version slack (change.Shift mv) = ask.Shift (record { version = version; mv = mv; claim = None; slack = slack })
-asked version slack (change.Pin game) = ask.Pin version game
-asked version slack (change.Unpin game) = ask.Unpin version game
-asked version slack change.Undo = ask.Undo version
-
--- a line of a script on a board of this history: what is answered, and the history and the slack after it.
+-- a line of a script on a board of this history, from caller 0: what is answered, and the history and the slack after it.
 -- `number` counts all lines from 1
 module _ (league : LeagueData) (room : ℕ) where
   abbrev pub answer_to : List Entry → ℕ → ℕ → ScriptLine → List ℕ
   answer_to h slack number line.Skip = []
   answer_to h slack number (line.Slack given) = numbered (codes "slack ") given
-  answer_to h slack number (line.Asks c) = reply_line (reply_of league room h (asked (length h) slack c))
+  answer_to h slack number (line.Asks c) = reply_line (reply_of league room h (ask_with (length h) slack c))
   answer_to h slack number line.Bad = numbered (codes "bad line ") number
 
   abbrev pub history_after : List Entry → ℕ → ScriptLine → List Entry
-  history_after h slack (line.Asks c) = next_of league room h 0 (asked (length h) slack c)
+  history_after h slack (line.Asks c) = next_of league room h 0 (ask_with (length h) slack c)
   history_after h slack _ = h
 
   abbrev pub slack_after : ℕ → ScriptLine → ℕ
@@ -131,11 +122,11 @@ module _ (league : LeagueData) (room : ℕ) where
 
   -- the history that a script leads to
   unfoldable pub played : List (List ℕ) → List Entry
-  played script = played_from [] 18446744073709551615 script
+  played script = played_from [] greatest script
 
   -- its answers
   unfoldable pub answers : List (List ℕ) → List ℕ
-  answers script = answers_from [] 18446744073709551615 1 script
+  answers script = answers_from [] greatest 1 script
 
 -- the history that a script leads to, written and given as a script itself, leads to the same history
 abbrev pub IsPlayedAgain : LeagueData → ℕ → List (List ℕ) → Type 0

@@ -4,7 +4,8 @@ ghost use Rattle.std.specs.Prelude.{◌≡◌, [], OnOk};
 ghost use Rattle.std.specs.Str.Lines.{lines};
 ghost use Rattle.streams.specs.Writing.{Writes};
 ghost use Rattle.fixture_board.specs.Record.{book};
-ghost use Rattle.texts.specs.PlayText.{asked, answer_to, answers, costs_of, done_line, history_after, no_line};
+ghost use Rattle.fixture_board.specs.Replies.{ask_with};
+ghost use Rattle.texts.specs.PlayText.{answer_to, answers, costs_of, done_line, history_after, no_line};
 ghost use Rattle.texts.specs.PlayText.{played, reply_line, slack_after, why_text};
 
 use crate::input::next_line;
@@ -65,7 +66,7 @@ fn write_answer<W: Sink>(
 
 /// The change as it is asked for at this version, a proposal with this slack.
 fn asked(version: u64, slack: u64, change: Change) -> Ask
-    ensures { result ≡ asked version slack change }
+    ensures { result ≡ ask_with version slack change }
 {
     match change {
         Change::Shift(mv) => Ask::Shift(Proposal {

@@ -4,8 +4,8 @@
 //! `.._tells_refused_memory` passes at every N; `.._with_ample_memory` fails while N is among its allocations.
 
 use super::play::{AFTER_UNDO, input};
-use super::search::{NO_STEPS, is_without_steps};
-use super::{CIRCLE, SHEET};
+use super::search::{NO_STEPS, NO_STEPS_TEXT};
+use super::{CIRCLE, SHEET, is_made_of};
 use crate::{ProgramFault, find, play, start};
 use std::test::Fail;
 use streams::{MemorySink, MemorySource};
@@ -38,7 +38,7 @@ fn play_succeeds_with_ample_memory(rt: HostRuntime) -> Result<(), Fail> {
     let mut room = [0; 2000];
     let mut sink = MemorySink::new(&mut room);
     play(rt.alloc(), MemorySource::new(&input), &mut sink, 8)?;
-    assert_eq!(rt; sink.held(), AFTER_UNDO.as_bytes());
+    assert!(rt; is_made_of(sink.held(), &AFTER_UNDO));
     Ok(())
 }
 
@@ -50,7 +50,7 @@ fn play_tells_refused_memory(rt: HostRuntime) {
     let mut room = [0; 2000];
     let mut sink = MemorySink::new(&mut room);
     match play(rt.alloc(), MemorySource::new(&input), &mut sink, 8) {
-        Ok(()) => assert_eq!(rt; sink.held(), AFTER_UNDO.as_bytes()),
+        Ok(()) => assert!(rt; is_made_of(sink.held(), &AFTER_UNDO)),
         Err(fault) => {
             assert_eq!(rt; fault, ProgramFault::Memory);
             assert_eq!(rt; sink.tally().calls, 0);
@@ -64,7 +64,7 @@ fn find_succeeds_with_ample_memory(rt: HostRuntime) -> Result<(), Fail> {
     let mut sink = MemorySink::new(&mut room);
     let source = MemorySource::new(CIRCLE.as_bytes());
     find(&rt, rt.alloc(), source, &mut sink, 8, NO_STEPS)?;
-    assert!(rt; is_without_steps(sink.held()));
+    assert!(rt; is_made_of(sink.held(), &NO_STEPS_TEXT));
     Ok(())
 }
 
@@ -75,7 +75,7 @@ fn find_tells_refused_memory(rt: HostRuntime) {
     let mut sink = MemorySink::new(&mut room);
     let source = MemorySource::new(CIRCLE.as_bytes());
     match find(&rt, rt.alloc(), source, &mut sink, 8, NO_STEPS) {
-        Ok(()) => assert!(rt; is_without_steps(sink.held())),
+        Ok(()) => assert!(rt; is_made_of(sink.held(), &NO_STEPS_TEXT)),
         Err(fault) => {
             assert!(rt; matches!(fault, ProgramFault::Memory | ProgramFault::Spawn));
             assert_eq!(rt; sink.tally().calls, 0);

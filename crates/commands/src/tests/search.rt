@@ -1,7 +1,7 @@
 //! Searches: the known text of one without a step, what is answered first, and histories that `play` leads back to.
 
 use super::worked::closing;
-use super::{CIRCLE, SHEET};
+use super::{CIRCLE, SHEET, is_made_of};
 use crate::{ProgramFault, SearchPlan, find};
 use league::LeagueFault;
 use std::alloc::Global;
@@ -17,25 +17,16 @@ pub(super) const NO_STEPS: SearchPlan = SearchPlan {
     slack: 0,
 };
 
-/// The lines before and after the sheet of the search without a step.
-pub(super) const COUNTS: &str = "workers 2 steps 0 seed 7\n\
+/// The text of the search without a step.
+pub(super) const NO_STEPS_TEXT: [&str; 3] = [
+    "workers 2 steps 0 seed 7\n\
     worker 1 made 0 accepted 0 refused 0\n\
     worker 2 made 0 accepted 0 refused 0\n\
     history 0\n\
-    end\n";
-
-pub(super) const BEST: &str = "best 30 at 0\n";
-
-/// Whether it is the text of the search without a step.
-pub(super) fn is_without_steps(text: &[u8]) -> bool {
-    match text.strip_prefix(COUNTS.as_bytes()) {
-        Some(rest) => match rest.strip_prefix(SHEET.as_bytes()) {
-            Some(rest) => rest == BEST.as_bytes(),
-            None => false,
-        },
-        None => false,
-    }
-}
+    end\n",
+    SHEET,
+    "best 30 at 0\n",
+];
 
 #[test]
 fn search_without_steps_writes_the_start(rt: HostRuntime) -> Result<(), Fail> {
@@ -43,11 +34,7 @@ fn search_without_steps_writes_the_start(rt: HostRuntime) -> Result<(), Fail> {
     let mut sink = MemorySink::new(&mut room);
     let source = MemorySource::new(CIRCLE.as_bytes());
     find(&rt, rt.alloc(), source, &mut sink, 1024, NO_STEPS)?;
-    assert!(rt;
-        is_without_steps(sink.held()),
-        "{}",
-        str::from_utf8(sink.held())?
-    );
+    assert!(rt; is_made_of(sink.held(), &NO_STEPS_TEXT));
     Ok(())
 }
 
@@ -57,7 +44,7 @@ fn search_reads_an_input_of_single_bytes(rt: HostRuntime) -> Result<(), Fail> {
     let mut sink = MemorySink::new(&mut room);
     let source = MemorySource::in_pieces(CIRCLE.as_bytes(), 1);
     find(&rt, rt.alloc(), source, &mut sink, 1024, NO_STEPS)?;
-    assert!(rt; is_without_steps(sink.held()));
+    assert!(rt; is_made_of(sink.held(), &NO_STEPS_TEXT));
     Ok(())
 }
 
@@ -115,7 +102,7 @@ fn search_goes_on_after_an_interrupted_write(rt: HostRuntime) -> Result<(), Fail
     let mut sink = RehearsedSink::new(&mut memory, &writes);
     let source = MemorySource::new(CIRCLE.as_bytes());
     find(&rt, rt.alloc(), source, &mut sink, 8, NO_STEPS)?;
-    assert!(rt; is_without_steps(memory.held()));
+    assert!(rt; is_made_of(memory.held(), &NO_STEPS_TEXT));
     Ok(())
 }
 
@@ -129,7 +116,8 @@ fn search_leaves_a_front_wherever_a_write_fails(rt: HostRuntime) -> Result<(), F
     let whole = sink.held();
     for length in 0..whole.len() {
         let mut room = [0; 1000];
-        let mut sink = MemorySink::new(&mut room[..length]);
+        let front = room.get_mut(..length).ok_or("a longer text")?;
+        let mut sink = MemorySink::new(front);
         let source = MemorySource::new(CIRCLE.as_bytes());
         let answer = find(&rt, rt.alloc(), source, &mut sink, 8, NO_STEPS);
         assert_eq!(rt; answer, Err(ProgramFault::Write));
