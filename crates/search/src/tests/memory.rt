@@ -38,9 +38,11 @@ fn refused_memory_makes_no_run(rt: HostRuntime) {
         return;
     };
     if let Err(RunRefused { why, board }) = run(&rt, rt.alloc(), &league, board, PLAN) {
-        assert_eq!(rt; why, RunFault::Memory);
-        if let Some(board) = board {
-            assert_eq!(rt; board.version(), 0);
+        match (why, board) {
+            (RunFault::Memory, Some(board)) => assert_eq!(rt; board.version(), 0),
+            // a thread takes memory of its own
+            (RunFault::Memory, None) | (RunFault::Spawn, Some(_)) => {}
+            _ => panic!(rt; "neither memory nor a thread is wanting"),
         }
     }
 }
