@@ -2,7 +2,7 @@
 
 mod memory;
 mod play;
-mod search;
+mod searches;
 mod session;
 mod worked;
 
