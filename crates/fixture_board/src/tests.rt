@@ -113,7 +113,12 @@ fn round_of(rt: &impl Abort, schedule: &Schedule, home: u8, away: u8) -> u8 {
 fn travels(rt: &impl Abort, board: &Board) -> [u64; 4] {
     let (schedule, league) = (board.schedule(), board.league());
     assert!(rt; schedule.teams() == 4 && league.teams() == 4);
-    [0, 1, 2, 3].map(|team| travel_of(schedule, league, team))
+    [
+        travel_of(schedule, league, 0),
+        travel_of(schedule, league, 1),
+        travel_of(schedule, league, 2),
+        travel_of(schedule, league, 3),
+    ]
 }
 
 #[test]

@@ -4,7 +4,7 @@
 //! `.._tells_refused_memory` passes at every N; `.._with_ample_memory` fails while N is among its allocations.
 
 use super::play::{AFTER_UNDO, input};
-use super::search::{NO_STEPS, NO_STEPS_TEXT};
+use super::searches::{NO_STEPS, NO_STEPS_TEXT};
 use super::{CIRCLE, SHEET, is_made_of};
 use crate::{ProgramFault, find, play, start};
 use std::test::Fail;
