@@ -5,6 +5,7 @@
 use crate::{Job, SearchPlan, args};
 use clap::error::ErrorKind;
 use std::alloc::{AllocError, Global};
+use std::process::Abort;
 use std::test::Fail;
 
 /// Owned words, as the system gives them.
@@ -298,20 +299,38 @@ fn texts_call_the_program_ttp_whatever_it_was_run_as(rt: HostRuntime) -> Result<
     Ok(())
 }
 
+/// A command line of each kind, and what it is answered: a job, or a mistake of the kind.
+fn check_memory(rt: &impl Abort, alloc: Global, is_ample: bool) {
+    let search: &[&str] = &["ttp", "search", "--workers=16", "--slack", "7"];
+    let plan = SearchPlan {
+        workers: 16,
+        seed: 1,
+        steps: 1000,
+        slack: 7,
+    };
+    let cases: [(&[&str], Result<Job, ErrorKind>); 3] = [
+        (&["ttp", "start"], Ok(Job::Start)),
+        (search, Ok(Job::Find { room: 1024, plan })),
+        (&["ttp", "play", "--room=x"], Err(ErrorKind::ValueValidation)),
+    ];
+    for (given, wanted) in cases {
+        let Ok(words) = words(alloc, given) else {
+            assert!(rt; !is_ample);
+            continue;
+        };
+        match args(alloc, &words).map_err(|error| error.kind()) {
+            Err(ErrorKind::OutOfMemory) => assert!(rt; !is_ample),
+            answer => assert_eq!(rt; answer, wanted, "{given:?}"),
+        }
+    }
+}
+
 #[test]
-fn args_succeeds_with_ample_memory(rt: HostRuntime) -> Result<(), Fail> {
-    let words = words(rt.alloc(), &["ttp", "start"])?;
-    assert_eq!(rt; args(rt.alloc(), &words)?, Job::Start);
-    Ok(())
+fn args_with_ample_memory(rt: HostRuntime) {
+    check_memory(&rt, rt.alloc(), true);
 }
 
 #[test]
 fn args_tells_refused_memory(rt: HostRuntime) {
-    let Ok(words) = words(rt.alloc(), &["ttp", "start"]) else {
-        return;
-    };
-    match args(rt.alloc(), &words) {
-        Ok(job) => assert_eq!(rt; job, Job::Start),
-        Err(error) => assert_eq!(rt; error.kind(), ErrorKind::OutOfMemory),
-    }
+    check_memory(&rt, rt.alloc(), false);
 }

@@ -3,3 +3,4 @@ pub mod Outcome
 pub mod Start
 pub mod Play
 pub mod Find
+pub mod Progress

@@ -7,7 +7,7 @@ use crate::fault::ProgramFault;
 use crate::search_text::search_report;
 use fixture_board::Board;
 use league::read_league;
-use search::{SearchPlan, run};
+use search::{Gate, NoGate, SearchPlan, run_with};
 use std::alloc::Global;
 use std::sync::Wait;
 use std::thread::Threads;
@@ -44,13 +44,29 @@ pub fn find_from<T: Threads + Wait + Sync, R: Source, W: Sink>(
     ensures { Ends R.left R.tally W.held W.tally (AnswersFind room plan)
         source.old source.new sink.old sink.new result }
 {
+    find_with(rt, alloc, &NoGate, source, sink, room, plan)
+}
+
+/// As [`find_from`], with a gate that the workers pass and that is told how far they are.
+pub fn find_with<T: Threads + Wait + Sync, G: Gate + Sync, R: Source, W: Sink>(
+    rt: &T,
+    alloc: Global,
+    gate: &G,
+    source: &mut R,
+    sink: &mut W,
+    room: u32,
+    plan: SearchPlan,
+) -> Result<(), ProgramFault>
+    ensures { Ends R.left R.tally W.held W.tally (AnswersFind room plan)
+        source.old source.new sink.old sink.new result }
+{
     let input = read_all(alloc, source)?;
     let league = read_league(alloc, &input)?;
     let board = match Board::new(alloc, league.duplicate(alloc)?, room) {
         Ok(board) => board,
         Err(refused) => return Err(ProgramFault::from(refused.why)),
     };
-    let outcome = match run(rt, alloc, &league, board, plan) {
+    let outcome = match run_with(rt, alloc, gate, &league, board, plan) {
         Ok(outcome) => outcome,
         Err(refused) => return Err(ProgramFault::from(refused.why)),
     };

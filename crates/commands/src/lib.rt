@@ -4,15 +4,17 @@
 mod fault;
 mod finding;
 mod playing;
+mod progress;
 mod search_text;
 mod starting;
 #[cfg(test)]
 mod tests;
 
 pub use fault::ProgramFault;
-pub use finding::{find, find_from};
+pub use finding::{find, find_from, find_with};
 pub use playing::{play, play_from};
-pub use search::{Outcome, SearchPlan};
+pub use progress::ProgressLine;
+pub use search::{NoGate, Outcome, SearchPlan};
 pub use search_text::search_report;
 pub use starting::{start, start_from};
 pub use streams::{Sink, Source, Step};

@@ -1,16 +1,20 @@
 //! What no clause says: a known sheet, faults on known leagues and their texts.
 
+mod ends;
+mod largest;
 mod memory;
 mod play;
+mod progress;
 mod searches;
+mod second_format;
 mod session;
 mod worked;
 
-use crate::{ProgramFault, start, start_from};
+use crate::{ProgramFault, start};
 use league::{Field, LeagueFault};
 use std::alloc::Global;
 use std::test::Fail;
-use streams::{MemorySink, MemorySource, RehearsedSink, RehearsedSource, Step};
+use streams::{MemorySink, MemorySource};
 
 /// Four teams in a circle.
 const CIRCLE: &str =
@@ -111,65 +115,13 @@ fn start_names_the_first_fault_of_a_league(rt: HostRuntime) {
     }
 }
 
+/// One byte more is too long.
 #[test]
-fn start_reads_no_more_than_the_limit(rt: HostRuntime) -> Result<(), Fail> {
-    let blanks = vec![in rt.alloc(); b' '; 4_194_305]?;
-    assert_eq!(rt;
-        answer(rt.alloc(), &blanks),
-        (Err(ProgramFault::TooLong), true)
-    );
-    // a text of just that many bytes is read, and is no JSON
+fn start_reads_a_text_up_to_the_limit(rt: HostRuntime) -> Result<(), Fail> {
+    let blanks = vec![in rt.alloc(); b' '; 4_194_304]?;
     let no_json = Err(ProgramFault::League(LeagueFault::NotJson));
-    assert_eq!(rt; answer(rt.alloc(), &blanks[1..]), (no_json, true));
+    assert_eq!(rt; answer(rt.alloc(), &blanks), (no_json, true));
     Ok(())
-}
-
-#[test]
-fn start_goes_on_after_an_interruption(rt: HostRuntime) -> Result<(), Fail> {
-    let reads = [Step::Again, Step::Moved(7), Step::Again];
-    let mut source = RehearsedSource::new(MemorySource::new(CIRCLE.as_bytes()), &reads);
-    let writes = [Step::Again, Step::Again, Step::Moved(7)];
-    let mut room = [0; 1000];
-    let mut memory = MemorySink::new(&mut room);
-    let mut sink = RehearsedSink::new(&mut memory, &writes);
-    start_from(rt.alloc(), &mut source, &mut sink)?;
-    assert_eq!(rt; source.tally().again, 2);
-    assert_eq!(rt; sink.tally().again, 2);
-    assert_eq!(rt; memory.held(), SHEET.as_bytes());
-    Ok(())
-}
-
-#[test]
-fn start_stops_at_a_failed_read(rt: HostRuntime) {
-    let steps = [Step::Moved(7), Step::Failed];
-    let source = RehearsedSource::new(MemorySource::new(CIRCLE.as_bytes()), &steps);
-    let mut room = [0; 1000];
-    let mut sink = MemorySink::new(&mut room);
-    assert_eq!(rt;
-        start(rt.alloc(), source, &mut sink),
-        Err(ProgramFault::Read)
-    );
-    assert_eq!(rt; sink.tally().calls, 0);
-}
-
-#[test]
-fn start_leaves_a_front_of_the_sheet_after_a_failed_write(rt: HostRuntime) {
-    let steps = [Step::Moved(10), Step::Failed];
-    let mut room = [0; 1000];
-    let mut memory = MemorySink::new(&mut room);
-    let mut sink = RehearsedSink::new(&mut memory, &steps);
-    let answer = start(rt.alloc(), MemorySource::new(CIRCLE.as_bytes()), &mut sink);
-    assert_eq!(rt; answer, Err(ProgramFault::Write));
-    assert_eq!(rt; memory.held(), b"league 4 t".as_slice());
-}
-
-#[test]
-fn start_stops_at_a_full_sink(rt: HostRuntime) {
-    let mut room = [0; 24];
-    let mut sink = MemorySink::new(&mut room);
-    let answer = start(rt.alloc(), MemorySource::new(CIRCLE.as_bytes()), &mut sink);
-    assert_eq!(rt; answer, Err(ProgramFault::Write));
-    assert_eq!(rt; sink.held(), b"league 4 teams 6 rounds\n".as_slice());
 }
 
 #[test]
@@ -194,6 +146,12 @@ fn faults_have_their_texts(rt: HostRuntime) -> Result<(), Fail> {
     ];
     for (fault, text) in cases {
         assert_eq!(rt; format!(in rt.alloc(); "{fault}")?.as_str(), text);
+    }
+    // tests compare faults by `==`, so it has to see the variant and the league's own fault
+    for (i, (one, _)) in cases.iter().enumerate() {
+        for (j, (other, _)) in cases.iter().enumerate() {
+            assert_eq!(rt; one == other, i == j, "{one} {other}");
+        }
     }
     Ok(())
 }

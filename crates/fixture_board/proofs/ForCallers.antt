@@ -7,6 +7,7 @@ pub use Rattle.fixture_board.proofs.Next.{IsLegal-next as is_legal_next, TellsOf
 pub use Rattle.fixture_board.proofs.Scores.{games_of-teams as games_of_teams, IsScored-league as is_scored_league}
 pub use Rattle.fixture_board.proofs.Next.{least_of-falls as least_of_falls}
 -- the changes in effect fit, so the pinned games stand
-pub use Rattle.fixture_board.proofs.Stand.{FitFrom, FitFrom-more as fit_from_more, AllStand-fit as all_stand_fit, pinned_stands}
+pub use Rattle.fixture_board.proofs.Stand.{FitFrom, FitFrom-more as fit_from_more, AllStand-fit as all_stand_fit}
+pub use Rattle.fixture_board.proofs.Stand.{pinned_stands}
 -- given as a script, it leads to itself
 pub use Rattle.fixture_board.proofs.Script.{replayed}

@@ -1,5 +1,7 @@
 -- What a board keeps behind its history, after one entry more.
-use Rattle.std.proofs.Common.{◌≡◌, ℕ, ◌+◌, ◌*◌, ◌-◌, ◌<◌, ◌≤◌, Bool, true, false, if◌then◌else◌, ◌&&◌, ◌==◌, nat_lt, List, [], ◌∷◌, ◌++◌, length, Option, Some, None, replicate, slice_set, is_some, true≢false, refl, sym, ◌∙◌, ap, subst, length-append, arith}
+use Rattle.std.proofs.Common.{◌≡◌, ℕ, ◌+◌, ◌*◌, ◌-◌, ◌<◌, ◌≤◌, Bool, true, false, if◌then◌else◌, ◌&&◌, ◌==◌, nat_lt}
+use Rattle.std.proofs.Common.{List, [], ◌∷◌, ◌++◌, length, Option, Some, None, replicate, slice_set, is_some}
+use Rattle.std.proofs.Common.{true≢false, refl, sym, ◌∙◌, ap, subst, length-append, arith}
 use Rattle.std.proofs.lemmas.List.{length-set, length-replicate, length-take}
 use Rattle.league.specs.League.{LeagueData, teams, IsLeague}
 use Rattle.fixtures.specs.declared.game.Game.{Game}
@@ -15,18 +17,23 @@ use Rattle.fixture_board.specs.declared.ask.Ask.{Ask}
 use Rattle.fixture_board.specs.declared.ask.Ask.TheVariants as ask
 use Rattle.fixture_board.specs.declared.ask.Proposal.{Proposal}
 use Rattle.fixtures.specs.Start.{start_of}
-use Rattle.fixture_board.specs.History.{effect, effective, shifted, games_after, games_of, pinned, pins_after, pins_of, is_in_range, is_there, AllStand, Fits, May, IsLegal, max_room, cost_at, better, best_prefix, best_at, as_best, best_of}
+use Rattle.fixture_board.specs.History.{effect, effective, shifted, games_after, games_of, pinned, pins_after, pins_of}
+use Rattle.fixture_board.specs.History.{is_in_range, is_there, AllStand, Fits, May, IsLegal, max_room, cost_at, better}
+use Rattle.fixture_board.specs.History.{best_prefix, best_at, as_best, best_of}
 use Rattle.fixture_board.specs.PinPlaces.{ArePinsAt, taken_back}
 use Rattle.fixture_board.specs.Kept.{IsLeader, Kept, IsKept, IsGranted, entered, CanTakeBack, leads, led_by}
 use Rattle.fixture_board.specs.Laws.{IsSound}
 use Rattle.fixture_board.specs.Replies.{change_of, refusal, entry}
-use Rattle.fixture_board.proofs.OneMore.{effective-none, effective-more, games_of-none, pins_of-none, games_of-by, pins_of-by, games_after-more, pins_after-more, games_of-more, pins_of-more, effective-undo, IsLegal-none, IsLegal-more, best_prefix-none, best_prefix-more}
+use Rattle.fixture_board.proofs.OneMore.{effective-none, effective-more, games_of-none, pins_of-none, games_of-by}
+use Rattle.fixture_board.proofs.OneMore.{pins_of-by, games_after-more, pins_after-more, games_of-more, pins_of-more}
+use Rattle.fixture_board.proofs.OneMore.{effective-undo, IsLegal-none, IsLegal-more, best_prefix-none, best_prefix-more}
 use Rattle.fixture_board.proofs.Scores.{moved-teams, games_of-teams, score_below}
 use Rattle.fixture_board.proofs.Stand.{pinned_stands}
 use Rattle.fixture_board.proofs.Next.{can_make, IsLegal-within}
 use Rattle.fixture_board.proofs.Sound.{IsSound-legal, IsLastMade, IsLastMade-legal}
-use Rattle.fixture_board.proofs.PinTable.{IsPair-in_range, ArePinsAt-games, ArePinsAt-pin, ArePinsAt-unpin, ArePinsAt-pin_back, ArePinsAt-unpin_back, ArePinsAt-none}
-use Rattle.moves.proofs.EachMove.{each-its_own_inverse, each-double_round_robin}
+use Rattle.fixture_board.proofs.PinTable.{IsPair-in_range, ArePinsAt-games, ArePinsAt-pin, ArePinsAt-unpin}
+use Rattle.fixture_board.proofs.PinTable.{ArePinsAt-pin_back, ArePinsAt-unpin_back, ArePinsAt-none}
+use Rattle.moves.proofs.ForCallers.{each_its_own_inverse}
 
 -- the best version
 
@@ -104,7 +111,7 @@ IsKept-more {league} {k} e changes g pins cost kept under may changes_are games_
 
 pub IsSound-kept : {league : LeagueData} {k : Kept} → IsKept league k → IsDoubleRoundRobin k.games × AllStand k.games (pins_of k.history)
 IsSound-kept {league} {k} kept =
-    let sound : IsSound league k.history = IsSound-legal each-double_round_robin league k.room k.history kept.league_is kept.legal in
+    let sound : IsSound league k.history = IsSound-legal league k.room k.history kept.league_is kept.legal in
     let is = sym kept.games_are in
     (subst IsDoubleRoundRobin is sound.robin, subst (λ x. AllStand x (pins_of k.history)) is sound.stand)
 
@@ -187,7 +194,7 @@ IsGranted-shift {league} {k} p g cost kept granted moved_is cost_is =
     let pins_are : (caller : ℕ) → pins_of (k.history ++ entry caller (ask.Shift p) ∷ []) ≡ pins_of k.history =
     λ caller. pins_of-more k.history (entry caller (ask.Shift p)) refl in
     let after : IsSound league (k.history ++ entry 0 (ask.Shift p) ∷ []) =
-    IsSound-legal each-double_round_robin league k.room (k.history ++ entry 0 (ask.Shift p) ∷ []) kept.league_is
+    IsSound-legal league k.room (k.history ++ entry 0 (ask.Shift p) ∷ []) kept.league_is
     (IsLegal-more league k.room k.history (entry 0 (ask.Shift p)) kept.legal can.under can.may) in
     let stand : AllStand g (pins_of k.history) =
     subst (λ x. AllStand x (pins_of k.history)) (sym (games_are 0))
@@ -212,7 +219,7 @@ last_kept : {league : LeagueData} {k : Kept}
 last_kept {league} {k} front change kept are =
     let last : effective k.history ≡ front ++ change ∷ [] = sym kept.effective_is ∙ are in
     record {
-      last = IsLastMade-legal each-double_round_robin league k.room k.history front change kept.league_is kept.legal last;
+      last = IsLastMade-legal league k.room k.history front change kept.league_is kept.legal last;
       games_are = kept.games_are ∙
           games_of-by league k.history (front ++ change ∷ []) last ∙
           games_after-more (start_of league) front change;
@@ -221,7 +228,7 @@ last_kept {league} {k} front change kept are =
 
 can_take_back : (g : Games) (pins : List Game) (change : Change) → IsDoubleRoundRobin g → AllStand g pins → Fits g pins change →
     CanTakeBack (shifted g change) change
-can_take_back g pins (Shift mv) robin stand fits = (each-its_own_inverse g mv robin fits.0).can_be_made
+can_take_back g pins (Shift mv) robin stand fits = (each_its_own_inverse g mv robin fits.0).can_be_made
 can_take_back g pins (Pin game) robin stand fits =
     let pair = IsPair-in_range g game fits.0 in
     (omega (arith, pair.home_in, robin.forty), omega (arith, pair.away_in, robin.forty))
@@ -241,7 +248,7 @@ CanTakeBack-last front change kept are =
 -- a change made twice leaves the games as they were
 unshifted : (g : Games) (pins : List Game) (change : Change) → IsDoubleRoundRobin g → Fits g pins change →
     shifted (shifted g change) change ≡ g
-unshifted g pins (Shift mv) robin fits = (each-its_own_inverse g mv robin fits.0).back
+unshifted g pins (Shift mv) robin fits = (each_its_own_inverse g mv robin fits.0).back
 unshifted g pins (Pin game) robin fits = refl
 unshifted g pins (Unpin game) robin fits = refl
 unshifted g pins Undo robin fits = refl

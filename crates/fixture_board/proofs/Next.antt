@@ -1,5 +1,7 @@
 -- The history after a call: it stays legal, the answer tells it, and the best total never rises.
-use Rattle.std.proofs.Common.{◌≡◌, ℕ, ◌+◌, ◌<◌, ◌≤◌, Bool, true, false, not, nat_lt, if◌then◌else◌, ◌&&◌, ◌==◌, List, [], ◌∷◌, ◌++◌, length, Option, Some, None, Result, Ok, Err, is_some, true≢false, refl, sym, ◌∙◌, ap, subst, append_assoc, append-nil, length-append, arith}
+use Rattle.std.proofs.Common.{◌≡◌, ℕ, ◌+◌, ◌<◌, ◌≤◌, Bool, true, false, not, nat_lt, if◌then◌else◌, ◌&&◌, ◌==◌, List}
+use Rattle.std.proofs.Common.{[], ◌∷◌, ◌++◌, length, Option, Some, None, Result, Ok, Err, is_some, true≢false, refl}
+use Rattle.std.proofs.Common.{sym, ◌∙◌, ap, subst, append_assoc, append-nil, length-append, arith}
 use Rattle.std.proofs.lemmas.Bool.{not-false, eqb-false, ltb-true, and_parts}
 use Rattle.league.specs.League.{LeagueData, IsLeague}
 use Rattle.fixtures.specs.Games.{Games}
@@ -12,8 +14,11 @@ use Rattle.fixture_board.specs.declared.ask.Ask.{Ask}
 use Rattle.fixture_board.specs.declared.ask.Ask.TheVariants as ask
 use Rattle.fixture_board.specs.declared.reply.Why.{Why}
 use Rattle.fixture_board.specs.declared.reply.Why.TheVariants as why
-use Rattle.fixture_board.specs.History.{effect, effective, games_of, pins_of, has_game, is_in_range, is_there, moves_pin, May, legal_after, IsLegal, cost_at, better, best_prefix, as_best, best_of}
-use Rattle.fixture_board.specs.Replies.{change_of, is_bad, is_meeting, first_of, version_rows, game_rows, move_rows, score_rows, refusal, entry, next_if, reply_if, next_of, reply_of, greatest}
+use Rattle.fixture_board.specs.History.{effect, effective, games_of, pins_of, has_game, is_in_range, is_there}
+use Rattle.fixture_board.specs.History.{moves_pin, May, legal_after, IsLegal, cost_at, better, best_prefix, as_best}
+use Rattle.fixture_board.specs.History.{best_of}
+use Rattle.fixture_board.specs.Replies.{change_of, is_bad, is_meeting, first_of, version_rows, game_rows, move_rows}
+use Rattle.fixture_board.specs.Replies.{score_rows, refusal, entry, next_if, reply_if, next_of, reply_of, greatest}
 use Rattle.fixture_board.specs.Laws.{as_number, least_of, TellsOf}
 use Rattle.fixture_board.proofs.OneMore.{effective-more, games_of-by, IsLegal-more, best_prefix-more}
 use Rattle.fixture_board.proofs.Scores.{score_below, games_of-teams}

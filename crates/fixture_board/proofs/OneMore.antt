@@ -1,6 +1,7 @@
 -- A history with one entry more: its changes in effect, games, pins, best prefix and legality; and what a call makes of
 -- it.
-use Rattle.std.proofs.Common.{◌≡◌, ℕ, ◌-◌, ◌+◌, ◌<◌, Bool, true, false, List, [], ◌∷◌, ◌++◌, length, take, Option, Some, None, refl, sym, ◌∙◌, ap, subst, append_assoc, arith}
+use Rattle.std.proofs.Common.{◌≡◌, ℕ, ◌-◌, ◌+◌, ◌<◌, List, [], ◌∷◌, ◌++◌, length, take, Option, Some, None, refl, sym}
+use Rattle.std.proofs.Common.{◌∙◌, ap, subst, append_assoc, arith}
 use Rattle.std.proofs.lemmas.List.{append-nil}
 use Rattle.std.proofs.Math.Seq.{take-append_seam}
 use Rattle.std.proofs.lemmas.List.{length-append}
@@ -14,8 +15,10 @@ use Rattle.fixture_board.specs.declared.ask.Ask.{Ask}
 use Rattle.fixture_board.specs.declared.reply.Why.{Why}
 use Rattle.fixture_board.specs.declared.reply.Reply.TheVariants.{Done, No}
 use Rattle.fixtures.specs.Start.{start_of}
-use Rattle.fixture_board.specs.History.{effect, effective, effective_after, shifted, games_after, games_of, pinned, pins_after, pins_of, May, legal_after, IsLegal, cost_at, better, best_after, best_prefix}
-use Rattle.fixture_board.specs.Replies.{first_of, refusal, entry, next_of, reply_of}
+use Rattle.fixture_board.specs.History.{effect, effective, effective_after, shifted, games_after, games_of, pinned}
+use Rattle.fixture_board.specs.History.{pins_after, pins_of, May, legal_after, IsLegal, cost_at, better, best_after}
+use Rattle.fixture_board.specs.History.{best_prefix}
+use Rattle.fixture_board.specs.Replies.{refusal, entry, next_of, reply_of}
 
 -- the empty history
 

@@ -1,13 +1,14 @@
 -- Why a board refuses, by the tests that it makes in turn.
-use Rattle.std.proofs.Common.{◌≡◌, ℕ, ◌+◌, ◌<◌, ◌≤◌, ◌≢◌, Bool, true, false, not, if◌then◌else◌, ◌&&◌, ◌==◌, nat_lt, List, [], ◌∷◌, ◌++◌, length, Option, Some, None, Result, Ok, Err, IsErrAnd, is_some, true≢false, length-append, refl, sym, ◌∙◌, ap, subst, arith}
+use Rattle.std.proofs.Common.{◌≡◌, ℕ, ◌+◌, ◌≢◌, Bool, true, false, not, if◌then◌else◌, ◌==◌, List, [], ◌∷◌, ◌++◌}
+use Rattle.std.proofs.Common.{length, Option, Some, None, Result, Ok, Err, IsErrAnd, is_some, true≢false, length-append}
+use Rattle.std.proofs.Common.{refl, sym, ◌∙◌, ap, arith}
 use Rattle.std.specs.Result.{result_err}
 use Rattle.std.proofs.lemmas.Result.{err_from_is_err_and}
-use Rattle.std.proofs.lemmas.Bool.{not-false, eq-eqb, eqb-false, ne_eqb}
+use Rattle.std.proofs.lemmas.Bool.{ne_eqb}
 use Rattle.league.specs.League.{LeagueData}
 use Rattle.fixtures.specs.declared.game.Game.{Game}
 use Rattle.fixtures.specs.Games.{Games, IsDoubleRoundRobin}
-use Rattle.moves.specs.declared.moves.Move.{Move}
-use Rattle.moves.specs.Moves.{moved, fault_of}
+use Rattle.moves.specs.Moves.{moved}
 use Rattle.fixture_board.specs.Costs.{cost_of, score_of}
 use Rattle.fixture_board.specs.declared.cost.Cost.{Cost}
 use Rattle.fixture_board.specs.declared.change.Change.{Change}
@@ -17,15 +18,16 @@ use Rattle.fixture_board.specs.declared.ask.Proposal.{Proposal}
 use Rattle.fixture_board.specs.declared.reply.Why.{Why}
 use Rattle.fixture_board.specs.declared.reply.Why.TheVariants as why
 use Rattle.fixture_board.specs.declared.reply.Reply.TheVariants.{Done, No}
-use Rattle.fixture_board.specs.History.{effective, games_of, pins_of, has_game, is_in_range, is_there, moves_pin, AllStand, cost_at}
+use Rattle.fixture_board.specs.History.{games_of, pins_of, has_game, is_in_range, is_there, moves_pin, AllStand}
+use Rattle.fixture_board.specs.History.{cost_at}
 use Rattle.fixture_board.specs.PinPlaces.{pin_at, ArePinsAt}
 use Rattle.fixture_board.specs.Kept.{Kept, IsKept, IsRefused, IsGranted, IsStep, entered}
-use Rattle.fixture_board.specs.Replies.{is_bad, is_meeting, is_wrong, first_of, version_rows, game_rows, move_rows, score_rows, refusal, entry, next_of, reply_of}
+use Rattle.fixture_board.specs.Replies.{first_of, version_rows, game_rows, move_rows, score_rows, refusal, entry}
+use Rattle.fixture_board.specs.Replies.{next_of, reply_of}
 use Rattle.fixture_board.specs.Record.{Book, book}
 use Rattle.fixture_board.proofs.OneMore.{refused, accepted, replies_no, replies_done}
-use Rattle.fixture_board.proofs.Next.{passed, no_fault, cost_at-callers}
+use Rattle.fixture_board.proofs.Next.{cost_at-callers}
 use Rattle.fixture_board.proofs.PinTable.{IsPair-in_range, has_game-pinned, is_pinned-told}
-use Rattle.fixture_board.proofs.Keeps.{IsSound-kept}
 
 -- tables of reasons in two parts
 

@@ -1,5 +1,6 @@
 -- Each schedule of a league scores below the limit of scores.
-use Rattle.std.proofs.Common.{◌≡◌, ℕ, ◌+◌, ◌-◌, ◌*◌, ◌^◌, ◌<◌, ◌≤◌, if◌then◌else◌, ◌&&◌, Bool, true, false, List, [], ◌∷◌, length, slice_get, Option, Some, None, refl, sym, ◌∙◌, subst, le_refl, arith}
+use Rattle.std.proofs.Common.{◌≡◌, ℕ, ◌+◌, ◌-◌, ◌*◌, ◌^◌, ◌<◌, ◌≤◌, if◌then◌else◌, ◌&&◌, Bool, true, false, List, []}
+use Rattle.std.proofs.Common.{◌∷◌, length, slice_get, Option, Some, None, refl, sym, ◌∙◌, subst, le_refl, arith}
 use Rattle.std.proofs.lemmas.List.Elements.{All-from_recursion, All-get_or}
 use Rattle.std.proofs.lemmas.Option.{slice_get_within, get_or_from_slice_get}
 use Rattle.std.proofs.Math.Nat.{mul-le-mul}
@@ -17,8 +18,10 @@ use Rattle.moves.specs.Moves.{moved}
 use Rattle.tours.specs.Tours.{leg_count, leg, travel_of, travel}
 use Rattle.tours.specs.Runs.{windows, is_run, runs_of, runs_over}
 use Rattle.tours.specs.Repeats.{repeats_after, repeats}
+use Rattle.tours.specs.Phased.{is_unphased, unphased}
 use Rattle.robinx.specs.Deviations.{deviation}
-use Rattle.fixture_board.specs.Costs.{hard_share, soft_share, share_of, sum_over_rules, cost_of, score_of, score_limit}
+use Rattle.fixture_board.specs.Costs.{hard_share, soft_share, share_of, sum_over_rules, where_phased, cost_of, score_of}
+use Rattle.fixture_board.specs.Costs.{score_limit}
 use Rattle.fixture_board.specs.CostShares.{IsSmall}
 use Rattle.fixture_board.specs.declared.change.Change.{Change}
 use Rattle.fixture_board.specs.declared.change.Change.TheVariants.{Shift, Pin, Unpin, Undo}
@@ -95,6 +98,19 @@ repeats_le g forty =
       sum_below_le (round_count g.teams - 1) 1600 (repeats_after g) (λ r under. repeats_after_le g r forty),
     )
 
+unphased_le : (g : Games) → g.teams ≤ 40 → unphased g ≤ 1600
+unfolding unphased
+unphased_le g forty =
+    omega (
+      arith,
+      mul-le-mul forty forty,
+      sum_of_pairs_le g.teams 1 (λ i j. if is_unphased g i j then 1 else 0)
+          (λ i j below under. if_le (is_unphased g i j) 1 1 (omega arith)),
+    )
+
+where_phased_le : (l : LeagueData) (count most : ℕ) → count ≤ most → where_phased l count ≤ most
+where_phased_le l count most le = if_le l.phased count most le
+
 hard_share_le : (weight : Weight) (deviation : ℕ) → hard_share weight deviation ≤ deviation
 hard_share_le Hard deviation = omega arith
 hard_share_le (Soft weight) deviation = omega arith
@@ -134,13 +150,14 @@ deviation_of l g rule same forty is =
     omega (arith, deviation_below g rule.body forty own.body)
 
 -- hard limits count by the league's weight
-hard_le : (l : LeagueData) (g : Games) → IsLeague l → g.teams ≡ teams l → g.teams ≤ 40 → (cost_of l g).hard ≤ max_rules * deviation_limit + 126360
+hard_le : (l : LeagueData) (g : Games) → IsLeague l → g.teams ≡ teams l → g.teams ≤ 40 → (cost_of l g).hard ≤ max_rules * deviation_limit + 127960
 unfolding cost_of
 hard_le l g is same forty =
     omega (
       arith,
       runs_over_le g l.at_most forty,
       repeats_le g forty,
+      where_phased_le l (unphased g) 1600 (unphased_le g forty),
       sum_over_rules_le l g hard_share deviation_limit is
           (λ rule for. omega (arith, hard_share_le rule.weight (deviation g rule.body), deviation_of l g rule same forty for)),
     )

@@ -1,5 +1,7 @@
 -- A legal history, given as a script, is accepted line by line and leads to the same changes, games, pins and best.
-use Rattle.std.proofs.Common.{◌≡◌, ℕ, suc, ◌+◌, ◌^◌, ◌<◌, Bool, true, false, not, nat_lt, if◌then◌else◌, ◌&&◌, ◌==◌, List, [], ◌∷◌, ◌++◌, length, Option, Some, None, refl, sym, ◌∙◌, ap, subst, append_assoc, append-nil, arith}
+use Rattle.std.proofs.Common.{◌≡◌, ℕ, suc, ◌+◌, ◌^◌, ◌<◌, Bool, true, false, not, nat_lt, if◌then◌else◌, ◌&&◌, ◌==◌}
+use Rattle.std.proofs.Common.{List, [], ◌∷◌, ◌++◌, length, Option, Some, None, refl, sym, ◌∙◌, ap, subst, append_assoc}
+use Rattle.std.proofs.Common.{append-nil, arith}
 use Rattle.std.proofs.lemmas.Bool.{and_right, le-ltb, ne_eqb}
 use Rattle.league.specs.League.{LeagueData}
 use Rattle.fixtures.specs.declared.game.Game.{Game}
@@ -13,8 +15,10 @@ use Rattle.fixture_board.specs.declared.cost.Cost.{Cost}
 use Rattle.fixture_board.specs.declared.ask.Ask.{Ask}
 use Rattle.fixture_board.specs.declared.reply.Why.{Why}
 use Rattle.fixture_board.specs.declared.reply.Reply.TheVariants.{Done}
-use Rattle.fixture_board.specs.History.{effect, effective, effective_after, games_of, pins_of, Fits, May, legal_after, IsLegal, cost_at, better, best_after, best_prefix, as_best, best_of}
-use Rattle.fixture_board.specs.Replies.{change_of, is_bad, is_meeting, refusal_at, refusal, entry, next_of, reply_of, ask_of, played_from, answers_from}
+use Rattle.fixture_board.specs.History.{effect, effective, effective_after, games_of, pins_of, Fits, May, legal_after}
+use Rattle.fixture_board.specs.History.{IsLegal, cost_at, better, best_after, best_prefix, as_best, best_of}
+use Rattle.fixture_board.specs.Replies.{change_of, is_bad, is_meeting, refusal_at, refusal, entry, next_of, reply_of}
+use Rattle.fixture_board.specs.Replies.{ask_of, played_from, answers_from}
 use Rattle.fixture_board.specs.Replay.{changes_of, under_caller_0, AllDone, IsReplayed}
 use Rattle.fixture_board.proofs.OneMore.{games_of-by, pins_of-by, games_of-more, accepted, replies_done}
 use Rattle.fixture_board.proofs.Scores.{IsScored}

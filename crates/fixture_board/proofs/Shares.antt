@@ -1,5 +1,6 @@
 -- A move changes no more of the costs than their shares.
-use Rattle.std.proofs.Common.{◌≡◌, ℕ, ◌+◌, ◌<◌, Bool, true, false, if◌then◌else◌, length, slice_get, Option, Some, None, refl, sym, ◌∙◌, ap, subst, arith}
+use Rattle.std.proofs.Common.{◌≡◌, ℕ, ◌+◌, ◌<◌, Bool, true, false, if◌then◌else◌, length, slice_get, Option, Some, None}
+use Rattle.std.proofs.Common.{refl, sym, ◌∙◌, ap, subst, arith}
 use Rattle.std.proofs.Math.Path.{fun_ext}
 use Rattle.std.proofs.lemmas.List.Elements.{All-from_recursion, All-get_or}
 use Rattle.std.proofs.lemmas.Option.{slice_get_within, get_or_from_slice_get}
@@ -16,16 +17,20 @@ use Rattle.moves.specs.declared.moves.Move.{Move}
 use Rattle.moves.specs.declared.moves.Move.TheVariants.{Homes, Rounds, Teams, PartRounds, PartTeams}
 use Rattle.moves.specs.MainCells.{AreMainCells, main_team, side_team}
 use Rattle.moves.specs.Moves.{moved, touched_team}
-use Rattle.moves.proofs.EachMove.{each-differs}
-use Rattle.moves.proofs.ForCallers.{differs_around, each_double_round_robin, each_keeps_meetings, sides_differ_at}
+use Rattle.moves.proofs.ForCallers.{differs_around, each_differs, each_double_round_robin, each_keeps_meetings}
+use Rattle.moves.proofs.ForCallers.{sides_differ_at}
 use Rattle.tours.specs.Repeats.{repeats}
+use Rattle.tours.specs.Phased.{unphased, unphased_part}
 use Rattle.tours.specs.Tours.{travel}
-use Rattle.tours.proofs.ForCallers.{travel_balance, travel_balance_around, runs_balance_sides, repeats_balance_around, repeats_of_same_pairs}
+use Rattle.tours.proofs.ForCallers.{travel_balance, travel_balance_around, runs_balance_sides, repeats_balance_around}
+use Rattle.tours.proofs.ForCallers.{repeats_of_same_pairs, unphased_balance_around}
 use Rattle.robinx.specs.Deviations.{deviation}
 use Rattle.robinx.specs.LooksPast.{looks_past}
 use Rattle.robinx.proofs.ForCallers.{looked_past_deviation, looks_past_tested}
-use Rattle.fixture_board.specs.Costs.{hard_share, soft_share, share_of, sum_over_rules, cost_of, score_of, score_limit}
-use Rattle.fixture_board.specs.CostShares.{travel_share, repeats_share, seen_share_of, sum_over_seen_rules, cost_share, CostsBalance}
+use Rattle.fixture_board.specs.Costs.{hard_share, soft_share, share_of, sum_over_rules, where_phased, cost_of, score_of}
+use Rattle.fixture_board.specs.Costs.{score_limit}
+use Rattle.fixture_board.specs.CostShares.{travel_share, repeats_share, seen_share_of, sum_over_seen_rules, cost_share}
+use Rattle.fixture_board.specs.CostShares.{CostsBalance}
 use Rattle.fixture_board.specs.declared.cost.Cost.{Cost}
 use Rattle.fixture_board.proofs.Scores.{moved-teams, score_below}
 
@@ -36,7 +41,7 @@ differs_in_main : (g : Games) (mv : Move) (main : TouchedCells) → AreMainCells
     ((t : ℕ) → main_team g mv t ≡ touched_team g mv t) → DiffersOnlyIn g (moved g mv) (has main.teams) (has main.rounds)
 differs_in_main g mv main are same =
     subst (λ ts. DiffersOnlyIn g (moved g mv) ts (has main.rounds)) (sym (fun_ext (λ t. are.teams t ∙ same t)))
-    (subst (DiffersOnlyIn g (moved g mv) (touched_team g mv)) (sym (fun_ext are.rounds)) (each-differs g mv are.round_robin are.checked))
+    (subst (DiffersOnlyIn g (moved g mv) (touched_team g mv)) (sym (fun_ext are.rounds)) (each_differs g mv are.round_robin are.checked))
 
 travel_balances : (l : LeagueData) (g : Games) (mv : Move) (main : TouchedCells) → AreMainCells g mv main →
     travel l (moved g mv) + travel_share l mv main g ≡ travel l g + travel_share l mv main (moved g mv)
@@ -59,6 +64,12 @@ repeats_balances g (Teams i j) main are =
 repeats_balances g (Rounds k m) main are = repeats_balance_around g _ _ _ (differs_around g (Rounds k m) main are)
 repeats_balances g (PartRounds i k m) main are = repeats_balance_around g _ _ _ (differs_around g (PartRounds i k m) main are)
 repeats_balances g (PartTeams i j k) main are = repeats_balance_around g _ _ _ (differs_around g (PartTeams i j k) main are)
+
+-- a count that is taken or not
+counted_balances : (taken : Bool) (new old before after : ℕ) → new + before ≡ old + after →
+    (if taken then new else 0) + (if taken then before else 0) ≡ (if taken then old else 0) + (if taken then after else 0)
+counted_balances true new old before after balance = balance
+counted_balances false new old before after balance = refl
 
 -- rules
 
@@ -96,6 +107,16 @@ rules_balance share l g mv main is same are =
     sum_below_balance (length l.rules) _ _ _ _
     (λ i under. rule_balances share g mv main are (slice_get l.rules i) (rule_for l g i is same))
 
+-- pairs with both games in one half
+
+phases_balance : (l : LeagueData) (g : Games) (mv : Move) (main : TouchedCells) → AreMainCells g mv main →
+    where_phased l (unphased (moved g mv)) + where_phased l (unphased_part g (has main.teams)) ≡
+    where_phased l (unphased g) + where_phased l (unphased_part (moved g mv) (has main.teams))
+phases_balance l g mv main are =
+    counted_balances l.phased _ _ _ _
+    (unphased_balance_around g (moved g mv) (has main.teams) (has main.rounds) are.round_robin
+    (each_double_round_robin g mv are.round_robin are.checked) (differs_around g mv main are))
+
 -- all costs
 
 costs_balance : (l : LeagueData) (g : Games) (mv : Move) (main : TouchedCells) (sides : ℕ) →
@@ -111,6 +132,7 @@ costs_balance l g mv main sides is same are of_sides = record {
     runs_balance_sides g (moved g mv) l.at_most (has sides) (has main.rounds) (sides_differ_at g mv main sides are of_sides),
     repeats_balances g mv main are,
     rules_balance hard_share l g mv main is same are,
+    phases_balance l g mv main are,
   );
   soft = rules_balance soft_share l g mv main is same are;
 }

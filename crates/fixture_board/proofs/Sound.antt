@@ -1,17 +1,17 @@
 -- The schedule of a legal history is a double round robin and has the pinned games.
-use Rattle.std.proofs.Common.{◌≡◌, ℕ, List, [], ◌∷◌, ◌++◌, Ok, sym, subst, append_assoc, append-nil}
-use Rattle.league.specs.League.{LeagueData, teams, IsLeague}
+use Rattle.std.proofs.Common.{◌≡◌, ℕ, List, [], ◌∷◌, ◌++◌, sym, subst, append_assoc, append-nil}
+use Rattle.league.specs.League.{LeagueData, IsLeague}
 use Rattle.fixtures.specs.declared.game.Game.{Game}
 use Rattle.fixtures.specs.Games.{Games, IsDoubleRoundRobin}
-use Rattle.moves.specs.declared.moves.Move.{Move}
-use Rattle.moves.specs.Moves.{moved, fault_of}
 use Rattle.fixture_board.specs.declared.change.Change.{Change}
 use Rattle.fixture_board.specs.declared.change.Change.TheVariants.{Shift, Pin, Unpin, Undo}
 use Rattle.fixture_board.specs.declared.change.Entry.{Entry}
 use Rattle.fixtures.specs.Start.{start_of}
-use Rattle.fixture_board.specs.History.{effective, shifted, games_after, games_of, pinned, pins_after, AllStand, legal_after, IsLegal, Fits}
+use Rattle.fixture_board.specs.History.{effective, shifted, games_after, games_of, pinned, pins_after, AllStand}
+use Rattle.fixture_board.specs.History.{legal_after, IsLegal, Fits}
 use Rattle.fixture_board.specs.Laws.{IsSound}
-use Rattle.fixtures.proofs.BergerRoundRobin.{IsDoubleRoundRobin-berger}
+use Rattle.fixtures.proofs.ForCallers.{round_robin_start}
+use Rattle.moves.proofs.ForCallers.{each_double_round_robin}
 use Rattle.fixture_board.proofs.Stand.{Fit, FitFrom, FitFrom-more, AllStand-after, AllStand-fit}
 
 -- the changes in effect of a legal history fit
@@ -27,35 +27,31 @@ pub FitFrom-legal : (league : LeagueData) (room : ℕ) (h : List Entry) → IsLe
 unfolding IsLegal effective
 FitFrom-legal league room h legal = FitFrom-after league room [] h tt legal
 
--- a move keeps the double round robin
-abbrev pub MovesKeep : Type 0
-MovesKeep = (g : Games) (mv : Move) → IsDoubleRoundRobin g → fault_of g mv ≡ Ok tt → IsDoubleRoundRobin (moved g mv)
-
-IsDoubleRoundRobin-change : MovesKeep → (g : Games) (pins : List Game) (change : Change) → IsDoubleRoundRobin g →
+IsDoubleRoundRobin-change : (g : Games) (pins : List Game) (change : Change) → IsDoubleRoundRobin g →
     Fits g pins change → IsDoubleRoundRobin (shifted g change)
-IsDoubleRoundRobin-change keep g pins (Shift mv) robin fits = keep g mv robin fits.0
-IsDoubleRoundRobin-change keep g pins (Pin game) robin fits = robin
-IsDoubleRoundRobin-change keep g pins (Unpin game) robin fits = robin
-IsDoubleRoundRobin-change keep g pins Undo robin fits = robin
+IsDoubleRoundRobin-change g pins (Shift mv) robin fits = each_double_round_robin g mv robin fits.0
+IsDoubleRoundRobin-change g pins (Pin game) robin fits = robin
+IsDoubleRoundRobin-change g pins (Unpin game) robin fits = robin
+IsDoubleRoundRobin-change g pins Undo robin fits = robin
 
-pub IsDoubleRoundRobin-after : MovesKeep → (g : Games) (pins : List Game) (changes : List Change) → IsDoubleRoundRobin g →
+pub IsDoubleRoundRobin-after : (g : Games) (pins : List Game) (changes : List Change) → IsDoubleRoundRobin g →
     Fit g pins changes → IsDoubleRoundRobin (games_after g changes)
 unfolding games_after
-IsDoubleRoundRobin-after keep g pins [] robin all = robin
-IsDoubleRoundRobin-after keep g pins (change ∷ changes) robin all =
-    IsDoubleRoundRobin-after keep (shifted g change) (pinned pins change) changes
-    (IsDoubleRoundRobin-change keep g pins change robin all.0) all.1
+IsDoubleRoundRobin-after g pins [] robin all = robin
+IsDoubleRoundRobin-after g pins (change ∷ changes) robin all =
+    IsDoubleRoundRobin-after (shifted g change) (pinned pins change) changes
+    (IsDoubleRoundRobin-change g pins change robin all.0) all.1
 
 pub IsDoubleRoundRobin-start : (league : LeagueData) → IsLeague league → IsDoubleRoundRobin (start_of league)
-IsDoubleRoundRobin-start league is = IsDoubleRoundRobin-berger (teams league) is.table.even is.table.least is.table.most
+IsDoubleRoundRobin-start league is = round_robin_start league is.table.even is.table.least is.table.most
 
-pub IsSound-legal : MovesKeep → (league : LeagueData) (room : ℕ) (h : List Entry) → IsLeague league → IsLegal league room h →
+pub IsSound-legal : (league : LeagueData) (room : ℕ) (h : List Entry) → IsLeague league → IsLegal league room h →
     IsSound league h
 unfolding games_of
-IsSound-legal keep league room h is legal =
+IsSound-legal league room h is legal =
     let all : FitFrom league (effective h) = FitFrom-legal league room h legal in
     record {
-      robin = IsDoubleRoundRobin-after keep (start_of league) [] (effective h) (IsDoubleRoundRobin-start league is) all;
+      robin = IsDoubleRoundRobin-after (start_of league) [] (effective h) (IsDoubleRoundRobin-start league is) all;
       stand = AllStand-fit league h all;
     }
 
@@ -76,13 +72,13 @@ unfolding games_after pins_after
 Fit-last g pins [] change all = all.0
 Fit-last g pins (x ∷ changes) change all = Fit-last (shifted g x) (pinned pins x) changes change all.1
 
-pub IsLastMade-legal : MovesKeep → (league : LeagueData) (room : ℕ) (h : List Entry) (front : List Change) (change : Change) →
+pub IsLastMade-legal : (league : LeagueData) (room : ℕ) (h : List Entry) (front : List Change) (change : Change) →
     IsLeague league → IsLegal league room h → effective h ≡ front ++ change ∷ [] → IsLastMade league front change
-IsLastMade-legal keep league room h front change is legal last =
+IsLastMade-legal league room h front change is legal last =
     let all : FitFrom league (front ++ change ∷ []) = subst (FitFrom league) last (FitFrom-legal league room h legal) in
     let before : FitFrom league front = Fit-front (start_of league) [] front change all in
     record {
-      robin = IsDoubleRoundRobin-after keep (start_of league) [] front (IsDoubleRoundRobin-start league is) before;
+      robin = IsDoubleRoundRobin-after (start_of league) [] front (IsDoubleRoundRobin-start league is) before;
       stand = AllStand-after (start_of league) [] front tt before;
       fits = Fit-last (start_of league) [] front change all;
     }

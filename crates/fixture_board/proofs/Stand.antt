@@ -1,5 +1,6 @@
 -- The pinned games of a legal history are games of its schedule.
-use Rattle.std.proofs.Common.{◌≡◌, ℕ, zero, suc, ◌-◌, Bool, true, false, not, nat_lt, cond, ◌&&◌, ◌==◌, inl, inr, List, [], ◌∷◌, ◌++◌, length, take, filter, true≢false, sym, ◌∙◌, ap, subst}
+use Rattle.std.proofs.Common.{◌≡◌, ℕ, zero, suc, ◌-◌, Bool, true, false, not, nat_lt, cond, ◌&&◌, ◌==◌, inl, inr, List}
+use Rattle.std.proofs.Common.{[], ◌∷◌, ◌++◌, length, take, filter, true≢false, sym, ◌∙◌, ap, subst}
 use Rattle.std.proofs.lemmas.Bool.{or_cases, or_parts, and_parts, not-false, eqb-true}
 use Rattle.league.specs.League.{LeagueData}
 use Rattle.fixtures.specs.declared.game.Game.{Game}
@@ -10,7 +11,8 @@ use Rattle.fixture_board.specs.declared.change.Change.{Change}
 use Rattle.fixture_board.specs.declared.change.Change.TheVariants.{Shift, Pin, Unpin, Undo}
 use Rattle.fixture_board.specs.declared.change.Entry.{Entry}
 use Rattle.fixtures.specs.Start.{start_of}
-use Rattle.fixture_board.specs.History.{effect, effective, shifted, games_after, games_of, is_game, has_game, pinned, pins_after, pins_of, is_in_range, is_there, moves_pin, AllStand, Fits, May}
+use Rattle.fixture_board.specs.History.{effect, effective, shifted, games_after, games_of, is_game, has_game, pinned}
+use Rattle.fixture_board.specs.History.{pins_after, pins_of, is_in_range, is_there, moves_pin, AllStand, Fits, May}
 use Rattle.fixture_board.proofs.OneMore.{effective-more}
 use Rattle.fixture_board.proofs.Scores.{moved-teams}
 

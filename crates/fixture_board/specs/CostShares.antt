@@ -13,9 +13,10 @@ use Rattle.moves.specs.Laws.{keeps_meetings}
 use Rattle.moves.specs.declared.moves.Move.{Move}
 use Rattle.moves.specs.declared.moves.Move.TheVariants.{Teams, PartTeams}
 use Rattle.tours.specs.Parts.{travel_part, travel_around, runs_part, repeats_with}
+use Rattle.tours.specs.Phased.{unphased_part}
 use Rattle.robinx.specs.Deviations.{deviation}
 use Rattle.robinx.specs.LooksPast.{looks_past}
-use Rattle.fixture_board.specs.Costs.{hard_share, soft_share, score_limit}
+use Rattle.fixture_board.specs.Costs.{hard_share, soft_share, score_limit, where_phased}
 use Rattle.fixture_board.specs.declared.cost.Cost.{Cost}
 
 -- of the travel: in a move of teams the guests of the two travel otherwise too
@@ -39,13 +40,16 @@ seen_share_of share teams g (Some rule) = share rule.weight (seen_deviation team
 
 -- the sum over the rules, by their places
 unfoldable pub sum_over_seen_rules : (Weight → ℕ → ℕ) → List Rule → ℕ → Games → ℕ
-sum_over_seen_rules share rules teams g = sum_below (length rules) (λ i. seen_share_of share teams g (slice_get rules i))
+sum_over_seen_rules share rules teams g =
+    sum_below (length rules) (λ i. seen_share_of share teams g (slice_get rules i))
 
 -- of all costs, where `sides` has the teams whose sides may change
 unfoldable pub cost_share : LeagueData → Move → TouchedCells → ℕ → Games → Cost
 cost_share l mv main sides g = record {
   travel = travel_share l mv main g;
-  hard = runs_part g l.at_most (has sides) (has main.rounds) + repeats_share mv main g + sum_over_seen_rules hard_share l.rules main.teams g;
+  hard = runs_part g l.at_most (has sides) (has main.rounds) + repeats_share mv main g +
+      sum_over_seen_rules hard_share l.rules main.teams g +
+      where_phased l (unphased_part g (has main.teams));
   soft = sum_over_seen_rules soft_share l.rules main.teams g;
 }
 

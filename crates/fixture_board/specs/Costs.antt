@@ -1,5 +1,5 @@
 -- What a schedule costs in a league.
-use Rattle.std.specs.Prelude.{ℕ, ◌+◌, ◌*◌, ◌^◌, List, length, slice_get, Option, Some, None}
+use Rattle.std.specs.Prelude.{ℕ, ◌+◌, ◌*◌, ◌^◌, if◌then◌else◌, List, length, slice_get, Option, Some, None}
 use Rattle.league.specs.League.{LeagueData}
 use Rattle.league.specs.Sums.{sum_below}
 use Rattle.league.specs.declared.rule.Rule.{Rule}
@@ -9,6 +9,7 @@ use Rattle.fixtures.specs.Games.{Games}
 use Rattle.tours.specs.Tours.{travel}
 use Rattle.tours.specs.Runs.{runs_over}
 use Rattle.tours.specs.Repeats.{repeats}
+use Rattle.tours.specs.Phased.{unphased}
 use Rattle.robinx.specs.Deviations.{deviation}
 use Rattle.fixture_board.specs.declared.cost.Cost.{Cost}
 
@@ -31,11 +32,16 @@ share_of share g (Some rule) = share rule.weight (deviation g rule.body)
 unfoldable pub sum_over_rules : (Weight → ℕ → ℕ) → List Rule → Games → ℕ
 sum_over_rules share rules g = sum_below (length rules) (λ i. share_of share g (slice_get rules i))
 
--- travel as it is; hard: runs, repeats and the deviations of hard rules; soft: the weighted deviations of soft rules
+-- what is counted in a phased league alone
+abbrev pub where_phased : LeagueData → ℕ → ℕ
+where_phased l count = if l.phased then count else 0
+
+-- travel as it is; hard: runs, repeats, the deviations of hard rules, and in a phased league the pairs of teams with
+-- both games in one half; soft: the weighted deviations of soft rules
 unfoldable pub cost_of : LeagueData → Games → Cost
 cost_of l g = record {
   travel = travel l g;
-  hard = runs_over g l.at_most + repeats g + sum_over_rules hard_share l.rules g;
+  hard = runs_over g l.at_most + repeats g + sum_over_rules hard_share l.rules g + where_phased l (unphased g);
   soft = sum_over_rules soft_share l.rules g;
 }
 

@@ -1,5 +1,6 @@
 -- What a history stands for: the changes in effect, the games, the pins and the best version.
-use Rattle.std.specs.Prelude.{◌≡◌, ◌≢◌, ℕ, ◌-◌, ◌<◌, ◌≤◌, Bool, true, false, not, ◌&&◌, ◌==◌, nat_lt, if◌then◌else◌, List, [], ◌∷◌, ◌++◌, length, take, filter, Option, Some, None, Ok}
+use Rattle.std.specs.Prelude.{◌≡◌, ◌≢◌, ℕ, ◌-◌, ◌<◌, ◌≤◌, Bool, true, false, not, ◌&&◌, ◌==◌, nat_lt, if◌then◌else◌}
+use Rattle.std.specs.Prelude.{List, [], ◌∷◌, ◌++◌, length, take, filter, Option, Some, None, Ok}
 use Rattle.std.specs.List.{list_any}
 use Rattle.fixtures.specs.declared.game.Game.{Game}
 use Rattle.fixtures.specs.Games.{Games, round_of, round_count}
@@ -66,7 +67,8 @@ is_pinned pins home away = list_any (λ pin. pin.home == home && pin.away == awa
 -- whether the numbers of the game are in range and its teams distinct
 abbrev pub is_in_range : Games → Game → Bool
 is_in_range g game =
-    nat_lt game.round (round_count g.teams) && nat_lt game.home g.teams && nat_lt game.away g.teams && not (game.home == game.away)
+    nat_lt game.round (round_count g.teams) && nat_lt game.home g.teams && nat_lt game.away g.teams &&
+    not (game.home == game.away)
 
 -- whether the pair plays in that round
 abbrev pub is_there : Games → Game → Bool
@@ -114,11 +116,14 @@ cost_at league h = cost_of league (games_of league h)
 abbrev pub better : LeagueData → Option (List Entry) → List Entry → Option (List Entry)
 better league None p = if (cost_at league p).hard == 0 then Some p else None
 better league (Some found) p =
-    if (cost_at league p).hard == 0 && nat_lt (total_of (cost_at league p)) (total_of (cost_at league found)) then Some p else Some found
+    if (cost_at league p).hard == 0 && nat_lt (total_of (cost_at league p)) (total_of (cost_at league found))
+    then Some p
+    else Some found
 
 abbrev pub best_after : LeagueData → List Entry → Option (List Entry) → List Entry → Option (List Entry)
 best_after league before found [] = found
-best_after league before found (e ∷ es) = best_after league (before ++ e ∷ []) (better league found (before ++ e ∷ [])) es
+best_after league before found (e ∷ es) =
+    best_after league (before ++ e ∷ []) (better league found (before ++ e ∷ [])) es
 
 -- of the prefixes of a history whose schedule is feasible one of the least total, and of these the shortest
 unfoldable pub best_prefix : LeagueData → List Entry → Option (List Entry)
@@ -140,8 +145,10 @@ pub record IsBestPrefix (league : LeagueData) (h p : List Entry) : Type 0 where
   pub short : length p ≤ length h
   pub prefix : p ≡ take (length p) h
   pub feasible : (cost_at league p).hard ≡ 0
-  pub least : (k : ℕ) → k ≤ length h → (cost_at league (take k h)).hard ≡ 0 → total_of (cost_at league p) ≤ total_of (cost_at league (take k h))
-  pub first : (k : ℕ) → k < length p → (cost_at league (take k h)).hard ≡ 0 → total_of (cost_at league p) < total_of (cost_at league (take k h))
+  pub least : (k : ℕ) → k ≤ length h → (cost_at league (take k h)).hard ≡ 0 →
+      total_of (cost_at league p) ≤ total_of (cost_at league (take k h))
+  pub first : (k : ℕ) → k < length p → (cost_at league (take k h)).hard ≡ 0 →
+      total_of (cost_at league p) < total_of (cost_at league (take k h))
 
 -- what `best_prefix` finds: the best prefix, or that none is feasible
 abbrev pub IsBestOf : LeagueData → List Entry → Option (List Entry) → Type 0

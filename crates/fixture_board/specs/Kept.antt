@@ -1,5 +1,6 @@
 -- What a board keeps behind what it shows.
-use Rattle.std.specs.Prelude.{◌≡◌, ℕ, ◌+◌, ◌<◌, ◌≤◌, Bool, if◌then◌else◌, List, [], ◌∷◌, ◌++◌, length, Option, Some, None, ◌&&◌, ◌==◌, nat_lt, Result, Ok, Err}
+use Rattle.std.specs.Prelude.{◌≡◌, ℕ, ◌+◌, ◌<◌, ◌≤◌, Bool, if◌then◌else◌, List, [], ◌∷◌, ◌++◌, length, Option, Some}
+use Rattle.std.specs.Prelude.{None, ◌&&◌, ◌==◌, nat_lt, Result, Ok, Err}
 use Rattle.std.specs.Vec.{vec_capacity}
 use Rattle.league.specs.Limits.{max_teams}
 use Rattle.league.specs.League.{LeagueData, teams, IsLeague}

@@ -25,7 +25,8 @@ pin_at table home away = slice_index table (pin_place home away)
 -- the table has the rounds of the pinned games
 abbrev pub ArePinsAt : Games → List Game → List ℕ → Type 0
 ArePinsAt g pins table =
-    (home away : ℕ) → IsPair g.teams home away → pin_at table home away ≡ (if is_pinned pins home away then round_of g home away else free)
+    (home away : ℕ) → IsPair g.teams home away →
+    pin_at table home away ≡ (if is_pinned pins home away then round_of g home away else free)
 
 -- the table of pins without a change that was the last
 abbrev pub taken_back : List ℕ → Change → List ℕ

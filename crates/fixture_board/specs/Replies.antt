@@ -1,5 +1,6 @@
 -- What a board answers, and what its history is then.
-use Rattle.std.specs.Prelude.{ℕ, ◌+◌, ◌-◌, ◌^◌, Bool, true, false, not, ◌&&◌, ◌==◌, nat_lt, if◌then◌else◌, List, [], ◌∷◌, ◌++◌, length, Option, Some, None, Result, Err}
+use Rattle.std.specs.Prelude.{ℕ, ◌+◌, ◌-◌, ◌^◌, Bool, true, false, not, ◌&&◌, ◌==◌, nat_lt, if◌then◌else◌, List, []}
+use Rattle.std.specs.Prelude.{◌∷◌, ◌++◌, length, Option, Some, None, Result, Err}
 use Rattle.fixtures.specs.declared.game.Game.{Game}
 use Rattle.fixtures.specs.Games.{Games}
 use Rattle.moves.specs.declared.fault.MoveFault.{MoveFault}
@@ -18,7 +19,8 @@ use Rattle.fixture_board.specs.declared.reply.Why.{Why}
 use Rattle.fixture_board.specs.declared.reply.Why.TheVariants as why
 use Rattle.fixture_board.specs.declared.reply.Reply.{Reply}
 use Rattle.fixture_board.specs.declared.reply.Reply.TheVariants.{Done, No}
-use Rattle.fixture_board.specs.History.{effective, games_of, pins_of, has_game, is_in_range, is_there, moves_pin, cost_at}
+use Rattle.fixture_board.specs.History.{effective, games_of, pins_of, has_game, is_in_range, is_there, moves_pin}
+use Rattle.fixture_board.specs.History.{cost_at}
 
 -- the change that is asked for
 abbrev pub change_of : Ask → Change
@@ -48,7 +50,8 @@ first_of (row ∷ rows) = if row.0 then Some row.1 else first_of rows
 
 -- of what may only be asked for at the board's version `at`
 abbrev pub version_rows : ℕ → ℕ → ℕ → List (Bool × Why)
-version_rows at room version = (nat_lt at version, why.Ahead) ∷ (nat_lt version at, why.Old) ∷ (at == room, why.Full) ∷ []
+version_rows at room version =
+    (nat_lt at version, why.Ahead) ∷ (nat_lt version at, why.Old) ∷ (at == room, why.Full) ∷ []
 
 -- of a pin and an unpin, whatever is pinned
 abbrev pub game_rows : ℕ → ℕ → ℕ → Games → Game → List (Bool × Why)
@@ -123,9 +126,11 @@ ask_of version line = ask_with version greatest line
 -- the history that a script leads to, and its answers
 abbrev pub played_from : LeagueData → ℕ → List Entry → List Change → List Entry
 played_from league room h [] = h
-played_from league room h (line ∷ lines) = played_from league room (next_of league room h 0 (ask_of (length h) line)) lines
+played_from league room h (line ∷ lines) =
+    played_from league room (next_of league room h 0 (ask_of (length h) line)) lines
 
 abbrev pub answers_from : LeagueData → ℕ → List Entry → List Change → List Reply
 answers_from league room h [] = []
 answers_from league room h (line ∷ lines) =
-    reply_of league room h (ask_of (length h) line) ∷ answers_from league room (next_of league room h 0 (ask_of (length h) line)) lines
+    reply_of league room h (ask_of (length h) line) ∷
+    answers_from league room (next_of league room h 0 (ask_of (length h) line)) lines

@@ -1,9 +1,11 @@
 //! The board: its league, its history, and what follows from them.
 
-ghost use Rattle.std.specs.Prelude.{◌≡◌, ◌<◌, ◌≤◌, ℕ, [], List, Some, None, length, nat_lt, slice_index_or, if◌then◌else◌, IfOk, IfErr, IfNone, IfSome};
+ghost use Rattle.std.specs.Prelude.{◌≡◌, ◌<◌, ◌≤◌, ℕ, [], List, Some, None, length, nat_lt, slice_index_or};
+ghost use Rattle.std.specs.Prelude.{if◌then◌else◌, IfOk, IfErr, IfNone, IfSome};
 ghost use Rattle.fixtures.specs.Games.{IsPair};
 ghost use Rattle.league.specs.League.{teams, IsLeague};
-ghost use Rattle.fixture_board.specs.History.{games_of, pins_of, is_pinned, cost_at, best_of, best_prefix, AllStand, IsLegal};
+ghost use Rattle.fixture_board.specs.History.{games_of, pins_of, is_pinned, cost_at, best_of, best_prefix, AllStand};
+ghost use Rattle.fixture_board.specs.History.{IsLegal};
 ghost use Rattle.fixture_board.specs.Record.{book};
 ghost use Rattle.fixture_board.specs.declared.change.Entry.{Entry};
 
@@ -69,7 +71,8 @@ impl Board {
         ensures ok { IfOk result (λ b. b ≡ book league room []) }
         ensures within { IfOk result (λ _. room ≤ MAX_ROOM) }
         ensures refused { IfErr result (λ e. e.league ≡ league) }
-        ensures range { IfErr result (λ e. e.why ≡ (if nat_lt MAX_ROOM room then BoardFault.RoomRange else BoardFault.Memory)) }
+        ensures range { IfErr result (λ e. e.why ≡
+            (if nat_lt MAX_ROOM room then BoardFault.RoomRange else BoardFault.Memory)) }
     {
         if MAX_ROOM < room {
             let why = BoardFault::RoomRange;
@@ -136,7 +139,8 @@ impl Board {
     /// The schedule at the best version.
     pub fn best_schedule(&self) -> Option<&Schedule>
         ensures none { IfNone result (best_prefix self.now.league self.now.history ≡ None) }
-        ensures some { IfSome result (λ s. (p : List Entry) × (best_prefix self.now.league self.now.history ≡ Some p) × (s.now ≡ games_of self.now.league p)) }
+        ensures some { IfSome result (λ s. (p : List Entry) ×
+            (best_prefix self.now.league self.now.history ≡ Some p) × (s.now ≡ games_of self.now.league p)) }
         ensures size { IfSome result (λ s. s.now.teams ≡ teams self.now.league) }
         ensures legal { IsLegal self.now.league self.now.room self.now.history }
     {

@@ -8,7 +8,7 @@ use crate::cost::Cost;
 use crate::rule_costs::costs_of_rules;
 use fixtures::Schedule;
 use league::League;
-use tours::{repeats, runs_over, travel};
+use tours::{repeats, runs_over, travel, unphased};
 
 /// What a schedule costs in a league, counted over all its games. Takes no memory.
 #[tactic(auto, unfolding(crate::specs::Costs::cost_of))]
@@ -22,9 +22,14 @@ pub fn cost_of(schedule: &Schedule, league: &League) -> Cost
     let travel = travel(schedule, league);
     let runs = runs_over(schedule, league);
     let rules = costs_of_rules(schedule, league);
+    let phases = if league.phased() {
+        unphased(schedule)
+    } else {
+        0
+    };
     Cost {
         travel,
-        hard: runs + repeats(schedule) + rules.hard,
+        hard: runs + repeats(schedule) + rules.hard + phases,
         soft: rules.soft,
     }
 }

@@ -3,9 +3,11 @@
 ghost use Rattle.std.specs.Prelude.{◌≡◌, ◌*◌, ◌<◌, ◌≤◌};
 ghost use Rattle.league.specs.League.{teams};
 ghost use Rattle.league.specs.Limits.{max_rounds, max_teams};
+ghost use Rattle.league.specs.Sets.{has};
+ghost use Rattle.tours.specs.Phased.{unphased_part};
 ghost use Rattle.moves.specs.Moves.{moved};
 ghost use Rattle.moves.specs.MainCells.{AreMainCells};
-ghost use Rattle.fixture_board.specs.Costs.{cost_of, score_of, score_limit};
+ghost use Rattle.fixture_board.specs.Costs.{cost_of, score_of, score_limit, where_phased};
 ghost use Rattle.fixture_board.specs.CostShares.{travel_share, repeats_share, cost_share, CostsBalance, IsSmall};
 
 use crate::cost::Cost;
@@ -13,7 +15,7 @@ use crate::rule_costs::costs_of_seen_rules;
 use fixtures::{Schedule, Touched};
 use league::{League, TeamSet};
 use moves::{Move, make, side_teams};
-use tours::{repeats_with, runs_part, travel_around, travel_part};
+use tours::{repeats_with, runs_part, travel_around, travel_part, unphased_part};
 
 /// Makes a move by its main cells on a schedule of known cost, and gives the cost after. Made once more with the same
 /// cells, it gives the schedule back. Takes no memory.
@@ -70,7 +72,10 @@ fn share(schedule: &Schedule, league: &League, mv: Move, main: Touched, sides: T
     let rules = costs_of_seen_rules(schedule, league, main.teams);
     Cost {
         travel: travel_share(schedule, league, mv, main),
-        hard: runs + repeats_share(schedule, mv, main) + rules.hard,
+        hard: runs
+            + repeats_share(schedule, mv, main)
+            + rules.hard
+            + phases_share(schedule, league, main),
         soft: rules.soft,
     }
 }
@@ -99,5 +104,17 @@ fn repeats_share(schedule: &Schedule, mv: Move, main: Touched) -> u64
         Move::Rounds { .. } | Move::PartRounds { .. } | Move::PartTeams { .. } => {
             repeats_with(schedule, main)
         }
+    }
+}
+
+/// What the pairs that the move can change add to the pairs with both games in one half, where the league is phased.
+fn phases_share(schedule: &Schedule, league: &League, main: Touched) -> u64
+    ensures value { result ≡ where_phased league.now (unphased_part schedule.now (has main.teams)) }
+    ensures most { result ≤ max_teams * max_teams }
+{
+    if league.phased() {
+        unphased_part(schedule, main)
+    } else {
+        0
     }
 }

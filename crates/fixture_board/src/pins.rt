@@ -1,6 +1,7 @@
 //! Which games are pinned to their rounds.
 
-ghost use Rattle.std.specs.Prelude.{◌≡◌, ◌≢◌, ℕ, ◌+◌, ◌*◌, ◌<◌, ◌&&◌, ◌==◌, not, true, false, if◌then◌else◌, List, replicate, slice_set, IfOk};
+ghost use Rattle.std.specs.Prelude.{◌≡◌, ◌≢◌, ℕ, ◌+◌, ◌*◌, ◌<◌, ◌&&◌, ◌==◌, not, true, false, if◌then◌else◌, List};
+ghost use Rattle.std.specs.Prelude.{replicate, slice_set, IfOk};
 ghost use Rattle.league.specs.Limits.{max_teams};
 ghost use Rattle.fixtures.specs.Games.{round_of, IsPair};
 ghost use Rattle.fixtures.specs.declared.game.Game.{Game};
@@ -36,7 +37,8 @@ impl Model for Pins {
 
     ghost view = { λ p. p.rounds.items };
 
-    ghost invariant = { λ p. (length p.rounds.items ≡ pin_places) × (p.count ≡ count_by (λ round. not (round == free)) p.rounds.items) };
+    ghost invariant = { λ p. (length p.rounds.items ≡ pin_places) ×
+        (p.count ≡ count_by (λ round. not (round == free)) p.rounds.items) };
 }
 
 impl Pins {
@@ -103,8 +105,10 @@ impl Pins {
 
     /// Whether a pinned game has another round in the schedule.
     fn are_moved_in(&self, schedule: &Schedule) -> bool
-        ensures none { result ≡ false → (h a : ℕ) → IsPair schedule.now.teams h a → pin_at self.now h a ≢ free → round_of schedule.now h a ≡ pin_at self.now h a }
-        ensures some { result ≡ true → (h : ℕ) × (a : ℕ) × IsPair schedule.now.teams h a × (pin_at self.now h a ≢ free) × (round_of schedule.now h a ≢ pin_at self.now h a) }
+        ensures none { result ≡ false → (h a : ℕ) → IsPair schedule.now.teams h a →
+            pin_at self.now h a ≢ free → round_of schedule.now h a ≡ pin_at self.now h a }
+        ensures some { result ≡ true → (h : ℕ) × (a : ℕ) × IsPair schedule.now.teams h a ×
+            (pin_at self.now h a ≢ free) × (round_of schedule.now h a ≢ pin_at self.now h a) }
     {
         for home in 0..schedule.teams() {
             if self.are_moved_of(schedule, home) {
@@ -117,8 +121,10 @@ impl Pins {
     /// Whether a pinned home game of the team has another round in the schedule.
     fn are_moved_of(&self, schedule: &Schedule, home: u8) -> bool
         requires { home < schedule.now.teams }
-        ensures none { result ≡ false → (a : ℕ) → IsPair schedule.now.teams home a → pin_at self.now home a ≢ free → round_of schedule.now home a ≡ pin_at self.now home a }
-        ensures some { result ≡ true → (a : ℕ) × IsPair schedule.now.teams home a × (pin_at self.now home a ≢ free) × (round_of schedule.now home a ≢ pin_at self.now home a) }
+        ensures none { result ≡ false → (a : ℕ) → IsPair schedule.now.teams home a →
+            pin_at self.now home a ≢ free → round_of schedule.now home a ≡ pin_at self.now home a }
+        ensures some { result ≡ true → (a : ℕ) × IsPair schedule.now.teams home a ×
+            (pin_at self.now home a ≢ free) × (round_of schedule.now home a ≢ pin_at self.now home a) }
     {
         for away in 0..schedule.teams() {
             if home != away && self.is_moved(schedule, home, away) {
@@ -131,7 +137,8 @@ impl Pins {
     /// Whether the game of the pair is pinned to another round than it has in the schedule.
     fn is_moved(&self, schedule: &Schedule, home: u8, away: u8) -> bool
         requires { IsPair schedule.now.teams home away }
-        ensures { result ≡ (not (pin_at self.now home away == free) && not (pin_at self.now home away == round_of schedule.now home away)) }
+        ensures { result ≡ (not (pin_at self.now home away == free) &&
+            not (pin_at self.now home away == round_of schedule.now home away)) }
     {
         let round = schedule.round_of(home, away);
         let pinned = self.rounds[place(home, away)];

@@ -1,11 +1,13 @@
+mod callers;
 mod equality;
 mod kept_cost;
 mod memory;
+mod phased;
 mod rules;
 
 use crate::{Ask, Best, Board, BoardFault, Change, Cost, Entry, NewRefused, Proposal, Reply, Why};
 use fixtures::{Game, Schedule};
-use league::circular;
+use league::{circular, read_league};
 use moves::Move;
 use std::alloc::Global;
 use std::process::Abort;
@@ -15,6 +17,15 @@ use tours::travel_of;
 /// A board of four teams on a circle.
 fn board(alloc: Global, room: u32) -> Result<Board, Fail> {
     Ok(Board::new(alloc, circular(alloc, 4)?, room)?)
+}
+
+const CIRCLE: &str =
+    r#""teams":["T1","T2","T3","T4"],"distances":[[0,1,2,1],[1,0,1,2],[2,1,0,1],[1,2,1,0]]"#;
+
+/// A board of four teams on a circle, by a league's text in this format with further members.
+fn board_with(alloc: Global, format: u8, members: &str) -> Result<Board, Fail> {
+    let text = format!(in alloc; "{{\"format\":{format},{CIRCLE},{members}}}")?;
+    Ok(Board::new(alloc, read_league(alloc, text.as_bytes())?, 8)?)
 }
 
 /// The move at the board's version, without a claim, however much worse it is.

@@ -1,5 +1,5 @@
 -- The leagues that are made are leagues.
-use Rattle.std.proofs.Common.{◌≡◌, ℕ, zero, suc, ◌+◌, ◌%◌, ◌<◌, ◌≤◌, ◌&&◌, ◌==◌, nat_le, List, [], ◌∷◌, map, true, refl}
+use Rattle.std.proofs.Common.{◌≡◌, ℕ, zero, suc, ◌+◌, ◌%◌, ◌<◌, ◌≤◌, ◌&&◌, ◌==◌, nat_le, List, [], ◌∷◌, map, true, false, refl}
 use Rattle.std.proofs.Common.{sym, ◌∙◌, zero-add, arith}
 use Rattle.std.proofs.lemmas.Bool.{agree_below_at, and_from, and_parts, leb-true}
 use Rattle.std.proofs.lemmas.Bool.Decides.{nat_tests}
@@ -63,7 +63,7 @@ made_names_pass (suc count) from most =
     (made_name_passes from (omega arith)) (made_names_pass count (from + 1) (omega arith))
 
 IsLeague-made : (layout : Layout) (n : ℕ) → is_team_count n ≡ true
-    → IsLeague (league_data (made_names n) (made_rows layout n) default_at_most default_hard_weight [])
+    → IsLeague (league_data (made_names n) (made_rows layout n) default_at_most default_hard_weight [] false false)
 IsLeague-made layout n counted = record {
   table = rw (length-map-range_with_len made_name 0 n) (IsTable-made_rows layout n counted);
   at_most_least = omega arith;
@@ -78,6 +78,6 @@ IsLeague-made layout n counted = record {
 pub IsLeague-as_made : (layout : Layout) (n : ℕ) (names distances : List (List ℕ)) (rules : List Rule)
     → is_team_count n ≡ true
     → names ≡ made_names n → distances ≡ made_rows layout n → rules ≡ []
-    → IsLeague (league_data names distances default_at_most default_hard_weight rules)
+    → IsLeague (league_data names distances default_at_most default_hard_weight rules false false)
 IsLeague-as_made layout n names distances rules counted same_names same_distances no_rules =
     rw (same_names, same_distances, no_rules) (IsLeague-made layout n counted)

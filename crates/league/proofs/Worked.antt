@@ -1,12 +1,12 @@
 -- Worked leagues and faults, by computation.
-use Rattle.std.proofs.Common.{◌≡◌, ℕ, List, [], ◌∷◌, ◌++◌, take, Ok, Err, refl}
+use Rattle.std.proofs.Common.{◌≡◌, ℕ, Bool, List, [], ◌∷◌, ◌++◌, take, true, false, Ok, Err, refl}
 use Rattle.std.specs.Prelude.{codes}
-use Rattle.league.specs.declared.fault.Field.TheVariants.{Whole, Format, Teams, AtMost, Rules}
+use Rattle.league.specs.declared.fault.Field.TheVariants.{Whole, Format, Teams, AtMost, Rules, Start, Phased}
 use Rattle.league.specs.declared.fault.LeagueFault.TheVariants.{NotJson, MissingField, WrongKind, TeamCount}
 use Rattle.league.specs.declared.fault.LeagueFault.TheVariants.{DistanceShape, DistanceRange, Diagonal, Asymmetric}
 use Rattle.league.specs.declared.fault.LeagueFault.TheVariants.{RuleClass, RuleValue}
 use Rattle.league.specs.declared.rule.Rule.{Rule}
-use Rattle.league.specs.declared.rule.RuleBody.TheVariants.{Ca1, Ga1}
+use Rattle.league.specs.declared.rule.RuleBody.TheVariants.{Ca1, Ga1, Fa2}
 use Rattle.league.specs.declared.rule.Side.TheVariants.{Away}
 use Rattle.league.specs.declared.rule.Weight.TheVariants.{Hard, Soft}
 use Rattle.league.specs.League.{LeagueData, league_data, league_of}
@@ -17,12 +17,12 @@ abbrev four_names : List (List ℕ)
 four_names = codes "T1" ∷ codes "T2" ∷ codes "T3" ∷ codes "T4" ∷ []
 
 pub circular_of-four : circular_of 4 ≡ Ok (league_data four_names
-    ((0 ∷ 1 ∷ 2 ∷ 1 ∷ []) ∷ (1 ∷ 0 ∷ 1 ∷ 2 ∷ []) ∷ (2 ∷ 1 ∷ 0 ∷ 1 ∷ []) ∷ (1 ∷ 2 ∷ 1 ∷ 0 ∷ []) ∷ []) 3 100 [])
+    ((0 ∷ 1 ∷ 2 ∷ 1 ∷ []) ∷ (1 ∷ 0 ∷ 1 ∷ 2 ∷ []) ∷ (2 ∷ 1 ∷ 0 ∷ 1 ∷ []) ∷ (1 ∷ 2 ∷ 1 ∷ 0 ∷ []) ∷ []) 3 100 [] false false)
 unfolding league_on_literals
 circular_of-four = refl
 
 pub constant_of-four : constant_of 4 ≡ Ok (league_data four_names
-    ((0 ∷ 1 ∷ 1 ∷ 1 ∷ []) ∷ (1 ∷ 0 ∷ 1 ∷ 1 ∷ []) ∷ (1 ∷ 1 ∷ 0 ∷ 1 ∷ []) ∷ (1 ∷ 1 ∷ 1 ∷ 0 ∷ []) ∷ []) 3 100 [])
+    ((0 ∷ 1 ∷ 1 ∷ 1 ∷ []) ∷ (1 ∷ 0 ∷ 1 ∷ 1 ∷ []) ∷ (1 ∷ 1 ∷ 0 ∷ 1 ∷ []) ∷ (1 ∷ 1 ∷ 1 ∷ 0 ∷ []) ∷ []) 3 100 [] false false)
 unfolding league_on_literals
 constant_of-four = refl
 
@@ -51,7 +51,7 @@ unfolding league_on_literals
 league_of-four = refl
 
 pub league_of-far : league_of (four_teams (codes "[[0,1000000,0,0],[1000000,0,0,0],[0,0,0,0],[0,0,0,0]]") (codes ",\"at_most\":78,\"hard_weight\":1000000")) ≡ Ok (league_data four_names
-    ((0 ∷ 1000000 ∷ 0 ∷ 0 ∷ []) ∷ (1000000 ∷ 0 ∷ 0 ∷ 0 ∷ []) ∷ (0 ∷ 0 ∷ 0 ∷ 0 ∷ []) ∷ (0 ∷ 0 ∷ 0 ∷ 0 ∷ []) ∷ []) 78 1000000 [])
+    ((0 ∷ 1000000 ∷ 0 ∷ 0 ∷ []) ∷ (1000000 ∷ 0 ∷ 0 ∷ 0 ∷ []) ∷ (0 ∷ 0 ∷ 0 ∷ 0 ∷ []) ∷ (0 ∷ 0 ∷ 0 ∷ 0 ∷ []) ∷ []) 78 1000000 [] false false)
 unfolding league_on_literals
 league_of-far = refl
 
@@ -117,7 +117,7 @@ with_rules rules = four_teams circle (codes ",\"rules\":[" ++ rules ++ codes "]"
 
 abbrev circle_with : List Rule → LeagueData
 circle_with rules =
-    league_data four_names ((0 ∷ 1 ∷ 2 ∷ 1 ∷ []) ∷ (1 ∷ 0 ∷ 1 ∷ 2 ∷ []) ∷ (2 ∷ 1 ∷ 0 ∷ 1 ∷ []) ∷ (1 ∷ 2 ∷ 1 ∷ 0 ∷ []) ∷ []) 3 100 rules
+    league_data four_names ((0 ∷ 1 ∷ 2 ∷ 1 ∷ []) ∷ (1 ∷ 0 ∷ 1 ∷ 2 ∷ []) ∷ (2 ∷ 1 ∷ 0 ∷ 1 ∷ []) ∷ (1 ∷ 2 ∷ 1 ∷ 0 ∷ []) ∷ []) 3 100 rules false false
 
 -- team 4 away in rounds 1, 3 and 5: as sets 2^3, and 2^0 + 2^2 + 2^4
 pub league_of-CA1 : league_of (with_rules (codes "{\"class\":\"CA1\",\"kind\":\"hard\",\"teams\":[4],\"mode\":\"A\",\"slots\":[1,3,5,3],\"max\":1}"))
@@ -142,3 +142,49 @@ league_of-second_class = refl
 pub league_of-FA2 : league_of (with_rules (codes "{\"class\":\"FA2\",\"kind\":\"hard\",\"teams\":[1],\"slots\":[1],\"intp\":1}")) ≡ Err (RuleClass 0)
 unfolding league_on_literals
 league_of-FA2 = refl
+
+-- the text of four teams in a circle, in the second format, with further members
+abbrev second_format : List ℕ → List ℕ
+second_format more = codes "{\"format\":2,\"teams\":[\"T1\",\"T2\",\"T3\",\"T4\"],\"distances\":" ++ circle ++ more ++ codes "}"
+
+abbrev circle_in_order : List Rule → Bool → Bool → LeagueData
+circle_in_order rules fide phased = record {
+  names = four_names;
+  distances = (circle_with []).distances;
+  at_most = 3;
+  hard_weight = 100;
+  rules = rules;
+  fide = fide;
+  phased = phased;
+}
+
+pub league_of-second_format : league_of (second_format []) ≡ circular_of 4
+unfolding league_on_literals
+league_of-second_format = refl
+
+pub league_of-fide : league_of (second_format (codes ",\"start\":\"fide\"")) ≡ Ok (circle_in_order [] true false)
+unfolding league_on_literals
+league_of-fide = refl
+
+pub league_of-phased : league_of (second_format (codes ",\"start\":\"plain\",\"phased\":true")) ≡ Ok (circle_in_order [] false true)
+unfolding league_on_literals
+league_of-phased = refl
+
+-- the first format has neither
+pub league_of-first_format : league_of (four_teams circle (codes ",\"start\":\"fide\",\"phased\":true")) ≡ circular_of 4
+unfolding league_on_literals
+league_of-first_format = refl
+
+pub league_of-capitals : league_of (second_format (codes ",\"start\":\"FIDE\"")) ≡ Err (WrongKind Start)
+unfolding league_on_literals
+league_of-capitals = refl
+
+pub league_of-phased_number : league_of (second_format (codes ",\"phased\":1")) ≡ Err (WrongKind Phased)
+unfolding league_on_literals
+league_of-phased_number = refl
+
+-- teams 1 to 4 after each of rounds 1 to 6
+pub league_of-second_FA2 : league_of (second_format (codes ",\"rules\":[{\"class\":\"FA2\",\"kind\":\"hard\",\"teams\":[1,2,3,4],\"intp\":1}]"))
+    ≡ Ok (circle_in_order (record { weight = Hard; body = Fa2 15 63 1 } ∷ []) false false)
+unfolding league_on_literals
+league_of-second_FA2 = refl

@@ -1,5 +1,5 @@
 -- A league, without where it lies in memory, and the league that a text stands for.
-use Rattle.std.specs.Prelude.{ℕ, ◌≤◌, ◌+◌, List, [], ◌∷◌, length, slice_index_or, IsTrue, Result, Ok}
+use Rattle.std.specs.Prelude.{ℕ, ◌≤◌, ◌+◌, Bool, List, [], ◌∷◌, length, slice_index_or, IsTrue, Result, Ok}
 use Rattle.std.specs.List.{list_all, AllByRecursion}
 use Rattle.serde_json.specs.Data.{Data, Items, no_items, item}
 use Rattle.serde_json.specs.Events.{items_len}
@@ -11,7 +11,7 @@ use Rattle.league.specs.Json.{json_of, is_object}
 use Rattle.league.specs.Reading.{◌>>=◌, or_fault, unless}
 use Rattle.league.specs.Rows.{table_of}
 use Rattle.league.specs.LeagueMembers.{is_team_name, format_of, teams_of, distances_of}
-use Rattle.league.specs.LeagueMembers.{at_most_of, hard_weight_of, rules_of}
+use Rattle.league.specs.LeagueMembers.{at_most_of, hard_weight_of, rules_of, fide_of, phased_of}
 use Rattle.league.specs.Checks.{distance_of, checked, IsTable}
 use Rattle.league.specs.Limits.{max_rounds, max_weight, max_rules}
 use Rattle.league.specs.RuleLimits.{IsRuleFor}
@@ -23,20 +23,26 @@ pub record LeagueData : Type 0 where
   pub at_most : ℕ
   pub hard_weight : ℕ
   pub rules : List Rule
+  -- the start has FIDE's order of rounds
+  pub fide : Bool
+  -- the two games of each pair of teams belong into different halves of the season
+  pub phased : Bool
 
-abbrev pub league_data : List (List ℕ) → List (List ℕ) → ℕ → ℕ → List Rule → LeagueData
-league_data names distances at_most hard_weight rules = record {
+abbrev pub league_data : List (List ℕ) → List (List ℕ) → ℕ → ℕ → List Rule → Bool → Bool → LeagueData
+league_data names distances at_most hard_weight rules fide phased = record {
   names = names;
   distances = distances;
   at_most = at_most;
   hard_weight = hard_weight;
   rules = rules;
+  fide = fide;
+  phased = phased;
 }
 
 -- the same of a table kept as its numbers, row by row
-abbrev pub league_of_numbers : List (List ℕ) → List ℕ → ℕ → ℕ → List Rule → LeagueData
-league_of_numbers names numbers at_most hard_weight rules =
-    league_data names (table_of (length names) numbers) at_most hard_weight rules
+abbrev pub league_of_numbers : List (List ℕ) → List ℕ → ℕ → ℕ → List Rule → Bool → Bool → LeagueData
+league_of_numbers names numbers at_most hard_weight rules fide phased =
+    league_data names (table_of (length names) numbers) at_most hard_weight rules fide phased
 
 -- how many teams there are
 abbrev pub teams : LeagueData → ℕ
@@ -62,17 +68,17 @@ pub record IsLeague (l : LeagueData) : Type 0 where
   pub rules : AllByRecursion (IsRuleFor (length l.names)) l.rules
 
 -- the rule at an index, among n teams
-unfoldable pub rule_of : ℕ → ℕ → Data → Result Rule LeagueFault
-rule_of n i d = do
-  class ← or_fault (RuleClass i) (class_of d)
+unfoldable pub rule_of : ℕ → ℕ → ℕ → Data → Result Rule LeagueFault
+rule_of format n i d = do
+  class ← or_fault (RuleClass i) (class_of format d)
   or_fault (RuleValue i) (rule_of_class n d class)
 
 -- the rules from an index on
-abbrev pub rules_from : ℕ → ℕ → Items → Result (List Rule) LeagueFault
-rules_from n i no_items = Ok []
-rules_from n i (item d ds) = do
-  rule ← rule_of n i d
-  rules ← rules_from n (i + 1) ds
+abbrev pub rules_from : ℕ → ℕ → ℕ → Items → Result (List Rule) LeagueFault
+rules_from format n i no_items = Ok []
+rules_from format n i (item d ds) = do
+  rule ← rule_of format n i d
+  rules ← rules_from format n (i + 1) ds
   Ok (rule ∷ rules)
 
 -- The members in their order, then the checks of the whole, then the rules one by one.
@@ -85,9 +91,11 @@ league_of_data d = do
   at_most ← at_most_of d
   hard_weight ← hard_weight_of d
   items ← rules_of d
+  fide ← fide_of format d
+  phased ← phased_of format d
   sound ← checked (length names) distances (items_len items)
-  rules ← rules_from (length names) 0 items
-  Ok (league_data names distances at_most hard_weight rules)
+  rules ← rules_from format (length names) 0 items
+  Ok (league_data names distances at_most hard_weight rules fide phased)
 
 -- the league that the bytes stand for, or the first fault
 unfoldable pub league_of : List ℕ → Result LeagueData LeagueFault

@@ -1,12 +1,15 @@
 -- The members of a league's text, in the order of their checks.
-use Rattle.std.specs.Prelude.{ℕ, ◌&&◌, ◌==◌, List, codes, length, Bool, not, nat_le, Option, option_and_then, Result}
+use Rattle.std.specs.Prelude.{ℕ, ◌&&◌, ◌==◌, List, codes, length, Bool, true, false, not, nat_le, Option, Some, None}
+use Rattle.std.specs.Prelude.{option_and_then, if◌then◌else◌, Result, Ok}
 use Rattle.std.specs.List.{list_all}
+use Rattle.std.specs.Str.{bytes_eq}
 use Rattle.serde_json.specs.Data.{Data, Items, no_items}
-use Rattle.serde_json.specs.Find.{get, as_str}
-use Rattle.league.specs.declared.fault.Field.TheVariants.{Format, Teams, Distances, AtMost, HardWeight, Rules}
+use Rattle.serde_json.specs.Find.{get, as_str, as_bool}
+use Rattle.league.specs.declared.fault.Field.{Field}
+use Rattle.league.specs.declared.fault.Field.TheVariants.{Format, Teams, Distances, AtMost, HardWeight, Rules, Start, Phased}
 use Rattle.league.specs.declared.fault.LeagueFault.{LeagueFault}
 use Rattle.league.specs.Json.{only_if, whole_number, number_within, array_of, objects}
-use Rattle.league.specs.Limits.{max_name, max_rounds, max_weight, default_at_most, default_hard_weight}
+use Rattle.league.specs.Limits.{max_name, max_rounds, max_weight, max_format, default_at_most, default_hard_weight}
 use Rattle.league.specs.Reading.{needed, optional}
 
 -- no control byte: neither below 32 nor 127
@@ -29,7 +32,7 @@ abbrev pub distance_rows : Data → Option (List (List ℕ))
 distance_rows = array_of distance_row
 
 abbrev pub format_of : Data → Result ℕ LeagueFault
-format_of d = needed Format (number_within 1 1) (get (codes "format") d)
+format_of d = needed Format (number_within 1 max_format) (get (codes "format") d)
 
 abbrev pub teams_of : Data → Result (List (List ℕ)) LeagueFault
 teams_of d = needed Teams team_names (get (codes "teams") d)
@@ -45,3 +48,22 @@ hard_weight_of d = optional HardWeight (number_within 1 max_weight) default_hard
 
 abbrev pub rules_of : Data → Result Items LeagueFault
 rules_of d = optional Rules objects no_items (get (codes "rules") d)
+
+-- a member that may be absent, and that the first format ignores
+abbrev pub in_second : {A : Type 0} → ℕ → Field → (Data → Option A) → A → Option Data → Result A LeagueFault
+in_second format field form default member = if nat_le 2 format then optional field form default member else Ok default
+
+-- whether the order of rounds is FIDE's
+abbrev pub order_named : List ℕ → Option Bool
+order_named name =
+    if bytes_eq name (codes "plain") then Some false else
+    (if bytes_eq name (codes "fide") then Some true else None)
+
+abbrev pub start_order : Data → Option Bool
+start_order d = option_and_then order_named (as_str d)
+
+abbrev pub fide_of : ℕ → Data → Result Bool LeagueFault
+fide_of format d = in_second format Start start_order false (get (codes "start") d)
+
+abbrev pub phased_of : ℕ → Data → Result Bool LeagueFault
+phased_of format d = in_second format Phased as_bool false (get (codes "phased") d)

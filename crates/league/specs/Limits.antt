@@ -1,6 +1,10 @@
 -- How large leagues, their seasons and their rules may be.
 use Rattle.std.specs.Prelude.{ℕ, ◌-◌, ◌*◌}
 
+-- of a league's text
+abbrev pub max_format : ℕ
+max_format = 2
+
 abbrev pub min_teams : ℕ
 min_teams = 4
 

@@ -1,5 +1,5 @@
 -- The leagues that are made and not read.
-use Rattle.std.specs.Prelude.{ℕ, ◌+◌, ◌-◌, ◌==◌, min, List, [], ◌++◌, map, codes, decimal, if◌then◌else◌, Result, Ok}
+use Rattle.std.specs.Prelude.{ℕ, ◌+◌, ◌-◌, ◌==◌, min, List, [], ◌++◌, false, map, codes, decimal, if◌then◌else◌, Result, Ok}
 use Rattle.std.specs.List.{range_with_len}
 use Rattle.std.specs.Int.{abs_diff}
 use Rattle.league.specs.declared.fault.LeagueFault.{LeagueFault}
@@ -32,7 +32,7 @@ made_rows layout n = map (made_row layout n) (range_with_len 0 n)
 unfoldable pub made : Layout → ℕ → Result LeagueData LeagueFault
 made layout n = do
   counted ← unless (is_team_count n) TeamCount
-  Ok (league_data (made_names n) (made_rows layout n) default_at_most default_hard_weight [])
+  Ok (league_data (made_names n) (made_rows layout n) default_at_most default_hard_weight [] false false)
 
 -- the league of n teams in a circle, or TeamCount
 abbrev pub circular_of : ℕ → Result LeagueData LeagueFault

@@ -1,7 +1,7 @@
 -- What is said of a member.
 use Rattle.std.specs.Prelude.{ℕ, List, ◌++◌, codes}
 use Rattle.league.specs.declared.fault.Field.{Field}
-use Rattle.league.specs.declared.fault.Field.TheVariants.{Whole, Format, Teams, Distances, AtMost, HardWeight, Rules}
+use Rattle.league.specs.declared.fault.Field.TheVariants.{Whole, Format, Teams, Distances, AtMost, HardWeight, Rules, Start, Phased}
 
 -- the member's JSON name
 abbrev pub member_name : Field → List ℕ
@@ -12,6 +12,8 @@ member_name Distances = codes "distances"
 member_name AtMost = codes "at_most"
 member_name HardWeight = codes "hard_weight"
 member_name Rules = codes "rules"
+member_name Start = codes "start"
+member_name Phased = codes "phased"
 
 -- what is said where it is not of its form
 abbrev pub wrong_kind_message : Field → List ℕ

@@ -4,7 +4,7 @@ use Rattle.std.specs.Str.{bytes_eq}
 use Rattle.serde_json.specs.Data.{Data}
 use Rattle.league.specs.declared.rule.Rule.{Rule}
 use Rattle.league.specs.declared.rule.RuleBody.{RuleBody}
-use Rattle.league.specs.declared.rule.RuleBody.TheVariants.{Ca1, Ca2, Ca3, Ca4, Ga1, Br1, Br2, Se1}
+use Rattle.league.specs.declared.rule.RuleBody.TheVariants.{Ca1, Ca2, Ca3, Ca4, Ga1, Br1, Br2, Se1, Fa2}
 use Rattle.league.specs.declared.rule_classes.Class.{Class}
 use Rattle.league.specs.declared.rule_classes.Class.TheVariants as class
 use Rattle.league.specs.Json.{only_if}
@@ -16,9 +16,9 @@ infixl 10 ◌>>=◌
 abbrev pub ◌>>=◌ : {A B : Type 0} → Option A → (A → Option B) → Option B
 o >>= f = option_and_then f o
 
--- the class that a name stands for
-abbrev pub class_named : List ℕ → Option Class
-class_named name =
+-- the class that a name stands for in a format
+abbrev pub class_named : ℕ → List ℕ → Option Class
+class_named format name =
     if bytes_eq name (codes "CA1") then Some class.Ca1 else
     (if bytes_eq name (codes "CA2") then Some class.Ca2 else
     (if bytes_eq name (codes "CA3") then Some class.Ca3 else
@@ -26,10 +26,11 @@ class_named name =
     (if bytes_eq name (codes "GA1") then Some class.Ga1 else
     (if bytes_eq name (codes "BR1") then Some class.Br1 else
     (if bytes_eq name (codes "BR2") then Some class.Br2 else
-    (if bytes_eq name (codes "SE1") then Some class.Se1 else None)))))))
+    (if bytes_eq name (codes "SE1") then Some class.Se1 else
+    (if bytes_eq name (codes "FA2") then only_if (nat_le 2 format) class.Fa2 else None))))))))
 
-abbrev pub class_of : Data → Option Class
-class_of d = option_and_then class_named (text_member (codes "class") d)
+abbrev pub class_of : ℕ → Data → Option Class
+class_of format d = option_and_then (class_named format) (text_member (codes "class") d)
 
 unfoldable pub ca1_of : ℕ → Data → Option RuleBody
 ca1_of n d = do
@@ -96,6 +97,13 @@ se1_of n d = do
   min ← count_member (codes "min") d
   Some (Se1 teams min)
 
+unfoldable pub fa2_of : ℕ → Data → Option RuleBody
+fa2_of n d = do
+  teams ← teams_member n (codes "teams") d
+  slots ← slots_member n d
+  most ← count_member (codes "intp") d
+  Some (Fa2 teams slots most)
+
 abbrev pub body_of : ℕ → Data → Class → Option RuleBody
 body_of n d class.Ca1 = ca1_of n d
 body_of n d class.Ca2 = ca2_of n d
@@ -105,6 +113,7 @@ body_of n d class.Ga1 = ga1_of n d
 body_of n d class.Br1 = br1_of n d
 body_of n d class.Br2 = br2_of n d
 body_of n d class.Se1 = se1_of n d
+body_of n d class.Fa2 = fa2_of n d
 
 abbrev pub rule_of_class : ℕ → Data → Class → Option Rule
 rule_of_class n d class = do

@@ -3,7 +3,7 @@ use Rattle.std.specs.Prelude.{◌≢◌, ℕ, ◌≤◌, length}
 use Rattle.std.specs.List.{AllByRecursion}
 use Rattle.league.specs.declared.rule.Rule.{Rule}
 use Rattle.league.specs.declared.rule.RuleBody.{RuleBody}
-use Rattle.league.specs.declared.rule.RuleBody.TheVariants.{Ca1, Ca2, Ca3, Ca4, Ga1, Br1, Br2, Se1}
+use Rattle.league.specs.declared.rule.RuleBody.TheVariants.{Ca1, Ca2, Ca3, Ca4, Ga1, Br1, Br2, Se1, Fa2}
 use Rattle.league.specs.declared.rule.Side.TheVariants.{Any}
 use Rattle.league.specs.declared.rule.Weight.{Weight}
 use Rattle.league.specs.declared.rule.Weight.TheVariants.{Hard, Soft}
@@ -27,6 +27,7 @@ IsBodyFor n (Ga1 games slots min max) =
 IsBodyFor n (Br1 teams side slots most) = IsBelow n teams × IsBelow (round_count n) slots × IsCount most
 IsBodyFor n (Br2 teams slots most) = IsBelow n teams × IsBelow (round_count n) slots × IsCount most
 IsBodyFor n (Se1 teams min) = IsBelow n teams × IsCount min
+IsBodyFor n (Fa2 teams slots most) = IsBelow n teams × IsBelow (round_count n) slots × IsCount most
 
 abbrev pub IsWeight : Weight → Type 0
 IsWeight Hard = Unit {0}

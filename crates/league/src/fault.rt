@@ -18,6 +18,8 @@ pub enum Field {
     AtMost,
     HardWeight,
     Rules,
+    Start,
+    Phased,
 }
 
 /// Writes the member's JSON name.
@@ -33,6 +35,8 @@ impl fmt::Display for Field {
             Field::AtMost => "at_most",
             Field::HardWeight => "hard_weight",
             Field::Rules => "rules",
+            Field::Start => "start",
+            Field::Phased => "phased",
         })
     }
 }

@@ -6,12 +6,14 @@ ghost use Rattle.std.specs.List.{list_all};
 ghost use Rattle.serde_json.specs.View.{view, items_view};
 ghost use Rattle.league.specs.Limits.{max_rounds, max_weight};
 ghost use Rattle.league.specs.Reading.{Gives, seen};
-ghost use Rattle.league.specs.LeagueMembers.{is_team_name, format_of, teams_of, distances_of, at_most_of, hard_weight_of, rules_of};
+ghost use Rattle.league.specs.LeagueMembers.{is_team_name, format_of, teams_of, distances_of, at_most_of, hard_weight_of, rules_of, order_named, start_order, fide_of, phased_of};
 ghost use Rattle.league.specs.Views.{texts, rows};
 
 use crate::fault::{Field, LeagueFault};
 use crate::forms::{distance_rows, number_within, objects, team_names};
-use crate::limits::{DEFAULT_AT_MOST, DEFAULT_HARD_WEIGHT, FORMAT, MAX_AT_MOST, MAX_WEIGHT};
+use crate::limits::{
+    DEFAULT_AT_MOST, DEFAULT_HARD_WEIGHT, FIRST_FORMAT, MAX_AT_MOST, MAX_WEIGHT, SECOND_FORMAT,
+};
 use serde_json::Value;
 use std::alloc::Global;
 
@@ -21,7 +23,7 @@ pub fn format_of(object: &Value) -> Result<u64, LeagueFault>
     let member = object
         .get("format")
         .ok_or(LeagueFault::MissingField(Field::Format))?;
-    number_within(member, FORMAT, FORMAT).ok_or(LeagueFault::WrongKind(Field::Format))
+    number_within(member, FIRST_FORMAT, SECOND_FORMAT).ok_or(LeagueFault::WrongKind(Field::Format))
 }
 
 pub fn teams_of(alloc: Global, object: &Value) -> Result<Vec<String>, LeagueFault>
@@ -79,4 +81,46 @@ pub fn rules_of(object: &Value) -> Result<&[Value], LeagueFault>
         return Ok(&[]);
     };
     objects(member).ok_or(LeagueFault::WrongKind(Field::Rules))
+}
+
+fn order_named(name: &str) -> Option<bool>
+    ensures { result ≡ order_named name.now }
+{
+    match name {
+        "plain" => Some(false),
+        "fide" => Some(true),
+        _ => None,
+    }
+}
+
+fn start_order(value: &Value) -> Option<bool>
+    ensures { result ≡ start_order (view value.now) }
+{
+    value.as_str().and_then(order_named)
+}
+
+/// Whether the start has FIDE's order of rounds.
+pub fn fide_of(object: &Value, format: u64) -> Result<bool, LeagueFault>
+    ensures { result ≡ fide_of format (view object.now) }
+{
+    match object.get("start") {
+        Some(member) if format >= SECOND_FORMAT => {
+            start_order(member).ok_or(LeagueFault::WrongKind(Field::Start))
+        }
+        _ => Ok(false),
+    }
+}
+
+/// Whether the two games of each pair of teams belong into different halves of the season.
+pub fn phased_of(object: &Value, format: u64) -> Result<bool, LeagueFault>
+    ensures { result ≡ phased_of format (view object.now) }
+{
+    match object.get("phased") {
+        Some(member) if format >= SECOND_FORMAT => {
+            member
+                .as_bool()
+                .ok_or(LeagueFault::WrongKind(Field::Phased))
+        }
+        _ => Ok(false),
+    }
 }

@@ -10,15 +10,23 @@ use crate::rule::Rule;
 use std::alloc::{AllocError, Global};
 use std::marker::Model;
 
+/// What a league says beside its teams, distances and rules.
+#[derive(Clone, Copy, Debug, Drop)]
+pub(crate) struct Terms {
+    pub(crate) at_most: u8,
+    pub(crate) hard_weight: u32,
+    pub(crate) fide: bool,
+    pub(crate) phased: bool,
+}
+
 /// Teams, the distances between their homes, the limits of a schedule and the rules on it. Teams are numbered from 0.
 #[derive(Debug, Drop)]
 pub struct League {
     names: Vec<String>,
     // the rows of the table, one after another
     distances: Vec<u32>,
-    at_most: u8,
-    hard_weight: u32,
     rules: Vec<Rule>,
+    terms: Terms,
 }
 
 impl Model for League {
@@ -27,9 +35,9 @@ impl Model for League {
 
     ghost Value = { LeagueData };
 
-    ghost view = { λ l. league_of_numbers (texts l.names.items) l.distances.items l.at_most l.hard_weight l.rules.items };
+    ghost view = { λ l. league_of_numbers (texts l.names.items) l.distances.items l.terms.at_most l.terms.hard_weight l.rules.items l.terms.fide l.terms.phased };
 
-    ghost invariant = { λ l. IsLeague (league_of_numbers (texts l.names.items) l.distances.items l.at_most l.hard_weight l.rules.items) };
+    ghost invariant = { λ l. IsLeague (league_of_numbers (texts l.names.items) l.distances.items l.terms.at_most l.terms.hard_weight l.rules.items l.terms.fide l.terms.phased) };
 }
 
 impl League {
@@ -40,20 +48,18 @@ impl League {
         alloc: Global,
         names: Vec<String>,
         distances: &[Vec<u64>],
-        at_most: u8,
-        hard_weight: u32,
         rules: Vec<Rule>,
+        terms: Terms,
     ) -> Result<League, AllocError>
-        requires { IsLeague (league_data (texts names.items) (rows distances.now) at_most hard_weight rules.items) }
-        ensures { IfOk result (λ l. l ≡ league_data (texts names.items) (rows distances.now) at_most hard_weight rules.items) }
+        requires { IsLeague (league_data (texts names.items) (rows distances.now) terms.at_most terms.hard_weight rules.items terms.fide terms.phased) }
+        ensures { IfOk result (λ l. l ≡ league_data (texts names.items) (rows distances.now) terms.at_most terms.hard_weight rules.items terms.fide terms.phased) }
     {
         let distances = one_after_another(alloc, names.len(), distances)?;
         Ok(League {
             names,
             distances,
-            at_most,
-            hard_weight,
             rules,
+            terms,
         })
     }
 
@@ -92,7 +98,7 @@ impl League {
         ensures least { 1 ≤ result }
         ensures most { result ≤ max_rounds }
     {
-        self.at_most
+        self.terms.at_most
     }
 
     /// What each breach of a hard limit adds to a schedule's score.
@@ -101,7 +107,7 @@ impl League {
         ensures least { 1 ≤ result }
         ensures most { result ≤ max_weight }
     {
-        self.hard_weight
+        self.terms.hard_weight
     }
 
     /// How many rules there are.
@@ -121,6 +127,20 @@ impl League {
         &self.rules[i]
     }
 
+    /// Whether the start has FIDE's order of rounds.
+    pub fn fide(&self) -> bool
+        ensures { result ≡ self.now.fide }
+    {
+        self.terms.fide
+    }
+
+    /// Whether the two games of each pair of teams belong into different halves of the season.
+    pub fn phased(&self) -> bool
+        ensures { result ≡ self.now.phased }
+    {
+        self.terms.phased
+    }
+
     /// An equal league with memory of its own.
     pub fn duplicate(&self, alloc: Global) -> Result<League, AllocError>
         ensures { IfOk result (λ l. l ≡ self.now) }
@@ -131,9 +151,8 @@ impl League {
         Ok(League {
             names,
             distances,
-            at_most: self.at_most,
-            hard_weight: self.hard_weight,
             rules,
+            terms: self.terms,
         })
     }
 }

@@ -1,7 +1,9 @@
 //! How large leagues, their seasons and their rules may be.
 
-/// The only format of a league's text.
-pub(crate) const FORMAT: u64 = 1;
+/// The first format of a league's text.
+pub(crate) const FIRST_FORMAT: u64 = 1;
+/// The second, which has the order of the start, the phased mode and the rules of class FA2 besides.
+pub(crate) const SECOND_FORMAT: u64 = 2;
 /// The fewest teams of a league.
 pub const MIN_TEAMS: u8 = 4;
 /// The most teams of a league.

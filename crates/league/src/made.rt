@@ -9,7 +9,7 @@ ghost use Rattle.league.specs.Views.{texts, rows};
 
 use crate::checks::is_team_count;
 use crate::fault::LeagueFault;
-use crate::leagues::League;
+use crate::leagues::{League, Terms};
 use crate::limits::{DEFAULT_AT_MOST, DEFAULT_HARD_WEIGHT};
 use std::alloc::{AllocError, Global};
 
@@ -63,6 +63,13 @@ fn made_rows(alloc: Global, layout: Layout, n: u8) -> Result<Vec<Vec<u64>>, Allo
     Ok(table)
 }
 
+const DEFAULT_TERMS: Terms = Terms {
+    at_most: DEFAULT_AT_MOST,
+    hard_weight: DEFAULT_HARD_WEIGHT,
+    fide: false,
+    phased: false,
+};
+
 #[tactic(auto, unfolding(crate::specs::Made::made))]
 fn made(alloc: Global, layout: Layout, n: u8) -> Result<League, LeagueFault>
     ensures exact { Gives (λ l. l) result (made layout n) }
@@ -74,14 +81,7 @@ fn made(alloc: Global, layout: Layout, n: u8) -> Result<League, LeagueFault>
     }
     let names = made_names(alloc, n)?;
     let distances = made_rows(alloc, layout, n)?;
-    Ok(League::new(
-        alloc,
-        names,
-        &distances,
-        DEFAULT_AT_MOST,
-        DEFAULT_HARD_WEIGHT,
-        Vec::new(alloc),
-    )?)
+    Ok(League::new(alloc, names, &distances, Vec::new(alloc), DEFAULT_TERMS)?)
 }
 
 /// The league of `n` teams T1 to Tn whose homes lie in a circle, each at distance 1 from the next, with at most

@@ -11,9 +11,9 @@ use crate::checks::check;
 use crate::fault::{Field, LeagueFault};
 use crate::forms::item_count;
 use crate::league_members::{
-    at_most_of, distances_of, format_of, hard_weight_of, rules_of, teams_of,
+    at_most_of, distances_of, fide_of, format_of, hard_weight_of, phased_of, rules_of, teams_of,
 };
-use crate::leagues::League;
+use crate::leagues::{League, Terms};
 use crate::rule_classes::read_rules;
 use serde_json::{Category, Value};
 use std::alloc::Global;
@@ -39,25 +39,35 @@ fn league_of_data(alloc: Global, value: &Value) -> Result<League, LeagueFault>
     if !value.is_object() {
         return Err(LeagueFault::WrongKind(Field::Whole));
     }
-    format_of(value)?;
+    let format = format_of(value)?;
     let names = teams_of(alloc, value)?;
     let distances = distances_of(alloc, value)?;
     let at_most = at_most_of(value)?;
     let hard_weight = hard_weight_of(value)?;
     let items = rules_of(value)?;
+    let fide = fide_of(value, format)?;
+    let phased = phased_of(value, format)?;
     check(names.len(), &distances, item_count(items))?;
-    let rules = read_rules(alloc, items, names.len() as u8)?;
-    Ok(League::new(alloc, names, &distances, at_most, hard_weight, rules)?)
+    let rules = read_rules(alloc, items, format, names.len() as u8)?;
+    let terms = Terms {
+        at_most,
+        hard_weight,
+        fide,
+        phased,
+    };
+    Ok(League::new(alloc, names, &distances, rules, terms)?)
 }
 
 /// Reads a league from its JSON text, an object with these members:
 ///
-/// - `format`: the whole number 1;
+/// - `format`: the whole number 1 or 2;
 /// - `teams`: an array of names, each of 1 to 40 bytes and none of them a control byte (0 to 31 and 127);
 /// - `distances`: an array with a row for each team, of a whole number up to 1,000,000 for each team;
 /// - `at_most`, or 3 where it is absent: a whole number from 1 to 78;
 /// - `hard_weight`, or 100 where it is absent: a whole number from 1 to 1,000,000;
-/// - `rules`, or none where it is absent: an array of at most 256 objects, each a rule.
+/// - `rules`, or none where it is absent: an array of at most 256 objects, each a rule;
+/// - in format 2 `start`, or `"plain"` where it is absent: `"plain"` or `"fide"`;
+/// - in format 2 `phased`, or false where it is absent: true or false.
 ///
 /// A rule has the members `class`, `kind` (`"hard"`, or `"soft"` with a `weight` from 1 to 1,000,000) and those of its
 /// class; docs/rules.md has them all. Teams and rounds count from 1 there.

@@ -101,6 +101,12 @@ pub enum RuleBody {
         teams: TeamSet,
         min: u32,
     },
+    /// After each of the slots the numbers of home games of any two of the teams differ by at most `most`.
+    Fa2 {
+        teams: TeamSet,
+        slots: SlotSet,
+        most: u32,
+    },
 }
 
 /// Games of distinct teams, each once.

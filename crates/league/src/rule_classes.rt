@@ -6,10 +6,11 @@ ghost use Rattle.serde_json.specs.View.{view, items_view};
 ghost use Rattle.league.specs.Limits.{max_teams, max_rules};
 ghost use Rattle.league.specs.Reading.{Gives};
 ghost use Rattle.league.specs.RuleLimits.{IsBodyFor, IsRuleFor};
-ghost use Rattle.league.specs.RuleClasses.{class_of, ca1_of, ca2_of, ca3_of, ca4_of, ga1_of, br1_of, br2_of, se1_of, body_of, rule_of_class};
+ghost use Rattle.league.specs.RuleClasses.{class_of, ca1_of, ca2_of, ca3_of, ca4_of, ga1_of, br1_of, br2_of, se1_of, fa2_of, body_of, rule_of_class};
 ghost use Rattle.league.specs.League.{rule_of, rules_from};
 
 use crate::fault::LeagueFault;
+use crate::limits::SECOND_FORMAT;
 use crate::rule::{Rule, RuleBody};
 use crate::rule_members::{
     any_side_member, count_member, each_member, games_member, one_side_member, opponents_member,
@@ -29,10 +30,11 @@ pub(crate) enum Class {
     Br1,
     Br2,
     Se1,
+    Fa2,
 }
 
-fn class_of(rule: &Value) -> Option<Class>
-    ensures { result ≡ class_of (view rule.now) }
+fn class_of(rule: &Value, format: u64) -> Option<Class>
+    ensures { result ≡ class_of format (view rule.now) }
 {
     match text_member(rule, "class")? {
         "CA1" => Some(Class::Ca1),
@@ -43,6 +45,7 @@ fn class_of(rule: &Value) -> Option<Class>
         "BR1" => Some(Class::Br1),
         "BR2" => Some(Class::Br2),
         "SE1" => Some(Class::Se1),
+        "FA2" if format >= SECOND_FORMAT => Some(Class::Fa2),
         _ => None,
     }
 }
@@ -179,6 +182,20 @@ fn se1_of(rule: &Value, teams: u8) -> Option<RuleBody>
     })
 }
 
+#[tactic(auto, unfolding(crate::specs::RuleClasses::fa2_of))]
+fn fa2_of(rule: &Value, teams: u8) -> Option<RuleBody>
+    requires least { 1 ≤ teams }
+    requires most { teams ≤ max_teams }
+    ensures value { result ≡ fa2_of teams (view rule.now) }
+    ensures range { IfSome result (IsBodyFor teams) }
+{
+    Some(RuleBody::Fa2 {
+        teams: teams_member(rule, "teams", teams)?,
+        slots: slots_member(rule, teams)?,
+        most: count_member(rule, "intp")?,
+    })
+}
+
 fn body_of(
     alloc: Global,
     rule: &Value,
@@ -199,6 +216,7 @@ fn body_of(
         Class::Br1 => Ok(br1_of(rule, teams)),
         Class::Br2 => Ok(br2_of(rule, teams)),
         Class::Se1 => Ok(se1_of(rule, teams)),
+        Class::Fa2 => Ok(fa2_of(rule, teams)),
     }
 }
 
@@ -221,28 +239,39 @@ fn rule_of_class(
 }
 
 #[tactic(auto, unfolding(crate::specs::League::rule_of))]
-fn rule_of(alloc: Global, rule: &Value, teams: u8, index: u8) -> Result<Rule, LeagueFault>
+fn rule_of(
+    alloc: Global,
+    rule: &Value,
+    format: u64,
+    teams: u8,
+    index: u8,
+) -> Result<Rule, LeagueFault>
     requires least { 1 ≤ teams }
     requires most { teams ≤ max_teams }
-    ensures exact { Gives (λ r. r) result (rule_of teams index (view rule.now)) }
+    ensures exact { Gives (λ r. r) result (rule_of format teams index (view rule.now)) }
     ensures range { IfOk result (IsRuleFor teams) }
 {
-    let class = class_of(rule).ok_or(LeagueFault::RuleClass(index))?;
+    let class = class_of(rule, format).ok_or(LeagueFault::RuleClass(index))?;
     rule_of_class(alloc, rule, teams, class)?.ok_or(LeagueFault::RuleValue(index))
 }
 
 /// Reads the rules of a league of so many teams, or tells the first fault.
-pub fn read_rules(alloc: Global, items: &[Value], teams: u8) -> Result<Vec<Rule>, LeagueFault>
+pub fn read_rules(
+    alloc: Global,
+    items: &[Value],
+    format: u64,
+    teams: u8,
+) -> Result<Vec<Rule>, LeagueFault>
     requires least { 1 ≤ teams }
     requires most { teams ≤ max_teams }
     requires count { length items.now ≤ max_rules }
-    ensures exact { Gives (λ rules. rules.items) result (rules_from teams 0 (items_view items.now)) }
+    ensures exact { Gives (λ rules. rules.items) result (rules_from format teams 0 (items_view items.now)) }
     ensures range { IfOk result (λ rules. AllByRecursion (IsRuleFor teams) rules.items) }
     ensures count { IfOk result (λ rules. length rules.items ≤ max_rules) }
 {
     let mut rules = Vec::with_capacity(alloc, items.len())?;
     for (index, item) in items.iter().enumerate() {
-        rules.push(rule_of(alloc, item, teams, index as u8)?)?;
+        rules.push(rule_of(alloc, item, format, teams, index as u8)?)?;
     }
     Ok(rules)
 }

@@ -1,6 +1,9 @@
+mod formats;
+mod hostile;
 mod memory;
 mod rules;
 mod sets;
+mod values;
 
 use crate::{Field, LeagueFault, circular, constant, read_league};
 use std::alloc::{AllocError, Global};
@@ -23,6 +26,11 @@ fn league_text(
     more: &str,
 ) -> Result<String, AllocError> {
     format!(in alloc; "{{\"format\":1,\"teams\":{teams},\"distances\":{distances}{more}}}")
+}
+
+// four teams in a circle
+fn circle_text(alloc: Global, format: u64, more: &str) -> Result<String, AllocError> {
+    format!(in alloc; "{{\"format\":{format},\"teams\":{TEAMS},\"distances\":{CIRCLE}{more}}}")
 }
 
 // forty teams with one rule, which lists each game of theirs
@@ -116,7 +124,8 @@ fn tells_faults_of_the_text(rt: HostRuntime) {
         ("{}", LeagueFault::MissingField(Field::Format)),
         (r#"{"teams":3}"#, LeagueFault::MissingField(Field::Format)),
         (r#"{"format":3}"#, LeagueFault::WrongKind(Field::Format)),
-        (r#"{"format":2}"#, LeagueFault::WrongKind(Field::Format)),
+        (r#"{"format":2}"#, LeagueFault::MissingField(Field::Teams)),
+        (r#"{"format":0}"#, LeagueFault::WrongKind(Field::Format)),
         (r#"{"format":1.0}"#, LeagueFault::WrongKind(Field::Format)),
         (
             r#"{"format":3,"format":1}"#,
@@ -344,6 +353,14 @@ fn prints_faults(rt: HostRuntime) -> Result<(), Fail> {
         (
             LeagueFault::WrongKind(Field::Rules),
             "league member rules is wrong",
+        ),
+        (
+            LeagueFault::WrongKind(Field::Start),
+            "league member start is wrong",
+        ),
+        (
+            LeagueFault::WrongKind(Field::Phased),
+            "league member phased is wrong",
         ),
         (LeagueFault::TeamCount, "team count must be even, 4 to 40"),
         (LeagueFault::DistanceShape, "distances are not n rows of n"),

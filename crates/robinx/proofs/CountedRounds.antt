@@ -51,6 +51,15 @@ unfolding games_of_team games_in_round
 together_by_teams g side teams opponents slots =
     sum_of_counts_swap g.teams (round_count g.teams) teams slots (is_counted g side opponents)
 
+-- the rounds up to one in which a team is at home
+pub home_rounds_until : (g : Games) (t round until homes both : ℕ) → round < round_count g.teams →
+    ((r : ℕ) → has until r ≡ nat_lt r (round + 1)) →
+    ((r : ℕ) → has homes r ≡ (nat_lt r (round_count g.teams) && is_home g t r)) →
+    ((r : ℕ) → has both r ≡ (has until r && has homes r)) → count_where (round + 1) (has both) ≡ count_where (round + 1) (is_home g t)
+home_rounds_until g t round until homes both in_season untils at_home members =
+    count_where_same (round + 1) (has both) (is_home g t)
+    (λ r below. members r ∙ rw (untils r, at_home r, lt-ltb r (round + 1) below, lt-ltb r (round_count g.teams) (omega arith)) refl)
+
 -- whether a team is on the same side as before, where turns are rounds such that it or the one before is at home, and away
 pub without_turn : (n r : ℕ) (at : ℕ → Bool) →
     ((nat_lt r n && not (nat_lt r 1)) &&

@@ -3,7 +3,8 @@ mod CountedRounds
 mod Filters
 pub mod ForCallers
 mod GameCounts
-pub mod Limits
+mod Largest
+mod Limits
 mod LookedPast
 mod Pairs
 pub mod Searches

@@ -8,12 +8,14 @@ use Rattle.league.specs.Sums.{sum_below, sum_where}
 use Rattle.league.specs.RuleLimits.{IsBodyFor}
 use Rattle.league.specs.declared.rule.Pairing.{Pairing}
 use Rattle.league.specs.declared.rule.RuleBody.{RuleBody}
-use Rattle.league.specs.declared.rule.RuleBody.TheVariants.{Ca1, Ca2, Ca3, Ca4, Ga1, Br1, Br2, Se1}
+use Rattle.league.specs.declared.rule.RuleBody.TheVariants.{Ca1, Ca2, Ca3, Ca4, Ga1, Br1, Br2, Se1, Fa2}
 use Rattle.league.specs.declared.rule.Side.{Side}
 use Rattle.league.specs.declared.rule.Side.TheVariants.{Any}
 use Rattle.league.proofs.ForCallers.{sum_below_le, sum_below_le_each, sum_where_le, count_where_le}
-use Rattle.fixtures.specs.Games.{Games, round_count, round_of}
+use Rattle.fixtures.specs.Games.{Games, round_count, round_of, is_home}
 use Rattle.robinx.specs.Deviations.{over, is_counted, games_of_team, games_in_window, games_in_round, is_break, breaks, rounds_between, listed_games_in, over_in_windows, short_pairs, deviation}
+use Rattle.robinx.specs.Deviations.{home_games, gap, worst_gap, worst_gaps}
+use Rattle.robinx.proofs.Largest.{largest_below_le}
 
 if_le : (b : Bool) (x most : ℕ) → x ≤ most → (if b then x else 0) ≤ most
 if_le true x most le = le
@@ -60,6 +62,28 @@ unfolding short_pairs
 short_pairs_le g teams least team few =
     sum_below_le team 10000 (λ other. if teams other && teams team then over least (rounds_between g other team) else 0)
     (λ other under. if_le (teams other && teams team) (over least (rounds_between g other team)) 10000 (omega arith))
+
+home_games_le : (g : Games) (team round : ℕ) → home_games g team round ≤ round + 1
+unfolding home_games
+home_games_le g team round = count_where_le (round + 1) (is_home g team)
+
+gap_le : (g : Games) (most i j round : ℕ) → gap g most i j round ≤ round + 1
+unfolding gap
+gap_le g most i j round = omega (arith, home_games_le g i round, home_games_le g j round)
+
+worst_gap_le : (g : Games) (slots : ℕ → Bool) (most i j : ℕ) → worst_gap g slots most i j ≤ round_count g.teams
+unfolding worst_gap
+worst_gap_le g slots most i j =
+    largest_below_le (round_count g.teams) (round_count g.teams) (λ r. if slots r then gap g most i j r else 0)
+    (λ r below. if_le (slots r) (gap g most i j r) (round_count g.teams) (omega (arith, gap_le g most i j r)))
+
+worst_gaps_le : (g : Games) (teams slots : ℕ → Bool) (most team : ℕ) → g.teams ≤ max_teams →
+    worst_gaps g teams slots most team ≤ team * 78
+unfolding worst_gaps
+worst_gaps_le g teams slots most team forty =
+    sum_below_le team 78 (λ other. if teams other && teams team then worst_gap g slots most other team else 0)
+    (λ other lower. if_le (teams other && teams team) (worst_gap g slots most other team) 78
+    (omega (arith, forty, worst_gap_le g slots most other team)))
 
 -- 10,000 for each pair below n, twice
 triangle : (n : ℕ) → 2 * sum_below n (λ t. t * 10000) ≤ n * (n * 10000)
@@ -136,4 +160,11 @@ deviation_below g (Se1 teams least) forty is =
       mul-le-mul forty (mul-le-mul_left 10000 forty),
       sum_below_le_each g.teams (short_pairs g (has teams) least) (λ t. t * 10000)
           (λ t under. short_pairs_le g (has teams) least t few),
+    )
+deviation_below g (Fa2 teams slots most) forty is =
+    omega (
+      arith,
+      forty,
+      sum_below_le g.teams 3120 (worst_gaps g (has teams) (has slots) most)
+          (λ t under. omega (arith, forty, under, worst_gaps_le g (has teams) (has slots) most t forty)),
     )

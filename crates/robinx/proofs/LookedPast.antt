@@ -9,9 +9,8 @@ use Rattle.league.specs.RuleLimits.{IsBodyFor}
 use Rattle.league.proofs.ForCallers.{any_below_fails}
 use Rattle.league.specs.declared.rule.Pairing.{Pairing}
 use Rattle.league.specs.declared.rule.RuleBody.{RuleBody}
-use Rattle.league.specs.declared.rule.RuleBody.TheVariants.{Ca1, Ca2, Ca3, Ca4, Ga1, Br1, Br2, Se1}
+use Rattle.league.specs.declared.rule.RuleBody.TheVariants.{Ca1, Ca2, Ca3, Ca4, Ga1, Br1, Br2, Se1, Fa2}
 use Rattle.league.specs.declared.rule.Side.TheVariants.{Any}
-use Rattle.fixtures.specs.declared.game.Cell.{Cell}
 use Rattle.fixtures.specs.Games.{Games, round_count, round_of, cell, is_home, IsPair, IsDoubleRoundRobin}
 use Rattle.fixtures.specs.Changes.{DiffersOnlyAround}
 use Rattle.fixtures.proofs.ForCallers.{is_cell}
@@ -19,7 +18,7 @@ use Rattle.robinx.specs.Deviations.{over, deviation}
 use Rattle.robinx.specs.Touches.{has_touched_team}
 use Rattle.robinx.specs.LooksPast.{AreApart, TakesAllOrNone, LooksPast, has_team_outside, has_game_of, takes_all_or_none, looks_past}
 use Rattle.fixtures.proofs.ForCallers.{round_of_kept_around}
-use Rattle.robinx.proofs.SeesSame.{SeesSame, SeesSameBreaks, limited-same, together-same, each-same, windows-same, breaks_of_each-same, breaks_of_all-same, separation-same, listed_games_in-same}
+use Rattle.robinx.proofs.SeesSame.{SeesSame, SeesSameBreaks, SeesSameUntil, limited-same, together-same, each-same, windows-same, breaks_of_each-same, breaks_of_all-same, separation-same, gaps-same, listed_games_in-same}
 
 module _ (g g' : Games) (rr : IsDoubleRoundRobin g) (rr' : IsDoubleRoundRobin g') (main rounds : ℕ → Bool) (differs : DiffersOnlyAround g g' main rounds) where
   -- each team is one of 40
@@ -59,6 +58,12 @@ module _ (g g' : Games) (rr : IsDoubleRoundRobin g) (rr' : IsDoubleRoundRobin g'
     same_size = differs.same_size;
     side = λ t r in_t in_r team slot. side_kept t r in_t in_r (apart t (forty t in_t) team);
     before = λ t r in_t in_r team slot. side_kept t (r - 1) in_t (omega arith) (apart t (forty t in_t) team);
+  }
+
+  SeesSameUntil-any : (teams slots : ℕ → Bool) → AreApart teams main → SeesSameUntil g g' teams slots
+  SeesSameUntil-any teams slots apart = record {
+    same_size = differs.same_size;
+    side = λ t r k in_t in_r team slot until. (differs.others t k in_t (omega arith) (apart t (forty t in_t) team)).same_side;
   }
 
   -- two teams that aren't main keep the rounds of their games
@@ -104,6 +109,8 @@ looked_past_deviation g g' main rounds (Se1 teams least) rr rr' is differs past 
     separation-same g g' (has teams) least differs.same_size
     (λ i j pair team other. round_kept g g' rr rr' main rounds differs i j pair
     (past i (forty g g' rr rr' main rounds differs i pair.home_in) team) (past j (forty g g' rr rr' main rounds differs j pair.away_in) other))
+looked_past_deviation g g' main rounds (Fa2 teams slots most) rr rr' is differs past =
+    gaps-same g g' (has teams) (has slots) (SeesSameUntil-any g g' rr rr' main rounds differs (has teams) (has slots) past) most
 
 -- the test
 
@@ -162,3 +169,4 @@ looks_past_tested teams (Ga1 games slots least most) past = others-tested teams 
 looks_past_tested teams (Br1 own side slots most) past = AreApart-tested own teams past
 looks_past_tested teams (Br2 own slots most) past = AreApart-tested own teams past
 looks_past_tested teams (Se1 own least) past = AreApart-tested own teams past
+looks_past_tested teams (Fa2 own slots most) past = AreApart-tested own teams past

@@ -1,13 +1,13 @@
 -- Loops that look in a set, or in a list of games, for one that passes a test.
 use Rattle.std.proofs.Common.{◌≡◌, ℕ, ◌+◌, ◌-◌, ◌&&◌, ◌||◌, ◌==◌, not, nat_lt, Bool, true, false, List, take, get_or, Some, refl, sym, ◌∙◌, ap, inl, inr, arith}
 use Rattle.std.specs.List.{slice_get, list_any}
-use Rattle.std.proofs.lemmas.Bool.{cases_eq, ne_eqb, and_from, or_from, lt-ltb, false≢true}
+use Rattle.std.proofs.lemmas.Bool.{cases_eq, ne_eqb, and_from, or_from, cases_lt, lt-ltb, le-ltb, and_right, false≢true}
 use Rattle.std.proofs.lemmas.List.Folds.{list_any_more, list_any_at}
 use Rattle.std.proofs.lemmas.Option.{slice_get_within, get_or_from_slice_get}
 use Rattle.league.specs.Sets.{has, IsBelow, IsWithoutLowest}
 use Rattle.league.specs.Sums.{any_below}
 use Rattle.league.proofs.ForCallers.{any_below_found, any_below_from_none, any_below_same, lowest_below, has_empty}
-use Rattle.robinx.specs.Touches.{has_touched_round, or_before}
+use Rattle.robinx.specs.Touches.{has_touched_round, has_touched_until, or_before}
 
 -- no number of the set that isn't left passes the test
 pub record NoneBefore (n set left : ℕ) (test : ℕ → Bool) : Type 0 where
@@ -78,6 +78,39 @@ touched_break slots around touched members =
     any_below_same 78 (λ r. has slots r && has around r) (λ r. has slots r && or_before touched r)
     (λ r below. ap (λ (b : Bool). has slots r && b)
     (members r ∙ ap (λ (b : Bool). b && (touched r || (not (r == 0) && touched (r - 1)))) (lt-ltb r 78 below)))
+
+-- a round up to one of the slots, where the first is the lowest touched one
+pub touched_until : (slots touched first rest from : ℕ) → IsWithoutLowest touched first rest →
+    ((r : ℕ) → has from r ≡ (nat_lt r 78 && not (nat_lt r first))) →
+    any_below 78 (λ r. has from r && has slots r) ≡ has_touched_until slots (has touched)
+unfolding has_touched_until
+touched_until slots touched first rest from taken members =
+    any_below_same 78 (λ r. has from r && has slots r) (λ r. has slots r && any_below (r + 1) (has touched))
+    (λ r below. ap (λ (b : Bool). b && has slots r) (members r ∙ ap (λ (b : Bool). b && not (nat_lt r first)) (lt-ltb r 78 below) ∙ since r) ∙
+    exchanged (any_below (r + 1) (has touched)) (has slots r))
+  where
+    since : (r : ℕ) → not (nat_lt r first) ≡ any_below (r + 1) (has touched)
+    since r = elim (cases_lt r first) [
+      | inl before ↦
+          ap not (lt-ltb r first before) ∙
+          sym (any_below_from_none (r + 1) (has touched) (λ k below. taken.is_lowest k (omega arith)))
+      | inr after ↦
+          ap not (le-ltb r first after) ∙ sym (any_below_found (r + 1) (has touched) first (omega arith) taken.in_set)
+    ]
+
+    exchanged : (a b : Bool) → (a && b) ≡ (b && a)
+    exchanged true true = refl
+    exchanged true false = refl
+    exchanged false true = refl
+    exchanged false false = refl
+
+-- no round is touched
+pub untouched_until : (slots touched : ℕ) → touched ≡ 0 → has_touched_until slots (has touched) ≡ false
+unfolding has_touched_until
+untouched_until slots touched none =
+    any_below_from_none 78 (λ r. has slots r && any_below (r + 1) (has touched))
+    (λ r below. and_right (has slots r) (any_below (r + 1) (has touched))
+    (any_below_from_none (r + 1) (has touched) (λ k k_below. ap (λ s. has s k) none ∙ has_empty k)))
 
 -- the same for a list, by its index
 

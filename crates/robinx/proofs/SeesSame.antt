@@ -8,8 +8,10 @@ use Rattle.league.specs.Sums.{sum_below, sum_where, count_where}
 use Rattle.league.specs.declared.rule.Pairing.{Pairing}
 use Rattle.league.specs.declared.rule.Side.{Side}
 use Rattle.league.proofs.ForCallers.{sum_below_same, sum_where_same, count_where_same}
-use Rattle.fixtures.specs.Games.{Games, round_count, round_of, cell, IsPair}
+use Rattle.fixtures.specs.Games.{Games, round_count, round_of, cell, is_home, IsPair}
 use Rattle.robinx.specs.Deviations.{over, is_on_side, is_counted, games_of_team, games_in_window, games_in_round, is_break, breaks, rounds_between, listed_games_in, over_in_windows, short_pairs}
+use Rattle.robinx.specs.Deviations.{home_games, largest_below, gap, worst_gap, worst_gaps}
+use Rattle.robinx.proofs.Largest.{largest_below_same}
 
 -- each of the teams is on the same side in each of the rounds, against an opponent that passes the test in both
 -- schedules or in neither
@@ -28,9 +30,19 @@ pub record SeesSameBreaks (g g' : Games) (teams slots : ℕ → Bool) : Type 0 w
   pub before : (t r : ℕ) → t < g.teams → r < round_count g.teams → teams t ≡ true → slots r ≡ true →
       (cell g' t (r - 1)).home ≡ (cell g t (r - 1)).home
 
+-- each of the teams is on the same side in each round up to one of the slots
+pub record SeesSameUntil (g g' : Games) (teams slots : ℕ → Bool) : Type 0 where
+  pub same_size : g'.teams ≡ g.teams
+  pub side : (t r k : ℕ) → t < g.teams → r < round_count g.teams → teams t ≡ true → slots r ≡ true → k < r + 1 →
+      is_home g' t k ≡ is_home g t k
+
 and_same : (b x y : Bool) → (b ≡ true → x ≡ y) → (b && x) ≡ (b && y)
 and_same true x y same = same refl
 and_same false x y same = refl
+
+if_same : (b : Bool) (x y : ℕ) → (b ≡ true → x ≡ y) → (if b then x else 0) ≡ (if b then y else 0)
+if_same true x y same = same refl
+if_same false x y same = refl
 
 -- sums and counts below the teams, or the rounds, of schedules of one size
 
@@ -146,6 +158,36 @@ module _ (g g' : Games) (teams slots : ℕ → Bool) (sees : SeesSameBreaks g g'
   breaks_of_all-same side most =
       ap (λ (count : ℕ). over count most)
       (sum_where_sized g'.teams g.teams teams _ _ sees.same_size (breaks-same side))
+
+module _ (g g' : Games) (teams slots : ℕ → Bool) (sees : SeesSameUntil g g' teams slots) where
+  home_games-same : (t r : ℕ) → t < g.teams → r < round_count g.teams → teams t ≡ true → slots r ≡ true →
+      home_games g' t r ≡ home_games g t r
+  unfolding home_games
+  home_games-same t r in_t in_r team slot =
+      count_where_same (r + 1) (is_home g' t) (is_home g t) (λ k below. sees.side t r k in_t in_r team slot below)
+
+  gap-same : (most i j r : ℕ) → i < g.teams → j < g.teams → r < round_count g.teams → teams i ≡ true → teams j ≡ true →
+      slots r ≡ true → gap g' most i j r ≡ gap g most i j r
+  unfolding gap
+  gap-same most i j r in_i in_j in_r team other slot =
+      rw (home_games-same i r in_i in_r team slot, home_games-same j r in_j in_r other slot) refl
+
+  worst_gap-same : (most i j : ℕ) → i < g.teams → j < g.teams → teams i ≡ true → teams j ≡ true →
+      worst_gap g' slots most i j ≡ worst_gap g slots most i j
+  unfolding worst_gap
+  worst_gap-same most i j in_i in_j team other =
+      ap (λ (n : ℕ). largest_below n (λ r. if slots r then gap g' most i j r else 0)) (ap round_count sees.same_size) ∙
+      largest_below_same (round_count g.teams) (λ r. if slots r then gap g' most i j r else 0)
+      (λ r. if slots r then gap g most i j r else 0)
+      (λ r in_r. if_same (slots r) _ _ (gap-same most i j r in_i in_j in_r team other))
+
+  pub gaps-same : (most : ℕ) → sum_below g'.teams (worst_gaps g' teams slots most) ≡ sum_below g.teams (worst_gaps g teams slots most)
+  unfolding worst_gaps
+  gaps-same most =
+      sum_below_sized g'.teams g.teams _ _ sees.same_size
+      (λ j in_j. sum_where_same j (λ i. teams i && teams j) (λ i. teams i && teams j) _ _ (λ i lower. refl)
+      (λ i lower both.
+      let parts = and_parts (teams i) (teams j) both in worst_gap-same most i j (omega arith) in_j parts.0 parts.1))
 
 -- where the games of each two of the teams keep their rounds
 pub separation-same : (g g' : Games) (teams : ℕ → Bool) (least : ℕ) → g'.teams ≡ g.teams →

@@ -8,16 +8,16 @@ use Rattle.league.specs.Games.{IsGameFor}
 use Rattle.league.specs.RuleLimits.{IsBodyFor}
 use Rattle.league.specs.declared.rule.Pairing.{Pairing}
 use Rattle.league.specs.declared.rule.RuleBody.{RuleBody}
-use Rattle.league.specs.declared.rule.RuleBody.TheVariants.{Ca1, Ca2, Ca3, Ca4, Ga1, Br1, Br2, Se1}
+use Rattle.league.specs.declared.rule.RuleBody.TheVariants.{Ca1, Ca2, Ca3, Ca4, Ga1, Br1, Br2, Se1, Fa2}
 use Rattle.league.specs.declared.rule.Side.TheVariants.{Any}
 use Rattle.league.proofs.ForCallers.{any_below_fails}
 use Rattle.fixtures.specs.declared.game.Cell.{Cell}
-use Rattle.fixtures.specs.Games.{Games, round_count, round_of, cell, IsPair, IsDoubleRoundRobin}
+use Rattle.fixtures.specs.Games.{Games, round_count, round_of, cell, is_home, IsPair, IsDoubleRoundRobin}
 use Rattle.fixtures.specs.Changes.{DiffersOnlyIn}
 use Rattle.robinx.specs.Deviations.{over, deviation}
-use Rattle.robinx.specs.Touches.{has_touched_team, has_touched_slot, has_touched_round, has_touched_game, or_before, touches}
+use Rattle.robinx.specs.Touches.{has_touched_team, has_touched_slot, has_touched_round, has_touched_game, has_touched_until, or_before, touches}
 use Rattle.fixtures.proofs.ForCallers.{round_of_kept}
-use Rattle.robinx.proofs.SeesSame.{SeesSame, SeesSameBreaks, limited-same, together-same, each-same, windows-same, breaks_of_each-same, breaks_of_all-same, separation-same, listed_games_in-same}
+use Rattle.robinx.proofs.SeesSame.{SeesSame, SeesSameBreaks, SeesSameUntil, limited-same, together-same, each-same, windows-same, breaks_of_each-same, breaks_of_all-same, separation-same, gaps-same, listed_games_in-same}
 
 other_fails : (p q : Bool) → (p && q) ≡ false → p ≡ true → q ≡ false
 other_fails p q fails passes = elim (and_cases p q fails) [ inl fails_here ↦ absurd (false≢true (sym fails_here ∙ passes)) | inr fails_there ↦ fails_there ]
@@ -112,6 +112,23 @@ module _ (g g' : Games) (rr : IsDoubleRoundRobin g) (in_teams in_rounds : ℕ �
     before = λ t r in_t in_r team slot. ap (λ (c : Cell). c.home) (stays_around teams slots untouched t r in_t in_r team slot).1;
   }
 
+  -- the cells of a rule's teams stay up to its slots
+  SeesSameUntil-slots : (teams slots : ℕ) → (has_touched_team teams in_teams && has_touched_until slots in_rounds) ≡ false →
+      SeesSameUntil g g' (has teams) (has slots)
+  unfolding has_touched_team has_touched_until is_home
+  SeesSameUntil-slots teams slots untouched = record {
+    same_size = differs.same_size;
+    side = λ t r k in_t in_r team slot until.
+        ap (λ (c : Cell). c.home) (differs.same_cells t k in_t (omega arith) (one_fails t r k until
+        (not_both 40 78 (has teams) in_teams (has slots) (λ r. any_below (r + 1) in_rounds) untouched t r (omega (arith, rr.forty)) (omega (arith, rr.forty)) team slot)));
+  }
+    where
+      one_fails : (t r k : ℕ) → k < r + 1 → (in_teams t && any_below (r + 1) in_rounds) ≡ false → (in_teams t && in_rounds k) ≡ false
+      one_fails t r k until neither = elim (and_cases (in_teams t) (any_below (r + 1) in_rounds) neither) [
+        | inl fails_here ↦ fails_left (in_teams t) (in_rounds k) fails_here
+        | inr none ↦ fails_right (in_teams t) (in_rounds k) (any_below_fails (r + 1) in_rounds none k until)
+      ]
+
   -- each two teams of a rule keep the rounds of their games
   rounds_kept : IsDoubleRoundRobin g' → (teams : ℕ) → (has_touched_team teams in_teams && has_touched_round in_rounds) ≡ false →
       (i j : ℕ) → IsPair g.teams i j → has teams i ≡ true → has teams j ≡ true → round_of g' i j ≡ round_of g i j
@@ -198,3 +215,5 @@ untouched_deviation g g' in_teams in_rounds (Br2 teams slots most) rr rr' is dif
     breaks_of_all-same g g' (has teams) (has slots) (SeesSameBreaks-slots g g' rr in_teams in_rounds differs teams slots untouched) Any most
 untouched_deviation g g' in_teams in_rounds (Se1 teams least) rr rr' is differs untouched =
     separation-same g g' (has teams) least differs.same_size (rounds_kept g g' rr in_teams in_rounds differs rr' teams untouched)
+untouched_deviation g g' in_teams in_rounds (Fa2 teams slots most) rr rr' is differs untouched =
+    gaps-same g g' (has teams) (has slots) (SeesSameUntil-slots g g' rr in_teams in_rounds differs teams slots untouched) most

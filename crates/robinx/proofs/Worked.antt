@@ -4,12 +4,13 @@ use Rattle.std.proofs.Common.{◌≡◌, ℕ, ◌-◌, true, false, List, [], �
 use Rattle.league.specs.Sets.{has, with_number}
 use Rattle.league.specs.Sums.{sum_below}
 use Rattle.league.specs.declared.rule.RuleBody.{RuleBody}
-use Rattle.league.specs.declared.rule.RuleBody.TheVariants.{Ca1, Ca2, Ca3, Ca4, Ga1, Br1, Br2, Se1}
+use Rattle.league.specs.declared.rule.RuleBody.TheVariants.{Ca1, Ca2, Ca3, Ca4, Ga1, Br1, Br2, Se1, Fa2}
 use Rattle.league.specs.declared.rule.Side.TheVariants.{Home, Away, Any}
-use Rattle.fixtures.specs.Games.{Games}
-use Rattle.fixtures.specs.Berger.{berger_games}
+use Rattle.fixtures.specs.Games.{Games, is_home}
+use Rattle.fixtures.specs.Berger.{berger_games, fide_games}
 use Rattle.fixtures.specs.Edits.{homes_exchanged}
 use Rattle.robinx.specs.Deviations.{is_counted, games_of_team, games_in_window, games_in_round, is_break, breaks, rounds_between, listed_games_in, over_in_windows, short_pairs, deviation}
+use Rattle.robinx.specs.Deviations.{home_games, largest_below, gap, worst_gap, worst_gaps}
 
 start : Games
 start = berger_games 4
@@ -72,3 +73,21 @@ breaks_of_start = refl
 no_break_in_the_first_round : breaks start 0 (has (set (1 ∷ []))) Any ≡ 0
 unfolding with_number sum_below is_break breaks start
 no_break_in_the_first_round = refl
+
+-- home games in step: at most one apart
+in_step : List ℕ → RuleBody
+in_step teams = Fa2 (set teams) all_rounds 1
+
+-- the first and the third team are two apart after round 1
+home_games_of_start : map (deviation start) (in_step (1 ∷ 2 ∷ 3 ∷ 4 ∷ []) ∷ in_step (1 ∷ 3 ∷ []) ∷ []) ≡ 1 ∷ 1 ∷ []
+unfolding with_number sum_below is_home home_games largest_below gap worst_gap worst_gaps deviation start in_step
+home_games_of_start = refl
+
+-- the second and the fourth
+home_games_of_fide_start : map (deviation (fide_games 4)) (in_step (1 ∷ 2 ∷ 3 ∷ 4 ∷ []) ∷ in_step (2 ∷ 4 ∷ []) ∷ []) ≡ 1 ∷ 1 ∷ []
+unfolding with_number sum_below is_home home_games largest_below gap worst_gap worst_gaps deviation in_step
+home_games_of_fide_start = refl
+
+home_games_after_exchange : deviation exchanged (in_step (1 ∷ 2 ∷ 3 ∷ 4 ∷ [])) ≡ 3
+unfolding with_number sum_below is_home home_games largest_below gap worst_gap worst_gaps deviation start exchanged in_step
+home_games_after_exchange = refl

@@ -1,14 +1,15 @@
 -- How far a schedule is from each rule. Teams and rounds are numbered from 0.
-use Rattle.std.specs.Prelude.{ℕ, ◌+◌, ◌-◌, ◌&&◌, ◌==◌, not, Bool, true, false, List, count_by, min, max, if◌then◌else◌}
+use Rattle.std.specs.Prelude.{ℕ, zero, suc, ◌+◌, ◌-◌, ◌&&◌, ◌==◌, not, Bool, true, false, List, count_by, min, max, if◌then◌else◌}
 use Rattle.std.specs.Bool.{beq}
+use Rattle.std.specs.Int.{abs_diff}
 use Rattle.league.specs.Sets.{has}
 use Rattle.league.specs.Sums.{sum_below, sum_where, count_where}
 use Rattle.league.specs.declared.rule.Pairing.{Pairing}
 use Rattle.league.specs.declared.rule.RuleBody.{RuleBody}
-use Rattle.league.specs.declared.rule.RuleBody.TheVariants.{Ca1, Ca2, Ca3, Ca4, Ga1, Br1, Br2, Se1}
+use Rattle.league.specs.declared.rule.RuleBody.TheVariants.{Ca1, Ca2, Ca3, Ca4, Ga1, Br1, Br2, Se1, Fa2}
 use Rattle.league.specs.declared.rule.Side.{Side}
 use Rattle.league.specs.declared.rule.Side.TheVariants.{Home, Away, Any}
-use Rattle.fixtures.specs.Games.{Games, round_count, round_of, cell}
+use Rattle.fixtures.specs.Games.{Games, round_count, round_of, cell, is_home}
 
 -- by how much x is over the most
 abbrev pub over : ℕ → ℕ → ℕ
@@ -68,6 +69,28 @@ unfoldable pub short_pairs : Games → (ℕ → Bool) → ℕ → ℕ → ℕ
 short_pairs g teams least team =
     sum_below team (λ other. if teams other && teams team then over least (rounds_between g other team) else 0)
 
+-- the home games of a team up to and with a round
+unfoldable pub home_games : Games → ℕ → ℕ → ℕ
+home_games g team round = count_where (round + 1) (is_home g team)
+
+-- the largest value at a number below n, or 0
+unfoldable pub largest_below : ℕ → (ℕ → ℕ) → ℕ
+largest_below zero f = 0
+largest_below (suc n) f = max (largest_below n f) (f n)
+
+-- by how much two teams' numbers of home games up to and with a round are apart over the most
+unfoldable pub gap : Games → ℕ → ℕ → ℕ → ℕ → ℕ
+gap g most i j round = over (abs_diff (home_games g i round) (home_games g j round)) most
+
+-- the largest gap of two teams in the slots, or 0 where there is no slot
+unfoldable pub worst_gap : Games → (ℕ → Bool) → ℕ → ℕ → ℕ → ℕ
+worst_gap g slots most i j = largest_below (round_count g.teams) (λ r. if slots r then gap g most i j r else 0)
+
+-- the worst gaps of a team and of each lower team
+unfoldable pub worst_gaps : Games → (ℕ → Bool) → (ℕ → Bool) → ℕ → ℕ → ℕ
+worst_gaps g teams slots most team =
+    sum_below team (λ other. if teams other && teams team then worst_gap g slots most other team else 0)
+
 -- the deviation of a schedule from a rule
 unfoldable pub deviation : Games → RuleBody → ℕ
 deviation g (Ca1 teams side slots most) =
@@ -88,3 +111,5 @@ deviation g (Br2 teams slots most) =
     over (sum_where g.teams (has teams) (λ t. breaks g t (has slots) Any)) most
 deviation g (Se1 teams least) =
     sum_below g.teams (short_pairs g (has teams) least)
+deviation g (Fa2 teams slots most) =
+    sum_below g.teams (worst_gaps g (has teams) (has slots) most)

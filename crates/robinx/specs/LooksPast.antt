@@ -7,7 +7,7 @@ use Rattle.league.specs.Sets.{has}
 use Rattle.league.specs.Sums.{any_below}
 use Rattle.league.specs.declared.rule.Pairing.{Pairing}
 use Rattle.league.specs.declared.rule.RuleBody.{RuleBody}
-use Rattle.league.specs.declared.rule.RuleBody.TheVariants.{Ca1, Ca2, Ca3, Ca4, Ga1, Br1, Br2, Se1}
+use Rattle.league.specs.declared.rule.RuleBody.TheVariants.{Ca1, Ca2, Ca3, Ca4, Ga1, Br1, Br2, Se1, Fa2}
 use Rattle.robinx.specs.Touches.{has_touched_team}
 
 -- no team passes both
@@ -30,6 +30,7 @@ LooksPast teams (Br2 t slots most) = AreApart (has t) teams
 LooksPast teams (Ga1 games slots least most) =
     AllByRecursion (λ (game : Pairing). (teams game.home ≡ false) × (teams game.away ≡ false)) games
 LooksPast teams (Se1 t least) = AreApart (has t) teams
+LooksPast teams (Fa2 t slots most) = AreApart (has t) teams
 
 -- The test of it, by searches.
 
@@ -58,3 +59,4 @@ looks_past teams (Br1 t side slots most) = not (has_touched_team t (has teams))
 looks_past teams (Br2 t slots most) = not (has_touched_team t (has teams))
 looks_past teams (Ga1 games slots least most) = not (has_game_of games (has teams))
 looks_past teams (Se1 t least) = not (has_touched_team t (has teams))
+looks_past teams (Fa2 t slots most) = not (has_touched_team t (has teams))

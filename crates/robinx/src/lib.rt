@@ -8,6 +8,7 @@ mod break_rules;
 mod capacity_rules;
 mod counts;
 mod deviations;
+mod fairness_rules;
 mod game_rules;
 mod laws;
 mod passed_rules;

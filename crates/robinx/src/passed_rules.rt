@@ -29,6 +29,7 @@ pub fn looks_past(rule: &Rule, changed: TeamSet) -> bool
         RuleBody::Br1 { teams, .. } => !teams.meets(changed),
         RuleBody::Br2 { teams, .. } => !teams.meets(changed),
         RuleBody::Se1 { teams, .. } => !teams.meets(changed),
+        RuleBody::Fa2 { teams, .. } => !teams.meets(changed),
     }
 }
 

@@ -7,6 +7,8 @@ use std::alloc::Global;
 use std::process::Abort;
 use std::test::Fail;
 
+mod home_games;
+
 /// Rules, each with the deviation that is expected of a schedule. In a rule teams and rounds count from 1.
 type Expected = &'static [(&'static str, u64)];
 
@@ -210,6 +212,14 @@ const TOUCHED: &[(&str, &str)] = &[
         r#""class":"SE1","teams":[1,2],"min":1"#,
         r#""class":"SE1","teams":[2,3],"min":1"#,
     ),
+    (
+        r#""class":"FA2","teams":[1,3],"slots":[3],"intp":0"#,
+        r#""class":"FA2","teams":[1,3],"slots":[1],"intp":0"#,
+    ),
+    (
+        r#""class":"FA2","teams":[1,3],"slots":[1,2],"intp":0"#,
+        r#""class":"FA2","teams":[2,3],"slots":[1,2],"intp":0"#,
+    ),
 ];
 
 /// The first rule of each pair looks past teams 1 and 2, and the second doesn't.
@@ -246,6 +256,10 @@ const PASSED: &[(&str, &str)] = &[
         r#""class":"SE1","teams":[3,4],"min":1"#,
         r#""class":"SE1","teams":[1,3],"min":1"#,
     ),
+    (
+        r#""class":"FA2","teams":[3,4],"intp":1"#,
+        r#""class":"FA2","teams":[1,3],"intp":1"#,
+    ),
 ];
 
 /// The JSON array of so many copies of an item.
@@ -265,7 +279,7 @@ fn league_with(alloc: Global, teams: u8, rule: &str) -> Result<League, Fail> {
     let row = array_of(alloc, teams, "0")?;
     let distances = array_of(alloc, teams, &row)?;
     let text = format!(in alloc;
-        "{{\"format\":1,\"teams\":{names},\"distances\":{distances},\"rules\":[{{\"kind\":\"hard\",{rule}}}]}}"
+        "{{\"format\":2,\"teams\":{names},\"distances\":{distances},\"rules\":[{{\"kind\":\"hard\",{rule}}}]}}"
     )?;
     Ok(read_league(alloc, text.as_bytes())?)
 }

@@ -2,7 +2,8 @@
 
 ghost use Rattle.std.specs.Prelude.{◌≡◌};
 ghost use Rattle.league.specs.Sets.{has};
-ghost use Rattle.robinx.specs.Touches.{has_touched_slot, has_touched_round, has_touched_game, or_before, touches};
+ghost use Rattle.robinx.specs.Touches.{has_touched_slot, has_touched_round, has_touched_game, has_touched_until};
+ghost use Rattle.robinx.specs.Touches.{or_before, touches};
 
 use fixtures::Touched;
 use league::limits::MAX_ROUNDS;
@@ -40,6 +41,9 @@ pub fn touches(rule: &Rule, touched: Touched) -> bool
         RuleBody::Se1 { teams, .. } => {
             teams.meets(touched.teams) && has_touched_round(touched.rounds)
         }
+        RuleBody::Fa2 { teams, slots, .. } => {
+            teams.meets(touched.teams) && has_touched_until(*slots, touched.rounds)
+        }
     }
 }
 
@@ -57,6 +61,19 @@ fn has_touched_break(slots: SlotSet, touched: SlotSet) -> bool
     ensures { result ≡ has_touched_slot slots (or_before (has touched)) }
 {
     slots.meets(touched.with_next_below(MAX_ROUNDS))
+}
+
+/// Whether a round up to one of the slots is touched: where one of the slots isn't before the first touched round.
+fn has_touched_until(slots: SlotSet, touched: SlotSet) -> bool
+    ensures { result ≡ has_touched_until slots (has touched) }
+{
+    match touched.into_iter().next() {
+        Some(first) => {
+            let earlier = SlotSet::below(first);
+            SlotSet::below(MAX_ROUNDS).difference(earlier).meets(slots)
+        }
+        None => false,
+    }
 }
 
 /// Whether the home team of one of the games is touched.

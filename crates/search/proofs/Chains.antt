@@ -10,7 +10,15 @@ use native.Mathlib.Decide.{ℕ_discrete}
 use Rattle.shared_board.specs.Seats.{BoardId, SeatValue, IsNew}
 use Rattle.shared_board.specs.Setting.{Setting}
 use Rattle.search.specs.declared.runs.threads.Job.{Job}
-use Rattle.search.specs.Crews.{IsChain, IsFresh, IsJob, job_number}
+use Rattle.search.specs.Crews.{IsFresh, IsJob, job_number}
+
+-- the seats of the jobs are fresh, and their numbers rise up to that of the run's own, which is fresh too
+pub record IsChain (table : BoardId) (setting : Setting) (jobs : List Job) (seat : SeatValue) : Type 0 where
+  pub fresh : IsFresh table seat
+  pub setting_is : seat.setting ≡ setting
+  pub jobs_are : All (IsJob table) jobs
+  pub rising : IsStrictlyIncreasing (map job_number jobs)
+  pub below : All (λ n. n < seat.number) (map job_number jobs)
 
 increasing_push : (ns : List ℕ) (n : ℕ) → IsStrictlyIncreasing ns → All (λ m. m < n) ns → IsStrictlyIncreasing (ns ++ n ∷ [])
 increasing_push ns n was below k within =

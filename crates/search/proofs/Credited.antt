@@ -1,5 +1,6 @@
 -- What the run's seat knows of the entries of the seats that it took in.
 use Rattle.std.proofs.Common.{◌≡◌, ℕ, Bool, true, List, [], ◌∷◌, ◌++◌, Vec, map, refl, sym, ap, ◌∙◌, subst, arith, append_assoc}
+use Rattle.std.specs.List.{All}
 use Rattle.std.specs.List.Sorted.{IsStrictlyIncreasing}
 use Rattle.std.specs.declared.alloc.Global.{Global}
 use Rattle.std.specs.declared.thread.PromisedHandle.{PromisedHandle}
@@ -16,10 +17,20 @@ use Rattle.search.specs.declared.runs.threads.Ended.{Ended}
 use Rattle.search.specs.declared.runs.threads.Given.{Given}
 use Rattle.search.specs.declared.runs.threads.Job.{Job}
 use Rattle.search.specs.declared.workers.Report.{Report}
-use Rattle.search.specs.Crews.{AreStarted, IsBack, IsGathered, IsHandle, handle_number, job_number}
+use Rattle.search.specs.Crews.{AreStarted, IsBack, IsHandle, handle_number, job_number}
 use Rattle.search.specs.Outcomes.{Credits, accepted_of, made_by}
 use Rattle.search.specs.Reports.{IsReport}
 use Rattle.search.proofs.SeatLaws.{under_known}
+
+-- What was taken in of the threads: their numbers, and their reports, each with as many accepted proposals as there are
+-- entries under its number
+pub record IsGathered (steps : ℕ) (table : BoardId) (was seat : SeatValue)
+    (done : List (PromisedHandle Ended Given)) (reports : List Report) : Type 0 where
+  pub table_is : seat.table ≡ table
+  pub setting : seat.setting ≡ was.setting
+  pub held : seat.held ≡ was.held ++ map handle_number done
+  pub each : All (IsReport steps) reports
+  pub credits : map (λ n. made_by n seat.seen) (map handle_number done) ≡ map accepted_of reports
 
 -- entries under none of the numbers change none of their counts
 unmoved : (ns : List ℕ) (seen after : List Entry) → under ns after ≡ 0 → map (λ n. made_by n (seen ++ after)) ns ≡ map (λ n. made_by n seen) ns

@@ -1,18 +1,15 @@
 -- The parts of a run, as its own functions hand them on: memory, seats, jobs and threads.
-use Rattle.std.specs.Prelude.{◌≡◌, ℕ, ◌+◌, ◌<◌, ◌≤◌, List, [], ◌∷◌, ◌++◌, Bool, IsTrue, map, All, Vec, vec_len, vec_capacity}
+use Rattle.std.specs.Prelude.{◌≡◌, ℕ, ◌+◌, ◌≤◌, [], ◌∷◌, Bool, IsTrue, map, All, Vec, vec_len, vec_capacity}
 use Rattle.std.specs.declared.alloc.Global.{Global}
-use Rattle.std.specs.List.Sorted.{IsStrictlyIncreasing}
 use Rattle.std.specs.declared.thread.PromisedHandle.{PromisedHandle}
 use Rattle.shared_board.specs.Held.{under}
 use Rattle.shared_board.specs.Seats.{BoardId, SeatValue}
-use Rattle.shared_board.specs.Setting.{Setting}
 use Rattle.search.specs.declared.workers.Report.{Report}
 use Rattle.search.specs.declared.runs.crew.Crew.{Crew}
 use Rattle.search.specs.declared.runs.threads.Job.{Job}
 use Rattle.search.specs.declared.runs.threads.Ended.{Ended}
 use Rattle.search.specs.declared.runs.threads.Given.{Given}
 use Rattle.search.specs.Reports.{IsReport}
-use Rattle.search.specs.Outcomes.{accepted_of, made_by}
 
 -- a copy for each worker, and room for its job, its thread and its report
 pub record HasRoom (workers : ℕ) (c : Crew) : Type 0 where
@@ -36,14 +33,6 @@ IsJob table j = IsFresh table j.seat
 
 abbrev pub job_number : Job → ℕ
 job_number j = j.seat.number
-
--- the seats of the jobs are fresh, and their numbers rise up to that of the run's own, which is fresh too
-pub record IsChain (table : BoardId) (setting : Setting) (jobs : List Job) (seat : SeatValue) : Type 0 where
-  pub fresh : IsFresh table seat
-  pub setting_is : seat.setting ≡ setting
-  pub jobs_are : All (IsJob table) jobs
-  pub rising : IsStrictlyIncreasing (map job_number jobs)
-  pub below : All (λ n. n < seat.number) (map job_number jobs)
 
 -- a thread that takes so many steps at most, by a fresh seat
 abbrev pub IsHandle : ℕ → BoardId → PromisedHandle Ended Given → Type 0
@@ -70,12 +59,3 @@ pub record IsBack (steps : ℕ) (given : SeatValue) (report : Report) (seat : Se
   pub table : given.table ≡ seat.table
   pub held : given.held ≡ seat.held
   pub counted : under seat.held seat.seen ≡ under given.held given.seen + report.accepted
-
--- What was taken in of the threads: their numbers, and their reports, each with as many accepted proposals as there are
--- entries under its number
-pub record IsGathered (steps : ℕ) (table : BoardId) (was seat : SeatValue) (done : List (PromisedHandle Ended Given)) (reports : List Report) : Type 0 where
-  pub table_is : seat.table ≡ table
-  pub setting : seat.setting ≡ was.setting
-  pub held : seat.held ≡ was.held ++ map handle_number done
-  pub each : All (IsReport steps) reports
-  pub credits : map (λ n. made_by n seat.seen) (map handle_number done) ≡ map accepted_of reports

@@ -1,5 +1,5 @@
 -- The steps of a worker.
-use Rattle.std.specs.Prelude.{◌≡◌, ℕ, ◌-◌, ◌*◌, ◌/◌}
+use Rattle.std.specs.Prelude.{◌≡◌, ℕ, ◌+◌, ◌-◌, ◌*◌, ◌/◌, ◌^◌, ◌==◌, min, if◌then◌else◌, Option, Some, None}
 use Rattle.league.specs.League.{LeagueData}
 use Rattle.fixtures.specs.Games.{Games}
 use Rattle.fixture_board.specs.declared.cost.Cost.{Cost}
@@ -14,9 +14,18 @@ slack_of slack steps s = slack * (steps - s) / steps
 -- how many of its proposals a step had accepted
 abbrev pub accepted_count : Told → ℕ
 accepted_count Nothing = 0
-accepted_count Accepted = 1
+accepted_count (Accepted cost) = 1
 accepted_count Refused = 0
 accepted_count Full = 0
+
+-- the lesser of a total and one more
+abbrev pub lesser : Option ℕ → ℕ → ℕ
+lesser None total = total
+lesser (Some least) total = min least total
+
+-- the least total of feasible versions, with one more version's cost. A total stops at the greatest `u64`
+abbrev pub least_with : Option ℕ → Cost → Option ℕ
+least_with least cost = if cost.hard == 0 then Some (lesser least (min (cost.travel + cost.soft) (2 ^ 64 - 1))) else least
 
 -- the cost and the score of the copy
 pub record IsKnown (league : LeagueData) (copy : Games) (cost : Cost) (score : ℕ) : Type 0 where

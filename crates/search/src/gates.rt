@@ -1,6 +1,17 @@
-//! Gates: what stands before and after each proposal of a worker.
+//! Gates: what stands before and after each proposal of a worker, and is told how far the workers are.
 
 use std::sync::Wait;
+
+/// How far a worker is.
+#[derive(Clone, Copy)]
+pub struct Progress {
+    /// How many steps it took since it last told.
+    pub steps: u32,
+    /// The board's version that its copy is of.
+    pub version: u64,
+    /// The least total of the feasible ones among the version that it looked at first and those that it made.
+    pub least: Option<u64>,
+}
 
 /// Is passed by a worker at each proposal. Workers are numbered from 0, and `made` counts the proposals that this one
 /// made before. A gate may hold a worker up.
@@ -10,6 +21,12 @@ pub trait Gate {
 
     /// After its reply.
     fn left<R: Wait>(&self, rt: &R, worker: u32, made: u32);
+
+    /// After each 4,096 steps of the worker.
+    fn told<R: Wait>(&self, _rt: &R, _worker: u32, _progress: Progress) {}
+
+    /// When all workers of a run have ended.
+    fn ended<R: Wait>(&self, _rt: &R) {}
 }
 
 /// Holds nobody up.

@@ -14,6 +14,6 @@ mod workers;
 
 pub use doors::{Door, LockedDoor, OwnDoor, SeatDoor};
 pub use draws::draw;
-pub use gates::{Gate, NoGate};
+pub use gates::{Gate, NoGate, Progress};
 pub use runs::{MAX_WORKERS, Outcome, Reports, RunFault, RunRefused, SearchPlan, run, run_with};
 pub use workers::{Report, WorkerPlan, worker};

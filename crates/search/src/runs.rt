@@ -178,6 +178,7 @@ fn search<R: Threads + Wait + Sync, G: Gate + Sync>(
     };
     let (all, handles) = launch(rt, &shared, gate, league, plan, jobs, handles);
     let reports = gather(rt, &shared, &mut seat, handles, reports, plan.steps);
+    gate.ended(rt);
     let closed = shared.close(rt, seat);
     if !all {
         let why = RunFault::Spawn;

@@ -4,16 +4,20 @@ ghost use Rattle.std.specs.Prelude.{◌≡◌, [], IfOk};
 
 mod doors;
 mod memory;
+mod phased;
 mod recorder;
 mod runs;
 mod steps;
+mod telling;
+mod values;
 
 use crate::draw;
-use fixture_board::Board;
+use fixture_board::{Board, Cost, Entry};
 use league::circular;
 use moves::Move;
 use rand_pcg::Lcg64Xsh32;
 use std::alloc::Global;
+use std::process::Abort;
 use std::test::Fail;
 
 /// A new board of a league in a circle.
@@ -21,6 +25,19 @@ fn board(alloc: Global, teams: u8, room: u32) -> Result<Board, Fail>
     ensures { IfOk result (λ b. b.history ≡ []) }
 {
     Ok(Board::new(alloc, circular(alloc, teams)?, room)?)
+}
+
+/// The board's last entry is this one, and it travels 90 without a breach.
+fn check_end(rt: &impl Abort, board: &Board, version: u64, last: Entry) {
+    assert!(rt; 0 < version);
+    assert!(rt; board.version() == version);
+    assert_eq!(rt; board.entry(version - 1), last);
+    let cost = Cost {
+        travel: 90,
+        hard: 0,
+        soft: 0,
+    };
+    assert_eq!(rt; board.cost(), cost);
 }
 
 /// The expected moves are those of `scripts/worker-steps`, a program written apart from the definitions of PCG-XSH-RR 64/32

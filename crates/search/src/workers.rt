@@ -6,12 +6,15 @@ ghost use Rattle.search.specs.Steps.{slack_of};
 
 mod steps;
 
-use crate::{Door, Gate, draw};
+use crate::{Door, Gate, Progress, draw};
 use fixtures::Schedule;
 use league::League;
 use rand_pcg::Lcg64Xsh32;
 use std::sync::Wait;
-use steps::{Told, Trial, refresh, step};
+use steps::{Told, Trial, least_with, refresh, step};
+
+/// After how many steps a worker tells the gate how far it is.
+const STEPS_TO_TELL: u32 = 4096;
 
 /// What a worker is to do.
 #[derive(Clone, Copy, Debug, PartialEq, Eq)]
@@ -60,6 +63,7 @@ pub fn worker<R: Wait, D: Door, G: Gate>(
     if copy.teams() == teams {
         let mut generator = Lcg64Xsh32::new(plan.seed, u64::from(plan.worker));
         let mut known = refresh(rt, door, league, copy);
+        let mut least = least_with(None, known.cost);
         for s in 0..plan.steps {
             let trial = Trial {
                 worker: plan.worker,
@@ -69,12 +73,18 @@ pub fn worker<R: Wait, D: Door, G: Gate>(
             };
             match step(rt, door, gate, league, copy, &mut known, trial) {
                 Told::Nothing => {}
-                Told::Accepted => accepted += 1,
+                Told::Accepted(cost) => {
+                    accepted += 1;
+                    least = least_with(least, cost);
+                }
                 Told::Refused => refused += 1,
                 Told::Full => {
                     refused += 1;
                     break;
                 }
+            }
+            if (s + 1) % STEPS_TO_TELL == 0 {
+                tell(rt, gate, plan.worker, known.version, least);
             }
         }
     }
@@ -83,6 +93,17 @@ pub fn worker<R: Wait, D: Door, G: Gate>(
         accepted,
         refused,
     }
+}
+
+/// Tells the gate how far the worker is.
+fn tell<R: Wait, G: Gate>(rt: &R, gate: &G, worker: u32, version: u64, least: Option<u64>) {
+    let steps = STEPS_TO_TELL;
+    let progress = Progress {
+        steps,
+        version,
+        least,
+    };
+    gate.told(rt, worker, progress);
 }
 
 /// The slack of a step, from 0.

@@ -20,11 +20,6 @@ pub under_both : (a b : List ℕ) (es : List Entry) → under (a ++ b) es ≡ un
 under_both a b [] = omega arith
 under_both a b (e ∷ es) = omega (arith, under_both a b es, times_append e.caller a b)
 
--- fewer numbers, fewer entries under them
-pub under_less : (a b : List ℕ) (es : List Entry) → ((x : ℕ) → times x a ≤ times x b) → under a es ≤ under b es
-under_less a b [] less = omega arith
-under_less a b (e ∷ es) less = omega (arith, less e.caller, under_less a b es less)
-
 -- an entry counts once at most, where no number is held twice
 pub under_most : (held : List ℕ) (es : List Entry) → ((x : ℕ) → times x held ≤ 1) → under held es ≤ length es
 under_most held [] single = omega arith
@@ -60,9 +55,6 @@ callers_more n m (e ∷ es) le p = let first = p.0 in (omega arith, callers_more
 
 pub once_most : (x n : ℕ) → once_below x n ≤ 1
 once_most x n = grind (arith, nat_tests)
-
-pub once_here : (x n : ℕ) → x < n → once_below x n ≡ 1
-once_here x n less = grind (arith, nat_tests)
 
 pub once_none : (x n : ℕ) → n ≤ x → once_below x n ≡ 0
 once_none x n le = grind (arith, nat_tests)

@@ -19,7 +19,7 @@ use Rattle.shared_board.specs.Stage.{away, holds, kept}
 use Rattle.shared_board.specs.Held.{times, once_below, under, callers_below}
 use Rattle.shared_board.specs.Rule.{Knows}
 use Rattle.shared_board.specs.Plays.{Place, Meets, Took, Counted, Parted, counting, drawing, newcomer, joined, longer, saw, at_stage, on_board}
-use Rattle.shared_board.specs.Seats.{BoardId, SeatValue, seat_value, IsIdle, IsSeat, Met, Answered, IsNew, Absorbed, given_at}
+use Rattle.shared_board.specs.Seats.{BoardId, SeatValue, seat_value, IsIdle, IsSeat, Met, Answered, IsNew, Absorbed}
 use Rattle.shared_board.specs.Ending.{IsSeatAfter, IsOfBoth, BroughtOut}
 use Rattle.shared_board.specs.Judging.{IsJudged}
 use Rattle.shared_board.proofs.BoardLaws.{reply_tells}
@@ -217,40 +217,6 @@ is_new table after me came taken counted done r number held seen accepted same f
   own = seat.below r (came_later me came taken counted r a);
   no_entry = came_none me came taken counted r a;
 }
-
-longer_self : (a : List Entry) → longer a a ≡ a
-longer_self a = let P : List Entry → Type 0 = λ l. l ≡ a in longer_cases P a a (λ _. refl) (λ _. refl)
-
--- the old seat, once it has taken a new one back
-pub joined_fresh : (v : View) (r : ℕ) → v.given ≤ r → joined v (fresh v r) ≡ record v { given = r; parts = (joined v (fresh v r)).parts }
-joined_fresh v r le =
-    let h = append-nil v.held in let g : max v.glanced v.glanced ≡ v.glanced = omega arith in
-    let l : min v.lowest v.lowest ≡ v.lowest = omega arith in let n : max v.given r ≡ r = omega arith in let s = longer_self v.seen in
-    λ i. record v { held = h i; seen = s i; glanced = g i; lowest = l i; given = n i; parts = (joined v (fresh v r)).parts }
-
-pub seat_given : (me done : Place) (number held seen accepted r : ℕ) (w : View) → IsSeat me number held seen accepted → w ≡ fresh me.0 r → me.0.given ≤ r
-    → done ≡ (joined me.0 w, me.1) → IsSeat done number held seen accepted
-seat_given me done number held seen accepted r w seat e le is =
-    let v = me.0 in
-    let P : Place → Type 0 = λ m. IsSeat m number held seen accepted in
-    let to : done ≡ (record v { given = r; parts = (joined v (fresh v r)).parts }, me.1) =
-    is ∙ (ap (λ (u : View). (joined v u, me.1)) e ∙ ap (λ (u : View). (u, me.1)) (joined_fresh v r le)) in
-    subst P (sym to) (record {
-      idle = record { live = seat.idle.live; away_is = seat.idle.away_is; no_slot = seat.idle.no_slot };
-      own = seat.own;
-      count = seat.count;
-      long = seat.long;
-      entries = seat.entries;
-      below = λ x more. seat.below x (omega arith);
-    })
-
-pub value_given : (table after : BoardId) (me done : Place) (number r : ℕ) (w : View) → after ≡ table → w ≡ fresh me.0 r → me.0.given ≤ r → r ≡ 64 → done ≡ (joined me.0 w, me.1)
-    → seat_value after number done.0 ≡ given_at (seat_value table number me.0) 64
-value_given table after me done number r w same e le is made =
-    let v = me.0 in
-    ap (λ (t : BoardId). seat_value t number done.0) same
-    ∙ (ap (λ (u : View). seat_value table number u) (ap (λ (m : Place). m.0) made ∙ (ap (λ (u : View). joined v u) e ∙ joined_fresh v r le))
-    ∙ ap (λ (n : ℕ). given_at (seat_value table number v) n) is)
 
 -- what two seats that were made one were told
 pub record Both (v w : View) : Type 0 where

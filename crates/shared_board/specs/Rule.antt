@@ -31,7 +31,7 @@ first_view b = record {
 -- a view that another seat has taken in
 abbrev pub spent_view : View
 spent_view = record {
-  setting = record { league = league_data [] [] 0 0 []; room = 0 };
+  setting = record { league = league_data [] [] 0 0 [] false false; room = 0 };
   live = false;
   held = [];
   seen = [];

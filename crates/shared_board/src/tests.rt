@@ -1,5 +1,6 @@
 ghost use Rattle.std.specs.Prelude.{◌≡◌, IfOk};
 
+mod callers;
 mod drawn;
 mod memory;
 mod values;
@@ -16,7 +17,13 @@ use std::test::Fail;
 fn four(alloc: Global) -> Result<(Shared, Seat, Schedule), Fail>
     ensures { IfOk result (λ r. r.1.table ≡ r.0) }
 {
-    let board = Board::new(alloc, circular(alloc, 4)?, 8)?;
+    four_with_room(alloc, 8)
+}
+
+fn four_with_room(alloc: Global, room: u32) -> Result<(Shared, Seat, Schedule), Fail>
+    ensures { IfOk result (λ r. r.1.table ≡ r.0) }
+{
+    let board = Board::new(alloc, circular(alloc, 4)?, room)?;
     let copy = board.schedule().duplicate(alloc)?;
     let (shared, seat) = Shared::new(alloc, board)?;
     Ok((shared, seat, copy))
@@ -191,16 +198,5 @@ fn a_refused_split_draws_no_number(rt: HostRuntime) -> Result<(), Fail> {
     shared.absorb(&mut a, b);
     assert_eq!(rt; a.held(), 64);
     assert!(rt; shared.close(&rt, a).whole);
-    Ok(())
-}
-
-#[test]
-fn a_dropped_seat_makes_the_board_not_whole(rt: HostRuntime) -> Result<(), Fail> {
-    let (shared, mut a, mut copy) = four(rt.alloc())?;
-    drop(shared.split(&rt, &mut a)?);
-    assert_eq!(rt; shared.look(&rt, &mut a, &mut copy), seen(0, 30));
-    let closed = shared.close(&rt, a);
-    assert!(rt; !closed.whole);
-    assert_eq!(rt; closed.board.version(), 0);
     Ok(())
 }

@@ -1,5 +1,7 @@
 ghost use Rattle.std.specs.Prelude.{None};
 
+mod values;
+
 use super::ends::Source;
 use super::{
     BufferedSink, INPUT_LIMIT, MemorySink, MemorySource, READ_LIMIT, ReadFault, ReaderSource,

@@ -39,7 +39,3 @@ module _ {S : Type 0} {held : S → Option (List ℕ)} {tally : S → Tally} (le
       → Stops held tally b c (answer_to league room h slack number (line_of line))
       → Stops held tally a c (answers league room (lines script))
   one_failed rest line next h slack number so_far takes stops = one_stopped _ _ _ (rw takes.lines_are at so_far.written) stops
-
-  pub all_answered : {a b : BufferedSink S} (h : List Entry) (slack number : ℕ) → IsAnsweredTo held tally a b league room script [] h slack number
-      → Adds held tally a b (answers league room (lines script)) × (h ≡ played league room (lines script))
-  all_answered h slack number so_far = (all_added _ so_far.written, sym so_far.history_is)

@@ -1,5 +1,6 @@
 pub mod ForCallers
 pub mod Digits
+pub mod ReadNumbers
 pub mod Splitting
 pub mod Parts
 pub mod WrittenWords

@@ -165,13 +165,6 @@ reads_on input rest line next start so_far takes other =
       script_is = so_far.script_is ∙ script;
     }
 
-pub ends_at_script : (input rest line next : List ℕ) (start : ℕ) → IsReadTo input rest start → TakesLine rest line next → is_script line ≡ true
-    → (take start input ≡ league_text input) × (lines next ≡ script_lines input)
-ends_at_script input rest line next start so_far takes here =
-    let league : league_text rest ≡ [] = rw here at takes.league_is in
-    let script : script_lines rest ≡ lines next = rw here at takes.script_is in
-    (sym (so_far.league_is ∙ ap (λ l. take start input ++ l) league ∙ append-nil (take start input)), sym (so_far.script_is ∙ script))
-
 -- no line is left
 pub ends_without : (input : List ℕ) (start : ℕ) → IsReadTo input [] start → (input ≡ league_text input) × (lines [] ≡ script_lines input)
 unfolding league_text script_lines

@@ -11,11 +11,10 @@ use Rattle.moves.specs.declared.moves.Move.TheVariants.{Homes, Rounds, Teams, Pa
 use Rattle.fixture_board.specs.declared.change.Change.{Change}
 use Rattle.fixture_board.specs.declared.change.Change.TheVariants as change
 use Rattle.fixture_board.specs.declared.change.Entry.{Entry}
-use Rattle.texts.specs.Command.{numbers_of, two_numbers, three_numbers, command_of, line_of, line_of_words}
+use Rattle.texts.specs.Command.{numbers_of, command_with, line_of, line_of_words}
 use Rattle.texts.specs.Input.{is_line_end}
 use Rattle.texts.specs.Number.{number_of, place_of}
 use Rattle.texts.specs.PlayText.{change_line, change_lines}
-use Rattle.texts.specs.declared.numerals.Numbers.TheVariants.{Two, Three}
 use Rattle.texts.specs.declared.script_line.ScriptLine.TheVariants.{Asks}
 use Rattle.texts.specs.declared.script_line.Keyword.TheVariants as key
 use Rattle.texts.proofs.Splitting.{parts_of}
@@ -171,18 +170,18 @@ lines-change_lines (e ∷ h) small =
 
 -- the keyword takes what two numbers make of it
 abbrev ReadsTwo : List ℕ → (ℕ → ℕ → Change) → Type 0
-ReadsTwo word f = (arguments : List (List ℕ)) (x y : ℕ) → numbers_of arguments ≡ Two x y → line_of_words (word ∷ arguments) ≡ Asks (f (place_of x) (place_of y))
+ReadsTwo word f = (arguments : List (List ℕ)) (x y : ℕ) → numbers_of arguments ≡ Some (x ∷ y ∷ []) → line_of_words (word ∷ arguments) ≡ Asks (f (place_of x) (place_of y))
 
 abbrev ReadsThree : List ℕ → (ℕ → ℕ → ℕ → Change) → Type 0
-ReadsThree word f = (arguments : List (List ℕ)) (x y z : ℕ) → numbers_of arguments ≡ Three x y z → line_of_words (word ∷ arguments) ≡ Asks (f (place_of x) (place_of y) (place_of z))
+ReadsThree word f = (arguments : List (List ℕ)) (x y z : ℕ) → numbers_of arguments ≡ Some (x ∷ y ∷ z ∷ []) → line_of_words (word ∷ arguments) ≡ Asks (f (place_of x) (place_of y) (place_of z))
 
 place_read : (n : ℕ) → n < 255 → number_of (decimal (n + 1)) ≡ Some (n + 1)
 place_read n small = number_of-decimal (n + 1) (omega arith)
 
 two_read : (word : List ℕ) (f : ℕ → ℕ → Change) (a b : ℕ) → IsPlain word → ReadsTwo word f → (a < 255) × (b < 255) → line_of (bare_two word a b) ≡ Asks (f a b)
 two_read word f a b plain reads small =
-    let numbers : numbers_of (decimal (a + 1) ∷ decimal (b + 1) ∷ []) ≡ Two (a + 1) (b + 1) =
-    ap (λ x. two_numbers x (number_of (decimal (b + 1)))) (place_read a small.0) ∙ ap (λ y. two_numbers (Some (a + 1)) y) (place_read b small.1) in
+    let numbers : numbers_of (decimal (a + 1) ∷ decimal (b + 1) ∷ []) ≡ Some ((a + 1) ∷ (b + 1) ∷ []) =
+    rw (place_read a small.0, place_read b small.1) refl in
     ap line_of_words (words_with_two word (decimal (a + 1)) (decimal (b + 1)) plain (plain_place a small.0) (plain_place b small.1)) ∙
     reads (decimal (a + 1) ∷ decimal (b + 1) ∷ []) (a + 1) (b + 1) numbers ∙
     ap (λ x. Asks (f x (place_of (b + 1)))) (place_of-more a small.0) ∙
@@ -191,10 +190,8 @@ two_read word f a b plain reads small =
 three_read : (word : List ℕ) (f : ℕ → ℕ → ℕ → Change) (a b c : ℕ) → IsPlain word → ReadsThree word f → (a < 255) × (b < 255) × (c < 255)
     → line_of (bare_three word a b c) ≡ Asks (f a b c)
 three_read word f a b c plain reads small =
-    let numbers : numbers_of (decimal (a + 1) ∷ decimal (b + 1) ∷ decimal (c + 1) ∷ []) ≡ Three (a + 1) (b + 1) (c + 1) =
-    ap (λ x. three_numbers x (number_of (decimal (b + 1))) (number_of (decimal (c + 1)))) (place_read a small.0) ∙
-    ap (λ y. three_numbers (Some (a + 1)) y (number_of (decimal (c + 1)))) (place_read b small.1) ∙
-    ap (λ z. three_numbers (Some (a + 1)) (Some (b + 1)) z) (place_read c small.2) in
+    let numbers : numbers_of (decimal (a + 1) ∷ decimal (b + 1) ∷ decimal (c + 1) ∷ []) ≡ Some ((a + 1) ∷ (b + 1) ∷ (c + 1) ∷ []) =
+    rw (place_read a small.0, place_read b small.1, place_read c small.2) refl in
     ap line_of_words (words_with_three word (decimal (a + 1)) (decimal (b + 1)) (decimal (c + 1)) plain (plain_place a small.0) (plain_place b small.1) (plain_place c small.2)) ∙
     reads (decimal (a + 1) ∷ decimal (b + 1) ∷ decimal (c + 1) ∷ []) (a + 1) (b + 1) (c + 1) numbers ∙
     ap (λ x. Asks (f x (place_of (b + 1)) (place_of (c + 1)))) (place_of-more a small.0) ∙
@@ -202,13 +199,13 @@ three_read word f a b c plain reads small =
     ap (λ z. Asks (f a b z)) (place_of-more c small.2)
 
 move_read : (mv : Move) → IsSmallMove mv → line_of (bare_move mv) ≡ Asks (change.Shift mv)
-move_read (Homes i j) small = two_read (codes "homes") (λ a b. change.Shift (Homes a b)) i j homes (λ arguments x y is. ap (command_of key.Homes) is) small
-move_read (Rounds k l) small = two_read (codes "rounds") (λ a b. change.Shift (Rounds a b)) k l rounds (λ arguments x y is. ap (command_of key.Rounds) is) small
-move_read (Teams i j) small = two_read (codes "teams") (λ a b. change.Shift (Teams a b)) i j teams (λ arguments x y is. ap (command_of key.Teams) is) small
+move_read (Homes i j) small = two_read (codes "homes") (λ a b. change.Shift (Homes a b)) i j homes (λ arguments x y is. ap (command_with key.Homes) is) small
+move_read (Rounds k l) small = two_read (codes "rounds") (λ a b. change.Shift (Rounds a b)) k l rounds (λ arguments x y is. ap (command_with key.Rounds) is) small
+move_read (Teams i j) small = two_read (codes "teams") (λ a b. change.Shift (Teams a b)) i j teams (λ arguments x y is. ap (command_with key.Teams) is) small
 move_read (PartRounds i k l) small =
-    three_read (codes "part-rounds") (λ a b c. change.Shift (PartRounds a b c)) i k l part_rounds (λ arguments x y z is. ap (command_of key.PartRounds) is) small
+    three_read (codes "part-rounds") (λ a b c. change.Shift (PartRounds a b c)) i k l part_rounds (λ arguments x y z is. ap (command_with key.PartRounds) is) small
 move_read (PartTeams i j k) small =
-    three_read (codes "part-teams") (λ a b c. change.Shift (PartTeams a b c)) i j k part_teams (λ arguments x y z is. ap (command_of key.PartTeams) is) small
+    three_read (codes "part-teams") (λ a b c. change.Shift (PartTeams a b c)) i j k part_teams (λ arguments x y z is. ap (command_with key.PartTeams) is) small
 
 abbrev game_at : ℕ → ℕ → ℕ → Game
 game_at r h a = record { round = r; home = h; away = a }
@@ -216,7 +213,7 @@ game_at r h a = record { round = r; home = h; away = a }
 pub line_read : (c : Change) → IsSmall c → line_of (bare_line c) ≡ Asks c
 line_read (change.Shift mv) small = move_read mv small
 line_read (change.Pin game) small =
-    three_read (codes "pin") (λ r h a. change.Pin (game_at r h a)) game.round game.home game.away pin (λ arguments x y z is. ap (command_of key.Pin) is) small
+    three_read (codes "pin") (λ r h a. change.Pin (game_at r h a)) game.round game.home game.away pin (λ arguments x y z is. ap (command_with key.Pin) is) small
 line_read (change.Unpin game) small =
-    three_read (codes "unpin") (λ r h a. change.Unpin (game_at r h a)) game.round game.home game.away unpin (λ arguments x y z is. ap (command_of key.Unpin) is) small
+    three_read (codes "unpin") (λ r h a. change.Unpin (game_at r h a)) game.round game.home game.away unpin (λ arguments x y z is. ap (command_with key.Unpin) is) small
 line_read change.Undo small = refl

@@ -6,35 +6,20 @@ use Rattle.moves.specs.declared.moves.Move.TheVariants as move
 use Rattle.texts.specs.Number.{number_of, place_of}
 use Rattle.texts.specs.Words.{words_of}
 use Rattle.fixture_board.specs.declared.change.Change.TheVariants as change
-use Rattle.texts.specs.declared.numerals.Numbers.{Numbers}
-use Rattle.texts.specs.declared.numerals.Numbers.TheVariants.{Zero, One, Two, Three, Other}
 use Rattle.texts.specs.declared.script_line.ScriptLine.{ScriptLine}
 use Rattle.texts.specs.declared.script_line.ScriptLine.TheVariants.{Skip, Slack, Asks, Bad}
 use Rattle.texts.specs.declared.script_line.Keyword.{Keyword}
 use Rattle.texts.specs.declared.script_line.Keyword.TheVariants as key
 
-abbrev pub one_number : Option ℕ → Numbers
-one_number (Some x) = One x
-one_number None = Other
+abbrev pub one_more : Option ℕ → Option (List ℕ) → Option (List ℕ)
+one_more (Some number) (Some numbers) = Some (number ∷ numbers)
+one_more (Some number) None = None
+one_more None numbers = None
 
-abbrev pub two_numbers : Option ℕ → Option ℕ → Numbers
-two_numbers (Some x) (Some y) = Two x y
-two_numbers (Some x) None = Other
-two_numbers None y = Other
-
-abbrev pub three_numbers : Option ℕ → Option ℕ → Option ℕ → Numbers
-three_numbers (Some x) (Some y) (Some z) = Three x y z
-three_numbers (Some x) (Some y) None = Other
-three_numbers (Some x) None z = Other
-three_numbers None y z = Other
-
--- the numbers that the words are, of at most three
-abbrev pub numbers_of : List (List ℕ) → Numbers
-numbers_of [] = Zero
-numbers_of (a ∷ []) = one_number (number_of a)
-numbers_of (a ∷ b ∷ []) = two_numbers (number_of a) (number_of b)
-numbers_of (a ∷ b ∷ c ∷ []) = three_numbers (number_of a) (number_of b) (number_of c)
-numbers_of (a ∷ b ∷ c ∷ d ∷ more) = Other
+-- the numbers that the words are, where each is one
+abbrev pub numbers_of : List (List ℕ) → Option (List ℕ)
+numbers_of [] = Some []
+numbers_of (word ∷ words) = one_more (number_of word) (numbers_of words)
 
 abbrev pub keyword_of : List ℕ → Keyword
 keyword_of word =
@@ -54,22 +39,30 @@ abbrev pub game_of : ℕ → ℕ → ℕ → Game
 game_of r h a = record { round = place_of r; home = place_of h; away = place_of a }
 
 -- a command has as many numbers as it needs
-abbrev pub command_of : Keyword → Numbers → ScriptLine
-command_of key.Homes (Two i j) = Asks (change.Shift (move.Homes (place_of i) (place_of j)))
-command_of key.Rounds (Two k l) = Asks (change.Shift (move.Rounds (place_of k) (place_of l)))
-command_of key.Teams (Two i j) = Asks (change.Shift (move.Teams (place_of i) (place_of j)))
-command_of key.PartRounds (Three i k l) = Asks (change.Shift (move.PartRounds (place_of i) (place_of k) (place_of l)))
-command_of key.PartTeams (Three i j k) = Asks (change.Shift (move.PartTeams (place_of i) (place_of j) (place_of k)))
-command_of key.Pin (Three r h a) = Asks (change.Pin (game_of r h a))
-command_of key.Unpin (Three r h a) = Asks (change.Unpin (game_of r h a))
-command_of key.Undo Zero = Asks change.Undo
-command_of key.Slack (One s) = Slack s
+abbrev pub command_of : Keyword → List ℕ → ScriptLine
+command_of key.Homes (i ∷ j ∷ []) = Asks (change.Shift (move.Homes (place_of i) (place_of j)))
+command_of key.Rounds (k ∷ l ∷ []) = Asks (change.Shift (move.Rounds (place_of k) (place_of l)))
+command_of key.Teams (i ∷ j ∷ []) = Asks (change.Shift (move.Teams (place_of i) (place_of j)))
+command_of key.PartRounds (i ∷ k ∷ l ∷ []) =
+    Asks (change.Shift (move.PartRounds (place_of i) (place_of k) (place_of l)))
+command_of key.PartTeams (i ∷ j ∷ k ∷ []) =
+    Asks (change.Shift (move.PartTeams (place_of i) (place_of j) (place_of k)))
+command_of key.Pin (r ∷ h ∷ a ∷ []) = Asks (change.Pin (game_of r h a))
+command_of key.Unpin (r ∷ h ∷ a ∷ []) = Asks (change.Unpin (game_of r h a))
+command_of key.Undo [] = Asks change.Undo
+command_of key.Slack (s ∷ []) = Slack s
 command_of _ _ = Bad
+
+-- words that aren't all numbers are no command's
+abbrev pub command_with : Keyword → Option (List ℕ) → ScriptLine
+command_with keyword (Some numbers) = command_of keyword numbers
+command_with keyword None = Bad
 
 -- a line with no words, or whose first begins with `#`, says nothing
 abbrev pub line_of_words : List (List ℕ) → ScriptLine
 line_of_words [] = Skip
-line_of_words (word ∷ arguments) = if slice_index word 0 == 35 then Skip else command_of (keyword_of word) (numbers_of arguments)
+line_of_words (word ∷ arguments) =
+    if slice_index word 0 == 35 then Skip else command_with (keyword_of word) (numbers_of arguments)
 
 abbrev pub line_of : List ℕ → ScriptLine
 line_of bytes = line_of_words (words_of bytes)

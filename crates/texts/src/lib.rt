@@ -19,5 +19,5 @@ mod words;
 pub use input::{next_line, split_input};
 pub use play_text::play_script;
 pub use script_line::{ScriptLine, parse_line};
-pub use search_text::{write_found, write_plan, write_worker};
+pub use search_text::{write_clear, write_found, write_plan, write_progress, write_worker};
 pub use sheets::sheet;

@@ -1,74 +1,31 @@
 //! The numbers of a script.
 
-ghost use Rattle.std.specs.Prelude.{◌≡◌};
+ghost use Rattle.std.specs.Prelude.{◌≡◌, ◌<◌, IfNone, IfSome, Some, length};
 ghost use Rattle.std.specs.Str.{all_ascii_digits};
-ghost use Rattle.texts.specs.Command.{numbers_of, one_number, three_numbers, two_numbers};
+ghost use Rattle.texts.specs.Command.{numbers_of};
 ghost use Rattle.texts.specs.Number.{fitting, number_of, place_of};
 ghost use Rattle.texts.specs.Words.{words_of};
 
 use crate::words::next_word;
+use arrayvec::ArrayVec;
 
 /// The longest number that is read.
 const MAX_DIGITS: usize = 20;
 
-/// The numbers of a command.
-#[derive(Clone, Copy, Debug, PartialEq, Eq)]
-pub(crate) enum Numbers {
-    Zero,
-    One(u64),
-    Two(u64, u64),
-    Three(u64, u64, u64),
-    /// More than three words, or one that is no number.
-    Other,
-}
+/// The most numbers that a command has.
+const MAX_NUMBERS: usize = 3;
 
-impl Numbers {
-    /// The numbers that the words of a line are.
-    pub(crate) fn of_line(line: &[u8]) -> Numbers
-        ensures { result ≡ numbers_of (words_of line.now) }
-    {
-        let mut rest = line;
-        let Some(first) = next_word(&mut rest) else {
-            return Numbers::Zero;
-        };
-        let Some(second) = next_word(&mut rest) else {
-            return one_number(number(first));
-        };
-        let Some(third) = next_word(&mut rest) else {
-            return two_numbers(number(first), number(second));
-        };
-        match next_word(&mut rest) {
-            Some(_) => Numbers::Other,
-            None => three_numbers(number(first), number(second), number(third)),
-        }
-    }
-}
-
-fn one_number(first: Option<u64>) -> Numbers
-    ensures { result ≡ one_number first }
+/// The numbers that the words of a line are. There are none where a word is no number, or more than a command has.
+pub(crate) fn numbers(line: &[u8]) -> Option<ArrayVec<u64, MAX_NUMBERS>>
+    ensures some { IfSome result (λ numbers. numbers_of (words_of line.now) ≡ Some numbers.items) }
+    ensures none { IfNone result (IfSome (numbers_of (words_of line.now)) (λ numbers. 3 < length numbers)) }
 {
-    match first {
-        Some(first) => Numbers::One(first),
-        None => Numbers::Other,
+    let mut rest = line;
+    let mut numbers = ArrayVec::new();
+    while let Some(word) = next_word(&mut rest) {
+        numbers.try_push(number(word)?).ok()?;
     }
-}
-
-fn two_numbers(first: Option<u64>, second: Option<u64>) -> Numbers
-    ensures { result ≡ two_numbers first second }
-{
-    match (first, second) {
-        (Some(first), Some(second)) => Numbers::Two(first, second),
-        _ => Numbers::Other,
-    }
-}
-
-fn three_numbers(first: Option<u64>, second: Option<u64>, third: Option<u64>) -> Numbers
-    ensures { result ≡ three_numbers first second third }
-{
-    match (first, second, third) {
-        (Some(first), Some(second), Some(third)) => Numbers::Three(first, second, third),
-        _ => Numbers::Other,
-    }
+    Some(numbers)
 }
 
 /// A number of 1 to 20 digits that is a `u64`.

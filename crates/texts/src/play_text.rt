@@ -7,7 +7,8 @@ ghost use Rattle.streams.specs.Limits.{write_limit};
 ghost use Rattle.streams.specs.Sending.{AppendsFront};
 ghost use Rattle.streams.specs.Tally.{FailsWriting};
 ghost use Rattle.streams.specs.Writing.{Writes};
-ghost use Rattle.texts.specs.PlayText.{best_line, closing_text, play_text, start_line};
+ghost use Rattle.fixture_board.specs.Record.{book};
+ghost use Rattle.texts.specs.PlayText.{best_line, closing_text, play_text, played, start_line};
 
 use crate::answers::{write_answers, write_costs};
 use crate::history::write_history;
@@ -16,8 +17,8 @@ use crate::sheets::write_sheet;
 use fixture_board::{Best, Board, Cost};
 use streams::{BufferedSink, Sink, WriteFault};
 
-/// Plays a script on a new board, and writes the play text. Takes no memory. After a fault a front of the text went
-/// out.
+/// Plays a script on a new board, and writes the play text. Takes no memory. The board has the script's history then;
+/// after a fault a front of the text went out, and the board may have a part of it.
 pub fn play_script<W: Sink>(
     board: &mut Board,
     script: &[u8],
@@ -30,6 +31,8 @@ pub fn play_script<W: Sink>(
         (play_text board.old.league board.old.room (lines script.now))) }
     ensures cause { OnErr result
         (FailsWriting write_limit (W.tally sink.old) (W.tally sink.new)) }
+    ensures board { OnOk result (board.new ≡ book board.old.league board.old.room
+        (played board.old.league board.old.room (lines script.now))) }
 {
     let mut out = BufferedSink::new(sink);
     write_play(&mut out, board, script)?;
@@ -42,8 +45,10 @@ fn write_play<W: Sink>(
     script: &[u8],
 ) -> Result<(), WriteFault>
     requires { board.old.history ≡ [] }
-    ensures { Writes W.held W.tally out.old out.new result
+    ensures writes { Writes W.held W.tally out.old out.new result
         (play_text board.old.league board.old.room (lines script.now)) }
+    ensures board { OnOk result (board.new ≡ book board.old.league board.old.room
+        (played board.old.league board.old.room (lines script.now))) }
 {
     write_start(out, board.cost())?;
     write_answers(out, board, script)?;

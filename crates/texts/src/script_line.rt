@@ -5,7 +5,7 @@ ghost use Rattle.fixture_board.specs.declared.change.Change.TheVariants.{Shift};
 ghost use Rattle.texts.specs.declared.script_line.ScriptLine.TheVariants.{Asks};
 ghost use Rattle.texts.specs.Command.{command_of, game_of, keyword_of, line_of};
 
-use crate::numerals::{Numbers, place};
+use crate::numerals::{numbers, place};
 use crate::words::next_word;
 use fixture_board::Change;
 use fixtures::Game;
@@ -78,43 +78,46 @@ pub fn parse_line(line: &[u8]) -> ScriptLine
     if word[0] == b'#' {
         return ScriptLine::Skip;
     }
-    command(Keyword::of_word(word), Numbers::of_line(rest))
+    match numbers(rest) {
+        Some(numbers) => command(Keyword::of_word(word), numbers.as_slice()),
+        None => ScriptLine::Bad,
+    }
 }
 
-fn command(keyword: Keyword, numbers: Numbers) -> ScriptLine
-    ensures { result ≡ command_of keyword numbers }
+fn command(keyword: Keyword, numbers: &[u64]) -> ScriptLine
+    ensures { result ≡ command_of keyword numbers.now }
 {
     match (keyword, numbers) {
-        (Keyword::Homes, Numbers::Two(i, j)) => shift(Move::Homes {
+        (Keyword::Homes, &[i, j]) => shift(Move::Homes {
             i: place(i),
             j: place(j),
         }),
-        (Keyword::Rounds, Numbers::Two(k, l)) => shift(Move::Rounds {
+        (Keyword::Rounds, &[k, l]) => shift(Move::Rounds {
             k: place(k),
             l: place(l),
         }),
-        (Keyword::Teams, Numbers::Two(i, j)) => shift(Move::Teams {
+        (Keyword::Teams, &[i, j]) => shift(Move::Teams {
             i: place(i),
             j: place(j),
         }),
-        (Keyword::PartRounds, Numbers::Three(i, k, l)) => shift(Move::PartRounds {
+        (Keyword::PartRounds, &[i, k, l]) => shift(Move::PartRounds {
             i: place(i),
             k: place(k),
             l: place(l),
         }),
-        (Keyword::PartTeams, Numbers::Three(i, j, k)) => shift(Move::PartTeams {
+        (Keyword::PartTeams, &[i, j, k]) => shift(Move::PartTeams {
             i: place(i),
             j: place(j),
             k: place(k),
         }),
-        (Keyword::Pin, Numbers::Three(round, home, away)) => {
+        (Keyword::Pin, &[round, home, away]) => {
             ScriptLine::Asks(Change::Pin(game(round, home, away)))
         }
-        (Keyword::Unpin, Numbers::Three(round, home, away)) => {
+        (Keyword::Unpin, &[round, home, away]) => {
             ScriptLine::Asks(Change::Unpin(game(round, home, away)))
         }
-        (Keyword::Undo, Numbers::Zero) => ScriptLine::Asks(Change::Undo),
-        (Keyword::Slack, Numbers::One(slack)) => ScriptLine::Slack(slack),
+        (Keyword::Undo, []) => ScriptLine::Asks(Change::Undo),
+        (Keyword::Slack, &[slack]) => ScriptLine::Slack(slack),
         _ => ScriptLine::Bad,
     }
 }

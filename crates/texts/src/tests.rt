@@ -45,6 +45,24 @@ fn each_command_is_read(rt: HostRuntime) {
     }
 }
 
+// Tests compare by `==`, so it has to see the kind and what it holds.
+#[test]
+fn lines_that_differ(rt: HostRuntime) {
+    let lines = [
+        ScriptLine::Skip,
+        ScriptLine::Slack(0),
+        ScriptLine::Slack(1),
+        ScriptLine::Asks(Change::Undo),
+        ScriptLine::Asks(Change::Shift(Move::Homes { i: 0, j: 1 })),
+        ScriptLine::Bad,
+    ];
+    for (i, one) in lines.iter().enumerate() {
+        for (j, other) in lines.iter().enumerate() {
+            assert_eq!(rt; one == other, i == j, "{one:?} {other:?}");
+        }
+    }
+}
+
 #[test]
 fn numbers_that_are_no_place_are_handed_on_as_255(rt: HostRuntime) {
     let cases = [

@@ -15,5 +15,6 @@ pub mod ForCallers
 mod Worked
 pub mod TravelWalk
 pub mod GuestLegs
+pub mod GuestSteps
 pub mod SetsInSeason
 pub mod CutSets

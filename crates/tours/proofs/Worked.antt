@@ -1,6 +1,6 @@
 -- Worked costs of four teams whose homes lie in a circle: of the Berger start, and of what some moves make of it.
 -- Teams and rounds are numbered from 0 here.
-use Rattle.std.proofs.Common.{◌≡◌, ℕ, true, List, [], ◌∷◌, map, refl, ◌||◌, Bool}
+use Rattle.std.proofs.Common.{◌≡◌, ℕ, true, false, List, [], ◌∷◌, map, refl, ◌||◌, Bool}
 use Rattle.std.specs.Prelude.{◌==◌}
 use Rattle.std.specs.List.{range_with_len}
 use Rattle.league.specs.League.{LeagueData, league_data}
@@ -15,7 +15,7 @@ use Rattle.tours.specs.Repeats.{repeats_after, repeats}
 
 -- the league of four teams with these distances
 abbrev four_teams : List (List ℕ) → LeagueData
-four_teams distances = league_data [] distances 3 100 []
+four_teams distances = league_data [] distances 3 100 [] false false
 
 abbrev circle : LeagueData
 circle = four_teams ((0 ∷ 1 ∷ 2 ∷ 1 ∷ []) ∷ (1 ∷ 0 ∷ 1 ∷ 2 ∷ []) ∷ (2 ∷ 1 ∷ 0 ∷ 1 ∷ []) ∷ (1 ∷ 2 ∷ 1 ∷ 0 ∷ []) ∷ [])

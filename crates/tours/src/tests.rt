@@ -2,7 +2,7 @@ use crate::{
     repeats, repeats_part, repeats_with, runs_over, runs_part, travel, travel_around, travel_of,
     travel_part, unphased, unphased_part,
 };
-use fixtures::{Game, Schedule, Touched, berger, from_games, start};
+use fixtures::{Game, Schedule, Touched, berger, berger_fide, from_games, start};
 use league::{League, SlotSet, TeamSet, circular, constant, read_league};
 use std::alloc::Global;
 use std::test::Fail;
@@ -103,6 +103,7 @@ fn tours_of_four_in_a_circle(rt: HostRuntime) -> Result<(), Fail> {
         (&teams_exchanged(alloc, &start, 0, 1)?, [6, 6, 6, 8]),
         (&teams_exchanged(alloc, &homes, 0, 1)?, [8, 4, 6, 8]),
         (&rounds_exchanged(alloc, 4, 5)?, [6, 6, 8, 8]),
+        (&berger_fide(alloc, 4)?, [8, 8, 8, 6]),
     ] {
         assert_eq!(rt; tours_of(schedule, &league), Some(tours));
     }
@@ -121,6 +122,7 @@ fn costs_after_moves(rt: HostRuntime) -> Result<(), Fail> {
         (&rounds_exchanged(alloc, 4, 5)?, (28, 0, 0)),
         (&rounds_exchanged(alloc, 1, 3)?, (30, 0, 4)),
         (&rounds_exchanged(alloc, 0, 2)?, (32, 0, 2)),
+        (&berger_fide(alloc, 4)?, (30, 0, 0)),
     ] {
         assert_eq!(rt; costs_of(schedule, &league), Some(costs));
     }
@@ -135,6 +137,8 @@ fn runs_of_the_start(rt: HostRuntime) -> Result<(), Fail> {
         let league = league_of(alloc, at_most)?;
         assert_eq!(rt; costs_of(&start, &league), Some((30, runs, 0)));
     }
+    let fide = berger_fide(alloc, 4)?;
+    assert_eq!(rt; costs_of(&fide, &league_of(alloc, 2)?), Some((30, 0, 0)));
     Ok(())
 }
 
@@ -280,10 +284,12 @@ fn pairs_in_one_half(rt: HostRuntime) -> Result<(), Fail> {
     let start = berger(alloc, 4)?;
     let exchanged = rounds_exchanged(alloc, 2, 3)?;
     assert_eq!(rt; (unphased(&start), unphased(&exchanged)), (0, 4));
+    assert_eq!(rt; unphased(&berger_fide(alloc, 4)?), 0);
     for (teams, pairs) in [
         (TeamSet::empty().with(0), 2),
         (TeamSet::below(2), 4),
         (TeamSet::empty().with(0).with(2), 3),
+        (TeamSet::below(4), 4),
     ] {
         let touched = Touched {
             teams,

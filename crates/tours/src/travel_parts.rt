@@ -1,11 +1,10 @@
 //! The legs that a change can alter.
 
-ghost use Rattle.std.specs.Prelude.{◌≡◌, ◌+◌, ◌*◌, ◌-◌, ◌<◌, ◌≤◌, ◌&&◌, nat_lt, false, slice_index, if◌then◌else◌};
-ghost use Rattle.league.specs.League.{teams};
+ghost use Rattle.std.specs.Prelude.{◌≡◌, ◌+◌, ◌*◌, ◌-◌, ◌<◌, ◌≤◌, ◌&&◌, nat_lt, slice_index, if◌then◌else◌};
+ghost use Rattle.league.specs.League.{teams, distance};
 ghost use Rattle.league.specs.Sets.{has, IsBelow};
 ghost use Rattle.league.specs.Sums.{sum_where};
 ghost use Rattle.fixtures.specs.Games.{round_count, is_home, IsDoubleRoundRobin};
-ghost use Rattle.fixtures.specs.Changes.{with_guests};
 ghost use Rattle.tours.specs.Tours.{tour, leg};
 ghost use Rattle.tours.specs.Parts.{travel_part, travel_around};
 ghost use Rattle.tours.specs.Walked.{legs_of_guest};
@@ -115,6 +114,16 @@ fn leg(schedule: &Schedule, league: &League, team: u8, index: u8) -> u64
 {
     let from = stop_before(schedule, team, index);
     let to = stop_after(schedule, team, index);
+    way(league, from, to)
+}
+
+/// The way from the home of a team to that of another.
+fn way(league: &League, from: u8, to: u8) -> u64
+    requires from { from < teams league.now }
+    requires to { to < teams league.now }
+    ensures value { result ≡ distance league.now from to }
+    ensures most { result ≤ 1000000 }
+{
     u64::from(league.distance(from, to))
 }
 
@@ -192,6 +201,7 @@ fn guest_legs(
 }
 
 /// The legs around a game of the host's opponent, unless that is one of the hosts itself.
+#[tactic(auto, using(crate::proofs::GuestSteps::followed_by_next), unfolding(crate::specs::Tours::leg))]
 fn legs_of_guest(
     schedule: &Schedule,
     league: &League,
@@ -210,27 +220,22 @@ fn legs_of_guest(
     if hosts.has(guest) {
         return 0;
     }
-    let there = leg(schedule, league, guest, round);
-    if is_guest(schedule, hosts, rounds, guest, round + 1) {
+    let before = stop_before(schedule, guest, round);
+    let here = stop_after(schedule, guest, round);
+    let next = stop_after(schedule, guest, round + 1);
+    let there = way(league, before, here);
+    // the leg on from here is then one of the next visit
+    if is_visit(schedule, hosts, rounds, next, round + 1) {
         return there;
     }
-    there + leg(schedule, league, guest, round + 1)
+    there + way(league, here, next)
 }
 
-/// Whether a team plays at the place of one of these teams in this round, which is one of the set.
-#[tactic(auto, unfolding(fixtures::specs::Changes::with_guests))]
-fn is_guest(schedule: &Schedule, hosts: TeamSet, rounds: SlotSet, team: u8, round: u8) -> bool
-    requires outside { has hosts team ≡ false }
-    requires team { team < schedule.now.teams }
+/// Whether this place, to which a team goes for a round, is one of the hosts', and the round one of the set.
+fn is_visit(schedule: &Schedule, hosts: TeamSet, rounds: SlotSet, place: u8, round: u8) -> bool
+    requires { place < 40 }
     ensures { result ≡
-        (nat_lt round (round_count schedule.now.teams) &&
-        with_guests schedule.now (has hosts) (has rounds) team round) }
+        (has hosts place && (nat_lt round (round_count schedule.now.teams) && has rounds round)) }
 {
-    if round >= schedule.rounds() {
-        return false;
-    }
-    if !rounds.has(round) {
-        return false;
-    }
-    hosts.has(place(schedule, team, round))
+    hosts.has(place) && (round < schedule.rounds() && rounds.has(round))
 }

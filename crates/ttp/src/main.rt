@@ -6,5 +6,5 @@ mod program;
 use std::process::ExitCode;
 
 fn main(rt: HostRuntime) -> ExitCode {
-    program::run(&rt)
+    program::run(&rt, rt.stderr())
 }

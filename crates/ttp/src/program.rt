@@ -7,17 +7,22 @@ ghost use Rattle.std.specs.Process.{exit_status};
 ghost use Rattle.clap.specs.Words.{fault_of, kind_of};
 ghost use Rattle.clap.specs.declared.error.kind.ErrorKind.{ErrorKind as Kind};
 ghost use Rattle.command_line.specs.CommandLine.{program};
+ghost use Rattle.commands.specs.Find.{AnswersFind};
 ghost use Rattle.commands.specs.Outcome.{Ends};
 ghost use Rattle.ttp.specs.Program.{AnswersJob, status_of};
 
 use clap::error::ErrorKind;
 use command_line::{Job, args};
-use commands::{ProgramFault, Sink, Source, find, play, start};
+use commands::{
+    ProgramFault, ProgressLine, SearchPlan, Sink, Source, find, find_with, play, start,
+};
 use std::alloc::Global;
+use std::io::{IsTerminal, Write};
 use std::process::ExitCode;
 use std::rt::Runtime;
 use std::sync::Wait;
 use std::thread::Threads;
+use std::time::Clock;
 use std::{env, io};
 use streams::{ReaderSource, WriterSink};
 
@@ -25,10 +30,19 @@ use streams::{ReaderSource, WriterSink};
 const MISUSE: u8 = 2;
 
 /// Does what the program's words ask for. The exit status is 0 on success, 1 after a fault, and 2
-/// where the words are wrong.
-pub fn run<R: Runtime + AllocGlobal + Threads + Wait + Sync>(rt: &R) -> ExitCode {
+/// where the words are wrong. A search shows how far it is where standard error is a terminal.
+pub fn run<R, E>(rt: &R, error: E) -> ExitCode
+where
+    R: Runtime + AllocGlobal + Threads + Wait + Sync,
+    E: Write + IsTerminal + Send + Drop,
+{
+    let terminal = if error.is_terminal() {
+        Some(error)
+    } else {
+        None
+    };
     match words_of(rt) {
-        Ok(words) => answer(rt, &words),
+        Ok(words) => answer(rt, terminal, &words),
         Err(error) => words_not_had(rt, error),
     }
 }
@@ -38,7 +52,11 @@ fn words_of<R: Runtime + AllocGlobal>(rt: &R) -> io::Result<Vec<String>> {
 }
 
 /// Does what these words ask for, between standard input and output.
-fn answer<R: Runtime + AllocGlobal + Threads + Wait + Sync>(rt: &R, words: &[String]) -> ExitCode
+fn answer<R: Runtime + AllocGlobal + Threads + Wait + Sync, E: Write + Send + Drop>(
+    rt: &R,
+    terminal: Option<E>,
+    words: &[String],
+) -> ExitCode
     ensures taken { fault_of program (map string_bytes words.now) ≡ [] → exit_status result ≤ 1 }
     ensures shown { fault_of program (map string_bytes words.now) ≡ ErrorKind.DisplayHelp ∷ [] → exit_status result ≤ 1 }
     ensures wrong { (kind : Kind) → fault_of program (map string_bytes words.now) ≡ kind ∷ []
@@ -50,15 +68,16 @@ fn answer<R: Runtime + AllocGlobal + Threads + Wait + Sync>(rt: &R, words: &[Str
     };
     let source = ReaderSource::new(rt.reader());
     let mut sink = WriterSink::new(io::writer(rt));
-    let outcome = perform(rt, rt.alloc(), job, source, &mut sink);
+    let outcome = perform(rt, rt.alloc(), job, terminal, source, &mut sink);
     ended(rt, outcome)
 }
 
 /// Does what the job asks for, from this source to this sink.
-fn perform<T: Threads + Wait + Sync, R: Source + Drop, W: Sink>(
+fn perform<T: Threads + Wait + Clock + Sync, E: Write + Send + Drop, R: Source + Drop, W: Sink>(
     rt: &T,
     alloc: Global,
     job: Job,
+    terminal: Option<E>,
     source: R,
     sink: &mut W,
 ) -> Result<(), ProgramFault>
@@ -67,7 +86,29 @@ fn perform<T: Threads + Wait + Sync, R: Source + Drop, W: Sink>(
     match job {
         Job::Start => start(alloc, source, sink),
         Job::Play { room } => play(alloc, source, sink, room),
-        Job::Find { room, plan } => find(rt, alloc, source, sink, room, plan),
+        Job::Find { room, plan } => search(rt, alloc, terminal, source, sink, room, plan),
+    }
+}
+
+/// Searches, and shows how far it is where there is a terminal.
+fn search<T: Threads + Wait + Clock + Sync, E: Write + Send + Drop, R: Source + Drop, W: Sink>(
+    rt: &T,
+    alloc: Global,
+    terminal: Option<E>,
+    mut source: R,
+    sink: &mut W,
+    room: u32,
+    plan: SearchPlan,
+) -> Result<(), ProgramFault>
+    ensures { (after : R)
+        × Ends R.left R.tally W.held W.tally (AnswersFind room plan) source after sink.old sink.new result }
+{
+    match terminal {
+        Some(terminal) => {
+            let line = ProgressLine::new(rt, WriterSink::new(terminal), plan);
+            find_with(rt, alloc, &line, &mut source, sink, room, plan)
+        }
+        None => find(rt, alloc, source, sink, room, plan),
     }
 }
 

@@ -3,82 +3,77 @@
 //! `rt try --test --fail-alloc N` refuses the Nth allocation of each test. A test
 //! `.._tells_refused_memory` passes at every N; `.._with_ample_memory` fails while N is among its allocations.
 
-use super::play::{AFTER_UNDO, input};
-use super::searches::{NO_STEPS, NO_STEPS_TEXT};
-use super::{CIRCLE, SHEET, is_made_of};
-use crate::{ProgramFault, find, play, start};
+use super::ends::Command;
+use crate::ProgramFault;
+use std::alloc::Global;
+use std::process::Abort;
+use std::sync::Wait;
 use std::test::Fail;
+use std::thread::Threads;
 use streams::{MemorySink, MemorySource};
+
+fn check_with_ample_memory<T: Threads + Wait + Sync + Abort>(
+    rt: &T,
+    alloc: Global,
+    command: Command,
+) -> Result<(), Fail> {
+    let (input, text) = (command.input(alloc)?, command.text(alloc)?);
+    let mut room = [0; 1000];
+    let mut sink = MemorySink::new(&mut room);
+    command.run(rt, alloc, &mut MemorySource::new(&input), &mut sink)?;
+    assert_eq!(rt; sink.held(), text.as_slice());
+    Ok(())
+}
+
+/// The command writes its text, or answers one of the faults and writes nothing.
+fn check_refused<T: Threads + Wait + Sync + Abort>(
+    rt: &T,
+    alloc: Global,
+    command: Command,
+    faults: &[ProgramFault],
+) {
+    let (Ok(input), Ok(text)) = (command.input(alloc), command.text(alloc)) else {
+        return;
+    };
+    let mut room = [0; 1000];
+    let mut sink = MemorySink::new(&mut room);
+    match command.run(rt, alloc, &mut MemorySource::new(&input), &mut sink) {
+        Ok(()) => assert_eq!(rt; sink.held(), text.as_slice()),
+        Err(fault) => {
+            assert!(rt; faults.contains(&fault), "{fault}");
+            assert_eq!(rt; sink.tally().calls, 0);
+        }
+    }
+}
 
 #[test]
 fn start_succeeds_with_ample_memory(rt: HostRuntime) -> Result<(), Fail> {
-    let mut room = [0; 1000];
-    let mut sink = MemorySink::new(&mut room);
-    start(rt.alloc(), MemorySource::new(CIRCLE.as_bytes()), &mut sink)?;
-    assert_eq!(rt; sink.held(), SHEET.as_bytes());
-    Ok(())
+    check_with_ample_memory(&rt, rt.alloc(), Command::Start)
 }
 
 #[test]
 fn start_tells_refused_memory(rt: HostRuntime) {
-    let mut room = [0; 1000];
-    let mut sink = MemorySink::new(&mut room);
-    match start(rt.alloc(), MemorySource::new(CIRCLE.as_bytes()), &mut sink) {
-        Ok(()) => assert_eq!(rt; sink.held(), SHEET.as_bytes()),
-        Err(fault) => {
-            assert_eq!(rt; fault, ProgramFault::Memory);
-            assert_eq!(rt; sink.tally().calls, 0);
-        }
-    }
+    check_refused(&rt, rt.alloc(), Command::Start, &[ProgramFault::Memory]);
 }
 
 #[test]
 fn play_succeeds_with_ample_memory(rt: HostRuntime) -> Result<(), Fail> {
-    let input = input(rt.alloc(), CIRCLE, b"homes 1 2\nundo\n")?;
-    let mut room = [0; 2000];
-    let mut sink = MemorySink::new(&mut room);
-    play(rt.alloc(), MemorySource::new(&input), &mut sink, 8)?;
-    assert!(rt; is_made_of(sink.held(), &AFTER_UNDO));
-    Ok(())
+    check_with_ample_memory(&rt, rt.alloc(), Command::Play)
 }
 
 #[test]
 fn play_tells_refused_memory(rt: HostRuntime) {
-    let Ok(input) = input(rt.alloc(), CIRCLE, b"homes 1 2\nundo\n") else {
-        return;
-    };
-    let mut room = [0; 2000];
-    let mut sink = MemorySink::new(&mut room);
-    match play(rt.alloc(), MemorySource::new(&input), &mut sink, 8) {
-        Ok(()) => assert!(rt; is_made_of(sink.held(), &AFTER_UNDO)),
-        Err(fault) => {
-            assert_eq!(rt; fault, ProgramFault::Memory);
-            assert_eq!(rt; sink.tally().calls, 0);
-        }
-    }
+    check_refused(&rt, rt.alloc(), Command::Play, &[ProgramFault::Memory]);
 }
 
 #[test]
 fn find_succeeds_with_ample_memory(rt: HostRuntime) -> Result<(), Fail> {
-    let mut room = [0; 1000];
-    let mut sink = MemorySink::new(&mut room);
-    let source = MemorySource::new(CIRCLE.as_bytes());
-    find(&rt, rt.alloc(), source, &mut sink, 8, NO_STEPS)?;
-    assert!(rt; is_made_of(sink.held(), &NO_STEPS_TEXT));
-    Ok(())
+    check_with_ample_memory(&rt, rt.alloc(), Command::Find)
 }
 
 /// Where the memory of a thread itself is refused, the answer is Spawn.
 #[test]
 fn find_tells_refused_memory(rt: HostRuntime) {
-    let mut room = [0; 1000];
-    let mut sink = MemorySink::new(&mut room);
-    let source = MemorySource::new(CIRCLE.as_bytes());
-    match find(&rt, rt.alloc(), source, &mut sink, 8, NO_STEPS) {
-        Ok(()) => assert!(rt; is_made_of(sink.held(), &NO_STEPS_TEXT)),
-        Err(fault) => {
-            assert!(rt; matches!(fault, ProgramFault::Memory | ProgramFault::Spawn));
-            assert_eq!(rt; sink.tally().calls, 0);
-        }
-    }
+    let faults = [ProgramFault::Memory, ProgramFault::Spawn];
+    check_refused(&rt, rt.alloc(), Command::Find, &faults);
 }

@@ -5,7 +5,7 @@ use crate::{ProgramFault, play};
 use league::LeagueFault;
 use std::alloc::{AllocError, Global};
 use std::test::Fail;
-use streams::{MemorySink, MemorySource, RehearsedSink, RehearsedSource, Step};
+use streams::{MemorySink, MemorySource};
 
 /// The league, a line `script` and these lines.
 pub(super) fn input(alloc: Global, league: &str, script: &[u8]) -> Result<Vec<u8>, AllocError> {
@@ -70,72 +70,71 @@ fn answer(alloc: Global, input: &[u8], room: u32) -> (Result<(), ProgramFault>, 
 }
 
 #[test]
-fn play_names_the_first_fault(rt: HostRuntime) -> Result<(), Fail> {
+fn play_names_the_first_fault(rt: HostRuntime) {
     let no_json = Err(ProgramFault::League(LeagueFault::NotJson));
     assert_eq!(rt; answer(rt.alloc(), b"", 1_048_577), (no_json, true));
     assert_eq!(rt;
         answer(rt.alloc(), CIRCLE.as_bytes(), 1_048_577),
         (Err(ProgramFault::Room), true)
     );
-    let mut no_script = Vec::from_slice(rt.alloc(), CIRCLE.as_bytes())?;
-    no_script.extend_from_slice(b"\nscript \nundo")?;
-    assert_eq!(rt; answer(rt.alloc(), &no_script, 8), (no_json, true));
+}
+
+/// The line `script` may end in a carriage return and a line feed, in a line feed, or with the input.
+#[test]
+fn the_line_before_the_script_ends_as_any_line(rt: HostRuntime) -> Result<(), Fail> {
+    let start = "start travel 30 hard 0 soft 0\n";
+    let cases = [
+        (
+            "\nscript\nhomes 1 2\n",
+            "done 1 travel 26 hard 0 soft 0\nhistory 1\n",
+        ),
+        (
+            "\nscript\r\nhomes 1 2\r\n",
+            "done 1 travel 26 hard 0 soft 0\nhistory 1\n",
+        ),
+        (
+            "\r\nscript\r\nhomes 1 2",
+            "done 1 travel 26 hard 0 soft 0\nhistory 1\n",
+        ),
+        ("\nscript", "history 0\n"),
+        ("\nscript\r\n", "history 0\n"),
+    ];
+    for (rest, answers) in cases {
+        let input = format!(in rt.alloc(); "{CIRCLE}{rest}")?;
+        let mut memory = [0; 1000];
+        let mut sink = MemorySink::new(&mut memory);
+        play(
+            rt.alloc(),
+            MemorySource::new(input.as_bytes()),
+            &mut sink,
+            8,
+        )?;
+        let text = str::from_utf8(sink.held())?;
+        let told = text.strip_prefix(start).ok_or("the start")?;
+        assert!(rt; told.starts_with(answers), "{input}\n{text}");
+    }
     Ok(())
 }
 
+/// None of these is the line `script`, so that it belongs to the league's text.
 #[test]
-fn play_reads_and_writes_in_any_steps(rt: HostRuntime) -> Result<(), Fail> {
-    let input = input(rt.alloc(), CIRCLE, b"homes 1 2\nundo\n")?;
-    let reads = [Step::Again, Step::Moved(1), Step::Again, Step::Moved(3)];
-    let source = RehearsedSource::new(MemorySource::new(&input), &reads);
-    let writes = [Step::Again, Step::Moved(7), Step::Again];
-    let mut room = [0; 2000];
-    let mut memory = MemorySink::new(&mut room);
-    let mut sink = RehearsedSink::new(&mut memory, &writes);
-    play(rt.alloc(), source, &mut sink, 1024)?;
-    assert!(rt; is_made_of(memory.held(), &AFTER_UNDO));
-    Ok(())
-}
-
-#[test]
-fn play_reads_an_input_of_single_bytes(rt: HostRuntime) -> Result<(), Fail> {
-    let input = input(rt.alloc(), CIRCLE, b"homes 1 2\nundo\n")?;
-    let mut room = [0; 2000];
-    let mut sink = MemorySink::new(&mut room);
-    play(
-        rt.alloc(),
-        MemorySource::in_pieces(&input, 1),
-        &mut sink,
-        1024,
-    )?;
-    assert!(rt; is_made_of(sink.held(), &AFTER_UNDO));
-    Ok(())
-}
-
-#[test]
-fn play_stops_at_a_failed_read(rt: HostRuntime) -> Result<(), Fail> {
-    let input = input(rt.alloc(), CIRCLE, b"homes 1 2\nundo\n")?;
-    let steps = [Step::Moved(7), Step::Failed];
-    let source = RehearsedSource::new(MemorySource::new(&input), &steps);
-    let mut room = [0; 1000];
-    let mut sink = MemorySink::new(&mut room);
-    assert_eq!(rt;
-        play(rt.alloc(), source, &mut sink, 8),
-        Err(ProgramFault::Read)
-    );
-    assert_eq!(rt; sink.tally().calls, 0);
-    Ok(())
-}
-
-#[test]
-fn play_leaves_a_front_after_a_failed_write(rt: HostRuntime) -> Result<(), Fail> {
-    let input = input(rt.alloc(), CIRCLE, b"homes 1 2\nundo\n")?;
-    let steps = [Step::Moved(10), Step::Failed];
-    let mut room = [0; 2000];
-    let mut memory = MemorySink::new(&mut room);
-    let mut sink = RehearsedSink::new(&mut memory, &steps);
-    let answer = play(rt.alloc(), MemorySource::new(&input), &mut sink, 8);
-    assert_eq!(rt; answer, Err(ProgramFault::Write));
-    assert_eq!(rt; memory.held(), b"start trav".as_slice());
+fn other_lines_begin_no_script(rt: HostRuntime) -> Result<(), Fail> {
+    let no_json = Err(ProgramFault::League(LeagueFault::NotJson));
+    for line in [
+        "script ",
+        " script",
+        "script\t",
+        "Script",
+        "scripts",
+        "script\r\r",
+        "script\0",
+    ] {
+        let input = format!(in rt.alloc(); "{CIRCLE}\n{line}\nundo\n")?;
+        assert_eq!(rt;
+            answer(rt.alloc(), input.as_bytes(), 8),
+            (no_json, true),
+            "{line}"
+        );
+    }
     Ok(())
 }

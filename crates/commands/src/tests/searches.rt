@@ -8,7 +8,7 @@ use std::alloc::Global;
 use std::sync::Wait;
 use std::test::Fail;
 use std::thread::Threads;
-use streams::{MemorySink, MemorySource, RehearsedSink, RehearsedSource, Step};
+use streams::{MemorySink, MemorySource};
 
 pub(super) const NO_STEPS: SearchPlan = SearchPlan {
     workers: 2,
@@ -33,16 +33,6 @@ fn search_without_steps_writes_the_start(rt: HostRuntime) -> Result<(), Fail> {
     let mut room = [0; 1000];
     let mut sink = MemorySink::new(&mut room);
     let source = MemorySource::new(CIRCLE.as_bytes());
-    find(&rt, rt.alloc(), source, &mut sink, 1024, NO_STEPS)?;
-    assert!(rt; is_made_of(sink.held(), &NO_STEPS_TEXT));
-    Ok(())
-}
-
-#[test]
-fn search_reads_an_input_of_single_bytes(rt: HostRuntime) -> Result<(), Fail> {
-    let mut room = [0; 1000];
-    let mut sink = MemorySink::new(&mut room);
-    let source = MemorySource::in_pieces(CIRCLE.as_bytes(), 1);
     find(&rt, rt.alloc(), source, &mut sink, 1024, NO_STEPS)?;
     assert!(rt; is_made_of(sink.held(), &NO_STEPS_TEXT));
     Ok(())
@@ -81,49 +71,6 @@ fn search_names_the_first_fault(rt: HostRuntime) {
         assert_eq!(rt; answer, Err(fault));
         assert!(rt; untouched);
     }
-}
-
-#[test]
-fn search_stops_at_a_failed_read(rt: HostRuntime) {
-    let steps = [Step::Moved(7), Step::Failed];
-    let source = RehearsedSource::new(MemorySource::new(CIRCLE.as_bytes()), &steps);
-    let mut room = [0; 1000];
-    let mut sink = MemorySink::new(&mut room);
-    let answer = find(&rt, rt.alloc(), source, &mut sink, 8, NO_STEPS);
-    assert_eq!(rt; answer, Err(ProgramFault::Read));
-    assert_eq!(rt; sink.tally().calls, 0);
-}
-
-#[test]
-fn search_goes_on_after_an_interrupted_write(rt: HostRuntime) -> Result<(), Fail> {
-    let writes = [Step::Again, Step::Moved(7), Step::Again];
-    let mut room = [0; 1000];
-    let mut memory = MemorySink::new(&mut room);
-    let mut sink = RehearsedSink::new(&mut memory, &writes);
-    let source = MemorySource::new(CIRCLE.as_bytes());
-    find(&rt, rt.alloc(), source, &mut sink, 8, NO_STEPS)?;
-    assert!(rt; is_made_of(memory.held(), &NO_STEPS_TEXT));
-    Ok(())
-}
-
-/// A sink that is full after any number of bytes has a front of the text of that length.
-#[test]
-fn search_leaves_a_front_wherever_a_write_fails(rt: HostRuntime) -> Result<(), Fail> {
-    let mut room = [0; 1000];
-    let mut sink = MemorySink::new(&mut room);
-    let source = MemorySource::new(CIRCLE.as_bytes());
-    find(&rt, rt.alloc(), source, &mut sink, 8, NO_STEPS)?;
-    let whole = sink.held();
-    for length in 0..whole.len() {
-        let mut room = [0; 1000];
-        let front = room.get_mut(..length).ok_or("a longer text")?;
-        let mut sink = MemorySink::new(front);
-        let source = MemorySource::new(CIRCLE.as_bytes());
-        let answer = find(&rt, rt.alloc(), source, &mut sink, 8, NO_STEPS);
-        assert_eq!(rt; answer, Err(ProgramFault::Write));
-        assert_eq!(rt; sink.held(), &whole[..length]);
-    }
-    Ok(())
 }
 
 /// The text of a search on the circle, whose schedules are all accepted.

@@ -59,7 +59,7 @@ fn on_circle<'a>(
     }
 }
 
-fn moves<'a>() -> [Worked<'a>; 11] {
+fn moves<'a>() -> [Worked<'a>; 12] {
     [
         on_circle(
             "homes 1 2\n",
@@ -106,6 +106,12 @@ fn moves<'a>() -> [Worked<'a>; 11] {
             "best 30 at 0\n",
         ),
         on_circle(
+            "part-teams 1 3 3\n",
+            "start travel 30 hard 0 soft 0\nno 0 meet\nhistory 0\nend\n",
+            &[super::SHEET],
+            "best 30 at 0\n",
+        ),
+        on_circle(
             "rounds 5 6\n",
             "start travel 30 hard 0 soft 0\ndone 1 travel 28 hard 0 soft 0\n",
             &["round 5: 1-3 4-2\n", "round 6: 2-1 3-4\n"],
@@ -146,7 +152,7 @@ fn moves<'a>() -> [Worked<'a>; 11] {
     ]
 }
 
-fn boards<'a>() -> [Worked<'a>; 9] {
+fn boards<'a>() -> [Worked<'a>; 10] {
     [
         on_circle(
             "pin 1 1 4\nrounds 1 2\nteams 1 2\nhomes 2 3\npin 1 1 4\nunpin 1 4 1\nunpin 4 4 1\n",
@@ -212,6 +218,14 @@ fn boards<'a>() -> [Worked<'a>; 9] {
             begins: "start travel 21000000 hard 0 soft 0\nno 0 full\nhistory 0\nend\n",
             within: &[super::SHEET],
             ends: "best 21000000 at 0\n",
+        },
+        Worked {
+            league: CIRCLE,
+            room: 0,
+            script: "homes 1 2\n",
+            begins: "start travel 30 hard 0 soft 0\nno 0 full\nhistory 0\nend\n",
+            within: &[super::SHEET],
+            ends: "best 30 at 0\n",
         },
         Worked {
             league: CIRCLE,

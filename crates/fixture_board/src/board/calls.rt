@@ -17,7 +17,8 @@ impl Board {
     /// claim, which is ignored.
     pub fn propose(&mut self, caller: u32, proposal: Proposal) -> Reply
         ensures reply { result ≡ reply_of self.old.league self.old.room self.old.history (Ask.Shift proposal) }
-        ensures history { self.new ≡ book self.old.league self.old.room (next_of self.old.league self.old.room self.old.history caller (Ask.Shift proposal)) }
+        ensures history { self.new ≡ book self.old.league self.old.room
+            (next_of self.old.league self.old.room self.old.history caller (Ask.Shift proposal)) }
         ensures legal { IsLegal self.old.league self.old.room self.old.history }
     {
         self.answer(caller, Ask::Shift(proposal))
@@ -26,7 +27,8 @@ impl Board {
     /// Pins a game to its round. Refused, in this order: Ahead, Old, Full, BadGame, NotThere, AlreadyPinned.
     pub fn pin(&mut self, caller: u32, version: u64, game: Game) -> Reply
         ensures reply { result ≡ reply_of self.old.league self.old.room self.old.history (Ask.Pin version game) }
-        ensures history { self.new ≡ book self.old.league self.old.room (next_of self.old.league self.old.room self.old.history caller (Ask.Pin version game)) }
+        ensures history { self.new ≡ book self.old.league self.old.room
+            (next_of self.old.league self.old.room self.old.history caller (Ask.Pin version game)) }
         ensures legal { IsLegal self.old.league self.old.room self.old.history }
     {
         self.answer(caller, Ask::Pin { version, game })
@@ -36,7 +38,8 @@ impl Board {
     /// NotPinned.
     pub fn unpin(&mut self, caller: u32, version: u64, game: Game) -> Reply
         ensures reply { result ≡ reply_of self.old.league self.old.room self.old.history (Ask.Unpin version game) }
-        ensures history { self.new ≡ book self.old.league self.old.room (next_of self.old.league self.old.room self.old.history caller (Ask.Unpin version game)) }
+        ensures history { self.new ≡ book self.old.league self.old.room
+            (next_of self.old.league self.old.room self.old.history caller (Ask.Unpin version game)) }
         ensures legal { IsLegal self.old.league self.old.room self.old.history }
     {
         self.answer(caller, Ask::Unpin { version, game })
@@ -45,7 +48,8 @@ impl Board {
     /// Drops the last change in effect, whoever made it. Refused, in this order: Ahead, Old, Full, NothingToUndo.
     pub fn undo(&mut self, caller: u32, version: u64) -> Reply
         ensures reply { result ≡ reply_of self.old.league self.old.room self.old.history (Ask.Undo version) }
-        ensures history { self.new ≡ book self.old.league self.old.room (next_of self.old.league self.old.room self.old.history caller (Ask.Undo version)) }
+        ensures history { self.new ≡ book self.old.league self.old.room
+            (next_of self.old.league self.old.room self.old.history caller (Ask.Undo version)) }
         ensures legal { IsLegal self.old.league self.old.room self.old.history }
     {
         self.answer(caller, Ask::Undo { version })
@@ -54,7 +58,8 @@ impl Board {
     /// Answers what is asked, as the call that it stands for.
     pub fn answer(&mut self, caller: u32, ask: Ask) -> Reply
         ensures reply { result ≡ reply_of self.old.league self.old.room self.old.history ask }
-        ensures history { self.new ≡ book self.old.league self.old.room (next_of self.old.league self.old.room self.old.history caller ask) }
+        ensures history { self.new ≡ book self.old.league self.old.room
+            (next_of self.old.league self.old.room self.old.history caller ask) }
         ensures legal { IsLegal self.old.league self.old.room self.old.history }
     {
         let at = self.state.version();

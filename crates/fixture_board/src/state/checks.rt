@@ -33,9 +33,10 @@ impl State {
 
     /// Refuses a pin or an unpin for what doesn't depend on the pins, and tells else whether the game is pinned.
     pub(crate) fn check_game(&self, version: u64, game: Game) -> Result<bool, Why>
-        ensures reason { result_err result ≡ first_of (game_rows (length self.now.history.items) self.now.room version self.now.schedule game) }
-        ensures pinned { IfOk result (λ is. (held : List Game) → AllStand self.now.schedule held → ArePinsAt self.now.schedule held self.now.pins →
-            is ≡ has_game held game) }
+        ensures reason { result_err result ≡
+            first_of (game_rows (length self.now.history.items) self.now.room version self.now.schedule game) }
+        ensures pinned { IfOk result (λ is. (held : List Game) → AllStand self.now.schedule held →
+            ArePinsAt self.now.schedule held self.now.pins → is ≡ has_game held game) }
         ensures room { IfOk result (λ _. length self.now.history.items ≢ self.now.room) }
         ensures home { IfOk result (λ _. game.home < max_teams) }
         ensures away { IfOk result (λ _. game.away < max_teams) }
@@ -52,7 +53,8 @@ impl State {
 
     /// Refuses a move that can't be tried.
     pub(crate) fn check_move(&self, version: u64, mv: Move) -> Result<(), Why>
-        ensures { result_err result ≡ first_of (move_rows (length self.now.history.items) self.now.room version self.now.schedule mv) }
+        ensures { result_err result ≡
+            first_of (move_rows (length self.now.history.items) self.now.room version self.now.schedule mv) }
     {
         let at = self.version();
         if at < version {
@@ -70,7 +72,8 @@ impl State {
 
     /// Refuses a proposal by its score, which was the one before its move and is the other after.
     pub(crate) fn check_score(&self, proposal: Proposal, before: u64, after: u64) -> Result<(), Why>
-        ensures { result_err result ≡ first_of (score_rows (length self.now.history.items) proposal before after) }
+        ensures { result_err result ≡
+            first_of (score_rows (length self.now.history.items) proposal before after) }
     {
         if self.version() == proposal.version && is_wrong(proposal.claim, after) {
             Err(Why::WrongClaim)

@@ -11,15 +11,17 @@ const RULES: &str = r#"[
     {"class":"CA1","kind":"hard","teams":[1],"mode":"H","slots":[1,2,6],"max":1},
     {"class":"CA2","kind":"soft","weight":3,"teams1":[1,2],"mode":"A","teams2":[3,4],"slots":[1,3,4],"max":0},
     {"class":"CA3","kind":"hard","teams1":[3],"mode":"H","intp":3,"max":1},
-    {"class":"CA4","kind":"soft","weight":7,"teams1":[1,3],"mode":"H","teams2":[2,4],"slots":[2,3,5],"mode2":"GLOBAL","max":1},
+    {"class":"CA4","kind":"soft","weight":7,"teams1":[1,3],"mode":"H","teams2":[2,4],"slots":[2,3,5],
+        "mode2":"GLOBAL","max":1},
     {"class":"GA1","kind":"soft","weight":10,"games":[[1,2],[4,3]],"slots":[2,5],"min":1,"max":1},
     {"class":"BR1","kind":"hard","teams":[2],"mode":"HA","slots":[2,3,4],"intp":1},
     {"class":"BR2","kind":"soft","weight":2,"teams":[1,2,3,4],"intp":2},
-    {"class":"SE1","kind":"soft","weight":5,"teams":[1,4],"min":3}]"#;
+    {"class":"SE1","kind":"soft","weight":5,"teams":[1,4],"min":3},
+    {"class":"FA2","kind":"soft","weight":4,"teams":[1,3,4],"slots":[2,5],"intp":0}]"#;
 
-/// A league of teams on a line, with rules.
+/// A league of teams on a line, with rules and phases.
 fn league(alloc: Global, teams: u8) -> Result<League, Fail> {
-    let mut text = String::from_str(alloc, "{\"format\":1,\"at_most\":2,\"teams\":[\"T0\"")?;
+    let mut text = String::from_str(alloc, "{\"format\":2,\"at_most\":2,\"teams\":[\"T0\"")?;
     for team in 1..teams {
         text.push_str(&format!(in alloc; ",\"T{team}\"")?)?;
     }
@@ -35,7 +37,7 @@ fn league(alloc: Global, teams: u8) -> Result<League, Fail> {
     }
     text.push_str("],\"rules\":")?;
     text.push_str(RULES)?;
-    text.push_str("}")?;
+    text.push_str(",\"phased\":true}")?;
     Ok(read_league(alloc, text.as_bytes())?)
 }
 

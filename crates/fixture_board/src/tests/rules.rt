@@ -1,25 +1,17 @@
-use super::{best, done, game, homes, no, pin, rounds, shift, undo};
-use crate::{Board, Cost, Reply, Why};
-use league::read_league;
+use super::{best, board_with, done, homes, rounds, shift, undo};
+use crate::{Cost, Reply};
 use std::test::Fail;
 
-const TWO_IN_A_ROW: &str = r#"{"format":1,"teams":["T1","T2","T3","T4"],
-    "distances":[[0,1,2,1],[1,0,1,2],[2,1,0,1],[1,2,1,0]],"at_most":2}"#;
-
-const SOFT_RULES: &str = r#"{"format":1,"teams":["T1","T2","T3","T4"],
-    "distances":[[0,1,2,1],[1,0,1,2],[2,1,0,1],[1,2,1,0]],
-    "rules":[
-        {"class":"BR2","kind":"soft","weight":10,"teams":[1,2,3,4],"intp":4},
-        {"class":"CA3","kind":"soft","weight":10,"teams1":[3],"mode":"H","intp":3,"max":2},
-        {"class":"SE1","kind":"soft","weight":10,"teams":[1,4],"min":3},
-        {"class":"CA2","kind":"soft","weight":10,"teams1":[1],"mode":"A","teams2":[3,4],"slots":[3,4],
-            "max":0},
-        {"class":"GA1","kind":"soft","weight":10,"games":[[1,2]],"slots":[2],"min":1,"max":1}]}"#;
+const SOFT_RULES: &str = r#""rules":[
+    {"class":"BR2","kind":"soft","weight":10,"teams":[1,2,3,4],"intp":4},
+    {"class":"CA3","kind":"soft","weight":10,"teams1":[3],"mode":"H","intp":3,"max":2},
+    {"class":"SE1","kind":"soft","weight":10,"teams":[1,4],"min":3},
+    {"class":"CA2","kind":"soft","weight":10,"teams1":[1],"mode":"A","teams2":[3,4],"slots":[3,4],"max":0},
+    {"class":"GA1","kind":"soft","weight":10,"games":[[1,2]],"slots":[2],"min":1,"max":1}]"#;
 
 #[test]
 fn runs_make_the_start_no_best(rt: HostRuntime) -> Result<(), Fail> {
-    let league = read_league(rt.alloc(), TWO_IN_A_ROW.as_bytes())?;
-    let mut board = Board::new(rt.alloc(), league, 8)?;
+    let mut board = board_with(rt.alloc(), 1, "\"at_most\":2")?;
     assert_eq!(rt;
         board.cost(),
         Cost {
@@ -38,8 +30,7 @@ fn runs_make_the_start_no_best(rt: HostRuntime) -> Result<(), Fail> {
 
 #[test]
 fn soft_rules_count_in_the_total(rt: HostRuntime) -> Result<(), Fail> {
-    let league = read_league(rt.alloc(), SOFT_RULES.as_bytes())?;
-    let mut board = Board::new(rt.alloc(), league, 8)?;
+    let mut board = board_with(rt.alloc(), 1, SOFT_RULES)?;
     assert_eq!(rt;
         board.cost(),
         Cost {

@@ -1,6 +1,6 @@
 //! Rules as they are read, and their faults.
 
-use super::{CIRCLE, GOOD_RULE, TEAMS, all_games_text, league_text, list};
+use super::{GOOD_RULE, all_games_text, circle_text, list};
 use crate::{
     Field, League, LeagueFault, Pairing, RuleBody, Side, SlotSet, TeamSet, Weight, read_league,
 };
@@ -9,8 +9,17 @@ use std::process::Abort;
 use std::test::Fail;
 
 fn four_teams(alloc: Global, rules: &str) -> Result<Result<League, LeagueFault>, AllocError> {
+    four_teams_in(alloc, 1, rules)
+}
+
+// in a format
+fn four_teams_in(
+    alloc: Global,
+    format: u64,
+    rules: &str,
+) -> Result<Result<League, LeagueFault>, AllocError> {
     let more = format!(in alloc; ",\"rules\":{rules}")?;
-    let text = league_text(alloc, TEAMS, CIRCLE, more.as_str())?;
+    let text = circle_text(alloc, format, more.as_str())?;
     Ok(read_league(alloc, text.as_bytes()))
 }
 
@@ -38,7 +47,7 @@ fn slot_set(slots: &[u8]) -> SlotSet {
 // each text is read as one rule, of this body
 fn check_bodies(rt: &impl Abort, alloc: Global, cases: &[(&str, RuleBody)]) -> Result<(), Fail> {
     for (text, body) in cases {
-        let league = four_teams(alloc, text)??;
+        let league = four_teams_in(alloc, 2, text)??;
         assert_eq!(rt; league.rule_count(), 1, "{text}");
         let read = format!(in alloc; "{:?}", league.rule(0).body)?;
         assert_eq!(rt; read, format!(in alloc; "{body:?}")?, "{text}");
@@ -113,6 +122,14 @@ fn reads_each_class(rt: HostRuntime) -> Result<(), Fail> {
                 min: 3,
             },
         ),
+        (
+            r#"[{"class":"FA2","kind":"hard","teams":[1,3],"slots":[2,6],"intp":1}]"#,
+            RuleBody::Fa2 {
+                teams: team_set(&[0, 2]),
+                slots: slot_set(&[1, 5]),
+                most: 1,
+            },
+        ),
     ];
     check_bodies(&rt, rt.alloc(), &cases)
 }
@@ -149,6 +166,14 @@ fn absent_sets_are_whole(rt: HostRuntime) -> Result<(), Fail> {
                 slots: SlotSet::below(6),
                 each: false,
                 max: 1,
+            },
+        ),
+        (
+            r#"[{"class":"FA2","kind":"hard","teams":[],"intp":10000}]"#,
+            RuleBody::Fa2 {
+                teams: TeamSet::empty(),
+                slots: SlotSet::below(6),
+                most: 10_000,
             },
         ),
     ];
@@ -273,6 +298,32 @@ fn tells_wrong_values_of_rules(rt: HostRuntime) -> Result<(), Fail> {
         let text = format!(in alloc; "[{rule}]")?;
         let fault = four_teams(alloc, text.as_str())?.err();
         assert_eq!(rt; fault, Some(LeagueFault::RuleValue(0)), "{rule}");
+    }
+    Ok(())
+}
+
+#[test]
+fn home_games_are_compared_in_the_second_format(rt: HostRuntime) -> Result<(), Fail> {
+    let cases = [
+        (r#""teams":[1],"intp":1"#, None),
+        (r#""teams":[1]"#, Some(LeagueFault::RuleValue(0))),
+        (r#""intp":1"#, Some(LeagueFault::RuleValue(0))),
+        (r#""teams":[5],"intp":1"#, Some(LeagueFault::RuleValue(0))),
+        (
+            r#""teams":[1],"intp":10001"#,
+            Some(LeagueFault::RuleValue(0)),
+        ),
+        (
+            r#""teams":[1],"slots":[7],"intp":1"#,
+            Some(LeagueFault::RuleValue(0)),
+        ),
+    ];
+    for (members, fault) in cases {
+        let rules = format!(in rt.alloc(); "[{{\"class\":\"FA2\",\"kind\":\"hard\",{members}}}]")?;
+        let second = four_teams_in(rt.alloc(), 2, rules.as_str())?.err();
+        assert_eq!(rt; second, fault, "{members}");
+        let first = four_teams_in(rt.alloc(), 1, rules.as_str())?.err();
+        assert_eq!(rt; first, Some(LeagueFault::RuleClass(0)), "{members}");
     }
     Ok(())
 }

@@ -1,13 +1,12 @@
 //! The worker of `worker_alone` in `steps.rt` over each kind of door: seven proposals, each granted.
 
-use super::board;
+use super::{board, check_end};
 use crate::{Door, LockedDoor, NoGate, OwnDoor, Report, SeatDoor, WorkerPlan, worker};
-use fixture_board::{Board, Change, Cost, Entry};
+use fixture_board::{Change, Entry};
 use fixtures::berger;
 use league::circular;
 use moves::Move;
 use shared_board::Shared;
-use std::process::Abort;
 use std::sync::Mutex;
 use std::test::Fail;
 
@@ -24,17 +23,10 @@ const SEVEN: Report = Report {
     refused: 0,
 };
 
-/// The last of seven entries is the caller's, and the last claim is the travel.
-fn check_board(rt: &impl Abort, board: &Board, caller: u32) {
-    assert!(rt; board.version() == 7);
+/// The last of the seven entries, by its caller.
+const fn seventh(caller: u32) -> Entry {
     let change = Change::Shift(Move::Rounds { k: 9, l: 8 });
-    assert_eq!(rt; board.entry(6), Entry { caller, change });
-    let cost = Cost {
-        travel: 90,
-        hard: 0,
-        soft: 0,
-    };
-    assert_eq!(rt; board.cost(), cost);
+    Entry { caller, change }
 }
 
 #[test]
@@ -50,7 +42,7 @@ fn worker_with_an_own_board(rt: HostRuntime) -> Result<(), Fail> {
     let report = worker(&rt, &mut door, &NoGate, &league, PLAN, &mut copy);
     assert_eq!(rt; report, SEVEN);
     assert_eq!(rt; door.dones(), 7);
-    check_board(&rt, &door.board, 5);
+    check_end(&rt, &door.board, 7, seventh(5));
     Ok(())
 }
 
@@ -68,7 +60,7 @@ fn worker_with_a_board_under_a_lock(rt: HostRuntime) -> Result<(), Fail> {
     let report = worker(&rt, &mut door, &NoGate, &league, PLAN, &mut copy);
     assert_eq!(rt; report, SEVEN);
     assert_eq!(rt; door.dones(), 7);
-    check_board(&rt, &board.lock(&rt), 6);
+    check_end(&rt, &board.lock(&rt), 7, seventh(6));
     Ok(())
 }
 
@@ -88,7 +80,7 @@ fn worker_with_a_seat(rt: HostRuntime) -> Result<(), Fail> {
     let SeatDoor { shared: _, seat } = door;
     let closed = shared.close(&rt, seat);
     assert!(rt; closed.whole);
-    check_board(&rt, &closed.board, 0);
+    check_end(&rt, &closed.board, 7, seventh(0));
     Ok(())
 }
 

@@ -2,10 +2,11 @@
 
 ghost use Rattle.std.specs.Prelude.{◌≡◌, [], length, IfOk};
 
-use super::board;
+use super::{board, check_end};
 use crate::{Gate, NoGate, Outcome, RunFault, SearchPlan, run, run_with};
-use fixture_board::{Best, Board, Change, Proposal, Reply};
+use fixture_board::{Best, Board, Change, Entry, Proposal, Reply};
 use league::{League, circular};
+use moves::Move;
 use std::alloc::Global;
 use std::hint::spin_loop;
 use std::process::Abort;
@@ -31,12 +32,13 @@ fn searched<R: Threads + Wait + Sync + Abort, G: Gate + Sync>(
     rt: &R,
     alloc: Global,
     gate: &G,
+    room: u32,
     plan: SearchPlan,
 ) -> Result<Outcome, Fail>
     ensures { IfOk result (λ o. length o.reports ≡ plan.workers) }
 {
     let league = circular(alloc, 4)?;
-    let board = board(alloc, 4, 1024)?;
+    let board = board(alloc, 4, room)?;
     match run_with(rt, alloc, gate, &league, board, plan) {
         Ok(outcome) => {
             check_replay(rt, alloc, &outcome.board)?;
@@ -48,7 +50,7 @@ fn searched<R: Threads + Wait + Sync + Abort, G: Gate + Sync>(
 
 /// The history, made by one thread on a board of its own, gives the same schedule, cost and best.
 fn check_replay(rt: &impl Abort, alloc: Global, played: &Board) -> Result<(), Fail> {
-    let mut again = board(alloc, 4, 1024)?;
+    let mut again = board(alloc, 4, played.room())?;
     for i in 0..played.version() {
         let entry = played.entry(i);
         let Change::Shift(mv) = entry.change else {
@@ -115,7 +117,9 @@ fn two_workers_at_once_20_times(rt: HostRuntime) -> Result<(), Fail> {
             second: AtomicU64::new(0),
             late: AtomicU64::new(0),
         };
-        let outcome = searched(&rt, rt.alloc(), &gate, plan(2))?;
+        let outcome = searched(&rt, rt.alloc(), &gate, 1024, plan(2))?;
+        assert_eq!(rt; gate.first.load(Ordering::SeqCst), 1);
+        assert_eq!(rt; gate.second.load(Ordering::SeqCst), 1);
         assert_eq!(rt; gate.late.load(Ordering::SeqCst), 0);
         assert_eq!(rt; outcome.reports.len(), 2);
         assert!(rt; 0 < outcome.reports.at(0).made);
@@ -127,17 +131,33 @@ fn two_workers_at_once_20_times(rt: HostRuntime) -> Result<(), Fail> {
 #[test]
 fn one_to_sixteen_workers(rt: HostRuntime) -> Result<(), Fail> {
     for workers in [1, 2, 3, 16] {
-        let outcome = searched(&rt, rt.alloc(), &NoGate, plan(workers))?;
+        let outcome = searched(&rt, rt.alloc(), &NoGate, 1024, plan(workers))?;
         assert_eq!(rt; outcome.reports.len(), workers as usize);
         assert_eq!(rt; outcome.plan, plan(workers));
     }
     Ok(())
 }
 
+/// The room is over after 64 changes, which any of the workers may find at any time.
+#[test]
+fn four_workers_fill_the_room_50_times(rt: HostRuntime) -> Result<(), Fail> {
+    for seed in 0..50 {
+        let plan = SearchPlan {
+            seed,
+            steps: 200,
+            ..plan(4)
+        };
+        let outcome = searched(&rt, rt.alloc(), &NoGate, 64, plan)?;
+        assert_eq!(rt; outcome.reports.len(), 4);
+        assert_eq!(rt; outcome.board.version(), 64);
+    }
+    Ok(())
+}
+
 #[test]
 fn one_worker_does_the_same_twice(rt: HostRuntime) -> Result<(), Fail> {
-    let one = searched(&rt, rt.alloc(), &NoGate, plan(1))?;
-    let two = searched(&rt, rt.alloc(), &NoGate, plan(1))?;
+    let one = searched(&rt, rt.alloc(), &NoGate, 1024, plan(1))?;
+    let two = searched(&rt, rt.alloc(), &NoGate, 1024, plan(1))?;
     assert_eq!(rt; one.reports.len(), 1);
     assert_eq!(rt; two.reports.len(), 1);
     assert!(rt; 0 < one.reports.at(0).accepted);
@@ -145,6 +165,28 @@ fn one_worker_does_the_same_twice(rt: HostRuntime) -> Result<(), Fail> {
     assert_eq!(rt; one.board.version(), two.board.version());
     for i in 0..one.board.version() {
         assert_eq!(rt; one.board.entry(i), two.board.entry(i));
+    }
+    Ok(())
+}
+
+/// Six proposals, each granted, are those of `asks 8 0 6 24 30 1024` of `scripts/worker-steps`, a program written apart. With
+/// another seed, slack, number of steps or number of the worker it prints others.
+#[test]
+fn a_worker_has_the_numbers_of_the_plan(rt: HostRuntime) -> Result<(), Fail> {
+    let league = circular(rt.alloc(), 6)?;
+    let board = board(rt.alloc(), 6, 1024)?;
+    let plan = SearchPlan {
+        workers: 1,
+        seed: 8,
+        steps: 24,
+        slack: 30,
+    };
+    match run(&rt, rt.alloc(), &league, board, plan) {
+        Ok(outcome) => {
+            let change = Change::Shift(Move::Rounds { k: 4, l: 3 });
+            check_end(&rt, &outcome.board, 6, Entry { caller: 0, change });
+        }
+        Err(refused) => return Err(refused.why.into()),
     }
     Ok(())
 }
@@ -157,7 +199,7 @@ fn no_steps_change_nothing(rt: HostRuntime) -> Result<(), Fail> {
         steps: 0,
         slack: 0,
     };
-    let outcome = searched(&rt, rt.alloc(), &NoGate, plan)?;
+    let outcome = searched(&rt, rt.alloc(), &NoGate, 1024, plan)?;
     assert_eq!(rt; outcome.reports.len(), 2);
     assert_eq!(rt; outcome.reports.at(1).made, 0);
     assert_eq!(rt; outcome.board.version(), 0);
@@ -171,8 +213,9 @@ fn none_and_seventeen_workers_are_refused(rt: HostRuntime) -> Result<(), Fail> {
     let board = board(rt.alloc(), 4, 1024)?;
     let board = refused(&rt, rt.alloc(), &league, board, 0)?;
     let board = refused(&rt, rt.alloc(), &league, board, 17)?;
-    match run(&rt, rt.alloc(), &league, board, plan(1)) {
+    match run(&rt, rt.alloc(), &league, board, plan(2)) {
         Ok(outcome) => {
+            assert_eq!(rt; outcome.reports.len(), 2);
             assert!(rt; 0 < outcome.board.version());
             check_replay(&rt, rt.alloc(), &outcome.board)?;
         }

@@ -5,7 +5,7 @@ ghost use Rattle.league.specs.League.{teams};
 ghost use Rattle.moves.specs.MainCells.{AreMainCells};
 ghost use Rattle.moves.specs.Moves.{moved};
 ghost use Rattle.search.specs.Doors.{done_count};
-ghost use Rattle.search.specs.Steps.{IsKnown, accepted_count};
+ghost use Rattle.search.specs.Steps.{IsKnown, accepted_count, least_with};
 
 use crate::{Door, Gate};
 use fixture_board::{Cost, Proposal, Reply, Why, cost_of, make_at_cost};
@@ -36,7 +36,8 @@ pub(crate) struct Trial {
 #[derive(Clone, Copy)]
 pub(crate) enum Told {
     Nothing,
-    Accepted,
+    /// Accepted, and the cost of the version that it made.
+    Accepted(Cost),
     Refused,
     /// Refused, and the board's history has no room.
     Full,
@@ -146,7 +147,7 @@ fn settle<R: Wait, D: Door>(
     ensures stays { D.stays door.old door.new }
 {
     match reply {
-        Reply::Done { at, .. } => {
+        Reply::Done { at, cost } => {
             if known.version.checked_add(1) == Some(at) {
                 *known = Known {
                     version: at,
@@ -156,7 +157,7 @@ fn settle<R: Wait, D: Door>(
             } else {
                 *known = refresh(rt, door, league, copy);
             }
-            Told::Accepted
+            Told::Accepted(cost)
         }
         Reply::No { at, why } => {
             make(copy, made.mv, made.main);
@@ -168,5 +169,19 @@ fn settle<R: Wait, D: Door>(
             }
             Told::Refused
         }
+    }
+}
+
+/// The least total of the feasible versions so far, with one more version's cost.
+pub(crate) fn least_with(least: Option<u64>, cost: Cost) -> Option<u64>
+    ensures { result ≡ least_with least cost }
+{
+    if !cost.is_feasible() {
+        return least;
+    }
+    let total = cost.travel.saturating_add(cost.soft);
+    match least {
+        Some(least) => Some(least.min(total)),
+        None => Some(total),
     }
 }

@@ -145,7 +145,7 @@ fn replayed(rt: &impl Abort, alloc: Global, history: &Board) -> Result<Board, Fa
 }
 
 /// Whether two schedules have each game in the same round.
-fn have_same_games(a: &Schedule, b: &Schedule) -> bool {
+pub(super) fn have_same_games(a: &Schedule, b: &Schedule) -> bool {
     if a.teams() != b.teams() || a.rounds() != b.rounds() {
         return false;
     }

@@ -1,6 +1,5 @@
-use Rattle.moves.proofs.EachMove.{each-double_round_robin}
 use Rattle.fixture_board.proofs.Sound.{IsSound-legal}
 use Rattle.fixture_board.proofs.laws.legal_history_is_sound.Goals as goal
 
 pub returns : goal.returns
-returns c = IsSound-legal each-double_round_robin
+returns c = IsSound-legal

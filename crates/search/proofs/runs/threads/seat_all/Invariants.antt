@@ -1,6 +1,6 @@
 use Rattle.std.proofs.Common.{◌≡◌, ◌+◌, ◌≤◌, vec_len, vec_capacity}
 use Rattle.std.specs.Vec.Iter.{into_iter_len}
-use Rattle.search.specs.Crews.{IsChain}
+use Rattle.search.proofs.Chains.{IsChain}
 use Rattle.search.proofs.runs.threads.seat_all.Given as goal
 
 abbrev pub invariant-loop-copy : goal.invariant-loop-copy

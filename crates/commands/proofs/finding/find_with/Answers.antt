@@ -4,16 +4,16 @@ use Rattle.commands.specs.declared.fault.ProgramFault.TheVariants.{Write}
 use Rattle.commands.specs.Outcome.{Ends}
 use Rattle.commands.specs.Find.{AnswersFind}
 use Rattle.commands.proofs.Endings.{answered_find, at_fault, ends_refused}
-use Rattle.commands.proofs.finding.find_from.Goals as goal
+use Rattle.commands.proofs.finding.find_with.Goals as goal
 
-pub returns-in-Err-run : goal.returns-in-Err-run
-returns-in-Err-run g c =
+pub returns-in-Err-run_with : goal.returns-in-Err-run_with
+returns-in-Err-run_with g c =
     let text_len : vec_len c.in_ok-input.input ≡ length c.in_ok-input.input.items = search rules in
     let board_is : c.in-Ok.board ≡ book c.in_ok-league.league c.args.room [] = rw c.in_ok-duplicate.ensures at (c.in-Ok.ensures).ok in
-    rw c.from-in-Err-run.ensures (record {
+    rw c.from-in-Err-run_with.ensures (record {
       ending = ends_refused g.R.Source.left g.R.Source.tally g.W.Sink.held g.W.Sink.tally _ _ c.args.room c.args.plan c.in_ok-league.league c.in_ok-input.input.items
           c.in_ok-input.ensures.taken c.in_ok-input.ensures.end (rw text_len at c.in_ok-input.ensures.within) (rw c.deref.ensures.value at c.in_ok-league.ensures.exact) (c.in-Ok.ensures).within
-          c.args.sink.now c.in-Err-run.refused.why c.in-Err-run.refused.board (rw board_is at (c.in-Err-run.ensures).refused);
+          c.args.sink.now c.in-Err-run_with.refused.why c.in-Err-run_with.refused.board (rw board_is at (c.in-Err-run_with.ensures).refused);
       failed_read = λ rose. let read = c.in_ok-input.ensures.failed rose in cc;
       reads = c.in_ok-input.ensures.calls;
     })
@@ -28,7 +28,7 @@ returns-in_err-search_report g c =
         _,
         answered_find g.R.Source.left g.R.Source.tally g.W.Sink.held g.W.Sink.tally _ _ c.args.room c.args.plan c.in_ok-league.league c.in_ok-input.input.items
             c.in_ok-input.ensures.taken c.in_ok-input.ensures.end (rw text_len at c.in_ok-input.ensures.within) (rw c.deref.ensures.value at c.in_ok-league.ensures.exact) (c.in-Ok.ensures).within
-            c.in-Ok-run.outcome c.in_ok-league.ensures.limits (rw board_is at (c.in-Ok-run.ensures).done),
+            c.in-Ok-run_with.outcome c.in_ok-league.ensures.limits (rw board_is at (c.in-Ok-run_with.ensures).done),
         c.in_err-search_report.ensures.front,
         c.in_err-search_report.ensures.cause,
       );
@@ -45,7 +45,7 @@ returns g c =
         _,
         answered_find g.R.Source.left g.R.Source.tally g.W.Sink.held g.W.Sink.tally _ _ c.args.room c.args.plan c.in_ok-league.league c.in_ok-input.input.items
             c.in_ok-input.ensures.taken c.in_ok-input.ensures.end (rw text_len at c.in_ok-input.ensures.within) (rw c.deref.ensures.value at c.in_ok-league.ensures.exact) (c.in-Ok.ensures).within
-            c.in-Ok-run.outcome c.in_ok-league.ensures.limits (rw board_is at (c.in-Ok-run.ensures).done),
+            c.in-Ok-run_with.outcome c.in_ok-league.ensures.limits (rw board_is at (c.in-Ok-run_with.ensures).done),
         c.in_ok-search_report.ensures.ok,
       );
       failed_read = λ rose. let read = c.in_ok-input.ensures.failed rose in cc;

@@ -1,0 +1,36 @@
+-- The line that tells on a terminal how far a search is.
+use Rattle.std.specs.Prelude.{ℕ, ◌+◌, ◌-◌, ◌/◌, ◌^◌, min, max, nat_le, if◌then◌else◌, Bool, true, false, List, [], Option, Some, None}
+use Rattle.std.specs.Time.{instant_nanos}
+use Rattle.std.specs.declared.time.Instant.{Instant}
+use Rattle.search.specs.declared.gates.Progress.{Progress}
+use Rattle.texts.specs.SearchText.{clear_line}
+use Rattle.commands.specs.declared.progress.Reached.{Reached}
+
+-- the lesser of two totals, each of which may be unknown
+abbrev pub lesser : Option ℕ → Option ℕ → Option ℕ
+lesser None told = told
+lesser (Some known) None = Some known
+lesser (Some known) (Some told) = Some (min known told)
+
+-- how far all workers are when one more has told. Steps stop at the greatest `u64`
+abbrev pub reached_with : Reached → Progress → Reached
+reached_with r p = record {
+  steps = min (r.steps + p.steps) (2 ^ 64 - 1);
+  version = max r.version p.version;
+  least = lesser r.least p.least;
+}
+
+-- a quarter of a second has passed since a line was written or first asked for
+abbrev pub is_due : Option Instant → Instant → Bool
+is_due None now = false
+is_due (Some last) now = nat_le 250 ((instant_nanos now - instant_nanos last) / 1_000_000)
+
+-- when a line was last written or first asked for, after one more time
+abbrev pub last_after : Option Instant → Instant → Option Instant
+last_after None now = Some now
+last_after (Some last) now = if is_due (Some last) now then Some now else Some last
+
+-- what takes the line away where one stands
+abbrev pub line_to_clear : Bool → List ℕ
+line_to_clear false = []
+line_to_clear true = clear_line

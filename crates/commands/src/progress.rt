@@ -1,0 +1,160 @@
+//! The line that tells on a terminal how far a search is.
+
+ghost use Rattle.std.specs.Prelude.{◌≡◌, OnOk, OnErr, Some, true, false};
+ghost use Rattle.std.specs.Io.KnownBytes.{Appends};
+ghost use Rattle.streams.specs.Sending.{AppendsFront};
+ghost use Rattle.texts.specs.SearchText.{progress_line};
+ghost use Rattle.commands.specs.Progress.{is_due, last_after, line_to_clear, reached_with};
+
+use search::{Gate, Progress, SearchPlan};
+use std::sync::{Mutex, Wait};
+use std::time::{Clock, Instant};
+use streams::{BufferedSink, Sink, WriteFault};
+use texts::{write_clear, write_progress};
+
+/// How many milliseconds pass between two lines.
+const PAUSE: u128 = 250;
+
+/// Writes on a terminal how many steps the workers took, the latest version that one of them has, and the least total that
+/// they told of. The line is written a few times a second, each over the one before, and taken away when the workers have
+/// ended. No worker waits for the terminal but the one that writes.
+#[derive(Drop)]
+pub struct ProgressLine<'a, C, W> {
+    clock: &'a C,
+    reached: Mutex<Reached>,
+    line: Mutex<Line<W>>,
+}
+
+impl<'a, C: Clock, W: Sink> ProgressLine<'a, C, W> {
+    /// A line of a search by this plan, which isn't written yet.
+    pub fn new(clock: &'a C, terminal: W, plan: SearchPlan) -> Self {
+        let reached = Reached {
+            steps: 0,
+            version: 0,
+            least: None,
+        };
+        let line = Line {
+            terminal,
+            all: u64::from(plan.workers) * u64::from(plan.steps),
+            last: None,
+            shown: false,
+        };
+        ProgressLine {
+            clock,
+            reached: Mutex::new(reached),
+            line: Mutex::new(line),
+        }
+    }
+}
+
+impl<C: Clock, W: Sink> Gate for ProgressLine<'_, C, W> {
+    fn enter<R: Wait>(&self, _rt: &R, _worker: u32, _made: u32) {}
+
+    fn left<R: Wait>(&self, _rt: &R, _worker: u32, _made: u32) {}
+
+    fn told<R: Wait>(&self, rt: &R, _worker: u32, progress: Progress) {
+        self.reached.lock(rt).add(progress);
+        let Some(mut line) = self.line.try_lock() else {
+            return;
+        };
+        let Ok(now) = Instant::now(self.clock) else {
+            return;
+        };
+        if line.is_due(now) {
+            let reached = *self.reached.lock(rt);
+            // a terminal that takes no line shows none, and the search goes on
+            let _ = line.show(reached);
+        }
+    }
+
+    fn ended<R: Wait>(&self, rt: &R) {
+        let _ = self.line.lock(rt).clear();
+    }
+}
+
+/// How far all workers are.
+#[derive(Clone, Copy)]
+struct Reached {
+    steps: u64,
+    version: u64,
+    least: Option<u64>,
+}
+
+impl Reached {
+    /// Takes in what one worker tells.
+    fn add(&mut self, progress: Progress)
+        ensures { self.new ≡ reached_with self.old progress }
+    {
+        self.steps = self.steps.saturating_add(u64::from(progress.steps));
+        self.version = self.version.max(progress.version);
+        self.least = match (self.least, progress.least) {
+            (Some(known), Some(told)) => Some(known.min(told)),
+            (known, told) => known.or(told),
+        };
+    }
+}
+
+/// What stands on the terminal.
+#[derive(Drop)]
+struct Line<W> {
+    terminal: W,
+    /// How many steps the workers take in all.
+    all: u64,
+    /// When the line was written last or, before the first one, was first asked for.
+    last: Option<Instant>,
+    shown: bool,
+}
+
+impl<W: Sink> Line<W> {
+    /// Whether the line is to be written now.
+    fn is_due(&mut self, now: Instant) -> bool
+        ensures due { result ≡ is_due self.old.last now }
+        ensures last { self.new ≡ record self.old { last = last_after self.old.last now } }
+    {
+        let due = match self.last {
+            Some(last) => PAUSE <= now.duration_since(last).as_millis(),
+            None => false,
+        };
+        if due || self.last.is_none() {
+            self.last = Some(now);
+        }
+        due
+    }
+
+    /// Writes the line over the one that stands.
+    fn show(&mut self, reached: Reached) -> Result<(), WriteFault>
+        ensures ok { OnOk result (Appends (W.held self.old.terminal) (W.held self.new.terminal)
+            (progress_line reached.steps self.old.all reached.version reached.least)) }
+        ensures front { OnErr result (AppendsFront (W.held self.old.terminal) (W.held self.new.terminal)
+            (progress_line reached.steps self.old.all reached.version reached.least)) }
+        ensures shown { self.new.shown ≡ true }
+    {
+        self.shown = true;
+        let mut out = BufferedSink::new(&mut self.terminal);
+        write_progress(
+            &mut out,
+            reached.steps,
+            self.all,
+            reached.version,
+            reached.least,
+        )?;
+        out.flush()
+    }
+
+    /// Takes the line away where one stands.
+    fn clear(&mut self) -> Result<(), WriteFault>
+        ensures ok { OnOk result (Appends (W.held self.old.terminal) (W.held self.new.terminal)
+            (line_to_clear self.old.shown)) }
+        ensures front { OnErr result (AppendsFront (W.held self.old.terminal) (W.held self.new.terminal)
+            (line_to_clear self.old.shown)) }
+        ensures shown { self.new.shown ≡ false }
+    {
+        if !self.shown {
+            return Ok(());
+        }
+        self.shown = false;
+        let mut out = BufferedSink::new(&mut self.terminal);
+        write_clear(&mut out)?;
+        out.flush()
+    }
+}

@@ -1,0 +1,10 @@
+use Rattle.league.specs.Sets.{has}
+use Rattle.league.specs.Sums.{sum_where}
+use Rattle.league.proofs.ForCallers.{IsSumWithout}
+use Rattle.robinx.specs.Deviations.{worst_gap}
+use Rattle.robinx.proofs.fairness_rules.fa2.Given as goal
+
+abbrev pub invariant-loop-team : goal.invariant-loop-team
+invariant-loop-team l =
+    IsSumWithout l.schedule.teams l.fn.teams l.team-iterator l.total 3120
+    (λ t. sum_where t (has l.fn.teams) (λ other. worst_gap l.schedule (has l.slots) l.most other t))

@@ -1,0 +1,237 @@
+"""Schedules, moves, costs and play texts, written from docs/model.md, docs/rules.md, docs/script.md and docs/sheet.md.
+It shares no code with the crates: scripts/worker-steps, scripts/play-apart and scripts/search-again hold the crates to it."""
+import json
+from itertools import combinations
+
+GREATEST = 2**64 - 1
+# the first word of a script line, and what its numbers are: teams, or rounds
+MOVES = {
+    "homes": "tt",
+    "rounds": "rr",
+    "teams": "tt",
+    "part-rounds": "trr",
+    "part-teams": "ttr",
+}
+
+
+def start(teams):
+    """The round of each pair of teams, home first: the Berger table, and then the same with homes reversed."""
+    games, cycle = {}, teams - 1
+    for r in range(1, teams):
+        for i in range(1, teams):
+            j = (r + 1 - i) % cycle or cycle
+            if i == j:
+                home, away = (i, teams) if r % 2 == 1 else (teams, i)
+            elif i > j:
+                continue
+            else:
+                home, away = (i, j) if (i + j) % 2 == 1 else (j, i)
+            games[home - 1, away - 1] = r - 1
+            games[away - 1, home - 1] = r - 1 + cycle
+    return games
+
+
+def other(a, b):
+    return lambda x: b if x == a else a if x == b else x
+
+
+def closed(first, neighbours):
+    """The least set that has the first, and with a member its neighbours."""
+    members, new = {first}, [first]
+    while new:
+        for x in neighbours(new.pop()):
+            if x not in members:
+                members.add(x)
+                new.append(x)
+    return members
+
+
+def moved(games, teams, kind, numbers):
+    """The games after the move, or why it can't be made."""
+    limits = {"t": teams, "r": 2 * (teams - 1)}
+    first, second = numbers[1:] if kind == "part-rounds" else numbers[:2]
+    if any(number >= limits[of] for number, of in zip(numbers, MOVES[kind])) or first == second:
+        return "bad move"
+    swap = other(first, second)
+    if kind == "homes":
+        return {(h, a): games[a, h] if {h, a} == {first, second} else r for (h, a), r in games.items()}
+    if kind == "rounds":
+        return {p: swap(r) for p, r in games.items()}
+    if kind == "part-rounds":
+        pairs = [p for p, r in games.items() if r in (first, second)]
+        among = closed(numbers[0], lambda t: {x for p in pairs if t in p for x in p})
+        return {p: swap(r) if p[0] in among else r for p, r in games.items()}
+    among, i, j = set(games.values()), first, second
+    if kind == "part-teams":
+        if numbers[2] in (games[i, j], games[j, i]):
+            return "meet"
+        same = [(games[i, x], games[j, x]) for x in range(teams) if x not in (i, j)]
+        same += [(games[x, i], games[x, j]) for x in range(teams) if x not in (i, j)]
+        among = closed(numbers[2], lambda r: {x for pair in same if r in pair for x in pair})
+    after = {}
+    for (h, a), r in games.items():
+        after[(swap(h), swap(a)) if r in among and {h, a} != {i, j} else (h, a)] = r
+    return after
+
+
+def over(count, most):
+    return max(0, count - most)
+
+
+def cells(games, teams):
+    """The opponent of each team in each round, and whether the team is at home."""
+    table = [[None] * (2 * (teams - 1)) for _ in range(teams)]
+    for (h, a), r in games.items():
+        table[h][r], table[a][r] = (a, True), (h, False)
+    return table
+
+
+def deviation(rule, games, table):
+    rounds = len(table[0])
+    numbers = lambda name, most: {x - 1 for x in rule.get(name, range(1, most + 1))}
+    teams, firsts, seconds = (numbers(name, len(table)) for name in ("teams", "teams1", "teams2"))
+    slots, mode, most = numbers("slots", rounds), rule.get("mode", "HA"), rule.get("max", rule.get("intp"))
+    counts = lambda t, s: ("H" if table[t][s][1] else "A") in mode
+    against = lambda t, s: counts(t, s) and table[t][s][0] in seconds
+    breaks = lambda t: sum(s > 0 and table[t][s][1] == table[t][s - 1][1] and counts(t, s) for s in slots)
+    name = rule["class"]
+    if name == "CA1":
+        return sum(over(sum(counts(t, s) for s in slots), most) for t in teams)
+    if name == "CA2":
+        return sum(over(sum(against(t, s) for s in slots), most) for t in firsts)
+    if name == "CA3":
+        windows = [range(s, s + rule["intp"]) for s in range(rounds - rule["intp"] + 1)]
+        return sum(over(sum(against(t, s) for s in window), most) for t in firsts for window in windows)
+    if name == "CA4":
+        each = [sum(against(t, s) for t in firsts) for s in slots]
+        return over(sum(each), most) if rule["mode2"] == "GLOBAL" else sum(over(count, most) for count in each)
+    if name == "GA1":
+        count = sum(games[h - 1, a - 1] in slots for h, a in {tuple(game) for game in rule["games"]})
+        return over(count, most) + over(rule["min"], count)
+    if name == "BR1":
+        return sum(over(breaks(t), most) for t in teams)
+    if name == "BR2":
+        return over(sum(breaks(t) for t in teams), most)
+    between = lambda a, b: abs(games[a, b] - games[b, a]) - 1
+    return sum(over(rule["min"], between(a, b)) for a, b in combinations(teams, 2))
+
+
+def cost(games, league):
+    """Travel, hard and soft."""
+    distances, at_most = league["distances"], league.get("at_most", 3)
+    table, travel, hard, soft = cells(games, len(distances)), 0, 0, 0
+    for t, row in enumerate(table):
+        places = [t, *(t if home else opponent for opponent, home in row), t]
+        travel += sum(distances[a][b] for a, b in zip(places, places[1:]))
+        windows = [{home for _, home in row[r : r + at_most + 1]} for r in range(len(row) - at_most)]
+        hard += sum(len(window) == 1 for window in windows)
+    hard += sum(abs(games[h, a] - games[a, h]) == 1 for h, a in games if h < a)
+    for rule in league.get("rules", []):
+        if rule["kind"] == "hard":
+            hard += deviation(rule, games, table)
+        else:
+            soft += rule["weight"] * deviation(rule, games, table)
+    return travel, hard, soft
+
+
+def sheet(games, league):
+    teams = league["teams"]
+    rounds = 2 * (len(teams) - 1)
+    yield f"league {len(teams)} teams {rounds} rounds"
+    for t, (row, name) in enumerate(zip(cells(games, len(teams)), teams)):
+        yield f"team {t + 1} {''.join('H' if home else 'A' for _, home in row)} {name}"
+    for r in range(rounds):
+        pairs = sorted(pair for pair, at in games.items() if at == r)
+        yield f"round {r + 1}: " + " ".join(f"{h + 1}-{a + 1}" for h, a in pairs)
+
+
+class Board:
+    """A board of one thread, and the slack of the moves to come."""
+
+    def __init__(self, league, room):
+        self.league, self.room, self.teams, self.slack = league, room, len(league["teams"]), GREATEST
+        self.states = [(start(self.teams), frozenset())]
+        self.history, self.best = [], None
+        self.cost = cost(self.states[-1][0], league)
+        self.keep_best()
+
+    def keep_best(self):
+        travel, hard, soft = self.cost
+        if hard == 0 and (self.best is None or travel + soft < self.best[0]):
+            self.best = travel + soft, len(self.history)
+
+    def score(self, of):
+        return of[0] + of[2] + self.league.get("hard_weight", 100) * of[1]
+
+    def refusal_or_state(self, word, numbers):
+        games, pins = self.states[-1]
+        if len(self.history) == self.room:
+            return "full"
+        if word == "undo":
+            return self.states[-2] if len(self.states) > 1 else "nothing to undo"
+        if word in MOVES:
+            after = moved(games, self.teams, word, numbers)
+            if isinstance(after, str):
+                return after
+            if any(games[pair] != after[pair] for pair in pins):
+                return "pinned"
+            worse = self.score(cost(after, self.league)) > self.score(self.cost) + self.slack
+            return "worse" if worse else (after, pins)
+        r, *pair = numbers
+        if games.get(tuple(pair)) is None or r >= 2 * (self.teams - 1):
+            return "bad game"
+        if games[tuple(pair)] != r:
+            return "not there"
+        if word == "pin":
+            return "already pinned" if tuple(pair) in pins else (games, pins | {tuple(pair)})
+        return (games, pins - {tuple(pair)}) if tuple(pair) in pins else "not pinned"
+
+    def answer(self, word, numbers, line):
+        state = self.refusal_or_state(word, numbers)
+        if isinstance(state, str):
+            return f"no {len(self.history)} {state}"
+        self.states = self.states[:-1] if word == "undo" else [*self.states, state]
+        self.history.append(line)
+        self.cost = cost(state[0], self.league)
+        self.keep_best()
+        return f"done {len(self.history)} " + shown(self.cost)
+
+
+def shown(of):
+    return "travel {} hard {} soft {}".format(*of)
+
+
+def is_number(word):
+    return word.isascii() and word.isdigit() and len(word) <= 20 and int(word) <= GREATEST
+
+
+def play_line(board, number, line):
+    """The answer to a script line, or None where there is none."""
+    words = line.split()
+    if not words or words[0].startswith("#"):
+        return None
+    word, *numbers = words
+    wanted = {"undo": 0, "slack": 1, "pin": 3, "unpin": 3, **{move: len(of) for move, of in MOVES.items()}}
+    if wanted.get(word) != len(numbers) or not all(map(is_number, numbers)):
+        return f"bad line {number}"
+    if word == "slack":
+        board.slack = int(numbers[0])
+        return f"slack {board.slack}"
+    indexes = [x - 1 if 0 < x < 256 else 255 for x in map(int, numbers)]
+    return board.answer(word, indexes, " ".join([word, *map(str, map(int, numbers))]))
+
+
+def play(text, script, room=1024):
+    """The lines of the play text of a league's text, which has to be one, and script lines."""
+    league = json.loads(text)
+    board = Board(league, room)
+    yield "start " + shown(board.cost)
+    for number, line in enumerate(script, 1):
+        answer = play_line(board, number, line)
+        if answer is not None:
+            yield answer
+    yield f"history {len(board.history)}"
+    yield from board.history
+    yield "end"
+    yield from sheet(board.states[-1][0], league)
+    yield "best none" if board.best is None else "best {} at {}".format(*board.best)
