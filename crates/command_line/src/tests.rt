@@ -311,7 +311,10 @@ fn check_memory(rt: &impl Abort, alloc: Global, is_ample: bool) {
     let cases: [(&[&str], Result<Job, ErrorKind>); 3] = [
         (&["ttp", "start"], Ok(Job::Start)),
         (search, Ok(Job::Find { room: 1024, plan })),
-        (&["ttp", "play", "--room=x"], Err(ErrorKind::ValueValidation)),
+        (
+            &["ttp", "play", "--room=x"],
+            Err(ErrorKind::ValueValidation),
+        ),
     ];
     for (given, wanted) in cases {
         let Ok(words) = words(alloc, given) else {
