@@ -2,12 +2,13 @@
 
 use super::{board, check_end};
 use crate::{Door, LockedDoor, NoGate, OwnDoor, Report, SeatDoor, WorkerPlan, worker};
-use fixture_board::{Change, Entry};
+use fixture_board::{Board, Change, Entry, Proposal, Reply};
 use fixtures::berger;
 use league::circular;
 use moves::Move;
 use shared_board::Shared;
-use std::sync::Mutex;
+use std::process::Abort;
+use std::sync::{Mutex, Wait};
 use std::test::Fail;
 
 const PLAN: WorkerPlan = WorkerPlan {
@@ -62,6 +63,36 @@ fn worker_with_a_board_under_a_lock(rt: HostRuntime) -> Result<(), Fail> {
     assert_eq!(rt; door.dones(), 7);
     check_end(&rt, &board.lock(&rt), 7, seventh(6));
     Ok(())
+}
+
+/// The version under a lock is the board's, whoever changed it.
+#[test]
+fn front_under_a_lock_counts_the_changes_of_others(rt: HostRuntime) -> Result<(), Fail> {
+    let board = Mutex::new(board(rt.alloc(), 6, 1024)?);
+    let mut door = LockedDoor {
+        board: &board,
+        caller: 6,
+        dones: 0,
+    };
+    for version in 0..3 {
+        assert_eq!(rt; door.front(&rt), version);
+        change_as_another(&rt, &board, version);
+    }
+    assert_eq!(rt; door.front(&rt), 3);
+    assert_eq!(rt; door.dones(), 0);
+    Ok(())
+}
+
+/// Caller 7 exchanges rounds 1 and 2, whatever that costs.
+fn change_as_another(rt: &(impl Wait + Abort), board: &Mutex<Board>, version: u64) {
+    let proposal = Proposal {
+        version,
+        mv: Move::Rounds { k: 0, l: 1 },
+        claim: None,
+        slack: u64::MAX,
+    };
+    let reply = board.lock(rt).propose(7, proposal);
+    assert!(rt; matches!(reply, Reply::Done { .. }));
 }
 
 #[test]
