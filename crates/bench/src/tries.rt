@@ -4,10 +4,10 @@ ghost use Rattle.std.specs.Prelude.{◌≡◌};
 ghost use Rattle.league.specs.League.{teams};
 ghost use Rattle.search.specs.Steps.{IsKnown};
 
-use fixture_board::{Cost, cost_of, make_at_cost};
+use fixture_board::{Cost, cost_of, make_within};
 use fixtures::Schedule;
 use league::League;
-use moves::{Move, check, main_cells, make};
+use moves::{Move, check, main_cells};
 use rand_pcg::Lcg64Xsh32;
 use search::draw;
 
@@ -73,12 +73,10 @@ fn attempt(schedule: &mut Schedule, league: &League, mv: Move, known: &mut Known
         return Outcome::Refused;
     }
     let main = main_cells(schedule, mv);
-    let cost = make_at_cost(schedule, league, mv, main, known.cost);
-    let score = cost.score(league);
-    if score > known.score {
-        make(schedule, mv, main);
+    let Some(cost) = make_within(schedule, league, mv, main, known.cost, known.score) else {
         return Outcome::Withdrawn;
-    }
+    };
+    let score = cost.score(league);
     *known = Known { cost, score };
     Outcome::Kept
 }

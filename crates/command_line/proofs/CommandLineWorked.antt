@@ -1,7 +1,7 @@
 -- What the definition of the command line answers at words that are written out.
 use Rattle.std.proofs.Common.{◌≡◌, List, [], ◌∷◌, None, Some, codes, refl}
 use Rattle.clap.specs.Words.{Text, fault_of}
-use Rattle.clap.specs.declared.error.kind.ErrorKind.TheVariants.{ArgumentConflict, DisplayHelp, MissingSubcommand, UnknownArgument, ValueValidation}
+use Rattle.clap.specs.declared.error.kind.ErrorKind.TheVariants.{ArgumentConflict, DisplayHelp, DisplayVersion, MissingSubcommand, UnknownArgument, ValueValidation}
 use Rattle.clap.proofs.OnLiterals.{clap_on_literals}
 use Rattle.command_line.specs.CommandLine.{job_of_words, program}
 use Rattle.command_line.specs.declared.job.Job.TheVariants.{Find, Play, Start}
@@ -20,6 +20,18 @@ command_is_needed = refl
 help_is_shown : fault_of program (ttp (codes "--help" ∷ [])) ≡ DisplayHelp ∷ []
 unfolding clap_on_literals
 help_is_shown = refl
+
+version_is_shown : fault_of program (ttp (codes "--version" ∷ [])) ≡ DisplayVersion ∷ []
+unfolding clap_on_literals
+version_is_shown = refl
+
+version_has_a_letter : fault_of program (ttp (codes "-V" ∷ [])) ≡ DisplayVersion ∷ []
+unfolding clap_on_literals
+version_has_a_letter = refl
+
+no_command_tells_the_version : fault_of program (ttp (codes "start" ∷ codes "--version" ∷ [])) ≡ UnknownArgument ∷ []
+unfolding clap_on_literals
+no_command_tells_the_version = refl
 
 play_passes : fault_of program (ttp (codes "play" ∷ codes "--room" ∷ codes "7" ∷ [])) ≡ []
 unfolding clap_on_literals

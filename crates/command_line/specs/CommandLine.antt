@@ -76,9 +76,13 @@ app_of_command c = fold with_rule (new_app c.name) (map rule_of c.options)
 abbrev pub needing_command : App → App
 needing_command = on_top (λ top. record top { subcommand_required = true })
 
+-- a version is told
+abbrev pub telling_version : App → App
+telling_version = on_top (λ top. record top { has_version = true })
+
 -- `ttp` with these commands
 abbrev pub program_of : List CommandForm → App
-program_of cs = fold (λ app c. with_subcommand app (app_of_command c).top) (needing_command (new_app (codes "ttp"))) cs
+program_of cs = fold (λ app c. with_subcommand app (app_of_command c).top) (telling_version (needing_command (new_app (codes "ttp")))) cs
 
 abbrev pub program : App
 program = program_of commands

@@ -1,4 +1,7 @@
-//! What `--help` says.
+//! What `--help` and `--version` say.
+
+/// The program's version, which `--version` tells.
+pub(crate) const VERSION: &str = "0.1.0";
 
 pub(crate) const PROGRAM_ABOUT: &str = "A fixture board for the Travelling Tournament Problem";
 

@@ -7,7 +7,7 @@ ghost use Rattle.command_line.specs.CommandLine.{search_command, start_command, 
 
 use crate::help::{
     PLAY_ABOUT, PLAY_LINES, PROGRAM_ABOUT, PROGRAM_EXAMPLE, SEARCH_ABOUT, SEARCH_EXAMPLE,
-    START_ABOUT, START_EXAMPLE,
+    START_ABOUT, START_EXAMPLE, VERSION,
 };
 use crate::number_args::{ROOM, SEED, SLACK, STEPS, WORKERS};
 use clap::{ArgMatches, Command, Error};
@@ -26,7 +26,7 @@ pub enum Job {
 }
 
 /// Reads the program's words, the first of which is its name. The error is clap's: its text, which
-/// for `--help` is no fault, and its exit status.
+/// for `--help` and `--version` is no fault, and its exit status.
 pub fn args(alloc: Global, words: &[String]) -> Result<Job, Error>
     ensures fault { FailsBy (fault_of program (map string_bytes words.now)) result }
     ensures job { IfOk result (λ job. job_of_words (map string_bytes words.now) ≡ Some job) }
@@ -100,6 +100,7 @@ fn with_start<'a>(alloc: Global) -> Result<Command<'a>, AllocError>
         .about(START_ABOUT)
         .after_help(START_EXAMPLE);
     Command::new(alloc, "ttp")
+        .version(VERSION)
         .about(PROGRAM_ABOUT)
         .after_help(PROGRAM_EXAMPLE)
         .subcommand_required(true)

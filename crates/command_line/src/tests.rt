@@ -135,8 +135,10 @@ fn jobs_differ_in_each_number(rt: HostRuntime) {
 }
 
 #[test]
-fn wrong_command_lines_end_with_two_and_help_with_zero(rt: HostRuntime) -> Result<(), Fail> {
-    let cases: [(&[&str], ErrorKind, i32); 17] = [
+fn wrong_command_lines_end_with_two_and_help_and_version_with_zero(
+    rt: HostRuntime,
+) -> Result<(), Fail> {
+    let cases: [(&[&str], ErrorKind, i32); 22] = [
         (&["ttp"], ErrorKind::MissingSubcommand, 2),
         (&["ttp", "stop"], ErrorKind::InvalidSubcommand, 2),
         (&["ttp", "start", "now"], ErrorKind::UnknownArgument, 2),
@@ -190,6 +192,16 @@ fn wrong_command_lines_end_with_two_and_help_with_zero(rt: HostRuntime) -> Resul
         (&["ttp", "play", "--help"], ErrorKind::DisplayHelp, 0),
         (&["ttp", "search", "--help"], ErrorKind::DisplayHelp, 0),
         (&["ttp", "start", "--help"], ErrorKind::DisplayHelp, 0),
+        (&["ttp", "--version"], ErrorKind::DisplayVersion, 0),
+        (&["ttp", "-V"], ErrorKind::DisplayVersion, 0),
+        // the version is the program's, and no command tells it
+        (
+            &["ttp", "start", "--version"],
+            ErrorKind::UnknownArgument,
+            2,
+        ),
+        (&["ttp", "play", "--version"], ErrorKind::UnknownArgument, 2),
+        (&["ttp", "search", "-V"], ErrorKind::UnknownArgument, 2),
     ];
     for (given, kind, status) in cases {
         let words = words(rt.alloc(), given)?;
@@ -217,6 +229,7 @@ fn help_tells_what_is_read_and_written(rt: HostRuntime) -> Result<(), Fail> {
                 "\n  start ",
                 "\n  play ",
                 "\n  search ",
+                "\nOptions:\n  -h, --help     Print help\n  -V, --version  Print version\n\n",
                 "Example:\n  ttp search --slack 8 < leagues/circular-4.json\n",
             ],
         ),
@@ -278,6 +291,23 @@ fn help_tells_what_is_read_and_written(rt: HostRuntime) -> Result<(), Fail> {
         for part in parts {
             assert!(rt; text.contains(*part), "{part} in {text}");
         }
+    }
+    Ok(())
+}
+
+#[test]
+fn version_is_a_line_of_its_own(rt: HostRuntime) -> Result<(), Fail> {
+    let cases: [&[&str]; 3] = [
+        &["ttp", "--version"],
+        &["ttp", "-V"],
+        &["/tmp/program", "--version"],
+    ];
+    for given in cases {
+        assert_eq!(rt;
+            told(rt.alloc(), given)?.as_str(),
+            "ttp 0.1.0\n",
+            "{given:?}"
+        );
     }
     Ok(())
 }

@@ -43,15 +43,19 @@ unfoldable pub sum_over_seen_rules : (Weight → ℕ → ℕ) → List Rule → 
 sum_over_seen_rules share rules teams g =
     sum_below (length rules) (λ i. seen_share_of share teams g (slice_get rules i))
 
--- of all costs, where `sides` has the teams whose sides may change
-unfoldable pub cost_share : LeagueData → Move → TouchedCells → ℕ → Games → Cost
-cost_share l mv main sides g = record {
-  travel = travel_share l mv main g;
+-- of all costs but the travel, where `sides` has the teams whose sides may change
+unfoldable pub share_but_travel : LeagueData → Move → TouchedCells → ℕ → Games → Cost
+share_but_travel l mv main sides g = record {
+  travel = 0;
   hard = runs_part g l.at_most (has sides) (has main.rounds) + repeats_share mv main g +
       sum_over_seen_rules hard_share l.rules main.teams g +
       where_phased l (unphased_part g (has main.teams));
   soft = sum_over_seen_rules soft_share l.rules main.teams g;
 }
+
+-- of all costs
+unfoldable pub cost_share : LeagueData → Move → TouchedCells → ℕ → Games → Cost
+cost_share l mv main sides g = record (share_but_travel l mv main sides g) { travel = travel_share l mv main g }
 
 -- the new cost with the share before is the known one with the share after
 pub record CostsBalance (new known before after : Cost) : Type 0 where

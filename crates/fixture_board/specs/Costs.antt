@@ -1,5 +1,5 @@
 -- What a schedule costs in a league.
-use Rattle.std.specs.Prelude.{ℕ, ◌+◌, ◌*◌, ◌^◌, if◌then◌else◌, List, length, slice_get, Option, Some, None}
+use Rattle.std.specs.Prelude.{◌≡◌, ℕ, ◌+◌, ◌*◌, ◌^◌, ◌<◌, ◌≤◌, if◌then◌else◌, List, length, slice_get, Option, Some, None}
 use Rattle.league.specs.League.{LeagueData}
 use Rattle.league.specs.Sums.{sum_below}
 use Rattle.league.specs.declared.rule.Rule.{Rule}
@@ -52,6 +52,11 @@ score_of l cost = cost.travel + cost.soft + l.hard_weight * cost.hard
 -- what is compared among schedules that break none
 abbrev pub total_of : Cost → ℕ
 total_of cost = cost.travel + cost.soft
+
+-- the cost of the games where their score is at most this, and none where it is more
+abbrev pub IsCostWithin : LeagueData → ℕ → Games → Option Cost → Type 0
+IsCostWithin l most g (Some cost) = (cost ≡ cost_of l g) × (score_of l cost ≤ most)
+IsCostWithin l most g None = most < score_of l (cost_of l g)
 
 -- no score of a league's schedules reaches this
 abbrev pub score_limit : ℕ

@@ -8,7 +8,8 @@ ghost use Rattle.tours.specs.Phased.{unphased_part};
 ghost use Rattle.moves.specs.Moves.{moved};
 ghost use Rattle.moves.specs.MainCells.{AreMainCells};
 ghost use Rattle.fixture_board.specs.Costs.{cost_of, score_of, score_limit, where_phased};
-ghost use Rattle.fixture_board.specs.CostShares.{travel_share, repeats_share, cost_share, CostsBalance, IsSmall};
+ghost use Rattle.fixture_board.specs.CostShares.{travel_share, repeats_share, share_but_travel, cost_share};
+ghost use Rattle.fixture_board.specs.CostShares.{CostsBalance, IsSmall};
 
 use crate::cost::Cost;
 use crate::rule_costs::costs_of_seen_rules;
@@ -44,7 +45,7 @@ pub fn make_at_cost(
 }
 
 /// The known cost with one share in place of another.
-fn exchanged(known: Cost, before: Cost, after: Cost) -> Cost
+pub(crate) fn exchanged(known: Cost, before: Cost, after: Cost) -> Cost
     requires known { IsSmall known }
     requires after { IsSmall after }
     requires balance { (new : Cost) × CostsBalance new known before after }
@@ -59,9 +60,34 @@ fn exchanged(known: Cost, before: Cost, after: Cost) -> Cost
 
 /// What the games that the move can change add to the cost, where `sides` has the teams whose sides it may change.
 #[tactic(auto, unfolding(crate::specs::CostShares::cost_share))]
-fn share(schedule: &Schedule, league: &League, mv: Move, main: Touched, sides: TeamSet) -> Cost
+pub(crate) fn share(
+    schedule: &Schedule,
+    league: &League,
+    mv: Move,
+    main: Touched,
+    sides: TeamSet,
+) -> Cost
     requires same_size { teams league.now ≡ schedule.now.teams }
     ensures value { result ≡ cost_share league.now mv main sides schedule.now }
+    ensures small { IsSmall result }
+{
+    Cost {
+        travel: travel_share(schedule, league, mv, main),
+        ..share_but_travel(schedule, league, mv, main, sides)
+    }
+}
+
+/// The same without the travel, which is 0 in it.
+#[tactic(auto, unfolding(crate::specs::CostShares::share_but_travel))]
+pub(crate) fn share_but_travel(
+    schedule: &Schedule,
+    league: &League,
+    mv: Move,
+    main: Touched,
+    sides: TeamSet,
+) -> Cost
+    requires same_size { teams league.now ≡ schedule.now.teams }
+    ensures value { result ≡ share_but_travel league.now mv main sides schedule.now }
     ensures small { IsSmall result }
 {
     let of_sides = Touched {
@@ -71,7 +97,7 @@ fn share(schedule: &Schedule, league: &League, mv: Move, main: Touched, sides: T
     let runs = runs_part(schedule, league, of_sides);
     let rules = costs_of_seen_rules(schedule, league, main.teams);
     Cost {
-        travel: travel_share(schedule, league, mv, main),
+        travel: 0,
         hard: runs
             + repeats_share(schedule, mv, main)
             + rules.hard

@@ -12,6 +12,7 @@ mod cost;
 mod counting;
 mod kept_cost;
 mod laws;
+mod made_within;
 mod pins;
 mod reply;
 mod rule_costs;
@@ -29,4 +30,5 @@ pub use laws::{
     answer_tells_history, best_is_least, best_never_rises, empty_history_is_legal,
     legal_history_is_sound, next_history_is_legal, replay,
 };
+pub use made_within::make_within;
 pub use reply::{Reply, Why};

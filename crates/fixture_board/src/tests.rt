@@ -1,6 +1,7 @@
 mod callers;
 mod equality;
 mod kept_cost;
+mod made_within;
 mod memory;
 mod phased;
 mod rules;

@@ -8,14 +8,15 @@ use Rattle.std.proofs.lemmas.Nat.{pow_pos, shr-shr, shr_split, shr_le, mod_below
 use Rattle.std.proofs.lemmas.Nat.{xor_lt, ones_cat}
 use Rattle.std.proofs.lemmas.Nat.Bits.{bit_at_and, bit_at_or, bit_at_xor, bit_at_not, bit_at-lt, bit_at-zero}
 use Rattle.std.proofs.lemmas.Nat.Bits.{bit_at_cat_low, bit_at_cat_high}
+use Rattle.std.specs.Bool.{beq}
 use Rattle.std.specs.Int.{bit_at, Width, bit_not, trailing_zeros}
 use Rattle.std.specs.Int.RustNames.{count_ones}
 use mir.Val.{bits}
-use Rattle.league.specs.Sums.{sum_below, count_where, all_below, any_below}
-use Rattle.league.specs.Sets.{has, IsBelow, all_numbers}
+use Rattle.league.specs.Sums.{sum_below, count_where, any_below}
+use Rattle.league.specs.Sets.{has, is_like_next, IsBelow, all_numbers}
 use Rattle.league.proofs.Bits.{has_beyond, IsBelow_more, has_all_numbers, IsBelow_all_numbers, all_numbers_shifted}
 use Rattle.league.proofs.LowestBits.{lowest_taken}
-use Rattle.league.proofs.Sums.{all_below_none, all_below_more, count_where_same, any_below_found, any_below_from_none}
+use Rattle.league.proofs.Sums.{count_where_same, any_below_found, any_below_from_none}
 use Rattle.league.proofs.WalkedSums.{lowest_below, has_empty}
 
 is_zero_or_one : (x : ℕ) → x < 2 → (x ≡ 0) ⊎ (x ≡ 1)
@@ -75,19 +76,6 @@ has_shifted set k s = ap (λ n. n % 2 == 1) (shr-shr set k s ∙ ap (λ e. set /
 pub IsBelow_shifted : (m set k : ℕ) → IsBelow m set → IsBelow m (set / 2 ^ k)
 IsBelow_shifted m set k below = omega (arith, shr_le set k)
 
--- one number in a row
-pub has_one_in_row : (set s : ℕ) → has set s ≡ all_below 1 (λ k. has set (s + k))
-has_one_in_row set s =
-    sym (all_below_more 0 (λ k. has set (s + k)) ∙ ap (λ b. b && has set (s + 0)) (all_below_none (λ k. has set (s + k))) ∙ ap (λ n. has set n) (omega arith))
-
--- one number more in a row
-pub has_more_in_row : (set starts k s : ℕ) → has starts s ≡ all_below k (λ j. has set (s + j))
-    → has (bit_and starts (set / 2 ^ k)) s ≡ all_below (k + 1) (λ j. has set (s + j))
-has_more_in_row set starts k s so_far =
-    has_common starts (set / 2 ^ k) s ∙ ap (λ b. b && has (set / 2 ^ k) s) so_far
-    ∙ ap (λ b. all_below k (λ j. has set (s + j)) && b) (has_shifted set k s)
-    ∙ sym (all_below_more k (λ j. has set (s + j)))
-
 -- the numbers that come next
 pub has_next : (set s : ℕ) → has (set * 2 ^ 1) s ≡ (not (s == 0) && has set (s - 1))
 has_next set s =
@@ -131,6 +119,35 @@ meets_of_bits w m a b fits below = elim (cases_eq (bit_and a b) 0) [
       (sym (any_below_found m (λ k. has a k && has b k) (trailing_zeros w (bit_and a b)) (lowest_below m (bit_and a b) _ _ common_below taken)
       (sym (has_common a b (trailing_zeros w (bit_and a b))) ∙ taken.in_set)))
 ]
+
+-- the numbers that are as the next is, where that is below a bound
+pub has_like_next : (w : Width) (set m k : ℕ) → IsBelow (bits w) set → m ≤ bits w
+    → has (bit_and (all_numbers m / 2 ^ 1) (bit_not w (bit_xor set (set / 2 ^ 1)))) k ≡ (nat_lt (k + 1) m && is_like_next set k)
+has_like_next w set m k below fits =
+    let mask_below : IsBelow (bits w) (all_numbers m / 2 ^ 1) =
+    IsBelow_shifted (bits w) (all_numbers m) 1 (IsBelow_more m (bits w) (all_numbers m) fits (IsBelow_all_numbers m)) in
+    let turns_below : IsBelow (bits w) (bit_xor set (set / 2 ^ 1)) =
+    IsBelow_toggled (bits w) set (set / 2 ^ 1) below (IsBelow_shifted (bits w) set 1 below) in
+    rw (
+      has_difference w (all_numbers m / 2 ^ 1) (bit_xor set (set / 2 ^ 1)) k mask_below turns_below,
+      has_shifted (all_numbers m) 1 k,
+      has_all_numbers m (k + 1),
+      has_toggled set (set / 2 ^ 1) k,
+      has_shifted set 1 k,
+    ) (ap (λ b. nat_lt (k + 1) m && b) (no_turn (has set k) (has set (k + 1))))
+  where
+    no_turn : (a b : Bool) → not (if b then not a else a) ≡ beq a b
+    no_turn true true = refl
+    no_turn true false = refl
+    no_turn false true = refl
+    no_turn false false = refl
+
+pub IsBelow_like_next : (a m : ℕ) → IsBelow (m - 1) (bit_and (all_numbers m / 2 ^ 1) a)
+IsBelow_like_next a m =
+    IsBelow_common (m - 1) (all_numbers m / 2 ^ 1) a (shr_below (all_numbers m) (m - 1) 1 widths)
+  where
+    widths : IsBelow (m - 1 + 1) (all_numbers m)
+    widths = IsBelow_more m (m - 1 + 1) (all_numbers m) (omega arith) (IsBelow_all_numbers m)
 
 -- the numbers of a set and those that come next, below a bound
 pub has_with_next : (w set m k : ℕ) → set * 2 ^ 1 < 2 ^ w → m < w

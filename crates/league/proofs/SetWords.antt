@@ -1,17 +1,17 @@
 -- The same at the words in which the code holds sets: 64 bits for teams, 128 for slots.
-use Rattle.std.proofs.Common.{◌≡◌, ℕ, ◌-◌, ◌*◌, ◌/◌, ◌^◌, ◌%◌, ◌<◌, ◌≤◌, ◌&&◌, ◌==◌, not, nat_lt, bit_and, bit_or}
+use Rattle.std.proofs.Common.{◌≡◌, ℕ, ◌-◌, ◌+◌, ◌*◌, ◌/◌, ◌^◌, ◌%◌, ◌<◌, ◌≤◌, ◌&&◌, ◌==◌, not, nat_lt, bit_and, bit_or}
 use Rattle.std.proofs.Common.{bit_xor, arith}
 use Rattle.std.proofs.lemmas.Nat.{ones-le}
 use Rattle.std.specs.Int.{w64, w128}
 use Rattle.std.specs.Int.RustNames.{count_ones}
 use Rattle.league.specs.Limits.{max_teams, max_rounds}
 use Rattle.league.specs.Sums.{any_below}
-use Rattle.league.specs.Sets.{has, IsBelow, has_or_follows, with_number, all_numbers}
+use Rattle.league.specs.Sets.{has, IsBelow, has_or_follows, is_like_next, with_number, all_numbers}
 use Rattle.league.proofs.Bits.{IsBelow_more, has_all_numbers, IsBelow_all_numbers, has_with_number, IsBelow_with_number}
 use Rattle.league.proofs.Bits.{all_numbers_shifted, with_number_shifted}
-use Rattle.league.proofs.SetBits.{has_union, has_difference, has_toggled, has_shifted, IsBelow_union, IsBelow_shifted}
-use Rattle.league.proofs.SetBits.{IsBelow_toggled, meets_of_bits, has_with_next, IsBelow_with_next}
-use Rattle.league.proofs.Sums.{any_below_none, any_below_more}
+use Rattle.league.proofs.SetBits.{has_union, has_difference, has_toggled, IsBelow_union}
+use Rattle.league.proofs.SetBits.{IsBelow_toggled, meets_of_bits, has_like_next, IsBelow_like_next}
+use Rattle.league.proofs.SetBits.{has_with_next, IsBelow_with_next}
 
 pub teams_below : (teams : ℕ) → teams ≤ max_teams → 1 * 2 ^ teams % 2 ^ 64 - 1 ≡ all_numbers teams
 teams_below teams most = all_numbers_shifted teams 64 (omega arith)
@@ -49,9 +49,6 @@ slots_len set below = ones-le max_rounds set below
 pub IsBelow_slots_union : (a b : ℕ) → IsBelow max_rounds a → IsBelow max_rounds b → IsBelow max_rounds (bit_or a b)
 IsBelow_slots_union a b = IsBelow_union max_rounds a b
 
-pub IsBelow_slots_shifted : (set k : ℕ) → IsBelow max_rounds set → IsBelow max_rounds (set / 2 ^ k)
-IsBelow_slots_shifted set k = IsBelow_shifted max_rounds set k
-
 pub IsBelow_slots_toggled : (a b : ℕ) → IsBelow max_rounds a → IsBelow max_rounds b → IsBelow max_rounds (bit_xor a b)
 IsBelow_slots_toggled a b = IsBelow_toggled max_rounds a b
 
@@ -63,6 +60,22 @@ slots_without a b s a_below b_below =
 pub slots_meet : (a b : ℕ) → IsBelow max_rounds a
     → not (bit_and a b == 0) ≡ any_below max_rounds (λ s. has a s && has b s)
 slots_meet a b below = meets_of_bits w128 max_rounds a b (omega arith) below
+
+pub slots_as_next : (set slots s : ℕ) → IsBelow max_rounds set → slots ≤ max_rounds
+    → has (bit_and ((1 * 2 ^ slots % 2 ^ 128 - 1) / 2 ^ 1) (2 ^ 128 - 1 - bit_xor set (set / 2 ^ 1))) s
+    ≡ (nat_lt (s + 1) slots && is_like_next set s)
+slots_as_next set slots s below most =
+    let fits : IsBelow 128 set = IsBelow_more max_rounds 128 set (omega arith) below in
+    rw (slots_below slots most) (has_like_next w128 set slots s fits (omega arith))
+
+pub IsBelow_slots_as_next : (a slots : ℕ) → slots ≤ max_rounds
+    → IsBelow (slots - 1) (bit_and ((1 * 2 ^ slots % 2 ^ 128 - 1) / 2 ^ 1) a)
+IsBelow_slots_as_next a slots most = rw (slots_below slots most) (IsBelow_like_next a slots)
+
+pub IsBelow_max_slots_as_next : (a slots : ℕ) → slots ≤ max_rounds
+    → IsBelow max_rounds (bit_and ((1 * 2 ^ slots % 2 ^ 128 - 1) / 2 ^ 1) a)
+IsBelow_max_slots_as_next a slots most =
+    IsBelow_more (slots - 1) max_rounds _ (omega arith) (IsBelow_slots_as_next a slots most)
 
 pub slots_with_next : (set slots s : ℕ) → IsBelow max_rounds set → slots ≤ max_rounds
     → has (bit_and (bit_or set (set * 2 ^ 1 % 2 ^ 128)) (1 * 2 ^ slots % 2 ^ 128 - 1)) s ≡ (nat_lt s slots && has_or_follows set s)
@@ -90,7 +103,6 @@ pub ruleset slots_of_either = (has_union, IsBelow_union, IsBelow_slots_union)
 
 pub ruleset slots_turned = (has_toggled, IsBelow_toggled, IsBelow_slots_toggled)
 
-pub ruleset slots_and_next = (slots_with_next, IsBelow_slots_with_next, IsBelow_max_slots_with_next)
+pub ruleset slots_like_next = (slots_as_next, IsBelow_slots_as_next, IsBelow_max_slots_as_next)
 
-pub ruleset slots_in_rows =
-    (any_below_none, any_below_more, has_union, has_shifted, IsBelow_union, IsBelow_shifted, IsBelow_slots_union, IsBelow_slots_shifted)
+pub ruleset slots_and_next = (slots_with_next, IsBelow_slots_with_next, IsBelow_max_slots_with_next)

@@ -1,10 +1,10 @@
 //! Sets of teams and of slots, each in one word of bits.
 
-ghost use Rattle.std.specs.Prelude.{◌≡◌, ℕ, ◌+◌, ◌-◌, ◌<◌, ◌≤◌, ◌&&◌, ◌||◌, ◌==◌, not, nat_lt, false, if◌then◌else◌};
+ghost use Rattle.std.specs.Prelude.{◌≡◌, ℕ, ◌+◌, ◌-◌, ◌*◌, ◌^◌, ◌<◌, ◌≤◌, ◌&&◌, ◌||◌, ◌==◌, not, nat_lt, false, if◌then◌else◌};
 ghost use Rattle.std.specs.Iterator.{at_most};
 ghost use Rattle.league.specs.Limits.{max_teams, max_rounds};
 ghost use Rattle.league.specs.Sums.{count_where, all_below, any_below};
-ghost use Rattle.league.specs.Sets.{has, has_or_follows, IsBelow, with_number, all_numbers, TakesLowest};
+ghost use Rattle.league.specs.Sets.{has, has_or_follows, is_like_next, IsBelow, with_number, all_numbers, TakesLowest};
 
 use std::marker::Model;
 
@@ -255,6 +255,18 @@ impl SlotSet {
         self.bits & slots.bits != 0
     }
 
+    /// The slots from 0 to `slots - 2` that are as the next one is: both in the set, or neither.
+    #[tactic(auto, using(crate::proofs::SetWords::slots_like_next))]
+    pub fn like_next_below(self, slots: u8) -> Self
+        requires { slots ≤ max_rounds }
+        ensures members { (s : ℕ) → has result s ≡ (nat_lt (s + 1) slots && is_like_next self s) }
+        ensures below { IsBelow (slots - 1) result }
+    {
+        SlotSet {
+            bits: ((1 << slots) - 1) >> 1 & !(self.bits ^ self.bits >> 1),
+        }
+    }
+
     /// The slots and those that come next after one, from 0 to `slots - 1`.
     #[tactic(auto, using(crate::proofs::SetWords::slots_and_next))]
     pub fn with_next_below(self, slots: u8) -> Self
@@ -268,32 +280,33 @@ impl SlotSet {
     }
 
     /// The slots from which on `length` slots in a row are in the set; `length` is at most one more than all slots.
-    #[tactic(auto, using(crate::proofs::SetBits::has_one_in_row))]
+    #[tactic(auto, using(crate::proofs::SetRows::has_row_of_one))]
     pub fn starts_within(self, length: u8) -> Self
         requires least { 1 ≤ length }
         requires most { length ≤ max_rounds + 1 }
         ensures members { (s : ℕ) → has result s ≡ all_below length (λ k. has self (s + k)) }
         ensures below { (m : ℕ) → IsBelow m self → IsBelow m result }
     {
-        let bits = self.bits;
-        let mut starts = bits;
-        for k in 1..length {
-            starts &= bits >> k;
+        let mut starts = self.bits;
+        for _ in 1..length {
+            starts &= starts >> 1;
         }
         SlotSet { bits: starts }
     }
 
     /// The slots from which on one of `length` slots in a row is in the set; `length` is at most one more than all slots.
-    #[tactic(auto, using(crate::proofs::SetWords::slots_in_rows))]
+    #[tactic(auto, using(crate::proofs::SetRows::has_one_of_row))]
     pub fn starts_meeting(self, length: u8) -> Self
         requires { length ≤ max_rounds + 1 }
         ensures members { (s : ℕ) → has result s ≡ any_below length (λ k. has self (s + k)) }
         ensures below { (m : ℕ) → IsBelow m self → IsBelow m result }
     {
-        let bits = self.bits;
-        let mut starts = 0;
-        for k in 0..length {
-            starts |= bits >> k;
+        if length == 0 {
+            return SlotSet::empty();
+        }
+        let mut starts = self.bits;
+        for _ in 1..length {
+            starts |= starts >> 1;
         }
         SlotSet { bits: starts }
     }
@@ -307,24 +320,32 @@ impl IntoIterator for SlotSet {
     ghost into_iter_gives = { λ set iterator. iterator ≡ set };
 
     fn into_iter(self) -> Slots {
-        Slots { left: self.bits }
+        Slots {
+            low: (self.bits & 0xffff_ffff_ffff_ffff) as u64,
+            high: (self.bits >> 64) as u64,
+            base: 0,
+        }
     }
 }
 
 /// The slots of a set, the lowest first. Contracts see it as the set of those that are left.
+///
+/// It goes by halves, since a word of 64 bits takes fewer instructions than one of 128.
 #[derive(Debug, Drop)]
 pub struct Slots {
-    left: u128,
+    /// Those left of the half that is walked. Its bit 0 is the slot `base`, 0 or 64.
+    low: u64,
+    /// Those from slot 64 on, until they are walked. Its bit 0 is the slot 64.
+    high: u64,
+    base: u8,
 }
 
 impl Model for Slots {
     ghost Value = { ℕ };
 
-    ghost view = { λ s. s.left };
+    ghost view = { λ s. (s.high * 2 ^ 64 + s.low) * 2 ^ s.base };
 
-    ghost invariant = { λ s. IsBelow max_rounds s.left };
-
-    ghost inverse = { λ left. record { left = left } };
+    ghost invariant = { λ s. (s.base ≤ 64) × (0 < s.high → s.base ≡ 0) };
 }
 
 impl Iterator for Slots {
@@ -335,11 +356,16 @@ impl Iterator for Slots {
     ghost remaining = { λ left. at_most left };
 
     fn next(&mut self) -> Option<u8> {
-        if self.left == 0 {
-            return None;
+        if self.low == 0 {
+            if self.high == 0 {
+                return None;
+            }
+            self.low = self.high;
+            self.high = 0;
+            self.base = 64;
         }
-        let earliest = self.left.trailing_zeros();
-        self.left &= self.left - 1;
-        Some(earliest as u8)
+        let earliest = self.low.trailing_zeros() as u8;
+        self.low &= self.low - 1;
+        Some(self.base + earliest)
     }
 }

@@ -1,14 +1,15 @@
 -- Parts of sets that are cut off at the end of the teams or of the season.
-use Rattle.std.proofs.Common.{◌≡◌, ℕ, ◌+◌, ◌-◌, ◌<◌, ◌||◌, ◌&&◌, Bool, true, false, ◌∙◌, ap, arith, if◌then◌else◌}
+use Rattle.std.proofs.Common.{◌≡◌, ℕ, ◌+◌, ◌<◌, ◌||◌, ◌&&◌, Bool, true, false, sym, ◌∙◌, ap, arith, if◌then◌else◌}
 use Rattle.league.specs.League.{LeagueData}
-use Rattle.league.specs.Sums.{sum_below, sum_where}
-use Rattle.league.proofs.ForCallers.{sum_where_same, sum_of_pairs_same}
-use Rattle.fixtures.specs.Games.{Games, round_count, cell, place, meets, IsDoubleRoundRobin}
+use Rattle.league.specs.Sums.{sum_where}
+use Rattle.league.proofs.ForCallers.{sum_of_pairs_same}
+use Rattle.fixtures.specs.Games.{Games, round_count, cell, place, is_home, meets, IsDoubleRoundRobin}
 use Rattle.fixtures.specs.Changes.{with_guests}
-use Rattle.tours.specs.Parts.{travel_around, repeats_with_after}
+use Rattle.tours.specs.Parts.{travel_part, travel_around, repeats_with_after}
+use Rattle.tours.specs.Walked.{legs_of_guest}
+use Rattle.tours.proofs.GuestLegs.{travel_around_walked}
 use Rattle.tours.proofs.AroundBalance.{travel_at_same}
 use Rattle.tours.proofs.Balances.{one}
-use Rattle.tours.proofs.Turned.{IsPairing}
 use Rattle.tours.proofs.Opponents.{opponent_in, IsPairing-opponents}
 
 -- the same teams of the schedule, and the same rounds of the season
@@ -43,6 +44,17 @@ unfolding travel_around
 travel_around_cut l g teams teams' rounds rounds' rr same_teams same_rounds =
     travel_at_same l g (with_guests g teams rounds) (with_guests g teams' rounds')
     (λ t r in_t in_r. guests_same g teams teams' rounds rounds' t r rr same_teams same_rounds in_t in_r)
+
+-- counted by the teams that are left, and then by their guests
+pub travel_around_in_turn : (l : LeagueData) (g : Games) (teams hosts rounds rounds' : ℕ → Bool) → IsDoubleRoundRobin g →
+    SameBelow g.teams hosts teams → SameBelow (round_count g.teams) rounds' rounds →
+    travel_part l g hosts rounds' +
+    sum_where g.teams hosts (λ host. sum_where (round_count g.teams) (λ r. rounds' r && is_home g host r)
+    (legs_of_guest l g hosts rounds' host)) ≡
+    travel_around l g teams rounds
+travel_around_in_turn l g teams hosts rounds rounds' rr same_teams same_rounds =
+    sym (travel_around_walked l g hosts rounds' rr) ∙
+    travel_around_cut l g teams hosts rounds rounds' rr same_teams same_rounds
 
 pub repeats_with_after_cut : (g : Games) (teams teams' : ℕ → Bool) (r : ℕ) → SameBelow g.teams teams' teams →
     repeats_with_after g teams' r ≡ repeats_with_after g teams r

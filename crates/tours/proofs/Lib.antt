@@ -18,3 +18,4 @@ pub mod GuestLegs
 pub mod GuestSteps
 pub mod SetsInSeason
 pub mod CutSets
+pub mod StoppedWalks

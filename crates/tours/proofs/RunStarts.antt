@@ -1,11 +1,14 @@
 -- The first rounds of runs, as sets.
-use Rattle.std.proofs.Common.{◌≡◌, ℕ, ◌+◌, ◌-◌, ◌<◌, ◌≤◌, Bool, true, false, not, ◌&&◌, ◌||◌, inl, inr, refl, sym, ◌∙◌, ap, arith}
-use Rattle.std.specs.Prelude.{◌==◌, nat_lt, if◌then◌else◌}
-use Rattle.std.proofs.lemmas.Bool.{cases_lt, lt-ltb, le-ltb, or_from}
+use Rattle.std.proofs.Common.{◌≡◌, ℕ, zero, suc, ◌+◌, ◌-◌, ◌<◌, ◌≤◌, Bool, true, false, not, ◌&&◌, ◌||◌, inl, inr}
+use Rattle.std.proofs.Common.{refl, sym, ◌∙◌, ap, arith}
+use Rattle.std.specs.Prelude.{nat_lt, if◌then◌else◌}
+use Rattle.std.specs.Bool.{beq}
+use Rattle.std.proofs.Math.Bool.{or-not_self}
+use Rattle.std.proofs.lemmas.Bool.{cases_lt, lt-ltb, le-ltb}
 use Rattle.std.proofs.lemmas.Bool.Decides.{nat_tests}
-use Rattle.league.specs.Sets.{has}
+use Rattle.league.specs.Sets.{has, is_like_next}
 use Rattle.league.specs.Sums.{sum_where, count_where, all_below}
-use Rattle.league.proofs.ForCallers.{all_below_same, all_below_fails, sum_below_past, sum_where_same, sum_where_all, count_where_same}
+use Rattle.league.proofs.ForCallers.{all_below_same, all_below_fails, sum_below_past, sum_where_same, count_where_same}
 use Rattle.fixtures.specs.Games.{Games, round_count, is_home}
 use Rattle.tours.specs.Runs.{windows, is_run, runs_of, runs_over}
 use Rattle.tours.specs.Parts.{touches_window, runs_part_of, runs_part}
@@ -14,51 +17,69 @@ use Rattle.tours.specs.Parts.{touches_window, runs_part_of, runs_part}
 abbrev pub HasHomes : Games → ℕ → ℕ → Type 0
 HasHomes g team home = (r : ℕ) → has home r ≡ (nat_lt r (round_count g.teams) && is_home g team r)
 
--- those in which it is away
-abbrev HasAways : Games → ℕ → ℕ → Type 0
-HasAways g team away = (r : ℕ) → has away r ≡ (nat_lt r (round_count g.teams) && not (is_home g team r))
+home_at : (g : Games) (team home r : ℕ) → HasHomes g team home → r < round_count g.teams → has home r ≡ is_home g team r
+home_at g team home r homes in_r = homes r ∙ ap (λ b. b && is_home g team r) (lt-ltb r (round_count g.teams) in_r)
 
-not_home : (season home : Bool) → (season && not (season && home)) ≡ (season && not home)
-not_home true home = refl
-not_home false home = refl
+-- the rounds before the last one of the season that are as the next round is
+abbrev HasLikes : ℕ → ℕ → ℕ → Type 0
+HasLikes season home likes = (r : ℕ) → has likes r ≡ (nat_lt (r + 1) season && is_like_next home r)
 
-pub aways_from : (g : Games) (team home all away season : ℕ) → season ≡ round_count g.teams → HasHomes g team home → ((r : ℕ) → has all r ≡ nat_lt r season) →
-    ((r : ℕ) → has away r ≡ (has all r && not (has home r))) → HasAways g team away
-aways_from g team home all away season is_season homes is_all is_away r =
-    is_away r ∙ ap (λ b. b && not (has home r)) (is_all r ∙ ap (nat_lt r) is_season) ∙
-    ap (λ b. nat_lt r (round_count g.teams) && not b) (homes r) ∙ not_home (nat_lt r (round_count g.teams)) (is_home g team r)
+like_at : (g : Games) (team season home likes r : ℕ) → season ≡ round_count g.teams →
+    HasHomes g team home → HasLikes season home likes → r + 1 < season →
+    has likes r ≡ beq (is_home g team r) (is_home g team (r + 1))
+like_at g team season home likes r is_season homes is_likes in_r =
+    is_likes r ∙ ap (λ b. b && is_like_next home r) (lt-ltb (r + 1) season in_r) ∙
+    ap (λ b. beq b (has home (r + 1))) (home_at g team home r homes (omega arith)) ∙
+    ap (beq (is_home g team r)) (home_at g team home (r + 1) homes (omega arith))
+
+one_more : (homes aways now next : Bool) →
+    (((homes && now) || (aways && not now)) && beq now next) ≡
+    (((homes && now) && next) || ((aways && not now) && not next))
+one_more homes aways now next = grind arith
+
+-- all are alike where each is as the next is
+all_alike : (n : ℕ) (test : ℕ → Bool) →
+    all_below n (λ k. beq (test k) (test (suc k))) ≡ (all_below (suc n) test || all_below (suc n) (λ k. not (test k)))
+unfolding all_below
+all_alike zero test = sym (or-not_self (test 0))
+all_alike (suc n) test =
+    ap (λ b. b && beq (test n) (test (suc n))) (all_alike n test) ∙
+    one_more (all_below n test) (all_below n (λ k. not (test k))) (test n) (test (suc n))
 
 -- a window within the season, or one that ends after it
-all_in_window : (rounds length first set : ℕ) (test : ℕ → Bool) → ((r : ℕ) → has set r ≡ (nat_lt r rounds && test r)) → first + length ≤ rounds →
-    all_below length (λ k. has set (first + k)) ≡ all_below length (λ k. test (first + k))
-all_in_window rounds length first set test members fits =
-    all_below_same length (λ k. has set (first + k)) (λ k. test (first + k))
-    (λ k below. members (first + k) ∙ ap (λ b. b && test (first + k)) (lt-ltb (first + k) rounds (omega arith)))
-
-none_past_season : (rounds length first set : ℕ) (test : ℕ → Bool) → ((r : ℕ) → has set r ≡ (nat_lt r rounds && test r)) → 1 ≤ length → rounds < first + length →
-    all_below length (λ k. has set (first + k)) ≡ false
-none_past_season rounds length first set test members least past =
-    all_below_fails length (λ k. has set (first + k)) (length - 1) (omega arith)
-    (members (first + (length - 1)) ∙ ap (λ b. b && test (first + (length - 1))) (le-ltb (first + (length - 1)) rounds (omega arith)))
-
-pub run_from : (g : Games) (team length home away : ℕ) → 1 ≤ length → HasHomes g team home → HasAways g team away → (first : ℕ) →
-    (all_below length (λ k. has home (first + k)) || all_below length (λ k. has away (first + k))) ≡
-    (nat_lt first (windows g length) && is_run g team first length)
+run_in_season : (g : Games) (team length season home likes first : ℕ) → 2 ≤ length → season ≡ round_count g.teams →
+    HasHomes g team home → HasLikes season home likes → first + length ≤ season →
+    all_below (length - 1) (λ k. has likes (first + k)) ≡ is_run g team first length
 unfolding is_run
-run_from g team length home away least homes aways first = elim (cases_lt first (windows g length)) [
-  | inl window ↦
-      rw (
-        all_in_window (round_count g.teams) length first home (is_home g team) homes (omega arith),
-        all_in_window (round_count g.teams) length first away (λ r. not (is_home g team r)) aways (omega arith),
-        lt-ltb first (windows g length) window,
-      ) refl
-  | inr past ↦
-      rw (
-        none_past_season (round_count g.teams) length first home (is_home g team) homes least (omega arith),
-        none_past_season (round_count g.teams) length first away (λ r. not (is_home g team r)) aways least (omega arith),
-        le-ltb first (windows g length) past,
-      ) refl
-]
+run_in_season g team length season home likes first least is_season homes is_likes fits =
+    all_below_same (length - 1) (λ k. has likes (first + k))
+    (λ k. beq (is_home g team (first + k)) (is_home g team (first + suc k)))
+    (λ k below.
+    like_at g team season home likes (first + k) is_season homes is_likes (omega arith) ∙
+    ap (λ r. beq (is_home g team (first + k)) (is_home g team r)) (omega arith)) ∙
+    all_alike (length - 1) (λ k. is_home g team (first + k)) ∙
+    ap (is_run g team first) (omega arith)
+
+none_past_season : (length season home likes first : ℕ) → 2 ≤ length → HasLikes season home likes →
+    season < first + length →
+    all_below (length - 1) (λ k. has likes (first + k)) ≡ false
+none_past_season length season home likes first least is_likes past =
+    all_below_fails (length - 1) (λ k. has likes (first + k)) (length - 2) (omega arith)
+    (is_likes (first + (length - 2)) ∙
+    ap (λ b. b && is_like_next home (first + (length - 2))) (le-ltb (first + (length - 2) + 1) season (omega arith)))
+
+pub run_from : (g : Games) (team length season home likes : ℕ) → 2 ≤ length → season ≡ round_count g.teams →
+    HasHomes g team home → HasLikes season home likes → (first : ℕ) →
+    all_below (length - 1) (λ k. has likes (first + k)) ≡ (nat_lt first (windows g length) && is_run g team first length)
+run_from g team length season home likes least is_season homes is_likes first =
+    elim (cases_lt first (windows g length)) [
+      | inl window ↦
+          rw (lt-ltb first (windows g length) window)
+          (run_in_season g team length season home likes first least is_season homes is_likes (omega arith))
+      | inr past ↦
+          rw (le-ltb first (windows g length) past)
+          (none_past_season length season home likes first least is_likes (omega arith))
+    ]
 
 regroup : (window run start : Bool) → ((window && run) && start) ≡ (window && (start && run))
 regroup true true true = refl

@@ -14,6 +14,7 @@ mod season;
 #[cfg(test)]
 mod tests;
 mod travel_parts;
+mod travel_within;
 
 pub use laws::{changes_around_balance, changes_balance, parts_balance, same_pairs_repeat_alike};
 pub use legs::{travel, travel_of};
@@ -21,3 +22,4 @@ pub use meetings::{repeats, repeats_part, repeats_with};
 pub use phases::{unphased, unphased_part};
 pub use runs::{runs_over, runs_part};
 pub use travel_parts::{travel_around, travel_part};
+pub use travel_within::{travel_around_within, travel_part_within};

@@ -35,7 +35,8 @@ pub fn runs_part(schedule: &Schedule, league: &League, touched: Touched) -> u64
 }
 
 fn runs_near(schedule: &Schedule, at_most: u8, set: TeamSet, rounds: SlotSet) -> u64
-    requires at_most { at_most ≤ 78 }
+    requires least { 1 ≤ at_most }
+    requires most { at_most ≤ 78 }
     ensures value { result ≡ runs_part schedule.now at_most (has set) (has rounds) }
     ensures most { result ≤ 40 * 78 }
 {
@@ -47,7 +48,8 @@ fn runs_near(schedule: &Schedule, at_most: u8, set: TeamSet, rounds: SlotSet) ->
 /// The windows of one round more than `at_most`, with these first rounds, that teams of the set spend at home
 /// throughout or away throughout.
 fn runs_from(schedule: &Schedule, at_most: u8, among: TeamSet, starts: SlotSet) -> u64
-    requires at_most { at_most ≤ 78 }
+    requires least { 1 ≤ at_most }
+    requires most { at_most ≤ 78 }
     requires round_robin { IsDoubleRoundRobin schedule.now }
     requires below { IsBelow schedule.now.teams among }
     ensures value { result ≡ sum_where schedule.now.teams (has among) (λ t.
@@ -63,7 +65,8 @@ fn runs_from(schedule: &Schedule, at_most: u8, among: TeamSet, starts: SlotSet) 
 }
 
 fn runs_of_team(schedule: &Schedule, at_most: u8, starts: SlotSet, team: u8) -> u64
-    requires at_most { at_most ≤ 78 }
+    requires least { 1 ≤ at_most }
+    requires most { at_most ≤ 78 }
     requires team { team < schedule.now.teams }
     ensures value { result ≡
         count_where (windows schedule.now (at_most + 1)) (λ first. has starts first &&
@@ -77,7 +80,7 @@ fn runs_of_team(schedule: &Schedule, at_most: u8, starts: SlotSet, team: u8) -> 
 
 /// The first rounds of the windows of so many rounds that a team spends at home throughout or away throughout.
 fn run_starts(schedule: &Schedule, length: u8, team: u8) -> SlotSet
-    requires least { 1 ≤ length }
+    requires least { 2 ≤ length }
     requires most { length ≤ 79 }
     requires team { team < schedule.now.teams }
     ensures members { (first : ℕ) → has result first ≡
@@ -85,9 +88,7 @@ fn run_starts(schedule: &Schedule, length: u8, team: u8) -> SlotSet
     ensures season { round_count schedule.now.teams ≤ 78 }
 {
     let home = schedule.home_rounds(team);
-    let all = SlotSet::below(schedule.rounds());
-    let away = all.difference(home);
-    let home_runs = home.starts_within(length);
-    let away_runs = away.starts_within(length);
-    home_runs.union(away_runs)
+    let like_next = home.like_next_below(schedule.rounds());
+    // each round of a run but the last is as the next one is
+    like_next.starts_within(length - 1)
 }

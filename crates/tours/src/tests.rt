@@ -1,6 +1,6 @@
 use crate::{
-    repeats, repeats_part, repeats_with, runs_over, runs_part, travel, travel_around, travel_of,
-    travel_part, unphased, unphased_part,
+    repeats, repeats_part, repeats_with, runs_over, runs_part, travel, travel_around,
+    travel_around_within, travel_of, travel_part, travel_part_within, unphased, unphased_part,
 };
 use fixtures::{Game, Schedule, Touched, berger, berger_fide, from_games, start};
 use league::{League, SlotSet, TeamSet, circular, constant, read_league};
@@ -275,6 +275,76 @@ fn parts_of_two_teams(rt: HostRuntime) -> Result<(), Fail> {
         parts_of(&homes_exchanged(alloc)?, &league, touched),
         Some((6, 0))
     );
+    Ok(())
+}
+
+/// The travel of a part and around it within a limit, where the league has as many teams as the schedule.
+fn legs_within(
+    schedule: &Schedule,
+    league: &League,
+    touched: Touched,
+    most: u64,
+) -> Option<(Option<u64>, Option<u64>)> {
+    if schedule.teams() != league.teams() {
+        return None;
+    }
+    Some((
+        travel_part_within(schedule, league, touched, most),
+        travel_around_within(schedule, league, touched, most),
+    ))
+}
+
+#[test]
+fn legs_of_last_two_rounds_within_a_limit(rt: HostRuntime) -> Result<(), Fail> {
+    let alloc = rt.alloc();
+    let league = circular(alloc, 4)?;
+    let touched = Touched {
+        teams: TeamSet::below(4),
+        rounds: SlotSet::empty().with(4).with(5),
+    };
+    for (schedule, legs) in [
+        (&berger(alloc, 4)?, 14),
+        (&rounds_exchanged(alloc, 4, 5)?, 12),
+    ] {
+        for most in [0, 1, legs - 1] {
+            assert_eq!(rt;
+                legs_within(schedule, &league, touched, most),
+                Some((None, None))
+            );
+        }
+        for most in [legs, legs + 1, u64::MAX] {
+            let all = Some(legs);
+            assert_eq!(rt;
+                legs_within(schedule, &league, touched, most),
+                Some((all, all))
+            );
+        }
+    }
+    Ok(())
+}
+
+#[test]
+fn legs_around_two_teams_within_a_limit(rt: HostRuntime) -> Result<(), Fail> {
+    let alloc = rt.alloc();
+    let league = circular(alloc, 4)?;
+    let schedule = berger(alloc, 4)?;
+    let teams = TeamSet::empty().with(0).with(1);
+    // they meet in rounds 1 and 4, and have guests in round 0
+    let meetings = SlotSet::empty().with(1).with(4);
+    let first = SlotSet::empty().with(0);
+    for (rounds, most, legs) in [
+        (meetings, 9, (None, None)),
+        (meetings, 10, (Some(10), Some(10))),
+        (meetings, 11, (Some(10), Some(10))),
+        (first, 0, (None, None)),
+        (first, 1, (Some(1), None)),
+        (first, 5, (Some(1), None)),
+        (first, 6, (Some(1), Some(6))),
+        (first, 7, (Some(1), Some(6))),
+    ] {
+        let touched = Touched { teams, rounds };
+        assert_eq!(rt; legs_within(&schedule, &league, touched, most), Some(legs));
+    }
     Ok(())
 }
 

@@ -1,4 +1,4 @@
-//! The legs that a change can alter.
+//! The legs that a change can alter, counted in full or until there are more than a limit.
 
 ghost use Rattle.std.specs.Prelude.{◌≡◌, ◌+◌, ◌*◌, ◌-◌, ◌<◌, ◌≤◌, ◌&&◌, nat_lt, slice_index, if◌then◌else◌};
 ghost use Rattle.league.specs.League.{teams, distance};
@@ -7,7 +7,7 @@ ghost use Rattle.league.specs.Sums.{sum_where};
 ghost use Rattle.fixtures.specs.Games.{round_count, is_home, IsDoubleRoundRobin};
 ghost use Rattle.tours.specs.Tours.{tour, leg};
 ghost use Rattle.tours.specs.Parts.{travel_part, travel_around};
-ghost use Rattle.tours.specs.Walked.{legs_of_guest};
+ghost use Rattle.tours.specs.Walked.{legs_of_guest, IsTotalOrAbove};
 
 use crate::legs::place;
 use crate::season::{rounds_in, teams_in};
@@ -21,7 +21,7 @@ pub fn travel_part(schedule: &Schedule, league: &League, touched: Touched) -> u6
     ensures value { result ≡ travel_part league.now schedule.now (has touched.teams) (has touched.rounds) }
     ensures most { result ≤ 40 * (79 * 1000000) }
 {
-    travel_among(schedule, league, touched.teams, touched.rounds)
+    travel_among(schedule, league, touched.teams, touched.rounds, u64::MAX)
 }
 
 /// The legs that touch a touched round in which the team or its host is touched.
@@ -30,42 +30,70 @@ pub fn travel_around(schedule: &Schedule, league: &League, touched: Touched) -> 
     ensures value { result ≡ travel_around league.now schedule.now (has touched.teams) (has touched.rounds) }
     ensures most { result ≤ 10000000000 }
 {
-    travel_near(schedule, league, touched.teams, touched.rounds)
+    travel_near(schedule, league, touched.teams, touched.rounds, u64::MAX)
 }
 
-fn travel_near(schedule: &Schedule, league: &League, set: TeamSet, slots: SlotSet) -> u64
+/// Those of `travel_around`, or some of them that are more than `most`.
+pub(crate) fn travel_near(
+    schedule: &Schedule,
+    league: &League,
+    set: TeamSet,
+    slots: SlotSet,
+    most: u64,
+) -> u64
     requires same { teams league.now ≡ schedule.now.teams }
-    ensures value { result ≡ travel_around league.now schedule.now (has set) (has slots) }
-    ensures most { result ≤ 10000000000 }
+    ensures value { IsTotalOrAbove most (travel_around league.now schedule.now (has set) (has slots)) result }
+    ensures small { result ≤ 10000000000 }
 {
     let hosts = teams_in(schedule, set);
     let rounds = rounds_in(schedule, slots);
-    travel_among(schedule, league, hosts, rounds) + guests_within(schedule, league, hosts, rounds)
+    let own = travel_among(schedule, league, hosts, rounds, most);
+    if own > most {
+        return own;
+    }
+    own + guests_within(schedule, league, hosts, rounds, most - own)
 }
 
-fn travel_among(schedule: &Schedule, league: &League, set: TeamSet, rounds: SlotSet) -> u64
+/// Those of `travel_part`, or some of them that are more than `most`.
+pub(crate) fn travel_among(
+    schedule: &Schedule,
+    league: &League,
+    set: TeamSet,
+    rounds: SlotSet,
+    most: u64,
+) -> u64
     requires same { teams league.now ≡ schedule.now.teams }
-    ensures value { result ≡ travel_part league.now schedule.now (has set) (has rounds) }
-    ensures most { result ≤ 40 * (79 * 1000000) }
+    ensures value { IsTotalOrAbove most (travel_part league.now schedule.now (has set) (has rounds)) result }
+    ensures small { result ≤ 40 * (79 * 1000000) }
 {
     let among = teams_in(schedule, set);
     let indices = rounds.with_next_below(schedule.rounds());
-    legs_within(schedule, league, among, indices) + home_legs(schedule, league, among, rounds)
+    let legs = legs_within(schedule, league, among, indices, most);
+    legs + home_legs(schedule, league, among, rounds)
 }
 
-/// The legs of the teams of the set with these indices.
-fn legs_within(schedule: &Schedule, league: &League, among: TeamSet, indices: SlotSet) -> u64
+/// The legs of the teams of the set with these indices, up to the index at which they are more than `most`.
+fn legs_within(
+    schedule: &Schedule,
+    league: &League,
+    among: TeamSet,
+    indices: SlotSet,
+    most: u64,
+) -> u64
     requires same { teams league.now ≡ schedule.now.teams }
     requires round_robin { IsDoubleRoundRobin schedule.now }
     requires among { IsBelow schedule.now.teams among }
     requires below { IsBelow (round_count schedule.now.teams) indices }
-    ensures value { result ≡ sum_where (round_count schedule.now.teams) (has indices) (λ r.
-        sum_where schedule.now.teams (has among) (λ t. leg league.now schedule.now t r)) }
-    ensures most { result ≤ 40000000 * round_count schedule.now.teams }
+    ensures value { IsTotalOrAbove most (sum_where (round_count schedule.now.teams) (has indices) (λ r.
+        sum_where schedule.now.teams (has among) (λ t. leg league.now schedule.now t r))) result }
+    ensures small { result ≤ 40000000 * round_count schedule.now.teams }
 {
     let mut total = 0;
     for index in indices {
         total += legs_of(schedule, league, among, index);
+        if total > most {
+            return total;
+        }
     }
     total
 }
@@ -157,25 +185,35 @@ fn stop_after(schedule: &Schedule, team: u8, index: u8) -> u8
     }
 }
 
-/// The legs of the teams that these teams receive in these rounds.
-fn guests_within(schedule: &Schedule, league: &League, hosts: TeamSet, rounds: SlotSet) -> u64
+/// The legs of the teams that these teams receive in these rounds, up to the visit at which they are more than `most`.
+fn guests_within(
+    schedule: &Schedule,
+    league: &League,
+    hosts: TeamSet,
+    rounds: SlotSet,
+    most: u64,
+) -> u64
     requires same { teams league.now ≡ schedule.now.teams }
     requires round_robin { IsDoubleRoundRobin schedule.now }
     requires hosts { IsBelow schedule.now.teams hosts }
-    ensures value { result ≡ sum_where schedule.now.teams (has hosts) (λ host.
-        sum_where (round_count schedule.now.teams) (λ r. has rounds r &&
-        is_home schedule.now host r) (legs_of_guest league.now schedule.now (has hosts) (has rounds) host)) }
-    ensures most { result ≤ 160000000 * schedule.now.teams }
+    ensures value { IsTotalOrAbove most (sum_where schedule.now.teams (has hosts) (λ host.
+        sum_where (round_count schedule.now.teams) (λ r. has rounds r && is_home schedule.now host r)
+        (legs_of_guest league.now schedule.now (has hosts) (has rounds) host))) result }
+    ensures small { result ≤ 160000000 * schedule.now.teams }
 {
     let mut total = 0;
     for host in hosts {
         let visits = schedule.home_rounds(host).common(rounds);
-        total += guest_legs(schedule, league, hosts, rounds, host, visits);
+        total += guest_legs(schedule, league, hosts, rounds, host, visits, most - total);
+        if total > most {
+            return total;
+        }
     }
     total
 }
 
-/// The legs of the teams that a host receives in these of its rounds at home.
+/// The legs of the teams that a host receives in these of its rounds at home, up to the visit at which they are more
+/// than `most`.
 fn guest_legs(
     schedule: &Schedule,
     league: &League,
@@ -183,19 +221,22 @@ fn guest_legs(
     rounds: SlotSet,
     host: u8,
     visits: SlotSet,
+    most: u64,
 ) -> u64
     requires same { teams league.now ≡ schedule.now.teams }
     requires round_robin { IsDoubleRoundRobin schedule.now }
     requires host { host < schedule.now.teams }
     requires below { IsBelow (round_count schedule.now.teams) visits }
-    ensures value { result ≡
-        sum_where (round_count schedule.now.teams) (has visits) (legs_of_guest league.now schedule.now
-        (has hosts) (has rounds) host) }
-    ensures most { result ≤ 160000000 }
+    ensures value { IsTotalOrAbove most (sum_where (round_count schedule.now.teams) (has visits)
+        (legs_of_guest league.now schedule.now (has hosts) (has rounds) host)) result }
+    ensures small { result ≤ 160000000 }
 {
     let mut total = 0;
     for round in visits {
         total += legs_of_guest(schedule, league, hosts, rounds, host, round);
+        if total > most {
+            return total;
+        }
     }
     total
 }

@@ -59,6 +59,7 @@ fn answer<R: Runtime + AllocGlobal + Threads + Wait + Sync, E: Write + Send + Dr
 ) -> ExitCode
     ensures taken { fault_of program (map string_bytes words.now) ≡ [] → exit_status result ≤ 1 }
     ensures shown { fault_of program (map string_bytes words.now) ≡ ErrorKind.DisplayHelp ∷ [] → exit_status result ≤ 1 }
+    ensures told { fault_of program (map string_bytes words.now) ≡ ErrorKind.DisplayVersion ∷ [] → exit_status result ≤ 1 }
     ensures wrong { (kind : Kind) → fault_of program (map string_bytes words.now) ≡ kind ∷ []
         → kind ≢ ErrorKind.DisplayHelp → kind ≢ ErrorKind.DisplayVersion → 1 ≤ exit_status result }
 {
@@ -129,10 +130,11 @@ fn failure<R: Runtime>(rt: &R, fault: ProgramFault) -> ExitCode
     ExitCode::FAILURE
 }
 
-/// Prints clap's text: help on standard output, and a mistake on standard error.
+/// Prints clap's text: help and the version on standard output, and a mistake on standard error.
 fn words_not_taken<R: Runtime>(rt: &R, error: clap::Error) -> ExitCode
     ensures memory { kind_of error ≡ ErrorKind.OutOfMemory → exit_status result ≡ 1 }
     ensures shown { kind_of error ≡ ErrorKind.DisplayHelp → exit_status result ≤ 1 }
+    ensures told { kind_of error ≡ ErrorKind.DisplayVersion → exit_status result ≤ 1 }
     ensures mistake { kind_of error ≢ ErrorKind.OutOfMemory → kind_of error ≢ ErrorKind.DisplayHelp
         → kind_of error ≢ ErrorKind.DisplayVersion → exit_status result ≡ 2 }
 {

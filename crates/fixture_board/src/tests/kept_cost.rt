@@ -20,7 +20,7 @@ const RULES: &str = r#"[
     {"class":"FA2","kind":"soft","weight":4,"teams":[1,3,4],"slots":[2,5],"intp":0}]"#;
 
 /// A league of teams on a line, with rules and phases.
-fn league(alloc: Global, teams: u8) -> Result<League, Fail> {
+pub(super) fn league(alloc: Global, teams: u8) -> Result<League, Fail> {
     let mut text = String::from_str(alloc, "{\"format\":2,\"at_most\":2,\"teams\":[\"T0\"")?;
     for team in 1..teams {
         text.push_str(&format!(in alloc; ",\"T{team}\"")?)?;
@@ -50,7 +50,7 @@ fn drawn(state: &mut u64, bound: u8) -> u8 {
 }
 
 /// A move of drawn numbers, of each kind in turn.
-fn drawn_move(state: &mut u64, teams: u8) -> Move {
+pub(super) fn drawn_move(state: &mut u64, teams: u8) -> Move {
     let rounds = teams.saturating_mul(2).saturating_sub(2);
     let (i, j) = (drawn(state, teams), drawn(state, teams));
     let (k, l) = (drawn(state, rounds), drawn(state, rounds));

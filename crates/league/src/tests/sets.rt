@@ -63,6 +63,20 @@ fn sets_of_two_sets(rt: HostRuntime) {
 }
 
 #[test]
+fn slots_like_the_next(rt: HostRuntime) {
+    let slots = SlotSet::empty().with(0).with(1).with(4);
+    assert_eq!(rt; slots.like_next_below(6), SlotSet::empty().with(0).with(2));
+    assert_eq!(rt; slots.like_next_below(5), SlotSet::empty().with(0).with(2));
+    assert_eq!(rt; slots.like_next_below(2), SlotSet::below(1));
+    assert_eq!(rt; slots.like_next_below(1), SlotSet::empty());
+    assert_eq!(rt; slots.like_next_below(0), SlotSet::empty());
+    assert_eq!(rt;
+        SlotSet::empty().with(77).like_next_below(78),
+        SlotSet::below(76)
+    );
+}
+
+#[test]
 fn slots_in_a_row(rt: HostRuntime) {
     let slots = SlotSet::below(3).with(5).with(77);
     assert_eq!(rt; slots.with_next_below(6), SlotSet::below(4).with(5));

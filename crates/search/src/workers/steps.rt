@@ -8,7 +8,7 @@ ghost use Rattle.search.specs.Doors.{done_count};
 ghost use Rattle.search.specs.Steps.{IsKnown, accepted_count, least_with};
 
 use crate::{Door, Gate};
-use fixture_board::{Cost, Proposal, Reply, Why, cost_of, make_at_cost};
+use fixture_board::{Cost, Proposal, Reply, Why, cost_of, make_within};
 use fixtures::{Schedule, Touched};
 use league::League;
 use moves::{Move, check, main_cells, make};
@@ -97,12 +97,11 @@ pub(crate) fn step<R: Wait, D: Door, G: Gate>(
         return Told::Nothing;
     }
     let main = main_cells(copy, mv);
-    let cost = make_at_cost(copy, league, mv, main, known.cost);
-    let score = cost.score(league);
-    if score > known.score.saturating_add(trial.slack) {
-        make(copy, mv, main);
+    let most = known.score.saturating_add(trial.slack);
+    let Some(cost) = make_within(copy, league, mv, main, known.cost, most) else {
         return Told::Nothing;
-    }
+    };
+    let score = cost.score(league);
     if door.front(rt) != known.version {
         make(copy, mv, main);
         *known = refresh(rt, door, league, copy);

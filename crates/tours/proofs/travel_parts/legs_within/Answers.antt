@@ -1,7 +1,7 @@
-use Rattle.std.proofs.Common.{◌≡◌, refl, sym, subst, arith}
-use Rattle.league.specs.Sets.{IsBelow}
-use Rattle.league.proofs.ForCallers.{sum_without_none, sum_without_more, sum_without_all, lowest_below}
+use Rattle.std.proofs.Common.{arith}
+use Rattle.league.proofs.ForCallers.{sum_without_none, sum_without_more, lowest_below}
 use Rattle.fixtures.specs.Games.{round_count}
+use Rattle.tours.proofs.StoppedWalks.{loop_stopped, loop_bound, loop_not_stopped}
 use Rattle.tours.proofs.travel_parts.legs_within.Goals as goal
 
 pub loop-index-init : goal.loop-index-init
@@ -13,5 +13,14 @@ legs_of-total-requires-clause-index c = omega (arith, lowest_below (round_count 
 pub loop-index-preserved : goal.loop-index-preserved
 loop-index-preserved c = sum_without_more _ _ _ _ _ _ _ _ _ c.loop-index.invariant c.in-Some.ensures.steps c.legs_of-total.ensures.value (omega arith)
 
+pub returns-then-total-most-clause-value : goal.returns-then-total-most-clause-value
+returns-then-total-most-clause-value c =
+    loop_stopped _ _ _ _ _ _ _ _ _ _ c.loop-index.invariant c.in-Some.ensures.steps
+    (omega (arith, c.legs_of-total.ensures.value)) c.if-total-most.true
+
+pub returns-then-total-most-clause-small : goal.returns-then-total-most-clause-small
+returns-then-total-most-clause-small c =
+    loop_bound _ _ _ _ _ _ _ _ _ c.loop-index.invariant c.in-Some.ensures.steps (omega arith)
+
 pub returns-clause-value : goal.returns-clause-value
-returns-clause-value c = sum_without_all _ _ _ _ _ _ _ c.loop-index.invariant c.in-None.ensures.steps.0 (λ k below. refl)
+returns-clause-value c = loop_not_stopped _ _ _ _ _ _ _ c.loop-index.invariant c.in-None.ensures.steps.0

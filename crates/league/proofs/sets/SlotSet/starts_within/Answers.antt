@@ -1,10 +1,13 @@
+use Rattle.std.proofs.Common.{arith}
 use Rattle.league.specs.Limits.{max_rounds}
-use Rattle.league.proofs.SetBits.{has_more_in_row, IsBelow_common}
+use Rattle.league.proofs.SetBits.{IsBelow_common}
+use Rattle.league.proofs.SetRows.{has_longer_row}
 use Rattle.league.proofs.sets.SlotSet.starts_within.Goals as goal
 
-pub loop-k-preserved : goal.loop-k-preserved
-loop-k-preserved c = record {
-  members = λ s. has_more_in_row c.self.inside.bits c.loop-k.starts c.loop-k.k s (c.loop-k.invariant.members s);
-  fits = IsBelow_common max_rounds c.loop-k.starts _ c.loop-k.invariant.fits;
-  below = λ m below. IsBelow_common m c.loop-k.starts _ (c.loop-k.invariant.below m below);
+pub loop-preserved : goal.loop-preserved
+loop-preserved c = record {
+  some = omega arith;
+  members = λ s. has_longer_row c.args.self c.loop.starts c.loop.counter s c.loop.invariant.some c.loop.invariant.members;
+  fits = IsBelow_common max_rounds c.loop.starts _ c.loop.invariant.fits;
+  below = λ m below. IsBelow_common m c.loop.starts _ (c.loop.invariant.below m below);
 }
