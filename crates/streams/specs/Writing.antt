@@ -1,5 +1,5 @@
 -- What a call of a `BufferedSink` does.
-use Rattle.std.specs.Prelude.{◌≡◌, ◌++◌, ℕ, List, [], Option, Result, OnOk, OnErr}
+use Rattle.std.specs.Prelude.{◌≡◌, ◌++◌, ℕ, List, [], Option, Result, IsOk, OnOk, OnErr}
 use Rattle.std.specs.Borrow.{MutBor}
 use Rattle.streams.specs.declared.tally.Tally.{Tally}
 use Rattle.streams.specs.declared.buffered.BufferedSink.{BufferedSink}
@@ -10,6 +10,13 @@ use Rattle.streams.specs.Tally.{NotBelow, FailsWriting}
 -- the bytes that wait
 abbrev pub waiting_in : {S : Type 0} → BufferedSink S → List ℕ
 waiting_in buffer = buffer.waiting.items
+
+-- the piece fits beside what waits: it waits as well, and nothing goes out
+pub record Waits {S T E : Type 0} (old new : BufferedSink S) (result : Result T E) (piece : List ℕ) : Type 0 where
+  pub succeeds : IsOk result
+  pub same_sink : new.sink.ghost_name ≡ old.sink.ghost_name
+  pub unchanged : new.sink.now ≡ old.sink.now
+  pub waiting : waiting_in new ≡ waiting_in old ++ piece
 
 -- the sink is as it was, and nothing waits
 pub record IsFreshOver {S : Type 0} (sink : MutBor S) (buffer : BufferedSink S) : Type 0 where

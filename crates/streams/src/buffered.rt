@@ -1,6 +1,7 @@
 //! Small pieces, gathered before they go out.
-ghost use Rattle.std.specs.Prelude.{◌≡◌, [], decimal};
-ghost use Rattle.streams.specs.Writing.{IsFreshOver, Writes, waiting_in};
+ghost use Rattle.std.specs.Prelude.{◌≡◌, ◌+◌, ◌≤◌, [], length, decimal};
+ghost use Rattle.streams.specs.Limits.{buffer_limit};
+ghost use Rattle.streams.specs.Writing.{IsFreshOver, Waits, Writes, waiting_in};
 
 use super::ends::Sink;
 use super::writing::{WriteFault, write_all};
@@ -29,9 +30,11 @@ impl<'a, W: Sink> BufferedSink<'a, W> {
         }
     }
 
-    /// Adds the bytes to the text.
+    /// Adds the bytes to the text. Where they fit beside those that wait, they wait as well.
     pub fn write(&mut self, bytes: &[u8]) -> Result<(), WriteFault>
-        ensures { Writes W.held W.tally self.old self.new result bytes.now }
+        ensures waits { length (waiting_in self.old) + length bytes.now ≤ buffer_limit →
+            Waits self.old self.new result bytes.now }
+        ensures writes { Writes W.held W.tally self.old self.new result bytes.now }
     {
         if self.waiting.try_extend_from_slice(bytes).is_ok() {
             return Ok(());
@@ -45,7 +48,9 @@ impl<'a, W: Sink> BufferedSink<'a, W> {
 
     /// Adds the number to the text, in decimal.
     pub fn write_number(&mut self, number: u64) -> Result<(), WriteFault>
-        ensures { Writes W.held W.tally self.old self.new result (decimal number) }
+        ensures waits { length (waiting_in self.old) + length (decimal number) ≤ buffer_limit →
+            Waits self.old self.new result (decimal number) }
+        ensures writes { Writes W.held W.tally self.old self.new result (decimal number) }
     {
         let mut digits = itoa::Buffer::new();
         self.write(digits.format(number).as_bytes())

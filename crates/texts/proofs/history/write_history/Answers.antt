@@ -13,4 +13,4 @@ returns-in_err-write_changes g c = Stops-writes c.from_residual-in_err-write_cha
 
 pub returns : goal.returns
 unfolding history_text
-returns g c = Adds-writes (Adds-then (rw c.version.ensures.length at c.in_ok-write_numbered.ensures.ok) c.in_ok-write_changes.ensures.ok) c.write.ensures
+returns g c = Adds-writes (Adds-then (rw c.version.ensures.length at c.in_ok-write_numbered.ensures.ok) c.in_ok-write_changes.ensures.ok) c.write.ensures.writes

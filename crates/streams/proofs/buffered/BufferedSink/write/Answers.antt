@@ -2,13 +2,13 @@ use Rattle.std.proofs.Common.{arith, ◌≡◌, refl}
 use Rattle.streams.proofs.Pieces.{Adds-writes, Stops-more, Stops-writes, Writes-passed}
 use Rattle.streams.proofs.buffered.BufferedSink.write.Goals as goal
 
-pub returns-in_err-flush : goal.returns-in_err-flush
-returns-in_err-flush g c =
+pub returns-in_err-flush-clause-writes : goal.returns-in_err-flush-clause-writes
+returns-in_err-flush-clause-writes g c =
     let same : c.try_extend_from_slice.new.self ≡ c.args.self.now.waiting = grind arith in
     Stops-writes c.from_residual.ensures.0 (Stops-more _ (rw same at (c.in_err-flush.ensures).writes.err))
 
-pub returns : goal.returns
-returns g c =
+pub returns-clause-writes : goal.returns-clause-writes
+returns-clause-writes g c =
     let same : c.try_extend_from_slice.new.self ≡ c.args.self.now.waiting = grind arith in
     let kept : c.try_extend_from_slice-2.new.self ≡ c.flush.new.self.waiting = grind arith in
     let none = (c.in_ok-flush.ensures).waiting in
