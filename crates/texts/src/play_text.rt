@@ -7,6 +7,7 @@ ghost use Rattle.streams.specs.Limits.{write_limit};
 ghost use Rattle.streams.specs.Sending.{AppendsFront};
 ghost use Rattle.streams.specs.Tally.{FailsWriting};
 ghost use Rattle.streams.specs.Writing.{Writes};
+ghost use Rattle.fixture_board.specs.History.{best_of};
 ghost use Rattle.fixture_board.specs.Record.{book};
 ghost use Rattle.texts.specs.PlayText.{best_line, closing_text, play_text, played, start_line};
 
@@ -69,10 +70,20 @@ fn write_closing<W: Sink>(out: &mut BufferedSink<'_, W>, board: &Board) -> Resul
 {
     write_history(out, board)?;
     write_sheet(out, board.schedule(), board.league())?;
-    write_best(out, board.best())
+    write_best(out, board)
 }
 
 pub(crate) fn write_best<W: Sink>(
+    out: &mut BufferedSink<'_, W>,
+    board: &Board,
+) -> Result<(), WriteFault>
+    ensures { Writes W.held W.tally out.old out.new result
+        (best_line (best_of board.now.league board.now.history)) }
+{
+    write_best_line(out, board.best())
+}
+
+fn write_best_line<W: Sink>(
     out: &mut BufferedSink<'_, W>,
     best: Option<Best>,
 ) -> Result<(), WriteFault>

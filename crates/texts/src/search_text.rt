@@ -1,8 +1,11 @@
 //! The parts of a search text: what was asked for, what became of a worker's proposals, and the board in the end. And the
 //! line that tells on a terminal how far a search is.
 
+ghost use Rattle.std.specs.Prelude.{◌≡◌};
+ghost use Rattle.league.specs.League.{teams};
 ghost use Rattle.streams.specs.Writing.{Writes};
-ghost use Rattle.texts.specs.SearchText.{best_sheet, found_text, plan_line, worker_line};
+ghost use Rattle.fixture_board.specs.History.{best_prefix};
+ghost use Rattle.texts.specs.SearchText.{best_sheet, found_text, games_at_best, plan_line, worker_line};
 ghost use Rattle.texts.specs.SearchText.{clear_line, least_text, progress_line, reached_text};
 
 use crate::history::write_history;
@@ -10,6 +13,7 @@ use crate::lines::{write_counted, write_numbered};
 use crate::play_text::write_best;
 use crate::sheets::write_sheet;
 use fixture_board::Board;
+use fixtures::Schedule;
 use streams::{BufferedSink, Sink, WriteFault};
 
 /// Writes what a search was asked for: so many workers, the steps of each, and the seed of their draws.
@@ -96,15 +100,25 @@ pub fn write_found<W: Sink>(out: &mut BufferedSink<'_, W>, board: &Board) -> Res
 {
     write_history(out, board)?;
     write_best_sheet(out, board)?;
-    write_best(out, board.best())
+    write_best(out, board)
 }
 
+#[tactic(auto, unfolding(crate::specs::SearchText::best_sheet))]
 fn write_best_sheet<W: Sink>(out: &mut BufferedSink<'_, W>, board: &Board) -> Result<(), WriteFault>
     ensures { Writes W.held W.tally out.old out.new result
         (best_sheet board.now.league board.now.history) }
 {
+    write_sheet(out, best_or_present(board), board.league())
+}
+
+/// The board's best schedule, or the present one where none was feasible.
+fn best_or_present(board: &Board) -> &Schedule
+    ensures games { result.now ≡ games_at_best board.now.league board.now.history
+        (best_prefix board.now.league board.now.history) }
+    ensures size { result.now.teams ≡ teams board.now.league }
+{
     match board.best_schedule() {
-        Some(schedule) => write_sheet(out, schedule, board.league()),
-        None => write_sheet(out, board.schedule(), board.league()),
+        Some(schedule) => schedule,
+        None => board.schedule(),
     }
 }

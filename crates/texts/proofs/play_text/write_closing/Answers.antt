@@ -19,4 +19,4 @@ returns-in_err-write_sheet g c = Stops-writes c.from_residual-in_err-write_sheet
 
 pub returns : goal.returns
 unfolding closing_text
-returns g c = Adds-writes (Adds-then c.in_ok-write_history.ensures.ok (rw (c.schedule.ensures.games, c.league.ensures) at c.in_ok-write_sheet.ensures.ok)) (rw c.best.ensures.value at c.write_best.ensures)
+returns g c = Adds-writes (Adds-then c.in_ok-write_history.ensures.ok (rw (c.schedule.ensures.games, c.league.ensures) at c.in_ok-write_sheet.ensures.ok)) c.write_best.ensures

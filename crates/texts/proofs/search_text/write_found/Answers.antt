@@ -14,4 +14,4 @@ returns-in_err-write_best_sheet g c = Stops-writes c.from_residual-in_err-write_
 
 pub returns : goal.returns
 unfolding found_text
-returns g c = Adds-writes (Adds-then c.in_ok-write_history.ensures.ok c.in_ok-write_best_sheet.ensures.ok) (rw c.best.ensures.value at c.write_best.ensures)
+returns g c = Adds-writes (Adds-then c.in_ok-write_history.ensures.ok c.in_ok-write_best_sheet.ensures.ok) c.write_best.ensures
