@@ -1,6 +1,7 @@
 //! The cells around which a move changes a schedule.
 
 ghost use Rattle.std.specs.Prelude.{◌≡◌, ℕ, ◌<◌, ◌≤◌, ◌&&◌, ◌||◌, ◌==◌, nat_lt, not, Ok, true, false};
+ghost use Rattle.league.specs.Limits.{max_teams, max_rounds};
 ghost use Rattle.league.specs.Sets.{has};
 ghost use Rattle.fixtures.specs.Games.{round_of, round_count, IsPair};
 ghost use Rattle.fixtures.specs.Changes.{turns};
@@ -60,7 +61,7 @@ pub fn side_teams(schedule: &Schedule, mv: Move, main: Touched) -> TeamSet
 fn turning_teams(schedule: &Schedule, k: u8, l: u8, among: TeamSet) -> TeamSet
     requires k { k < round_count schedule.now.teams }
     requires l { l < round_count schedule.now.teams }
-    requires forty { schedule.now.teams ≤ 40 }
+    requires most { schedule.now.teams ≤ max_teams }
     requires below { (t : ℕ) → has among t ≡ true → t < schedule.now.teams }
     ensures { (t : ℕ) → has result t ≡ (has among t && turns schedule.now k l t) }
 {
@@ -85,16 +86,16 @@ fn turns(schedule: &Schedule, team: u8, k: u8, l: u8) -> bool
 }
 
 pub(crate) fn two_teams(i: u8, j: u8) -> TeamSet
-    requires i { i < 40 }
-    requires j { j < 40 }
+    requires i { i < max_teams }
+    requires j { j < max_teams }
     ensures { (t : ℕ) → has result t ≡ (t == i || t == j) }
 {
     TeamSet::empty().with(j).with(i)
 }
 
 fn two_rounds(k: u8, l: u8) -> SlotSet
-    requires k { k < 78 }
-    requires l { l < 78 }
+    requires k { k < max_rounds }
+    requires l { l < max_rounds }
     ensures { (r : ℕ) → has result r ≡ (r == k || r == l) }
 {
     SlotSet::empty().with(l).with(k)

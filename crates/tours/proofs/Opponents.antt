@@ -3,7 +3,7 @@ use Rattle.std.proofs.Common.{◌≡◌, ℕ, ◌<◌, Bool, true, false, not, s
 use Rattle.fixtures.specs.declared.game.Cell.{Cell}
 use Rattle.fixtures.specs.Games.{Games, round_count, cell, IsCell, IsDoubleRoundRobin}
 use Rattle.fixtures.proofs.ForCallers.{pair_swapped, cell_is, is_cell}
-use Rattle.tours.proofs.Turned.{IsTurn, IsPairing}
+use Rattle.tours.proofs.Turned.{IsPairing}
 
 abbrev pub opponent_in : Games → ℕ → ℕ → ℕ
 opponent_in g r t = (cell g t r).opponent

@@ -4,7 +4,7 @@ use Rattle.std.specs.Prelude.{if◌then◌else◌}
 use Rattle.std.specs.Bool.{beq}
 use Rattle.std.proofs.lemmas.Bool.{or_parts, lt-ltb}
 use Rattle.league.specs.Sets.{has}
-use Rattle.league.specs.Sums.{sum_below, sum_where, sum_of_pairs}
+use Rattle.league.specs.Sums.{sum_below, sum_where}
 use Rattle.league.proofs.ForCallers.{sum_below_same, sum_of_pairs_same}
 use Rattle.fixtures.specs.Games.{Games, round_of, IsPair, IsDoubleRoundRobin}
 use Rattle.fixtures.specs.Changes.{DiffersOnlyIn, DiffersOnlyAround}

@@ -1,10 +1,14 @@
 -- Walks that may stop once they have counted more than a limit.
-use Rattle.std.proofs.Common.{◌≡◌, ℕ, ◌+◌, ◌-◌, ◌*◌, ◌<◌, ◌≤◌, refl, arith}
+use Rattle.std.proofs.Common.{◌≡◌, ℕ, ◌+◌, ◌-◌, ◌*◌, ◌<◌, ◌≤◌, Bool, true, false, refl, arith}
+use Rattle.std.specs.Bool.{then_some}
+use Rattle.std.proofs.Math.Dec.{leb}
+use Rattle.std.proofs.lemmas.Bool.{leb-true, leb-false}
 use Rattle.std.proofs.Math.Nat.{mul-le-mul_left}
 use Rattle.league.specs.Sets.{has, IsBelow, IsWithoutLowest}
 use Rattle.league.specs.Sums.{sum_where, count_where}
 use Rattle.league.proofs.ForCallers.{IsSumWithout, sum_without_none, sum_without_more, sum_without_all}
 use Rattle.tours.specs.Walked.{IsTotalOrAbove}
+use Rattle.tours.specs.Within.{IsTotalWithin}
 
 -- a walk that stops
 pub stopped : (most total counted : ℕ) → counted ≤ total → most < counted → IsTotalOrAbove most total counted
@@ -19,6 +23,12 @@ pub total_within : (most total counted : ℕ) → IsTotalOrAbove most total coun
     (counted ≡ total) × (total ≤ most)
 total_within most total counted walk below =
     let whole : counted ≡ total = walk.whole below in (whole, omega (arith, whole, below))
+
+-- its answer, where it is wanted within the limit
+pub total_told : (most total counted : ℕ) (is_within : Bool) → leb counted most ≡ is_within → IsTotalOrAbove most total counted →
+    IsTotalWithin most total (then_some is_within counted)
+total_told most total counted true is walk = total_within most total counted walk (leb-true counted most is)
+total_told most total counted false is walk = total_above most total counted walk (leb-false counted most is)
 
 -- a loop over a set
 

@@ -1,7 +1,8 @@
 //! How far the teams travel.
 
-ghost use Rattle.std.specs.Prelude.{◌≡◌, ◌*◌, ◌<◌, ◌≤◌};
+ghost use Rattle.std.specs.Prelude.{◌≡◌, ◌+◌, ◌*◌, ◌<◌, ◌≤◌};
 ghost use Rattle.league.specs.League.{teams};
+ghost use Rattle.league.specs.Limits.{max_teams, max_rounds, max_distance};
 ghost use Rattle.fixtures.specs.Games.{round_count, place};
 ghost use Rattle.tours.specs.Tours.{travel_of, travel};
 
@@ -13,7 +14,7 @@ use league::League;
 pub fn travel(schedule: &Schedule, league: &League) -> u64
     requires same { teams league.now ≡ schedule.now.teams }
     ensures value { result ≡ travel league.now schedule.now }
-    ensures most { result ≤ 40 * (79 * 1000000) }
+    ensures most { result ≤ max_teams * ((max_rounds + 1) * max_distance) }
 {
     let mut total = 0;
     for team in 0..schedule.teams() {
@@ -29,7 +30,7 @@ pub fn travel_of(schedule: &Schedule, league: &League, team: u8) -> u64
     requires same { teams league.now ≡ schedule.now.teams }
     requires team { team < schedule.now.teams }
     ensures value { result ≡ travel_of league.now schedule.now team }
-    ensures most { result ≤ 79 * 1000000 }
+    ensures most { result ≤ (max_rounds + 1) * max_distance }
 {
     let mut here = team;
     let mut total = 0;

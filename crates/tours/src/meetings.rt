@@ -1,6 +1,7 @@
 //! Pairs of teams that meet twice in a row.
 
 ghost use Rattle.std.specs.Prelude.{◌≡◌, ◌+◌, ◌-◌, ◌*◌, ◌<◌, ◌≤◌, ◌&&◌, if◌then◌else◌};
+ghost use Rattle.league.specs.Limits.{max_teams, max_rounds};
 ghost use Rattle.league.specs.Sets.{has, IsBelow};
 ghost use Rattle.league.specs.Sums.{sum_below, sum_where};
 ghost use Rattle.fixtures.specs.Games.{round_count, meets, IsDoubleRoundRobin};
@@ -16,7 +17,7 @@ use league::{SlotSet, TeamSet};
 /// no exception.
 pub fn repeats(schedule: &Schedule) -> u64
     ensures value { result ≡ repeats schedule.now }
-    ensures most { result ≤ 78 * 40 }
+    ensures most { result ≤ max_rounds * max_teams }
 {
     let firsts = SlotSet::below(schedule.rounds() - 1);
     repeats_from(schedule, firsts)
@@ -27,7 +28,7 @@ pub fn repeats(schedule: &Schedule) -> u64
 fn repeats_after(schedule: &Schedule, round: u8) -> u64
     requires { round + 1 < round_count schedule.now.teams }
     ensures value { result ≡ repeats_after schedule.now round }
-    ensures most { result ≤ 40 }
+    ensures most { result ≤ max_teams }
 {
     let mut total = 0;
     for team in 0..schedule.teams() {
@@ -40,7 +41,7 @@ fn repeats_after(schedule: &Schedule, round: u8) -> u64
 fn repeats_of_higher(schedule: &Schedule, team: u8, round: u8) -> u64
     requires team { team < schedule.now.teams }
     requires next { round + 1 < round_count schedule.now.teams }
-    requires season { round_count schedule.now.teams ≤ 78 }
+    requires season { round_count schedule.now.teams ≤ max_rounds }
     ensures value { result ≡
         sum_below team (λ low.
         if meets schedule.now team low round && meets schedule.now team low (round + 1) then 1 else 0) }
@@ -54,14 +55,14 @@ fn repeats_of_higher(schedule: &Schedule, team: u8, round: u8) -> u64
 /// The repeats of all pairs that have one of their two rounds touched.
 pub fn repeats_part(schedule: &Schedule, touched: Touched) -> u64
     ensures value { result ≡ repeats_part schedule.now (has touched.rounds) }
-    ensures most { result ≤ 78 * 40 }
+    ensures most { result ≤ max_rounds * max_teams }
 {
     repeats_near(schedule, touched.rounds)
 }
 
 fn repeats_near(schedule: &Schedule, rounds: SlotSet) -> u64
     ensures value { result ≡ repeats_part schedule.now (has rounds) }
-    ensures most { result ≤ 78 * 40 }
+    ensures most { result ≤ max_rounds * max_teams }
 {
     let firsts = rounds_next_to(schedule, rounds);
     repeats_from(schedule, firsts)
@@ -69,10 +70,10 @@ fn repeats_near(schedule: &Schedule, rounds: SlotSet) -> u64
 
 /// The repeats of which the first of the two rounds is one of these.
 fn repeats_from(schedule: &Schedule, firsts: SlotSet) -> u64
-    requires season { round_count schedule.now.teams ≤ 78 }
+    requires season { round_count schedule.now.teams ≤ max_rounds }
     requires below { IsBelow (round_count schedule.now.teams - 1) firsts }
     ensures value { result ≡ sum_where (round_count schedule.now.teams - 1) (has firsts) (repeats_after schedule.now) }
-    ensures most { result ≤ 78 * 40 }
+    ensures most { result ≤ max_rounds * max_teams }
 {
     let mut total = 0;
     for round in firsts {
@@ -84,14 +85,14 @@ fn repeats_from(schedule: &Schedule, firsts: SlotSet) -> u64
 /// The repeats of pairs with a touched team that have one of their two rounds touched.
 pub fn repeats_with(schedule: &Schedule, touched: Touched) -> u64
     ensures value { result ≡ repeats_with schedule.now (has touched.teams) (has touched.rounds) }
-    ensures most { result ≤ 78 * 40 }
+    ensures most { result ≤ max_rounds * max_teams }
 {
     repeats_near_with(schedule, touched.teams, touched.rounds)
 }
 
 fn repeats_near_with(schedule: &Schedule, set: TeamSet, rounds: SlotSet) -> u64
     ensures value { result ≡ repeats_with schedule.now (has set) (has rounds) }
-    ensures most { result ≤ 78 * 40 }
+    ensures most { result ≤ max_rounds * max_teams }
 {
     let among = teams_in(schedule, set);
     let firsts = rounds_next_to(schedule, rounds);
@@ -105,7 +106,7 @@ fn repeats_from_with(schedule: &Schedule, among: TeamSet, firsts: SlotSet) -> u6
     requires below { IsBelow (round_count schedule.now.teams - 1) firsts }
     ensures value { result ≡
         sum_where (round_count schedule.now.teams - 1) (has firsts) (repeats_with_after schedule.now (has among)) }
-    ensures most { result ≤ 78 * 40 }
+    ensures most { result ≤ max_rounds * max_teams }
 {
     let mut total = 0;
     for round in firsts {
@@ -134,7 +135,7 @@ fn repeats_with_after(schedule: &Schedule, among: TeamSet, round: u8) -> u64
 fn repeat_at(schedule: &Schedule, among: TeamSet, team: u8, round: u8) -> u64
     requires team { team < schedule.now.teams }
     requires next { round + 1 < round_count schedule.now.teams }
-    requires season { round_count schedule.now.teams ≤ 78 }
+    requires season { round_count schedule.now.teams ≤ max_rounds }
     ensures value { result ≡ repeat_at schedule.now (has among) round team }
     ensures most { result ≤ 1 }
 {

@@ -2,6 +2,7 @@
 
 ghost use Rattle.std.specs.Prelude.{◌≡◌, ℕ, ◌+◌, ◌*◌, ◌<◌, ◌≤◌, ◌&&◌, nat_lt};
 ghost use Rattle.league.specs.League.{teams};
+ghost use Rattle.league.specs.Limits.{max_teams, max_rounds};
 ghost use Rattle.league.specs.Sets.{has, IsBelow};
 ghost use Rattle.league.specs.Sums.{sum_where, count_where};
 ghost use Rattle.fixtures.specs.Games.{round_count, IsDoubleRoundRobin};
@@ -17,7 +18,7 @@ use league::{League, SlotSet, TeamSet};
 pub fn runs_over(schedule: &Schedule, league: &League) -> u64
     requires same { teams league.now ≡ schedule.now.teams }
     ensures value { result ≡ runs_over schedule.now league.now.at_most }
-    ensures most { result ≤ 40 * 78 }
+    ensures most { result ≤ max_teams * max_rounds }
 {
     let at_most = league.at_most();
     let all = TeamSet::below(schedule.teams());
@@ -29,16 +30,16 @@ pub fn runs_over(schedule: &Schedule, league: &League) -> u64
 pub fn runs_part(schedule: &Schedule, league: &League, touched: Touched) -> u64
     requires same { teams league.now ≡ schedule.now.teams }
     ensures value { result ≡ runs_part schedule.now league.now.at_most (has touched.teams) (has touched.rounds) }
-    ensures most { result ≤ 40 * 78 }
+    ensures most { result ≤ max_teams * max_rounds }
 {
     runs_near(schedule, league.at_most(), touched.teams, touched.rounds)
 }
 
 fn runs_near(schedule: &Schedule, at_most: u8, set: TeamSet, rounds: SlotSet) -> u64
     requires least { 1 ≤ at_most }
-    requires most { at_most ≤ 78 }
+    requires most { at_most ≤ max_rounds }
     ensures value { result ≡ runs_part schedule.now at_most (has set) (has rounds) }
-    ensures most { result ≤ 40 * 78 }
+    ensures most { result ≤ max_teams * max_rounds }
 {
     let among = teams_in(schedule, set);
     let starts = rounds.starts_meeting(at_most + 1);
@@ -49,13 +50,13 @@ fn runs_near(schedule: &Schedule, at_most: u8, set: TeamSet, rounds: SlotSet) ->
 /// throughout or away throughout.
 fn runs_from(schedule: &Schedule, at_most: u8, among: TeamSet, starts: SlotSet) -> u64
     requires least { 1 ≤ at_most }
-    requires most { at_most ≤ 78 }
+    requires most { at_most ≤ max_rounds }
     requires round_robin { IsDoubleRoundRobin schedule.now }
     requires below { IsBelow schedule.now.teams among }
     ensures value { result ≡ sum_where schedule.now.teams (has among) (λ t.
         count_where (windows schedule.now (at_most + 1)) (λ first. has starts first &&
         is_run schedule.now t first (at_most + 1))) }
-    ensures most { result ≤ 40 * 78 }
+    ensures most { result ≤ max_teams * max_rounds }
 {
     let mut total = 0;
     for team in among {
@@ -66,12 +67,12 @@ fn runs_from(schedule: &Schedule, at_most: u8, among: TeamSet, starts: SlotSet) 
 
 fn runs_of_team(schedule: &Schedule, at_most: u8, starts: SlotSet, team: u8) -> u64
     requires least { 1 ≤ at_most }
-    requires most { at_most ≤ 78 }
+    requires most { at_most ≤ max_rounds }
     requires team { team < schedule.now.teams }
     ensures value { result ≡
         count_where (windows schedule.now (at_most + 1)) (λ first. has starts first &&
         is_run schedule.now team first (at_most + 1)) }
-    ensures most { result ≤ 78 }
+    ensures most { result ≤ max_rounds }
 {
     let runs = run_starts(schedule, at_most + 1, team);
     let counted = runs.common(starts);
@@ -81,11 +82,11 @@ fn runs_of_team(schedule: &Schedule, at_most: u8, starts: SlotSet, team: u8) -> 
 /// The first rounds of the windows of so many rounds that a team spends at home throughout or away throughout.
 fn run_starts(schedule: &Schedule, length: u8, team: u8) -> SlotSet
     requires least { 2 ≤ length }
-    requires most { length ≤ 79 }
+    requires most { length ≤ max_rounds + 1 }
     requires team { team < schedule.now.teams }
     ensures members { (first : ℕ) → has result first ≡
         (nat_lt first (windows schedule.now length) && is_run schedule.now team first length) }
-    ensures season { round_count schedule.now.teams ≤ 78 }
+    ensures season { round_count schedule.now.teams ≤ max_rounds }
 {
     let home = schedule.home_rounds(team);
     let like_next = home.like_next_below(schedule.rounds());

@@ -1,6 +1,7 @@
 //! What of a set of teams or of rounds a schedule has.
 
 ghost use Rattle.std.specs.Prelude.{◌≡◌, ℕ, ◌+◌, ◌-◌, ◌<◌, ◌≤◌, ◌||◌};
+ghost use Rattle.league.specs.Limits.{max_rounds};
 ghost use Rattle.league.specs.Sets.{has, IsBelow};
 ghost use Rattle.fixtures.specs.Games.{round_count, IsDoubleRoundRobin};
 
@@ -30,7 +31,7 @@ pub(crate) fn rounds_in(schedule: &Schedule, set: SlotSet) -> SlotSet
 pub(crate) fn rounds_next_to(schedule: &Schedule, set: SlotSet) -> SlotSet
     ensures members { (r : ℕ) → r < round_count schedule.now.teams - 1 → has result r ≡ (has set r || has set (r + 1)) }
     ensures below { IsBelow (round_count schedule.now.teams - 1) result }
-    ensures season { round_count schedule.now.teams ≤ 78 }
+    ensures season { round_count schedule.now.teams ≤ max_rounds }
 {
     let all = SlotSet::below(schedule.rounds() - 1);
     let starts = set.starts_meeting(2);

@@ -2,6 +2,7 @@
 
 ghost use Rattle.std.specs.Prelude.{◌≡◌, ◌+◌, ◌*◌, ◌-◌, ◌<◌, ◌≤◌, ◌&&◌, nat_lt, slice_index, if◌then◌else◌};
 ghost use Rattle.league.specs.League.{teams, distance};
+ghost use Rattle.league.specs.Limits.{max_teams, max_rounds, max_distance};
 ghost use Rattle.league.specs.Sets.{has, IsBelow};
 ghost use Rattle.league.specs.Sums.{sum_where};
 ghost use Rattle.fixtures.specs.Games.{round_count, is_home, IsDoubleRoundRobin};
@@ -19,7 +20,7 @@ use league::{League, SlotSet, TeamSet};
 pub fn travel_part(schedule: &Schedule, league: &League, touched: Touched) -> u64
     requires same { teams league.now ≡ schedule.now.teams }
     ensures value { result ≡ travel_part league.now schedule.now (has touched.teams) (has touched.rounds) }
-    ensures most { result ≤ 40 * (79 * 1000000) }
+    ensures most { result ≤ max_teams * ((max_rounds + 1) * max_distance) }
 {
     travel_among(schedule, league, touched.teams, touched.rounds, u64::MAX)
 }
@@ -64,7 +65,7 @@ pub(crate) fn travel_among(
 ) -> u64
     requires same { teams league.now ≡ schedule.now.teams }
     ensures value { IsTotalOrAbove most (travel_part league.now schedule.now (has set) (has rounds)) result }
-    ensures small { result ≤ 40 * (79 * 1000000) }
+    ensures small { result ≤ max_teams * ((max_rounds + 1) * max_distance) }
 {
     let among = teams_in(schedule, set);
     let indices = rounds.with_next_below(schedule.rounds());
@@ -86,7 +87,7 @@ fn legs_within(
     requires below { IsBelow (round_count schedule.now.teams) indices }
     ensures value { IsTotalOrAbove most (sum_where (round_count schedule.now.teams) (has indices) (λ r.
         sum_where schedule.now.teams (has among) (λ t. leg league.now schedule.now t r))) result }
-    ensures small { result ≤ 40000000 * round_count schedule.now.teams }
+    ensures small { result ≤ max_teams * max_distance * round_count schedule.now.teams }
 {
     let mut total = 0;
     for index in indices {
@@ -106,7 +107,7 @@ fn home_legs(schedule: &Schedule, league: &League, among: TeamSet, rounds: SlotS
     ensures value { result ≡ (if has rounds (round_count schedule.now.teams - 1)
         then sum_where schedule.now.teams (has among)
         (λ t. leg league.now schedule.now t (round_count schedule.now.teams)) else 0) }
-    ensures most { result ≤ 40000000 }
+    ensures most { result ≤ max_teams * max_distance }
 {
     if rounds.has(schedule.rounds() - 1) {
         legs_of(schedule, league, among, schedule.rounds())
@@ -122,7 +123,7 @@ fn legs_of(schedule: &Schedule, league: &League, among: TeamSet, index: u8) -> u
     requires below { IsBelow schedule.now.teams among }
     requires index { index ≤ round_count schedule.now.teams }
     ensures value { result ≡ sum_where schedule.now.teams (has among) (λ t. leg league.now schedule.now t index) }
-    ensures most { result ≤ 1000000 * schedule.now.teams }
+    ensures most { result ≤ max_distance * schedule.now.teams }
 {
     let mut total = 0;
     for team in among {
@@ -138,7 +139,7 @@ fn leg(schedule: &Schedule, league: &League, team: u8, index: u8) -> u64
     requires team { team < schedule.now.teams }
     requires index { index ≤ round_count schedule.now.teams }
     ensures value { result ≡ leg league.now schedule.now team index }
-    ensures most { result ≤ 1000000 }
+    ensures most { result ≤ max_distance }
 {
     let from = stop_before(schedule, team, index);
     let to = stop_after(schedule, team, index);
@@ -150,7 +151,7 @@ fn way(league: &League, from: u8, to: u8) -> u64
     requires from { from < teams league.now }
     requires to { to < teams league.now }
     ensures value { result ≡ distance league.now from to }
-    ensures most { result ≤ 1000000 }
+    ensures most { result ≤ max_distance }
 {
     u64::from(league.distance(from, to))
 }
@@ -255,7 +256,7 @@ fn legs_of_guest(
     requires host { host < schedule.now.teams }
     requires round { round < round_count schedule.now.teams }
     ensures value { result ≡ legs_of_guest league.now schedule.now (has hosts) (has rounds) host round }
-    ensures most { result ≤ 2000000 }
+    ensures most { result ≤ 2 * max_distance }
 {
     let guest = schedule.game_at(host, round).opponent;
     if hosts.has(guest) {
@@ -274,7 +275,7 @@ fn legs_of_guest(
 
 /// Whether this place, to which a team goes for a round, is one of the hosts', and the round one of the set.
 fn is_visit(schedule: &Schedule, hosts: TeamSet, rounds: SlotSet, place: u8, round: u8) -> bool
-    requires { place < 40 }
+    requires { place < max_teams }
     ensures { result ≡
         (has hosts place && (nat_lt round (round_count schedule.now.teams) && has rounds round)) }
 {

@@ -23,10 +23,7 @@ pub fn travel_part_within(
         (travel_part league.now schedule.now (has touched.teams) (has touched.rounds)) result }
 {
     let legs = travel_among(schedule, league, touched.teams, touched.rounds, most);
-    if legs > most {
-        return None;
-    }
-    Some(legs)
+    (legs <= most).then_some(legs)
 }
 
 /// `travel_around` where it is at most `most`. The count stops where it is more.
@@ -41,8 +38,5 @@ pub fn travel_around_within(
         (travel_around league.now schedule.now (has touched.teams) (has touched.rounds)) result }
 {
     let legs = travel_near(schedule, league, touched.teams, touched.rounds, most);
-    if legs > most {
-        return None;
-    }
-    Some(legs)
+    (legs <= most).then_some(legs)
 }

@@ -1,5 +1,6 @@
 use Rattle.std.proofs.Common.{◌≡◌, ℕ, ◌-◌, ◌^◌, ◌<◌, false, inl, inr, ◌||◌, eqb, refl, sym, ◌∙◌, ap, subst, arith}
 use Rattle.std.proofs.Math.Path.{fun_ext}
+use Rattle.league.specs.Limits.{max_rounds}
 use Rattle.league.specs.Sets.{has, with_number}
 use Rattle.league.proofs.ForCallers.{with_number-grows}
 use Rattle.fixtures.specs.Closed.{IsLeastClosed, shares_opponent}
@@ -18,7 +19,7 @@ loop-found-init c =
           (are_apart_never c.args.schedule.now c.args.i c.args.j c.args.k checked.apart)
           c.empty-found.ensures.members (λ r. refl);
       fresh = c.empty-found.ensures.members c.args.k;
-      below = c.empty-found.ensures.below 78;
+      below = c.empty-found.ensures.below max_rounds;
     }
 
 checked_at : (c : goal.At-loop-found) → IsPartTeams c.args.schedule.now c.args.i c.args.j c.args.k
@@ -64,8 +65,8 @@ returns-then-next-k-clause-members c =
     checked.in_range (has c.with-found.result) (least c)
 
 -- the set grows by the last round
-smaller : (found more round : ℕ) → more ≡ with_number found round → has found round ≡ false → found < 2 ^ 78 →
-    2 ^ 78 - more < 2 ^ 78 - found
+smaller : (found more round : ℕ) → more ≡ with_number found round → has found round ≡ false → found < 2 ^ max_rounds →
+    2 ^ max_rounds - more < 2 ^ max_rounds - found
 smaller found more round is fresh below = omega (arith, with_number-grows found round fresh)
 
 pub loop-found-smaller : goal.loop-found-smaller
@@ -93,6 +94,6 @@ loop-found-preserved c =
           c.loop-found.round _ (with_added c.loop-found.round (has c.loop-found.found)) checked.pair.home_in
           checked.pair.away_in
           c.loop-found.invariant.chain follows c.if-next-k.false;
-      below = c.with-found.ensures.below 78 c.loop-found.invariant.below
+      below = c.with-found.ensures.below max_rounds c.loop-found.invariant.below
           (omega (arith, c.loop-found.invariant.chain.last_below));
     }

@@ -1,4 +1,5 @@
 use Rattle.std.proofs.Common.{◌≡◌, ℕ, ◌-◌, ◌^◌, ◌<◌, false, ◌||◌, eqb, refl, ◌∙◌, ap, arith}
+use Rattle.league.specs.Limits.{max_teams}
 use Rattle.league.specs.Sets.{has, with_number}
 use Rattle.league.proofs.ForCallers.{le-with_number, with_number-grows}
 use Rattle.fixtures.specs.Closed.{IsLeastClosed, plays_in}
@@ -11,7 +12,7 @@ pub loop-team-init : goal.loop-team-init
 loop-team-init c = record {
   chain = IsTeamChain-start c.args.schedule.now c.args.k c.args.l c.args.i (has c.empty-found.result) _ c.requires.i
       c.empty-found.ensures.members (λ t. refl);
-  below = c.empty-found.ensures.below 40;
+  below = c.empty-found.ensures.below max_teams;
 }
 
 pub game_at-middle-requires-clause-team : goal.game_at-middle-requires-clause-team
@@ -41,7 +42,7 @@ returns-then-team-i-clause-members c =
 
 -- the set grows by the team in the middle
 smaller : (found once twice team middle : ℕ) → once ≡ with_number found team → twice ≡ with_number once middle →
-    has once middle ≡ false → found < 2 ^ 40 → 2 ^ 40 - twice < 2 ^ 40 - found
+    has once middle ≡ false → found < 2 ^ max_teams → 2 ^ max_teams - twice < 2 ^ max_teams - found
 smaller found once twice team middle first second out below =
     omega (arith, le-with_number found team, with_number-grows once middle out)
 
@@ -65,7 +66,7 @@ loop-team-preserved c = record {
       (meets_cell _ _ _ _ c.game_at-team.ensures.cell)
       (adds c.loop-team.team _ c.loop-team.found _ _ c.with.ensures.members c.with-found.ensures.members)
       c.if-team-i.false _ (λ t. refl);
-  below = c.with-found.ensures.below 40
-      (c.with.ensures.below 40 c.loop-team.invariant.below (omega (arith, c.loop-team.invariant.chain.last_below)))
+  below = c.with-found.ensures.below max_teams
+      (c.with.ensures.below max_teams c.loop-team.invariant.below (omega (arith, c.loop-team.invariant.chain.last_below)))
       (omega (arith, c.game_at-middle.ensures.cell.pair.away_in));
 }

@@ -1,4 +1,5 @@
 use Rattle.std.proofs.Common.{◌-◌, ◌^◌}
+use Rattle.league.specs.Limits.{max_teams}
 use Rattle.league.specs.Sets.{has, IsBelow}
 use Rattle.moves.proofs.Added.{with_added}
 use Rattle.moves.proofs.TeamChain.{IsTeamChain}
@@ -7,8 +8,8 @@ use Rattle.moves.proofs.chains.moved_teams.Given as goal
 abbrev pub invariant-loop-team : goal.invariant-loop-team
 invariant-loop-team l = record {
   chain : IsTeamChain l.schedule l.k l.l l.i l.team (with_added l.team (has l.found));
-  below : IsBelow 40 l.found;
+  below : IsBelow max_teams l.found;
 }
 
 abbrev pub decreases-loop-team : goal.decreases-loop-team
-decreases-loop-team l = 2 ^ 40 - l.found
+decreases-loop-team l = 2 ^ max_teams - l.found

@@ -1,4 +1,5 @@
-use Rattle.std.proofs.Common.{◌≡◌, ◌*◌, ◌≤◌}
+use Rattle.std.proofs.Common.{◌≡◌, ◌+◌, ◌*◌, ◌≤◌}
+use Rattle.league.specs.Limits.{max_rounds, max_distance}
 use Rattle.league.specs.Sums.{sum_below}
 use Rattle.tours.specs.Tours.{travel_of}
 use Rattle.tours.proofs.legs.travel.Given as goal
@@ -6,5 +7,5 @@ use Rattle.tours.proofs.legs.travel.Given as goal
 abbrev pub invariant-loop-team : goal.invariant-loop-team
 invariant-loop-team l = record {
   value : l.total ≡ sum_below l.team (travel_of l.league l.schedule);
-  most : l.total ≤ l.team * (79 * 1000000);
+  most : l.total ≤ l.team * ((max_rounds + 1) * max_distance);
 }

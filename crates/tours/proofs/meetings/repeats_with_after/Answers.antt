@@ -1,5 +1,5 @@
-use Rattle.std.proofs.Common.{◌≡◌, refl, sym, ◌∙◌, subst, arith}
-use Rattle.league.specs.Sets.{has, IsBelow}
+use Rattle.std.proofs.Common.{refl, sym, ◌∙◌, arith}
+use Rattle.league.specs.Sets.{has}
 use Rattle.league.proofs.ForCallers.{sum_without_none, sum_without_more, sum_without_all, lowest_below}
 use Rattle.tours.proofs.Members.{repeats_with_after_members}
 use Rattle.tours.proofs.meetings.repeats_with_after.Goals as goal

@@ -1,3 +1,5 @@
+use Rattle.std.proofs.Common.{◌*◌}
+use Rattle.league.specs.Limits.{max_distance}
 use Rattle.league.specs.Sets.{has}
 use Rattle.league.proofs.ForCallers.{IsSumWithout}
 use Rattle.fixtures.specs.Games.{round_count}
@@ -6,5 +8,5 @@ use Rattle.tours.proofs.travel_parts.guest_legs.Given as goal
 
 abbrev pub invariant-loop-round : goal.invariant-loop-round
 invariant-loop-round l =
-    IsSumWithout (round_count l.schedule.teams) l.fn.visits l.round-iterator l.total 2000000
+    IsSumWithout (round_count l.schedule.teams) l.fn.visits l.round-iterator l.total (2 * max_distance)
     (legs_of_guest l.league l.schedule (has l.hosts) (has l.rounds) l.host)

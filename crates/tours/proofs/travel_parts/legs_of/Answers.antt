@@ -1,5 +1,4 @@
-use Rattle.std.proofs.Common.{◌≡◌, refl, sym, subst, arith}
-use Rattle.league.specs.Sets.{IsBelow}
+use Rattle.std.proofs.Common.{refl, arith}
 use Rattle.league.proofs.ForCallers.{sum_without_none, sum_without_more, sum_without_all, lowest_below}
 use Rattle.tours.proofs.travel_parts.legs_of.Goals as goal
 

@@ -1,9 +1,6 @@
-use Rattle.tours.proofs.StoppedWalks.{total_above, total_within}
+use Rattle.std.proofs.Common.{refl}
+use Rattle.tours.proofs.StoppedWalks.{total_told}
 use Rattle.tours.proofs.travel_within.travel_part_within.Goals as goal
 
-pub returns-then-legs-most : goal.returns-then-legs-most
-returns-then-legs-most c =
-    rw (← c.touched.view_is) (total_above _ _ _ c.travel_among-legs.ensures.value c.if-legs-most.true)
-
 pub returns : goal.returns
-returns c = rw (← c.touched.view_is) (total_within _ _ _ c.travel_among-legs.ensures.value c.if-legs-most.false)
+returns c = rw (← c.touched.view_is, c.then_some.ensures) (total_told _ _ _ _ refl c.travel_among-legs.ensures.value)
