@@ -1,6 +1,6 @@
 -- What the rule says of a table, between any two steps.
 use Rattle.std.proofs.Common.{◌≡◌, ◌≢◌, ℕ, Option, List, [], ◌∷◌, length, slice_index, refl, ap, sym, ◌∙◌, subst, ◌⊎◌, inl, inr, arith}
-use mathlib.Core.Option.{some, some-injective}
+use mathlib.Core.Option.{some-injective}
 use mathlib.Core.Option as maybe
 use mathlib.Core.Logic.{dite}
 use native.Mathlib.Decide.{ℕ_discrete}
