@@ -1,6 +1,7 @@
 pub mod OneMore
 pub mod Least
 pub mod Scores
+pub mod ShareLimits
 pub mod Shares
 pub mod Stand
 pub mod Next

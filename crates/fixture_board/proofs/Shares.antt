@@ -1,6 +1,6 @@
 -- A move changes no more of the costs than their shares.
-use Rattle.std.proofs.Common.{◌≡◌, ℕ, ◌+◌, ◌-◌, ◌<◌, ◌≤◌, Bool, true, false, if◌then◌else◌, length, slice_get, Option, Some, None}
-use Rattle.std.proofs.Common.{refl, sym, ◌∙◌, ap, subst, le_refl, arith}
+use Rattle.std.proofs.Common.{◌≡◌, ℕ, ◌+◌, ◌-◌, ◌<◌, Bool, true, false, if◌then◌else◌, length, slice_get, Option, Some, None}
+use Rattle.std.proofs.Common.{refl, sym, ◌∙◌, ap, subst, arith}
 use Rattle.std.proofs.Math.Path.{fun_ext}
 use Rattle.std.proofs.lemmas.List.Elements.{All-from_recursion, All-get_or}
 use Rattle.std.proofs.lemmas.Option.{slice_get_within, get_or_from_slice_get}
@@ -9,8 +9,8 @@ use Rattle.league.specs.RuleLimits.{IsRuleFor, IsBodyFor}
 use Rattle.league.specs.Sets.{has}
 use Rattle.league.specs.declared.rule.Rule.{Rule}
 use Rattle.league.specs.declared.rule.Weight.{Weight}
-use Rattle.league.proofs.ForCallers.{sum_below_balance, sum_below_le_each}
-use Rattle.fixtures.specs.Changes.{DiffersOnlyIn, with_guests}
+use Rattle.league.proofs.ForCallers.{sum_below_balance}
+use Rattle.fixtures.specs.Changes.{DiffersOnlyIn}
 use Rattle.fixtures.specs.Games.{Games}
 use Rattle.fixtures.specs.TouchedCells.{TouchedCells}
 use Rattle.moves.specs.declared.moves.Move.{Move}
@@ -21,8 +21,7 @@ use Rattle.moves.proofs.ForCallers.{differs_around, each_differs, each_double_ro
 use Rattle.moves.proofs.ForCallers.{sides_differ_at}
 use Rattle.tours.specs.Repeats.{repeats}
 use Rattle.tours.specs.Phased.{unphased, unphased_part}
-use Rattle.tours.specs.Parts.{touches_leg, travel_part_of, travel_at, travel_part, travel_around}
-use Rattle.tours.specs.Tours.{leg_count, leg, travel_of, travel}
+use Rattle.tours.specs.Tours.{travel}
 use Rattle.tours.proofs.ForCallers.{travel_balance, travel_balance_around, runs_balance_sides, repeats_balance_around}
 use Rattle.tours.proofs.ForCallers.{repeats_of_same_pairs, unphased_balance_around}
 use Rattle.robinx.specs.Deviations.{deviation}
@@ -34,6 +33,7 @@ use Rattle.fixture_board.specs.CostShares.{travel_share, repeats_share, seen_sha
 use Rattle.fixture_board.specs.CostShares.{share_but_travel, CostsBalance}
 use Rattle.fixture_board.specs.declared.cost.Cost.{Cost}
 use Rattle.fixture_board.proofs.Scores.{moved-teams, score_below}
+use Rattle.fixture_board.proofs.ShareLimits.{travel_share_le}
 
 -- travel
 
@@ -51,37 +51,6 @@ travel_balances l g (Rounds k m) main are = travel_balance l g _ _ _ (differs_in
 travel_balances l g (PartRounds i k m) main are = travel_balance l g _ _ _ (differs_in_main g (PartRounds i k m) main are (λ t. refl))
 travel_balances l g (Teams i j) main are = travel_balance_around l g _ _ _ (differs_around g (Teams i j) main are)
 travel_balances l g (PartTeams i j k) main are = travel_balance_around l g _ _ _ (differs_around g (PartTeams i j k) main are)
-
--- a part is at most the whole
-
-taken_le : (taken : Bool) (n : ℕ) → (if taken then n else 0) ≤ n
-taken_le true n = le_refl n
-taken_le false n = omega arith
-
-travel_part_of_le : (l : LeagueData) (g : Games) (rounds : ℕ → Bool) (t : ℕ) → travel_part_of l g rounds t ≤ travel_of l g t
-unfolding travel_part_of travel_of
-travel_part_of_le l g rounds t =
-    sum_below_le_each (leg_count g) (λ r. if touches_leg g rounds r then leg l g t r else 0) (leg l g t)
-    (λ r under. taken_le (touches_leg g rounds r) (leg l g t r))
-
-travel_part_le : (l : LeagueData) (g : Games) (teams rounds : ℕ → Bool) → travel_part l g teams rounds ≤ travel l g
-unfolding travel_part travel
-travel_part_le l g teams rounds =
-    sum_below_le_each g.teams (λ t. if teams t then travel_part_of l g rounds t else 0) (travel_of l g)
-    (λ t under. omega (arith, taken_le (teams t) (travel_part_of l g rounds t), travel_part_of_le l g rounds t))
-
-travel_around_le : (l : LeagueData) (g : Games) (teams rounds : ℕ → Bool) → travel_around l g teams rounds ≤ travel l g
-unfolding travel_around travel_at travel
-travel_around_le l g teams rounds =
-    sum_below_le_each g.teams (λ t. travel_part_of l g (with_guests g teams rounds t) t) (travel_of l g)
-    (λ t under. travel_part_of_le l g (with_guests g teams rounds t) t)
-
-travel_share_le : (l : LeagueData) (g : Games) (mv : Move) (main : TouchedCells) → travel_share l mv main g ≤ travel l g
-travel_share_le l g (Homes i j) main = travel_part_le l g _ _
-travel_share_le l g (Rounds k m) main = travel_part_le l g _ _
-travel_share_le l g (PartRounds i k m) main = travel_part_le l g _ _
-travel_share_le l g (Teams i j) main = travel_around_le l g _ _
-travel_share_le l g (PartTeams i j k) main = travel_around_le l g _ _
 
 -- repeats
 

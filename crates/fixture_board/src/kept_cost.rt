@@ -38,7 +38,7 @@ pub fn make_at_cost(
 {
     prove_eq!(league.teams(), schedule.teams());
     let sides = side_teams(schedule, mv, main);
-    let before = share(schedule, league, mv, main, sides);
+    let before = share_of_known(schedule, league, mv, main, sides, known);
     make(schedule, mv, main);
     let after = share(schedule, league, mv, main, sides);
     exchanged(known, before, after)
@@ -77,7 +77,31 @@ pub(crate) fn share(
     }
 }
 
-/// The same without the travel, which is 0 in it.
+/// The same on a schedule of known cost: where nothing of that is hard, nothing of the share is.
+pub(crate) fn share_of_known(
+    schedule: &Schedule,
+    league: &League,
+    mv: Move,
+    main: Touched,
+    sides: TeamSet,
+    known: Cost,
+) -> Cost
+    requires same_size { teams league.now ≡ schedule.now.teams }
+    requires known { known ≡ cost_of league.now schedule.now }
+    ensures value { result ≡ cost_share league.now mv main sides schedule.now }
+    ensures small { IsSmall result }
+{
+    if known.hard > 0 {
+        return share(schedule, league, mv, main, sides);
+    }
+    Cost {
+        travel: travel_share(schedule, league, mv, main),
+        hard: 0,
+        soft: costs_of_seen_rules(schedule, league, main.teams).soft,
+    }
+}
+
+/// The share without the travel, which is 0 in it.
 #[tactic(auto, unfolding(crate::specs::CostShares::share_but_travel))]
 pub(crate) fn share_but_travel(
     schedule: &Schedule,

@@ -9,7 +9,7 @@ ghost use Rattle.fixture_board.specs.Costs.{cost_of, score_of, score_limit, IsCo
 ghost use Rattle.fixture_board.specs.CostShares.{travel_share};
 
 use crate::cost::Cost;
-use crate::kept_cost::{exchanged, share, share_but_travel};
+use crate::kept_cost::{exchanged, share_but_travel, share_of_known};
 use fixtures::{Schedule, Touched};
 use league::League;
 use moves::{Move, make, side_teams};
@@ -37,7 +37,7 @@ pub fn make_within(
 {
     prove_eq!(league.teams(), schedule.teams());
     let sides = side_teams(schedule, mv, main);
-    let before = share(schedule, league, mv, main, sides);
+    let before = share_of_known(schedule, league, mv, main, sides, known);
     make(schedule, mv, main);
     let others = share_but_travel(schedule, league, mv, main, sides);
     let least = exchanged(known, before, others);

@@ -9,18 +9,18 @@ pub exchanged-requires-clause-balance : goal.exchanged-requires-clause-balance
 exchanged-requires-clause-balance c = (
   _,
   share_balances _ _ _ _ _ _ _ _ _ c.teams.ensures.limits c.requires.same_size c.requires.main c.side_teams-sides.ensures
-      c.requires.known c.share-before.ensures.value c.make.ensures.moved c.share-after.ensures.value,
+      c.requires.known c.share_of_known-before.ensures.value c.make.ensures.moved c.share-after.ensures.value,
 )
 
 pub returns-clause-value : goal.returns-clause-value
 returns-clause-value c =
     same_cost _ _ _ _ _ c.exchanged.ensures
     (share_balances _ _ _ _ _ _ _ _ _ c.teams.ensures.limits c.requires.same_size c.requires.main c.side_teams-sides.ensures
-    c.requires.known c.share-before.ensures.value c.make.ensures.moved c.share-after.ensures.value)
+    c.requires.known c.share_of_known-before.ensures.value c.make.ensures.moved c.share-after.ensures.value)
 
 pub returns-clause-small : goal.returns-clause-small
 returns-clause-small c =
     score_after _ _ _ _ c.teams.ensures.limits c.requires.same_size c.make.ensures.moved _
     (same_cost _ _ _ _ _ c.exchanged.ensures
     (share_balances _ _ _ _ _ _ _ _ _ c.teams.ensures.limits c.requires.same_size c.requires.main c.side_teams-sides.ensures
-    c.requires.known c.share-before.ensures.value c.make.ensures.moved c.share-after.ensures.value))
+    c.requires.known c.share_of_known-before.ensures.value c.make.ensures.moved c.share-after.ensures.value))

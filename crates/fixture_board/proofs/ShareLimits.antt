@@ -1,0 +1,147 @@
+-- What a move can change of a cost is at most all of it.
+use Rattle.std.proofs.Common.{◌≡◌, ℕ, ◌+◌, ◌-◌, ◌≤◌, ◌&&◌, ◌||◌, Bool, true, false, if◌then◌else◌, List, length, slice_get}
+use Rattle.std.proofs.Common.{Option, Some, None, refl, le_refl, arith}
+use Rattle.league.specs.League.{LeagueData}
+use Rattle.league.specs.Sets.{has}
+use Rattle.league.specs.declared.rule.Rule.{Rule}
+use Rattle.league.specs.declared.rule.Weight.{Weight}
+use Rattle.league.specs.declared.rule.Weight.TheVariants.{Hard, Soft}
+use Rattle.league.proofs.ForCallers.{sum_below_le_each}
+use Rattle.fixtures.specs.Changes.{with_guests}
+use Rattle.fixtures.specs.Games.{Games, round_count, meets}
+use Rattle.fixtures.specs.TouchedCells.{TouchedCells}
+use Rattle.moves.specs.Laws.{keeps_meetings}
+use Rattle.moves.specs.declared.moves.Move.{Move}
+use Rattle.moves.specs.declared.moves.Move.TheVariants.{Homes, Rounds, Teams, PartRounds, PartTeams}
+use Rattle.tours.specs.Parts.{touches_leg, travel_part_of, travel_at, travel_part, travel_around}
+use Rattle.tours.specs.Parts.{touches_window, runs_part_of, runs_part, repeats_with_after, repeats_with}
+use Rattle.tours.specs.Phased.{is_unphased, unphased, unphased_part}
+use Rattle.tours.specs.Repeats.{repeats_after, repeats}
+use Rattle.tours.specs.Runs.{windows, is_run, runs_of, runs_over}
+use Rattle.tours.specs.Tours.{leg_count, leg, travel_of, travel}
+use Rattle.robinx.specs.Deviations.{deviation}
+use Rattle.robinx.specs.LooksPast.{looks_past}
+use Rattle.fixture_board.specs.Costs.{hard_share, soft_share, share_of, sum_over_rules, cost_of}
+use Rattle.fixture_board.specs.CostShares.{travel_share, seen_share_of, sum_over_seen_rules, share_but_travel, cost_share}
+use Rattle.fixture_board.specs.declared.cost.Cost.{Cost}
+
+taken_le : (taken : Bool) (n : ℕ) → (if taken then n else 0) ≤ n
+taken_le true n = le_refl n
+taken_le false n = omega arith
+
+both_le : (taken seen : Bool) → (if taken && seen then 1 else 0) ≤ (if seen then 1 else 0)
+both_le true seen = le_refl _
+both_le false seen = omega arith
+
+-- travel
+
+travel_part_of_le : (l : LeagueData) (g : Games) (rounds : ℕ → Bool) (t : ℕ) → travel_part_of l g rounds t ≤ travel_of l g t
+unfolding travel_part_of travel_of
+travel_part_of_le l g rounds t =
+    sum_below_le_each (leg_count g) (λ r. if touches_leg g rounds r then leg l g t r else 0) (leg l g t)
+    (λ r under. taken_le (touches_leg g rounds r) (leg l g t r))
+
+travel_part_le : (l : LeagueData) (g : Games) (teams rounds : ℕ → Bool) → travel_part l g teams rounds ≤ travel l g
+unfolding travel_part travel
+travel_part_le l g teams rounds =
+    sum_below_le_each g.teams (λ t. if teams t then travel_part_of l g rounds t else 0) (travel_of l g)
+    (λ t under. omega (arith, taken_le (teams t) (travel_part_of l g rounds t), travel_part_of_le l g rounds t))
+
+travel_around_le : (l : LeagueData) (g : Games) (teams rounds : ℕ → Bool) → travel_around l g teams rounds ≤ travel l g
+unfolding travel_around travel_at travel
+travel_around_le l g teams rounds =
+    sum_below_le_each g.teams (λ t. travel_part_of l g (with_guests g teams rounds t) t) (travel_of l g)
+    (λ t under. travel_part_of_le l g (with_guests g teams rounds t) t)
+
+pub travel_share_le : (l : LeagueData) (g : Games) (mv : Move) (main : TouchedCells) → travel_share l mv main g ≤ travel l g
+travel_share_le l g (Homes i j) main = travel_part_le l g _ _
+travel_share_le l g (Rounds k m) main = travel_part_le l g _ _
+travel_share_le l g (PartRounds i k m) main = travel_part_le l g _ _
+travel_share_le l g (Teams i j) main = travel_around_le l g _ _
+travel_share_le l g (PartTeams i j k) main = travel_around_le l g _ _
+
+-- hard costs
+
+runs_part_of_le : (g : Games) (at_most : ℕ) (rounds : ℕ → Bool) (t : ℕ) → runs_part_of g at_most rounds t ≤ runs_of g at_most t
+unfolding runs_part_of runs_of
+runs_part_of_le g at_most rounds t =
+    sum_below_le_each (windows g (at_most + 1)) _ _
+    (λ first under. both_le (touches_window rounds first (at_most + 1)) (is_run g t first (at_most + 1)))
+
+runs_part_le : (g : Games) (at_most : ℕ) (teams rounds : ℕ → Bool) → runs_part g at_most teams rounds ≤ runs_over g at_most
+unfolding runs_part runs_over
+runs_part_le g at_most teams rounds =
+    sum_below_le_each g.teams (λ t. if teams t then runs_part_of g at_most rounds t else 0) (runs_of g at_most)
+    (λ t under. omega (arith, taken_le (teams t) (runs_part_of g at_most rounds t), runs_part_of_le g at_most rounds t))
+
+repeats_with_after_le : (g : Games) (teams : ℕ → Bool) (round : ℕ) → repeats_with_after g teams round ≤ repeats_after g round
+unfolding repeats_with_after repeats_after
+repeats_with_after_le g teams round =
+    sum_below_le_each g.teams _ _
+    (λ high under. sum_below_le_each high _ _
+    (λ low lower. both_le (teams low || teams high) (meets g high low round && meets g high low (round + 1))))
+
+repeats_with_le : (g : Games) (teams rounds : ℕ → Bool) → repeats_with g teams rounds ≤ repeats g
+unfolding repeats_with repeats
+repeats_with_le g teams rounds =
+    sum_below_le_each (round_count g.teams - 1) (λ r. if rounds r || rounds (r + 1) then repeats_with_after g teams r else 0)
+    (repeats_after g)
+    (λ r under. omega (arith, taken_le (rounds r || rounds (r + 1)) (repeats_with_after g teams r), repeats_with_after_le g teams r))
+
+kept_le : (kept : Bool) (part whole : ℕ) → part ≤ whole → (if kept then 0 else part) ≤ whole
+kept_le true part whole le = omega arith
+kept_le false part whole le = le
+
+unphased_part_le : (g : Games) (teams : ℕ → Bool) → unphased_part g teams ≤ unphased g
+unfolding unphased_part unphased
+unphased_part_le g teams =
+    sum_below_le_each g.teams _ _
+    (λ j under. sum_below_le_each j _ _ (λ i lower. both_le (teams i || teams j) (is_unphased g i j)))
+
+where_le : (counted : Bool) (part whole : ℕ) → part ≤ whole → (if counted then part else 0) ≤ (if counted then whole else 0)
+where_le true part whole le = le
+where_le false part whole le = omega arith
+
+weighed_le : (weight : Weight) (past : Bool) (n : ℕ) → hard_share weight (if past then 0 else n) ≤ hard_share weight n
+weighed_le Hard past n = kept_le past n n (le_refl n)
+weighed_le (Soft weight) past n = omega arith
+
+seen_le : (teams : ℕ) (g : Games) (rule : Option Rule) → seen_share_of hard_share teams g rule ≤ share_of hard_share g rule
+seen_le teams g None = omega arith
+seen_le teams g (Some rule) = weighed_le rule.weight (looks_past teams rule.body) (deviation g rule.body)
+
+seen_rules_le : (rules : List Rule) (teams : ℕ) (g : Games) →
+    sum_over_seen_rules hard_share rules teams g ≤ sum_over_rules hard_share rules g
+unfolding sum_over_seen_rules sum_over_rules
+seen_rules_le rules teams g =
+    sum_below_le_each (length rules) _ _ (λ i under. seen_le teams g (slice_get rules i))
+
+share_by_costs : (l : LeagueData) (mv : Move) (main : TouchedCells) (sides : ℕ) (g : Games) →
+    record {
+      travel = travel_share l mv main g;
+      hard = (cost_share l mv main sides g).hard;
+      soft = sum_over_seen_rules soft_share l.rules main.teams g;
+    } ≡ cost_share l mv main sides g
+unfolding cost_share share_but_travel
+share_by_costs l mv main sides g = refl
+
+hard_le : (l : LeagueData) (mv : Move) (main : TouchedCells) (sides : ℕ) (g : Games) →
+    (cost_share l mv main sides g).hard ≤ (cost_of l g).hard
+unfolding cost_share share_but_travel cost_of
+hard_le l mv main sides g = omega (
+  arith,
+  runs_part_le g l.at_most (has sides) (has main.rounds),
+  kept_le (keeps_meetings mv) _ _ (repeats_with_le g (has main.teams) (has main.rounds)),
+  seen_rules_le l.rules main.teams g,
+  where_le l.phased _ _ (unphased_part_le g (has main.teams)),
+)
+
+-- where nothing is hard, nothing of the share is
+pub share_none_hard : (l : LeagueData) (mv : Move) (main : TouchedCells) (sides : ℕ) (g : Games) (known : Cost) (legs weighed : ℕ) →
+    known ≡ cost_of l g → known.hard ≤ 0 → legs ≡ travel_share l mv main g →
+    weighed ≡ sum_over_seen_rules soft_share l.rules main.teams g →
+    record { travel = legs; hard = 0; soft = weighed } ≡ cost_share l mv main sides g
+share_none_hard l mv main sides g known legs weighed known_is none legs_are weighed_is =
+    let none_of_all : (cost_of l g).hard ≤ 0 = rw known_is at none in
+    let none_of_share : 0 ≡ (cost_share l mv main sides g).hard = omega (arith, hard_le l mv main sides g, none_of_all) in
+    rw (legs_are, weighed_is, none_of_share) (share_by_costs l mv main sides g)
