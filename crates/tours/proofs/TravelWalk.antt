@@ -1,28 +1,14 @@
 -- The legs of a part, one after another, each of all its teams.
-use Rattle.std.proofs.Common.{◌≡◌, ℕ, ◌+◌, ◌-◌, ◌<◌, ◌≤◌, Bool, true, false, not, ◌&&◌, ◌||◌, get_or, refl, sym, ◌∙◌, ap, subst, arith}
+use Rattle.std.proofs.Common.{◌≡◌, ℕ, ◌+◌, ◌-◌, ◌<◌, Bool, true, false, not, ◌&&◌, ◌||◌, refl, sym, ◌∙◌, ap, arith}
 use Rattle.std.specs.Prelude.{◌==◌, nat_lt, if◌then◌else◌}
 use Rattle.std.proofs.lemmas.Bool.Decides.{nat_tests}
 use Rattle.league.specs.League.{LeagueData}
 use Rattle.league.specs.Sums.{sum_below, sum_where}
 use Rattle.league.specs.Sets.{has}
 use Rattle.league.proofs.ForCallers.{sum_below_same, sum_below_zero, sum_below_swap, sum_below_more, sum_where_same}
-use Rattle.fixtures.specs.Games.{Games, round_count, place}
-use Rattle.tours.specs.Tours.{tour, leg_count, leg}
+use Rattle.fixtures.specs.Games.{Games, round_count}
+use Rattle.tours.specs.Tours.{leg_count, leg}
 use Rattle.tours.specs.Parts.{touches_leg, travel_part_of, travel_part}
-use Rattle.tours.proofs.Stops.{tour_at_round, tour_at_end}
-
--- the stops of a leg
-
-pub stop_first : (g : Games) (team r : ℕ) → r ≡ 0 → get_or (tour g team) r 0 ≡ team
-stop_first g team r none = rw none refl
-
-pub stop_before : (g : Games) (team r : ℕ) → 0 < r → r ≤ round_count g.teams → get_or (tour g team) r 0 ≡ place g team (r - 1)
-stop_before g team r some in_r =
-    let next : (r - 1) + 1 ≡ r = omega arith in
-    subst (λ (x : ℕ). get_or (tour g team) x 0 ≡ place g team (r - 1)) next (tour_at_round g team (r - 1) (omega arith))
-
-pub stop_last : (g : Games) (team r : ℕ) → r ≡ round_count g.teams → get_or (tour g team) (r + 1) 0 ≡ team
-stop_last g team r last = rw last (tour_at_end g team)
 
 -- the leg of each team of the set
 abbrev pub legs_of : LeagueData → Games → (ℕ → Bool) → ℕ → ℕ

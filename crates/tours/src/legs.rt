@@ -1,10 +1,10 @@
 //! How far the teams travel.
 
-ghost use Rattle.std.specs.Prelude.{◌≡◌, ◌+◌, ◌*◌, ◌<◌, ◌≤◌};
-ghost use Rattle.league.specs.League.{teams};
+ghost use Rattle.std.specs.Prelude.{◌≡◌, ◌+◌, ◌*◌, ◌<◌, ◌≤◌, slice_index};
+ghost use Rattle.league.specs.League.{teams, distance};
 ghost use Rattle.league.specs.Limits.{max_teams, max_rounds, max_distance};
-ghost use Rattle.fixtures.specs.Games.{round_count, place};
-ghost use Rattle.tours.specs.Tours.{travel_of, travel};
+ghost use Rattle.fixtures.specs.Games.{round_count};
+ghost use Rattle.tours.specs.Tours.{tour, leg, travel_of, travel};
 
 use fixtures::Schedule;
 use league::League;
@@ -25,31 +25,52 @@ pub fn travel(schedule: &Schedule, league: &League) -> u64
 
 /// How far a team travels from its home through the places of its games, in the order of the rounds, and home
 /// again, in the unit of the league's distances.
-#[tactic(auto, using(crate::proofs::Stops::tour_steps), unfolding(crate::specs::Tours::travel_of))]
+#[tactic(auto, using(league::proofs::ForCallers::sums), unfolding(crate::specs::Tours::travel_of))]
 pub fn travel_of(schedule: &Schedule, league: &League, team: u8) -> u64
     requires same { teams league.now ≡ schedule.now.teams }
     requires team { team < schedule.now.teams }
     ensures value { result ≡ travel_of league.now schedule.now team }
     ensures most { result ≤ (max_rounds + 1) * max_distance }
 {
-    let mut here = team;
     let mut total = 0;
-    for round in 0..schedule.rounds() {
-        let next = place(schedule, team, round);
-        total += u64::from(league.distance(here, next));
-        here = next;
+    for index in 0..schedule.rounds() + 1 {
+        total += leg(schedule, league, team, index);
     }
-    total + u64::from(league.distance(here, team))
+    total
 }
 
-/// The team at whose home `team` plays in `round`.
-#[tactic(auto, unfolding(fixtures::specs::Games::place))]
-pub(crate) fn place(schedule: &Schedule, team: u8, round: u8) -> u8
+/// The way of a team to its place in the round with this index or, from its last place, home.
+#[tactic(auto, unfolding(crate::specs::Tours::leg))]
+pub(crate) fn leg(schedule: &Schedule, league: &League, team: u8, index: u8) -> u64
+    requires same { teams league.now ≡ schedule.now.teams }
     requires team { team < schedule.now.teams }
-    requires round { round < round_count schedule.now.teams }
-    ensures value { result ≡ place schedule.now team round }
-    ensures in_range { result < schedule.now.teams }
+    requires index { index ≤ round_count schedule.now.teams }
+    ensures value { result ≡ leg league.now schedule.now team index }
+    ensures most { result ≤ max_distance }
 {
-    let cell = schedule.game_at(team, round);
-    if cell.home { team } else { cell.opponent }
+    let from = stop(schedule, team, index);
+    let to = stop(schedule, team, index + 1);
+    way(league, from, to)
+}
+
+/// The way from the home of a team to that of another.
+pub(crate) fn way(league: &League, from: u8, to: u8) -> u64
+    requires from { from < teams league.now }
+    requires to { to < teams league.now }
+    ensures value { result ≡ distance league.now from to }
+    ensures most { result ≤ max_distance }
+{
+    u64::from(league.distance(from, to))
+}
+
+/// The place with this index in the tour of a team.
+#[tactic(auto, using(crate::proofs::Stops::tour_stop))]
+pub(crate) fn stop(schedule: &Schedule, team: u8, index: u8) -> u8
+    requires team { team < schedule.now.teams }
+    requires index { index ≤ round_count schedule.now.teams + 1 }
+    ensures value { result ≡ slice_index (tour schedule.now team) index }
+    ensures in_range { result < schedule.now.teams }
+    ensures season { round_count schedule.now.teams ≤ max_rounds }
+{
+    schedule.stop(team, index)
 }

@@ -1,16 +1,16 @@
 //! The legs that a change can alter, counted in full or until there are more than a limit.
 
-ghost use Rattle.std.specs.Prelude.{◌≡◌, ◌+◌, ◌*◌, ◌-◌, ◌<◌, ◌≤◌, ◌&&◌, nat_lt, slice_index, if◌then◌else◌};
-ghost use Rattle.league.specs.League.{teams, distance};
+ghost use Rattle.std.specs.Prelude.{◌≡◌, ◌+◌, ◌*◌, ◌-◌, ◌<◌, ◌≤◌, ◌&&◌, nat_lt, if◌then◌else◌};
+ghost use Rattle.league.specs.League.{teams};
 ghost use Rattle.league.specs.Limits.{max_teams, max_rounds, max_distance};
 ghost use Rattle.league.specs.Sets.{has, IsBelow};
 ghost use Rattle.league.specs.Sums.{sum_where};
 ghost use Rattle.fixtures.specs.Games.{round_count, is_home, IsDoubleRoundRobin};
-ghost use Rattle.tours.specs.Tours.{tour, leg};
+ghost use Rattle.tours.specs.Tours.{leg};
 ghost use Rattle.tours.specs.Parts.{travel_part, travel_around};
 ghost use Rattle.tours.specs.Walked.{legs_of_guest, IsTotalOrAbove};
 
-use crate::legs::place;
+use crate::legs::{leg, stop, way};
 use crate::season::{rounds_in, teams_in};
 use fixtures::{Schedule, Touched};
 use league::{League, SlotSet, TeamSet};
@@ -132,60 +132,6 @@ fn legs_of(schedule: &Schedule, league: &League, among: TeamSet, index: u8) -> u
     total
 }
 
-/// The way of a team to its place in the round with this index or, from its last place, home.
-#[tactic(auto, unfolding(crate::specs::Tours::leg))]
-fn leg(schedule: &Schedule, league: &League, team: u8, index: u8) -> u64
-    requires same { teams league.now ≡ schedule.now.teams }
-    requires team { team < schedule.now.teams }
-    requires index { index ≤ round_count schedule.now.teams }
-    ensures value { result ≡ leg league.now schedule.now team index }
-    ensures most { result ≤ max_distance }
-{
-    let from = stop_before(schedule, team, index);
-    let to = stop_after(schedule, team, index);
-    way(league, from, to)
-}
-
-/// The way from the home of a team to that of another.
-fn way(league: &League, from: u8, to: u8) -> u64
-    requires from { from < teams league.now }
-    requires to { to < teams league.now }
-    ensures value { result ≡ distance league.now from to }
-    ensures most { result ≤ max_distance }
-{
-    u64::from(league.distance(from, to))
-}
-
-/// Where a team is before the round with this index.
-#[tactic(auto, using(crate::proofs::TravelWalk::stop_first, crate::proofs::TravelWalk::stop_before))]
-fn stop_before(schedule: &Schedule, team: u8, index: u8) -> u8
-    requires team { team < schedule.now.teams }
-    requires index { index ≤ round_count schedule.now.teams }
-    ensures value { result ≡ slice_index (tour schedule.now team) index }
-    ensures in_range { result < schedule.now.teams }
-{
-    if index == 0 {
-        team
-    } else {
-        place(schedule, team, index - 1)
-    }
-}
-
-/// Where a team goes for the round with this index, or after the last.
-#[tactic(auto, using(crate::proofs::Stops::tour_at_round, crate::proofs::TravelWalk::stop_last))]
-fn stop_after(schedule: &Schedule, team: u8, index: u8) -> u8
-    requires team { team < schedule.now.teams }
-    requires index { index ≤ round_count schedule.now.teams }
-    ensures value { result ≡ slice_index (tour schedule.now team) (index + 1) }
-    ensures in_range { result < schedule.now.teams }
-{
-    if index < schedule.rounds() {
-        place(schedule, team, index)
-    } else {
-        team
-    }
-}
-
 /// The legs of the teams that these teams receive in these rounds, up to the visit at which they are more than `most`.
 fn guests_within(
     schedule: &Schedule,
@@ -262,9 +208,9 @@ fn legs_of_guest(
     if hosts.has(guest) {
         return 0;
     }
-    let before = stop_before(schedule, guest, round);
-    let here = stop_after(schedule, guest, round);
-    let next = stop_after(schedule, guest, round + 1);
+    let before = stop(schedule, guest, round);
+    let here = stop(schedule, guest, round + 1);
+    let next = stop(schedule, guest, round + 2);
     let there = way(league, before, here);
     // the leg on from here is then one of the next visit
     if is_visit(schedule, hosts, rounds, next, round + 1) {
