@@ -166,7 +166,7 @@ IsGranted-pin {league} {k} version game kept granted =
     let there : is_there k.games game ≡ true = subst (λ x. is_there x game ≡ true) (sym kept.games_are) fits.1 in
     IsGranted-pins (ask.Pin version game) (slice_set k.pins (game.home * 40 + game.away) game.round) kept granted (λ changes. refl) (λ g. refl)
     (length-set k.pins (game.home * 40 + game.away) game.round)
-    (ArePinsAt-pin k.games (pins_of k.history) k.pins game (IsSound-kept kept).0.forty kept.pins_length range there kept.pins_are)
+    (ArePinsAt-pin k.games (pins_of k.history) k.pins game (IsSound-kept kept).0.most kept.pins_length range there kept.pins_are)
 
 pub IsGranted-unpin : {league : LeagueData} {k : Kept} (version : ℕ) (game : Game) → IsKept league k →
     refusal league k.room k.history (ask.Unpin version game) ≡ None →
@@ -179,7 +179,7 @@ IsGranted-unpin {league} {k} version game kept granted =
     let stands = pinned_stands k.games (pins_of k.history) game sound.1 fits in
     IsGranted-pins (ask.Unpin version game) (slice_set k.pins (game.home * 40 + game.away) 255) kept granted (λ changes. refl) (λ g. refl)
     (length-set k.pins (game.home * 40 + game.away) 255)
-    (ArePinsAt-unpin k.games (pins_of k.history) k.pins game sound.0.forty kept.pins_length stands.0 stands.1 sound.1 kept.pins_are)
+    (ArePinsAt-unpin k.games (pins_of k.history) k.pins game sound.0.most kept.pins_length stands.0 stands.1 sound.1 kept.pins_are)
 
 pub IsGranted-shift : {league : LeagueData} {k : Kept} (p : Proposal) (g : Games) (cost : Cost) → IsKept league k →
     refusal league k.room k.history (ask.Shift p) ≡ None → g ≡ moved k.games p.mv → cost ≡ cost_of league g →
@@ -231,10 +231,10 @@ can_take_back : (g : Games) (pins : List Game) (change : Change) → IsDoubleRou
 can_take_back g pins (Shift mv) robin stand fits = (each_its_own_inverse g mv robin fits.0).can_be_made
 can_take_back g pins (Pin game) robin stand fits =
     let pair = IsPair-in_range g game fits.0 in
-    (omega (arith, pair.home_in, robin.forty), omega (arith, pair.away_in, robin.forty))
+    (omega (arith, pair.home_in, robin.most), omega (arith, pair.away_in, robin.most))
 can_take_back g pins (Unpin game) robin stand fits =
     let pair = IsPair-in_range g game (pinned_stands g pins game stand fits).0 in
-    (omega (arith, pair.home_in, robin.forty), omega (arith, pair.away_in, robin.forty))
+    (omega (arith, pair.home_in, robin.most), omega (arith, pair.away_in, robin.most))
 can_take_back g pins Undo robin stand fits = tt
 
 pub CanTakeBack-last : {league : LeagueData} {k : Kept}
@@ -265,10 +265,10 @@ ArePinsAt-taken_back : (g : Games) (pins : List Game) (table : List ℕ) (change
 ArePinsAt-taken_back g pins table (Shift mv) robin stand fits after size are =
     ArePinsAt-games (moved g mv) g pins table (sym (moved-teams g mv)) after stand are
 ArePinsAt-taken_back g pins table (Pin game) robin stand fits after size are =
-    ArePinsAt-pin_back g pins table game robin.forty size fits.0 fits.1 stand fits.2 are
+    ArePinsAt-pin_back g pins table game robin.most size fits.0 fits.1 stand fits.2 are
 ArePinsAt-taken_back g pins table (Unpin game) robin stand fits after size are =
     let stands = pinned_stands g pins game stand fits in
-    ArePinsAt-unpin_back g pins table game robin.forty size stands.0 stands.1 stand fits are
+    ArePinsAt-unpin_back g pins table game robin.most size stands.0 stands.1 stand fits are
 ArePinsAt-taken_back g pins table Undo robin stand fits after size are = are
 
 pub IsGranted-undo : {league : LeagueData} {k : Kept} (version : ℕ) (front : List Change) (change : Change) → IsKept league k →

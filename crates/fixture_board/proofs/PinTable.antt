@@ -236,7 +236,7 @@ told-if false round place below is = ap not (eq-eqb place 255 is)
 pub is_pinned-told : (g : Games) (pins : List Game) (table : List ℕ) (h a : ℕ) → IsDoubleRoundRobin g → ArePinsAt g pins table →
     IsPair g.teams h a → not (pin_at table h a == 255) ≡ is_pinned pins h a
 is_pinned-told g pins table h a robin are pair =
-    told-if (is_pinned pins h a) (round_of g h a) (pin_at table h a) (omega (arith, robin.in_range h a pair, robin.forty)) (are h a pair)
+    told-if (is_pinned pins h a) (round_of g h a) (pin_at table h a) (omega (arith, robin.in_range h a pair, robin.most)) (are h a pair)
 
 -- whether a pinned game has another round, by the table
 
@@ -283,7 +283,7 @@ moves_pin-none g other pins table robin all are none =
     moves_pin-kept g other pins all
     (λ h a pair is.
     let place : pin_at table h a ≡ round_of g h a = are h a pair ∙ ap (λ b. if b then round_of g h a else 255) is in
-    none h a pair (λ same. omega (arith, same, place, robin.in_range h a pair, robin.forty)) ∙ place)
+    none h a pair (λ same. omega (arith, same, place, robin.in_range h a pair, robin.most)) ∙ place)
 
 pub moves_pin-some : (g other : Games) (pins : List Game) (table : List ℕ) (h a : ℕ) → AllStand g pins → ArePinsAt g pins table →
     IsPair g.teams h a → pin_at table h a ≢ 255 → round_of other h a ≢ pin_at table h a → moves_pin other pins ≡ true
@@ -324,4 +324,4 @@ pub moves_pin-unpinned : (g other : Games) (pins : List Game) (table : List ℕ)
     length table ≡ 1600 → count_by (λ round. not (round == 255)) table ≡ 0 → moves_pin other pins ≡ false
 moves_pin-unpinned g other pins table robin all are size none =
     moves_pin-none g other pins table robin all are
-    (λ h a pair pin. absurd (pin (none_pinned table (h * 40 + a) (omega (arith, pair.home_in, pair.away_in, robin.forty)) none)))
+    (λ h a pair pin. absurd (pin (none_pinned table (h * 40 + a) (omega (arith, pair.home_in, pair.away_in, robin.most)) none)))

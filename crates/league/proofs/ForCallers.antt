@@ -8,7 +8,7 @@ pub use Rattle.league.proofs.Sums.{all_below_fails, all_below_same, any_below_fo
 pub use Rattle.league.proofs.Sums.{any_below_fails, any_below_same}
 pub use Rattle.league.proofs.Bits.{has_beyond, le-with_number, with_number-grows}
 pub use Rattle.league.proofs.WalkedSums.{IsSumWithout, sum_without_none, sum_without_more, sum_without_all}
-pub use Rattle.league.proofs.WalkedSums.{lowest_below, has_empty}
+pub use Rattle.league.proofs.WalkedSums.{lowest_below, lowest_gone, others_kept, has_empty}
 
 -- what a loop over the numbers below n begins with, and what a step adds
 pub ruleset sums = (sum_below_none, sum_below_more)

@@ -33,24 +33,27 @@ sum_without_none n set left most f below whole = record {
   within = omega (arith, mul-le-mul_left most (count_where_le n (has left)));
 }
 
+-- the others of a set don't have its lowest number
+pub lowest_gone : (set lowest rest : ℕ) → IsWithoutLowest set lowest rest → has rest lowest ≡ false
+lowest_gone set lowest rest taken =
+    taken.others lowest ∙ and_right (has set lowest) (not (lowest == lowest)) (ap not (eq-eqb lowest lowest refl))
+
+-- and have each other number that the set has
+pub others_kept : (set lowest rest k : ℕ) → IsWithoutLowest set lowest rest → k ≢ lowest → has rest k ≡ has set k
+others_kept set lowest rest k taken other =
+    taken.others k ∙ ap (λ b. has set k && not b) (ne_eqb k lowest other) ∙ and_true (has set k)
+  where
+    and_true : (b : Bool) → (b && true) ≡ b
+    and_true true = refl
+    and_true false = refl
+
 -- the sum over a set is its lowest number's term more than that over the others
 sum_where_without : (n set lowest rest : ℕ) (f : ℕ → ℕ) → lowest < n → IsWithoutLowest set lowest rest
     → sum_where n (has set) f ≡ sum_where n (has rest) f + f lowest
 sum_where_without n set lowest rest f below taken =
     sum_below_one n lowest (f lowest) (λ k. if has rest k then f k else 0) (λ k. if has set k then f k else 0) below
-    (cond-true (has set lowest) (f lowest) 0 taken.in_set ∙ sym (zero-add (f lowest)) ∙ ap (λ m. m + f lowest) (sym (cond-false (has rest lowest) (f lowest) 0 gone)))
-    (λ k k_below other. ap (λ b. if b then f k else 0) (sym (kept k other)))
-  where
-    gone : has rest lowest ≡ false
-    gone =
-        taken.others lowest ∙ and_right (has set lowest) (not (lowest == lowest)) (ap not (eq-eqb lowest lowest refl))
-
-    and_true : (b : Bool) → (b && true) ≡ b
-    and_true true = refl
-    and_true false = refl
-
-    kept : (k : ℕ) → k ≢ lowest → has rest k ≡ has set k
-    kept k other = taken.others k ∙ ap (λ b. has set k && not b) (ne_eqb k lowest other) ∙ and_true (has set k)
+    (cond-true (has set lowest) (f lowest) 0 taken.in_set ∙ sym (zero-add (f lowest)) ∙ ap (λ m. m + f lowest) (sym (cond-false (has rest lowest) (f lowest) 0 (lowest_gone set lowest rest taken))))
+    (λ k k_below other. ap (λ b. if b then f k else 0) (sym (others_kept set lowest rest k taken other)))
 
 pub sum_without_more : (n set left lowest rest total term most : ℕ) (f : ℕ → ℕ) → IsSumWithout n set left total most f
     → IsWithoutLowest left lowest rest → term ≡ f lowest → term ≤ most → IsSumWithout n set rest (total + term) most f

@@ -1,10 +1,10 @@
 -- Laws of the largest value below a number, and of loops over a set that keep the largest.
-use Rattle.std.proofs.Common.{◌≡◌, ◌≢◌, ℕ, zero, suc, ◌<◌, ◌≤◌, ◌&&◌, ◌==◌, not, max, Bool, true, false, if◌then◌else◌, refl, sym, ◌∙◌, ap, inl, inr, arith}
+use Rattle.std.proofs.Common.{◌≡◌, ◌≢◌, ℕ, zero, suc, ◌<◌, ◌≤◌, max, Bool, if◌then◌else◌, refl, sym, ◌∙◌, ap, inl, inr, arith}
 use Rattle.std.specs.Ordering.{ord_max, nat_cmp}
 use Rattle.std.proofs.lemmas.Bool.Decides.{nat_tests}
-use Rattle.std.proofs.lemmas.Bool.{cases_eq, eq-eqb, ne_eqb, and_right, cond-true, cond-false}
+use Rattle.std.proofs.lemmas.Bool.{cases_eq, cond-true, cond-false}
 use Rattle.league.specs.Sets.{has, IsBelow, IsWithoutLowest}
-use Rattle.league.proofs.ForCallers.{lowest_below, has_empty}
+use Rattle.league.proofs.ForCallers.{lowest_below, lowest_gone, others_kept, has_empty}
 use Rattle.robinx.specs.Deviations.{largest_below}
 
 pub largest_below_same : (n : ℕ) (f g : ℕ → ℕ) → ((k : ℕ) → k < n → f k ≡ g k) → largest_below n f ≡ largest_below n g
@@ -64,19 +64,8 @@ largest_where_without : (n set lowest rest : ℕ) (f : ℕ → ℕ) → lowest <
     largest_where n (has set) f ≡ max (largest_where n (has rest) f) (f lowest)
 largest_where_without n set lowest rest f below taken =
     largest_below_one n lowest (λ k. if has rest k then f k else 0) (λ k. if has set k then f k else 0) below
-    (cond-false (has rest lowest) (f lowest) 0 gone) (λ k k_below other. ap (λ b. if b then f k else 0) (sym (kept k other))) ∙
+    (cond-false (has rest lowest) (f lowest) 0 (lowest_gone set lowest rest taken)) (λ k k_below other. ap (λ b. if b then f k else 0) (sym (others_kept set lowest rest k taken other))) ∙
     ap (max (largest_where n (has rest) f)) (cond-true (has set lowest) (f lowest) 0 taken.in_set)
-  where
-    gone : has rest lowest ≡ false
-    gone =
-        taken.others lowest ∙ and_right (has set lowest) (not (lowest == lowest)) (ap not (eq-eqb lowest lowest refl))
-
-    and_true : (b : Bool) → (b && true) ≡ b
-    and_true true = refl
-    and_true false = refl
-
-    kept : (k : ℕ) → k ≢ lowest → has rest k ≡ has set k
-    kept k other = taken.others k ∙ ap (λ b. has set k && not b) (ne_eqb k lowest other) ∙ and_true (has set k)
 
 pub largest_without_more : (n set left lowest rest largest new most : ℕ) (f : ℕ → ℕ) →
     IsLargestWithout n set left largest most f → IsWithoutLowest left lowest rest → new ≡ max largest (f lowest) → new ≤ most →

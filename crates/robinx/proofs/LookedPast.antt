@@ -23,13 +23,13 @@ use Rattle.robinx.proofs.SeesSame.{SeesSame, SeesSameBreaks, SeesSameUntil, limi
 module _ (g g' : Games) (rr : IsDoubleRoundRobin g) (rr' : IsDoubleRoundRobin g') (main rounds : ℕ → Bool) (differs : DiffersOnlyAround g g' main rounds) where
   -- each team is one of 40
   forty : (t : ℕ) → t < g.teams → t < 40
-  forty t in_t = omega (arith, rr.forty)
+  forty t in_t = omega (arith, rr.most)
 
   opponent_below' : (t r : ℕ) → t < g.teams → r < round_count g.teams → (cell g' t r).opponent < 40
   opponent_below' t r in_t in_r =
       let in_t' : t < g'.teams = rw differs.same_size in_t in
       let in_r' : r < round_count g'.teams = rw differs.same_size in_r in
-      omega (arith, rr'.forty, (is_cell g' rr' t r in_t' in_r').pair.away_in)
+      omega (arith, rr'.most, (is_cell g' rr' t r in_t' in_r').pair.away_in)
 
   side_kept : (t r : ℕ) → t < g.teams → r < round_count g.teams → main t ≡ false → (cell g' t r).home ≡ (cell g t r).home
   unfolding is_home

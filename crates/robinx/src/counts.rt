@@ -136,7 +136,7 @@ pub(crate) fn games_in_round(schedule: &Schedule, games: &CountedGames, round: u
 /// Whether the team's game in the round counts.
 #[tactic(auto, unfolding(crate::specs::Deviations::is_counted))]
 fn is_counted(schedule: &Schedule, games: &CountedGames, team: u8, round: u8) -> bool
-    requires forty { schedule.now.teams ≤ max_teams }
+    requires most { schedule.now.teams ≤ max_teams }
     requires team { team < schedule.now.teams }
     requires round { round < round_count schedule.now.teams }
     ensures { result ≡ is_counted schedule.now games.now.side (has games.now.opponents) team round }

@@ -1,6 +1,7 @@
 //! The moves that a worker draws.
 
 ghost use Rattle.std.specs.Prelude.{◌≡◌, ◌<◌, ◌≤◌};
+ghost use Rattle.league.specs.Limits.{max_teams};
 ghost use Rattle.fixtures.specs.Games.{round_count};
 ghost use Rattle.search.specs.Draws.{stream_of_generator, number, drawn_move, IsInRange};
 
@@ -15,7 +16,7 @@ const KINDS: u8 = 5;
 /// any team or any round. So a move can be drawn that can't be made.
 pub fn draw(generator: &mut Lcg64Xsh32, teams: u8) -> Move
     requires two { 2 ≤ teams }
-    requires forty { teams ≤ 40 }
+    requires most { teams ≤ max_teams }
     ensures drawn { (result, stream_of_generator generator.new) ≡ drawn_move teams (stream_of_generator generator.old) }
     ensures within { IsInRange teams (round_count teams) result }
 {

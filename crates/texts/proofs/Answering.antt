@@ -1,5 +1,5 @@
 -- A script that is answered line by line.
-use Rattle.std.proofs.Common.{◌≡◌, ℕ, ◌+◌, ◌≤◌, List, [], length, Option, refl, sym, arith}
+use Rattle.std.proofs.Common.{◌≡◌, ℕ, ◌+◌, ◌≤◌, List, [], length, Option, refl, arith}
 use Rattle.std.specs.Str.Lines.{lines}
 use Rattle.streams.specs.declared.tally.Tally.{Tally}
 use Rattle.streams.specs.declared.buffered.BufferedSink.{BufferedSink}
@@ -10,7 +10,7 @@ use Rattle.texts.specs.Command.{line_of}
 use Rattle.texts.specs.Input.{TakesLine}
 use Rattle.fixture_board.specs.Replies.{greatest}
 use Rattle.texts.specs.PlayText.{answer_to, answers, answers_from, history_after, slack_after, played, played_from}
-use Rattle.texts.proofs.Parts.{AddsAllBut, none_added, one_added, one_stopped, all_added}
+use Rattle.texts.proofs.Parts.{AddsAllBut, none_added, one_added, one_stopped}
 
 -- the answers to all lines but those of `rest` were added, and led to this history and slack
 pub record IsAnsweredTo {S : Type 0} (held : S → Option (List ℕ)) (tally : S → Tally) (old new : BufferedSink S)

@@ -22,7 +22,7 @@ pub returns-then-total-most-clause-small : goal.returns-then-total-most-clause-s
 returns-then-total-most-clause-small c =
     let bound : c.loop-round.total + c.legs_of_guest-total.result ≤ 2000000 * round_count c.args.schedule.now.teams =
     loop_bound _ _ _ _ _ _ _ _ _ c.loop-round.invariant c.in-Some.ensures.steps c.legs_of_guest-total.ensures.most in
-    omega (arith, bound, c.requires.round_robin.forty)
+    omega (arith, bound, c.requires.round_robin.most)
 
 pub returns-clause-value : goal.returns-clause-value
 returns-clause-value c = loop_not_stopped _ _ _ _ _ _ _ c.loop-round.invariant c.in-None.ensures.steps.0
