@@ -29,7 +29,7 @@ pub fn travel_part(schedule: &Schedule, league: &League, touched: Touched) -> u6
 pub fn travel_around(schedule: &Schedule, league: &League, touched: Touched) -> u64
     requires same { teams league.now ≡ schedule.now.teams }
     ensures value { result ≡ travel_around league.now schedule.now (has touched.teams) (has touched.rounds) }
-    ensures most { result ≤ 10000000000 }
+    ensures most { result ≤ max_teams * ((3 * max_rounds + 1) * max_distance) }
 {
     travel_near(schedule, league, touched.teams, touched.rounds, u64::MAX)
 }
@@ -44,7 +44,7 @@ pub(crate) fn travel_near(
 ) -> u64
     requires same { teams league.now ≡ schedule.now.teams }
     ensures value { IsTotalOrAbove most (travel_around league.now schedule.now (has set) (has slots)) result }
-    ensures small { result ≤ 10000000000 }
+    ensures small { result ≤ max_teams * ((3 * max_rounds + 1) * max_distance) }
 {
     let hosts = teams_in(schedule, set);
     let rounds = rounds_in(schedule, slots);
@@ -146,7 +146,7 @@ fn guests_within(
     ensures value { IsTotalOrAbove most (sum_where schedule.now.teams (has hosts) (λ host.
         sum_where (round_count schedule.now.teams) (λ r. has rounds r && is_home schedule.now host r)
         (legs_of_guest league.now schedule.now (has hosts) (has rounds) host))) result }
-    ensures small { result ≤ 160000000 * schedule.now.teams }
+    ensures small { result ≤ 2 * max_rounds * max_distance * schedule.now.teams }
 {
     let mut total = 0;
     for host in hosts {
@@ -176,7 +176,7 @@ fn guest_legs(
     requires below { IsBelow (round_count schedule.now.teams) visits }
     ensures value { IsTotalOrAbove most (sum_where (round_count schedule.now.teams) (has visits)
         (legs_of_guest league.now schedule.now (has hosts) (has rounds) host)) result }
-    ensures small { result ≤ 160000000 }
+    ensures small { result ≤ 2 * max_rounds * max_distance }
 {
     let mut total = 0;
     for round in visits {
