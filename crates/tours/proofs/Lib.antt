@@ -14,6 +14,7 @@ pub mod AroundBalance
 pub mod ForCallers
 mod Worked
 pub mod TravelWalk
+pub mod ExchangedTours
 pub mod GuestLegs
 pub mod GuestSteps
 pub mod SetsInSeason

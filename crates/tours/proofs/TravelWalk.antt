@@ -2,17 +2,16 @@
 use Rattle.std.proofs.Common.{◌≡◌, ℕ, ◌+◌, ◌-◌, ◌<◌, Bool, true, false, not, ◌&&◌, ◌||◌, refl, sym, ◌∙◌, ap, arith}
 use Rattle.std.specs.Prelude.{◌==◌, nat_lt, if◌then◌else◌}
 use Rattle.std.proofs.lemmas.Bool.Decides.{nat_tests}
-use Rattle.league.specs.League.{LeagueData}
 use Rattle.league.specs.Sums.{sum_below, sum_where}
 use Rattle.league.specs.Sets.{has}
 use Rattle.league.proofs.ForCallers.{sum_below_same, sum_below_zero, sum_below_swap, sum_below_more, sum_where_same}
 use Rattle.fixtures.specs.Games.{Games, round_count}
-use Rattle.tours.specs.Tours.{leg_count, leg}
-use Rattle.tours.specs.Parts.{touches_leg, travel_part_of, travel_part}
+use Rattle.tours.specs.Tours.{leg_count}
+use Rattle.tours.specs.Parts.{touches_leg}
 
--- the leg of each team of the set
-abbrev pub legs_of : LeagueData → Games → (ℕ → Bool) → ℕ → ℕ
-legs_of l g teams r = sum_where g.teams teams (λ t. leg l g t r)
+-- what each team of the set adds at an index
+abbrev pub of_teams : Games → (ℕ → ℕ → ℕ) → (ℕ → Bool) → ℕ → ℕ
+of_teams g f teams r = sum_where g.teams teams (λ t. f t r)
 
 either_zero : (b : Bool) → ◌≡◌ {A = ℕ} (if b then 0 else 0) 0
 either_zero true = refl
@@ -37,10 +36,10 @@ sum_where_swap m n rows columns f =
     (λ j below. outside (columns j) m (λ i. if rows i then f i j else 0))
 
 -- legs outside, teams inside
-travel_part_by_legs : (l : LeagueData) (g : Games) (teams rounds : ℕ → Bool) →
-    travel_part l g teams rounds ≡ sum_where (leg_count g) (touches_leg g rounds) (legs_of l g teams)
-unfolding travel_part travel_part_of
-travel_part_by_legs l g teams rounds = sum_where_swap g.teams (leg_count g) teams (touches_leg g rounds) (leg l g)
+by_legs : (g : Games) (f : ℕ → ℕ → ℕ) (teams rounds : ℕ → Bool) →
+    sum_where g.teams teams (λ t. sum_where (leg_count g) (touches_leg g rounds) (f t)) ≡
+    sum_where (leg_count g) (touches_leg g rounds) (of_teams g f teams)
+by_legs g f teams rounds = sum_where_swap g.teams (leg_count g) teams (touches_leg g rounds) f
 
 touched_leg : (r rounds : ℕ) (at before : Bool) → r < rounds →
     (nat_lt r rounds && (at || (not (r == 0) && before))) ≡ ((not (r == 0) && before) || (nat_lt r rounds && at))
@@ -50,30 +49,30 @@ touched_home : (rounds : ℕ) (at before : Bool) → 0 < rounds → ((not (round
 touched_home rounds at before some = grind (arith, nat_tests)
 
 -- the legs that end with a round, and the leg home
-pub travel_part_walked : (l : LeagueData) (g : Games) (teams legs : ℕ) (all_teams rounds : ℕ → Bool) → 0 < round_count g.teams →
+pub legs_walked : (g : Games) (f : ℕ → ℕ → ℕ) (teams legs : ℕ) (all_teams rounds : ℕ → Bool) → 0 < round_count g.teams →
     ((t : ℕ) → t < g.teams → has teams t ≡ all_teams t) →
     ((r : ℕ) → has legs r ≡ (nat_lt r (round_count g.teams) && (rounds r || (not (r == 0) && rounds (r - 1))))) →
-    travel_part l g all_teams rounds ≡
-    sum_where (round_count g.teams) (has legs) (legs_of l g (has teams)) +
-    (if rounds (round_count g.teams - 1) then legs_of l g (has teams) (round_count g.teams) else 0)
+    sum_where g.teams all_teams (λ t. sum_where (leg_count g) (touches_leg g rounds) (f t)) ≡
+    sum_where (round_count g.teams) (has legs) (of_teams g f (has teams)) +
+    (if rounds (round_count g.teams - 1) then of_teams g f (has teams) (round_count g.teams) else 0)
 unfolding touches_leg
-travel_part_walked l g teams legs all_teams rounds some members is_legs =
-    travel_part_by_legs l g all_teams rounds ∙
-    sum_below_more (round_count g.teams) (λ r. if touches_leg g rounds r then legs_of l g all_teams r else 0) ∙
-    ap (λ x. x + (if touches_leg g rounds (round_count g.teams) then legs_of l g all_teams (round_count g.teams) else 0)) walked ∙
-    ap (λ x. sum_where (round_count g.teams) (has legs) (legs_of l g (has teams)) + x) home
+legs_walked g f teams legs all_teams rounds some members is_legs =
+    by_legs g f all_teams rounds ∙
+    sum_below_more (round_count g.teams) (λ r. if touches_leg g rounds r then of_teams g f all_teams r else 0) ∙
+    ap (λ x. x + (if touches_leg g rounds (round_count g.teams) then of_teams g f all_teams (round_count g.teams) else 0)) walked ∙
+    ap (λ x. sum_where (round_count g.teams) (has legs) (of_teams g f (has teams)) + x) home
   where
-    same_legs : (r : ℕ) → legs_of l g all_teams r ≡ legs_of l g (has teams) r
-    same_legs r = sum_where_same g.teams all_teams (has teams) (λ t. leg l g t r) (λ t. leg l g t r) (λ t in_t. sym (members t in_t)) (λ t in_t passes. refl)
+    same_legs : (r : ℕ) → of_teams g f all_teams r ≡ of_teams g f (has teams) r
+    same_legs r = sum_where_same g.teams all_teams (has teams) (λ t. f t r) (λ t. f t r) (λ t in_t. sym (members t in_t)) (λ t in_t passes. refl)
 
-    walked : sum_where (round_count g.teams) (touches_leg g rounds) (legs_of l g all_teams) ≡ sum_where (round_count g.teams) (has legs) (legs_of l g (has teams))
+    walked : sum_where (round_count g.teams) (touches_leg g rounds) (of_teams g f all_teams) ≡ sum_where (round_count g.teams) (has legs) (of_teams g f (has teams))
     walked =
-        sum_where_same (round_count g.teams) (touches_leg g rounds) (has legs) (legs_of l g all_teams) (legs_of l g (has teams))
+        sum_where_same (round_count g.teams) (touches_leg g rounds) (has legs) (of_teams g f all_teams) (of_teams g f (has teams))
         (λ r in_r. sym (is_legs r ∙ touched_leg r (round_count g.teams) (rounds r) (rounds (r - 1)) in_r)) (λ r in_r touched. same_legs r)
 
-    home : (if touches_leg g rounds (round_count g.teams) then legs_of l g all_teams (round_count g.teams) else 0) ≡
-        (if rounds (round_count g.teams - 1) then legs_of l g (has teams) (round_count g.teams) else 0)
+    home : (if touches_leg g rounds (round_count g.teams) then of_teams g f all_teams (round_count g.teams) else 0) ≡
+        (if rounds (round_count g.teams - 1) then of_teams g f (has teams) (round_count g.teams) else 0)
     home =
-        ap (λ b. if b then legs_of l g all_teams (round_count g.teams) else 0)
+        ap (λ b. if b then of_teams g f all_teams (round_count g.teams) else 0)
         (touched_home (round_count g.teams) (rounds (round_count g.teams)) (rounds (round_count g.teams - 1)) some) ∙
         ap (λ x. if rounds (round_count g.teams - 1) then x else 0) (same_legs (round_count g.teams))

@@ -1,14 +1,28 @@
 -- What the walks over a part count at each of its teams, and where they may stop: words of private functions alone.
-use Rattle.std.specs.Prelude.{◌≡◌, ℕ, ◌+◌, ◌≤◌, ◌&&◌, ◌||◌, ◌==◌, not, nat_lt, Bool, if◌then◌else◌}
-use Rattle.league.specs.League.{LeagueData}
+use Rattle.std.specs.Prelude.{◌≡◌, ℕ, ◌+◌, ◌≤◌, ◌&&◌, ◌||◌, ◌==◌, not, nat_lt, Bool, if◌then◌else◌, slice_index}
+use Rattle.league.specs.League.{LeagueData, distance}
+use Rattle.league.specs.Sums.{sum_where}
 use Rattle.fixtures.specs.Games.{Games, round_count, cell}
 use Rattle.fixtures.specs.Changes.{with_guests}
-use Rattle.tours.specs.Tours.{leg}
+use Rattle.fixtures.specs.Edits.{exchanged}
+use Rattle.tours.specs.Tours.{tour, leg_count, leg}
+use Rattle.tours.specs.Parts.{touches_leg}
 
 -- the leg to a place and, unless the next round of the season is in the set too, the leg on from there
 abbrev pub there_and_on : LeagueData → Games → (ℕ → Bool) → ℕ → ℕ → ℕ
 there_and_on l g set t r =
     leg l g t r + (if nat_lt (r + 1) (round_count g.teams) && set (r + 1) then 0 else leg l g t (r + 1))
+
+-- the leg with this index in a tour in which the places of rounds k and m are exchanged: none where they are the same
+abbrev pub leg_exchanged : LeagueData → Games → ℕ → ℕ → ℕ → ℕ → ℕ
+leg_exchanged l g k m t r =
+    distance l (slice_index (tour g t) (exchanged (k + 1) (m + 1) r))
+    (slice_index (tour g t) (exchanged (k + 1) (m + 1) (r + 1)))
+
+-- such legs of the teams of the first set that touch a round of the second
+abbrev pub legs_exchanged : LeagueData → Games → ℕ → ℕ → (ℕ → Bool) → (ℕ → Bool) → ℕ
+legs_exchanged l g k m teams rounds =
+    sum_where g.teams teams (λ t. sum_where (leg_count g) (touches_leg g rounds) (leg_exchanged l g k m t))
 
 -- those of a host's opponent, unless it is one of the hosts
 abbrev pub legs_of_guest : LeagueData → Games → (ℕ → Bool) → (ℕ → Bool) → ℕ → ℕ → ℕ

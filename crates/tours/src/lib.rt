@@ -5,6 +5,7 @@
 //! memory. Teams and rounds are numbered from 0.
 #![tactic(auto)]
 
+mod exchange;
 mod laws;
 mod legs;
 mod meetings;
@@ -22,4 +23,4 @@ pub use meetings::{repeats, repeats_part, repeats_with};
 pub use phases::{unphased, unphased_part};
 pub use runs::{runs_over, runs_part};
 pub use travel_parts::{travel_around, travel_part};
-pub use travel_within::{travel_around_within, travel_part_within};
+pub use travel_within::{travel_around_within, travel_exchanged_within, travel_part_within};

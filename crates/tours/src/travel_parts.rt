@@ -6,11 +6,11 @@ ghost use Rattle.league.specs.Limits.{max_teams, max_rounds, max_distance};
 ghost use Rattle.league.specs.Sets.{has, IsBelow};
 ghost use Rattle.league.specs.Sums.{sum_where};
 ghost use Rattle.fixtures.specs.Games.{round_count, is_home, IsDoubleRoundRobin};
-ghost use Rattle.tours.specs.Tours.{leg};
 ghost use Rattle.tours.specs.Parts.{travel_part, travel_around};
-ghost use Rattle.tours.specs.Walked.{legs_of_guest, IsTotalOrAbove};
+ghost use Rattle.tours.specs.Walked.{leg_exchanged, legs_exchanged, legs_of_guest, IsTotalOrAbove};
 
-use crate::legs::{leg, stop, way};
+use crate::exchange::Exchange;
+use crate::legs::{stop, way};
 use crate::season::{rounds_in, teams_in};
 use fixtures::{Schedule, Touched};
 use league::{League, SlotSet, TeamSet};
@@ -67,10 +67,30 @@ pub(crate) fn travel_among(
     ensures value { IsTotalOrAbove most (travel_part league.now schedule.now (has set) (has rounds)) result }
     ensures small { result ≤ max_teams * ((max_rounds + 1) * max_distance) }
 {
+    prove_eq!(league.teams(), schedule.teams());
+    travel_exchanged(schedule, league, set, rounds, Exchange::none(), most)
+}
+
+/// The same after an exchange of two rounds in the tours.
+pub(crate) fn travel_exchanged(
+    schedule: &Schedule,
+    league: &League,
+    set: TeamSet,
+    rounds: SlotSet,
+    exchange: Exchange,
+    most: u64,
+) -> u64
+    requires same { teams league.now ≡ schedule.now.teams }
+    requires k { exchange.k < round_count schedule.now.teams }
+    requires l { exchange.l < round_count schedule.now.teams }
+    ensures value { IsTotalOrAbove most
+        (legs_exchanged league.now schedule.now exchange.k exchange.l (has set) (has rounds)) result }
+    ensures small { result ≤ max_teams * ((max_rounds + 1) * max_distance) }
+{
     let among = teams_in(schedule, set);
     let indices = rounds.with_next_below(schedule.rounds());
-    let legs = legs_within(schedule, league, among, indices, most);
-    legs + home_legs(schedule, league, among, rounds)
+    let legs = legs_within(schedule, league, among, indices, exchange, most);
+    legs + home_legs(schedule, league, among, rounds, exchange)
 }
 
 /// The legs of the teams of the set with these indices, up to the index at which they are more than `most`.
@@ -79,19 +99,23 @@ fn legs_within(
     league: &League,
     among: TeamSet,
     indices: SlotSet,
+    exchange: Exchange,
     most: u64,
 ) -> u64
     requires same { teams league.now ≡ schedule.now.teams }
     requires round_robin { IsDoubleRoundRobin schedule.now }
     requires among { IsBelow schedule.now.teams among }
     requires below { IsBelow (round_count schedule.now.teams) indices }
+    requires k { exchange.k < round_count schedule.now.teams }
+    requires l { exchange.l < round_count schedule.now.teams }
     ensures value { IsTotalOrAbove most (sum_where (round_count schedule.now.teams) (has indices) (λ r.
-        sum_where schedule.now.teams (has among) (λ t. leg league.now schedule.now t r))) result }
+        sum_where schedule.now.teams (has among) (λ t.
+        leg_exchanged league.now schedule.now exchange.k exchange.l t r))) result }
     ensures small { result ≤ max_teams * max_distance * round_count schedule.now.teams }
 {
     let mut total = 0;
     for index in indices {
-        total += legs_of(schedule, league, among, index);
+        total += legs_of(schedule, league, among, exchange, index);
         if total > most {
             return total;
         }
@@ -100,34 +124,53 @@ fn legs_within(
 }
 
 /// The legs home of the teams of the set, where the last round is one of these.
-fn home_legs(schedule: &Schedule, league: &League, among: TeamSet, rounds: SlotSet) -> u64
+fn home_legs(
+    schedule: &Schedule,
+    league: &League,
+    among: TeamSet,
+    rounds: SlotSet,
+    exchange: Exchange,
+) -> u64
     requires same { teams league.now ≡ schedule.now.teams }
     requires round_robin { IsDoubleRoundRobin schedule.now }
     requires below { IsBelow schedule.now.teams among }
+    requires k { exchange.k < round_count schedule.now.teams }
+    requires l { exchange.l < round_count schedule.now.teams }
     ensures value { result ≡ (if has rounds (round_count schedule.now.teams - 1)
-        then sum_where schedule.now.teams (has among)
-        (λ t. leg league.now schedule.now t (round_count schedule.now.teams)) else 0) }
+        then sum_where schedule.now.teams (has among) (λ t.
+        leg_exchanged league.now schedule.now exchange.k exchange.l t (round_count schedule.now.teams)) else 0) }
     ensures most { result ≤ max_teams * max_distance }
 {
     if rounds.has(schedule.rounds() - 1) {
-        legs_of(schedule, league, among, schedule.rounds())
+        legs_of(schedule, league, among, exchange, schedule.rounds())
     } else {
         0
     }
 }
 
 /// The legs of the teams of the set with this index.
-fn legs_of(schedule: &Schedule, league: &League, among: TeamSet, index: u8) -> u64
+fn legs_of(
+    schedule: &Schedule,
+    league: &League,
+    among: TeamSet,
+    exchange: Exchange,
+    index: u8,
+) -> u64
     requires same { teams league.now ≡ schedule.now.teams }
     requires round_robin { IsDoubleRoundRobin schedule.now }
     requires below { IsBelow schedule.now.teams among }
+    requires k { exchange.k < round_count schedule.now.teams }
+    requires l { exchange.l < round_count schedule.now.teams }
     requires index { index ≤ round_count schedule.now.teams }
-    ensures value { result ≡ sum_where schedule.now.teams (has among) (λ t. leg league.now schedule.now t index) }
+    ensures value { result ≡ sum_where schedule.now.teams (has among) (λ t.
+        leg_exchanged league.now schedule.now exchange.k exchange.l t index) }
     ensures most { result ≤ max_distance * schedule.now.teams }
 {
+    let from = exchange.stop(index);
+    let to = exchange.stop(index + 1);
     let mut total = 0;
     for team in among {
-        total += leg(schedule, league, team, index);
+        total += way(league, stop(schedule, team, from), stop(schedule, team, to));
     }
     total
 }
