@@ -22,7 +22,7 @@ use Rattle.tours.specs.Tours.{leg_count, leg, travel_of, travel}
 use Rattle.robinx.specs.Deviations.{deviation}
 use Rattle.robinx.specs.LooksPast.{looks_past}
 use Rattle.fixture_board.specs.Costs.{hard_share, soft_share, share_of, sum_over_rules, cost_of}
-use Rattle.fixture_board.specs.CostShares.{travel_share, seen_share_of, sum_over_seen_rules, share_but_travel, cost_share}
+use Rattle.fixture_board.specs.CostShares.{travel_share, seen_share_of, sum_over_seen_rules, share_but_travel, cost_share, CostsBalance}
 use Rattle.fixture_board.specs.declared.cost.Cost.{Cost}
 
 taken_le : (taken : Bool) (n : ℕ) → (if taken then n else 0) ≤ n
@@ -102,19 +102,33 @@ where_le : (counted : Bool) (part whole : ℕ) → part ≤ whole → (if counte
 where_le true part whole le = le
 where_le false part whole le = omega arith
 
-weighed_le : (weight : Weight) (past : Bool) (n : ℕ) → hard_share weight (if past then 0 else n) ≤ hard_share weight n
-weighed_le Hard past n = kept_le past n n (le_refl n)
-weighed_le (Soft weight) past n = omega arith
+-- what a rule of any weight adds for no deviation is none of what it adds
+abbrev IsLeastAtNone : (Weight → ℕ → ℕ) → Type 0
+IsLeastAtNone share = (weight : Weight) (n : ℕ) → share weight 0 ≤ share weight n
 
-seen_le : (teams : ℕ) (g : Games) (rule : Option Rule) → seen_share_of hard_share teams g rule ≤ share_of hard_share g rule
-seen_le teams g None = omega arith
-seen_le teams g (Some rule) = weighed_le rule.weight (looks_past teams rule.body) (deviation g rule.body)
+hard_least : IsLeastAtNone hard_share
+hard_least Hard n = omega arith
+hard_least (Soft weight) n = omega arith
 
-seen_rules_le : (rules : List Rule) (teams : ℕ) (g : Games) →
-    sum_over_seen_rules hard_share rules teams g ≤ sum_over_rules hard_share rules g
+soft_least : IsLeastAtNone soft_share
+soft_least Hard n = omega arith
+soft_least (Soft weight) n = omega arith
+
+weighed_le : (share : Weight → ℕ → ℕ) → IsLeastAtNone share → (weight : Weight) (past : Bool) (n : ℕ) →
+    share weight (if past then 0 else n) ≤ share weight n
+weighed_le share least weight true n = least weight n
+weighed_le share least weight false n = le_refl (share weight n)
+
+seen_le : (share : Weight → ℕ → ℕ) → IsLeastAtNone share → (teams : ℕ) (g : Games) (rule : Option Rule) →
+    seen_share_of share teams g rule ≤ share_of share g rule
+seen_le share least teams g None = omega arith
+seen_le share least teams g (Some rule) = weighed_le share least rule.weight (looks_past teams rule.body) (deviation g rule.body)
+
+seen_rules_le : (share : Weight → ℕ → ℕ) → IsLeastAtNone share → (rules : List Rule) (teams : ℕ) (g : Games) →
+    sum_over_seen_rules share rules teams g ≤ sum_over_rules share rules g
 unfolding sum_over_seen_rules sum_over_rules
-seen_rules_le rules teams g =
-    sum_below_le_each (length rules) _ _ (λ i under. seen_le teams g (slice_get rules i))
+seen_rules_le share least rules teams g =
+    sum_below_le_each (length rules) _ _ (λ i under. seen_le share least teams g (slice_get rules i))
 
 share_by_costs : (l : LeagueData) (mv : Move) (main : TouchedCells) (sides : ℕ) (g : Games) →
     record {
@@ -132,7 +146,7 @@ hard_le l mv main sides g = omega (
   arith,
   runs_part_le g l.at_most (has sides) (has main.rounds),
   kept_le (keeps_meetings mv) _ _ (repeats_with_le g (has main.teams) (has main.rounds)),
-  seen_rules_le l.rules main.teams g,
+  seen_rules_le hard_share hard_least l.rules main.teams g,
   where_le l.phased _ _ (unphased_part_le g (has main.teams)),
 )
 
@@ -145,3 +159,23 @@ share_none_hard l mv main sides g known legs weighed known_is none legs_are weig
     let none_of_all : (cost_of l g).hard ≤ 0 = rw known_is at none in
     let none_of_share : 0 ≡ (cost_share l mv main sides g).hard = omega (arith, hard_le l mv main sides g, none_of_all) in
     rw (legs_are, weighed_is, none_of_share) (share_by_costs l mv main sides g)
+
+-- all but the share
+abbrev pub rest_of : Cost → Cost → Cost
+rest_of known share = record {
+  travel = known.travel - share.travel;
+  hard = known.hard - share.hard;
+  soft = known.soft - share.soft;
+}
+
+pub rest_balances : (l : LeagueData) (mv : Move) (main : TouchedCells) (sides : ℕ) (g : Games) (known before nothing : Cost) →
+    known ≡ cost_of l g → before ≡ cost_share l mv main sides g → nothing ≡ record { travel = 0; hard = 0; soft = 0 } →
+    CostsBalance (rest_of known before) known before nothing
+unfolding cost_of cost_share share_but_travel
+rest_balances l mv main sides g known before nothing known_is before_is nothing_is =
+    rw (known_is, before_is, nothing_is)
+    (record {
+      travel = omega (arith, travel_share_le l g mv main);
+      hard = omega (arith, hard_le l mv main sides g);
+      soft = omega (arith, seen_rules_le soft_share soft_least l.rules main.teams g);
+    })

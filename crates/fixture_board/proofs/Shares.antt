@@ -1,6 +1,7 @@
 -- A move changes no more of the costs than their shares.
-use Rattle.std.proofs.Common.{◌≡◌, ℕ, ◌+◌, ◌-◌, ◌<◌, Bool, true, false, if◌then◌else◌, length, slice_get, Option, Some, None}
+use Rattle.std.proofs.Common.{◌≡◌, ℕ, ◌+◌, ◌-◌, ◌*◌, ◌<◌, ◌≤◌, Bool, true, false, if◌then◌else◌, length, slice_get, Option, Some, None}
 use Rattle.std.proofs.Common.{refl, sym, ◌∙◌, ap, subst, arith}
+use Rattle.std.proofs.Math.Nat.{mul-le-mul_left}
 use Rattle.std.proofs.Math.Path.{fun_ext}
 use Rattle.std.proofs.lemmas.List.Elements.{All-from_recursion, All-get_or}
 use Rattle.std.proofs.lemmas.Option.{slice_get_within, get_or_from_slice_get}
@@ -158,6 +159,20 @@ pub score_after : (l : LeagueData) (g g' : Games) (mv : Move) → IsLeague l →
     (cost : Cost) → cost ≡ cost_of l g' → score_of l cost < score_limit
 score_after l g g' mv is same made cost cost_is =
     rw cost_is (score_below l g' is (ap (λ (games : Games). games.teams) made ∙ moved-teams g mv ∙ sym same))
+
+-- all but the share before, with the legs of the share after, is no more than the score after
+pub score_with_rest : (l : LeagueData) (g g' : Games) (mv : Move) (main : TouchedCells) (sides : ℕ) (known before rest nothing : Cost) →
+    IsLeague l → teams l ≡ g.teams → AreMainCells g mv main → ((t : ℕ) → has sides t ≡ side_team g mv t) →
+    known ≡ cost_of l g → before ≡ cost_share l mv main sides g → g' ≡ moved g mv →
+    nothing ≡ record { travel = 0; hard = 0; soft = 0 } → CostsBalance rest known before nothing →
+    score_of l rest + travel_share l mv main g' ≤ score_of l (cost_of l g')
+unfolding cost_share share_but_travel
+score_with_rest l g g' mv main sides known before rest nothing is same are of_sides known_is before_is made nothing_is balance =
+    let after = share_balances l g g' mv main sides known before _ is same are of_sides known_is before_is made refl in
+    let without = rw nothing_is at balance in
+    let more_hard : rest.hard ≤ (cost_of l g').hard = omega (arith, after.hard, without.hard) in
+    let weighed : l.hard_weight * rest.hard ≤ l.hard_weight * (cost_of l g').hard = mul-le-mul_left l.hard_weight more_hard in
+    omega (arith, after.travel, after.soft, without.travel, without.soft, weighed)
 
 -- the cost without the legs that the move can change
 

@@ -1,6 +1,6 @@
 //! A move that is made where the score after is within a limit.
 
-ghost use Rattle.std.specs.Prelude.{◌≡◌, ◌+◌, ◌<◌, IfSome, MatchOption};
+ghost use Rattle.std.specs.Prelude.{◌≡◌, ◌+◌, ◌<◌, ◌≤◌, IfSome, IsTrue, MatchOption};
 ghost use Rattle.league.specs.League.{teams};
 ghost use Rattle.tours.specs.Within.{IsTotalWithin};
 ghost use Rattle.moves.specs.Moves.{moved};
@@ -13,11 +13,18 @@ use crate::kept_cost::{exchanged, share_but_travel, share_of_known};
 use fixtures::{Schedule, Touched};
 use league::League;
 use moves::{Move, make, side_teams};
-use tours::{travel_around_within, travel_part_within};
+use tours::{travel_around_within, travel_exchanged_within, travel_part_within};
+
+/// The cost of nothing.
+const NOTHING: Cost = Cost {
+    travel: 0,
+    hard: 0,
+    soft: 0,
+};
 
 /// Makes a move as `make_at_cost` does where the score after is at most `most`, and gives the cost after. Else the
-/// schedule is left as it was; the travel after is counted only until the score is seen to be above `most`. Takes no
-/// memory.
+/// schedule is left as it was; the travel after is counted only until the score is seen to be above `most`, for a move of
+/// rounds before the move is made. Takes no memory.
 pub fn make_within(
     schedule: &mut Schedule,
     league: &League,
@@ -38,6 +45,10 @@ pub fn make_within(
     prove_eq!(league.teams(), schedule.teams());
     let sides = side_teams(schedule, mv, main);
     let before = share_of_known(schedule, league, mv, main, sides, known);
+    let rest = exchanged(known, before, NOTHING);
+    if is_lost(schedule, league, mv, main, rest, most) {
+        return None;
+    }
     make(schedule, mv, main);
     let others = share_but_travel(schedule, league, mv, main, sides);
     let least = exchanged(known, before, others);
@@ -46,6 +57,33 @@ pub fn make_within(
         make(schedule, mv, main);
     }
     cost
+}
+
+/// Whether the travel after a move of rounds tells that the score after it is above `most`, where all else that the move
+/// can change is none. It is counted on the schedule before the move, as far as it has to be.
+fn is_lost(
+    schedule: &Schedule,
+    league: &League,
+    mv: Move,
+    main: Touched,
+    rest: Cost,
+    most: u64,
+) -> bool
+    requires same_size { teams league.now ≡ schedule.now.teams }
+    requires main { AreMainCells schedule.now mv main }
+    requires rest { score_of league.now rest + travel_share league.now mv main (moved schedule.now mv) ≤
+        score_of league.now (cost_of league.now (moved schedule.now mv)) }
+    requires small { score_of league.now rest < score_limit }
+    ensures { IsTrue result → most < score_of league.now (cost_of league.now (moved schedule.now mv)) }
+{
+    match mv {
+        Move::Rounds { k, l } | Move::PartRounds { k, l, .. } => {
+            let score = rest.score(league);
+            score > most
+                || travel_exchanged_within(schedule, league, k, l, main, most - score).is_none()
+        }
+        Move::Homes { .. } | Move::Teams { .. } | Move::PartTeams { .. } => false,
+    }
 }
 
 /// The cost of the schedule where its score is at most `most`, from that without the legs that the move can change.

@@ -15,6 +15,10 @@ pub use Rattle.moves.proofs.EachMove.{each-its_own_inverse as each_its_own_inver
 pub use Rattle.moves.proofs.EachMove.{each-double_round_robin as each_double_round_robin}
 pub use Rattle.moves.proofs.KeptMeetings.{each-keeps_meetings as each_keeps_meetings}
 
+-- of a move of rounds
+pub use Rattle.moves.proofs.Exchanges.{ExchangesRounds}
+pub use Rattle.moves.proofs.EachMove.{each-exchanges_rounds as each_exchanges_rounds}
+
 -- what differs after a move is around the main cells
 pub differs_around : (g : Games) (mv : Move) (cells : TouchedCells) → AreMainCells g mv cells →
     DiffersOnlyAround g (moved g mv) (has cells.teams) (has cells.rounds)

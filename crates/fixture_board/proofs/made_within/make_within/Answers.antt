@@ -1,5 +1,7 @@
 use Rattle.fixture_board.proofs.Scores.{cost_small}
-use Rattle.fixture_board.proofs.Shares.{others_exchange, cost_with_legs}
+use Rattle.std.proofs.Common.{refl, arith}
+use Rattle.fixture_board.proofs.ShareLimits.{rest_balances}
+use Rattle.fixture_board.proofs.Shares.{others_exchange, cost_with_legs, score_with_rest, score_after}
 use Rattle.fixture_board.proofs.made_within.make_within.Goals as goal
 
 pub exchanged-least-requires-clause-known : goal.exchanged-least-requires-clause-known
@@ -15,3 +17,24 @@ with_legs_within-cost-requires-clause-with_legs c =
     cost_with_legs _ _ _ _ _ _ _ _ _ _ c.teams.ensures.limits c.requires.same_size c.requires.main c.side_teams-sides.ensures
     c.requires.known c.share_of_known-before.ensures.value c.make.ensures.moved c.share_but_travel-others.ensures.value
     c.exchanged-least.ensures
+
+pub exchanged-rest-requires-clause-known : goal.exchanged-rest-requires-clause-known
+exchanged-rest-requires-clause-known c = rw c.requires.known (cost_small _ _ c.teams.ensures.limits c.requires.same_size)
+
+pub exchanged-rest-requires-clause-balance : goal.exchanged-rest-requires-clause-balance
+exchanged-rest-requires-clause-balance c =
+    (_, rest_balances _ _ _ _ _ _ _ _ c.requires.known c.share_of_known-before.ensures.value refl)
+
+pub is_lost-requires-clause-rest : goal.is_lost-requires-clause-rest
+is_lost-requires-clause-rest c =
+    score_with_rest _ _ _ _ _ _ _ _ _ _ c.teams.ensures.limits c.requires.same_size c.requires.main c.side_teams-sides.ensures
+    c.requires.known c.share_of_known-before.ensures.value refl refl c.exchanged-rest.ensures
+
+pub is_lost-requires-clause-small : goal.is_lost-requires-clause-small
+is_lost-requires-clause-small c =
+    let within = score_with_rest c.args.league.now c.args.schedule.now _ c.args.mv c.args.main _ _ _ _ _
+    c.teams.ensures.limits c.requires.same_size c.requires.main c.side_teams-sides.ensures c.requires.known
+    c.share_of_known-before.ensures.value refl refl c.exchanged-rest.ensures in
+    let small = score_after c.args.league.now c.args.schedule.now _ c.args.mv c.teams.ensures.limits c.requires.same_size refl _
+    refl in
+    omega (arith, within, small)
