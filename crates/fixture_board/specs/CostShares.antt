@@ -1,6 +1,6 @@
 -- What of the costs a move can change, counted on the schedule before it or after it. `main` has the main teams of the
 -- move and its rounds.
-use Rattle.std.specs.Prelude.{◌≡◌, ℕ, ◌+◌, ◌<◌, if◌then◌else◌, List, length, slice_get, Option, Some, None}
+use Rattle.std.specs.Prelude.{◌≡◌, ℕ, ◌+◌, ◌<◌, Bool, true, false, if◌then◌else◌, List, length, slice_get, Option, Some, None}
 use Rattle.league.specs.League.{LeagueData}
 use Rattle.league.specs.Sets.{has}
 use Rattle.league.specs.Sums.{sum_below}
@@ -11,7 +11,7 @@ use Rattle.fixtures.specs.Games.{Games}
 use Rattle.fixtures.specs.TouchedCells.{TouchedCells}
 use Rattle.moves.specs.Laws.{keeps_meetings}
 use Rattle.moves.specs.declared.moves.Move.{Move}
-use Rattle.moves.specs.declared.moves.Move.TheVariants.{Teams, PartTeams}
+use Rattle.moves.specs.declared.moves.Move.TheVariants.{Rounds, Teams, PartRounds, PartTeams}
 use Rattle.tours.specs.Parts.{travel_part, travel_around, runs_part, repeats_with}
 use Rattle.tours.specs.Phased.{unphased_part}
 use Rattle.robinx.specs.Deviations.{deviation}
@@ -24,6 +24,12 @@ abbrev pub travel_share : LeagueData → Move → TouchedCells → Games → ℕ
 travel_share l (Teams i j) main g = travel_around l g (has main.teams) (has main.rounds)
 travel_share l (PartTeams i j k) main g = travel_around l g (has main.teams) (has main.rounds)
 travel_share l mv main g = travel_part l g (has main.teams) (has main.rounds)
+
+-- whether a move exchanges rounds
+abbrev pub is_of_rounds : Move → Bool
+is_of_rounds (Rounds k l) = true
+is_of_rounds (PartRounds i k l) = true
+is_of_rounds mv = false
 
 -- of the repeats: none where the same pairs meet
 abbrev pub repeats_share : Move → TouchedCells → Games → ℕ

@@ -1,12 +1,12 @@
 //! A move that is made where the score after is within a limit.
 
-ghost use Rattle.std.specs.Prelude.{◌≡◌, ◌+◌, ◌<◌, ◌≤◌, IfSome, IsTrue, MatchOption};
+ghost use Rattle.std.specs.Prelude.{◌≡◌, ◌+◌, ◌<◌, ◌&&◌, nat_lt, IfSome, MatchOption};
 ghost use Rattle.league.specs.League.{teams};
 ghost use Rattle.tours.specs.Within.{IsTotalWithin};
 ghost use Rattle.moves.specs.Moves.{moved};
 ghost use Rattle.moves.specs.MainCells.{AreMainCells};
 ghost use Rattle.fixture_board.specs.Costs.{cost_of, score_of, score_limit, IsCostWithin};
-ghost use Rattle.fixture_board.specs.CostShares.{travel_share};
+ghost use Rattle.fixture_board.specs.CostShares.{travel_share, is_of_rounds};
 
 use crate::cost::Cost;
 use crate::kept_cost::{exchanged, share_but_travel, share_of_known};
@@ -71,10 +71,9 @@ fn is_lost(
 ) -> bool
     requires same_size { teams league.now ≡ schedule.now.teams }
     requires main { AreMainCells schedule.now mv main }
-    requires rest { score_of league.now rest + travel_share league.now mv main (moved schedule.now mv) ≤
-        score_of league.now (cost_of league.now (moved schedule.now mv)) }
     requires small { score_of league.now rest < score_limit }
-    ensures { IsTrue result → most < score_of league.now (cost_of league.now (moved schedule.now mv)) }
+    ensures { result ≡ (is_of_rounds mv &&
+        nat_lt most (score_of league.now rest + travel_share league.now mv main (moved schedule.now mv))) }
 {
     match mv {
         Move::Rounds { k, l } | Move::PartRounds { k, l, .. } => {

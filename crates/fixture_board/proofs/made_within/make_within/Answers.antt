@@ -1,5 +1,9 @@
 use Rattle.fixture_board.proofs.Scores.{cost_small}
-use Rattle.std.proofs.Common.{refl, arith}
+use Rattle.std.proofs.Common.{◌+◌, ◌<◌, refl, arith}
+use Rattle.moves.specs.Moves.{moved}
+use Rattle.fixture_board.specs.Costs.{score_of}
+use Rattle.fixture_board.specs.CostShares.{travel_share, is_of_rounds}
+use Rattle.fixture_board.proofs.Lost.{is_above}
 use Rattle.fixture_board.proofs.ShareLimits.{rest_balances}
 use Rattle.fixture_board.proofs.Shares.{others_exchange, cost_with_legs, score_with_rest, score_after}
 use Rattle.fixture_board.proofs.made_within.make_within.Goals as goal
@@ -25,11 +29,6 @@ pub exchanged-rest-requires-clause-balance : goal.exchanged-rest-requires-clause
 exchanged-rest-requires-clause-balance c =
     (_, rest_balances _ _ _ _ _ _ _ _ c.requires.known c.share_of_known-before.ensures.value refl)
 
-pub is_lost-requires-clause-rest : goal.is_lost-requires-clause-rest
-is_lost-requires-clause-rest c =
-    score_with_rest _ _ _ _ _ _ _ _ _ _ c.teams.ensures.limits c.requires.same_size c.requires.main c.side_teams-sides.ensures
-    c.requires.known c.share_of_known-before.ensures.value refl refl c.exchanged-rest.ensures
-
 pub is_lost-requires-clause-small : goal.is_lost-requires-clause-small
 is_lost-requires-clause-small c =
     let within = score_with_rest c.args.league.now c.args.schedule.now _ c.args.mv c.args.main _ _ _ _ _
@@ -38,3 +37,13 @@ is_lost-requires-clause-small c =
     let small = score_after c.args.league.now c.args.schedule.now _ c.args.mv c.teams.ensures.limits c.requires.same_size refl _
     refl in
     omega (arith, within, small)
+
+pub returns-then-is_lost-clause-value : goal.returns-then-is_lost-clause-value
+returns-then-is_lost-clause-value c =
+    let within = score_with_rest c.args.league.now c.args.schedule.now _ c.args.mv c.args.main _ _ _ _ _
+    c.teams.ensures.limits c.requires.same_size c.requires.main c.side_teams-sides.ensures c.requires.known
+    c.share_of_known-before.ensures.value refl refl c.exchanged-rest.ensures in
+    let above : c.args.most < score_of c.args.league.now c.exchanged-rest.result +
+    travel_share c.args.league.now c.args.mv c.args.main (moved c.args.schedule.now c.args.mv) =
+    is_above (is_of_rounds c.args.mv) c.is_lost.result _ _ c.is_lost.ensures c.if-is_lost.true in
+    omega (arith, within, above)
