@@ -71,7 +71,9 @@ pub(crate) fn travel_among(
     travel_exchanged(schedule, league, set, rounds, Exchange::none(), most)
 }
 
-/// The same after an exchange of two rounds in the tours.
+/// The same after an exchange of two rounds in the tours. It is inlined with what it calls, since a walk that knows that
+/// nothing is exchanged takes fewer instructions.
+#[inline(always)]
 pub(crate) fn travel_exchanged(
     schedule: &Schedule,
     league: &League,
@@ -94,6 +96,7 @@ pub(crate) fn travel_exchanged(
 }
 
 /// The legs of the teams of the set with these indices, up to the index at which they are more than `most`.
+#[inline(always)]
 fn legs_within(
     schedule: &Schedule,
     league: &League,
@@ -124,6 +127,7 @@ fn legs_within(
 }
 
 /// The legs home of the teams of the set, where the last round is one of these.
+#[inline(always)]
 fn home_legs(
     schedule: &Schedule,
     league: &League,
@@ -149,6 +153,7 @@ fn home_legs(
 }
 
 /// The legs of the teams of the set with this index.
+#[inline(always)]
 fn legs_of(
     schedule: &Schedule,
     league: &League,
