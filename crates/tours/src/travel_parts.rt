@@ -162,11 +162,11 @@ fn legs_of(
     index: u8,
 ) -> u64
     requires same { teams league.now ≡ schedule.now.teams }
+    requires index { index ≤ round_count schedule.now.teams }
     requires round_robin { IsDoubleRoundRobin schedule.now }
     requires below { IsBelow schedule.now.teams among }
     requires k { exchange.k < round_count schedule.now.teams }
     requires l { exchange.l < round_count schedule.now.teams }
-    requires index { index ≤ round_count schedule.now.teams }
     ensures value { result ≡ sum_where schedule.now.teams (has among) (λ t.
         leg_exchanged league.now schedule.now exchange.k exchange.l t index) }
     ensures most { result ≤ max_distance * schedule.now.teams }
