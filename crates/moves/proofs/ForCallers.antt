@@ -14,7 +14,6 @@ use Rattle.moves.proofs.DiffersThere.{each-differs_in_touched, main_team-below}
 pub use Rattle.moves.proofs.EachMove.{each-its_own_inverse as each_its_own_inverse, each-differs as each_differs}
 pub use Rattle.moves.proofs.EachMove.{each-double_round_robin as each_double_round_robin}
 pub use Rattle.moves.proofs.KeptMeetings.{each-keeps_meetings as each_keeps_meetings}
-
 -- of a move of rounds
 pub use Rattle.moves.proofs.Exchanges.{ExchangesRounds}
 pub use Rattle.moves.proofs.EachMove.{each-exchanges_rounds as each_exchanges_rounds}
