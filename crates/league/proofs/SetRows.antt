@@ -43,13 +43,13 @@ any_of_both (suc k) test later is =
 -- a row of one
 pub has_row_of_one : (set s : ℕ) → has set s ≡ all_below 1 (λ k. has set (s + k))
 has_row_of_one set s =
-    let row = λ (k : ℕ). has set (s + k) in
-    sym (all_below_more 0 row ∙ ap (λ b. b && row 0) (all_below_none row) ∙ ap (has set) (omega arith))
+    let passes = λ (k : ℕ). has set (s + k) in
+    sym (all_below_more 0 passes ∙ ap (λ b. b && passes 0) (all_below_none passes) ∙ ap (has set) (omega arith))
 
 pub has_one_of_row : (set s : ℕ) → has set s ≡ any_below 1 (λ k. has set (s + k))
 has_one_of_row set s =
-    let row = λ (k : ℕ). has set (s + k) in
-    sym (any_below_more 0 row ∙ ap (λ b. b || row 0) (any_below_none row) ∙ ap (has set) (omega arith))
+    let passes = λ (k : ℕ). has set (s + k) in
+    sym (any_below_more 0 passes ∙ ap (λ b. b || passes 0) (any_below_none passes) ∙ ap (has set) (omega arith))
 
 -- a row one longer
 pub has_longer_row : (set starts k s : ℕ) → 1 ≤ k
