@@ -3,7 +3,7 @@ use Rattle.std.specs.Prelude.{◌≡◌, ◌<◌, ◌≤◌, ◌+◌, ℕ, List,
 use Rattle.std.specs.Io.KnownBytes.{Consumes}
 use Rattle.streams.specs.declared.tally.Tally.{Tally}
 use Rattle.streams.specs.declared.ends.Step.TheVariants.{Moved}
-use Rattle.streams.specs.Tally.{noted}
+use Rattle.streams.specs.Tally.{noted, FailsReading}
 
 -- the last read alone brought what was taken over the limit, for a source whose bytes and calls are these
 pub record StopsPast {S : Type 0} (left : S → Option (List ℕ)) (tally : S → Tally) (limit : ℕ) (old new : S) : Type 0 where
@@ -15,3 +15,11 @@ pub record StopsPast {S : Type 0} (left : S → Option (List ℕ)) (tally : S �
   pub counted : tally new ≡ noted (tally middle) (Moved (length last))
   pub within : length before ≤ limit
   pub past : limit < length before + length last
+
+-- no more was taken than the limit, at most one read failed, and the reading ends by that or by too many reads
+pub record StopsWithin {S : Type 0} (left : S → Option (List ℕ)) (tally : S → Tally) (limit most : ℕ) (old new : S) : Type 0 where
+  pub bytes : List ℕ
+  pub taken : Consumes (left old) (left new) bytes
+  pub within : length bytes ≤ limit
+  pub cause : FailsReading most (tally old) (tally new)
+  pub at_most_one : (tally new).failed ≤ (tally old).failed + 1

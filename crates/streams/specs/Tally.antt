@@ -1,5 +1,5 @@
 -- Counts of the calls at an end of a stream. Counts stop at the greatest `u64`.
-use Rattle.std.specs.Prelude.{ℕ, ◌+◌, ◌-◌, ◌^◌, ◌≤◌, ◌⊎◌, ◌==◌, nat_lt, if◌then◌else◌}
+use Rattle.std.specs.Prelude.{◌≡◌, ℕ, ◌+◌, ◌-◌, ◌^◌, ◌≤◌, ◌⊎◌, ◌==◌, nat_lt, if◌then◌else◌}
 use Rattle.streams.specs.declared.tally.Tally.{Tally}
 use Rattle.streams.specs.declared.ends.Step.{Step}
 use Rattle.streams.specs.declared.ends.Step.TheVariants.{Moved, Again, Failed}
@@ -32,9 +32,9 @@ pub record NotBelow (old new : Tally) : Type 0 where
   pub empty : old.empty ≤ new.empty
   pub again : old.again ≤ new.again
 
--- since then a read failed, or as many reads were made as one input gets
+-- since then a read failed, or as many reads were made as one input gets, and no read met the end
 abbrev pub FailsReading : ℕ → Tally → Tally → Type 0
-FailsReading most old new = Rises old.failed new.failed ⊎ RisesBy most old.calls new.calls
+FailsReading most old new = (Rises old.failed new.failed ⊎ RisesBy most old.calls new.calls) × (new.empty ≡ old.empty)
 
 -- since then a write failed or took no byte, or as many as may be were interrupted in a row
 abbrev pub FailsWriting : ℕ → Tally → Tally → Type 0

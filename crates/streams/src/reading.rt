@@ -2,8 +2,8 @@
 ghost use Rattle.std.specs.Prelude.{◌≡◌, ◌+◌, ◌<◌, ◌≤◌, IfOk, IfSome, OnOk, Err, vec_len};
 ghost use Rattle.std.specs.Io.KnownBytes.{Consumes, IsAtEnd};
 ghost use Rattle.streams.specs.Limits.{input_limit, read_limit};
-ghost use Rattle.streams.specs.Reading.{StopsPast};
-ghost use Rattle.streams.specs.Tally.{NotBelow, FailsReading};
+ghost use Rattle.streams.specs.Reading.{StopsPast, StopsWithin};
+ghost use Rattle.streams.specs.Tally.{NotBelow};
 
 use super::ends::{Source, Step};
 use std::alloc::Global;
@@ -41,7 +41,7 @@ pub fn read_all<R: Source>(alloc: Global, source: &mut R) -> Result<Vec<u8>, Rea
     ensures within { IfOk result (λ v. vec_len v ≤ input_limit) }
 
     ensures too_long { result ≡ Err ReadFault.TooLong → StopsPast R.left R.tally input_limit source.old source.new }
-    ensures read { result ≡ Err ReadFault.Read → FailsReading read_limit (R.tally source.old) (R.tally source.new) }
+    ensures read { result ≡ Err ReadFault.Read → StopsWithin R.left R.tally input_limit read_limit source.old source.new }
     ensures failed { (R.tally source.old).failed < (R.tally source.new).failed → result ≡ Err ReadFault.Read }
 
     ensures calls { (R.tally source.new).calls ≤ (R.tally source.old).calls + read_limit }

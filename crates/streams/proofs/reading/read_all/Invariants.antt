@@ -1,4 +1,4 @@
-use Rattle.std.proofs.Common.{◌+◌, ◌≤◌, vec_len}
+use Rattle.std.proofs.Common.{◌≡◌, ◌+◌, ◌≤◌, vec_len}
 use Rattle.std.specs.Io.KnownBytes.{Consumes}
 use Rattle.streams.specs.Tally.{NotBelow, RisesBy}
 use Rattle.streams.proofs.reading.read_all.Given as goal
@@ -11,4 +11,5 @@ invariant-loop-count g l = record {
   reads : RisesBy l.count (g.R.Source.tally l.initial.source).calls (g.R.Source.tally l.source).calls;
   calls : (g.R.Source.tally l.source).calls ≤ (g.R.Source.tally l.initial.source).calls + l.count;
   failed : (g.R.Source.tally l.source).failed ≤ (g.R.Source.tally l.initial.source).failed;
+  empty : (g.R.Source.tally l.source).empty ≡ (g.R.Source.tally l.initial.source).empty;
 }
