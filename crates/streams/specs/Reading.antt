@@ -16,7 +16,7 @@ pub record StopsPast {S : Type 0} (left : S → Option (List ℕ)) (tally : S �
   pub within : length before ≤ limit
   pub past : limit < length before + length last
 
--- no more was taken than the limit, at most one read failed, and the reading ends by that or by too many reads
+-- a read failed or too many were made; one failed at most, none met the end, and what was taken is within the limit
 pub record StopsWithin {S : Type 0} (left : S → Option (List ℕ)) (tally : S → Tally) (limit most : ℕ) (old new : S) : Type 0 where
   pub bytes : List ℕ
   pub taken : Consumes (left old) (left new) bytes

@@ -1,7 +1,7 @@
 //! A sink that follows a list of steps, for tests of code that may meet an interrupted, short or failed call.
 ghost use Rattle.std.specs.Prelude.{◌≡◌, ◌<◌, drop, length};
 ghost use Rattle.streams.specs.Ends.{StepGives};
-ghost use Rattle.streams.specs.Rehearsed.{sink_steps, Rehearses};
+ghost use Rattle.streams.specs.Rehearsed.{sink_steps, RehearsesSink};
 ghost use Rattle.streams.specs.Tally.{no_calls, noted};
 
 use super::ends::{Sink, Step};
@@ -48,7 +48,7 @@ impl<S: Sink> Sink for RehearsedSink<'_, S> {
         requires { 0 < length piece.now }
         ensures bytes { StepGives (S.held self.old.sink) (S.held self.new.sink) result piece.now }
         ensures counted { self.new.tally ≡ noted self.old.tally result }
-        ensures rehearses { Rehearses (λ n. n) (sink_steps self.old) result }
+        ensures rehearses { RehearsesSink S.tally self.old.sink self.new.sink (sink_steps self.old) result }
         ensures steps { sink_steps self.new ≡ drop 1 (sink_steps self.old) }
     {
         let step = match next_step(&mut self.steps) {

@@ -1,7 +1,7 @@
 //! A source that follows a list of steps, for tests of code that may meet an interrupted, short or failed call.
-ghost use Rattle.std.specs.Prelude.{◌≡◌, ◌<◌, drop, length, max};
+ghost use Rattle.std.specs.Prelude.{◌≡◌, ◌<◌, drop, length};
 ghost use Rattle.streams.specs.Ends.{StepTakes};
-ghost use Rattle.streams.specs.Rehearsed.{source_steps, Rehearses};
+ghost use Rattle.streams.specs.Rehearsed.{source_steps, RehearsesSource};
 ghost use Rattle.streams.specs.Tally.{no_calls, noted};
 
 use super::ends::{Source, Step};
@@ -48,7 +48,7 @@ impl<S: Source> Source for RehearsedSource<'_, S> {
         requires { 0 < length buffer.old }
         ensures bytes { StepTakes (S.left self.old.source) (S.left self.new.source) result buffer.new }
         ensures counted { self.new.tally ≡ noted self.old.tally result }
-        ensures rehearses { Rehearses (λ n. max n 1) (source_steps self.old) result }
+        ensures rehearses { RehearsesSource S.tally self.old.source self.new.source (source_steps self.old) result }
         ensures steps { source_steps self.new ≡ drop 1 (source_steps self.old) }
     {
         let step = match next_step(&mut self.steps) {
