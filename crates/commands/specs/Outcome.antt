@@ -3,9 +3,9 @@ use Rattle.std.specs.Prelude.{◌≡◌, ◌+◌, ◌<◌, ◌≤◌, ℕ, List,
 use Rattle.std.specs.Io.KnownBytes.{Consumes, IsAtEnd, Appends}
 use Rattle.streams.specs.Limits.{input_limit, read_limit, write_limit}
 use Rattle.streams.specs.declared.tally.Tally.{Tally}
-use Rattle.streams.specs.Reading.{StopsPast}
+use Rattle.streams.specs.Reading.{StopsPast, StopsWithin}
 use Rattle.streams.specs.Sending.{AppendsFront}
-use Rattle.streams.specs.Tally.{FailsReading, FailsWriting}
+use Rattle.streams.specs.Tally.{FailsWriting}
 use Rattle.commands.specs.declared.fault.ProgramFault.{ProgramFault}
 use Rattle.commands.specs.declared.fault.ProgramFault.TheVariants.{Read, TooLong, League, Room, Workers, Spawn, Receipts, Write, Memory}
 
@@ -29,7 +29,7 @@ module _ {R W : Type 0} (left : R → Option (List ℕ)) (pulls : R → Tally) (
       (text : List ℕ) × IsAnswered old new (Ok text) × Appends (held before) (held after) text
   EndsBy old new before after (Err Write) =
       (text : List ℕ) × IsAnswered old new (Ok text) × AppendsFront (held before) (held after) text × FailsWriting write_limit (pushes before) (pushes after)
-  EndsBy old new before after (Err Read) = FailsReading read_limit (pulls old) (pulls new) × (after ≡ before)
+  EndsBy old new before after (Err Read) = StopsWithin left pulls input_limit read_limit old new × (after ≡ before)
   EndsBy old new before after (Err TooLong) = StopsPast left pulls input_limit old new × (after ≡ before)
   EndsBy old new before after (Err (League fault)) = IsAnswered old new (Err (League fault)) × (after ≡ before)
   EndsBy old new before after (Err Room) = IsAnswered old new (Err Room) × (after ≡ before)
