@@ -1,4 +1,5 @@
-//! Tries of moves, as a search makes them: a move is kept where the score doesn't rise, and else withdrawn.
+//! Tries of moves, as a search makes them: a move is made where the score after it is no higher. Else the schedule is as
+//! it was, and the move counts as withdrawn.
 
 ghost use Rattle.std.specs.Prelude.{◌≡◌};
 ghost use Rattle.league.specs.League.{teams};

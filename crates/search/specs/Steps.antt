@@ -7,7 +7,8 @@ use Rattle.fixture_board.specs.Costs.{cost_of, score_of}
 use Rattle.search.specs.declared.workers.steps.Told.{Told}
 use Rattle.search.specs.declared.workers.steps.Told.TheVariants.{Nothing, Accepted, Refused, Full}
 
--- the slack of step s: it falls in a line from all of it to none
+-- the slack of step s: at the first step it is all of it, and from each step to the next it falls by one part of as many
+-- as there are steps
 abbrev pub slack_of : ℕ → ℕ → ℕ → ℕ
 slack_of slack steps s = slack * (steps - s) / steps
 

@@ -104,7 +104,8 @@ pub struct RunRefused {
     pub board: Option<Board>,
 }
 
-/// Has the plan's workers search on the board, each in a thread of its own.
+/// Has the plan's workers search on the board, each in a thread of its own. The league has to be the board's own: with
+/// another one most proposals are refused for a wrong claim.
 pub fn run<R: Threads + Wait + Sync>(
     rt: &R,
     alloc: Global,
@@ -119,7 +120,7 @@ pub fn run<R: Threads + Wait + Sync>(
     run_with(rt, alloc, &NoGate, league, board, plan)
 }
 
-/// As `run`, with a gate that the workers pass.
+/// As `run`, with a gate that the workers pass. The league has to be the board's own here too.
 pub fn run_with<R: Threads + Wait + Sync, G: Gate + Sync>(
     rt: &R,
     alloc: Global,

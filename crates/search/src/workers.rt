@@ -1,6 +1,7 @@
 //! A worker: it draws moves, tries them on its copy of the schedule, and proposes those that the slack lets pass.
 
 ghost use Rattle.std.specs.Prelude.{◌≡◌, ◌+◌, ◌^◌, ◌<◌};
+ghost use Rattle.league.specs.League.{teams};
 ghost use Rattle.search.specs.Reports.{IsReport};
 ghost use Rattle.search.specs.Steps.{slack_of};
 
@@ -24,7 +25,8 @@ pub struct WorkerPlan {
     /// The generator's first state. The number of the worker chooses its stream.
     pub seed: u64,
     pub steps: u32,
-    /// By how much the score may rise at the first step. It falls in a line to 0.
+    /// By how much the score may rise at the first step. It falls in a line, from each step to the next by one part of
+    /// as many as there are steps.
     pub slack: u64,
 }
 
@@ -37,10 +39,11 @@ pub struct Report {
 }
 
 /// Looks, and takes the plan's steps, or fewer where the board is full. The copy may be any schedule of the league's
-/// teams; with another one no step is taken. Takes no memory.
+/// teams; with another one no step is taken. The league has to be the board's own, since the claims are counted with it:
+/// with another one most proposals are refused for a wrong claim. Takes no memory.
 ///
-/// In a step a move is drawn and, where it can be made, made on the copy. It is withdrawn where the score is above the
-/// copy's by more than the slack, and where the board has another version than the copy, at which the worker looks
+/// In a step a move is drawn and, where it can be made and the score after it is above the copy's by no more than the
+/// slack, made on the copy. It is withdrawn where the board has another version than the copy, at which the worker looks
 /// again. Else it is proposed for the copy's version, with the score as claim and with the slack. What the copy is after
 /// the reply is the board's schedule as far as the worker can tell: where the version isn't the one that it expects, it
 /// looks.
@@ -56,6 +59,8 @@ pub fn worker<R: Wait, D: Door, G: Gate>(
     ensures report { IsReport plan.steps result }
     ensures counted { D.granted door.new ≡ D.granted door.old + result.accepted }
     ensures stays { D.stays door.old door.new }
+    ensures other_size { ¬ (copy.old.teams ≡ teams league.now) →
+        (result.made ≡ 0) × (copy.new ≡ copy.old) × (door.new ≡ door.old) }
 {
     let mut accepted = 0;
     let mut refused = 0;

@@ -18,8 +18,14 @@ pub struct OwnDoor {
 }
 
 impl Door for OwnDoor {
-    ghost use Rattle.std.specs.Prelude.{◌≡◌};
+    ghost use Rattle.std.specs.Prelude.{◌≡◌, ◌+◌, ◌^◌, ◌<◌, ◌≤◌, length};
     ghost use Rattle.std.proofs.Common.{refl, ◌∙◌};
+    ghost use Rattle.fixture_board.specs.declared.ask.Ask.TheVariants.{Shift};
+    ghost use Rattle.fixture_board.specs.History.{cost_at, games_of};
+    ghost use Rattle.fixture_board.specs.Record.{book};
+    ghost use Rattle.fixture_board.specs.Replies.{next_of, reply_of};
+    ghost use Rattle.shared_board.specs.Seats.{copied};
+    ghost use Rattle.search.specs.Doors.{Replies, Shows, done_count};
 
     ghost stays = { λ d e. (d.caller ≡ e.caller) × (d.board.league ≡ e.board.league) × (d.board.room ≡ e.board.room) };
 
@@ -35,11 +41,25 @@ impl Door for OwnDoor {
 
     ghost stays_then = { λ a b c p q. (p.0 ∙ q.0, p.1 ∙ q.1, p.2 ∙ q.2) };
 
-    fn look<R: Wait>(&mut self, _rt: &R, copy: &mut Schedule) -> Seen {
+    fn look<R: Wait>(&mut self, _rt: &R, copy: &mut Schedule) -> Seen
+        ensures same { self.new ≡ self.old }
+        ensures shown { Shows (λ league room. (league ≡ self.old.board.league) × (room ≡ self.old.board.room)) self.old.board.history copy.old result copy.new self.new.board.history }
+        ensures version { result.version ≡ length self.old.board.history }
+        ensures cost { result.cost ≡ cost_at self.old.board.league self.old.board.history }
+        ensures copy { copy.new ≡ copied copy.old (games_of self.old.board.league self.old.board.history) }
+    {
         show(&self.board, copy)
     }
 
-    fn propose<R: Wait>(&mut self, _rt: &R, proposal: Proposal) -> Reply {
+    fn propose<R: Wait>(&mut self, _rt: &R, proposal: Proposal) -> Reply
+        requires { self.old.dones < 2 ^ 63 }
+        ensures caller { self.new.caller ≡ self.old.caller }
+        ensures counted { self.new.dones ≡ self.old.dones + done_count result }
+        ensures replied { Replies (λ league room. (league ≡ self.old.board.league) × (room ≡ self.old.board.room)) self.old.caller self.old.board.history proposal result self.new.board.history }
+        ensures reply { result ≡ reply_of self.old.board.league self.old.board.room self.old.board.history (Shift proposal) }
+        ensures board { self.new.board ≡ book self.old.board.league self.old.board.room
+            (next_of self.old.board.league self.old.board.room self.old.board.history self.old.caller (Shift proposal)) }
+    {
         let reply = self.board.propose(self.caller, proposal);
         if let Reply::Done { .. } = reply {
             self.dones += 1;
@@ -47,7 +67,10 @@ impl Door for OwnDoor {
         reply
     }
 
-    fn front<R: Wait>(&mut self, _rt: &R) -> u64 {
+    fn front<R: Wait>(&mut self, _rt: &R) -> u64
+        ensures same { self.new ≡ self.old }
+        ensures length { result ≡ length self.old.board.history }
+    {
         self.board.version()
     }
 
