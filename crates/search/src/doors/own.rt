@@ -18,14 +18,14 @@ pub struct OwnDoor {
 }
 
 impl Door for OwnDoor {
-    ghost use Rattle.std.specs.Prelude.{◌≡◌, ◌+◌, ◌^◌, ◌<◌, ◌≤◌, length};
+    ghost use Rattle.std.specs.Prelude.{◌≡◌, ◌+◌, ◌^◌, ◌<◌, length};
     ghost use Rattle.std.proofs.Common.{refl, ◌∙◌};
     ghost use Rattle.fixture_board.specs.declared.ask.Ask.TheVariants.{Shift};
-    ghost use Rattle.fixture_board.specs.History.{cost_at, games_of};
+    ghost use Rattle.fixture_board.specs.History.{IsLegal, cost_at, games_of};
     ghost use Rattle.fixture_board.specs.Record.{book};
     ghost use Rattle.fixture_board.specs.Replies.{next_of, reply_of};
     ghost use Rattle.shared_board.specs.Seats.{copied};
-    ghost use Rattle.search.specs.Doors.{Replies, Shows, done_count};
+    ghost use Rattle.search.specs.Doors.{done_count};
 
     ghost stays = { λ d e. (d.caller ≡ e.caller) × (d.board.league ≡ e.board.league) × (d.board.room ≡ e.board.room) };
 
@@ -42,23 +42,23 @@ impl Door for OwnDoor {
     ghost stays_then = { λ a b c p q. (p.0 ∙ q.0, p.1 ∙ q.1, p.2 ∙ q.2) };
 
     fn look<R: Wait>(&mut self, _rt: &R, copy: &mut Schedule) -> Seen
-        ensures same { self.new ≡ self.old }
-        ensures shown { Shows (λ league room. (league ≡ self.old.board.league) × (room ≡ self.old.board.room)) self.old.board.history copy.old result copy.new self.new.board.history }
         ensures version { result.version ≡ length self.old.board.history }
         ensures cost { result.cost ≡ cost_at self.old.board.league self.old.board.history }
         ensures copy { copy.new ≡ copied copy.old (games_of self.old.board.league self.old.board.history) }
+        ensures same { self.new ≡ self.old }
+        ensures legal { IsLegal self.old.board.league self.old.board.room self.old.board.history }
     {
         show(&self.board, copy)
     }
 
     fn propose<R: Wait>(&mut self, _rt: &R, proposal: Proposal) -> Reply
         requires { self.old.dones < 2 ^ 63 }
-        ensures caller { self.new.caller ≡ self.old.caller }
-        ensures counted { self.new.dones ≡ self.old.dones + done_count result }
-        ensures replied { Replies (λ league room. (league ≡ self.old.board.league) × (room ≡ self.old.board.room)) self.old.caller self.old.board.history proposal result self.new.board.history }
         ensures reply { result ≡ reply_of self.old.board.league self.old.board.room self.old.board.history (Shift proposal) }
         ensures board { self.new.board ≡ book self.old.board.league self.old.board.room
             (next_of self.old.board.league self.old.board.room self.old.board.history self.old.caller (Shift proposal)) }
+        ensures legal { IsLegal self.old.board.league self.old.board.room self.old.board.history }
+        ensures caller { self.new.caller ≡ self.old.caller }
+        ensures counted { self.new.dones ≡ self.old.dones + done_count result }
     {
         let reply = self.board.propose(self.caller, proposal);
         if let Reply::Done { .. } = reply {
