@@ -9,6 +9,7 @@ pub mod Next
 pub mod Sound
 pub mod Script
 pub mod PinTable
+pub mod PinsLooked
 pub mod Keeps
 pub mod Reasons
 pub mod ForCallers

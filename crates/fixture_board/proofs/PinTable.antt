@@ -272,7 +272,7 @@ moves_pin-moved g other (pin ∷ pins) h a all is apart =
     ]
 
 -- what a pinned pair has in the table
-place_of-pinned : (pinned : Bool) (round place : ℕ) → place ≡ (if pinned then round else 255) → place ≢ 255 →
+pub place_of-pinned : (pinned : Bool) (round place : ℕ) → place ≡ (if pinned then round else 255) → place ≢ 255 →
     (pinned ≡ true) × (place ≡ round)
 place_of-pinned true round place is pin = (refl, is)
 place_of-pinned false round place is pin = absurd (pin is)
@@ -290,18 +290,6 @@ pub moves_pin-some : (g other : Games) (pins : List Game) (table : List ℕ) (h 
 moves_pin-some g other pins table h a all are pair pin apart =
     let told = place_of-pinned (is_pinned pins h a) (round_of g h a) (pin_at table h a) (are h a pair) pin in
     moves_pin-moved g other pins h a all told.0 (λ same. apart (same ∙ sym told.1))
-
--- what the scan of the table finds
-pub moves_pin-scanned : (g other : Games) (pins : List Game) (table : List ℕ) (moves : Bool) → IsDoubleRoundRobin g → AllStand g pins →
-    ArePinsAt g pins table → other.teams ≡ g.teams →
-    (moves ≡ false → (h a : ℕ) → IsPair other.teams h a → pin_at table h a ≢ 255 → round_of other h a ≡ pin_at table h a) →
-    (moves ≡ true → (h : ℕ) × (a : ℕ) × IsPair other.teams h a × (pin_at table h a ≢ 255) × (round_of other h a ≢ pin_at table h a)) →
-    moves ≡ moves_pin other pins
-moves_pin-scanned g other pins table false robin all are same none some =
-    sym (moves_pin-none g other pins table robin all are (λ h a pair pin. none refl h a (subst (λ n. IsPair n h a) (sym same) pair) pin))
-moves_pin-scanned g other pins table true robin all are same none some =
-    let found = some refl in
-    sym (moves_pin-some g other pins table found.0 found.1 all are (subst (λ n. IsPair n found.0 found.1) same found.2) found.3 found.4)
 
 -- a table without a round has no pinned game
 

@@ -1,17 +1,19 @@
 //! Which games are pinned to their rounds.
 
-ghost use Rattle.std.specs.Prelude.{◌≡◌, ◌≢◌, ℕ, ◌+◌, ◌*◌, ◌<◌, ◌&&◌, ◌==◌, not, true, false, if◌then◌else◌, List};
+ghost use Rattle.std.specs.Prelude.{◌≡◌, ℕ, ◌+◌, ◌*◌, ◌<◌, ◌&&◌, ◌==◌, not, true, false, if◌then◌else◌, List};
 ghost use Rattle.std.specs.Prelude.{replicate, slice_set, IfOk};
 ghost use Rattle.league.specs.Limits.{max_teams};
-ghost use Rattle.fixtures.specs.Games.{round_of, IsPair};
+ghost use Rattle.league.specs.Sets.{has};
+ghost use Rattle.fixtures.specs.Games.{round_count, cell, cell_round};
 ghost use Rattle.fixtures.specs.declared.game.Game.{Game};
 ghost use Rattle.moves.specs.Moves.{moved};
 ghost use Rattle.moves.specs.MainCells.{AreMainCells};
 ghost use Rattle.fixture_board.specs.History.{moves_pin, AllStand};
-ghost use Rattle.fixture_board.specs.PinPlaces.{free, pin_at, pin_place, pin_places, ArePinsAt};
+ghost use Rattle.fixture_board.specs.PinPlaces.{free, pin_at, pin_place, pin_places, is_pinned_elsewhere, ArePinsAt};
 
-use fixtures::{Game, Schedule, Touched};
+use fixtures::{Cell, Game, Schedule, Touched};
 use league::limits::MAX_TEAMS;
+use league::{SlotSet, TeamSet};
 use moves::{Move, make};
 use std::alloc::{AllocError, Global};
 use std::marker::Model;
@@ -87,7 +89,8 @@ impl Pins {
         self.rounds[place] = round;
     }
 
-    /// Whether the move would give a pinned game another round. It is made, looked at and made back.
+    /// Whether the move would give a pinned game another round. It is made, the cells that it changed are looked at, and
+    /// it is made back.
     pub(crate) fn would_be_moved(&self, schedule: &mut Schedule, mv: Move, main: Touched) -> bool
         requires { AreMainCells schedule.old mv main }
         ensures same { schedule.new ≡ schedule.old }
@@ -98,51 +101,67 @@ impl Pins {
             return false;
         }
         make(schedule, mv, main);
-        let are_moved = self.are_moved_in(schedule);
+        let are_moved = self.are_moved_in(schedule, main.teams, main.rounds);
         make(schedule, mv, main);
         are_moved
     }
 
-    /// Whether a pinned game has another round in the schedule.
-    fn are_moved_in(&self, schedule: &Schedule) -> bool
-        ensures none { result ≡ false → (h a : ℕ) → IsPair schedule.now.teams h a →
-            pin_at self.now h a ≢ free → round_of schedule.now h a ≡ pin_at self.now h a }
-        ensures some { result ≡ true → (h : ℕ) × (a : ℕ) × IsPair schedule.now.teams h a ×
-            (pin_at self.now h a ≢ free) × (round_of schedule.now h a ≢ pin_at self.now h a) }
+    /// Whether a game of one of the teams in one of the rounds is pinned to another round.
+    fn are_moved_in(&self, schedule: &Schedule, teams: TeamSet, rounds: SlotSet) -> bool
+        requires teams { (t : ℕ) → has teams t ≡ true → t < schedule.now.teams }
+        requires rounds { (r : ℕ) → has rounds r ≡ true → r < round_count schedule.now.teams }
+        ensures none { result ≡ false → (t r : ℕ) → has teams t ≡ true → has rounds r ≡ true →
+            is_pinned_elsewhere self.now t r (cell schedule.now t r) ≡ false }
+        ensures some { result ≡ true → (t : ℕ) × (r : ℕ) × (has teams t ≡ true) × (has rounds r ≡ true) ×
+            (is_pinned_elsewhere self.now t r (cell schedule.now t r) ≡ true) }
     {
-        for home in 0..schedule.teams() {
-            if self.are_moved_of(schedule, home) {
+        for team in teams {
+            if self.are_moved_of(schedule, team, rounds) {
                 return true;
             }
         }
         false
     }
 
-    /// Whether a pinned home game of the team has another round in the schedule.
-    fn are_moved_of(&self, schedule: &Schedule, home: u8) -> bool
-        requires { home < schedule.now.teams }
-        ensures none { result ≡ false → (a : ℕ) → IsPair schedule.now.teams home a →
-            pin_at self.now home a ≢ free → round_of schedule.now home a ≡ pin_at self.now home a }
-        ensures some { result ≡ true → (a : ℕ) × IsPair schedule.now.teams home a ×
-            (pin_at self.now home a ≢ free) × (round_of schedule.now home a ≢ pin_at self.now home a) }
+    /// Whether a game of the team in one of the rounds is pinned to another round.
+    fn are_moved_of(&self, schedule: &Schedule, team: u8, rounds: SlotSet) -> bool
+        requires team { team < schedule.now.teams }
+        requires rounds { (r : ℕ) → has rounds r ≡ true → r < round_count schedule.now.teams }
+        ensures none { result ≡ false → (r : ℕ) → has rounds r ≡ true →
+            is_pinned_elsewhere self.now team r (cell schedule.now team r) ≡ false }
+        ensures some { result ≡ true → (r : ℕ) × (has rounds r ≡ true) ×
+            (is_pinned_elsewhere self.now team r (cell schedule.now team r) ≡ true) }
     {
-        for away in 0..schedule.teams() {
-            if home != away && self.is_moved(schedule, home, away) {
+        for round in rounds {
+            if self.is_moved(team, round, schedule.game_at(team, round)) {
                 return true;
             }
         }
         false
     }
 
-    /// Whether the game of the pair is pinned to another round than it has in the schedule.
-    fn is_moved(&self, schedule: &Schedule, home: u8, away: u8) -> bool
-        requires { IsPair schedule.now.teams home away }
-        ensures { result ≡ (not (pin_at self.now home away == free) &&
-            not (pin_at self.now home away == round_of schedule.now home away)) }
+    /// Whether the game of the team in the round, where this is its cell, is pinned to another round.
+    #[tactic(auto, unfolding(crate::specs::PinPlaces::is_pinned_elsewhere))]
+    fn is_moved(&self, team: u8, round: u8, cell: Cell) -> bool
+        requires team { team < max_teams }
+        requires opponent { cell.opponent < max_teams }
+        ensures { result ≡ is_pinned_elsewhere self.now team round cell }
     {
-        let round = schedule.round_of(home, away);
-        let pinned = self.rounds[place(home, away)];
+        let pinned = self.pin_of(team, cell);
         pinned != FREE && pinned != round
+    }
+
+    /// The round in which the game of the team and its opponent is pinned, or `FREE`.
+    fn pin_of(&self, team: u8, cell: Cell) -> u8
+        requires team { team < max_teams }
+        requires opponent { cell.opponent < max_teams }
+        ensures { result ≡ cell_round (pin_at self.now) team cell }
+    {
+        if cell.home {
+            self.rounds[place(team, cell.opponent)]
+        } else {
+            self.rounds[place(cell.opponent, team)]
+        }
     }
 }
 

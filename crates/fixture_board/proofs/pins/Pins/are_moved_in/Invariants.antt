@@ -1,7 +1,13 @@
-use Rattle.std.proofs.Common.{◌≡◌, ◌≢◌, ℕ, ◌<◌}
-use Rattle.fixtures.specs.Games.{round_of, IsPair}
-use Rattle.fixture_board.specs.PinPlaces.{pin_at}
+use Rattle.std.proofs.Common.{◌≡◌, ℕ, true, false}
+use Rattle.league.specs.Sets.{has}
+use Rattle.fixtures.specs.Games.{cell}
+use Rattle.fixture_board.specs.PinPlaces.{is_pinned_elsewhere}
 use Rattle.fixture_board.proofs.pins.Pins.are_moved_in.Given as goal
 
-abbrev pub invariant-loop-home : goal.invariant-loop-home
-invariant-loop-home l = (h a : ℕ) → h < l.home → IsPair l.schedule.teams h a → pin_at l.self h a ≢ 255 → round_of l.schedule h a ≡ pin_at l.self h a
+-- the teams that are left are of the set, and of its others no game is pinned to another round
+abbrev pub invariant-loop-team : goal.invariant-loop-team
+invariant-loop-team l = record {
+  within : (t : ℕ) → has l.team-iterator t ≡ true → has l.fn.teams t ≡ true;
+  none : (t r : ℕ) → has l.fn.teams t ≡ true → has l.team-iterator t ≡ false → has l.rounds r ≡ true →
+      is_pinned_elsewhere l.self t r (cell l.schedule t r) ≡ false;
+}

@@ -1,7 +1,13 @@
-use Rattle.std.proofs.Common.{◌≡◌, ◌≢◌, ℕ, ◌<◌}
-use Rattle.fixtures.specs.Games.{round_of, IsPair}
-use Rattle.fixture_board.specs.PinPlaces.{pin_at}
+use Rattle.std.proofs.Common.{◌≡◌, ℕ, true, false}
+use Rattle.league.specs.Sets.{has}
+use Rattle.fixtures.specs.Games.{cell}
+use Rattle.fixture_board.specs.PinPlaces.{is_pinned_elsewhere}
 use Rattle.fixture_board.proofs.pins.Pins.are_moved_of.Given as goal
 
-abbrev pub invariant-loop-away : goal.invariant-loop-away
-invariant-loop-away l = (a : ℕ) → a < l.away → IsPair l.schedule.teams l.home a → pin_at l.self l.home a ≢ 255 → round_of l.schedule l.home a ≡ pin_at l.self l.home a
+-- the rounds that are left are of the set, and in its others no game is pinned to another round
+abbrev pub invariant-loop-round : goal.invariant-loop-round
+invariant-loop-round l = record {
+  within : (r : ℕ) → has l.round-iterator r ≡ true → has l.fn.rounds r ≡ true;
+  none : (r : ℕ) → has l.fn.rounds r ≡ true → has l.round-iterator r ≡ false →
+      is_pinned_elsewhere l.self l.team r (cell l.schedule l.team r) ≡ false;
+}
