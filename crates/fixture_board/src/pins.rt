@@ -1,6 +1,6 @@
 //! Which games are pinned to their rounds.
 
-ghost use Rattle.std.specs.Prelude.{◌≡◌, ℕ, ◌+◌, ◌*◌, ◌<◌, ◌&&◌, ◌==◌, not, true, false, if◌then◌else◌, List};
+ghost use Rattle.std.specs.Prelude.{◌≡◌, ℕ, ◌+◌, ◌*◌, ◌<◌, ◌==◌, not, true, false, if◌then◌else◌, List};
 ghost use Rattle.std.specs.Prelude.{replicate, slice_set, IfOk};
 ghost use Rattle.league.specs.Limits.{max_teams};
 ghost use Rattle.league.specs.Sets.{has};
@@ -89,8 +89,7 @@ impl Pins {
         self.rounds[place] = round;
     }
 
-    /// Whether the move would give a pinned game another round. It is made, the cells that it changed are looked at, and
-    /// it is made back.
+    /// Whether the move would give a pinned game another round. It is made, looked at in its main cells, and made back.
     pub(crate) fn would_be_moved(&self, schedule: &mut Schedule, mv: Move, main: Touched) -> bool
         requires { AreMainCells schedule.old mv main }
         ensures same { schedule.new ≡ schedule.old }
