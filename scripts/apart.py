@@ -1,7 +1,8 @@
-"""Schedules, moves, costs and play texts, written from docs/model.md, docs/rules.md, docs/script.md and docs/sheet.md.
+"""Schedules, moves, costs and play texts of leagues of both formats, written from docs/model.md, docs/rules.md,
+docs/league-format.md, docs/script.md and docs/sheet.md.
 It shares no code with the crates: scripts/worker-steps, scripts/play-apart and scripts/search-again hold the crates to it."""
 import json
-from itertools import combinations
+from itertools import accumulate, combinations
 
 GREATEST = 2**64 - 1
 # the first word of a script line, and what its numbers are: teams, or rounds
@@ -28,6 +29,16 @@ def start(teams):
                 home, away = (i, j) if (i + j) % 2 == 1 else (j, i)
             games[home - 1, away - 1] = r - 1
             games[away - 1, home - 1] = r - 1 + cycle
+    return games
+
+
+def start_of(league):
+    """The start in the order that the league asks for: in FIDE's the last two rounds of the first cycle are reversed."""
+    teams = len(league["teams"])
+    games = start(teams)
+    if league.get("format") == 2 and league.get("start") == "fide":
+        swap = other(teams - 3, teams - 2)
+        return {pair: swap(r) for pair, r in games.items()}
     return games
 
 
@@ -112,6 +123,10 @@ def deviation(rule, games, table):
         return sum(over(breaks(t), most) for t in teams)
     if name == "BR2":
         return over(sum(breaks(t) for t in teams), most)
+    if name == "FA2":
+        at_home = [list(accumulate(home for _, home in row)) for row in table]
+        widest = lambda a, b: max((over(abs(at_home[a][s] - at_home[b][s]), most) for s in slots), default=0)
+        return sum(widest(a, b) for a, b in combinations(teams, 2))
     between = lambda a, b: abs(games[a, b] - games[b, a]) - 1
     return sum(over(rule["min"], between(a, b)) for a, b in combinations(teams, 2))
 
@@ -126,6 +141,9 @@ def cost(games, league):
         windows = [{home for _, home in row[r : r + at_most + 1]} for r in range(len(row) - at_most)]
         hard += sum(len(window) == 1 for window in windows)
     hard += sum(abs(games[h, a] - games[a, h]) == 1 for h, a in games if h < a)
+    if league.get("format") == 2 and league.get("phased"):
+        half = len(distances) - 1
+        hard += sum((games[h, a] < half) == (games[a, h] < half) for h, a in games if h < a)
     for rule in league.get("rules", []):
         if rule["kind"] == "hard":
             hard += deviation(rule, games, table)
@@ -150,7 +168,7 @@ class Board:
 
     def __init__(self, league, room):
         self.league, self.room, self.teams, self.slack = league, room, len(league["teams"]), GREATEST
-        self.states = [(start(self.teams), frozenset())]
+        self.states = [(start_of(league), frozenset())]
         self.history, self.best = [], None
         self.cost = cost(self.states[-1][0], league)
         self.keep_best()

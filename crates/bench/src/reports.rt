@@ -111,7 +111,7 @@ fn report_threads<R: Runtime + AllocGlobal + Threads + Wait + Sync>(
     let Some(seat) = take_turns(rt, rt.alloc(), &shared, seat, copy, threads, work) else {
         return Err(io::Error::from(io::ErrorKind::OutOfMemory));
     };
-    let each = nanoseconds_each(rt, start, count)?;
+    let each = nanoseconds_each(rt, start, turns * threads)?;
     let (held, accepted) = (seat.held(), seat.accepted());
     let closed = shared.close(rt, seat);
     if !closed.whole || held != threads || accepted != closed.board.version() {

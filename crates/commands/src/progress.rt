@@ -106,7 +106,7 @@ struct Line<W> {
 }
 
 impl<W: Sink> Line<W> {
-    /// Whether the line is to be written now.
+    /// Whether the line is to be written now. Notes the time where it is, or is asked for the first time.
     fn is_due(&mut self, now: Instant) -> bool
         ensures due { result ≡ is_due self.old.last now }
         ensures last { self.new ≡ record self.old { last = last_after self.old.last now } }

@@ -103,6 +103,7 @@ impl Board {
         self.state.room
     }
 
+    /// The league of its teams.
     pub fn league(&self) -> &League
         ensures { result.now ≡ self.now.league }
     {

@@ -25,7 +25,9 @@ pub enum Why {
     BadGame,
     /// The game is not in that round.
     NotThere,
+    /// The game is pinned already.
     AlreadyPinned,
+    /// The game is not pinned.
     NotPinned,
     /// No change is in effect.
     NothingToUndo,

@@ -167,6 +167,7 @@ impl GameList {
         self.games.len()
     }
 
+    /// Whether it has no game.
     pub fn is_empty(&self) -> bool
         ensures { IsTrue result ↔ (self.now ≡ []) }
     {

@@ -1,4 +1,4 @@
-//! The expected deviations were counted by hand, and by a program of another language.
+//! The expected deviations were counted by hand, and by `deviation` of `scripts/apart.py`, which shares no code with the crates.
 
 use crate::{breaks, deviation, looks_past, touches};
 use fixtures::{Schedule, Touched, berger};

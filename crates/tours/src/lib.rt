@@ -1,5 +1,5 @@
 //! What a double round robin costs its teams: how far they travel, their long stretches at home or away, and the
-//! pairs of teams that meet twice in a row (Easton, Nemhauser, Trick 2001).
+//! pairs of teams that meet twice in a row (Easton, Nemhauser, Trick 2001), or twice in one half of the season.
 //!
 //! A call counts over the whole schedule, or over the part that a change of some teams and rounds can alter. None takes
 //! memory. Teams and rounds are numbered from 0.

@@ -1,3 +1,6 @@
+//! The expected numbers were worked by hand from the Berger table of four teams, and those of whole schedules by
+//! `scripts/apart.py` too.
+
 use crate::{
     repeats, repeats_part, repeats_with, runs_over, runs_part, travel, travel_around,
     travel_around_within, travel_of, travel_part, travel_part_within, unphased, unphased_part,

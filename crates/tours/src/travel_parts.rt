@@ -92,6 +92,9 @@ pub(crate) fn travel_exchanged(
     let among = teams_in(schedule, set);
     let indices = rounds.with_next_below(schedule.rounds());
     let legs = legs_within(schedule, league, among, indices, exchange, most);
+    if legs > most {
+        return legs;
+    }
     legs + home_legs(schedule, league, among, rounds, exchange)
 }
 

@@ -62,6 +62,7 @@ fn answer<R: Runtime + AllocGlobal + Threads + Wait + Sync, E: Write + Send + Dr
     ensures told { fault_of program (map string_bytes words.now) ≡ ErrorKind.DisplayVersion ∷ [] → exit_status result ≤ 1 }
     ensures wrong { (kind : Kind) → fault_of program (map string_bytes words.now) ≡ kind ∷ []
         → kind ≢ ErrorKind.DisplayHelp → kind ≢ ErrorKind.DisplayVersion → 1 ≤ exit_status result }
+    ensures most { exit_status result ≤ 2 }
 {
     let job = match args(rt.alloc(), words) {
         Ok(job) => job,
@@ -137,6 +138,7 @@ fn words_not_taken<R: Runtime>(rt: &R, error: clap::Error) -> ExitCode
     ensures told { kind_of error ≡ ErrorKind.DisplayVersion → exit_status result ≤ 1 }
     ensures mistake { kind_of error ≢ ErrorKind.OutOfMemory → kind_of error ≢ ErrorKind.DisplayHelp
         → kind_of error ≢ ErrorKind.DisplayVersion → exit_status result ≡ 2 }
+    ensures most { exit_status result ≤ 2 }
 {
     if error.kind() == ErrorKind::OutOfMemory {
         return failure(rt, ProgramFault::Memory);

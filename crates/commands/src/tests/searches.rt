@@ -115,6 +115,7 @@ fn histories_of_searches_played_lead_to_the_same_best(rt: HostRuntime) -> Result
         let (history_again, best_again) = history_and_best(same).ok_or("a best")?;
         assert_eq!(rt; history_again, history);
         assert_eq!(rt; best_again, best);
+        // the start costs 30
         assert!(rt; best.starts_with(b"\nbest 2"), "{}", str::from_utf8(best)?);
     }
     Ok(())

@@ -1,4 +1,5 @@
-//! Scripts whose answers are known from elsewhere, and their histories played again.
+//! Scripts whose answers are known from elsewhere, and their histories played again. The costs of six and ten teams are those
+//! of `scripts/play-apart`.
 
 use super::CIRCLE;
 use super::play::text;
@@ -127,7 +128,7 @@ fn moves<'a>() -> [Worked<'a>; 12] {
             league: SIX,
             room: 1024,
             script: "part-teams 1 4 1",
-            begins: "start travel ",
+            begins: "start travel 102 hard 0 soft 0\ndone 1 travel 96 hard 2 soft 0\n",
             within: &[
                 "round 1: 2-5 3-1 4-6\n",
                 "round 3: 1-5 2-6 3-4\n",
@@ -135,19 +136,19 @@ fn moves<'a>() -> [Worked<'a>; 12] {
                 "round 10: 2-1 4-5 6-3\n",
                 "history 1\npart-teams 1 4 1\nend\n",
             ],
-            ends: "\n",
+            ends: "best 102 at 0\n",
         },
         Worked {
             league: TEN,
             room: 1024,
             script: "part-rounds 1 1 4",
-            begins: "start travel ",
+            begins: "start travel 480 hard 0 soft 0\ndone 1 travel 470 hard 0 soft 0\n",
             within: &[
                 "round 1: 1-4 2-9 3-8 5-6 10-7\n",
                 "round 4: 1-10 2-3 4-7 8-6 9-5\n",
                 "history 1\npart-rounds 1 1 4\nend\n",
             ],
-            ends: "\n",
+            ends: "best 470 at 1\n",
         },
     ]
 }

@@ -46,7 +46,8 @@ fn least_sets_of_ten_and_six(rt: HostRuntime) -> Result<(), Fail> {
     Ok(())
 }
 
-// Two rounds d apart of the first 39 fall into as many chains as 39 and d have for their greatest common divisor.
+// Two rounds d apart of the first 39 fall into as many chains as 39 and d have for their greatest common divisor. The rounds of
+// teams 0 and 39 are those of `closed` in `scripts/apart.py`.
 #[test]
 fn least_sets_of_forty(rt: HostRuntime) -> Result<(), Fail> {
     let forty = berger(rt.alloc(), 40)?;

@@ -1,4 +1,5 @@
-//! Home games in step.
+//! Home games in step. The expected deviations were counted by hand or, of 10 and 40 teams, by `deviation` of
+//! `scripts/apart.py`.
 
 use super::{Expected, assert_deviations};
 use fixtures::{berger, berger_fide};
@@ -45,7 +46,6 @@ const SIX_TEAMS: Expected = &[
     (r#""class":"FA2","teams":[1,2,5],"slots":[3,4],"intp":1"#, 2),
 ];
 
-/// By a program of another language.
 const TEN_TEAMS: Expected = &[
     (
         r#""class":"FA2","teams":[1,2,3,4,5,6,7,8,9,10],"intp":1"#,
@@ -57,7 +57,6 @@ const TEN_TEAMS: Expected = &[
     ),
 ];
 
-/// By the same program.
 const FORTY_TEAMS: Expected = &[
     (r#""class":"FA2","teams":[1,20,21,40],"intp":0"#, 7),
     (
