@@ -4,20 +4,12 @@
 //! output, how fast they were to standard error.
 #![tactic(auto)]
 
-mod kind;
-mod measure;
-mod reports;
-mod steps;
-mod tries;
-mod turns;
-
-use reports::{report_moves, report_steps, report_tries, report_turns};
+use benchmarks::{Turn, report_moves, report_steps, report_tries, report_turns};
 use std::process::ExitCode;
 use std::rt::Runtime;
 use std::sync::Wait;
 use std::thread::Threads;
 use std::{env, io};
-use turns::Turn;
 
 const DEFAULT_COUNT: u32 = 100;
 

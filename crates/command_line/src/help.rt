@@ -46,6 +46,6 @@ pub(crate) const SEED_HELP: &str = "What the workers' draws begin with, any numb
 pub(crate) const STEPS_HELP: &str = "How many moves each worker draws, 0 to 1000000";
 
 pub(crate) const SLACK_HELP: &str =
-    "By how much a score may rise at the first step, any number of 64 bits; it falls to 0";
+    "By how much a score may rise at the first step, any number of 64 bits; it falls in a line, to X / T at the last";
 
 pub(crate) const ROOM_HELP: &str = "How many changes the board has room for, 0 to 1048576";

@@ -1,8 +1,6 @@
 //! `ttp`: a fixture board for the Travelling Tournament Problem (Easton, Nemhauser, Trick 2001).
 #![tactic(auto)]
 
-mod program;
-
 use std::process::ExitCode;
 
 fn main(rt: HostRuntime) -> ExitCode {

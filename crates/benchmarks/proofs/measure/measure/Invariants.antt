@@ -1,5 +1,5 @@
 use Rattle.std.proofs.Common.{◌≤◌}
-use Rattle.bench.proofs.measure.measure.Given as goal
+use Rattle.benchmarks.proofs.measure.measure.Given as goal
 
 -- each move adds one at most
 abbrev pub invariant-loop-index : goal.invariant-loop-index

@@ -1,7 +1,7 @@
 use Rattle.std.proofs.Common.{◌≡◌, ◌+◌, ◌≤◌}
 use Rattle.league.specs.League.{teams}
 use Rattle.search.specs.Steps.{IsKnown}
-use Rattle.bench.proofs.tries.try_moves.Given as goal
+use Rattle.benchmarks.proofs.tries.try_moves.Given as goal
 
 abbrev pub invariant-loop : goal.invariant-loop
 invariant-loop l = record {

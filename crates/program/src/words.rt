@@ -1,4 +1,4 @@
-//! The program around its commands: words in, texts and an exit status out.
+//! From the words of the command line to the exit status, with the texts of what goes wrong.
 
 ghost use Rattle.std.specs.Prelude.{◌≡◌, ◌≢◌, ◌≤◌, [], ◌∷◌, map, string_bytes};
 ghost use Rattle.std.specs.IoError.{error_kind};
@@ -7,22 +7,17 @@ ghost use Rattle.std.specs.Process.{exit_status};
 ghost use Rattle.clap.specs.Words.{fault_of, kind_of};
 ghost use Rattle.clap.specs.declared.error.kind.ErrorKind.{ErrorKind as Kind};
 ghost use Rattle.command_line.specs.CommandLine.{program};
-ghost use Rattle.commands.specs.Find.{AnswersFind};
-ghost use Rattle.commands.specs.Outcome.{Ends};
-ghost use Rattle.ttp.specs.Program.{AnswersJob, status_of};
+ghost use Rattle.program.specs.Program.{status_of};
 
+use crate::jobs::perform;
 use clap::error::ErrorKind;
-use command_line::{Job, args};
-use commands::{
-    ProgramFault, ProgressLine, SearchPlan, Sink, Source, find, find_with, play, start,
-};
-use std::alloc::Global;
+use command_line::args;
+use commands::ProgramFault;
 use std::io::{IsTerminal, Write};
 use std::process::ExitCode;
 use std::rt::Runtime;
 use std::sync::Wait;
 use std::thread::Threads;
-use std::time::Clock;
 use std::{env, io};
 use streams::{ReaderSource, WriterSink};
 
@@ -72,46 +67,6 @@ fn answer<R: Runtime + AllocGlobal + Threads + Wait + Sync, E: Write + Send + Dr
     let mut sink = WriterSink::new(io::writer(rt));
     let outcome = perform(rt, rt.alloc(), job, terminal, source, &mut sink);
     ended(rt, outcome)
-}
-
-/// Does what the job asks for, from this source to this sink.
-fn perform<T: Threads + Wait + Clock + Sync, E: Write + Send + Drop, R: Source + Drop, W: Sink>(
-    rt: &T,
-    alloc: Global,
-    job: Job,
-    terminal: Option<E>,
-    source: R,
-    sink: &mut W,
-) -> Result<(), ProgramFault>
-    ensures { (after : R) × Ends R.left R.tally W.held W.tally (AnswersJob job) source after sink.old sink.new result }
-{
-    match job {
-        Job::Start => start(alloc, source, sink),
-        Job::Play { room } => play(alloc, source, sink, room),
-        Job::Find { room, plan } => search(rt, alloc, terminal, source, sink, room, plan),
-    }
-}
-
-/// Searches, and shows how far it is where there is a terminal.
-fn search<T: Threads + Wait + Clock + Sync, E: Write + Send + Drop, R: Source + Drop, W: Sink>(
-    rt: &T,
-    alloc: Global,
-    terminal: Option<E>,
-    mut source: R,
-    sink: &mut W,
-    room: u32,
-    plan: SearchPlan,
-) -> Result<(), ProgramFault>
-    ensures { (after : R)
-        × Ends R.left R.tally W.held W.tally (AnswersFind room plan) source after sink.old sink.new result }
-{
-    match terminal {
-        Some(terminal) => {
-            let line = ProgressLine::new(rt, WriterSink::new(terminal), plan);
-            find_with(rt, alloc, &line, &mut source, sink, room, plan)
-        }
-        None => find(rt, alloc, source, sink, room, plan),
-    }
 }
 
 fn ended<R: Runtime>(rt: &R, outcome: Result<(), ProgramFault>) -> ExitCode

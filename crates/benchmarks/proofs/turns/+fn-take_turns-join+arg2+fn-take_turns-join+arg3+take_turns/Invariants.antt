@@ -1,4 +1,4 @@
-use Rattle.bench.proofs.turns.+fn-take_turns-join+arg2+fn-take_turns-join+arg3+take_turns.Given as goal
+use Rattle.benchmarks.proofs.turns.+fn-take_turns-join+arg2+fn-take_turns-join+arg3+take_turns.Given as goal
 
 abbrev pub decreases-take_turns : goal.decreases-take_turns
 decreases-take_turns g l = l.threads

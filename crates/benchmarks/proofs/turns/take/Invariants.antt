@@ -1,5 +1,5 @@
 use Rattle.std.proofs.Common.{◌≡◌}
-use Rattle.bench.proofs.turns.take.Given as goal
+use Rattle.benchmarks.proofs.turns.take.Given as goal
 
 abbrev pub invariant-loop-index : goal.invariant-loop-index
 invariant-loop-index g l = (l.seat.table ≡ l.initial.seat.table)

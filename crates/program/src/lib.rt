@@ -1,0 +1,7 @@
+//! The program around its commands: words in, texts and an exit status out.
+#![tactic(auto)]
+
+mod jobs;
+mod words;
+
+pub use words::run;
