@@ -4,8 +4,6 @@
 mod help;
 mod job;
 mod number_args;
-#[cfg(test)]
-mod tests;
 
 pub use job::{Job, args};
 pub use search::SearchPlan;

@@ -7,8 +7,6 @@ mod playing;
 mod progress;
 mod search_text;
 mod starting;
-#[cfg(test)]
-mod tests;
 
 pub use fault::ProgramFault;
 pub use finding::{find, find_from, find_with};

@@ -17,8 +17,6 @@ mod pins;
 mod reply;
 mod rule_costs;
 mod state;
-#[cfg(test)]
-mod tests;
 
 pub use ask::{Ask, Proposal};
 pub use board::{Board, BoardFault, MAX_ROOM, NewRefused};

@@ -14,8 +14,6 @@ mod rule;
 mod rule_classes;
 mod rule_members;
 mod sets;
-#[cfg(test)]
-mod tests;
 
 pub use fault::{Field, LeagueFault};
 pub use leagues::League;

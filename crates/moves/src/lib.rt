@@ -13,8 +13,6 @@ mod fault;
 mod laws;
 mod moves;
 mod refusals;
-#[cfg(test)]
-mod tests;
 
 pub use cells::{main_cells, side_teams};
 pub use chains::{moved_rounds, moved_teams};

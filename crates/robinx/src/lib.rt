@@ -13,8 +13,6 @@ mod game_rules;
 mod laws;
 mod passed_rules;
 mod separation_rules;
-#[cfg(test)]
-mod tests;
 mod touched_rules;
 
 pub use break_rules::breaks;

@@ -8,8 +8,6 @@ mod doors;
 mod draws;
 mod gates;
 mod runs;
-#[cfg(test)]
-mod tests;
 mod workers;
 
 pub use doors::{Door, LockedDoor, OwnDoor, SeatDoor};

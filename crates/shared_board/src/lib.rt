@@ -8,8 +8,6 @@
 mod law;
 mod plays;
 mod shared;
-#[cfg(test)]
-mod tests;
 mod view;
 
 pub use law::{between_steps, fixtures_while_free};

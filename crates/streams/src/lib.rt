@@ -14,8 +14,6 @@ mod rehearsed_sink;
 mod rehearsed_source;
 mod standard;
 mod tally;
-#[cfg(test)]
-mod tests;
 mod writer_sink;
 mod writing;
 

@@ -12,8 +12,6 @@ mod play_text;
 mod script_line;
 mod search_text;
 mod sheets;
-#[cfg(test)]
-mod tests;
 mod words;
 
 pub use input::{next_line, split_input};

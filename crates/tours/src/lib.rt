@@ -12,8 +12,6 @@ mod meetings;
 mod phases;
 mod runs;
 mod season;
-#[cfg(test)]
-mod tests;
 mod travel_parts;
 mod travel_within;
 

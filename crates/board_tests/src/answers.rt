@@ -1,0 +1,94 @@
+//! What boards answer and show, in few words.
+
+use fixture_board::{Best, Board, Cost, Reply, Why};
+use fixtures::Schedule;
+use shared_board::Seen;
+use std::process::Abort;
+use tours::travel_of;
+
+pub(crate) fn done(at: u64, travel: u64, hard: u64) -> Reply {
+    let cost = Cost {
+        travel,
+        hard,
+        soft: 0,
+    };
+    Reply::Done { at, cost }
+}
+
+pub(crate) fn no(at: u64, why: Why) -> Reply {
+    Reply::No { at, why }
+}
+
+pub(crate) fn best(at: u64, total: u64) -> Option<Best> {
+    Some(Best { at, total })
+}
+
+/// The cost of nothing but travel.
+pub(crate) fn travel(travel: u64) -> Cost {
+    Cost {
+        travel,
+        hard: 0,
+        soft: 0,
+    }
+}
+
+pub(crate) fn seen(version: u64, cost: u64) -> Seen {
+    Seen {
+        version,
+        cost: travel(cost),
+    }
+}
+
+/// Whether the game of two teams, which count from 1, is pinned.
+pub(crate) fn is_pinned(rt: &impl Abort, board: &Board, home: u8, away: u8) -> bool {
+    let (home, away) = (home.saturating_sub(1), away.saturating_sub(1));
+    let teams = board.league().teams();
+    assert!(rt; home < teams && away < teams && home != away);
+    board.is_pinned(home, away)
+}
+
+/// The round, from 1, of the game of two teams, which count from 1.
+pub(crate) fn round_of(rt: &impl Abort, schedule: &Schedule, home: u8, away: u8) -> u8 {
+    let (home, away) = (home.saturating_sub(1), away.saturating_sub(1));
+    let teams = schedule.teams();
+    assert!(rt; home < teams && away < teams && home != away);
+    schedule.round_of(home, away) + 1
+}
+
+/// How far each of the four teams travels.
+pub(crate) fn travels(rt: &impl Abort, board: &Board) -> [u64; 4] {
+    let (schedule, league) = (board.schedule(), board.league());
+    assert!(rt; schedule.teams() == 4 && league.teams() == 4);
+    [
+        travel_of(schedule, league, 0),
+        travel_of(schedule, league, 1),
+        travel_of(schedule, league, 2),
+        travel_of(schedule, league, 3),
+    ]
+}
+
+/// Whether a team of two schedules has each game in the same round.
+fn plays_alike(one: &Schedule, other: &Schedule, team: u8) -> bool {
+    if team >= one.teams() || team >= other.teams() || one.teams() != other.teams() {
+        return false;
+    }
+    for round in 0..one.rounds() {
+        if one.game_at(team, round) != other.game_at(team, round) {
+            return false;
+        }
+    }
+    true
+}
+
+/// Whether two schedules have each game in the same round.
+pub(crate) fn have_same_games(one: &Schedule, other: &Schedule) -> bool {
+    if one.teams() != other.teams() || one.rounds() != other.rounds() {
+        return false;
+    }
+    for team in 0..one.teams() {
+        if !plays_alike(one, other, team) {
+            return false;
+        }
+    }
+    true
+}

@@ -1,0 +1,56 @@
+//! Boards where there is memory, and where some is refused.
+
+ghost use Rattle.std.specs.Prelude.{◌≡◌, [], IfSome};
+
+use fixture_board::{Board, BoardFault};
+use league::circular;
+use shared_board::Shared;
+use std::alloc::Global;
+use std::test::Fail;
+
+#[test]
+fn a_board_with_ample_memory(rt: HostRuntime) -> Result<(), Fail> {
+    let board = Board::new(rt.alloc(), circular(rt.alloc(), 4)?, 8)?;
+    assert_eq!(rt; board.room(), 8);
+    Ok(())
+}
+
+#[test]
+fn refused_memory_hands_the_league_back(rt: HostRuntime) {
+    let Ok(league) = circular(rt.alloc(), 4) else {
+        return;
+    };
+    match Board::new(rt.alloc(), league, 8) {
+        Ok(board) => assert_eq!(rt; board.version(), 0),
+        Err(refused) => {
+            assert_eq!(rt; refused.why, BoardFault::Memory);
+            assert_eq!(rt; refused.league.teams(), 4);
+        }
+    }
+}
+
+fn board(alloc: Global) -> Option<Board>
+    ensures { IfSome result (λ b. b.history ≡ []) }
+{
+    Board::new(alloc, circular(alloc, 4).ok()?, 8).ok()
+}
+
+#[test]
+fn a_shared_board_with_ample_memory(rt: HostRuntime) -> Result<(), Fail> {
+    let board = board(rt.alloc()).expect(&rt, "a board");
+    let (_shared, seat) = Shared::new(rt.alloc(), board)?;
+    assert_eq!(rt; (seat.number(), seat.held(), seat.seen()), (0, 1, 0));
+    Ok(())
+}
+
+#[test]
+fn refused_memory_makes_no_shared_board(rt: HostRuntime) {
+    let Some(board) = board(rt.alloc()) else {
+        return;
+    };
+    if let Ok((shared, mut seat)) = Shared::new(rt.alloc(), board) {
+        assert_eq!(rt; shared.front(&mut seat), 0);
+        assert_eq!(rt; shared.best(&mut seat), Some(30));
+        assert!(rt; shared.close(&rt, seat).whole);
+    }
+}

@@ -1,0 +1,131 @@
+//! What a board is asked, in few words. Teams and rounds count from 1, if nothing else is said.
+
+ghost use Rattle.std.specs.Prelude.{◌≡◌};
+
+use fixture_board::{Ask, Board, Proposal, Reply};
+use fixtures::Game;
+use moves::Move;
+use shared_board::{Seat, Shared};
+use std::sync::Wait;
+
+/// A game of a round and teams that count from 0.
+pub(crate) const fn game_from_0(round: u8, home: u8, away: u8) -> Game {
+    Game { round, home, away }
+}
+
+pub(crate) fn game(round: u8, home: u8, away: u8) -> Game {
+    Game {
+        round: round.saturating_sub(1),
+        home: home.saturating_sub(1),
+        away: away.saturating_sub(1),
+    }
+}
+
+pub(crate) fn homes(i: u8, j: u8) -> Move {
+    Move::Homes {
+        i: i.saturating_sub(1),
+        j: j.saturating_sub(1),
+    }
+}
+
+pub(crate) fn rounds(k: u8, l: u8) -> Move {
+    Move::Rounds {
+        k: k.saturating_sub(1),
+        l: l.saturating_sub(1),
+    }
+}
+
+pub(crate) fn teams(i: u8, j: u8) -> Move {
+    Move::Teams {
+        i: i.saturating_sub(1),
+        j: j.saturating_sub(1),
+    }
+}
+
+/// The move for this version, without a claim and without slack.
+pub(crate) fn at(version: u64, mv: Move) -> Proposal {
+    Proposal {
+        version,
+        mv,
+        claim: None,
+        slack: 0,
+    }
+}
+
+/// The move for this version, without a claim, however much worse it is.
+pub(crate) fn at_any_cost(version: u64, mv: Move) -> Proposal {
+    Proposal {
+        slack: u64::MAX,
+        ..at(version, mv)
+    }
+}
+
+pub(crate) fn propose(version: u64, mv: Move, claim: Option<u64>, slack: u64) -> Ask {
+    Ask::Shift(Proposal {
+        version,
+        mv,
+        claim,
+        slack,
+    })
+}
+
+/// To make the move at this version, without a claim and without slack.
+pub(crate) fn to_shift(version: u64, mv: Move) -> Ask {
+    Ask::Shift(at(version, mv))
+}
+
+/// To pin a game of a round and teams that count from 0.
+pub(crate) fn pin_from_0(version: u64, round: u8, home: u8, away: u8) -> Ask {
+    let game = game_from_0(round, home, away);
+    Ask::Pin { version, game }
+}
+
+/// To unpin a game of a round and teams that count from 0.
+pub(crate) fn unpin_from_0(version: u64, round: u8, home: u8, away: u8) -> Ask {
+    let game = game_from_0(round, home, away);
+    Ask::Unpin { version, game }
+}
+
+/// The move at the board's version, without a claim, however much worse it is.
+pub(crate) fn shift(board: &mut Board, mv: Move) -> Reply {
+    let version = board.version();
+    board.propose(0, at_any_cost(version, mv))
+}
+
+pub(crate) fn pin(board: &mut Board, game: Game) -> Reply {
+    let version = board.version();
+    board.pin(0, version, game)
+}
+
+pub(crate) fn unpin(board: &mut Board, game: Game) -> Reply {
+    let version = board.version();
+    board.unpin(0, version, game)
+}
+
+pub(crate) fn undo(board: &mut Board) -> Reply {
+    let version = board.version();
+    board.undo(0, version)
+}
+
+/// Asks by the call that it stands for, as caller 0.
+pub(crate) fn ask_board(board: &mut Board, ask: Ask) -> Reply {
+    match ask {
+        Ask::Shift(proposal) => board.propose(0, proposal),
+        Ask::Pin { version, game } => board.pin(0, version, game),
+        Ask::Unpin { version, game } => board.unpin(0, version, game),
+        Ask::Undo { version } => board.undo(0, version),
+    }
+}
+
+/// Asks through a seat. A caller's proof knows no more of the seat after it than whose it is, which keeps that short.
+pub(crate) fn ask_seat<R: Wait>(rt: &R, shared: &Shared, seat: &mut Seat, ask: Ask) -> Reply
+    requires { seat.old.table ≡ shared.now }
+    ensures { seat.new.table ≡ shared.now }
+{
+    match ask {
+        Ask::Shift(proposal) => shared.propose(rt, seat, proposal),
+        Ask::Pin { version, game } => shared.pin(rt, seat, version, game),
+        Ask::Unpin { version, game } => shared.unpin(rt, seat, version, game),
+        Ask::Undo { version } => shared.undo(rt, seat, version),
+    }
+}

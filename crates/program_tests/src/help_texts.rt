@@ -1,0 +1,130 @@
+//! What the help, the version and mistakes say.
+
+use super::arguments::words;
+use command_line::args;
+use std::alloc::Global;
+use std::process::Abort;
+use std::test::Fail;
+
+/// The text that these words are answered with.
+fn told(alloc: Global, given: &[&str]) -> Result<String, Fail> {
+    let words = words(alloc, given)?;
+    let error = args(alloc, &words).err().ok_or("the words pass")?;
+    Ok(format!(in alloc; "{error}")?)
+}
+
+/// Words, and parts of the text that they are answered with.
+const HELP: &[(&[&str], &[&str])] = &[
+    (
+        &["ttp", "--help"],
+        &[
+            "A fixture board for the Travelling Tournament Problem\n",
+            "\n  start ",
+            "\n  play ",
+            "\n  search ",
+            "\nOptions:\n  -h, --help     Print help\n  -V, --version  Print version\n\n",
+            "Example:\n  ttp search --slack 8 < leagues/circular-4.json\n",
+        ],
+    ),
+    (
+        &["ttp", "start", "--help"],
+        &[
+            "Reads a league from standard input and writes the sheet of its Berger start\n",
+            "Example:\n  ttp start < leagues/circular-4.json\n",
+        ],
+    ),
+    (
+        &["ttp", "play", "--help"],
+        &[
+            "Reads a league, a line `script` and script lines from standard input, plays them on a new\n",
+            "board, and writes an answer to each line, the history, the sheet and the best version\n",
+            "--room <N>",
+            "How many changes the board has room for, 0 to 1048576",
+            "[default: 1024]",
+            "docs/script.md",
+            "\n  homes I J ",
+            "\n  rounds K L ",
+            "\n  teams I J ",
+            "\n  part-rounds I K L ",
+            "\n  part-teams I J K ",
+            "\n  pin R H A ",
+            "\n  unpin R H A ",
+            "\n  undo ",
+            "\n  slack S ",
+            "echo script; echo 'homes 1 2'; echo undo) | ttp play --room 8\n",
+        ],
+    ),
+    (
+        &["ttp", "search", "--help"],
+        &[
+            "Reads a league from standard input, has workers search for a cheaper schedule on one board,\n",
+            "and writes their counts, the history, the sheet of the best schedule and the best version\n",
+            "--room <N>",
+            "How many changes the board has room for, 0 to 1048576",
+            "[default: 1024]",
+            "--workers <W>",
+            "How many workers search at once, 1 to 16",
+            "[default: 2]",
+            "--seed <S>",
+            "What the workers' draws begin with, any number of 64 bits",
+            "[default: 1]",
+            "--steps <T>",
+            "How many moves each worker draws, 0 to 1000000",
+            "[default: 1000]",
+            "--slack <X>",
+            "By how much a score may rise at the first step, any number of 64 bits; it falls in a line, to X / T at the last",
+            "[default: 0]",
+            "docs/search.md",
+            "ttp search --workers 4 --steps 200000 --slack 8 --room 1048576 < leagues/circular-10.json\n",
+        ],
+    ),
+];
+
+fn check_parts(rt: &impl Abort, alloc: Global, given: &[&str], parts: &[&str]) -> Result<(), Fail> {
+    let text = told(alloc, given)?;
+    for part in parts {
+        assert!(rt; text.contains(*part), "{part} in {text}");
+    }
+    Ok(())
+}
+
+#[test]
+fn help_tells_what_is_read_and_written(rt: HostRuntime) -> Result<(), Fail> {
+    for (given, parts) in HELP {
+        check_parts(&rt, rt.alloc(), given, parts)?;
+    }
+    Ok(())
+}
+
+const VERSIONS: &[&[&str]] = &[
+    &["ttp", "--version"],
+    &["ttp", "-V"],
+    &["/tmp/program", "--version"],
+];
+
+#[test]
+fn version_is_a_line_of_its_own(rt: HostRuntime) -> Result<(), Fail> {
+    for given in VERSIONS {
+        let text = told(rt.alloc(), given)?;
+        assert_eq!(rt; text.as_str(), "ttp 0.1.0\n", "{given:?}");
+    }
+    Ok(())
+}
+
+/// Words, and a part of the text that they are answered with.
+const USAGES: &[(&[&str], &str)] = &[
+    (&["/tmp/program", "--help"], "Usage: ttp <COMMAND>\n"),
+    (
+        &["/tmp/program", "play", "--help"],
+        "Usage: ttp play [OPTIONS]\n",
+    ),
+    (&["program", "start", "now"], "Usage: ttp start\n"),
+];
+
+#[test]
+fn texts_call_the_program_ttp_whatever_it_was_run_as(rt: HostRuntime) -> Result<(), Fail> {
+    for (given, part) in USAGES {
+        check_parts(&rt, rt.alloc(), given, &[part])?;
+    }
+    Ok(())
+}

@@ -1,0 +1,91 @@
+//! Home games in step. The expected deviations were counted by hand or, of 10 and 40 teams, by `deviation` of
+//! `scripts/apart.py`.
+
+use crate::rule_leagues::{Expected, assert_deviations};
+use fixtures::{berger, berger_fide};
+use std::test::Fail;
+
+/// On the start of four teams: after round 2 team 1 has had two home games and team 3 none, and no others are ever
+/// further apart than 1. All six pairs are apart by 1 at some time. After the last round each has had three.
+const FOUR_TEAMS: Expected = &[
+    (r#""class":"FA2","teams":[1,2,3,4],"intp":1"#, 1),
+    (r#""class":"FA2","teams":[1,2,3,4],"intp":0"#, 7),
+    (r#""class":"FA2","teams":[1,2,3,4],"intp":2"#, 0),
+    (r#""class":"FA2","teams":[1,3],"slots":[2,6],"intp":1"#, 1),
+    (r#""class":"FA2","teams":[1,2,3,4],"slots":[6],"intp":0"#, 0),
+    (r#""class":"FA2","teams":[1,2,3,4],"slots":[],"intp":0"#, 0),
+];
+
+/// In FIDE's order: the pair is of teams 2 and 4.
+const FIDE_ORDER: Expected = &[
+    (r#""class":"FA2","teams":[1,2,3,4],"intp":1"#, 1),
+    (r#""class":"FA2","teams":[2,4],"slots":[2],"intp":1"#, 1),
+    (r#""class":"FA2","teams":[1,2,3],"intp":1"#, 0),
+];
+
+/// On the start with the homes of teams 1 and 2 exchanged team 2 is at home in rounds 1 to 3, and apart by 2 from each
+/// other team.
+const HOMES_EXCHANGED: Expected = &[
+    (r#""class":"FA2","teams":[1,2,3,4],"intp":1"#, 3),
+    (r#""class":"FA2","teams":[1,3,4],"intp":1"#, 0),
+];
+
+/// On the start of six teams the home games after each round are, of team 1, 1 2 2 3 3 3 3 4 4 5, of team 2
+/// 1 1 2 3 3 3 4 4 4 5, of 3 1 1 2 2 3 3 4 4 5 5, of 4 0 0 1 1 2 3 4 4 5 5, of 5 0 1 1 1 2 3 3 4 5 5, and of 6
+/// 0 1 1 2 2 3 3 4 4 5. So 1-4, 1-5, 2-4 and 2-5 are apart by 2 and the other eleven pairs by 1, but after round 1 only
+/// the nine of one of 1 to 3 and one of 4 to 6.
+const SIX_TEAMS: Expected = &[
+    (r#""class":"FA2","teams":[1,2,3,4,5,6],"intp":1"#, 4),
+    (r#""class":"FA2","teams":[1,2,3,4,5,6],"intp":0"#, 19),
+    (
+        r#""class":"FA2","teams":[1,2,3,4,5,6],"slots":[1],"intp":0"#,
+        9,
+    ),
+    (r#""class":"FA2","teams":[1,4],"slots":[2,10],"intp":0"#, 2),
+    (r#""class":"FA2","teams":[1,4],"slots":[3,10],"intp":0"#, 1),
+    (r#""class":"FA2","teams":[1,2,5],"slots":[3,4],"intp":1"#, 2),
+];
+
+const TEN_TEAMS: Expected = &[
+    (
+        r#""class":"FA2","teams":[1,2,3,4,5,6,7,8,9,10],"intp":1"#,
+        16,
+    ),
+    (
+        r#""class":"FA2","teams":[1,5,10],"slots":[4,9,12],"intp":0"#,
+        3,
+    ),
+];
+
+const FORTY_TEAMS: Expected = &[
+    (r#""class":"FA2","teams":[1,20,21,40],"intp":0"#, 7),
+    (
+        r#""class":"FA2","teams":[1,20,21,40],"slots":[77,78],"intp":0"#,
+        4,
+    ),
+];
+
+#[test]
+fn home_games_of_four(rt: HostRuntime) -> Result<(), Fail> {
+    let fide = berger_fide(rt.alloc(), 4)?;
+    assert_deviations(&rt, rt.alloc(), &fide, FIDE_ORDER)?;
+    let four = berger(rt.alloc(), 4)?;
+    assert_deviations(&rt, rt.alloc(), &four, FOUR_TEAMS)
+}
+
+#[test]
+fn home_games_of_more_teams(rt: HostRuntime) -> Result<(), Fail> {
+    let six = berger(rt.alloc(), 6)?;
+    assert_deviations(&rt, rt.alloc(), &six, SIX_TEAMS)?;
+    let ten = berger(rt.alloc(), 10)?;
+    assert_deviations(&rt, rt.alloc(), &ten, TEN_TEAMS)?;
+    let forty = berger(rt.alloc(), 40)?;
+    assert_deviations(&rt, rt.alloc(), &forty, FORTY_TEAMS)
+}
+
+#[test]
+fn home_games_after_an_exchange(rt: HostRuntime) -> Result<(), Fail> {
+    let mut schedule = berger(rt.alloc(), 4)?;
+    schedule.exchange_homes(0, 1);
+    assert_deviations(&rt, rt.alloc(), &schedule, HOMES_EXCHANGED)
+}

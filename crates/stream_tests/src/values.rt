@@ -1,0 +1,84 @@
+//! Tests compare by `==`, so it has to see the variant and each field. What faults say.
+
+use super::samples::NO_CALLS;
+use std::alloc::Global;
+use std::fmt::Display;
+use std::process::Abort;
+use std::test::Fail;
+use streams::{ReadFault, Step, Tally, WriteFault};
+
+/// Whether each of the values is equal to itself and to no other.
+fn are_distinct<T: PartialEq>(values: &[T]) -> bool {
+    for (i, one) in values.iter().enumerate() {
+        for (j, other) in values.iter().enumerate() {
+            if (one == other) != (i == j) {
+                return false;
+            }
+        }
+    }
+    true
+}
+
+#[test]
+fn steps_that_differ(rt: HostRuntime) {
+    let steps = [Step::Moved(0), Step::Moved(1), Step::Again, Step::Failed];
+    assert!(rt; are_distinct(&steps));
+}
+
+#[test]
+fn tallies_that_differ_in_one_field(rt: HostRuntime) {
+    let tallies = [
+        NO_CALLS,
+        Tally {
+            calls: 1,
+            ..NO_CALLS
+        },
+        Tally {
+            failed: 1,
+            ..NO_CALLS
+        },
+        Tally {
+            empty: 1,
+            ..NO_CALLS
+        },
+        Tally {
+            again: 1,
+            ..NO_CALLS
+        },
+        Tally {
+            again_in_a_row: 1,
+            ..NO_CALLS
+        },
+    ];
+    assert!(rt; are_distinct(&tallies));
+}
+
+#[test]
+fn faults_that_differ(rt: HostRuntime) {
+    assert!(rt; are_distinct(&[ReadFault::Read, ReadFault::TooLong, ReadFault::Memory]));
+    assert!(rt; are_distinct(&[WriteFault]));
+}
+
+fn check_says(
+    rt: &impl Abort,
+    alloc: Global,
+    fault: &impl Display,
+    text: &str,
+) -> Result<(), Fail> {
+    assert_eq!(rt; format!(in alloc; "{fault}")?.as_str(), text);
+    Ok(())
+}
+
+#[test]
+fn faults_say_what_could_not_be_done(rt: HostRuntime) -> Result<(), Fail> {
+    let alloc = rt.alloc();
+    check_says(&rt, alloc, &ReadFault::Read, "input cannot be read")?;
+    check_says(
+        &rt,
+        alloc,
+        &ReadFault::TooLong,
+        "input is over 4194304 bytes",
+    )?;
+    check_says(&rt, alloc, &ReadFault::Memory, "out of memory")?;
+    check_says(&rt, alloc, &WriteFault, "output cannot be written")
+}

@@ -1,0 +1,112 @@
+//! Texts written to sinks that take a few bytes at each call, are interrupted, fail or are full.
+
+use super::samples::{NO_CALLS, TEXT};
+use std::io;
+use std::io::{ErrorKind, Write};
+use std::process::Abort;
+use std::test::Fail;
+use streams::{MemorySink, RehearsedSink, Step, Tally, WriteFault, WriterSink, write_all};
+
+/// A write is interrupted, one takes two bytes, and one fails.
+#[derive(Drop)]
+struct FlakyWriter {
+    calls: u8,
+}
+
+impl Write for FlakyWriter {
+    fn write(&mut self, piece: &[u8]) -> io::Result<usize> {
+        self.calls = self.calls.saturating_add(1);
+        match self.calls {
+            1 => Err(ErrorKind::Interrupted.into()),
+            2 => Ok(piece.len().min(2)),
+            _ => Err(ErrorKind::BrokenPipe.into()),
+        }
+    }
+
+    fn flush(&mut self) -> io::Result<()> {
+        Ok(())
+    }
+}
+
+#[test]
+fn writes_to_a_writer_until_it_fails(rt: HostRuntime) {
+    let mut sink = WriterSink::new(FlakyWriter { calls: 0 });
+    let outcome = write_all(&mut sink, b"abc");
+    let tally = Tally {
+        calls: 3,
+        failed: 1,
+        again: 1,
+        ..NO_CALLS
+    };
+    assert_eq!(rt; (outcome, sink.tally()), (Err(WriteFault), tally));
+}
+
+#[test]
+fn writes_to_a_writer(rt: HostRuntime) -> Result<(), Fail> {
+    let mut written = Vec::new(rt.alloc());
+    write_all(&mut WriterSink::new(&mut written), TEXT)?;
+    assert_eq!(rt; written.as_slice(), TEXT);
+    Ok(())
+}
+
+#[test]
+fn stops_at_a_sink_that_is_full(rt: HostRuntime) {
+    let mut room = [0; 4];
+    let mut sink = MemorySink::new(&mut room);
+    let outcome = write_all(&mut sink, TEXT);
+    let tally = Tally {
+        calls: 2,
+        empty: 1,
+        ..NO_CALLS
+    };
+    assert_eq!(rt; (outcome, sink.tally()), (Err(WriteFault), tally));
+    assert_eq!(rt; sink.held(), b"two\n".as_slice());
+}
+
+/// What becomes of a text that is written by these steps to a sink with room for it, and the sink's tally.
+fn written(memory: &mut MemorySink<'_>, steps: &[Step]) -> (Result<(), WriteFault>, Tally) {
+    let mut sink = RehearsedSink::new(memory, steps);
+    (write_all(&mut sink, TEXT), sink.tally())
+}
+
+#[test]
+fn stops_at_a_failed_write(rt: HostRuntime) {
+    let mut room = [0; 16];
+    let mut memory = MemorySink::new(&mut room);
+    let steps = [Step::Moved(2), Step::Again, Step::Moved(3), Step::Failed];
+    let tally = Tally {
+        calls: 4,
+        failed: 1,
+        again: 1,
+        ..NO_CALLS
+    };
+    assert_eq!(rt; written(&mut memory, &steps), (Err(WriteFault), tally));
+    assert_eq!(rt; memory.held(), b"two\nl".as_slice());
+}
+
+/// A text that is written by these steps comes to this end, and the sink holds so much of it.
+fn check_steps(rt: &impl Abort, steps: &[Step], wanted: Result<(), WriteFault>, held: &[u8]) {
+    let mut room = [0; 16];
+    let mut memory = MemorySink::new(&mut room);
+    let (outcome, _) = written(&mut memory, steps);
+    assert_eq!(rt; (outcome, memory.held()), (wanted, held));
+}
+
+#[test]
+fn gives_up_after_a_thousand_interrupted_writes_in_a_row(rt: HostRuntime) {
+    let mut steps = [Step::Again; 2000];
+    steps[999] = Step::Moved(1);
+    check_steps(&rt, &steps[..999], Ok(()), TEXT);
+    check_steps(&rt, &steps[..1999], Ok(()), TEXT);
+    check_steps(&rt, &steps, Err(WriteFault), b"t");
+}
+
+#[test]
+fn hands_a_sink_with_room_the_whole_text_at_once(rt: HostRuntime) -> Result<(), Fail> {
+    let text = vec![in rt.alloc(); b'x'; 12_000]?;
+    let mut room = vec![in rt.alloc(); 0; 12_000]?;
+    let mut sink = MemorySink::new(&mut room);
+    write_all(&mut sink, &text)?;
+    assert_eq!(rt; sink.tally().calls, 1);
+    Ok(())
+}
