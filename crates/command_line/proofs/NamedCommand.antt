@@ -194,12 +194,6 @@ names_a_command words e =
     entered_is end.stopped (finished top.rules end.held) (walk_on (walk_from nothing_held) (argument_words program words) met.0 tt) below.0 last.1
 
 -- a command that is named and has this name has the numbers of its options
-pub play_numbers : (found : Text × List Row) → NamesOneOf commands found → found.0 ≡ codes "play" → HasNumbers found.1 play_command.options
-play_numbers found (inl of_start) is = absurd (true≢false (ap (λ t. bytes_eq t (codes "start")) (sym of_start.0 ∙ is)))
-play_numbers found (inr (inl of_play)) is = of_play.1
-play_numbers found (inr (inr (inl of_search))) is = absurd (true≢false (ap (λ t. bytes_eq t (codes "search")) (sym of_search.0 ∙ is)))
-play_numbers found (inr (inr (inr none))) is = absurd none
-
 pub search_numbers : (found : Text × List Row) → NamesOneOf commands found → found.0 ≡ codes "search" → HasNumbers found.1 search_command.options
 search_numbers found (inl of_start) is = absurd (true≢false (ap (λ t. bytes_eq t (codes "start")) (sym of_start.0 ∙ is)))
 search_numbers found (inr (inl of_play)) is = absurd (true≢false (ap (λ t. bytes_eq t (codes "play")) (sym of_play.0 ∙ is)))

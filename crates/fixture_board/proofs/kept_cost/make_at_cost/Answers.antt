@@ -1,3 +1,4 @@
+use Rattle.std.proofs.Common.{rules}
 use Rattle.fixture_board.proofs.Scores.{cost_small}
 use Rattle.fixture_board.proofs.Shares.{share_balances, same_cost, score_after}
 use Rattle.fixture_board.proofs.kept_cost.make_at_cost.Goals as goal
@@ -24,3 +25,12 @@ returns-clause-small c =
     (same_cost _ _ _ _ _ c.exchanged.ensures
     (share_balances _ _ _ _ _ _ _ _ _ c.teams.ensures.limits c.requires.same_size c.requires.main c.side_teams-sides.ensures
     c.requires.known c.share_of_known-before.ensures.value c.make.ensures.moved c.share-after.ensures.value))
+
+pub returns-clause-moved : goal.returns-clause-moved
+returns-clause-moved c = search rules
+
+pub returns-clause-again : goal.returns-clause-again
+returns-clause-again c = search rules
+
+pub returns-clause-back : goal.returns-clause-back
+returns-clause-back c = search rules

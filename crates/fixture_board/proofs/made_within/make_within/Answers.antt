@@ -1,5 +1,5 @@
 use Rattle.fixture_board.proofs.Scores.{cost_small}
-use Rattle.std.proofs.Common.{◌+◌, ◌<◌, refl, arith}
+use Rattle.std.proofs.Common.{◌+◌, ◌<◌, refl, arith, rules}
 use Rattle.moves.specs.Moves.{moved}
 use Rattle.fixture_board.specs.Costs.{score_of}
 use Rattle.fixture_board.specs.CostShares.{travel_share, is_of_rounds}
@@ -47,3 +47,18 @@ returns-then-is_lost-clause-value c =
     travel_share c.args.league.now c.args.mv c.args.main (moved c.args.schedule.now c.args.mv) =
     is_above (is_of_rounds c.args.mv) c.is_lost.result _ _ c.is_lost.ensures c.if-is_lost.true in
     omega (arith, within, above)
+
+pub returns-else-is_none-clause-value : goal.returns-else-is_none-clause-value
+returns-else-is_none-clause-value c = search rules
+
+pub returns-else-is_none-clause-schedule : goal.returns-else-is_none-clause-schedule
+returns-else-is_none-clause-schedule c = search rules
+
+pub returns-else-is_none-clause-again : goal.returns-else-is_none-clause-again
+returns-else-is_none-clause-again c = search rules
+
+pub returns-else-is_none-clause-back : goal.returns-else-is_none-clause-back
+returns-else-is_none-clause-back c = search rules
+
+pub returns-else-is_none-clause-small : goal.returns-else-is_none-clause-small
+returns-else-is_none-clause-small c = search rules

@@ -1,4 +1,4 @@
-use Rattle.std.proofs.Common.{sym, ◌∙◌, ap}
+use Rattle.std.proofs.Common.{sym, ◌∙◌, ap, rules}
 use Rattle.moves.specs.declared.moves.Move.{Move}
 use Rattle.moves.specs.Moves.{touched_round}
 use Rattle.moves.specs.MainCells.{main_team}
@@ -23,3 +23,12 @@ returns-in-PartTeams c = record {
   rounds = λ r. c.moved_rounds.ensures.members r ∙ ap (λ (m : Move). touched_round c.args.schedule.now m r)
       (sym c.in-PartTeams.is);
 }
+
+pub returns-in-Homes : goal.returns-in-Homes
+returns-in-Homes c = search rules
+
+pub returns-in-Rounds : goal.returns-in-Rounds
+returns-in-Rounds c = search rules
+
+pub returns-in-Teams : goal.returns-in-Teams
+returns-in-Teams c = search rules

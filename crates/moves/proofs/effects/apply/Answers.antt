@@ -1,4 +1,4 @@
-use Rattle.std.proofs.Common.{sym, subst}
+use Rattle.std.proofs.Common.{sym, subst, rules}
 use Rattle.league.specs.Sets.{has}
 use Rattle.fixtures.specs.Games.{Games}
 use Rattle.fixtures.specs.Changes.{DiffersOnlyIn}
@@ -14,3 +14,12 @@ returns-clause-differs c =
     (differs-by_sets c.args.schedule.now c.args.mv c.main_cells-main.ensures.round_robin c.requires.checked
     c.touched_around-touched.result.teams c.touched_around-touched.result.rounds c.touched_around-touched.ensures.teams
     c.touched_around-touched.ensures.rounds)
+
+pub returns-clause-moved : goal.returns-clause-moved
+returns-clause-moved c = search rules
+
+pub returns-clause-teams : goal.returns-clause-teams
+returns-clause-teams c = search rules
+
+pub returns-clause-rounds : goal.returns-clause-rounds
+returns-clause-rounds c = search rules

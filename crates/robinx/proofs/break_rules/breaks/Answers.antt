@@ -1,4 +1,4 @@
-use Rattle.std.proofs.Common.{◌∙◌}
+use Rattle.std.proofs.Common.{◌∙◌, rules}
 use Rattle.robinx.proofs.CountedRounds.{breaks_of_members}
 use Rattle.robinx.proofs.break_rules.breaks.Goals as goal
 
@@ -7,3 +7,6 @@ returns-clause-value c =
     c.len.ensures.among _ (c.common-2.ensures.below _ (c.common.ensures.below _ c.rounds_on_side-on_side.ensures.below)) ∙
     breaks_of_members c.args.schedule.now c.args.side c.args.team _ _ _ _ _ c.rounds_on_side-on_side.ensures.members
     c.rounds_without_turn-stays.ensures c.common.ensures.members c.common-2.ensures.members
+
+pub returns-clause-most : goal.returns-clause-most
+returns-clause-most c = search rules

@@ -1,4 +1,4 @@
-use Rattle.std.proofs.Common.{◌≡◌, false, ◌∙◌, sym}
+use Rattle.std.proofs.Common.{◌≡◌, false, ◌∙◌, sym, rules}
 use Rattle.texts.specs.Input.{is_script}
 use Rattle.texts.proofs.Splitting.{reads_on, ends_without}
 use Rattle.texts.proofs.input.split_input.Goals as goal
@@ -15,3 +15,9 @@ returns-clause-league c =
 pub returns-clause-script : goal.returns-clause-script
 returns-clause-script c =
     rw (c.in_default.ensures).same (ends_without c.args.input.now c.loop-line.start (rw (c.in_default.ensures).none at c.loop-line.invariant)).1
+
+pub returns-then-eq-clause-league : goal.returns-then-eq-clause-league
+returns-then-eq-clause-league c = search rules
+
+pub returns-then-eq-clause-script : goal.returns-then-eq-clause-script
+returns-then-eq-clause-script c = search rules

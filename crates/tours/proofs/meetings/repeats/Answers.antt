@@ -1,4 +1,4 @@
-use Rattle.std.proofs.Common.{◌-◌, ◌∙◌, arith}
+use Rattle.std.proofs.Common.{◌-◌, ◌∙◌, arith, rules}
 use Rattle.std.proofs.lemmas.Bool.{lt-ltb}
 use Rattle.league.specs.Sets.{has}
 use Rattle.league.proofs.ForCallers.{sum_where_all}
@@ -12,3 +12,6 @@ returns-clause-value c =
     c.repeats_from.ensures.value ∙
     sum_where_all (round_count c.args.schedule.now.teams - 1) (has c.below-firsts.result) (repeats_after c.args.schedule.now)
     (λ r in_r. c.below-firsts.ensures.members r ∙ lt-ltb r _ (omega arith))
+
+pub returns-clause-most : goal.returns-clause-most
+returns-clause-most c = search rules

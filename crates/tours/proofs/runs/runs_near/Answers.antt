@@ -1,4 +1,4 @@
-use Rattle.std.proofs.Common.{◌∙◌}
+use Rattle.std.proofs.Common.{◌∙◌, rules}
 use Rattle.league.specs.Sets.{has}
 use Rattle.tours.specs.Parts.{touches_window}
 use Rattle.tours.proofs.RunStarts.{runs_walked_part}
@@ -10,3 +10,6 @@ returns-clause-value c =
     c.runs_from.ensures.value ∙
     runs_walked_part c.args.schedule.now c.args.at_most c.teams_in-among.result c.starts_meeting-starts.result (has c.args.set) (has c.args.rounds)
     c.teams_in-among.ensures.members c.starts_meeting-starts.ensures.members
+
+pub returns-clause-most : goal.returns-clause-most
+returns-clause-most c = search rules

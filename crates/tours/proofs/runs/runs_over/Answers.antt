@@ -1,4 +1,4 @@
-use Rattle.std.proofs.Common.{◌∙◌, arith}
+use Rattle.std.proofs.Common.{◌∙◌, arith, rules}
 use Rattle.std.proofs.lemmas.Bool.{lt-ltb}
 use Rattle.tours.proofs.RunStarts.{runs_walked_all}
 use Rattle.tours.proofs.runs.runs_over.Goals as goal
@@ -9,3 +9,6 @@ returns-clause-value c =
     (c.runs_from.ensures.value ∙
     runs_walked_all c.args.schedule.now c.at_most-at_most.result c.below-all.result c.below-starts.result
     (λ t in_t. c.below-all.ensures.members t ∙ lt-ltb t _ (omega arith)) (λ f in_f. c.below-starts.ensures.members f ∙ lt-ltb f _ (omega arith)))
+
+pub returns-clause-most : goal.returns-clause-most
+returns-clause-most c = search rules

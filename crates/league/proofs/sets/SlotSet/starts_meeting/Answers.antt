@@ -1,4 +1,4 @@
-use Rattle.std.proofs.Common.{refl, arith}
+use Rattle.std.proofs.Common.{refl, arith, rules}
 use Rattle.league.specs.Limits.{max_rounds}
 use Rattle.league.proofs.SetBits.{IsBelow_union, IsBelow_shifted}
 use Rattle.league.proofs.Sums.{any_below_none}
@@ -15,3 +15,12 @@ loop-preserved c = record {
 
 pub returns-then-length-eq0-clause-members : goal.returns-then-length-eq0-clause-members
 returns-then-length-eq0-clause-members c = λ s. rw (c.empty.ensures.members s, c.if-length-eq0.true, any_below_none) refl
+
+pub returns-then-length-eq0-clause-below : goal.returns-then-length-eq0-clause-below
+returns-then-length-eq0-clause-below c = search rules
+
+pub returns-clause-members : goal.returns-clause-members
+returns-clause-members c = search rules
+
+pub returns-clause-below : goal.returns-clause-below
+returns-clause-below c = search rules

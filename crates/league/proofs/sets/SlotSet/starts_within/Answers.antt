@@ -1,4 +1,4 @@
-use Rattle.std.proofs.Common.{arith}
+use Rattle.std.proofs.Common.{arith, rules}
 use Rattle.league.specs.Limits.{max_rounds}
 use Rattle.league.proofs.SetBits.{IsBelow_common}
 use Rattle.league.proofs.SetRows.{has_longer_row}
@@ -11,3 +11,9 @@ loop-preserved c = record {
   fits = IsBelow_common max_rounds c.loop.starts _ c.loop.invariant.fits;
   below = λ m below. IsBelow_common m c.loop.starts _ (c.loop.invariant.below m below);
 }
+
+pub returns-clause-members : goal.returns-clause-members
+returns-clause-members c = search rules
+
+pub returns-clause-below : goal.returns-clause-below
+returns-clause-below c = search rules

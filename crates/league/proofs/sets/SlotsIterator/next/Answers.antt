@@ -1,4 +1,4 @@
-use Rattle.std.proofs.Common.{◌≡◌, ◌+◌, ◌*◌, ◌^◌, ◌<◌, sym, ◌∙◌, arith}
+use Rattle.std.proofs.Common.{◌≡◌, ◌+◌, ◌*◌, ◌^◌, ◌<◌, sym, ◌∙◌, arith, rules}
 use Rattle.league.proofs.Halves.{earliest_taken, upper_half}
 use Rattle.league.proofs.sets.SlotsIterator.next.Goals as goal
 use Rattle.league.proofs.sets.SlotsIterator.next.Goals.{then-self-eq0+else-self-eq0-2, else-self-eq0}
@@ -17,3 +17,12 @@ returns-clause-steps c =
       | else-self-eq0 w ↦ rw w.self-inside-is (omega arith, omega arith, sym c.self.view_is)
     ] in
     rw left.2 (earliest_taken now.low now.high now.base left.0 left.1)
+
+pub returns-then-self-eq0-2-clause-steps : goal.returns-then-self-eq0-2-clause-steps
+returns-then-self-eq0-2-clause-steps c = search rules
+
+pub returns-then-self-eq0-2-clause-goes : goal.returns-then-self-eq0-2-clause-goes
+returns-then-self-eq0-2-clause-goes c = search rules
+
+pub returns-clause-goes : goal.returns-clause-goes
+returns-clause-goes c = search rules

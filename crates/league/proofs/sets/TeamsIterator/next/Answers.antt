@@ -1,4 +1,4 @@
-use Rattle.std.proofs.Common.{arith}
+use Rattle.std.proofs.Common.{arith, rules}
 use Rattle.std.specs.Int.{w64}
 use Rattle.league.specs.Limits.{max_teams}
 use Rattle.league.proofs.Bits.{IsBelow_more}
@@ -9,3 +9,12 @@ pub returns-clause-steps : goal.returns-clause-steps
 returns-clause-steps c =
     let fits = IsBelow_more max_teams 64 c.self.inside.left (omega arith) c.self.invariant in
     rw (← c.self.view_is) (lowest_taken w64 c.self.inside.left (omega arith) fits)
+
+pub returns-then-self-eq0-clause-steps : goal.returns-then-self-eq0-clause-steps
+returns-then-self-eq0-clause-steps c = search rules
+
+pub returns-then-self-eq0-clause-goes : goal.returns-then-self-eq0-clause-goes
+returns-then-self-eq0-clause-goes c = search rules
+
+pub returns-clause-goes : goal.returns-clause-goes
+returns-clause-goes c = search rules

@@ -1,4 +1,4 @@
-use Rattle.std.proofs.Common.{List, [], ◌∷◌, Some, ap, sym, ◌∙◌, subst}
+use Rattle.std.proofs.Common.{List, [], ◌∷◌, Some, ap, sym, ◌∙◌, subst, rules}
 use Rattle.fixture_board.specs.declared.change.Entry.{Entry}
 use Rattle.fixture_board.specs.History.{IsLegal}
 use Rattle.fixture_board.specs.Replies.{entry}
@@ -33,3 +33,12 @@ returns-in-No-clause-done c =
     let v = c.args.place.now.me.0 in
     let same = no_stays v.setting (kept v.stage) c.args._number c.args._ask c.args.judged.now c.in-No.at c.in-No.why c.requires.judged c.in-No.is in
     c.leave-in-No.ensures.done ∙ ap (λ (h : List Entry). (saw v h away, [])) (sym same)
+
+pub returns-in-Done-clause-same : goal.returns-in-Done-clause-same
+returns-in-Done-clause-same c = search rules
+
+pub returns-in-Done-clause-done : goal.returns-in-Done-clause-done
+returns-in-Done-clause-done c = search rules
+
+pub returns-in-No-clause-same : goal.returns-in-No-clause-same
+returns-in-No-clause-same c = search rules

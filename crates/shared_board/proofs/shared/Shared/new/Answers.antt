@@ -1,4 +1,4 @@
-use Rattle.std.proofs.Common.{◌≡◌, List, [], ◌∷◌, ◌++◌, Option, Some, ap, sym, ◌∙◌, subst}
+use Rattle.std.proofs.Common.{◌≡◌, List, [], ◌∷◌, ◌++◌, Option, Some, ap, sym, ◌∙◌, subst, rules}
 use Rattle.atomic_table.specs.Table.{opening}
 use Rattle.league.specs.League.{IsLeague}
 use Rattle.fixture_board.specs.Laws.{least_of, as_number}
@@ -19,3 +19,12 @@ new-requires c =
     let P : Book → List (Option Book) → Type 0 = λ k l. Ruled (opening (0 ∷ 0 ∷ 1 ∷ c.number_of-best.result ∷ []) l (first_view k)) in
     let Q : Book → Type 0 = λ k. P k c.push_reserved.new.self.items in
     subst Q (sym key) (subst (P b) (sym items) (opens b c.number_of-best.result c.requires limits best))
+
+pub returns-in_err-slots : goal.returns-in_err-slots
+returns-in_err-slots c = search rules
+
+pub returns-in_default : goal.returns-in_default
+returns-in_default c = search rules
+
+pub returns : goal.returns
+returns c = search rules

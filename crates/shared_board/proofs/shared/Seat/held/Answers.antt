@@ -1,0 +1,5 @@
+use Rattle.std.proofs.Common.{rules}
+use Rattle.shared_board.proofs.shared.Seat.held.Goals as goal
+
+pub returns : goal.returns
+returns c = search rules
