@@ -19,7 +19,8 @@ pub(super) fn words(alloc: Global, given: &[&str]) -> Result<Vec<String>, AllocE
 
 fn check_job(rt: &impl Abort, alloc: Global, given: &[&str], job: Job) -> Result<(), Fail> {
     let words = words(alloc, given)?;
-    assert_eq!(rt; args(alloc, &words)?, job, "{given:?}");
+    let found = args(alloc, &words)?;
+    assert_eq!(rt; found, job, "{given:?}");
     Ok(())
 }
 
@@ -222,8 +223,8 @@ fn check_end(
 ) -> Result<(), Fail> {
     let words = words(alloc, given)?;
     let error = args(alloc, &words).err().ok_or("the words pass")?;
-    assert_eq!(rt; error.kind(), kind, "{given:?}");
-    assert_eq!(rt; error.exit_code(), status, "{given:?}");
+    let told = (error.kind(), error.exit_code());
+    assert_eq!(rt; told, (kind, status), "{given:?}");
     Ok(())
 }
 

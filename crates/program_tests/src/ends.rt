@@ -77,6 +77,25 @@ fn bytes_after(alloc: Global, bytes: usize, interruptions: usize) -> Result<Vec<
     Ok(steps)
 }
 
+/// The command reads the input by these steps, and writes the text by those, one call for each.
+fn check_steps<T: Threads + Wait + Sync + Abort>(
+    rt: &T,
+    alloc: Global,
+    command: Command,
+    (input, reads): (&[u8], &[Step]),
+    (text, writes): (&[u8], &[Step]),
+) -> Result<(), Fail> {
+    let mut room = [0; 1000];
+    let mut memory = MemorySink::new(&mut room);
+    let mut sink = RehearsedSink::new(&mut memory, writes);
+    let mut source = RehearsedSource::new(MemorySource::new(input), reads);
+    command.run(rt, alloc, &mut source, &mut sink)?;
+    let calls = sink.tally().calls;
+    let wanted = (writes.len() as u64, text);
+    assert_eq!(rt; (calls, memory.held()), wanted, "{command:?}");
+    Ok(())
+}
+
 /// The command reads and writes single bytes, each after so many interruptions.
 fn check_single_bytes<T: Threads + Wait + Sync + Abort>(
     rt: &T,
@@ -88,14 +107,7 @@ fn check_single_bytes<T: Threads + Wait + Sync + Abort>(
     let (input, text) = (command.input(alloc)?, command.text(alloc)?);
     let reads = bytes_after(alloc, input.len(), before_reads)?;
     let writes = bytes_after(alloc, text.len(), before_writes)?;
-    let mut room = [0; 1000];
-    let mut memory = MemorySink::new(&mut room);
-    let mut sink = RehearsedSink::new(&mut memory, &writes);
-    let mut source = RehearsedSource::new(MemorySource::new(&input), &reads);
-    command.run(rt, alloc, &mut source, &mut sink)?;
-    assert_eq!(rt; sink.tally().calls, writes.len() as u64, "{command:?}");
-    assert_eq!(rt; memory.held(), text.as_slice(), "{command:?}");
-    Ok(())
+    check_steps(rt, alloc, command, (&input, &reads), (&text, &writes))
 }
 
 #[test]
@@ -108,6 +120,21 @@ fn each_command_goes_by_single_bytes_and_past_interruptions(rt: HostRuntime) -> 
     Ok(())
 }
 
+/// How a command that reads by these steps ends, with the calls of its source and of its sink.
+fn ended<T: Threads + Wait + Sync>(
+    rt: &T,
+    alloc: Global,
+    command: Command,
+    input: &[u8],
+    steps: &[Step],
+) -> (Result<(), ProgramFault>, u64, u64) {
+    let mut source = RehearsedSource::new(MemorySource::new(input), steps);
+    let mut room = [0; 1000];
+    let mut sink = MemorySink::new(&mut room);
+    let answer = command.run(rt, alloc, &mut source, &mut sink);
+    (answer, source.tally().calls, sink.tally().calls)
+}
+
 /// The command reads so many single bytes, stops at a failed read and writes nothing.
 fn check_failed_read<T: Threads + Wait + Sync + Abort>(
     rt: &T,
@@ -118,14 +145,9 @@ fn check_failed_read<T: Threads + Wait + Sync + Abort>(
 ) -> Result<(), Fail> {
     let mut steps = bytes_after(alloc, read, 0)?;
     steps.push(Step::Failed)?;
-    let mut source = RehearsedSource::new(MemorySource::new(input), &steps);
-    let mut room = [0; 1000];
-    let mut sink = MemorySink::new(&mut room);
-    let answer = command.run(rt, alloc, &mut source, &mut sink);
-    assert_eq!(rt; answer, Err(ProgramFault::Read), "{command:?} {read}");
-    let calls = source.tally().calls;
-    assert_eq!(rt; calls, steps.len() as u64, "{command:?} {read}");
-    assert_eq!(rt; sink.tally().calls, 0, "{command:?} {read}");
+    let told = ended(rt, alloc, command, input, &steps);
+    let wanted = (Err(ProgramFault::Read), steps.len() as u64, 0);
+    assert_eq!(rt; told, wanted, "{command:?} {read}");
     Ok(())
 }
 
@@ -165,9 +187,9 @@ fn check_interrupted<T: Threads + Wait + Sync + Abort>(rt: &T, alloc: Global, co
     let mut room = [0; 1000];
     let mut sink = MemorySink::new(&mut room);
     let answer = command.run(rt, alloc, &mut source, &mut sink);
-    assert_eq!(rt; answer, Err(ProgramFault::Read), "{command:?}");
-    assert_eq!(rt; source.tally.calls, 8_388_608, "{command:?}");
-    assert_eq!(rt; sink.tally().calls, 0, "{command:?}");
+    let told = (answer, source.tally.calls, sink.tally().calls);
+    let wanted = (Err(ProgramFault::Read), 8_388_608, 0);
+    assert_eq!(rt; told, wanted, "{command:?}");
 }
 
 #[test]
@@ -243,8 +265,8 @@ fn check_no_write<T: Threads + Wait + Sync + Abort>(
     let mut room = [0; 1000];
     let mut sink = MemorySink::new(&mut room);
     let answer = command.run(rt, alloc, &mut MemorySource::new(input), &mut sink);
-    assert_eq!(rt; answer, Err(fault), "{command:?}");
-    assert_eq!(rt; sink.tally().calls, 0, "{command:?}");
+    let told = (answer, sink.tally().calls);
+    assert_eq!(rt; told, (Err(fault), 0), "{command:?}");
 }
 
 const NO_JSON: ProgramFault = ProgramFault::League(LeagueFault::NotJson);

@@ -4,10 +4,20 @@ ghost use Rattle.std.specs.Prelude.{◌≡◌, [], IfOk};
 
 use fixture_board::{Board, Change, Cost, Entry, Proposal, Reply};
 use fixtures::Schedule;
-use league::circular;
+use league::{League, circular};
 use std::alloc::Global;
 use std::process::Abort;
 use std::test::Fail;
+
+/// A league in a circle, a new board of it, and a copy of the board's schedule.
+pub(crate) fn circle(alloc: Global, teams: u8, room: u32) -> Result<(League, Board, Schedule), Fail>
+    ensures { IfOk result (λ c. c.1.history ≡ []) }
+{
+    let league = circular(alloc, teams)?;
+    let board = board(alloc, teams, room)?;
+    let copy = board.schedule().duplicate(alloc)?;
+    Ok((league, board, copy))
+}
 
 /// A new board of a league in a circle.
 pub(crate) fn board(alloc: Global, teams: u8, room: u32) -> Result<Board, Fail>
@@ -35,11 +45,15 @@ pub(crate) fn check_replay(rt: &impl Abort, alloc: Global, played: &Board) -> Re
     for i in 0..played.version() {
         make_again(rt, &mut again, i, played.entry(i));
     }
-    assert_eq!(rt; again.version(), played.version());
-    assert_eq!(rt; again.cost(), played.cost());
-    assert_eq!(rt; again.best(), played.best());
-    check_same_schedule(rt, again.schedule(), played.schedule());
+    check_same_end(rt, &again, played);
     Ok(())
+}
+
+fn check_same_end(rt: &impl Abort, one: &Board, other: &Board) {
+    assert_eq!(rt; one.version(), other.version());
+    assert_eq!(rt; one.cost(), other.cost());
+    assert_eq!(rt; one.best(), other.best());
+    check_same_schedule(rt, one.schedule(), other.schedule());
 }
 
 /// An entry of another board's history is granted as the next one of this.

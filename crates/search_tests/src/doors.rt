@@ -1,9 +1,11 @@
 //! The worker of `worker_alone` in `steps.rt` over each kind of door: seven proposals, each granted.
 
-use crate::boards::{board, check_end};
+ghost use Rattle.std.specs.Prelude.{◌^◌, ◌<◌};
+
+use crate::boards::{board, check_end, circle};
 use fixture_board::{Board, Change, Entry, Proposal, Reply};
-use fixtures::berger;
-use league::circular;
+use fixtures::{Schedule, berger};
+use league::League;
 use moves::Move;
 use search::{Door, LockedDoor, NoGate, OwnDoor, Report, SeatDoor, WorkerPlan, worker};
 use shared_board::Shared;
@@ -30,37 +32,39 @@ const fn seventh(caller: u32) -> Entry {
     Entry { caller, change }
 }
 
+/// A worker proposes seven changes through the door, each of which is granted.
+fn check_seven<R: Wait + Abort, D: Door>(rt: &R, door: &mut D, league: &League, copy: &mut Schedule)
+    requires { D.granted door.old < 2 ^ 62 }
+    ensures { D.stays door.old door.new }
+{
+    let report = worker(rt, door, &NoGate, league, PLAN, copy);
+    assert_eq!(rt; report, SEVEN);
+    assert_eq!(rt; door.dones(), 7);
+}
+
 #[test]
 fn worker_with_an_own_board(rt: HostRuntime) -> Result<(), Fail> {
-    let league = circular(rt.alloc(), 6)?;
-    let board = board(rt.alloc(), 6, 1024)?;
-    let mut copy = board.schedule().duplicate(rt.alloc())?;
+    let (league, board, mut copy) = circle(rt.alloc(), 6, 1024)?;
     let mut door = OwnDoor {
         board,
         caller: 5,
         dones: 0,
     };
-    let report = worker(&rt, &mut door, &NoGate, &league, PLAN, &mut copy);
-    assert_eq!(rt; report, SEVEN);
-    assert_eq!(rt; door.dones(), 7);
+    check_seven(&rt, &mut door, &league, &mut copy);
     check_end(&rt, &door.board, 7, seventh(5));
     Ok(())
 }
 
 #[test]
 fn worker_with_a_board_under_a_lock(rt: HostRuntime) -> Result<(), Fail> {
-    let league = circular(rt.alloc(), 6)?;
-    let board = board(rt.alloc(), 6, 1024)?;
-    let mut copy = board.schedule().duplicate(rt.alloc())?;
+    let (league, board, mut copy) = circle(rt.alloc(), 6, 1024)?;
     let board = Mutex::new(board);
     let mut door = LockedDoor {
         board: &board,
         caller: 6,
         dones: 0,
     };
-    let report = worker(&rt, &mut door, &NoGate, &league, PLAN, &mut copy);
-    assert_eq!(rt; report, SEVEN);
-    assert_eq!(rt; door.dones(), 7);
+    check_seven(&rt, &mut door, &league, &mut copy);
     check_end(&rt, &board.lock(&rt), 7, seventh(6));
     Ok(())
 }
@@ -97,17 +101,13 @@ fn change_as_another(rt: &(impl Wait + Abort), board: &Mutex<Board>, version: u6
 
 #[test]
 fn worker_with_a_seat(rt: HostRuntime) -> Result<(), Fail> {
-    let league = circular(rt.alloc(), 6)?;
-    let board = board(rt.alloc(), 6, 1024)?;
-    let mut copy = board.schedule().duplicate(rt.alloc())?;
+    let (league, board, mut copy) = circle(rt.alloc(), 6, 1024)?;
     let (shared, seat) = Shared::new(rt.alloc(), board)?;
     let mut door = SeatDoor {
         shared: &shared,
         seat,
     };
-    let report = worker(&rt, &mut door, &NoGate, &league, PLAN, &mut copy);
-    assert_eq!(rt; report, SEVEN);
-    assert_eq!(rt; door.dones(), 7);
+    check_seven(&rt, &mut door, &league, &mut copy);
     let SeatDoor { shared: _, seat } = door;
     let closed = shared.close(&rt, seat);
     assert!(rt; closed.whole);
@@ -117,10 +117,10 @@ fn worker_with_a_seat(rt: HostRuntime) -> Result<(), Fail> {
 
 #[test]
 fn worker_with_a_copy_for_other_teams(rt: HostRuntime) -> Result<(), Fail> {
-    let league = circular(rt.alloc(), 6)?;
+    let (league, board, _) = circle(rt.alloc(), 6, 1024)?;
     let mut copy = berger(rt.alloc(), 4)?;
     let mut door = OwnDoor {
-        board: board(rt.alloc(), 6, 1024)?,
+        board,
         caller: 0,
         dones: 0,
     };

@@ -20,6 +20,8 @@ mod recorder;
 #[cfg(test)]
 mod runs;
 #[cfg(test)]
+mod searches;
+#[cfg(test)]
 mod sizes;
 #[cfg(test)]
 mod steps;

@@ -74,12 +74,16 @@ fn runs_or_has_no_memory<R: Threads + Wait + Sync + Abort>(
 {
     match search(rt, alloc, league, board, has_gate) {
         Ok(outcome) => assert_eq!(rt; outcome.reports.len(), 2),
-        Err(RunRefused { why, board }) => match (why, board) {
-            (RunFault::Memory, Some(board)) => assert_eq!(rt; board.version(), 0),
-            // a thread takes memory of its own
-            (RunFault::Memory, None) | (RunFault::Spawn, Some(_)) => {}
-            _ => panic!(rt; "neither memory nor a thread is wanting"),
-        },
+        Err(refused) => check_refusal(rt, refused),
+    }
+}
+
+fn check_refusal(rt: &impl Abort, refused: RunRefused) {
+    match (refused.why, refused.board) {
+        (RunFault::Memory, Some(board)) => assert_eq!(rt; board.version(), 0),
+        // a thread takes memory of its own
+        (RunFault::Memory, None) | (RunFault::Spawn, Some(_)) => {}
+        _ => panic!(rt; "neither memory nor a thread is wanting"),
     }
 }
 

@@ -1,16 +1,14 @@
 //! Each worker draws from the stream of its own number: what it is granted is what this page draws anew from that stream.
 
-ghost use Rattle.std.specs.Prelude.{◌≡◌, length, IfOk};
-
-use crate::boards::{board, check_same_history};
+use crate::boards::{check_same_history, circle};
 use crate::distinct::are_distinct;
+use crate::searches::searched_with;
 use fixture_board::{Board, Proposal};
 use fixtures::Schedule;
-use league::circular;
 use moves::{Move, check};
 use rand_pcg::Lcg64Xsh32;
 use search::{
-    Gate, MAX_WORKERS, NoGate, Outcome, OwnDoor, Progress, SearchPlan, WorkerPlan, draw, run_with,
+    Gate, MAX_WORKERS, NoGate, Outcome, OwnDoor, Progress, Reports, SearchPlan, WorkerPlan, draw,
     worker,
 };
 use std::alloc::Global;
@@ -88,16 +86,21 @@ fn propose_stream(board: &mut Board, start: &Schedule, worker: u32, steps: u32) 
     }
 }
 
+/// A board on which the workers of numbers from `first` to below `end` have proposed their streams, one after the other.
+fn drawn_anew(alloc: Global, first: u32, end: u32, steps: u32) -> Result<Board, Fail> {
+    let (_, mut board, start) = circle(alloc, TEAMS, ROOM)?;
+    for number in first..end {
+        propose_stream(&mut board, &start, number, steps);
+    }
+    Ok(board)
+}
+
 /// A run whose workers search one after the other.
 fn searched_in_turn<R: Threads + Wait + Sync>(
     rt: &R,
     alloc: Global,
     workers: u32,
-) -> Result<Outcome, Fail>
-    ensures { IfOk result (λ o. length o.reports ≡ workers) }
-{
-    let league = circular(alloc, TEAMS)?;
-    let board = board(alloc, TEAMS, ROOM)?;
+) -> Result<Outcome, Fail> {
     let line = Line {
         arrived: 0,
         next: 0,
@@ -113,10 +116,7 @@ fn searched_in_turn<R: Threads + Wait + Sync>(
         steps: STEPS,
         slack: u64::MAX,
     };
-    match run_with(rt, alloc, &gate, &league, board, plan) {
-        Ok(outcome) => Ok(outcome),
-        Err(refused) => Err(refused.why.into()),
-    }
+    searched_with(rt, alloc, &gate, TEAMS, ROOM, plan)
 }
 
 /// Each of so many workers is granted just the moves of its own stream that can be made.
@@ -126,14 +126,17 @@ fn expect_own_streams<R: Threads + Wait + Sync + Abort>(
     workers: u32,
 ) -> Result<(), Fail> {
     let outcome = searched_in_turn(rt, alloc, workers)?;
-    let mut expected = board(alloc, TEAMS, ROOM)?;
-    let start = expected.schedule().duplicate(alloc)?;
-    for number in 0..workers {
-        propose_stream(&mut expected, &start, number, STEPS);
-        assert!(rt; 1000 < outcome.reports.at(number as usize).accepted);
-    }
+    let expected = drawn_anew(alloc, 0, workers, STEPS)?;
     check_same_history(rt, &outcome.board, &expected);
+    check_many_accepted(rt, &outcome.reports, workers);
     Ok(())
+}
+
+fn check_many_accepted(rt: &impl Abort, reports: &Reports, workers: u32) {
+    assert_eq!(rt; reports.len(), workers as usize);
+    for i in 0..reports.len() {
+        assert!(rt; 1000 < reports.at(i).accepted);
+    }
 }
 
 #[test]
@@ -148,9 +151,7 @@ fn sixteen_workers_draw_from_their_own_streams(rt: HostRuntime) -> Result<(), Fa
 
 /// What a worker without others makes of a board.
 fn searched_alone(rt: &impl Wait, alloc: Global, number: u32, steps: u32) -> Result<Board, Fail> {
-    let league = circular(alloc, TEAMS)?;
-    let board = board(alloc, TEAMS, ROOM)?;
-    let mut copy = board.schedule().duplicate(alloc)?;
+    let (league, board, mut copy) = circle(alloc, TEAMS, ROOM)?;
     let mut door = OwnDoor {
         board,
         caller: number,
@@ -170,9 +171,7 @@ fn searched_alone(rt: &impl Wait, alloc: Global, number: u32, steps: u32) -> Res
 /// A worker without others is granted just the moves of its own stream that can be made.
 fn expect_own_stream<R: Wait + Abort>(rt: &R, alloc: Global, number: u32) -> Result<(), Fail> {
     let played = searched_alone(rt, alloc, number, 200)?;
-    let mut expected = board(alloc, TEAMS, ROOM)?;
-    let start = expected.schedule().duplicate(alloc)?;
-    propose_stream(&mut expected, &start, number, 200);
+    let expected = drawn_anew(alloc, number, number.saturating_add(1), 200)?;
     assert!(rt; 50 < played.version());
     check_same_history(rt, &played, &expected);
     Ok(())

@@ -50,13 +50,16 @@ fn expect_phased<R: Threads + Wait + Sync + Abort>(
     };
     let league = read_league(alloc, PHASED.as_bytes())?;
     let board = phased_board(alloc)?;
-    let outcome = match run(rt, alloc, &league, board, plan) {
-        Ok(outcome) => outcome,
-        Err(refused) => return Err(refused.why.into()),
-    };
-    let best = outcome.board.best().ok_or("a best")?;
+    match run(rt, alloc, &league, board, plan) {
+        Ok(outcome) => check_best(rt, &outcome.board),
+        Err(refused) => Err(refused.why.into()),
+    }
+}
+
+fn check_best(rt: &impl Abort, board: &Board) -> Result<(), Fail> {
+    let best = board.best().ok_or("a best")?;
     assert!(rt; best.total < 30, "{best:?}");
-    let schedule = outcome.board.best_schedule().ok_or("a schedule")?;
+    let schedule = board.best_schedule().ok_or("a schedule")?;
     assert!(rt; is_phased(schedule));
     Ok(())
 }

@@ -3,10 +3,11 @@
 ghost use Rattle.std.specs.Prelude.{◌≡◌, [], length, IfOk};
 
 use crate::boards::{board, check_end, check_replay, check_same_history};
+use crate::searches::{self, searched_with};
 use fixture_board::{Best, Board, Change, Entry};
 use league::{League, circular};
 use moves::Move;
-use search::{Gate, NoGate, Outcome, RunFault, SearchPlan, run, run_with};
+use search::{Gate, NoGate, Outcome, Reports, RunFault, SearchPlan, run};
 use std::alloc::Global;
 use std::hint::spin_loop;
 use std::process::Abort;
@@ -37,15 +38,9 @@ fn searched<R: Threads + Wait + Sync + Abort, G: Gate + Sync>(
 ) -> Result<Outcome, Fail>
     ensures { IfOk result (λ o. length o.reports ≡ plan.workers) }
 {
-    let league = circular(alloc, 4)?;
-    let board = board(alloc, 4, room)?;
-    match run_with(rt, alloc, gate, &league, board, plan) {
-        Ok(outcome) => {
-            check_replay(rt, alloc, &outcome.board)?;
-            Ok(outcome)
-        }
-        Err(refused) => Err(refused.why.into()),
-    }
+    let outcome = searched_with(rt, alloc, gate, 4, room, plan)?;
+    check_replay(rt, alloc, &outcome.board)?;
+    Ok(outcome)
 }
 
 /// Each of two workers waits at its first proposal until the other is at its own, or TURNS is over.
@@ -138,33 +133,32 @@ fn four_workers_fill_the_room_50_times(rt: HostRuntime) -> Result<(), Fail> {
 fn one_worker_does_the_same_twice(rt: HostRuntime) -> Result<(), Fail> {
     let one = searched(&rt, rt.alloc(), &NoGate, 1024, plan(1))?;
     let two = searched(&rt, rt.alloc(), &NoGate, 1024, plan(1))?;
-    assert_eq!(rt; one.reports.len(), 1);
-    assert_eq!(rt; two.reports.len(), 1);
-    assert!(rt; 0 < one.reports.at(0).accepted);
-    assert_eq!(rt; one.reports.at(0), two.reports.at(0));
+    check_same_report(&rt, &one.reports, &two.reports);
     check_same_history(&rt, &one.board, &two.board);
     Ok(())
+}
+
+/// Each has one report, and both the same, of a worker with accepted proposals.
+fn check_same_report(rt: &impl Abort, one: &Reports, two: &Reports) {
+    assert_eq!(rt; one.len(), 1);
+    assert_eq!(rt; two.len(), 1);
+    assert!(rt; 0 < one.at(0).accepted);
+    assert_eq!(rt; one.at(0), two.at(0));
 }
 
 /// Six proposals, each granted, are those of `asks 8 0 6 24 30 1024` of `scripts/worker-steps`, a program written apart. With
 /// another seed, slack, number of steps or number of the worker it prints others.
 #[test]
 fn a_worker_has_the_numbers_of_the_plan(rt: HostRuntime) -> Result<(), Fail> {
-    let league = circular(rt.alloc(), 6)?;
-    let board = board(rt.alloc(), 6, 1024)?;
     let plan = SearchPlan {
         workers: 1,
         seed: 8,
         steps: 24,
         slack: 30,
     };
-    match run(&rt, rt.alloc(), &league, board, plan) {
-        Ok(outcome) => {
-            let change = Change::Shift(Move::Rounds { k: 4, l: 3 });
-            check_end(&rt, &outcome.board, 6, Entry { caller: 0, change });
-        }
-        Err(refused) => return Err(refused.why.into()),
-    }
+    let outcome = searches::searched(&rt, rt.alloc(), 6, 1024, plan)?;
+    let change = Change::Shift(Move::Rounds { k: 4, l: 3 });
+    check_end(&rt, &outcome.board, 6, Entry { caller: 0, change });
     Ok(())
 }
 
@@ -177,11 +171,15 @@ fn no_steps_change_nothing(rt: HostRuntime) -> Result<(), Fail> {
         slack: 0,
     };
     let outcome = searched(&rt, rt.alloc(), &NoGate, 1024, plan)?;
+    check_nothing_changed(&rt, &outcome);
+    Ok(())
+}
+
+fn check_nothing_changed(rt: &impl Abort, outcome: &Outcome) {
     assert_eq!(rt; outcome.reports.len(), 2);
     assert_eq!(rt; outcome.reports.at(1).made, 0);
     assert_eq!(rt; outcome.board.version(), 0);
     assert_eq!(rt; outcome.board.best(), Some(Best { at: 0, total: 30 }));
-    Ok(())
 }
 
 #[test]
@@ -190,15 +188,26 @@ fn none_and_seventeen_workers_are_refused(rt: HostRuntime) -> Result<(), Fail> {
     let board = board(rt.alloc(), 4, 1024)?;
     let board = refused(&rt, rt.alloc(), &league, board, 0)?;
     let board = refused(&rt, rt.alloc(), &league, board, 17)?;
-    match run(&rt, rt.alloc(), &league, board, plan(2)) {
+    two_run(&rt, rt.alloc(), &league, board)
+}
+
+/// Two workers change the board.
+fn two_run<R: Threads + Wait + Sync + Abort>(
+    rt: &R,
+    alloc: Global,
+    league: &League,
+    board: Board,
+) -> Result<(), Fail>
+    requires { board.history ≡ [] }
+{
+    match run(rt, alloc, league, board, plan(2)) {
         Ok(outcome) => {
             assert_eq!(rt; outcome.reports.len(), 2);
             assert!(rt; 0 < outcome.board.version());
-            check_replay(&rt, rt.alloc(), &outcome.board)?;
+            check_replay(rt, alloc, &outcome.board)
         }
-        Err(refused) => return Err(refused.why.into()),
+        Err(refused) => Err(refused.why.into()),
     }
-    Ok(())
 }
 
 /// The board that comes back where there are none or too many workers.

@@ -1,12 +1,12 @@
 //! What a worker asks of its board, step by step. The expected lines are those of `scripts/worker-steps`.
 
-use crate::boards::board;
+use crate::boards::circle;
 use crate::recorder::{Passed, Recorder};
-use fixture_board::Change;
-use fixtures::Game;
-use league::circular;
+use fixture_board::{Board, Change};
+use fixtures::{Game, Schedule};
+use league::League;
 use moves::Move;
-use search::{LockedDoor, WorkerPlan, worker};
+use search::{LockedDoor, Report, WorkerPlan, worker};
 use std::alloc::Global;
 use std::fmt::Write;
 use std::process::Abort;
@@ -225,18 +225,37 @@ const FULL: Scene = Scene {
 
 /// Has the worker of a scene search a board of a league in a circle.
 fn expect<R: Abort + Wait>(rt: &R, alloc: Global, scene: &Scene) -> Result<(), Fail> {
-    let league = circular(alloc, scene.teams)?;
-    let board = board(alloc, scene.teams, scene.room)?;
-    let mut copy = board.schedule().duplicate(alloc)?;
+    let (league, board, mut copy) = circle(alloc, scene.teams, scene.room)?;
     let board = Mutex::new(board);
     let log = Mutex::new(String::new(alloc));
+    let report = recorded(rt, scene, &league, &board, &log, &mut copy);
+    let mut text = log.into_inner();
+    let Report {
+        made,
+        accepted,
+        refused,
+    } = report;
+    writeln!(text, "report {made} {accepted} {refused}")?;
+    assert_eq!(rt; text.as_str(), scene.lines);
+    Ok(())
+}
+
+/// Has the worker of a scene search the board, and writes down what it does.
+fn recorded<R: Wait>(
+    rt: &R,
+    scene: &Scene,
+    league: &League,
+    board: &Mutex<Board>,
+    log: &Mutex<String>,
+    copy: &mut Schedule,
+) -> Report {
     let mut door = Recorder {
         door: LockedDoor {
-            board: &board,
+            board,
             caller: 3,
             dones: 0,
         },
-        log: &log,
+        log,
         calls: 0,
         change: scene.change,
     };
@@ -246,22 +265,7 @@ fn expect<R: Abort + Wait>(rt: &R, alloc: Global, scene: &Scene) -> Result<(), F
         steps: scene.steps,
         slack: scene.slack,
     };
-    let report = worker(
-        rt,
-        &mut door,
-        &Passed { log: &log },
-        &league,
-        plan,
-        &mut copy,
-    );
-    let mut text = log.into_inner();
-    writeln!(
-        text,
-        "report {} {} {}",
-        report.made, report.accepted, report.refused
-    )?;
-    assert_eq!(rt; text.as_str(), scene.lines);
-    Ok(())
+    worker(rt, &mut door, &Passed { log }, league, plan, copy)
 }
 
 #[test]

@@ -1,8 +1,7 @@
 //! What a gate is told of a run.
 
-use crate::boards::board;
-use league::circular;
-use search::{Gate, Progress, SearchPlan, run_with};
+use crate::searches::searched_with;
+use search::{Gate, Progress, SearchPlan};
 use std::alloc::Global;
 use std::fmt::Write;
 use std::sync::{Mutex, Wait};
@@ -39,7 +38,6 @@ impl Gate for Listener<'_> {
 
 /// What a gate is told of a run of one worker on a board of eight teams.
 fn told<R: Threads + Wait + Sync>(rt: &R, alloc: Global, steps: u32) -> Result<String, Fail> {
-    let league = circular(alloc, 8)?;
     let log = Mutex::new(String::new(alloc));
     let gate = Listener { log: &log };
     let plan = SearchPlan {
@@ -48,11 +46,8 @@ fn told<R: Threads + Wait + Sync>(rt: &R, alloc: Global, steps: u32) -> Result<S
         steps,
         slack: 10,
     };
-    let board = board(alloc, 8, 20_000)?;
-    match run_with(rt, alloc, &gate, &league, board, plan) {
-        Ok(_) => Ok(log.into_inner()),
-        Err(refused) => Err(refused.why.into()),
-    }
+    searched_with(rt, alloc, &gate, 8, 20_000, plan)?;
+    Ok(log.into_inner())
 }
 
 /// The versions and totals are those of `scripts/worker-steps asks 4 0 8 12300 10 20000`.

@@ -1,3 +1,4 @@
+use Rattle.std.proofs.lemmas.Grind.{common_steps}
 use Rattle.std.proofs.Common.{◌≡◌, true, arith, rules}
 use Rattle.streams.proofs.Pieces.{Adds-delivers, Stops-delivers}
 use Rattle.texts.proofs.ForCallers.{front_at}
@@ -12,3 +13,24 @@ pub returns-clause-front : goal.returns-clause-front
 returns-clause-front g c =
     let stands : c.args.self.now.shown ≡ true = search rules in
     rw stands (front_at g.W.Sink.held _ _ _ _ _ (Adds-delivers c.new-out.ensures c.in_ok-write_clear.ensures.ok c.flush.ensures.writes c.flush.ensures.waiting).prefix (grind arith))
+
+pub returns-then-not-self-clause-ok : goal.returns-then-not-self-clause-ok
+returns-then-not-self-clause-ok g c = search rules
+
+pub returns-then-not-self-clause-front : goal.returns-then-not-self-clause-front
+returns-then-not-self-clause-front g c = search rules
+
+pub returns-then-not-self-clause-shown : goal.returns-then-not-self-clause-shown
+returns-then-not-self-clause-shown g c = search rules
+
+pub returns-in_err-write_clear-clause-ok : goal.returns-in_err-write_clear-clause-ok
+returns-in_err-write_clear-clause-ok g c = search rules
+
+pub returns-in_err-write_clear-clause-shown : goal.returns-in_err-write_clear-clause-shown
+returns-in_err-write_clear-clause-shown g c = search rules
+
+pub returns-clause-ok : goal.returns-clause-ok
+returns-clause-ok g c = grind (arith, common_steps)
+
+pub returns-clause-shown : goal.returns-clause-shown
+returns-clause-shown g c = search rules
