@@ -1,5 +1,5 @@
 -- The line that tells on a terminal how far a search is.
-use Rattle.std.specs.Prelude.{ℕ, ◌+◌, ◌-◌, ◌/◌, ◌^◌, min, max, nat_le, if◌then◌else◌, Bool, true, false, List, [], Option, Some, None}
+use Rattle.std.specs.Prelude.{ℕ, ◌+◌, ◌-◌, ◌*◌, ◌/◌, ◌^◌, min, max, nat_le, nat_lt, if◌then◌else◌, Bool, true, false, List, [], Option, Some, None}
 use Rattle.std.specs.Time.{instant_nanos}
 use Rattle.std.specs.declared.time.Instant.{Instant}
 use Rattle.search.specs.declared.gates.Progress.{Progress}
@@ -20,15 +20,33 @@ reached_with r p = record {
   least = lesser r.least p.least;
 }
 
+-- the milliseconds from one time to another
+abbrev pub millis : Instant → Instant → ℕ
+millis before now = (instant_nanos now - instant_nanos before) / 1_000_000
+
 -- a quarter of a second has passed since a line was written or first asked for
 abbrev pub is_due : Option Instant → Instant → Bool
 is_due None now = false
-is_due (Some last) now = nat_le 250 ((instant_nanos now - instant_nanos last) / 1_000_000)
+is_due (Some last) now = nat_le 250 (millis last now)
 
 -- when a line was last written or first asked for, after one more time
 abbrev pub last_after : Option Instant → Instant → Option Instant
 last_after None now = Some now
 last_after (Some last) now = if is_due (Some last) now then Some now else Some last
+
+-- the time that was noted, or this one where there was none
+abbrev pub first : Option Instant → Instant → Option Instant
+first None now = Some now
+first (Some noted) now = Some noted
+
+-- after how many steps a worker tells, where it told after so many before. Less than 8 milliseconds since the last telling double
+-- it, up to 4096; more than 64 halve it
+abbrev pub pause_after : ℕ → Option Instant → Instant → ℕ
+pause_after pause None now = pause
+pause_after pause (Some told) now =
+  if nat_lt (millis told now) 8 then min pause 2048 * 2
+  else if nat_lt 64 (millis told now) then max (pause / 2) 1
+  else pause
 
 -- what takes the line away where one stands
 abbrev pub line_to_clear : Bool → List ℕ

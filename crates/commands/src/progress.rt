@@ -4,9 +4,10 @@ ghost use Rattle.std.specs.Prelude.{◌≡◌, OnOk, OnErr, Some, true, false};
 ghost use Rattle.std.specs.Io.KnownBytes.{Appends};
 ghost use Rattle.streams.specs.Sending.{AppendsFront};
 ghost use Rattle.texts.specs.SearchText.{progress_line};
-ghost use Rattle.commands.specs.Progress.{is_due, last_after, line_to_clear, reached_with};
+ghost use Rattle.commands.specs.Progress.{first, is_due, last_after, line_to_clear, pause_after, reached_with};
 
 use search::{Gate, Progress, SearchPlan};
+use std::sync::atomic::{AtomicU32, Ordering};
 use std::sync::{Mutex, Wait};
 use std::time::{Clock, Instant};
 use streams::{BufferedSink, Sink, WriteFault};
@@ -14,6 +15,15 @@ use texts::{write_clear, write_progress};
 
 /// How many milliseconds pass between two lines.
 const PAUSE: u128 = 250;
+
+/// Where fewer milliseconds passed between two tellings, the workers tell half as often.
+const SOON: u128 = 8;
+
+/// Where more passed, they tell twice as often.
+const LATE: u128 = 64;
+
+/// The most steps between two tellings of a worker.
+const MOST_STEPS: u32 = 4096;
 
 /// Writes on a terminal how many steps the workers took, the latest version that one of them has, and the least total that
 /// they told of. The line is written a few times a second, each over the one before, and taken away when the workers have
@@ -23,6 +33,8 @@ pub struct ProgressLine<'a, C, W> {
     clock: &'a C,
     reached: Mutex<Reached>,
     line: Mutex<Line<W>>,
+    /// The line's pause, which workers read at each step.
+    pause: AtomicU32,
 }
 
 impl<'a, C: Clock, W: Sink> ProgressLine<'a, C, W> {
@@ -37,12 +49,15 @@ impl<'a, C: Clock, W: Sink> ProgressLine<'a, C, W> {
             terminal,
             all: u64::from(plan.workers) * u64::from(plan.steps),
             last: None,
+            told: None,
+            pause: 1,
             shown: false,
         };
         ProgressLine {
             clock,
             reached: Mutex::new(reached),
             line: Mutex::new(line),
+            pause: AtomicU32::new(1),
         }
     }
 }
@@ -52,6 +67,16 @@ impl<C: Clock, W: Sink> Gate for ProgressLine<'_, C, W> {
 
     fn left<R: Wait>(&self, _rt: &R, _worker: u32, _made: u32) {}
 
+    fn begun<R: Wait>(&self, rt: &R, _worker: u32) {
+        if let Ok(now) = Instant::now(self.clock) {
+            self.line.lock(rt).begin(now);
+        }
+    }
+
+    fn pause(&self) -> u32 {
+        self.pause.load(Ordering::SeqCst)
+    }
+
     fn told<R: Wait>(&self, rt: &R, _worker: u32, progress: Progress) {
         self.reached.lock(rt).add(progress);
         let Some(mut line) = self.line.try_lock() else {
@@ -60,6 +85,8 @@ impl<C: Clock, W: Sink> Gate for ProgressLine<'_, C, W> {
         let Ok(now) = Instant::now(self.clock) else {
             return;
         };
+        line.pace(now);
+        self.pause.store(line.pause, Ordering::SeqCst);
         if line.is_due(now) {
             let reached = *self.reached.lock(rt);
             // a terminal that takes no line shows none, and the search goes on
@@ -102,10 +129,37 @@ struct Line<W> {
     all: u64,
     /// When the line was written last or, before the first one, was first asked for.
     last: Option<Instant>,
+    /// When a worker last told.
+    told: Option<Instant>,
+    /// After how many steps a worker tells.
+    pause: u32,
     shown: bool,
 }
 
 impl<W: Sink> Line<W> {
+    /// Notes when the first worker began.
+    fn begin(&mut self, now: Instant)
+        ensures { self.new ≡ record self.old { last = first self.old.last now; told = first self.old.told now } }
+    {
+        self.last = self.last.or(Some(now));
+        self.told = self.told.or(Some(now));
+    }
+
+    /// Has the workers tell some hundred times a second at most, and a few times where a step takes long.
+    fn pace(&mut self, now: Instant)
+        ensures { self.new ≡ record self.old { pause = pause_after self.old.pause self.old.told now; told = Some now } }
+    {
+        if let Some(told) = self.told {
+            let passed = now.duration_since(told).as_millis();
+            if passed < SOON {
+                self.pause = self.pause.min(MOST_STEPS / 2) * 2;
+            } else if LATE < passed {
+                self.pause = (self.pause / 2).max(1);
+            }
+        }
+        self.told = Some(now);
+    }
+
     /// Whether the line is to be written now. Notes the time where it is, or is asked for the first time.
     fn is_due(&mut self, now: Instant) -> bool
         ensures due { result ≡ is_due self.old.last now }

@@ -84,6 +84,39 @@ fn tell_all<R: Wait, C: Clock, W: Sink>(rt: &R, line: &ProgressLine<'_, C, W>) {
     line.ended(rt);
 }
 
+/// The pauses of a line after each of so many tellings.
+fn pauses<C: Clock>(rt: &impl Wait, clock: &C, tellings: usize) -> [u32; 4] {
+    let mut room = [0; 1000];
+    let line = ProgressLine::new(clock, MemorySink::new(&mut room), PLAN);
+    let progress = Progress {
+        steps: 1,
+        version: 0,
+        least: None,
+    };
+    let mut pauses = [0; 4];
+    line.begun(rt, 0);
+    for told in 0..tellings {
+        line.told(rt, 0, progress);
+        pauses[told % 4] = line.pause();
+    }
+    pauses
+}
+
+/// Where tellings follow each other by less than 8 milliseconds they become half as many, down to one in 4,096 steps.
+#[test]
+fn quick_steps_are_told_by_thousands(rt: HostRuntime) {
+    assert_eq!(rt; pauses(&rt, &Ticks::new(7), 4), [2, 4, 8, 16]);
+    assert_eq!(rt; pauses(&rt, &Ticks::new(7), 12), [512, 1024, 2048, 4096]);
+    assert_eq!(rt; pauses(&rt, &Ticks::new(7), 16), [4096; 4]);
+}
+
+#[test]
+fn slow_steps_are_told_one_by_one(rt: HostRuntime) {
+    assert_eq!(rt; pauses(&rt, &Ticks::new(8), 4), [1; 4]);
+    assert_eq!(rt; pauses(&rt, &Ticks::new(64), 4), [1; 4]);
+    assert_eq!(rt; pauses(&rt, &Ticks::new(65), 4), [1; 4]);
+}
+
 /// The first reading begins the time, so each later one writes a line where the clock goes on by 250 milliseconds.
 #[test]
 fn line_is_written_each_quarter_of_a_second(rt: HostRuntime) {
@@ -159,8 +192,8 @@ fn line_comes_again_after_a_failed_write(rt: HostRuntime) {
 
 const PLAN_OF_ONE: SearchPlan = SearchPlan {
     workers: 1,
-    seed: 3,
-    steps: 12_300,
+    seed: 1,
+    steps: 4,
     slack: 4,
 };
 
@@ -188,7 +221,7 @@ fn searched<T: Threads + Wait + Sync, W: Sink + Send + Drop>(
     Ok(Vec::from_slice(alloc, sink.held())?)
 }
 
-/// The versions and totals are those of `scripts/worker-steps asks 3 0 4 12300 4 100000`.
+/// Each step takes a second. The versions and totals are those of `PAUSE=1 scripts/worker-steps asks 1 0 4 4 4 100000`.
 #[test]
 fn search_shows_its_line_and_takes_it_away(rt: HostRuntime) -> Result<(), Fail> {
     let mut room = [0; 1000];
@@ -199,8 +232,10 @@ fn search_shows_its_line_and_takes_it_away(rt: HostRuntime) -> Result<(), Fail> 
     let source = MemorySource::new(CIRCLE.as_bytes());
     find(&rt, rt.alloc(), source, &mut sink, 100_000, PLAN_OF_ONE)?;
     assert!(rt; sink.held() == text.as_slice());
-    let expected = b"\r\x1b[Ksteps 8192 of 12300 version 2502 best 20\
-        \r\x1b[Ksteps 12288 of 12300 version 3055 best 20\
+    let expected = b"\r\x1b[Ksteps 1 of 4 version 0 best 30\
+        \r\x1b[Ksteps 2 of 4 version 0 best 30\
+        \r\x1b[Ksteps 3 of 4 version 1 best 26\
+        \r\x1b[Ksteps 4 of 4 version 2 best 26\
         \r\x1b[K";
     assert_eq!(rt; terminal.held(), expected.as_slice());
     Ok(())

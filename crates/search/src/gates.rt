@@ -2,6 +2,9 @@
 
 use std::sync::Wait;
 
+/// After how many steps a worker tells a gate that doesn't say so.
+const STEPS_TO_TELL: u32 = 4096;
+
 /// How far a worker is.
 #[derive(Clone, Copy)]
 pub struct Progress {
@@ -22,7 +25,15 @@ pub trait Gate {
     /// After its reply.
     fn left<R: Wait>(&self, rt: &R, worker: u32, made: u32);
 
-    /// After each 4,096 steps of the worker.
+    /// Before the first step of a worker.
+    fn begun<R: Wait>(&self, _rt: &R, _worker: u32) {}
+
+    /// After how many steps a worker is to tell. It is asked after each step.
+    fn pause(&self) -> u32 {
+        STEPS_TO_TELL
+    }
+
+    /// When the worker took so many steps, or more, since it last told.
     fn told<R: Wait>(&self, _rt: &R, _worker: u32, _progress: Progress) {}
 
     /// When all workers of a run have ended.

@@ -14,9 +14,6 @@ use rand_pcg::Lcg64Xsh32;
 use std::sync::Wait;
 use steps::{Told, Trial, least_with, refresh, step};
 
-/// After how many steps a worker tells the gate how far it is.
-const STEPS_TO_TELL: u32 = 4096;
-
 /// What a worker is to do.
 #[derive(Clone, Copy, Debug, PartialEq, Eq)]
 pub struct WorkerPlan {
@@ -68,7 +65,12 @@ pub fn worker<R: Wait, D: Door, G: Gate>(
     if copy.teams() == teams {
         let mut generator = Lcg64Xsh32::new(plan.seed, u64::from(plan.worker));
         let mut known = refresh(rt, door, league, copy);
-        let mut least = least_with(None, known.cost);
+        let mut progress = Progress {
+            steps: 0,
+            version: known.version,
+            least: least_with(None, known.cost),
+        };
+        gate.begun(rt, plan.worker);
         for s in 0..plan.steps {
             let trial = Trial {
                 worker: plan.worker,
@@ -80,7 +82,7 @@ pub fn worker<R: Wait, D: Door, G: Gate>(
                 Told::Nothing => {}
                 Told::Accepted(cost) => {
                     accepted += 1;
-                    least = least_with(least, cost);
+                    progress.least = least_with(progress.least, cost);
                 }
                 Told::Refused => refused += 1,
                 Told::Full => {
@@ -88,9 +90,8 @@ pub fn worker<R: Wait, D: Door, G: Gate>(
                     break;
                 }
             }
-            if (s + 1) % STEPS_TO_TELL == 0 {
-                tell(rt, gate, plan.worker, known.version, least);
-            }
+            progress.version = known.version;
+            tell(rt, gate, plan.worker, &mut progress);
         }
     }
     Report {
@@ -100,15 +101,13 @@ pub fn worker<R: Wait, D: Door, G: Gate>(
     }
 }
 
-/// Tells the gate how far the worker is.
-fn tell<R: Wait, G: Gate>(rt: &R, gate: &G, worker: u32, version: u64, least: Option<u64>) {
-    let steps = STEPS_TO_TELL;
-    let progress = Progress {
-        steps,
-        version,
-        least,
-    };
-    gate.told(rt, worker, progress);
+/// Counts a step, and tells the gate how far the worker is where its pause is over.
+fn tell<R: Wait, G: Gate>(rt: &R, gate: &G, worker: u32, progress: &mut Progress) {
+    progress.steps = progress.steps.saturating_add(1);
+    if gate.pause() <= progress.steps {
+        gate.told(rt, worker, *progress);
+        progress.steps = 0;
+    }
 }
 
 /// The slack of a step, from 0.
