@@ -19,7 +19,7 @@ use Rattle.shared_board.specs.Setting.{Setting, board_at}
 use Rattle.shared_board.specs.Stage.{away, holds, kept}
 use Rattle.shared_board.specs.Held.{times, once_below, under, HoldsEach, callers_below}
 use Rattle.shared_board.specs.Rule.{Knows}
-use Rattle.shared_board.specs.Plays.{Place, Meets, Took, Counted, Parted, counting, drawing, drawer, newcomer, joined, longer, saw, at_stage, on_board}
+use Rattle.shared_board.specs.Plays.{Place, Meets, Took, Counted, Parted, counting, drawing, newcomer, joined, longer, saw, at_stage, on_board}
 use Rattle.shared_board.specs.Seats.{BoardId, SeatValue, seat_value, IsIdle, IsSeat, IsConsistent, Met, Answered, IsNew, Absorbed}
 use Rattle.shared_board.specs.Ending.{IsSeatAfter, IsOfBoth, BroughtOut, HoldsBelow}
 use Rattle.shared_board.specs.Judging.{IsJudged}
@@ -175,16 +175,9 @@ pub record Read (me taken counted : Place) (r : ℕ) : Type 0 where
 read_taken : (me taken counted : Place) (r : ℕ) (a : Read me taken counted r) → taken.0 ≡ at_stage me.0 (holds a.took.0)
 read_taken me taken counted r a = ap (λ (m : Place). m.0) a.took.2
 
--- the seat, once it has read how many numbers are given out, and once it has drawn one more
-abbrev pub read_view : View → ℕ → View
-read_view v r = record v { given = r; stage = away }
-
+-- the seat, once it has drawn one more
 abbrev pub drawn_view : View → ℕ → View
 drawn_view v r = record v { held = r ∷ v.held; given = r + 1; stage = away }
-
-pub read_away : (me taken counted : Place) (r : ℕ) (a : Read me taken counted r) → at_stage counted.0 away ≡ read_view me.0 r
-read_away me taken counted r a =
-    ap (λ (m : Place). at_stage m.0 away) a.count.now ∙ ap (λ (v : View). at_stage (counting v r) away) (read_taken me taken counted r a)
 
 pub drawn_away : (me taken counted : Place) (r : ℕ) (a : Read me taken counted r) → at_stage (drawing counted.0) away ≡ drawn_view me.0 r
 drawn_away me taken counted r a =
@@ -193,9 +186,6 @@ drawn_away me taken counted r a =
 read_later : (me taken counted : Place) (r : ℕ) → Read me taken counted r → me.0.given ≤ r
 read_later me taken counted r a =
     let P : View → Type 0 = λ v. v.given ≤ r in subst P (read_taken me taken counted r a) a.count.grown
-
-read_some : (me taken counted : Place) (r : ℕ) → Read me taken counted r → 0 < me.0.given → 0 < taken.0.given
-read_some me taken counted r a some_given = let P : View → Type 0 = λ v. 0 < v.given in subst P (sym (read_taken me taken counted r a)) some_given
 
 -- its own number is its own still
 pub read_own : (me taken counted : Place) (r number : ℕ) → Read me taken counted r → 0 < times number me.0.held → 0 < times number counted.0.held
@@ -212,36 +202,6 @@ read_none me taken counted r a =
     let k = a.took.1.knows in
     let Q : List Entry → Type 0 = λ l. callers_below r l in
     under_none (r ∷ []) r me.0.seen (callers_front r me.0.seen k.after (subst Q k.begins all)) (λ x less. times_own r x less)
-
--- the seat that has read the count, whether it gave a number away or not
-seat_at : (me : Place) (v : View) (g number held seen accepted : ℕ) → IsSeat me number held seen accepted → me.0.given ≤ g → v ≡ record me.0 { given = g; parts = v.parts; stage = away }
-    → IsSeat (v, []) number held seen accepted
-seat_at me v g number held seen accepted seat later is =
-    let P : View → Type 0 = λ w. IsSeat (w, []) number held seen accepted in
-    subst P (sym is) (record {
-      idle = record { live = seat.idle.live; away_is = refl; no_slot = refl };
-      own = seat.own;
-      single = seat.single;
-      count = seat.count;
-      long = seat.long;
-      entries = seat.entries;
-      below = λ x le. seat.below x (omega arith);
-      ahead = seat.ahead;
-    })
-
-pub read_seat : (me taken counted done : Place) (r number held seen accepted : ℕ) → IsSeat me number held seen accepted → Read me taken counted r → done ≡ (at_stage counted.0 away, [])
-    → IsSeat done number held seen accepted
-read_seat me taken counted done r number held seen accepted seat a is =
-    let P : Place → Type 0 = λ m. IsSeat m number held seen accepted in
-    subst P (sym (is ∙ ap (λ (v : View). (v, [])) (read_away me taken counted r a))) (seat_at me (read_view me.0 r) r number held seen accepted seat (read_later me taken counted r a) refl)
-
-pub drawer_seat : (me taken counted drawn done : Place) (r number held seen accepted : ℕ) → IsSeat me number held seen accepted → Read me taken counted r
-    → drawn ≡ (at_stage (drawing counted.0) away, []) → done ≡ (drawer drawn.0, drawn.1) → IsSeat done number held seen accepted
-drawer_seat me taken counted drawn done r number held seen accepted seat a is given_is =
-    let P : Place → Type 0 = λ m. IsSeat m number held seen accepted in
-    let later = read_later me taken counted r a in
-    subst P (sym (given_is ∙ ap (λ (m : Place). (drawer m.0, m.1)) (is ∙ ap (λ (v : View). (v, [])) (drawn_away me taken counted r a))))
-    (seat_at me (drawer (drawn_view me.0 r)) (r + 1) number held seen accepted seat (omega arith) refl)
 
 -- the view of the new seat
 abbrev new_view : View → ℕ → View
@@ -372,12 +332,12 @@ brought_out me taken counted r b nothing some_given below t count found =
     let c = has_board me taken counted r t count nothing in
     let K : Place → Type 0 = λ m. callers_below r (kept m.0.stage) in
     let O : Place → Type 0 = λ m. (x : ℕ) → times x m.0.held ≤ once_below x r in
-    let A : Place → Type 0 = λ m. HoldsEach m.0.given m.0.held → m.0.given ≡ r in
+    let A : Place → Type 0 = λ m. 0 < m.0.given → HoldsEach m.0.given m.0.held → m.0.given ≡ r in
     record {
       history = h;
       met = t.1;
       board_is = ap (in_hand b) (sym found ∙ c);
       all = all_alike me.0.given r me.0.held (read_later me taken counted r (record { took = t; count = count })) (λ x. once_within x me.0.given (times x me.0.held) (t.1.single x) (below x))
-          (subst A t.2 (count.all (read_some me taken counted r (record { took = t; count = count }) some_given)));
+          (subst A t.2 count.all some_given);
       whole = λ all. whole_seen me.0 h r t.1 (subst K t.2 count.callers) (subst O t.2 count.own) all;
     }

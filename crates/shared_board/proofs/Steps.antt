@@ -12,7 +12,7 @@ use Rattle.fixture_board.specs.Record.{Book}
 use Rattle.league.specs.League.{IsLeague}
 use Rattle.shared_board.specs.declared.view.View.{View}
 use Rattle.shared_board.specs.Setting.{Setting, board_at}
-use Rattle.shared_board.specs.Stage.{Stage, away}
+use Rattle.shared_board.specs.Stage.{away}
 use Rattle.shared_board.specs.Held.{times, once_below, total, HoldsEach, callers_below}
 use Rattle.shared_board.specs.Rule.{Fits, upto, IsHolder, IsFree, IsHeld, IsDrawn, Ruled}
 use Rattle.shared_board.specs.Between.{Table}

@@ -82,7 +82,7 @@ impl Model for Seat {
 }
 
 impl Seat {
-    /// The number under which its changes stand in the history.
+    /// The number under which its changes stand in the history. The call tells a proof what holds of every seat.
     pub fn number(&self) -> u32
         ensures value { result ≡ self.now.number }
         ensures seat { IsConsistent self.now }
