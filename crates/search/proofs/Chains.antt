@@ -7,7 +7,7 @@ use Rattle.std.proofs.lemmas.List.{get_or_append_left, map-append}
 use Rattle.std.proofs.lemmas.List.Elements.{All-push, All-same, All-weaker}
 use mathlib.Core.Logic.{dite}
 use native.Mathlib.Decide.{ℕ_discrete}
-use Rattle.shared_board.specs.Seats.{BoardId, SeatValue, IsNew}
+use Rattle.shared_board.specs.Seats.{BoardId, SeatValue, IsNew, given_at}
 use Rattle.shared_board.specs.Setting.{Setting}
 use Rattle.search.specs.declared.runs.threads.Job.{Job}
 use Rattle.search.specs.Crews.{IsFresh, IsJob, job_number}
@@ -46,8 +46,12 @@ fresh_next table a b fresh new = record {
   table_is = ap (λ (s : SeatValue). s.table) new.now ∙ fresh.table_is;
   held = ap (λ (s : SeatValue). s.held) new.now;
   seen = ap (λ (s : SeatValue). s.seen) new.now ∙ fresh.seen;
-  given = ap (λ (s : SeatValue). s.given) new.now;
+  given = omega (arith, ap (λ (s : SeatValue). s.given) new.now);
 }
+
+-- and the old one stays so
+fresh_still : (table : BoardId) (a b : SeatValue) → IsFresh table a → IsNew a b → IsFresh table (given_at a (b.number + 1))
+fresh_still table a b fresh new = record { table_is = fresh.table_is; held = fresh.held; seen = fresh.seen; given = omega (arith, fresh.given, new.later) }
 
 -- the first of what is left comes to the end of what is done
 pub numbers_more : (done done' left left' all : List ℕ) (n m : ℕ) → done' ≡ done ++ n ∷ [] → left ≡ m ∷ left' → n ≡ m → done ++ left ≡ all → done' ++ left' ≡ all
@@ -57,7 +61,7 @@ numbers_more done done' left left' all n m one_more one_less same is =
 
 -- one more job gets the seat, and the run the one that was split from it
 pub chain_more : (table : BoardId) (setting : Setting) (jobs jobs' : List Job) (job : Job) (a b own : SeatValue) →
-    IsChain table setting jobs a → IsNew a b → own ≡ b → jobs' ≡ jobs ++ job ∷ [] → job.seat ≡ a → IsChain table setting jobs' own
+    IsChain table setting jobs a → IsNew a b → own ≡ b → jobs' ≡ jobs ++ job ∷ [] → job.seat ≡ given_at a (b.number + 1) → IsChain table setting jobs' own
 chain_more table setting jobs jobs' job a b own was new own_is items given =
     let fresh = was.fresh in
     let later = new.later in
@@ -73,7 +77,7 @@ chain_more table setting jobs jobs' job a b own was new own_is items given =
       fresh = fresh_next table a b was.fresh new;
       setting_is = ap (λ (s : SeatValue). s.setting) new.now ∙ was.setting_is;
       jobs_are = All-same (IsJob table) jobs' (jobs ++ job ∷ []) items
-          (All-push (IsJob table) jobs job was.jobs_are (subst Fresh (sym given) was.fresh));
+          (All-push (IsJob table) jobs job was.jobs_are (subst Fresh (sym given) (fresh_still table a b was.fresh new)));
       rising = subst Rises (sym numbers) (increasing_push (map job_number jobs) a.number was.rising was.below);
       below = subst Below (sym numbers) (below_push (map job_number jobs) a.number b.number was.below rises);
     })

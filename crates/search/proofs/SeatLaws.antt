@@ -34,14 +34,14 @@ told_counted held league h e next (No at why) once told =
     let p = told.0 in omega (arith, ap (under held) p)
 
 -- a proposal counts once where it is granted
-pub answered_counted : (a b : SeatValue) (ask : Ask) (reply : Reply) → times a.number a.held ≡ 1 → Answered a b ask reply → under b.held b.seen ≡ under a.held a.seen + done_count reply
-answered_counted a b ask reply once l =
+pub answered_counted : (a b : SeatValue) (ask : Ask) (reply : Reply) → Answered a b ask reply → under b.held b.seen ≡ under a.held a.seen + done_count reply
+answered_counted a b ask reply l =
     let league = a.setting.league in
     let next = next_of league a.setting.room l.history a.number ask in
     let P : Reply → Type 0 = λ r. under a.held next ≡ under a.held l.history + done_count r in
     let told : under a.held next ≡ under a.held l.history + done_count reply =
     subst P (sym l.replied)
-    (told_counted a.held league l.history (entry a.number ask) next (reply_of league a.setting.room l.history ask) once
+    (told_counted a.held league l.history (entry a.number ask) next (reply_of league a.setting.room l.history ask) l.seat.own
     (tells_of_reply league a.setting.room l.history a.number ask))
     in
     let known = under_known a.held a.seen l.history l.met.knows in

@@ -1,5 +1,5 @@
 -- The parts of a run, as its own functions hand them on: memory, seats, jobs and threads.
-use Rattle.std.specs.Prelude.{◌≡◌, ℕ, ◌+◌, ◌≤◌, [], ◌∷◌, Bool, IsTrue, map, All, Vec, vec_len, vec_capacity}
+use Rattle.std.specs.Prelude.{◌≡◌, ℕ, ◌+◌, ◌<◌, ◌≤◌, [], ◌∷◌, Bool, IsTrue, map, All, Vec, vec_len, vec_capacity}
 use Rattle.std.specs.declared.alloc.Global.{Global}
 use Rattle.std.specs.declared.thread.PromisedHandle.{PromisedHandle}
 use Rattle.shared_board.specs.Held.{under}
@@ -21,12 +21,12 @@ pub record HasRoom (workers : ℕ) (c : Crew) : Type 0 where
   pub no_report : c.reports.items ≡ []
   pub reports : workers ≤ vec_capacity c.reports
 
--- a seat that has seen nothing, and holds its own number alone
+-- a seat that has seen nothing, holds its own number alone, and knows that it is given out
 pub record IsFresh (table : BoardId) (s : SeatValue) : Type 0 where
   pub table_is : s.table ≡ table
   pub held : s.held ≡ s.number ∷ []
   pub seen : s.seen ≡ []
-  pub given : s.given ≡ s.number + 1
+  pub given : s.number < s.given
 
 abbrev pub IsJob : BoardId → Job → Type 0
 IsJob table j = IsFresh table j.seat

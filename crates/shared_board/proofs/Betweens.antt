@@ -11,15 +11,16 @@ use Rattle.fixture_board.specs.History.{IsLegal, IsBestOf, best_prefix}
 use Rattle.fixture_board.specs.Laws.{least_of, IsSound}
 use Rattle.fixture_board.specs.Record.{Book}
 use Rattle.shared_board.specs.declared.view.View.{View}
+use Rattle.shared_board.specs.Setting.{Setting}
 use Rattle.shared_board.specs.Stage.{Stage, away, holds, counts, owes}
 use Rattle.shared_board.specs.Held.{times, callers_below}
-use Rattle.shared_board.specs.Rule.{Fits, upto, Added, IsHolder, Ruled}
-use Rattle.shared_board.specs.Between.{Table, IsThere, IsHome, Behind, OneHolds, Between, turn_word, best_word, numbers_word}
+use Rattle.shared_board.specs.Rule.{Lowest, Fits, upto, Added, IsHolder, Ruled}
+use Rattle.shared_board.specs.Between.{Table, IsThere, IsHome, IsExact, IsBehind, IsInTurn, OneHolds, Between, turn_word, numbers_word}
 use Rattle.shared_board.specs.Fixtures.{HasFixtures}
 use Rattle.shared_board.proofs.BoardLaws.{games_are, cost_is, best_of_is}
 use Rattle.shared_board.proofs.Counts.{once_most, held_below}
 use Rattle.shared_board.proofs.Views.{fits_at, fits_more}
-use Rattle.shared_board.proofs.Steps.{held_once}
+use Rattle.shared_board.proofs.Steps.{held_once, knows_all_numbers}
 use Rattle.shared_board.proofs.Turns.{held_alone}
 
 holder_upto : (posted history : List Entry) (numbers : ℕ) (held : List ℕ) (given : ℕ) (t : Stage) → IsHolder posted history numbers held given t → upto t posted history ≡ history
@@ -35,11 +36,15 @@ holder_posted posted history numbers held given (holds h) holder = inl holder.1
 holder_posted posted history numbers held given (counts h) holder = inl holder.1
 holder_posted posted history numbers held given (owes before h) holder = inr holder.2
 
-holder_in_turn : (posted history : List Entry) (numbers : ℕ) (held : List ℕ) (given : ℕ) (t : Stage) → IsHolder posted history numbers held given t → t ≢ away
-holder_in_turn posted history numbers held given away holder = absurd holder
-holder_in_turn posted history numbers held given (holds h) holder = λ e. cc
-holder_in_turn posted history numbers held given (counts h) holder = λ e. cc
-holder_in_turn posted history numbers held given (owes before h) holder = λ e. cc
+holder_in_turn : (s : Table) (setting : Setting) (posted history : List Entry) (numbers seat : ℕ) (held : List ℕ) (given : ℕ) (t : Stage)
+    → IsExact s setting posted → ((j : ℕ) (v : View) → j ≢ seat → IsThere s j v → Lowest setting v.seen posted v.lowest)
+    → IsHolder posted history numbers held given t → IsInTurn s setting history seat held t
+holder_in_turn s setting posted history numbers seat held given away word others holder = absurd holder
+holder_in_turn s setting posted history numbers seat held given (holds h) word others holder = (holder.0, word ∙ ap (least_of setting.league) holder.1)
+holder_in_turn s setting posted history numbers seat held given (counts h) word others holder = (holder.0, word ∙ ap (least_of setting.league) holder.1)
+holder_in_turn s setting posted history numbers seat held given (owes before h) word others holder =
+    let P : List Entry → Type 0 = λ l. IsBehind s setting seat held l history in
+    (holder.0, subst P (sym holder.1) (record { added = holder.2; word = word; others = others }))
 
 -- each seat stands to the whole history
 fits_history : (s : Table) (r : Ruled s) (j : ℕ) (v : View) → IsThere s j v → Fits r.setting r.history (length r.history) r.numbers v
@@ -63,15 +68,15 @@ fits_history s r j v there =
           ])
     ]
 
-home_free : (s : Table) (r : Ruled s) → turn_word s ≡ 0 → IsHome s r.setting r.history × (r.posted ≡ r.history)
+home_free : (s : Table) (r : Ruled s) → turn_word s ≡ 0 → IsHome s r.setting r.history × IsExact s r.setting r.history
 home_free s r e =
     let found : turn_word s ≡ r.turn = ap (λ (l : List ℕ). slice_index l 0) r.words in
     elim r.turns [
-      | inl free ↦ (ap (λ (l : List (maybe.Option (Option Book))). get_elem? l 0) (r.homes ∙ ap (λ (h : maybe.Option (Option Book)). h ∷ []) free.home_is), free.all_posted)
+      | inl free ↦ (ap (λ (l : List (maybe.Option (Option Book))). get_elem? l 0) (r.homes ∙ ap (λ (h : maybe.Option (Option Book)). h ∷ []) free.home_is), ap (λ (l : List ℕ). slice_index l 3) r.words ∙ ap (least_of r.setting.league) free.all_posted)
       | inr held ↦ let one = held.turn_is in absurd (omega arith)
     ]
 
-one_holds : (s : Table) (r : Ruled s) → turn_word s ≡ 1 → OneHolds s
+one_holds : (s : Table) (r : Ruled s) → turn_word s ≡ 1 → OneHolds s r.setting r.history
 one_holds s r e =
     let found : turn_word s ≡ r.turn = ap (λ (l : List ℕ). slice_index l 0) r.words in
     elim r.turns [
@@ -80,27 +85,11 @@ one_holds s r e =
         seat = held.seat;
         view = held.view;
         there = (held.there, held.live);
-        in_turn = holder_in_turn r.posted r.history r.numbers held.view.held held.view.given held.view.stage held.holder;
+        in_turn = holder_in_turn s r.setting r.posted r.history r.numbers held.seat held.view.held held.view.given held.view.stage (ap (λ (l : List ℕ). slice_index l 3) r.words)
+            (λ j v ne there. (fits_at r.setting r.posted r.history r.posted (length r.history) r.numbers v away (held.others_away j v ne there.0) refl (r.seats j v there.0 there.1)).lowest)
+            held.holder;
         no_other = λ j v ne there. held.others_away j v ne there.0;
       }
-    ]
-
-best_or_behind : (s : Table) (r : Ruled s) → (best_word s ≡ least_of r.setting.league r.history) ⊎ Behind s r.setting r.history
-best_or_behind s r =
-    let found : best_word s ≡ least_of r.setting.league r.posted = ap (λ (l : List ℕ). slice_index l 3) r.words in
-    elim r.turns [
-      | inl free ↦ inl (found ∙ ap (least_of r.setting.league) free.all_posted)
-      | inr held ↦ elim (holder_posted r.posted r.history r.numbers held.view.held held.view.given held.view.stage held.holder) [
-        | inl same ↦ inl (found ∙ ap (least_of r.setting.league) same)
-        | inr added ↦ inr (record {
-          before = r.posted;
-          entry = added.entry;
-          one_more = added.one_more;
-          word = found;
-          committer = held.seat;
-          others = λ j v ne there. (fits_at r.setting r.posted r.history r.posted (length r.history) r.numbers v away (held.others_away j v ne there.0) refl (r.seats j v there.0 there.1)).lowest;
-        })
-      ]
     ]
 
 turn_is : (s : Table) (r : Ruled s) → (turn_word s ≡ 0) ⊎ (turn_word s ≡ 1)
@@ -128,10 +117,10 @@ between s r =
       held_once = λ j v x there. (let a = held_once s r j v x there.0 in let b = once_most x r.numbers in omega arith);
       held_below = λ j v x there own. (let less = held_below x r.numbers (times x v.held) own (held_once s r j v x there.0) in omega arith);
       held_apart = λ i j u v x ne at there own. held_alone s r i j u v x (λ e. ne (sym e)) at.0 there.0 own;
+      all_given = λ j v there some_given each. knows_all_numbers s r j v there.0 (fits_history s r j v there).given some_given each ∙ sym count_is;
       turn = turn_is s r;
-      free = λ e. (home_free s r e).0;
+      free = home_free s r;
       taken = one_holds s r;
-      best = best_or_behind s r;
     }
 
 -- by the laws of one thread's board
@@ -154,5 +143,5 @@ fixtures sound best_is s r e =
       cost = cost_is l r.history;
       best = best_of_is l r.history;
       best_is = best_is l r.history;
-      posted = ap (λ (w : List ℕ). slice_index w 3) r.words ∙ ap (least_of l) home.1;
+      posted = home.1;
     }

@@ -3,10 +3,10 @@ use Rattle.std.proofs.Common.{◌≡◌, ◌≢◌, ℕ, zero, suc, ◌+◌, ◌
 use Rattle.std.proofs.lemmas.Bool.Decides.{nat_tests}
 use mathlib.Core.Option.{some, some-injective, some-ne-none}
 use mathlib.Core.Logic.{dite}
-use native.Mathlib.Decide.{ℕ_discrete}
+use native.Mathlib.Decide.{ℕ_discrete, dec_le}
 use lib.ListN.{get_elem?}
 use Rattle.fixture_board.specs.declared.change.Entry.{Entry}
-use Rattle.shared_board.specs.Held.{times, once_below, total, under, callers_below}
+use Rattle.shared_board.specs.Held.{times, once_below, total, under, HoldsEach, callers_below}
 
 pub times_append : (x : ℕ) (a b : List ℕ) → times x (a ++ b) ≡ times x a + times x b
 times_append x [] b = omega arith
@@ -19,6 +19,11 @@ under_append held (e ∷ a) b = omega (arith, under_append held a b)
 pub under_both : (a b : List ℕ) (es : List Entry) → under (a ++ b) es ≡ under a es + under b es
 under_both a b [] = omega arith
 under_both a b (e ∷ es) = omega (arith, under_both a b es, times_append e.caller a b)
+
+-- fewer numbers have no more entries
+pub under_fewer : (a b : List ℕ) (es : List Entry) → ((x : ℕ) → times x a ≤ times x b) → under a es ≤ under b es
+under_fewer a b [] fewer = omega arith
+under_fewer a b (e ∷ es) fewer = omega (arith, fewer e.caller, under_fewer a b es fewer)
 
 -- an entry counts once at most, where no number is held twice
 pub under_most : (held : List ℕ) (es : List Entry) → ((x : ℕ) → times x held ≤ 1) → under held es ≤ length es
@@ -59,11 +64,18 @@ once_most x n = grind (arith, nat_tests)
 pub once_none : (x n : ℕ) → n ≤ x → once_below x n ≡ 0
 once_none x n le = grind (arith, nat_tests)
 
+once_all : (x n : ℕ) → x < n → once_below x n ≡ 1
+once_all x n less = grind (arith, nat_tests)
+
 pub once_next : (x n : ℕ) → cond (n == x) 1 0 + once_below x n ≡ once_below x (n + 1)
 once_next x n = grind (arith, nat_tests)
 
 pub once_more : (x n m : ℕ) → n ≤ m → once_below x n ≤ once_below x m
 once_more x n m le = grind (arith, nat_tests)
+
+-- what is counted of a number below n, and of no other
+pub once_within : (x n k : ℕ) → k ≤ 1 → (n ≤ x → k ≡ 0) → k ≤ once_below x n
+once_within x n k most none = elim (dec_le n x) [ yes le ↦ omega (arith, none le) | no more ↦ omega (arith, most, once_all x n (omega arith)) ]
 
 -- a number that is held is below the count of those given out
 pub held_below : (x n k : ℕ) → 0 < k → k ≤ once_below x n → x < n
@@ -72,6 +84,9 @@ held_below x n k some_held most = grind (arith, nat_tests)
 -- a number of one's own
 pub times_own : (n x : ℕ) → x < n → times x (n ∷ []) ≡ 0
 times_own n x less = grind (arith, nat_tests)
+
+pub times_one : (n x : ℕ) → times x (n ∷ []) ≤ 1
+times_one n x = grind (arith, nat_tests)
 
 pub times_self : (n : ℕ) → times n (n ∷ []) ≡ 1
 times_self n = grind (arith, nat_tests)
@@ -159,3 +174,13 @@ held_most n held most =
     let a = sum_to_times n held (λ x le. omega (arith, most x, once_none x n le)) in
     let b = sum_to_most n (λ x. times x held) (λ x. omega (arith, most x, once_most x n)) in
     omega arith
+
+equal_alike : (a b c : ℕ) → (a ≡ b → a ≡ c) → (a ≡ c → a ≡ b) → (a == b) ≡ (a == c)
+equal_alike a b c f g = dite (ℕ_discrete a b) (λ e. ap (λ (n : ℕ). a == n) (sym e ∙ f e)) (λ ne. let other : a ≢ c = λ e. ne (g e) in grind (arith, nat_tests))
+
+-- where who holds each number that it knows of knows of all, it holds as many as there are just where it holds as many as it knows of
+pub all_alike : (given n : ℕ) (held : List ℕ) → given ≤ n → ((x : ℕ) → times x held ≤ once_below x given) → (HoldsEach given held → given ≡ n) → (length held == n) ≡ (length held == given)
+all_alike given n held le own all =
+    let most = held_most given held own in
+    equal_alike (length held) n given (λ e. omega arith)
+    (λ e. e ∙ all (λ x less. omega (arith, all_held given held e own x less)))

@@ -2,6 +2,7 @@
 use Rattle.std.proofs.Common.{◌≡◌, ℕ, ◌+◌, ◌<◌, ◌≤◌, max, inl, inr, ◌⊎◌, Option, Some, None, List, [], ◌∷◌, ◌++◌, length, refl, ap, sym, ◌∙◌, subst, arith, length-append}
 use Rattle.std.proofs.lemmas.List.{append-nil}
 use Rattle.std.proofs.lemmas.Bool.Decides.{nat_tests}
+use native.Mathlib.Decide.{dec_le}
 use Rattle.atomic_table.specs.Table.{rest}
 use Rattle.fixture_board.specs.declared.ask.Ask.{Ask}
 use Rattle.fixture_board.specs.declared.change.Entry.{Entry}
@@ -16,14 +17,14 @@ use Rattle.shared_board.specs.declared.view.View.{View}
 use Rattle.shared_board.specs.declared.shared.Judged.{Judged}
 use Rattle.shared_board.specs.Setting.{Setting, board_at}
 use Rattle.shared_board.specs.Stage.{away, holds, kept}
-use Rattle.shared_board.specs.Held.{times, once_below, under, callers_below}
+use Rattle.shared_board.specs.Held.{times, once_below, under, HoldsEach, callers_below}
 use Rattle.shared_board.specs.Rule.{Knows}
 use Rattle.shared_board.specs.Plays.{Place, Meets, Took, Counted, Parted, counting, drawing, newcomer, joined, longer, saw, at_stage, on_board}
-use Rattle.shared_board.specs.Seats.{BoardId, SeatValue, seat_value, IsIdle, IsSeat, Met, Answered, IsNew, Absorbed}
-use Rattle.shared_board.specs.Ending.{IsSeatAfter, IsOfBoth, BroughtOut}
+use Rattle.shared_board.specs.Seats.{BoardId, SeatValue, seat_value, IsIdle, IsSeat, IsConsistent, Met, Answered, IsNew, Absorbed}
+use Rattle.shared_board.specs.Ending.{IsSeatAfter, IsOfBoth, BroughtOut, HoldsBelow}
 use Rattle.shared_board.specs.Judging.{IsJudged}
 use Rattle.shared_board.proofs.BoardLaws.{reply_tells}
-use Rattle.shared_board.proofs.Counts.{times_append, times_own, times_self, under_append, under_both, under_most, under_none, under_all, callers_front, once_most, once_none, all_held, held_most}
+use Rattle.shared_board.proofs.Counts.{times_append, times_own, times_one, times_self, once_within, all_alike, under_append, under_both, under_most, under_none, under_all, callers_front, once_most, once_none, all_held, held_most}
 use Rattle.shared_board.proofs.Seating.{longer_cases, begins_longer}
 
 -- what the answer of the board tells
@@ -62,14 +63,23 @@ seat_saw me n number held seen accepted g version more seat is long entries =
     subst P (sym is) (record {
       idle = record { live = seat.idle.live; away_is = refl; no_slot = refl };
       own = seat.own;
+      single = seat.single;
       count = seat.count;
       long = long;
       entries = entries;
       below = seat.below;
+      ahead = omega arith;
     })
+
+pub consistent_of : (table : BoardId) (me : Place) (number held seen accepted : ℕ) → IsSeat me number held seen accepted → IsConsistent (seat_value table number me.0)
+consistent_of table me number held seen accepted seat = record { own = omega (arith, seat.own, seat.single number); single = seat.single; below = seat.below; ahead = seat.ahead }
 
 pub met_of : (table : BoardId) (number : ℕ) (v : View) (h : List Entry) → Meets v h → Met (seat_value table number v) h
 met_of table number v h met = record { legal = met.legal; knows = met.knows; glanced = met.glanced; lowest = met.lowest }
+
+-- a seat knows at least of its own number
+pub some_given : (me : Place) (number held seen accepted : ℕ) → IsSeat me number held seen accepted → 0 < me.0.given
+some_given me number held seen accepted seat = elim (dec_le 1 me.0.given) [ yes le ↦ omega arith | no more ↦ absurd (omega (arith, seat.own, seat.below number (omega arith))) ]
 
 -- a turn in which the board was asked, as its steps tell it: before, under the turn, after the board answered, and after
 pub record Asked (me taken told done : Place) (number : ℕ) (ask : Ask) (j : Judged) : Type 0 where
@@ -107,11 +117,12 @@ seat_after me taken told done number held seen accepted ask j (No at why) seat a
     seat_saw me done number held seen accepted g at accepted seat (asked_left me taken told done number ask j a) t.1
     (seat.entries ∙ (sym (accepted_same me.0 h a.took.1) ∙ ap (under me.0.held) (sym t.0)))
 
-pub answered : (table : BoardId) (me taken told done : Place) (number : ℕ) (ask : Ask) (j : Judged) → Asked me taken told done number ask j
-    → Answered (seat_value table number me.0) (seat_value table number done.0) ask j.reply
-answered table me taken told done number ask j a =
+pub answered : (table : BoardId) (me taken told done : Place) (number held seen accepted : ℕ) (ask : Ask) (j : Judged) → Asked me taken told done number ask j
+    → IsSeat me number held seen accepted → Answered (seat_value table number me.0) (seat_value table number done.0) ask j.reply
+answered table me taken told done number held seen accepted ask j a seat =
     let h = a.took.0 in let judged = asked_judged me taken told done number ask j a in
     record {
+      seat = consistent_of table me number held seen accepted seat;
       history = h;
       met = met_of table number me.0 h a.took.1;
       replied = judged.reply;
@@ -156,66 +167,72 @@ seen_by held less more h other le k l =
     let n = knows_less held less more h other le k l in
     ap (under held) n.begins ∙ (let u = under_append held less n.after in let z = n.none_after in omega arith)
 
--- a new seat that has read under the turn how many numbers are given out
-pub record Came (me came taken counted : Place) (r : ℕ) : Type 0 where
-  pub came_is : came ≡ (newcomer me.0, [])
-  pub took : Took came taken
+-- a seat that has read under the turn how many numbers are given out
+pub record Read (me taken counted : Place) (r : ℕ) : Type 0 where
+  pub took : Took me taken
   pub count : Counted taken r counted
 
--- the view of such a seat
-abbrev pub fresh : View → ℕ → View
-fresh v r = record v { held = []; parts = []; given = r; stage = away }
+read_taken : (me taken counted : Place) (r : ℕ) (a : Read me taken counted r) → taken.0 ≡ at_stage me.0 (holds a.took.0)
+read_taken me taken counted r a = ap (λ (m : Place). m.0) a.took.2
 
-came_taken : (me came taken counted : Place) (r : ℕ) (a : Came me came taken counted r) → taken.0 ≡ at_stage (newcomer me.0) (holds a.took.0)
-came_taken me came taken counted r a =
-    ap (λ (m : Place). m.0) a.took.2 ∙ ap (λ (m : Place). at_stage m.0 (holds a.took.0)) a.came_is
+-- the seat, once it has drawn one more
+abbrev pub drawn_view : View → ℕ → View
+drawn_view v r = record v { held = r ∷ v.held; given = r + 1; stage = away }
 
-pub came_counted : (me came taken counted : Place) (r : ℕ) (a : Came me came taken counted r) → at_stage counted.0 away ≡ fresh me.0 r
-came_counted me came taken counted r a =
-    ap (λ (m : Place). at_stage m.0 away) a.count.now ∙ ap (λ (v : View). at_stage (counting v r) away) (came_taken me came taken counted r a)
+pub drawn_away : (me taken counted : Place) (r : ℕ) (a : Read me taken counted r) → at_stage (drawing counted.0) away ≡ drawn_view me.0 r
+drawn_away me taken counted r a =
+    ap (λ (m : Place). at_stage (drawing m.0) away) a.count.now ∙ ap (λ (v : View). at_stage (drawing (counting v r)) away) (read_taken me taken counted r a)
 
-pub came_drawn : (me came taken counted : Place) (r : ℕ) (a : Came me came taken counted r) → at_stage (drawing counted.0) away ≡ record me.0 { held = r ∷ []; parts = []; given = r + 1; stage = away }
-came_drawn me came taken counted r a =
-    ap (λ (m : Place). at_stage (drawing m.0) away) a.count.now ∙ ap (λ (v : View). at_stage (drawing (counting v r)) away) (came_taken me came taken counted r a)
+read_later : (me taken counted : Place) (r : ℕ) → Read me taken counted r → me.0.given ≤ r
+read_later me taken counted r a =
+    let P : View → Type 0 = λ v. v.given ≤ r in subst P (read_taken me taken counted r a) a.count.grown
 
-pub came_later : (me came taken counted : Place) (r : ℕ) → Came me came taken counted r → me.0.given ≤ r
-came_later me came taken counted r a =
-    let P : View → Type 0 = λ v. v.given ≤ r in subst P (came_taken me came taken counted r a) a.count.grown
+-- its own number is its own still
+pub read_own : (me taken counted : Place) (r number : ℕ) → Read me taken counted r → 0 < times number me.0.held → 0 < times number counted.0.held
+read_own me taken counted r number a own =
+    let P : Place → Type 0 = λ m. 0 < times number m.0.held in
+    let Q : View → Type 0 = λ v. 0 < times number v.held in
+    subst P (sym a.count.now) (subst Q (sym (read_taken me taken counted r a)) own)
 
 -- no entry that was seen is under the new number
-pub came_none : (me came taken counted : Place) (r : ℕ) → Came me came taken counted r → under (r ∷ []) me.0.seen ≡ 0
-came_none me came taken counted r a =
-    let h = a.took.0 in
+read_none : (me taken counted : Place) (r : ℕ) → Read me taken counted r → under (r ∷ []) me.0.seen ≡ 0
+read_none me taken counted r a =
     let P : View → Type 0 = λ v. callers_below r (kept v.stage) in
-    let all : callers_below r h = subst P (came_taken me came taken counted r a) a.count.callers in
-    let K : Place → Type 0 = λ m. Knows m.0.held m.0.seen h in
-    let k : Knows [] me.0.seen h = subst K a.came_is a.took.1.knows in
+    let all : callers_below r a.took.0 = subst P (read_taken me taken counted r a) a.count.callers in
+    let k = a.took.1.knows in
     let Q : List Entry → Type 0 = λ l. callers_below r l in
     under_none (r ∷ []) r me.0.seen (callers_front r me.0.seen k.after (subst Q k.begins all)) (λ x less. times_own r x less)
 
-pub new_seat : (me came taken counted done : Place) (r number held seen accepted : ℕ) → IsSeat me number held seen accepted → Came me came taken counted r
-    → done ≡ (at_stage (drawing counted.0) away, []) → IsSeat done r 1 seen 0
-new_seat me came taken counted done r number held seen accepted seat a is =
-    let w : View = record me.0 { held = r ∷ []; parts = []; given = r + 1; stage = away } in
+-- the view of the new seat
+abbrev new_view : View → ℕ → View
+new_view v r = record v { held = r ∷ []; parts = []; given = r + 1; stage = away }
+
+new_is : (me taken counted drawn new : Place) (r : ℕ) → Read me taken counted r → drawn ≡ (at_stage (drawing counted.0) away, []) → new ≡ (newcomer drawn.0, []) → new ≡ (new_view me.0 r, [])
+new_is me taken counted drawn new r a is given_is = given_is ∙ ap (λ (v : View). (newcomer v, [])) (ap (λ (m : Place). m.0) is ∙ drawn_away me taken counted r a)
+
+pub new_seat : (me taken counted drawn new : Place) (r number held seen accepted : ℕ) → IsSeat me number held seen accepted → Read me taken counted r
+    → drawn ≡ (at_stage (drawing counted.0) away, []) → new ≡ (newcomer drawn.0, []) → IsSeat new r 1 seen 0
+new_seat me taken counted drawn new r number held seen accepted seat a is given_is =
     let P : Place → Type 0 = λ m. IsSeat m r 1 seen 0 in
-    let self = times_self r in
-    subst P (sym (is ∙ ap (λ (v : View). (v, [])) (came_drawn me came taken counted r a))) (record {
+    subst P (sym (new_is me taken counted drawn new r a is given_is)) (record {
       idle = record { live = seat.idle.live; away_is = refl; no_slot = refl };
-      own = omega arith;
+      own = omega (arith, times_self r);
+      single = λ x. times_one r x;
       count = refl;
       long = seat.long;
-      entries = sym (came_none me came taken counted r a);
+      entries = sym (read_none me taken counted r a);
       below = λ x le. new_below r x le;
+      ahead = seat.ahead;
     })
 
-pub is_new : (table after : BoardId) (me came taken counted done : Place) (r number held seen accepted : ℕ) → after ≡ table → r < 64 → IsSeat me number held seen accepted → Came me came taken counted r
-    → done ≡ (at_stage (drawing counted.0) away, []) → IsNew (seat_value table number me.0) (seat_value after r done.0)
-is_new table after me came taken counted done r number held seen accepted same few seat a is = record {
-  now = ap (λ (t : BoardId). seat_value t r done.0) same ∙ ap (λ (v : View). seat_value table r v) (ap (λ (m : Place). m.0) is ∙ came_drawn me came taken counted r a);
+pub is_new : (table after : BoardId) (me taken counted drawn new : Place) (r number held seen accepted : ℕ) → after ≡ table → r < 64 → IsSeat me number held seen accepted → Read me taken counted r
+    → drawn ≡ (at_stage (drawing counted.0) away, []) → new ≡ (newcomer drawn.0, []) → IsNew (seat_value table number me.0) (seat_value after r new.0)
+is_new table after me taken counted drawn new r number held seen accepted same few seat a is given_is = record {
+  now = ap (λ (t : BoardId). seat_value t r new.0) same ∙ ap (λ (m : Place). seat_value table r m.0) (new_is me taken counted drawn new r a is given_is);
   few = few;
-  later = came_later me came taken counted r a;
-  own = seat.below r (came_later me came taken counted r a);
-  no_entry = came_none me came taken counted r a;
+  later = read_later me taken counted r a;
+  own = seat.below r (read_later me taken counted r a);
+  no_entry = read_none me taken counted r a;
 }
 
 -- what two seats that were made one were told
@@ -254,11 +271,13 @@ of_both me other done idle is told =
     subst P (sym is) (record {
       idle = record { live = idle.live; away_is = idle.away_is; no_slot = idle.no_slot };
       own = λ x. times_append x v.held w.held;
+      single = λ x. omega (arith, both.single x, once_most x 64);
       count = length-append v.held w.held;
       few = omega (arith, held_fits v w both, length-append v.held w.held);
       long = longer_length v.seen w.seen;
       entries = entries_both v w both;
       most = under_most (v.held ++ w.held) (longer v.seen w.seen) (λ x. let a = both.single x in let c = once_most x 64 in omega arith);
+      ahead = λ mine theirs. omega (arith, longer_length v.seen w.seen);
       below = λ mine theirs x le. (let c = mine x (omega arith) in let d = theirs x (omega arith) in omega (arith, times_append x v.held w.held));
     })
 
@@ -306,16 +325,19 @@ pub has_board : (me taken counted : Place) (r : ℕ) (t : Took me taken) → Cou
 has_board me taken counted r t count nothing =
     ap (λ (m : Place). m.1) count.now ∙ (ap (λ (m : Place). m.1) t.2 ∙ ap (λ (l : List (ℕ × Option Book)). (0, Some (board_at me.0.setting t.0)) ∷ l) nothing)
 
-pub brought_out : (me taken counted : Place) (r : ℕ) (b : Book) → me.1 ≡ [] → Took me taken → Counted taken r counted → counted.1 ≡ (0, Some b) ∷ rest counted.1
+pub brought_out : (me taken counted : Place) (r : ℕ) (b : Book) → me.1 ≡ [] → 0 < me.0.given → HoldsBelow me → Took me taken → Counted taken r counted → counted.1 ≡ (0, Some b) ∷ rest counted.1
     → BroughtOut me b r
-brought_out me taken counted r b nothing t count found =
+brought_out me taken counted r b nothing some_given below t count found =
     let h = t.0 in
     let c = has_board me taken counted r t count nothing in
     let K : Place → Type 0 = λ m. callers_below r (kept m.0.stage) in
     let O : Place → Type 0 = λ m. (x : ℕ) → times x m.0.held ≤ once_below x r in
+    let A : Place → Type 0 = λ m. 0 < m.0.given → HoldsEach m.0.given m.0.held → m.0.given ≡ r in
     record {
       history = h;
       met = t.1;
       board_is = ap (in_hand b) (sym found ∙ c);
+      all = all_alike me.0.given r me.0.held (read_later me taken counted r (record { took = t; count = count })) (λ x. once_within x me.0.given (times x me.0.held) (t.1.single x) (below x))
+          (subst A t.2 count.all some_given);
       whole = λ all. whole_seen me.0 h r t.1 (subst K t.2 count.callers) (subst O t.2 count.own) all;
     }

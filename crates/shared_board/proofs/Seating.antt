@@ -1,12 +1,12 @@
 -- Each step outside a turn keeps the rule, and so do seats that come and go.
-use Rattle.std.proofs.Common.{◌≡◌, ℕ, ◌<◌, ◌≤◌, min, max, nat_lt, if◌then◌else◌, Bool, true, false, List, [], ◌∷◌, ◌++◌, length, slice_index, set, refl, ap, sym, ◌∙◌, subst, ◌⊎◌, inl, inr, ⊎_elim, arith, length-append}
+use Rattle.std.proofs.Common.{◌≡◌, ℕ, ◌+◌, ◌<◌, ◌≤◌, min, max, nat_lt, if◌then◌else◌, Bool, true, false, List, [], ◌∷◌, ◌++◌, length, slice_index, set, refl, ap, sym, ◌∙◌, subst, ◌⊎◌, inl, inr, ⊎_elim, arith, length-append}
 use Rattle.std.proofs.lemmas.Bool.Decides.{nat_tests}
 use Rattle.std.proofs.lemmas.List.{append-nil}
 use mathlib.Core.Option.{none, some}
 use native.Mathlib.Decide.{dec_le}
 use lib.ListN.{get_elem?}
 use Rattle.atomic_table.specs.Table.{step, keeps, Allows, Splits, Joins}
-use Rattle.atomic_table.proofs.Lists.{set_again, set_else}
+use Rattle.atomic_table.proofs.Lists.{at_set, set_else}
 use Rattle.fixture_board.specs.declared.change.Entry.{Entry}
 use Rattle.fixture_board.specs.Laws.{least_of}
 use Rattle.league.specs.League.{IsLeague}
@@ -15,12 +15,12 @@ use Rattle.shared_board.specs.Setting.{Setting}
 use Rattle.shared_board.specs.Stage.{away}
 use Rattle.shared_board.specs.Held.{times, under}
 use Rattle.shared_board.specs.Rule.{Knows, Lowest, Fits, upto, Ruled, spent_view}
-use Rattle.shared_board.specs.Plays.{Place, glanced, lowered, parted, newcomer, joined, longer}
+use Rattle.shared_board.specs.Plays.{Place, glanced, lowered, parted, last_drawn, drawn_before, drawer, newcomer, joined, longer}
 use Rattle.shared_board.specs.Between.{Table}
 use Rattle.shared_board.proofs.BoardLaws.{least_falls_on}
 use Rattle.shared_board.proofs.Counts.{times_append, under_append, under_both, once_more, total_set}
-use Rattle.shared_board.proofs.Views.{fits_at, fits_from, each_set, turns_aside}
-use Rattle.shared_board.proofs.Steps.{with_views, aside, arrives, held_once}
+use Rattle.shared_board.proofs.Views.{either_read, fits_at, fits_fewer, fits_from, each_set, turns_aside}
+use Rattle.shared_board.proofs.Steps.{with_views, aside, splits_off, held_once}
 
 -- the view of a seat that is away
 pub fits_away : (s : Table) (r : Ruled s) (id : ℕ) (v : View) → get_elem? s.views id ≡ some v → v.live ≡ true → v.stage ≡ away → Fits r.setting r.posted (length r.history) r.numbers v
@@ -36,7 +36,7 @@ glance_keeps slots id m live e s r sized at fits =
       w,
       keeps,
       tt,
-      aside s r id v w (set s.words 1 n) at live e e (λ x. omega arith)
+      aside s r id v w (set s.words 1 n) at live e e (λ x. omega arith) (omega arith)
           (λ f. record { setting_is = f.setting_is; knows = f.knows; glanced = omega arith; lowest = f.lowest; given = f.given; parts = f.parts })
           (ap (λ (l : List ℕ). set l 1 (slice_index l 1)) r.words ∙ sym r.words),
       (omega arith, refl),
@@ -70,7 +70,7 @@ lower_keeps slots id m live e s r sized at fits =
       w,
       keeps,
       tt,
-      aside s r id v w (set s.words 3 n) at live e e (λ x. omega arith)
+      aside s r id v w (set s.words 3 n) at live e e (λ x. omega arith) (omega arith)
           (λ f. record { setting_is = f.setting_is; knows = f.knows; glanced = f.glanced; lowest = subst P (sym found) (lowest_now r.setting v.seen r.posted v.held f.knows); given = f.given; parts = f.parts })
           (ap (λ (l : List ℕ). set l 3 (slice_index l 3)) r.words ∙ sym r.words),
       (omega (arith, falls), refl),
@@ -82,7 +82,7 @@ tell_keeps slots id m live e s r sized at fits =
       v,
       keeps,
       tt,
-      aside s r id v v (set s.words 0 (slice_index s.words 0)) at live e e (λ x. omega arith) (λ f. f)
+      aside s r id v v (set s.words 0 (slice_index s.words 0)) at live e e (λ x. omega arith) (omega arith) (λ f. f)
           (ap (λ (l : List ℕ). set l 0 (slice_index l 0)) r.words ∙ sym r.words),
       (
         refl,
@@ -94,25 +94,16 @@ tell_keeps slots id m live e s r sized at fits =
       ),
     )
 
-under_nothing : (es : List Entry) → under [] es ≡ 0
-under_nothing [] = refl
-under_nothing (e ∷ es) = omega (arith, under_nothing es)
+both_parts : (x : ℕ) (held : List ℕ) → times x (drawn_before held) + times x (last_drawn held) ≡ times x held
+both_parts x [] = refl
+both_parts x (n ∷ held) = omega arith
 
-pub split_keeps : (id : ℕ) (v : View) → v.live ≡ true → v.stage ≡ away → Splits Ruled id v v (newcomer v)
-split_keeps id v live e s r at =
-    let f = fits_away s r id v at live e in
-    let w = newcomer v in
-    let came : Ruled (record { words = s.words; homes = s.homes; views = s.views ++ w ∷ [] }) = arrives s r w refl refl
-    (record {
-      setting_is = f.setting_is;
-      knows = record { after = f.knows.after; begins = f.knows.begins; none_after = under_nothing f.knows.after };
-      glanced = f.glanced;
-      lowest = f.lowest;
-      given = f.given;
-      parts = tt;
-    }) in
-    let P : List View → Type 0 = λ l. Ruled (record { words = s.words; homes = s.homes; views = l ++ w ∷ [] }) in
-    subst P (sym (set_again s.views id v at)) came
+pub split_keeps : (id : ℕ) (v : View) → v.live ≡ true → v.stage ≡ away → Splits Ruled id v (drawer v) (newcomer v)
+split_keeps id v live e s r at = splits_off s r id v (drawer v) (newcomer v) at live e e e (λ x. both_parts x v.held) (omega arith) (omega arith)
+    (λ f. (
+      fits_fewer r.setting r.posted (length r.history) r.numbers v (drawn_before v.held) (λ x. omega (arith, both_parts x v.held)) f,
+      fits_fewer r.setting r.posted (length r.history) r.numbers v (last_drawn v.held) (λ x. omega (arith, both_parts x v.held)) f,
+    ))
 
 -- of two beginnings of one list the shorter begins the longer
 pub begins_longer : {A : Type 0} (xs ys a b : List A) → xs ++ a ≡ ys ++ b → length xs ≤ length ys → (c : List A) × (ys ≡ xs ++ c) × (a ≡ c ++ b)
@@ -223,6 +214,22 @@ join_keeps id v other w live e live' e' s r at ne at' =
     let c = times_append x v.held w.held in
     let d = r.once x in
     omega arith)
+    (λ n some_below less.
+    let d = r.drawn n some_below less in
+    let H : View → Type 0 = λ u. 0 < times d.by u.held in
+    let G : View → Type 0 = λ u. n < u.given in
+    record {
+      by = d.by;
+      lower = d.lower;
+      read = λ j u at'' own. ⊎_elim
+          (λ t. absurd (let none_held : 0 < 0 = subst H (sym t.1) own in omega arith))
+          (λ t. ⊎_elim
+          (λ q.
+          let own_both : 0 < times d.by both.held = subst H (sym q.1) own in
+          subst G q.1 (either_read (times d.by v.held) (times d.by w.held) v.given w.given n (omega (arith, times_append d.by v.held w.held)) (d.read id v at) (d.read other w there)))
+          (λ q. d.read j u q.1 own) (at_set s.views id j both u t.1))
+          (at_set views other j spent_view u at'');
+    })
     (each_set F F views other spent_view (each_set F F s.views id both r.seats (λ j u ne' at'' h. h) (λ _. g)) (λ j u ne' at'' h. h) (λ is. absurd cc))
     (turns_aside r.setting r.posted r.history r.turn r.numbers r.home views other w spent_view at' e' refl
     (turns_aside r.setting r.posted r.history r.turn r.numbers r.home s.views id v both at e e r.turns))

@@ -1,7 +1,8 @@
 -- What a step of one seat leaves of the rule.
-use Rattle.std.proofs.Common.{◌≡◌, ◌≢◌, ℕ, ◌+◌, ◌≤◌, Option, Some, List, [], ◌∷◌, ◌++◌, length, set, refl, ap, sym, ◌∙◌, subst, ◌⊎◌, inl, inr, ⊎_elim, arith, true}
+use Rattle.std.proofs.Common.{◌≡◌, ◌≢◌, ℕ, ◌+◌, ◌<◌, ◌≤◌, Option, Some, List, [], ◌∷◌, ◌++◌, length, set, refl, ap, sym, ◌∙◌, subst, ◌⊎◌, inl, inr, ⊎_elim, arith, true}
 use mathlib.Core.Option.{none, some}
 use mathlib.Core.Option as maybe
+use native.Mathlib.Decide.{dec_le}
 use lib.ListN.{get_elem?}
 use Rattle.atomic_table.proofs.Lists.{at_snoc, at_longer}
 use Rattle.fixture_board.specs.declared.change.Entry.{Entry}
@@ -11,12 +12,12 @@ use Rattle.fixture_board.specs.Record.{Book}
 use Rattle.league.specs.League.{IsLeague}
 use Rattle.shared_board.specs.declared.view.View.{View}
 use Rattle.shared_board.specs.Setting.{Setting, board_at}
-use Rattle.shared_board.specs.Stage.{Stage, away}
-use Rattle.shared_board.specs.Held.{times, once_below, total, callers_below}
-use Rattle.shared_board.specs.Rule.{Fits, upto, IsHolder, IsFree, IsHeld, Ruled}
+use Rattle.shared_board.specs.Stage.{away}
+use Rattle.shared_board.specs.Held.{times, once_below, total, HoldsEach, callers_below}
+use Rattle.shared_board.specs.Rule.{Fits, upto, IsHolder, IsFree, IsHeld, IsDrawn, Ruled}
 use Rattle.shared_board.specs.Between.{Table}
-use Rattle.shared_board.proofs.Counts.{total_append, total_at}
-use Rattle.shared_board.proofs.Views.{Owned, OthersAway, fits_at, fits_from, each_set, away_set, away_else, there_set, once_set, turns_aside}
+use Rattle.shared_board.proofs.Counts.{total_append, total_set, total_at}
+use Rattle.shared_board.proofs.Views.{Owned, OthersAway, fits_at, fits_from, each_set, away_set, away_else, there_set, read_set, once_set, turns_aside}
 
 -- what the rule is made of, but for the words and who holds the turn
 pub record Made (setting : Setting) (posted history : List Entry) (numbers : ℕ) (views : List View) : Type 0 where
@@ -24,6 +25,7 @@ pub record Made (setting : Setting) (posted history : List Entry) (numbers : ℕ
   pub callers : callers_below numbers history
   pub few : numbers ≤ 64
   pub once : (x : ℕ) → total (λ (v : View). times x v.held) views ≤ once_below x numbers
+  pub drawn : (n : ℕ) → 0 < n → n < numbers → IsDrawn n views
   pub seats : (j : ℕ) (v : View) → get_elem? views j ≡ some v → v.live ≡ true → Fits setting (upto v.stage posted history) (length history) numbers v
 
 -- the rule of these parts
@@ -44,6 +46,7 @@ ruled_of setting posted history turn numbers home s limits made words homes turn
   callers = made.callers;
   few = made.few;
   once = made.once;
+  drawn = made.drawn;
   seats = made.seats;
   turns = turns;
 }
@@ -51,55 +54,89 @@ ruled_of setting posted history turn numbers home s limits made words homes turn
 -- other views of one table, by the same history
 pub with_views : (s : Table) (r : Ruled s) (words : List ℕ) (views : List View) → words ≡ s.words
     → ((x : ℕ) → total (λ (v : View). times x v.held) views ≤ once_below x r.numbers)
+    → ((n : ℕ) → 0 < n → n < r.numbers → IsDrawn n views)
     → ((j : ℕ) (v : View) → get_elem? views j ≡ some v → v.live ≡ true → Fits r.setting (upto v.stage r.posted r.history) (length r.history) r.numbers v)
     → IsFree r.setting r.posted r.history r.turn r.home views ⊎ IsHeld r.posted r.history r.numbers r.turn r.home views
     → Ruled (record { words = words; homes = s.homes; views = views })
-with_views s r words views same once seats turns =
+with_views s r words views same once drawn seats turns =
     ruled_of r.setting r.posted r.history r.turn r.numbers r.home (record { words = words; homes = s.homes; views = views }) r.limits
-    (record { legal = r.legal; callers = r.callers; few = r.few; once = once; seats = seats }) (same ∙ r.words) r.homes turns
+    (record { legal = r.legal; callers = r.callers; few = r.few; once = once; drawn = drawn; seats = seats }) (same ∙ r.words) r.homes turns
+
+-- what was drawn stays so, where a seat holds no more numbers, and has read no less
+pub drawn_still : (s : Table) (r : Ruled s) (id : ℕ) (v w : View) → get_elem? s.views id ≡ some v → ((x : ℕ) → times x w.held ≤ times x v.held) → v.given ≤ w.given
+    → (n : ℕ) → 0 < n → n < r.numbers → IsDrawn n (set s.views id w)
+drawn_still s r id v w at fewer later n some_below less =
+    let d = r.drawn n some_below less in
+    record { by = d.by; lower = d.lower; read = read_set d.by n s.views id v w at (λ own. omega (arith, fewer d.by)) later d.read }
 
 -- a seat that is away stays away, and may know more
 pub aside : (s : Table) (r : Ruled s) (id : ℕ) (v w : View) (words : List ℕ) → get_elem? s.views id ≡ some v → v.live ≡ true → v.stage ≡ away → w.stage ≡ away
-    → ((x : ℕ) → times x w.held ≤ times x v.held)
+    → ((x : ℕ) → times x w.held ≤ times x v.held) → v.given ≤ w.given
     → (Fits r.setting r.posted (length r.history) r.numbers v → Fits r.setting r.posted (length r.history) r.numbers w)
     → words ≡ s.words → Ruled (record { words = words; homes = s.homes; views = set s.views id w })
-aside s r id v w words at live e d fewer learns same =
+aside s r id v w words at live e d fewer later learns same =
     let G : View → Type 0 = λ u. Fits r.setting (upto u.stage r.posted r.history) (length r.history) r.numbers u in
     let f : G v = r.seats id v at live in
     let g : G w = fits_from r.setting r.posted r.history r.posted (length r.history) r.numbers w away d refl (learns (fits_at r.setting r.posted r.history r.posted (length r.history) r.numbers v away e refl f)) in
     with_views s r words (set s.views id w) same
     (once_set s.views id v w r.numbers r.numbers at r.once (λ x. let a = fewer x in omega arith))
+    (drawn_still s r id v w at fewer later)
     (each_set G G s.views id w r.seats (λ j u ne at' h. h) (λ _. g))
     (turns_aside r.setting r.posted r.history r.turn r.numbers r.home s.views id v w at e d r.turns)
 
--- a new seat with no number comes, and is away
-pub arrives : (s : Table) (r : Ruled s) (w : View) → w.stage ≡ away → w.held ≡ [] → Fits r.setting r.posted (length r.history) r.numbers w
-    → Ruled (record { words = s.words; homes = s.homes; views = s.views ++ w ∷ [] })
-arrives s r w d nothing f =
-    let g = fits_from r.setting r.posted r.history r.posted (length r.history) r.numbers w away d refl f in
+-- who holds the turn stays, where a seat comes that is away
+turns_longer : (s : Setting) (posted history : List Entry) (turn numbers : ℕ) (home : maybe.Option (Option Book)) (views : List View) (w : View) → w.stage ≡ away
+    → IsFree s posted history turn home views ⊎ IsHeld posted history numbers turn home views
+    → IsFree s posted history turn home (views ++ w ∷ []) ⊎ IsHeld posted history numbers turn home (views ++ w ∷ [])
+turns_longer s posted history turn numbers home views w d (inl free) = inl (record {
+  turn_is = free.turn_is;
+  home_is = free.home_is;
+  all_posted = free.all_posted;
+  all_away = λ j u at. ⊎_elim (λ at'. free.all_away j u at') (λ e. ap (λ (k : View). k.stage) (sym e) ∙ d) (at_snoc views w u j at);
+})
+turns_longer s posted history turn numbers home views w d (inr held) = inr (record {
+  turn_is = held.turn_is;
+  home_is = held.home_is;
+  seat = held.seat;
+  view = held.view;
+  there = at_longer views (w ∷ []) held.seat held.view held.there;
+  live = held.live;
+  holder = held.holder;
+  others_away = λ j u other at. ⊎_elim (λ at'. held.others_away j u other at') (λ e. ap (λ (k : View). k.stage) (sym e) ∙ d) (at_snoc views w u j at);
+})
+
+-- a seat that is away gives some of its numbers to a new one
+pub splits_off : (s : Table) (r : Ruled s) (id : ℕ) (v left right : View) → get_elem? s.views id ≡ some v → v.live ≡ true → v.stage ≡ away → left.stage ≡ away → right.stage ≡ away
+    → ((x : ℕ) → times x left.held + times x right.held ≡ times x v.held) → v.given ≤ left.given → v.given ≤ right.given
+    → (Fits r.setting r.posted (length r.history) r.numbers v → Fits r.setting r.posted (length r.history) r.numbers left × Fits r.setting r.posted (length r.history) r.numbers right)
+    → Ruled (record { words = s.words; homes = s.homes; views = set s.views id left ++ right ∷ [] })
+splits_off s r id v left right at live e d d' both later later' learns =
+    let views = set s.views id left in
     let G : View → Type 0 = λ u. Fits r.setting (upto u.stage r.posted r.history) (length r.history) r.numbers u in
-    let stage : View → Stage = λ u. u.stage in
-    with_views s r s.words (s.views ++ w ∷ []) refl
-    (λ x. let a = r.once x in let b = total_append (λ (u : View). times x u.held) s.views (w ∷ []) in let c : times x w.held ≡ 0 = ap (times x) nothing in omega arith)
-    (λ j u at live. ⊎_elim (λ at'. r.seats j u at' live) (λ e. subst G e g) (at_snoc s.views w u j at))
-    (elim r.turns [
-      | inl free ↦ inl (record {
-        turn_is = free.turn_is;
-        home_is = free.home_is;
-        all_posted = free.all_posted;
-        all_away = λ j u at. ⊎_elim (λ at'. free.all_away j u at') (λ e. ap stage (sym e) ∙ d) (at_snoc s.views w u j at);
-      })
-      | inr held ↦ inr (record {
-        turn_is = held.turn_is;
-        home_is = held.home_is;
-        seat = held.seat;
-        view = held.view;
-        there = at_longer s.views (w ∷ []) held.seat held.view held.there;
-        live = held.live;
-        holder = held.holder;
-        others_away = λ j u other at. ⊎_elim (λ at'. held.others_away j u other at') (λ e. ap stage (sym e) ∙ d) (at_snoc s.views w u j at);
-      })
-    ])
+    let f = learns (fits_at r.setting r.posted r.history r.posted (length r.history) r.numbers v away e refl (r.seats id v at live)) in
+    let mine : G left = fits_from r.setting r.posted r.history r.posted (length r.history) r.numbers left away d refl f.0 in
+    let new : G right = fits_from r.setting r.posted r.history r.posted (length r.history) r.numbers right away d' refl f.1 in
+    with_views s r s.words (views ++ right ∷ []) refl
+    (λ x.
+    let a = r.once x in let b = total_set (λ (u : View). times x u.held) s.views id v left at in let c = both x in
+    omega (arith, total_append (λ (u : View). times x u.held) views (right ∷ [])))
+    (λ n some_below less.
+    let w = r.drawn n some_below less in
+    record {
+      by = w.by;
+      lower = w.lower;
+      read = λ j u at' own. ⊎_elim
+          (λ at''. read_set w.by n s.views id v left at (λ h. omega (arith, both w.by)) later w.read j u at'' own)
+          (λ q.
+          let H : View → Type 0 = λ k. 0 < times w.by k.held in let L : View → Type 0 = λ k. n < k.given in
+          let theirs : 0 < times w.by right.held = subst H (sym q) own in
+          subst L q (omega (arith, w.read id v at (omega (arith, both w.by)))))
+          (at_snoc views right u j at');
+    })
+    (λ j u at' live'. ⊎_elim
+    (λ at''. each_set G G s.views id left r.seats (λ j u ne at' h. h) (λ _. mine) j u at'' live')
+    (λ q. subst G q new) (at_snoc views right u j at'))
+    (turns_longer r.setting r.posted r.history r.turn r.numbers r.home views right d' (turns_aside r.setting r.posted r.history r.turn r.numbers r.home s.views id v left at e d r.turns))
 
 -- the holder of the turn made it so: the others stand to what is posted as they did
 pub record Does (s : Table) (r : Ruled s) (id : ℕ) (v w : View) (posted history : List Entry) (numbers : ℕ) : Type 0 where
@@ -107,6 +144,7 @@ pub record Does (s : Table) (r : Ruled s) (id : ℕ) (v w : View) (posted histor
   pub callers : callers_below numbers history
   pub few : numbers ≤ 64
   pub grown : (x : ℕ) → times x w.held + once_below x r.numbers ≤ times x v.held + once_below x numbers
+  pub drawn : (n : ℕ) → 0 < n → n < numbers → IsDrawn n (set s.views id w)
   pub others : (j : ℕ) (u : View) → j ≢ id → get_elem? s.views j ≡ some u → Fits r.setting r.posted (length r.history) r.numbers u → Fits r.setting posted (length history) numbers u
   pub mine : Fits r.setting (upto w.stage posted history) (length history) numbers w
 
@@ -120,6 +158,7 @@ makes s r id v w posted history numbers at others does =
       callers = does.callers;
       few = does.few;
       once = once_set s.views id v w r.numbers numbers at r.once does.grown;
+      drawn = does.drawn;
       seats = each_set F G s.views id w r.seats
           (λ j u ne at' f.
           let e = others j u ne at' in
@@ -129,13 +168,14 @@ makes s r id v w posted history numbers at others does =
     }
 
 -- where the history and the numbers stay
-does_same : (s : Table) (r : Ruled s) (id : ℕ) (v w : View) → ((x : ℕ) → times x w.held ≤ times x v.held)
+does_same : (s : Table) (r : Ruled s) (id : ℕ) (v w : View) → get_elem? s.views id ≡ some v → ((x : ℕ) → times x w.held ≤ times x v.held) → v.given ≤ w.given
     → Fits r.setting (upto w.stage r.posted r.history) (length r.history) r.numbers w → Does s r id v w r.posted r.history r.numbers
-does_same s r id v w fewer f = record {
+does_same s r id v w at fewer later f = record {
   legal = r.legal;
   callers = r.callers;
   few = r.few;
   grown = λ x. let a = fewer x in omega arith;
+  drawn = drawn_still s r id v w at fewer later;
   others = λ j u ne at' g. g;
   mine = f;
 }
@@ -170,13 +210,13 @@ holds_on s r id v w posted history numbers words at live o does same holder =
 pub gives_back : (s : Table) (r : Ruled s) (id : ℕ) (v w : View) (words : List ℕ) (homes : List (maybe.Option (Option Book))) → get_elem? s.views id ≡ some v
     → Owned r.posted r.history r.numbers r.turn r.home s.views id v
     → r.posted ≡ r.history
-    → ((x : ℕ) → times x w.held ≤ times x v.held)
+    → ((x : ℕ) → times x w.held ≤ times x v.held) → v.given ≤ w.given
     → w.stage ≡ away → Fits r.setting r.posted (length r.history) r.numbers w
     → words ≡ 0 ∷ length r.history ∷ r.numbers ∷ least_of r.setting.league r.posted ∷ []
     → homes ≡ some (Some (board_at r.setting r.history)) ∷ []
     → Ruled (record { words = words; homes = homes; views = set s.views id w })
-gives_back s r id v w words homes at o all_posted fewer d f same back =
-    let does = does_same s r id v w fewer (fits_from r.setting r.posted r.history r.posted (length r.history) r.numbers w away d refl f) in
+gives_back s r id v w words homes at o all_posted fewer later d f same back =
+    let does = does_same s r id v w at fewer later (fits_from r.setting r.posted r.history r.posted (length r.history) r.numbers w away d refl f) in
     ruled_of r.setting r.posted r.history 0 r.numbers (some (Some (board_at r.setting r.history))) (record { words = words; homes = homes; views = set s.views id w }) r.limits
     (makes s r id v w r.posted r.history r.numbers at o.others_away does) same back
     (inl (record {
@@ -189,18 +229,25 @@ gives_back s r id v w words homes at o all_posted fewer d f same back =
 -- the turn is taken, and the board with it
 pub takes_hold : (s : Table) (r : Ruled s) (id : ℕ) (v w : View) (words : List ℕ) (homes : List (maybe.Option (Option Book))) → get_elem? s.views id ≡ some v → w.live ≡ true
     → IsFree r.setting r.posted r.history r.turn r.home s.views
-    → ((x : ℕ) → times x w.held ≤ times x v.held)
+    → ((x : ℕ) → times x w.held ≤ times x v.held) → v.given ≤ w.given
     → Fits r.setting (upto w.stage r.posted r.history) (length r.history) r.numbers w
     → IsHolder r.posted r.history r.numbers w.held w.given w.stage
     → words ≡ 1 ∷ length r.history ∷ r.numbers ∷ least_of r.setting.league r.posted ∷ []
     → homes ≡ none ∷ []
     → Ruled (record { words = words; homes = homes; views = set s.views id w })
-takes_hold s r id v w words homes at live free fewer f holder same out =
+takes_hold s r id v w words homes at live free fewer later f holder same out =
     let others : OthersAway s.views id = λ j u ne. free.all_away j u in
     ruled_of r.setting r.posted r.history 1 r.numbers none (record { words = words; homes = homes; views = set s.views id w }) r.limits
-    (makes s r id v w r.posted r.history r.numbers at others (does_same s r id v w fewer f)) same out
+    (makes s r id v w r.posted r.history r.numbers at others (does_same s r id v w at fewer later f)) same out
     (inr (held_by r.posted r.history r.numbers 1 none s.views id v w at others refl refl live holder))
 
 -- no number is held twice, and none that isn't given out
 pub held_once : (s : Table) (r : Ruled s) (j : ℕ) (v : View) (x : ℕ) → get_elem? s.views j ≡ some v → times x v.held ≤ once_below x r.numbers
 held_once s r j v x at = let a = total_at (λ (u : View). times x u.held) s.views j v at in let b = r.once x in omega arith
+
+-- who holds each number that it knows of knows of all
+pub knows_all_numbers : (s : Table) (r : Ruled s) (j : ℕ) (v : View) → get_elem? s.views j ≡ some v → v.given ≤ r.numbers → 0 < v.given → HoldsEach v.given v.held → v.given ≡ r.numbers
+knows_all_numbers s r j v at most some_given each = elim (dec_le r.numbers v.given) [
+  | yes le ↦ omega arith
+  | no more ↦ let d = r.drawn v.given some_given (omega arith) in let later = d.read j v at (each d.by d.lower) in absurd (omega arith)
+]

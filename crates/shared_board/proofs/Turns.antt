@@ -1,11 +1,14 @@
 -- Each step of a turn keeps the rule.
-use Rattle.std.proofs.Common.{◌≡◌, ◌≢◌, ℕ, zero, suc, ◌+◌, ◌<◌, ◌≤◌, min, Option, Some, List, [], ◌∷◌, ◌++◌, length, slice_index, set, refl, ap, sym, ◌∙◌, subst, inl, inr, arith, true, length-append, ◌==◌, cond}
+use Rattle.std.proofs.Common.{◌≡◌, ◌≢◌, ℕ, zero, suc, ◌+◌, ◌<◌, ◌≤◌, min, Option, Some, List, [], ◌∷◌, ◌++◌, length, slice_index, set, refl, ap, sym, ◌∙◌, subst, inl, inr, ⊎_elim, arith, true, length-append, ◌==◌, cond}
 use Rattle.std.proofs.lemmas.Bool.Decides.{nat_tests}
 use mathlib.Core.Option.{none, some, some-injective, some-ne-none}
 use mathlib.Core.Option as maybe
+use mathlib.Core.Logic.{dite}
+use native.Mathlib.Decide.{ℕ_discrete}
 use prog.Atomic.{either}
 use lib.ListN.{get_elem?}
 use Rattle.atomic_table.specs.Table.{step, keeps, takes, gives, put_back, Allows, opening}
+use Rattle.atomic_table.proofs.Lists.{at_set}
 use Rattle.fixture_board.specs.declared.change.Entry.{Entry}
 use Rattle.fixture_board.specs.History.{IsLegal}
 use Rattle.fixture_board.specs.Laws.{least_of}
@@ -15,14 +18,14 @@ use Rattle.shared_board.specs.declared.view.View.{View}
 use Rattle.shared_board.specs.Setting.{Setting, board_at}
 use Rattle.shared_board.specs.Stage.{Stage, away, holds, counts, owes, kept, owed, IsSettled}
 use Rattle.shared_board.specs.Held.{times, once_below, callers_below}
-use Rattle.shared_board.specs.Rule.{Knows, Lowest, Fits, upto, Added, IsHolder, Ruled, first_view}
+use Rattle.shared_board.specs.Rule.{Knows, Lowest, Fits, upto, Added, IsHolder, IsDrawn, Ruled, first_view}
 use Rattle.shared_board.specs.Plays.{Place, Meets, took, committed, posted, left, quit, counted, drawn, drawing, counting, at_stage, saw, on_board}
 use Rattle.shared_board.specs.Between.{Table}
 use Rattle.shared_board.specs.Seats.{HasBoard}
 use Rattle.shared_board.proofs.BoardLaws.{legal_start, least_falls}
 use Rattle.shared_board.proofs.Counts.{under_both, under_none, callers_append, callers_after, callers_more, once_most, once_next, times_own, held_below, total_two}
-use Rattle.shared_board.proofs.Views.{owned, settled_not_away, settled_knows, settled_upto, fits_at, fits_stage, fits_longer, fits_more, fits_saw, knows_all, lowest_all, parts_held}
-use Rattle.shared_board.proofs.Steps.{aside, holds_on, gives_back, takes_hold, held_once}
+use Rattle.shared_board.proofs.Views.{owned, settled_not_away, settled_knows, settled_upto, fits_at, fits_stage, fits_longer, fits_more, fits_saw, knows_all, lowest_all, parts_held, read_set}
+use Rattle.shared_board.proofs.Steps.{aside, drawn_still, holds_on, gives_back, takes_hold, held_once, knows_all_numbers}
 
 -- what was met under the turn
 pub meets : (s : Table) (r : Ruled s) (id : ℕ) (v : View) → get_elem? s.views id ≡ some v → r.posted ≡ r.history
@@ -60,7 +63,7 @@ take_keeps slots id m live e s r sized at fits =
             w,
             takes 0 (Some b),
             ap (λ (l : List (maybe.Option (Option Book))). get_elem? l 0) at_home,
-            takes_hold s r id v w (Words s.words) (set s.homes 0 none) at live free (λ x. omega arith)
+            takes_hold s r id v w (Words s.words) (set s.homes 0 none) at live free (λ x. omega arith) (omega arith)
                 (fits_stage r.setting r.posted (length r.history) r.numbers v (holds r.history) f) (refl, free.all_posted) words
                 (ap (λ (l : List (maybe.Option (Option Book))). set l 0 none) at_home),
             ((λ _. (r.history, meets s r id v at free.all_posted f, refl)), (λ ne. absurd (ne (found ∙ free.turn_is)))),
@@ -72,7 +75,7 @@ take_keeps slots id m live e s r sized at fits =
             v,
             keeps,
             tt,
-            aside s r id v v (Words s.words) at live e e (λ x. omega arith) (λ g. g) words,
+            aside s r id v v (Words s.words) at live e e (λ x. omega arith) (omega arith) (λ g. g) words,
             ((λ is. absurd (let q : 1 ≡ 0 = sym held.turn_is ∙ (sym found ∙ is) in omega arith)), (λ _. refl)),
           )
     ]
@@ -107,6 +110,7 @@ commit_keeps slots id m version live settled added legal long s r sized at fits 
             callers = added_below s r id v before g at k.0 added;
             few = r.few;
             grown = λ x. omega arith;
+            drawn = drawn_still s r id v w at (λ x. omega arith) (omega arith);
             others = λ j u ne at' h. fits_longer r.setting r.posted (length r.history) (length g) r.numbers r.numbers u (omega arith) (omega arith) h;
             mine = fits_saw r.setting g r.numbers v (owes before g) f.setting_is f.given;
           })
@@ -145,6 +149,7 @@ post_keeps slots id m least live e is s r sized at fits =
             callers = r.callers;
             few = r.few;
             grown = λ y. omega arith;
+            drawn = drawn_still s r id v w at (λ y. omega arith) (omega arith);
             others = λ j u ne at' g.
                 let F : List Entry → Type 0 = λ l. Fits r.setting l (length r.history) r.numbers u in
                 subst F (sym added.one_more) (fits_more r.setting r.posted (length r.history) r.numbers u x (held_alone s r id j v u x.caller ne at at' added.own) g);
@@ -175,7 +180,7 @@ leave_keeps slots id m live settled has s r sized at fits =
       w,
       gives,
       tt,
-      gives_back s r id v w (set s.words 0 0) (put_back s.homes m.1) at o k.1 (λ x. omega arith) refl
+      gives_back s r id v w (set s.words 0 0) (put_back s.homes m.1) at o k.1 (λ x. omega arith) (omega arith) refl
           (subst G (sym k.1) (subst F k.0 (fits_saw r.setting h r.numbers v away f.setting_is f.given)))
           (ap (λ (l : List ℕ). set l 0 0) r.words)
           (home_again s r v m.1 h f.setting_is k.0 has),
@@ -193,7 +198,7 @@ quit_keeps slots id m live settled has s r sized at fits =
       w,
       gives,
       tt,
-      gives_back s r id v w (set s.words 0 0) (put_back s.homes m.1) at o k.1 (λ x. omega arith) refl
+      gives_back s r id v w (set s.words 0 0) (put_back s.homes m.1) at o k.1 (λ x. omega arith) (omega arith) refl
           (fits_stage r.setting r.posted (length r.history) r.numbers v away (subst G (settled_upto r.posted r.history v.stage settled) f))
           (ap (λ (l : List ℕ). set l 0 0) r.words)
           (home_again s r v m.1 h f.setting_is k.0 has),
@@ -224,6 +229,7 @@ count_keeps slots id m live settled s r sized at fits =
             callers = r.callers;
             few = r.few;
             grown = λ x. omega arith;
+            drawn = drawn_still s r id v w at (λ x. omega arith) (omega arith);
             others = λ j u ne at' g. g;
             mine = record { setting_is = f.setting_is; knows = f.knows; glanced = f.glanced; lowest = f.lowest; given = omega arith; parts = f.parts };
           })
@@ -235,12 +241,32 @@ count_keeps slots id m live settled s r sized at fits =
         few = omega arith;
         callers = subst B (sym found) (subst C (sym k.0) r.callers);
         own = subst O (sym found) (λ x. held_once s r id v x at);
+        all = λ some_given each. knows_all_numbers s r id v at given some_given each ∙ sym found;
       },
     )
 
-pub draw_keeps : (slots id : ℕ) (m : Place) (next : ℕ) → m.0.live ≡ true → m.0.stage ≡ counts (kept m.0.stage) → next ≡ m.0.given + 1 → next ≤ 64
+-- the number that is drawn is known to its seat, and what was drawn stays so
+drawn_next : (s : Table) (r : Ruled s) (id : ℕ) (v : View) (own : ℕ) → get_elem? s.views id ≡ some v → 0 < times own v.held → v.given ≡ r.numbers
+    → (n : ℕ) → 0 < n → n < r.numbers + 1 → IsDrawn n (set s.views id (drawing v))
+drawn_next s r id v own at holds_own count_is n some_below less = dite (ℕ_discrete n r.numbers)
+    (λ e. record {
+      by = own;
+      lower = omega (arith, held_below own r.numbers (times own v.held) holds_own (held_once s r id v own at));
+      read = λ j u at' mine.
+          let G : View → Type 0 = λ k. n < k.given in
+          ⊎_elim (λ t. subst G t.1 (omega arith)) (λ t. absurd (omega (arith, held_alone s r id j v u own t.0 at t.1 holds_own))) (at_set s.views id j (drawing v) u at');
+    })
+    (λ ne.
+    let d = r.drawn n some_below (omega arith) in let lower = d.lower in
+    record {
+      by = d.by;
+      lower = lower;
+      read = read_set d.by n s.views id v (drawing v) at (λ h. omega (arith, times_own v.given d.by (omega arith))) (omega arith) d.read;
+    })
+
+pub draw_keeps : (slots id : ℕ) (m : Place) (next own : ℕ) → m.0.live ≡ true → m.0.stage ≡ counts (kept m.0.stage) → 0 < times own m.0.held → next ≡ m.0.given + 1 → next ≤ 64
     → Allows Ruled slots id m 2 (λ _. next) (λ _. drawn (step slots 2 next 0 none) m next)
-draw_keeps slots id m next live e is few s r sized at fits =
+draw_keeps slots id m next own live e holds_own is few s r sized at fits =
     let v = m.0 in let h = kept v.stage in
     let w = drawing v in
     let o = owned r.setting r.posted r.history r.turn r.numbers r.home s.views id v r.turns at (λ q. let q' : counts h ≡ away = sym e ∙ q in cc) in
@@ -265,6 +291,7 @@ draw_keeps slots id m next live e is few s r sized at fits =
                 let step_up : cond {A = ℕ} (v.given == x) 1 0 + once_below x v.given ≡ once_below x next = once_next x v.given ∙ ap (once_below x) (sym is) in
                 let same : once_below x v.given ≡ once_below x r.numbers = ap (once_below x) count_is in
                 omega arith;
+            drawn = λ n some_below less. drawn_next s r id v own at holds_own count_is n some_below (omega arith);
             others = λ j u ne at' g. fits_longer r.setting r.posted (length r.history) (length r.history) r.numbers next u (omega arith) (omega arith) g;
             mine = record {
               setting_is = f.setting_is;
@@ -320,6 +347,7 @@ opens b best empty limits is =
       callers = tt;
       few = omega arith;
       once = λ x. opens_once x;
+      drawn = λ n some_below less. absurd (omega arith);
       seats = λ j u at live. (let F : View → Type 0 = λ t. Fits setting (upto t.stage [] []) 0 1 t in subst F (only_one v j u at) (first_fits b));
       turns = inl (record {
         turn_is = refl;

@@ -1,5 +1,5 @@
 -- The parts of the rule: what a view has to do with the history, and who holds the turn.
-use Rattle.std.proofs.Common.{◌≡◌, ◌≢◌, ℕ, zero, suc, ◌+◌, ◌≤◌, Option, List, [], ◌∷◌, ◌++◌, length, set, refl, ap, sym, ◌∙◌, subst, ◌⊎◌, inl, inr, ⊎_elim, append_assoc, arith, true}
+use Rattle.std.proofs.Common.{◌≡◌, ◌≢◌, ℕ, zero, suc, ◌+◌, ◌<◌, ◌≤◌, max, Option, List, [], ◌∷◌, ◌++◌, length, set, refl, ap, sym, ◌∙◌, subst, ◌⊎◌, inl, inr, ⊎_elim, append_assoc, arith, true}
 use Rattle.std.proofs.lemmas.List.{append-nil}
 use mathlib.Core.Option.{none, some, some-injective}
 use mathlib.Core.Option as maybe
@@ -14,9 +14,9 @@ use Rattle.shared_board.specs.declared.view.View.{View}
 use Rattle.shared_board.specs.Setting.{Setting}
 use Rattle.shared_board.specs.Stage.{Stage, Part, away, holds, counts, owes, kept, IsSettled}
 use Rattle.shared_board.specs.Held.{times, once_below, total}
-use Rattle.shared_board.specs.Rule.{Knows, Lowest, EachPart, Fits, upto, IsHolder, IsFree, IsHeld}
+use Rattle.shared_board.specs.Rule.{Knows, Lowest, EachPart, Fits, upto, IsHolder, IsFree, IsHeld, AllRead}
 use Rattle.shared_board.specs.Plays.{at_stage, saw}
-use Rattle.shared_board.proofs.Counts.{under_append, total_set}
+use Rattle.shared_board.proofs.Counts.{under_append, under_fewer, total_set}
 
 -- the whole history is known
 pub knows_all : (held : List ℕ) (h : List Entry) → Knows held h h
@@ -148,6 +148,30 @@ pub there_set : (views : List View) (id : ℕ) (v w : View) → get_elem? views 
 there_set [] id v w at = absurd (cc)
 there_set (x ∷ views) zero v w at = refl
 there_set (x ∷ views) (suc id) v w at = there_set views id v w at
+
+-- what was read stays so, where a seat's view changes that gets no such number, and has read no less
+pub read_set : (by n : ℕ) (views : List View) (id : ℕ) (v w : View) → get_elem? views id ≡ some v → (0 < times by w.held → 0 < times by v.held) → v.given ≤ w.given
+    → AllRead by n views → AllRead by n (set views id w)
+read_set by n views id v w at fewer later read j u at' own =
+    let H : View → Type 0 = λ k. 0 < times by k.held in
+    let G : View → Type 0 = λ k. n < k.given in
+    ⊎_elim (λ t. subst G t.1 (omega (arith, read id v at (fewer (subst H (sym t.1) own))))) (λ t. read j u t.1 own) (at_set views id j w u at')
+
+-- one of two has the number, and has read that the other is given out
+pub either_read : (a b g k n : ℕ) → 0 < a + b → (0 < a → n < g) → (0 < b → n < k) → n < max g k
+either_read a b g k n some_held f h = dite (ℕ_discrete a 0) (λ e. omega (arith, h (omega arith))) (λ ne. omega (arith, f (omega arith)))
+
+-- fewer numbers are held
+pub fits_fewer : (s : Setting) (h : List Entry) (long numbers : ℕ) (v : View) (held : List ℕ) → ((x : ℕ) → times x held ≤ times x v.held) → Fits s h long numbers v
+    → Fits s h long numbers (record v { held = held; parts = [] })
+fits_fewer s h long numbers v held fewer f = record {
+  setting_is = f.setting_is;
+  knows = record { after = f.knows.after; begins = f.knows.begins; none_after = (let a = f.knows.none_after in omega (arith, under_fewer held v.held f.knows.after fewer)) };
+  glanced = f.glanced;
+  lowest = f.lowest;
+  given = f.given;
+  parts = tt;
+}
 
 pub once_set : (views : List View) (id : ℕ) (v w : View) (numbers more : ℕ) → get_elem? views id ≡ some v
     → ((x : ℕ) → total (λ (u : View). times x u.held) views ≤ once_below x numbers)

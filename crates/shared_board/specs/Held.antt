@@ -21,6 +21,10 @@ abbrev pub under : List ℕ → List Entry → ℕ
 under held [] = 0
 under held (e ∷ es) = times e.caller held + under held es
 
+-- each number below n is held
+abbrev pub HoldsEach : ℕ → List ℕ → Type 0
+HoldsEach n held = (x : ℕ) → x < n → 0 < times x held
+
 abbrev pub callers_below : ℕ → List Entry → Type 0
 callers_below n [] = Unit {0}
 callers_below n (e ∷ es) = (e.caller < n) × callers_below n es

@@ -1,5 +1,5 @@
 -- What each step tells: of the step, the seat before, the number found and the seat after.
-use Rattle.std.specs.Prelude.{nat_lt, if◌then◌else◌, min, max, ◌+◌, ◌++◌, Option, Some, None, ◌≡◌, ◌≢◌, ℕ, ◌≤◌, List, [], ◌∷◌, length}
+use Rattle.std.specs.Prelude.{nat_lt, if◌then◌else◌, min, max, ◌+◌, ◌++◌, Option, Some, None, ◌≡◌, ◌≢◌, ℕ, ◌<◌, ◌≤◌, List, [], ◌∷◌, length}
 use Rattle.atomic_table.specs.Table.{Me, Step, rest}
 use Rattle.fixture_board.specs.declared.change.Entry.{Entry}
 use Rattle.fixture_board.specs.History.{IsLegal}
@@ -8,7 +8,7 @@ use Rattle.fixture_board.specs.Record.{Book}
 use Rattle.shared_board.specs.declared.view.View.{View}
 use Rattle.shared_board.specs.Setting.{board_at}
 use Rattle.shared_board.specs.Stage.{Stage, away, holds, counts, owes, kept}
-use Rattle.shared_board.specs.Held.{times, once_below, callers_below}
+use Rattle.shared_board.specs.Held.{times, once_below, HoldsEach, callers_below}
 use Rattle.shared_board.specs.Rule.{Knows, Lowest, EachPart}
 
 -- a seat of the table: what it knows, and the slot that it has taken
@@ -74,6 +74,8 @@ pub record Counted (m : Place) (r : ℕ) (n : Place) : Type 0 where
   pub few : r ≤ 64
   pub callers : callers_below r (kept m.0.stage)
   pub own : (x : ℕ) → times x m.0.held ≤ once_below x r
+  -- who holds each number that it knows of knows of all
+  pub all : 0 < m.0.given → HoldsEach m.0.given m.0.held → m.0.given ≡ r
 
 abbrev pub counted : Told
 counted st m r n = Counted m r n
@@ -91,9 +93,21 @@ glanced st m r n = (m.0.glanced ≤ r) × (n ≡ (record m.0 { glanced = r }, m.
 abbrev pub lowered : Told
 lowered st m r n = (r ≤ m.0.lowest) × (n ≡ (record m.0 { lowest = r }, m.1))
 
--- a new seat's view, which has no number yet
+abbrev pub last_drawn : List ℕ → List ℕ
+last_drawn [] = []
+last_drawn (n ∷ ns) = n ∷ []
+
+abbrev pub drawn_before : List ℕ → List ℕ
+drawn_before [] = []
+drawn_before (n ∷ ns) = ns
+
+-- a new seat's view, which gets the number drawn last
 abbrev pub newcomer : View → View
-newcomer v = record v { held = []; parts = []; stage = away }
+newcomer v = record v { held = last_drawn v.held; parts = [] }
+
+-- and that of the seat that drew it, which keeps the others
+abbrev pub drawer : View → View
+drawer v = record v { held = drawn_before v.held; parts = [] }
 
 abbrev pub longer : List Entry → List Entry → List Entry
 longer a b = if nat_lt (length a) (length b) then b else a

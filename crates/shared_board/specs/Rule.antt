@@ -108,6 +108,16 @@ pub record IsHeld (posted history : List Entry) (numbers turn : ℕ) (home : may
   pub holder : IsHolder posted history numbers view.held view.given view.stage
   pub others_away : (j : ℕ) (v : View) → j ≢ seat → get_elem? views j ≡ some v → v.stage ≡ away
 
+-- each seat that holds the first number has read that the second is given out
+abbrev pub AllRead : ℕ → ℕ → List View → Type 0
+AllRead by n views = (j : ℕ) (v : View) → get_elem? views j ≡ some v → 0 < times by v.held → n < v.given
+
+-- the number was drawn by a seat that held a lower one
+pub record IsDrawn (n : ℕ) (views : List View) : Type 0 where
+  pub by : ℕ
+  pub lower : by < n
+  pub read : AllRead by n views
+
 -- The words are the turn, the length of the history, how many numbers are given out, and the best total. Between a
 -- commit and its post the best total is that of a history shorter by one entry, `posted`
 pub record Ruled (s : State (Option Book) View) : Type 0 where
@@ -125,6 +135,7 @@ pub record Ruled (s : State (Option Book) View) : Type 0 where
   pub few : numbers ≤ 64
   -- each number below `numbers` is held once at most, and no other number is
   pub once : (x : ℕ) → total (λ (v : View). times x v.held) s.views ≤ once_below x numbers
+  pub drawn : (n : ℕ) → 0 < n → n < numbers → IsDrawn n s.views
   pub seats : (j : ℕ) (v : View) → get_elem? s.views j ≡ some v → v.live ≡ true →
       Fits setting (upto v.stage posted history) (length history) numbers v
   pub turns : IsFree setting posted history turn home s.views ⊎ IsHeld posted history numbers turn home s.views

@@ -1,5 +1,5 @@
 -- What a caller sees of a seat, and what each call does to it.
-use Rattle.std.specs.Prelude.{Option, None, if◌then◌else◌, ◌==◌, Some, ◌⊎◌, ◌+◌, min, max, ◌≡◌, ℕ, ◌<◌, ◌≤◌, List, [], ◌∷◌, ◌++◌, length, true}
+use Rattle.std.specs.Prelude.{Bool, Option, None, if◌then◌else◌, ◌==◌, Some, ◌⊎◌, ◌+◌, min, max, ◌≡◌, ℕ, ◌<◌, ◌≤◌, List, [], ◌∷◌, ◌++◌, length, true}
 use Rattle.atomic_table.specs.Seated.{TableId}
 use Rattle.fixtures.specs.Games.{Games}
 use Rattle.fixture_board.specs.declared.ask.Ask.{Ask}
@@ -54,10 +54,20 @@ pub record IsIdle (me : Place) : Type 0 where
 pub record IsSeat (me : Place) (number held seen accepted : ℕ) : Type 0 where
   pub idle : IsIdle me
   pub own : 0 < times number me.0.held
+  pub single : (x : ℕ) → times x me.0.held ≤ 1
   pub count : held ≡ length me.0.held
   pub long : seen ≡ length me.0.seen
   pub entries : accepted ≡ under me.0.held me.0.seen
   pub below : (x : ℕ) → me.0.given ≤ x → times x me.0.held ≡ 0
+  pub ahead : length me.0.seen ≤ me.0.glanced
+
+-- What holds of every seat: it holds its own number, none twice, and none that it doesn't know to be given out, and it
+-- has glanced no less than it has seen
+pub record IsConsistent (a : SeatValue) : Type 0 where
+  pub own : times a.number a.held ≡ 1
+  pub single : (x : ℕ) → times x a.held ≤ 1
+  pub below : (x : ℕ) → a.given ≤ x → times x a.held ≡ 0
+  pub ahead : length a.seen ≤ a.glanced
 
 -- the seat has the board, with this history
 abbrev pub HasBoard : Place → List Entry → Type 0
@@ -77,6 +87,7 @@ pub record Met (a : SeatValue) (history : List Entry) : Type 0 where
 
 -- the reply is that of one thread's board at a history that was met, and the seat has seen the history after the call
 pub record Answered (a b : SeatValue) (ask : Ask) (reply : Reply) : Type 0 where
+  pub seat : IsConsistent a
   pub history : List Entry
   pub met : Met a history
   pub replied : reply ≡ reply_of a.setting.league a.setting.room history ask
@@ -143,10 +154,15 @@ pub record Absorbed (a other b : SeatValue) : Type 0 where
     given = max a.given other.given;
   }
 
--- The board has a history that stands to the seat as one that was met under the turn. Where it is whole the seat had
--- seen all of it, and each entry is the seat's
+-- The seat holds as many numbers as it knows to be given out. It then knows of all that are
+abbrev pub holds_all : SeatValue → Bool
+holds_all a = length a.held == a.given
+
+-- The board has a history that stands to the seat as one that was met under the turn. It is whole just where the seat
+-- holds each number that was given out: the seat had then seen all of it, and each entry is the seat's
 pub record ClosedBy (a : SeatValue) (c : Closed) : Type 0 where
   pub history : List Entry
   pub met : Met a history
   pub board : c.board ≡ board_at a.setting history
+  pub whole_is : c.whole ≡ holds_all a
   pub whole : c.whole ≡ true → (history ≡ a.seen) × (under a.held a.seen ≡ length history)

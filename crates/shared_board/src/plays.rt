@@ -1,6 +1,6 @@
 //! The names of the steps, and what each tells.
 
-ghost use Rattle.shared_board.specs.Plays.{took, committed, posted, left, quit, counted, drawn, glanced, lowered, newcomer, joined, parted};
+ghost use Rattle.shared_board.specs.Plays.{took, committed, posted, left, quit, counted, drawn, glanced, lowered, drawer, newcomer, joined, parted};
 
 use crate::view::View;
 use atomic_table::{Join, Play, Split};
@@ -76,11 +76,11 @@ impl Play<Option<Board>, View> for Tell {
     ghost then = { parted };
 }
 
-/// A new seat comes from another, and has seen what that one has.
+/// A new seat comes from another with the number that this one drew last, and has seen what it has.
 pub struct Newcomer;
 
 impl Split<View> for Newcomer {
-    ghost left = { λ v. v };
+    ghost left = { drawer };
 
     ghost right = { newcomer };
 }

@@ -1,8 +1,8 @@
 //! The board behind a turn, and the seats of its callers.
 
-ghost use Rattle.std.specs.Prelude.{◌≡◌, ◌<◌, [], length, IfOk};
-ghost use Rattle.shared_board.specs.Seats.{first_seat};
-ghost use Rattle.shared_board.specs.Held.{times, under};
+ghost use Rattle.std.specs.Prelude.{◌≡◌, [], length, IfOk};
+ghost use Rattle.shared_board.specs.Seats.{IsConsistent, first_seat};
+ghost use Rattle.shared_board.specs.Held.{under};
 
 mod calls;
 mod seats;
@@ -82,10 +82,10 @@ impl Model for Seat {
 }
 
 impl Seat {
-    /// The number under which its changes stand in the history.
+    /// The number under which its changes stand in the history. The call tells a proof what holds of every seat.
     pub fn number(&self) -> u32
         ensures value { result ≡ self.now.number }
-        ensures own { 0 < times result self.now.held }
+        ensures seat { IsConsistent self.now }
     {
         self.number
     }
@@ -131,7 +131,7 @@ pub enum SplitFault {
 #[derive(Drop)]
 pub struct Closed {
     pub board: Board,
-    /// The seat held every number that was given out.
+    /// The seat held each number that was given out.
     pub whole: bool,
 }
 

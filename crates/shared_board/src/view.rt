@@ -25,7 +25,7 @@ pub struct View {
     pub ghost glanced: { ℕ },
     /// A best total that the history had, once it was as long as `seen`.
     pub ghost lowest: { ℕ },
-    /// How many numbers it has read as given out.
+    /// How many numbers it knows to be given out.
     pub ghost given: { ℕ },
     /// Of two seats that were made one, what each had held and seen.
     pub ghost parts: { List Part },

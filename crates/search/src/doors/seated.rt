@@ -1,7 +1,6 @@
 //! A door to a shared board.
 
-ghost use Rattle.std.specs.Prelude.{◌≡◌, ◌+◌, ◌≤◌, length};
-ghost use Rattle.shared_board.specs.Held.{times};
+ghost use Rattle.std.specs.Prelude.{◌≡◌};
 
 use crate::Door;
 use fixture_board::{Proposal, Reply};
@@ -9,14 +8,12 @@ use fixtures::Schedule;
 use shared_board::{Seat, Seen, Shared};
 use std::sync::Wait;
 
-/// A door to a board that threads share, by a seat of it.
+/// A door to a board that threads share, by any seat of it.
 #[derive(Drop)]
 pub struct SeatDoor<'a> {
     pub shared: &'a Shared,
     pub seat: Seat,
     pub ghost same_board: { seat.table ≡ shared.now },
-    pub ghost own_once: { times seat.number seat.held ≡ 1 },
-    pub ghost ahead: { length seat.seen ≤ seat.glanced },
 }
 
 impl Door for SeatDoor<'_> {

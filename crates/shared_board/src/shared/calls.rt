@@ -1,6 +1,6 @@
 //! The calls of a seat.
 
-ghost use Rattle.std.specs.Prelude.{◌≡◌, ◌<◌, ◌≤◌, ◌^◌, ◌-◌, IfSome};
+ghost use Rattle.std.specs.Prelude.{◌≡◌, ◌<◌, ◌≤◌, ◌^◌, ◌-◌, length, IfSome};
 ghost use Rattle.shared_board.specs.Seats.{Answered, Looked, glanced_at, lowest_at, word_of_total};
 
 use crate::plays::{Glance, Lower};
@@ -73,6 +73,7 @@ impl Shared {
     /// A length that the history has reached. It waits for nobody.
     pub fn front(&self, seat: &mut Seat) -> u64
         requires { seat.old.table ≡ self.now }
+        ensures seen { length seat.old.seen ≤ result }
         ensures later { seat.old.glanced ≤ result }
         ensures seat { seat.new ≡ glanced_at seat.old result }
     {

@@ -1,28 +1,28 @@
 //! Seats come and go, and the sharing ends.
 
-ghost use Rattle.std.specs.Prelude.{◌≡◌, MatchResult};
+ghost use Rattle.std.specs.Prelude.{◌≡◌, ◌+◌, MatchResult};
 ghost use Rattle.shared_board.specs.Seats.{IsNew, Absorbed, ClosedBy, given_at};
 
-use crate::plays::{Both, Newcomer};
+use crate::plays::Newcomer;
 use crate::shared::{Closed, MAX_SEATS, Seat, Shared, SplitFault};
 use std::sync::Wait;
 
 impl Shared {
-    /// One more seat, which has seen what this one has. There are 64 numbers, each given out once.
+    /// One more seat, which has seen what this one has. There are 64 numbers, each given out once. The old seat then knows
+    /// of the new one's number.
     pub fn split<R: Wait>(&self, rt: &R, seat: &mut Seat) -> Result<Seat, SplitFault>
         requires { seat.old.table ≡ self.now }
-        ensures { MatchResult result (λ s. (seat.new ≡ seat.old) × IsNew seat.old s) (λ _. seat.new ≡ given_at seat.old 64) }
+        ensures { MatchResult result (λ s. (seat.new ≡ given_at seat.old (s.number + 1)) × IsNew seat.old s) (λ _. seat.new ≡ given_at seat.old 64) }
     {
-        let mut place = self.table.shared.split_seat::<Newcomer>(&mut seat.place);
-        self.take(rt, &mut place);
-        let number = self.count(&mut place);
+        self.take(rt, &mut seat.place);
+        let number = self.count(&mut seat.place);
         if number >= MAX_SEATS {
-            self.quit(&mut place);
-            self.table.shared.join_seat::<Both>(&mut seat.place, place);
+            self.quit(&mut seat.place);
             return Err(SplitFault::TooManySeats);
         }
-        self.draw(&mut place, number + 1);
-        self.quit(&mut place);
+        self.draw(&mut seat.place, number + 1);
+        self.quit(&mut seat.place);
+        let place = self.table.shared.split_seat::<Newcomer>(&mut seat.place);
         Ok(Seat {
             place,
             number: number as u32,
@@ -51,7 +51,7 @@ impl Shared {
         seat.accepted += accepted;
     }
 
-    /// Ends the sharing. The board is whole where the seat holds every number that was given out.
+    /// Ends the sharing. The board is whole just where the seat holds each number that was given out.
     pub fn close<R: Wait>(self, rt: &R, seat: Seat) -> Closed
         requires { seat.table ≡ self }
         ensures { ClosedBy seat result }

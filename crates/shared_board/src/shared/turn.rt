@@ -9,7 +9,7 @@ ghost use Rattle.shared_board.specs.Stage.{away, holds, counts, owes, kept, owed
 ghost use Rattle.shared_board.specs.Rule.{Added};
 ghost use Rattle.shared_board.specs.Plays.{Took, Counted, at_stage, saw, on_board, drawing};
 ghost use Rattle.shared_board.specs.Seats.{SeatValue, HasBoard, IsIdle, IsSeat, Answered, Absorbed, seat_value, copied};
-ghost use Rattle.shared_board.specs.Ending.{IsSeatAfter, IsOfBoth, BroughtOut};
+ghost use Rattle.shared_board.specs.Ending.{IsSeatAfter, IsOfBoth, BroughtOut, HoldsBelow};
 ghost use Rattle.shared_board.specs.Judging.{IsJudged};
 
 use crate::plays::{Both, Commit, Count, Draw, Leave, Post, Quit, Take, Tell};
@@ -51,8 +51,8 @@ impl Shared {
         requires idle { IsIdle place.old.me }
         requires own { 0 < times number place.old.me.0.held }
         ensures same { place.new.table_id ≡ place.old.table_id }
-        ensures answered { Answered (seat_value place.old.table_id number place.old.me.0) (seat_value place.old.table_id number place.new.me.0) ask result }
         ensures seat { (held seen accepted : ℕ) → IsSeat place.old.me number held seen accepted → IsSeatAfter place.new.me number held accepted result }
+        ensures answered { (held seen accepted : ℕ) → IsSeat place.old.me number held seen accepted → Answered (seat_value place.old.table_id number place.old.me.0) (seat_value place.old.table_id number place.new.me.0) ask result }
     {
         self.take(rt, place);
         let judged = self.judge(place, number, ask);
@@ -64,6 +64,7 @@ impl Shared {
     pub(crate) fn bring_out<R: Wait>(&self, rt: &R, place: &mut Place) -> (Board, u64)
         requires table { place.old.table_id ≡ self.now }
         requires idle { IsIdle place.old.me }
+        requires below { (0 < place.old.me.0.given) × HoldsBelow place.old.me }
         ensures { BroughtOut place.old.me result.0 result.1 }
     {
         self.take(rt, place);
@@ -214,6 +215,7 @@ impl Shared {
     pub(crate) fn draw(&self, place: &mut Place, next: u64)
         requires table { place.old.table_id ≡ self.now }
         requires turn { (place.old.me.0.live ≡ true) × (place.old.me.0.stage ≡ counts (kept place.old.me.0.stage)) }
+        requires own { (n : ℕ) × (0 < times n place.old.me.0.held) }
         requires next { (next ≡ place.old.me.0.given + 1) × (next ≤ 64) }
         ensures same { place.new.table_id ≡ place.old.table_id }
         ensures done { place.new.me ≡ (drawing place.old.me.0, place.old.me.1) }

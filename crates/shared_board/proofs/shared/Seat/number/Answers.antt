@@ -4,5 +4,5 @@ use Rattle.shared_board.proofs.shared.Seat.number.Goals as goal
 pub returns-clause-value : goal.returns-clause-value
 returns-clause-value c = search rules
 
-pub returns-clause-own : goal.returns-clause-own
-returns-clause-own c = search rules
+pub returns-clause-seat : goal.returns-clause-seat
+returns-clause-seat c = search rules

@@ -3,7 +3,7 @@ use Rattle.search.proofs.SeatLaws.{answered_counted}
 use Rattle.search.proofs.doors.seated.SeatDoorDoor.propose.Goals as goal
 
 pub returns-clause-counted : goal.returns-clause-counted
-returns-clause-counted g c = answered_counted _ _ _ _ c.args.self.now.own_once c.propose.ensures
+returns-clause-counted g c = answered_counted _ _ _ _ c.propose.ensures
 
 pub returns-clause-stays : goal.returns-clause-stays
 returns-clause-stays g c = search rules
