@@ -8,6 +8,7 @@ use mathlib.Core.Logic.{inl, inr}
 use Rattle.std.proofs.lemmas.List.{map-append}
 use Rattle.std.proofs.lemmas.List.Elements.{All-push, All-same}
 use Rattle.fixture_board.specs.declared.change.Entry.{Entry}
+use Rattle.fixture_board.specs.declared.reply.Reply.{Reply}
 use Rattle.fixture_board.specs.Record.{Book}
 use Rattle.shared_board.specs.declared.shared.Closed.{Closed}
 use Rattle.shared_board.specs.Held.{under}
@@ -19,17 +20,17 @@ use Rattle.search.specs.declared.runs.threads.Job.{Job}
 use Rattle.search.specs.declared.workers.Report.{Report}
 use Rattle.search.specs.Crews.{AreStarted, IsBack, IsHandle, handle_number, job_number}
 use Rattle.search.specs.Outcomes.{Credits, accepted_of, made_by}
-use Rattle.search.specs.Reports.{IsReport}
+use Rattle.search.specs.Heard.{IsOfWorker}
 use Rattle.search.proofs.SeatLaws.{under_known}
 
 -- What was taken in of the threads: their numbers, and their reports, each with as many accepted proposals as there are
 -- entries under its number
-pub record IsGathered (steps : ℕ) (table : BoardId) (was seat : SeatValue)
-    (done : List (PromisedHandle Ended Given)) (reports : List Report) : Type 0 where
+pub record IsGathered {G : Type 0} (heard : ℕ → ℕ → Reply → Type 0) (steps : ℕ) (table : BoardId) (was seat : SeatValue)
+    (done : List (PromisedHandle Ended (Given G))) (reports : List Report) : Type 0 where
   pub table_is : seat.table ≡ table
   pub setting : seat.setting ≡ was.setting
   pub held : seat.held ≡ was.held ++ map handle_number done
-  pub each : All (IsReport steps) reports
+  pub each : All (IsOfWorker heard steps) reports
   pub credits : map (λ n. made_by n seat.seen) (map handle_number done) ≡ map accepted_of reports
 
 -- entries under none of the numbers change none of their counts
@@ -63,10 +64,11 @@ counts_joined a other b own ns n joined mine theirs =
     ]
 
 -- one more thread's seat is taken in
-pub gathered_more : (steps : ℕ) (table : BoardId) (was a other b : SeatValue) (done : List (PromisedHandle Ended Given)) (h : PromisedHandle Ended Given) (reports reports' : List Report) (report : Report) →
-    IsGathered steps table was a done reports → IsHandle steps table h → IsBack h.promise.steps h.promise.seat.value report other → Absorbed a other b → reports' ≡ reports ++ report ∷ [] →
-    IsGathered steps table was b (done ++ h ∷ []) reports'
-gathered_more steps table was a other b done h reports reports' report so given back joined items =
+pub gathered_more : {G : Type 0} (hears : G → ℕ → ℕ → Reply → Type 0) (gate : G) (steps : ℕ) (table : BoardId) (was a other b : SeatValue) (done : List (PromisedHandle Ended (Given G))) (h : PromisedHandle Ended (Given G)) (reports reports' : List Report) (report : Report) →
+    IsGathered (hears gate) steps table was a done reports → IsHandle gate steps table h →
+    IsBack (hears h.promise.gate.value) h.promise.steps h.promise.seat.value report other → Absorbed a other b → reports' ≡ reports ++ report ∷ [] →
+    IsGathered (hears gate) steps table was b (done ++ h ∷ []) reports'
+gathered_more {G} hears gate steps table was a other b done h reports reports' report so given back joined items =
     let numbers = map handle_number done in
     let n = handle_number h in
     let fresh = given.1 in
@@ -83,23 +85,24 @@ gathered_more steps table was a other b done h reports reports' report so given 
     let front : map of (numbers ++ n ∷ []) ≡ map of numbers ++ (of n ∷ []) = map-append of numbers (n ∷ []) in
     let back_is : map accepted_of reports' ≡ map accepted_of reports ++ (report.accepted ∷ []) = ap (map accepted_of) items ∙ map-append accepted_of reports (report ∷ []) in
     let ends : map of numbers ++ (of n ∷ []) ≡ map accepted_of reports ++ (report.accepted ∷ []) = cc in
-    let IsOf : ℕ → Type 0 = λ k. IsReport k report in
+    let IsAfter : ℕ → Type 0 = λ k. IsOfWorker (hears gate) k report in
+    let IsThrough : G → Type 0 = λ g. IsOfWorker (hears g) h.promise.steps report in
     record {
       table_is = ap (λ (s : SeatValue). s.table) joined.now ∙ so.table_is;
       setting = ap (λ (s : SeatValue). s.setting) joined.now ∙ so.setting;
       held = ap (λ (s : SeatValue). s.held) joined.now ∙ ap (λ (hs : List ℕ). hs ++ other.held) so.held ∙
           append_assoc was.held numbers other.held ∙ ap (λ (hs : List ℕ). was.held ++ (numbers ++ hs)) theirs ∙ ap (λ (hs : List ℕ). was.held ++ hs) (sym longer);
-      each = All-same (IsReport steps) reports' (reports ++ report ∷ []) items
-          (All-push (IsReport steps) reports report so.each (subst IsOf given.0 back.report_is));
+      each = All-same (IsOfWorker (hears gate) steps) reports' (reports ++ report ∷ []) items
+          (All-push (IsOfWorker (hears gate) steps) reports report so.each (subst IsAfter given.0 (subst IsThrough given.2 back.report_is)));
       credits = ap (map of) longer ∙ front ∙ ends ∙ sym back_is;
     }
 
 -- where all threads were started and the board is whole, the reports are credited with its entries
-pub credits_of : (steps : ℕ) (table : BoardId) (all : Bool) (jobs : Vec Job Global) (handles : Vec (PromisedHandle Ended Given) Global) (reports : List Report) (seat : SeatValue) (closed : Closed) →
-    AreStarted steps table jobs all handles → all ≡ true → IsStrictlyIncreasing (map job_number jobs.items) →
+pub credits_of : {G : Type 0} (gate : G) (steps : ℕ) (table : BoardId) (all : Bool) (jobs : Vec Job Global) (handles : Vec (PromisedHandle Ended (Given G)) Global) (reports : List Report) (seat : SeatValue) (closed : Closed) →
+    AreStarted gate steps table jobs all handles → all ≡ true → IsStrictlyIncreasing (map job_number jobs.items) →
     map (λ n. made_by n seat.seen) (map handle_number handles.items) ≡ map accepted_of reports → ClosedBy seat closed →
     closed.whole ≡ true → Credits reports closed.board.history
-credits_of steps table all jobs handles reports seat closed started is_all rising credits is_closed whole =
+credits_of gate steps table all jobs handles reports seat closed started is_all rising credits is_closed whole =
     let history : closed.board.history ≡ seat.seen = ap (λ (b : Book). b.history) is_closed.board ∙ (is_closed.whole whole).0 in
     let P : List ℕ → Type 0 = λ ns. IsStrictlyIncreasing ns in
     record {

@@ -1,5 +1,6 @@
 -- What a door to a board tells of it.
-use Rattle.std.specs.Prelude.{◌≡◌, ℕ, List, ◌++◌, length}
+use Rattle.std.specs.Prelude.{◌≡◌, ◌↔◌, ℕ, List, ◌++◌, length}
+use Rattle.std.proofs.Common.{sym, ap, ◌∙◌}
 use Rattle.league.specs.League.{LeagueData}
 use Rattle.fixtures.specs.Games.{Games}
 use Rattle.fixture_board.specs.declared.ask.Ask.TheVariants.{Shift}
@@ -11,6 +12,7 @@ use Rattle.fixture_board.specs.History.{games_of, cost_at, IsLegal}
 use Rattle.fixture_board.specs.Replies.{next_of, reply_of}
 use Rattle.shared_board.specs.declared.shared.Seen.{Seen}
 use Rattle.shared_board.specs.Seats.{SeatValue, copied}
+use Rattle.shared_board.specs.Setting.{Setting}
 
 -- the second history begins with the first
 pub record Begins (xs ys : List Entry) : Type 0 where
@@ -58,3 +60,10 @@ pub record IsSameSeat (a b : SeatValue) : Type 0 where
   pub number : a.number ≡ b.number
   pub setting : a.setting ≡ b.setting
   pub held : a.held ≡ b.held
+
+-- the same seat has the same boards
+pub same_boards : (a b : SeatValue) → IsSameSeat a b → (league : LeagueData) → (room : ℕ) → is_of a league room ↔ is_of b league room
+same_boards a b p league room =
+    let league_is = ap (λ (s : Setting). s.league) p.setting in
+    let room_is = ap (λ (s : Setting). s.room) p.setting in
+    (λ h. (h.0 ∙ league_is, h.1 ∙ room_is), λ h. (h.0 ∙ sym league_is, h.1 ∙ sym room_is))

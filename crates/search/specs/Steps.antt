@@ -4,6 +4,7 @@ use Rattle.league.specs.League.{LeagueData}
 use Rattle.fixtures.specs.Games.{Games}
 use Rattle.fixture_board.specs.declared.cost.Cost.{Cost}
 use Rattle.fixture_board.specs.Costs.{cost_of, score_of}
+use Rattle.search.specs.declared.workers.Report.{Report}
 use Rattle.search.specs.declared.workers.steps.Told.{Told}
 use Rattle.search.specs.declared.workers.steps.Told.TheVariants.{Nothing, Accepted, Refused, Full}
 
@@ -18,6 +19,17 @@ accepted_count Nothing = 0
 accepted_count (Accepted cost) = 1
 accepted_count Refused = 0
 accepted_count Full = 0
+
+-- the step proposed something
+abbrev pub IsProposed : Told → Type 0
+IsProposed Nothing = ⊥
+IsProposed _ = Unit {0}
+
+-- the report with one more step
+abbrev pub report_with : Report → Told → Report
+report_with r Nothing = r
+report_with r (Accepted cost) = record { made = r.made + 1; accepted = r.accepted + 1; refused = r.refused }
+report_with r _ = record { made = r.made + 1; accepted = r.accepted; refused = r.refused + 1 }
 
 -- the lesser of a total and one more
 abbrev pub lesser : Option ℕ → ℕ → ℕ

@@ -1,6 +1,6 @@
 //! Doors: what a worker knows of a board, and how it proposes changes.
 
-ghost use Rattle.std.specs.Prelude.{◌≡◌, ℕ, ◌+◌, ◌^◌, ◌<◌, ◌≤◌, List, length};
+ghost use Rattle.std.specs.Prelude.{◌≡◌, ◌↔◌, ℕ, ◌+◌, ◌^◌, ◌<◌, ◌≤◌, List, length};
 ghost use Rattle.league.specs.League.{LeagueData};
 ghost use Rattle.fixture_board.specs.declared.change.Entry.{Entry};
 
@@ -64,4 +64,11 @@ pub trait Door {
     ghost stays_same: { (d : Self) → stays d d };
 
     ghost stays_then: { (a b c : Self) → stays a b → stays b c → stays a c };
+
+    // no call changes the caller, or which boards the door may have
+
+    ghost stays_caller: { (a b : Self) → stays a b → caller a ≡ caller b };
+
+    ghost stays_boards: { (a b : Self) → stays a b → (league : LeagueData) → (room : ℕ)
+        → may_have a league room ↔ may_have b league room };
 }

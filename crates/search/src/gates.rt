@@ -1,5 +1,9 @@
 //! Gates: what stands before and after each proposal of a worker, and is told how far the workers are.
 
+ghost use Rattle.std.specs.Prelude.{ℕ};
+ghost use Rattle.fixture_board.specs.declared.reply.Reply.{Reply};
+
+use fixture_board::Reply;
 use std::sync::Wait;
 
 /// After how many steps a worker tells a gate that doesn't say so.
@@ -19,11 +23,15 @@ pub struct Progress {
 /// Is passed by a worker at each proposal. Workers are numbered from 0, and `made` counts the proposals that this one
 /// made before. A gate may hold a worker up.
 pub trait Gate {
+    /// A worker's proposal, after so many of that worker's, left with this reply.
+    ghost heard: { Self → ℕ → ℕ → Reply → Type 0 } = { λ _ _ _ _. Unit {0} };
+
     /// Before the proposal.
     fn enter<R: Wait>(&self, rt: &R, worker: u32, made: u32);
 
     /// After its reply.
-    fn left<R: Wait>(&self, rt: &R, worker: u32, made: u32);
+    fn left<R: Wait>(&self, rt: &R, worker: u32, made: u32, reply: Reply)
+        ensures { heard self.now worker made reply };
 
     /// Before the first step of a worker.
     fn begun<R: Wait>(&self, _rt: &R, _worker: u32) {}
@@ -47,5 +55,5 @@ pub struct NoGate;
 impl Gate for NoGate {
     fn enter<R: Wait>(&self, _rt: &R, _worker: u32, _made: u32) {}
 
-    fn left<R: Wait>(&self, _rt: &R, _worker: u32, _made: u32) {}
+    fn left<R: Wait>(&self, _rt: &R, _worker: u32, _made: u32, _reply: Reply) {}
 }

@@ -1,8 +1,9 @@
 //! A run: workers in threads, on one shared board.
 
-ghost use Rattle.std.specs.Prelude.{◌≡◌, ◌<◌, [], length, slice_index_or, All, IfOk, IfErr, IsTrue};
+ghost use Rattle.std.specs.Prelude.{◌≡◌, ◌<◌, [], Some, length, slice_index_or, All, IfOk, IfErr, IsTrue};
 ghost use Rattle.shared_board.specs.Setting.{board_at};
 ghost use Rattle.search.specs.Outcomes.{Credits, IsAlike, IsOutcome, IsRefusal, IsWorkers};
+ghost use Rattle.search.specs.Heard.{IsOfWorker};
 ghost use Rattle.search.specs.Reports.{IsReport};
 ghost use Rattle.search.specs.declared.runs.RunFault.TheVariants.{Receipts};
 ghost use Rattle.search.specs.Crews.{HasRoom, IsFresh};
@@ -22,7 +23,7 @@ use std::marker::Model;
 use std::sync::Wait;
 use std::thread::Threads;
 use thiserror::Error;
-use threads::{accepted_in, gather, launch, seat_all};
+use threads::{Handle, accepted_in, gather, launch, seat_all};
 
 /// The most workers of a run.
 pub const MAX_WORKERS: u32 = 16;
@@ -120,7 +121,8 @@ pub fn run<R: Threads + Wait + Sync>(
     run_with(rt, alloc, &NoGate, league, board, plan)
 }
 
-/// As `run`, with a gate that the workers pass. The league has to be the board's own here too.
+/// As `run`, with a gate that the workers pass. Each report counts the replies that the gate heard to all proposals of one of
+/// the workers. The league has to be the board's own here too.
 pub fn run_with<R: Threads + Wait + Sync, G: Gate + Sync>(
     rt: &R,
     alloc: Global,
@@ -131,23 +133,42 @@ pub fn run_with<R: Threads + Wait + Sync, G: Gate + Sync>(
 ) -> Result<Outcome, RunRefused>
     requires { board.history ≡ [] }
     ensures done { IfOk result (IsOutcome plan board) }
+    ensures heard { IfOk result (λ o. All (IsOfWorker (G.heard gate.now) plan.steps) o.reports) }
     ensures refused { IfErr result (IsRefusal plan board) }
+{
+    let (crew, board) = crew_for(alloc, board, plan)?;
+    let Ok((shared, seat)) = Shared::new(alloc, board) else {
+        let why = RunFault::Memory;
+        return Err(RunRefused { why, board: None });
+    };
+    search(rt, gate, league, shared, seat, crew, plan)
+}
+
+/// The crew of a plan, beside the board. Where there is none, the board comes back as it was.
+fn crew_for<H: Drop>(
+    alloc: Global,
+    board: Board,
+    plan: SearchPlan,
+) -> Result<(Crew<H>, Board), RunRefused>
+    ensures crew { IfOk result (λ r. HasRoom plan.workers r.0) }
+    ensures same { IfOk result (λ r. r.1 ≡ board) }
+    ensures workers { IfOk result (λ _. IsWorkers plan) }
+    ensures refused { IfErr result (IsRefusal plan board) }
+    ensures back { IfErr result (λ e. e.board ≡ Some board) }
 {
     if plan.workers < 1 || MAX_WORKERS < plan.workers {
         let why = RunFault::Workers;
         let board = Some(board);
         return Err(RunRefused { why, board });
     }
-    let Ok(crew) = Crew::new(alloc, board.schedule(), plan.workers) else {
-        let why = RunFault::Memory;
-        let board = Some(board);
-        return Err(RunRefused { why, board });
-    };
-    let Ok((shared, seat)) = Shared::new(alloc, board) else {
-        let why = RunFault::Memory;
-        return Err(RunRefused { why, board: None });
-    };
-    search(rt, gate, league, shared, seat, crew, plan)
+    match Crew::new(alloc, board.schedule(), plan.workers) {
+        Ok(crew) => Ok((crew, board)),
+        Err(_) => {
+            let why = RunFault::Memory;
+            let board = Some(board);
+            Err(RunRefused { why, board })
+        }
+    }
 }
 
 /// Has the workers search on a shared board that has no other seat yet, and closes it.
@@ -157,13 +178,14 @@ fn search<R: Threads + Wait + Sync, G: Gate + Sync>(
     league: &League,
     shared: Shared,
     mut seat: Seat,
-    crew: Crew,
+    crew: Crew<Handle<G>>,
     plan: SearchPlan,
 ) -> Result<Outcome, RunRefused>
     requires seat { IsFresh shared seat }
     requires crew { HasRoom plan.workers crew }
     requires workers { IsWorkers plan }
     ensures done { IfOk result (IsOutcome plan (board_at seat.setting [])) }
+    ensures heard { IfOk result (λ o. All (IsOfWorker (G.heard gate.now) plan.steps) o.reports) }
     ensures refused { IfErr result (IsRefusal plan (board_at seat.setting [])) }
 {
     let Crew {
@@ -178,8 +200,7 @@ fn search<R: Threads + Wait + Sync, G: Gate + Sync>(
         return Err(RunRefused { why, board });
     };
     let (all, handles) = launch(rt, &shared, gate, league, plan, jobs, handles);
-    let reports = gather(rt, &shared, &mut seat, handles, reports, plan.steps);
-    gate.ended(rt);
+    let reports = gather(rt, &shared, gate, &mut seat, handles, reports, plan.steps);
     let closed = shared.close(rt, seat);
     if !all {
         let why = RunFault::Spawn;
@@ -196,6 +217,7 @@ fn conclude(plan: SearchPlan, closed: Closed, reports: Vec<Report>) -> Result<Ou
     requires each { All (IsReport plan.steps) reports.items }
     requires credits { IsTrue closed.whole → Credits reports.items closed.board.history }
     ensures done { IfOk result (IsOutcome plan closed.board) }
+    ensures reports { IfOk result (λ o. o.reports ≡ reports.items) }
     ensures refused { IfErr result (λ e. (e.why ≡ Receipts) × IsAlike closed.board e.board) }
 {
     let accepted = accepted_in(&reports);

@@ -2,8 +2,9 @@
 
 ghost use Rattle.std.specs.Prelude.{◌≡◌, ◌+◌, ◌^◌, ◌<◌};
 ghost use Rattle.league.specs.League.{teams};
+ghost use Rattle.search.specs.Heard.{IsHeard};
 ghost use Rattle.search.specs.Reports.{IsReport};
-ghost use Rattle.search.specs.Steps.{slack_of};
+ghost use Rattle.search.specs.Steps.{report_with, slack_of};
 
 mod steps;
 
@@ -35,6 +36,29 @@ pub struct Report {
     pub refused: u32,
 }
 
+impl Report {
+    /// The report with one more step.
+    fn with(self, told: Told) -> Self
+        requires whole { self.made ≡ self.accepted + self.refused }
+        requires few { self.made + 1 < 2 ^ 32 }
+        ensures { result ≡ report_with self told }
+    {
+        match told {
+            Told::Nothing => self,
+            Told::Accepted(_) => Report {
+                made: self.made + 1,
+                accepted: self.accepted + 1,
+                ..self
+            },
+            Told::Refused | Told::Full => Report {
+                made: self.made + 1,
+                refused: self.refused + 1,
+                ..self
+            },
+        }
+    }
+}
+
 /// Looks, and takes the plan's steps, or fewer where the board is full. The copy may be any schedule of the league's
 /// teams; with another one no step is taken. The league has to be the board's own, since the claims are counted with it:
 /// with another one most proposals are refused for a wrong claim. Takes no memory.
@@ -54,13 +78,17 @@ pub fn worker<R: Wait, D: Door, G: Gate>(
 ) -> Report
     requires { D.granted door.old < 2 ^ 62 }
     ensures report { IsReport plan.steps result }
+    ensures heard { IsHeard (G.heard gate.now plan.worker) result }
     ensures counted { D.granted door.new ≡ D.granted door.old + result.accepted }
     ensures stays { D.stays door.old door.new }
     ensures other_size { ¬ (copy.old.teams ≡ teams league.now) →
         (result.made ≡ 0) × (copy.new ≡ copy.old) × (door.new ≡ door.old) }
 {
-    let mut accepted = 0;
-    let mut refused = 0;
+    let mut report = Report {
+        made: 0,
+        accepted: 0,
+        refused: 0,
+    };
     let teams = league.teams();
     if copy.teams() == teams {
         let mut generator = Lcg64Xsh32::new(plan.seed, u64::from(plan.worker));
@@ -74,31 +102,22 @@ pub fn worker<R: Wait, D: Door, G: Gate>(
         for s in 0..plan.steps {
             let trial = Trial {
                 worker: plan.worker,
-                made: accepted + refused,
+                made: report.made,
                 slack: slack_at(plan, s),
                 mv: draw(&mut generator, teams),
             };
-            match step(rt, door, gate, league, copy, &mut known, trial) {
-                Told::Nothing => {}
-                Told::Accepted(cost) => {
-                    accepted += 1;
-                    progress.least = least_with(progress.least, cost);
-                }
-                Told::Refused => refused += 1,
-                Told::Full => {
-                    refused += 1;
-                    break;
-                }
+            let told = step(rt, door, gate, league, copy, &mut known, trial);
+            report = report.with(told);
+            match told {
+                Told::Nothing | Told::Refused => {}
+                Told::Accepted(cost) => progress.least = least_with(progress.least, cost),
+                Told::Full => break,
             }
             progress.version = known.version;
             tell(rt, gate, plan.worker, &mut progress);
         }
     }
-    Report {
-        made: accepted + refused,
-        accepted,
-        refused,
-    }
+    report
 }
 
 /// Counts a step, and tells the gate how far the worker is where its pause is over.

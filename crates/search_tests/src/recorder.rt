@@ -71,6 +71,10 @@ impl Door for Recorder<'_> {
 
     ghost stays_then = { λ a b c p q. p ∙ q };
 
+    ghost stays_caller = { λ a b p. p };
+
+    ghost stays_boards = { λ a b p league room. (λ h. h, λ h. h) };
+
     fn look<R: Wait>(&mut self, rt: &R, copy: &mut Schedule) -> Seen {
         self.count(rt);
         let seen = self.door.look(rt, copy);
@@ -122,7 +126,7 @@ impl Gate for Passed<'_> {
         let _ = writeln!(self.log.lock(rt), "enter {worker} {made}");
     }
 
-    fn left<R: Wait>(&self, rt: &R, worker: u32, made: u32) {
+    fn left<R: Wait>(&self, rt: &R, worker: u32, made: u32, _reply: Reply) {
         let _ = writeln!(self.log.lock(rt), "left {worker} {made}");
     }
 }

@@ -7,8 +7,9 @@ use fixtures::Schedule;
 use shared_board::Seen;
 use std::sync::{Mutex, Wait};
 
-/// A door to a board under a lock. Between two calls nothing is known of the board, so the history seen stays empty, and
-/// league and room are those of the board that is found.
+/// A door to a board under a lock. Between two calls whoever takes the lock may put another board there, of another league
+/// or with a shorter history, so nothing is known but what holds of each board: the history seen stays empty, and league
+/// and room are those of the board that is found.
 #[derive(Drop)]
 pub struct LockedDoor<'a> {
     pub board: &'a Mutex<Board>,
@@ -35,6 +36,10 @@ impl Door for LockedDoor<'_> {
     ghost stays_same = { λ d. refl };
 
     ghost stays_then = { λ a b c p q. p ∙ q };
+
+    ghost stays_caller = { λ a b p. p };
+
+    ghost stays_boards = { λ a b p league room. (λ h. h, λ h. h) };
 
     fn look<R: Wait>(&mut self, rt: &R, copy: &mut Schedule) -> Seen {
         let board = self.board.lock(rt);

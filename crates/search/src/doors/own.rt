@@ -19,7 +19,7 @@ pub struct OwnDoor {
 
 impl Door for OwnDoor {
     ghost use Rattle.std.specs.Prelude.{◌≡◌, ◌+◌, ◌^◌, ◌<◌, length};
-    ghost use Rattle.std.proofs.Common.{refl, ◌∙◌};
+    ghost use Rattle.std.proofs.Common.{refl, sym, ◌∙◌};
     ghost use Rattle.fixture_board.specs.declared.ask.Ask.TheVariants.{Shift};
     ghost use Rattle.fixture_board.specs.History.{IsLegal, cost_at, games_of};
     ghost use Rattle.fixture_board.specs.Record.{book};
@@ -40,6 +40,10 @@ impl Door for OwnDoor {
     ghost stays_same = { λ d. (refl, refl, refl) };
 
     ghost stays_then = { λ a b c p q. (p.0 ∙ q.0, p.1 ∙ q.1, p.2 ∙ q.2) };
+
+    ghost stays_caller = { λ a b p. p.0 };
+
+    ghost stays_boards = { λ a b p league room. (λ h. (h.0 ∙ p.1, h.1 ∙ p.2), λ h. (h.0 ∙ sym p.1, h.1 ∙ sym p.2)) };
 
     fn look<R: Wait>(&mut self, _rt: &R, copy: &mut Schedule) -> Seen
         ensures version { result.version ≡ length self.old.board.history }

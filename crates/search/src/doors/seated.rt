@@ -22,7 +22,7 @@ impl Door for SeatDoor<'_> {
     ghost use Rattle.fixture_board.specs.declared.ask.Ask.TheVariants.{Shift};
     ghost use Rattle.shared_board.specs.Held.{under};
     ghost use Rattle.shared_board.specs.Seats.{Answered, Looked, glanced_at};
-    ghost use Rattle.search.specs.Doors.{IsSameSeat, Replies, Shows, done_count, is_of};
+    ghost use Rattle.search.specs.Doors.{IsSameSeat, Replies, Shows, done_count, is_of, same_boards};
 
     ghost stays = { λ d e. IsSameSeat d.seat e.seat };
 
@@ -37,6 +37,10 @@ impl Door for SeatDoor<'_> {
     ghost stays_same = { λ d. record { table = refl; number = refl; setting = refl; held = refl } };
 
     ghost stays_then = { λ a b c p q. record { table = p.table ∙ q.table; number = p.number ∙ q.number; setting = p.setting ∙ q.setting; held = p.held ∙ q.held } };
+
+    ghost stays_caller = { λ a b p. p.number };
+
+    ghost stays_boards = { λ a b p. same_boards a.seat b.seat p };
 
     fn look<R: Wait>(&mut self, rt: &R, copy: &mut Schedule) -> Seen
         ensures stays { IsSameSeat self.old.seat self.new.seat }

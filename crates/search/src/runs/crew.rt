@@ -3,22 +3,27 @@
 ghost use Rattle.std.specs.Prelude.{IfOk};
 ghost use Rattle.search.specs.Crews.{HasRoom};
 
-use super::threads::{Handle, Job};
+use super::threads::Job;
 use crate::workers::Report;
 use fixtures::Schedule;
 use std::alloc::{AllocError, Global};
 
-/// All memory of a run but the shared board's: a copy for each worker, and room for what there is one of for each.
+/// All memory of a run but the shared board's: a copy for each worker, and room for what there is one of for each, the
+/// handle of its thread among them.
 #[derive(Drop)]
-pub(crate) struct Crew {
+pub(crate) struct Crew<H> {
     pub(crate) copies: Vec<Schedule>,
     pub(crate) jobs: Vec<Job>,
-    pub(crate) handles: Vec<Handle>,
+    pub(crate) handles: Vec<H>,
     pub(crate) reports: Vec<Report>,
 }
 
-impl Crew {
-    pub(crate) fn new(alloc: Global, schedule: &Schedule, workers: u32) -> Result<Crew, AllocError>
+impl<H: Drop> Crew<H> {
+    pub(crate) fn new(
+        alloc: Global,
+        schedule: &Schedule,
+        workers: u32,
+    ) -> Result<Crew<H>, AllocError>
         ensures { IfOk result (HasRoom workers) }
     {
         let count = workers as usize;

@@ -4,7 +4,7 @@ ghost use Rattle.std.specs.Prelude.{◌≡◌, ◌+◌, ◌≤◌, [], length, m
 ghost use Rattle.std.specs.List.Sorted.{IsStrictlyIncreasing};
 ghost use Rattle.search.specs.Crews.{AreStarted, CanStart, IsBack, IsFresh, IsHandle, IsJob, handle_number, job_number};
 ghost use Rattle.search.specs.Outcomes.{accepted_in, accepted_of, made_by};
-ghost use Rattle.search.specs.Reports.{IsReport};
+ghost use Rattle.search.specs.Heard.{IsOfWorker};
 
 use super::SearchPlan;
 use crate::workers::{Report, WorkerPlan, worker};
@@ -32,20 +32,31 @@ pub(crate) struct Ended {
     seat: Seat,
 }
 
-/// The promise of a worker's thread: it takes so many steps at most, by the seat that it was given.
-#[derive(Drop)]
-pub(crate) struct Given {
+/// The promise of a worker's thread: it takes so many steps at most, by the seat that it was given, and its report counts
+/// the replies that the gate heard.
+pub(crate) struct Given<G> {
     steps: u32,
     seat: Snapshot<Seat>,
+    gate: Snapshot<G>,
 }
 
-impl Promise<Ended> for Given {
+impl<G: Gate> Promise<Ended> for Given<G> {
     ghost use Rattle.search.specs.Crews.{IsBack};
 
-    ghost kept_by = { λ p e. IsBack p.steps p.seat.value e.report e.seat };
+    ghost kept_by = { λ p e. IsBack (G.heard p.gate.value) p.steps p.seat.value e.report e.seat };
 }
 
-pub(crate) type Handle = PromisedHandle<Ended, Given>;
+impl<G> Drop for Given<G> {
+    fn drop(self) {
+        let Given {
+            steps: _,
+            seat: _,
+            gate: _,
+        } = self;
+    }
+}
+
+pub(crate) type Handle<G> = PromisedHandle<Ended, Given<G>>;
 
 /// A job for each copy, in the order of the workers. Each seat is split from the one before, so their numbers rise. The
 /// last one stays with the run.
@@ -88,17 +99,17 @@ pub(crate) fn launch<R: Threads + Wait + Sync, G: Gate + Sync>(
     league: &League,
     plan: SearchPlan,
     jobs: Vec<Job>,
-    handles: Vec<Handle>,
-) -> (bool, Vec<Handle>)
+    handles: Vec<Handle<G>>,
+) -> (bool, Vec<Handle<G>>)
     requires { CanStart shared.now jobs handles }
-    ensures { AreStarted plan.steps shared.now jobs result.0 result.1 }
+    ensures { AreStarted gate.now plan.steps shared.now jobs result.0 result.1 }
 {
     thread::scope(
         thread::scope_env(),
         rt,
-        move |scope| -> (bool, Vec<Handle>)
+        move |scope| -> (bool, Vec<Handle<G>>)
             requires { CanStart shared.now jobs handles }
-            ensures { AreStarted plan.steps shared.entry.now jobs result.0 result.1 }
+            ensures { AreStarted gate.entry.now plan.steps shared.entry.now jobs result.0 result.1 }
         { start_all(scope, rt, shared, gate, league, plan, jobs, handles) },
     )
 }
@@ -112,10 +123,10 @@ fn start_all<'s, E, R: Wait + Sync, G: Gate + Sync>(
     league: &'s League,
     plan: SearchPlan,
     jobs: Vec<Job>,
-    mut handles: Vec<Handle>,
-) -> (bool, Vec<Handle>)
+    mut handles: Vec<Handle<G>>,
+) -> (bool, Vec<Handle<G>>)
     requires { CanStart shared.now jobs handles }
-    ensures { AreStarted plan.steps shared.now jobs result.0 result.1 }
+    ensures { AreStarted gate.now plan.steps shared.now jobs result.0 result.1 }
 {
     for job in jobs {
         let Some(handle) = start(scope, rt, shared, gate, league, plan, job) else {
@@ -135,14 +146,15 @@ fn start<'s, E, R: Wait + Sync, G: Gate + Sync>(
     league: &'s League,
     plan: SearchPlan,
     job: Job,
-) -> Option<Handle>
+) -> Option<Handle<G>>
     requires { IsJob shared.now job }
-    ensures handle { IfSome result (IsHandle plan.steps shared.now) }
+    ensures handle { IfSome result (IsHandle gate.now plan.steps shared.now) }
     ensures number { IfSome result (λ h. handle_number h ≡ job_number job) }
 {
     let given = Given {
         steps: plan.steps,
         seat: Snapshot::of(&job.seat),
+        gate: Snapshot::of(gate),
     };
     scope
         .spawn_with(given, move || work(rt, shared, gate, league, plan, job))
@@ -159,7 +171,7 @@ fn work<R: Wait, G: Gate>(
     job: Job,
 ) -> Ended
     requires { IsJob shared.now job }
-    ensures { IsBack plan.steps job.seat result.report result.seat }
+    ensures { IsBack (G.heard gate.now) plan.steps job.seat result.report result.seat }
 {
     let Job {
         worker: number,
@@ -178,23 +190,24 @@ fn work<R: Wait, G: Gate>(
     Ended { report, seat }
 }
 
-/// Takes in the seats of the threads, and gives their reports, in order.
-pub(crate) fn gather<R: Threads>(
+/// Takes in the seats of the threads, tells the gate that all have ended, and gives their reports, in order.
+pub(crate) fn gather<R: Threads + Wait, G: Gate>(
     rt: &R,
     shared: &Shared,
+    gate: &G,
     seat: &mut Seat,
-    handles: Vec<Handle>,
+    handles: Vec<Handle<G>>,
     mut reports: Vec<Report>,
     steps: u32,
 ) -> Vec<Report>
     requires table { seat.old.table ≡ shared.now }
-    requires handles { All (IsHandle steps shared.now) handles.items }
+    requires handles { All (IsHandle gate.now steps shared.now) handles.items }
     requires none { reports.items ≡ [] }
     requires room { vec_len handles ≤ vec_capacity reports }
     ensures table { seat.new.table ≡ shared.now }
     ensures setting { seat.new.setting ≡ seat.old.setting }
     ensures many { vec_len result ≡ vec_len handles }
-    ensures each { All (IsReport steps) result.items }
+    ensures each { All (IsOfWorker (G.heard gate.now) steps) result.items }
     ensures credits { map (λ n. made_by n seat.new.seen) (map handle_number handles.items) ≡ map accepted_of result.items }
 {
     for handle in handles {
@@ -203,6 +216,7 @@ pub(crate) fn gather<R: Threads>(
         shared.absorb(seat, ended.seat);
         reports.push_reserved(ended.report);
     }
+    gate.ended(rt);
     reports
 }
 

@@ -4,8 +4,9 @@ ghost use Rattle.std.specs.Prelude.{◌≡◌, ◌+◌, ◌^◌, ◌<◌};
 ghost use Rattle.league.specs.League.{teams};
 ghost use Rattle.moves.specs.MainCells.{AreMainCells};
 ghost use Rattle.moves.specs.Moves.{moved};
+ghost use Rattle.fixture_board.specs.declared.reply.Reply.{Reply};
 ghost use Rattle.search.specs.Doors.{done_count};
-ghost use Rattle.search.specs.Steps.{IsKnown, accepted_count, least_with};
+ghost use Rattle.search.specs.Steps.{IsKnown, IsProposed, accepted_count, least_with};
 
 use crate::{Door, Gate};
 use fixture_board::{Cost, Proposal, Reply, Why, cost_of, make_within};
@@ -90,6 +91,8 @@ pub(crate) fn step<R: Wait, D: Door, G: Gate>(
     ensures same_size { copy.new.teams ≡ copy.old.teams }
     ensures known { IsKnown league.now copy.new known.new.cost known.new.score }
     ensures counted { D.granted door.new ≡ D.granted door.old + accepted_count result }
+    ensures heard { IsProposed result → (reply : Reply)
+        × G.heard gate.now trial.worker trial.made reply × (done_count reply ≡ accepted_count result) }
     ensures stays { D.stays door.old door.new }
 {
     let mv = trial.mv;
@@ -115,7 +118,7 @@ pub(crate) fn step<R: Wait, D: Door, G: Gate>(
     };
     gate.enter(rt, trial.worker, trial.made);
     let reply = door.propose(rt, proposal);
-    gate.left(rt, trial.worker, trial.made);
+    gate.left(rt, trial.worker, trial.made, reply);
     let made = Made {
         mv,
         main,
@@ -142,6 +145,7 @@ fn settle<R: Wait, D: Door>(
     ensures same_size { copy.new.teams ≡ copy.old.teams }
     ensures known { IsKnown league.now copy.new known.new.cost known.new.score }
     ensures told { accepted_count result ≡ done_count reply }
+    ensures proposed { IsProposed result }
     ensures counted { D.granted door.new ≡ D.granted door.old }
     ensures stays { D.stays door.old door.new }
 {

@@ -4,4 +4,4 @@ use Rattle.search.proofs.runs.search.Goals as goal
 
 pub conclude-requires-clause-credits : goal.conclude-requires-clause-credits
 conclude-requires-clause-credits g c =
-    credits_of _ _ _ _ _ _ _ _ c.launch-all.ensures (search rules) c.in-Ok.ensures.rising c.gather-reports.ensures.credits c.close-closed.ensures
+    credits_of _ _ _ _ _ _ _ _ _ c.launch-all.ensures (search rules) c.in-Ok.ensures.rising c.gather-reports.ensures.credits c.close-closed.ensures

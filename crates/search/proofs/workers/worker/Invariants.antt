@@ -1,13 +1,16 @@
 use Rattle.std.proofs.Common.{◌≡◌, ◌+◌, ◌≤◌}
 use Rattle.league.specs.League.{teams}
+use Rattle.search.specs.Heard.{IsHeard}
 use Rattle.search.specs.Steps.{IsKnown}
 use Rattle.search.proofs.workers.worker.Given as goal
 
 abbrev pub invariant-loop-s : goal.invariant-loop-s
 invariant-loop-s g l = record {
-  few : l.accepted + l.refused ≤ l.s;
+  whole : l.report.made ≡ l.report.accepted + l.report.refused;
+  few : l.report.made ≤ l.s;
   same_size : teams l.league ≡ l.copy.teams;
   known : IsKnown l.league l.copy l.known.cost l.known.score;
-  counted : g.D.Door.granted l.door ≡ g.D.Door.granted l.fn.door + l.accepted;
+  heard : IsHeard (g.G.Gate.heard l.gate l.plan.worker) l.report;
+  counted : g.D.Door.granted l.door ≡ g.D.Door.granted l.fn.door + l.report.accepted;
   stays : g.D.Door.stays l.fn.door l.door;
 }

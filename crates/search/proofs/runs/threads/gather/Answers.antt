@@ -15,17 +15,17 @@ loop-handle-preserved g c =
     let gone = c.in-Some.ensures.steps.1 in
     let short = ap length steps in
     let pushed = c.push_reserved.ensures in
-    let given : IsHandle c.args.steps c.args.shared.now handle =
-    All-head (IsHandle c.args.steps c.args.shared.now) handle rest
-    (All-same (IsHandle c.args.steps c.args.shared.now) (handle ∷ rest) all (sym steps) was.handles)
+    let given : IsHandle c.args.gate.now c.args.steps c.args.shared.now handle =
+    All-head (IsHandle c.args.gate.now c.args.steps c.args.shared.now) handle rest
+    (All-same (IsHandle c.args.gate.now c.args.steps c.args.shared.now) (handle ∷ rest) all (sym steps) was.handles)
     in
     record {
-      handles = All-rest (IsHandle c.args.steps c.args.shared.now) handle rest all steps was.handles;
+      handles = All-rest (IsHandle c.args.gate.now c.args.steps c.args.shared.now) handle rest all steps was.handles;
       left = omega (arith, was.left, gone, short);
       all = append_assoc c.loop-handle.yielded (handle ∷ []) _ ∙ rw (← steps) was.all;
       count = omega (arith, gone, pushed.len, was.count);
       room = omega (arith, pushed.capacity, was.room);
-      gathered = gathered_more c.args.steps c.args.shared.now c.args.seat.now c.loop-handle.seat c.join-ended.result.seat c.absorb.new.seat
+      gathered = gathered_more g.G.Gate.heard c.args.gate.now c.args.steps c.args.shared.now c.args.seat.now c.loop-handle.seat c.join-ended.result.seat c.absorb.new.seat
           c.loop-handle.yielded handle c.loop-handle.reports.items c.push_reserved.new.self.items c.join-ended.result.report
           was.gathered given c.join-ended.ensures c.absorb.ensures pushed.items;
     }

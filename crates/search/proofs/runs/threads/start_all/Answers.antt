@@ -19,8 +19,8 @@ loop-job-preserved g c =
     record {
       jobs = All-rest (IsJob c.args.shared.now) c.in-Some.job rest (into_iter_items c.loop-job.job-iterator) steps was.jobs;
       left = omega (arith, was.left, gone, short);
-      handles = All-same (IsHandle c.args.plan.steps c.args.shared.now) c.push_reserved.new.self.items (old ++ handle ∷ []) pushed.items
-          (All-push (IsHandle c.args.plan.steps c.args.shared.now) old handle was.handles c.in-Some-start.ensures.handle);
+      handles = All-same (IsHandle c.args.gate.now c.args.plan.steps c.args.shared.now) c.push_reserved.new.self.items (old ++ handle ∷ []) pushed.items
+          (All-push (IsHandle c.args.gate.now c.args.plan.steps c.args.shared.now) old handle was.handles c.in-Some-start.ensures.handle);
       count = omega (arith, gone, pushed.len, was.count);
       room = omega (arith, pushed.capacity, was.room);
       numbers = numbers_more (map handle_number old) (map handle_number c.push_reserved.new.self.items)

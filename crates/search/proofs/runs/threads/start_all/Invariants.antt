@@ -8,7 +8,7 @@ abbrev pub invariant-loop-job : goal.invariant-loop-job
 invariant-loop-job g l = record {
   jobs : All (IsJob l.shared) (into_iter_items l.job-iterator);
   left : into_iter_len l.job-iterator ≡ length (into_iter_items l.job-iterator);
-  handles : All (IsHandle l.plan.steps l.shared) l.handles.items;
+  handles : All (IsHandle l.gate l.plan.steps l.shared) l.handles.items;
   count : vec_len l.handles + into_iter_len l.job-iterator ≡ vec_len l.fn.jobs;
   room : vec_len l.fn.jobs ≤ vec_capacity l.handles;
   numbers : map handle_number l.handles.items ++ map job_number (into_iter_items l.job-iterator) ≡ map job_number l.fn.jobs.items;

@@ -1,0 +1,57 @@
+-- One more step of a worker: its report, and the reply that the gate heard.
+use Rattle.std.proofs.Common.{◌≡◌, ℕ, ◌+◌, ◌≤◌, List, [], ◌∷◌, ◌++◌, length, refl, arith, subst, length-append}
+use Rattle.std.proofs.lemmas.List.Sums.{sum_by_push}
+use Rattle.fixture_board.specs.declared.reply.Reply.{Reply}
+use Rattle.search.specs.declared.workers.Report.{Report}
+use Rattle.search.specs.Doors.{done_count}
+use Rattle.search.specs.declared.workers.steps.Told.{Told}
+use Rattle.search.specs.declared.workers.steps.Told.TheVariants.{Nothing, Accepted, Refused, Full}
+use Rattle.search.specs.Heard.{AreHeard, IsHeard}
+use Rattle.search.specs.Steps.{IsProposed, accepted_count, report_with}
+
+heard_last : (heard : ℕ → Reply → Type 0) (made at : ℕ) (rs : List Reply) (r : Reply) → AreHeard heard made rs →
+    at ≡ made + length rs → heard at r → AreHeard heard made (rs ++ r ∷ [])
+heard_last heard made at [] r are is one = let P : ℕ → Type 0 = λ n. heard n r in (subst P (omega (arith, is)) one, tt)
+heard_last heard made at (q ∷ rs) r are is one = (are.0, heard_last heard (made + 1) at rs r are.1 (omega (arith, is)) one)
+
+pub heard_none : (heard : ℕ → Reply → Type 0) (report : Report) → report.made ≡ 0 → report.accepted ≡ 0 → IsHeard heard report
+heard_none heard report made accepted = record { replies = []; are = tt; made = omega (arith, made); accepted = omega (arith, accepted) }
+
+-- one more proposal, and the reply to it
+heard_more : (heard : ℕ → Reply → Type 0) (was is : Report) (r : Reply) → IsHeard heard was → heard was.made r →
+    is.made ≡ was.made + 1 → is.accepted ≡ was.accepted + done_count r → IsHeard heard is
+heard_more heard was is r before one made accepted =
+    let long = length-append before.replies (r ∷ []) in
+    let granted = sum_by_push done_count before.replies r in
+    record {
+      replies = before.replies ++ r ∷ [];
+      are = heard_last heard 0 was.made before.replies r before.are (omega (arith, before.made)) one;
+      made = omega (arith, before.made, made, long);
+      accepted = omega (arith, before.accepted, accepted, granted);
+    }
+
+-- what the gate heard of a step: the reply to its proposal, where it made one
+abbrev pub HearsStep : (ℕ → Reply → Type 0) → ℕ → Told → Type 0
+HearsStep heard made told = IsProposed told → (reply : Reply) × heard made reply × (done_count reply ≡ accepted_count told)
+
+pub heard_step : (heard : ℕ → Reply → Type 0) (r : Report) (told : Told) → IsHeard heard r → HearsStep heard r.made told →
+    IsHeard heard (report_with r told)
+heard_step heard r Nothing before more = before
+heard_step heard r (Accepted cost) before more =
+    let one = more tt in heard_more heard r (report_with r (Accepted cost)) one.0 before one.1 refl (omega (arith, one.2))
+heard_step heard r Refused before more =
+    let one = more tt in heard_more heard r (report_with r Refused) one.0 before one.1 refl (omega (arith, one.2))
+heard_step heard r Full before more =
+    let one = more tt in heard_more heard r (report_with r Full) one.0 before one.1 refl (omega (arith, one.2))
+
+-- a step makes one proposal at most, and its report counts it once
+pub record CountsStep (r : Report) (told : Told) (next : Report) : Type 0 where
+  pub few : next.made ≤ r.made + 1
+  pub accepted : next.accepted ≡ r.accepted + accepted_count told
+  pub whole : r.made ≡ r.accepted + r.refused → next.made ≡ next.accepted + next.refused
+
+pub counts_step : (r : Report) (told : Told) → CountsStep r told (report_with r told)
+counts_step r Nothing = record { few = omega arith; accepted = omega arith; whole = λ h. h }
+counts_step r (Accepted cost) = record { few = omega arith; accepted = omega arith; whole = λ h. omega (arith, h) }
+counts_step r Refused = record { few = omega arith; accepted = omega arith; whole = λ h. omega (arith, h) }
+counts_step r Full = record { few = omega arith; accepted = omega arith; whole = λ h. omega (arith, h) }
