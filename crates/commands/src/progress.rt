@@ -6,7 +6,6 @@ ghost use Rattle.streams.specs.Sending.{AppendsFront};
 ghost use Rattle.texts.specs.SearchText.{progress_line};
 ghost use Rattle.commands.specs.Progress.{first, is_due, last_after, line_to_clear, pause_after, reached_with};
 
-use fixture_board::Reply;
 use search::{Gate, Progress, SearchPlan};
 use std::sync::atomic::{AtomicU32, Ordering};
 use std::sync::{Mutex, Wait};
@@ -66,7 +65,7 @@ impl<'a, C: Clock, W: Sink> ProgressLine<'a, C, W> {
 impl<C: Clock, W: Sink> Gate for ProgressLine<'_, C, W> {
     fn enter<R: Wait>(&self, _rt: &R, _worker: u32, _made: u32) {}
 
-    fn left<R: Wait>(&self, _rt: &R, _worker: u32, _made: u32, _reply: Reply) {}
+    fn left<R: Wait>(&self, _rt: &R, _worker: u32, _made: u32) {}
 
     fn begun<R: Wait>(&self, rt: &R, _worker: u32) {
         if let Ok(now) = Instant::now(self.clock) {

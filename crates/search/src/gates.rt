@@ -23,15 +23,11 @@ pub struct Progress {
 /// Is passed by a worker at each proposal. Workers are numbered from 0, and `made` counts the proposals that this one
 /// made before. A gate may hold a worker up.
 pub trait Gate {
-    /// A worker's proposal, after so many of that worker's, left with this reply.
-    ghost heard: { Self → ℕ → ℕ → Reply → Type 0 } = { λ _ _ _ _. Unit {0} };
-
     /// Before the proposal.
     fn enter<R: Wait>(&self, rt: &R, worker: u32, made: u32);
 
     /// After its reply.
-    fn left<R: Wait>(&self, rt: &R, worker: u32, made: u32, reply: Reply)
-        ensures { heard self.now worker made reply };
+    fn left<R: Wait>(&self, rt: &R, worker: u32, made: u32);
 
     /// Before the first step of a worker.
     fn begun<R: Wait>(&self, _rt: &R, _worker: u32) {}
@@ -55,5 +51,61 @@ pub struct NoGate;
 impl Gate for NoGate {
     fn enter<R: Wait>(&self, _rt: &R, _worker: u32, _made: u32) {}
 
-    fn left<R: Wait>(&self, _rt: &R, _worker: u32, _made: u32, _reply: Reply) {}
+    fn left<R: Wait>(&self, _rt: &R, _worker: u32, _made: u32) {}
+}
+
+/// A gate as the workers pass it, which hears each reply too. What was heard is for each such gate to say. So a function that is
+/// proved for all of them counts no reply but those that it told.
+pub(crate) trait HearingGate {
+    /// A worker's proposal, after so many of that worker's, left with this reply.
+    ghost heard: { Self → ℕ → ℕ → Reply → Type 0 };
+
+    /// Before the proposal.
+    fn enter<R: Wait>(&self, rt: &R, worker: u32, made: u32);
+
+    /// After its reply.
+    fn left<R: Wait>(&self, rt: &R, worker: u32, made: u32, reply: Reply)
+        ensures { heard self.now worker made reply };
+
+    fn begun<R: Wait>(&self, rt: &R, worker: u32);
+
+    fn pause(&self) -> u32;
+
+    fn told<R: Wait>(&self, rt: &R, worker: u32, progress: Progress);
+
+    fn ended<R: Wait>(&self, rt: &R);
+}
+
+/// A gate that keeps nothing of what it hears.
+#[derive(Drop)]
+pub(crate) struct Hearing<'a, G> {
+    pub(crate) gate: &'a G,
+}
+
+impl<G: Gate> HearingGate for Hearing<'_, G> {
+    ghost heard = { λ _ _ _ _. Unit {0} };
+
+    fn enter<R: Wait>(&self, rt: &R, worker: u32, made: u32) {
+        self.gate.enter(rt, worker, made);
+    }
+
+    fn left<R: Wait>(&self, rt: &R, worker: u32, made: u32, _reply: Reply) {
+        self.gate.left(rt, worker, made);
+    }
+
+    fn begun<R: Wait>(&self, rt: &R, worker: u32) {
+        self.gate.begun(rt, worker);
+    }
+
+    fn pause(&self) -> u32 {
+        self.gate.pause()
+    }
+
+    fn told<R: Wait>(&self, rt: &R, worker: u32, progress: Progress) {
+        self.gate.told(rt, worker, progress);
+    }
+
+    fn ended<R: Wait>(&self, rt: &R) {
+        self.gate.ended(rt);
+    }
 }

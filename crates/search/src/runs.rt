@@ -12,6 +12,7 @@ ghost use Rattle.search.specs.declared.workers.Report.{Report};
 mod crew;
 mod threads;
 
+use crate::gates::{Hearing, HearingGate};
 use crate::workers::Report;
 use crate::{Gate, NoGate};
 use crew::Crew;
@@ -121,8 +122,7 @@ pub fn run<R: Threads + Wait + Sync>(
     run_with(rt, alloc, &NoGate, league, board, plan)
 }
 
-/// As `run`, with a gate that the workers pass. Each report counts the replies that the gate heard to all proposals of one of
-/// the workers. The league has to be the board's own here too.
+/// As `run`, with a gate that the workers pass. The league has to be the board's own here too.
 pub fn run_with<R: Threads + Wait + Sync, G: Gate + Sync>(
     rt: &R,
     alloc: Global,
@@ -133,7 +133,6 @@ pub fn run_with<R: Threads + Wait + Sync, G: Gate + Sync>(
 ) -> Result<Outcome, RunRefused>
     requires { board.history ≡ [] }
     ensures done { IfOk result (IsOutcome plan board) }
-    ensures heard { IfOk result (λ o. All (IsOfWorker (G.heard gate.now) plan.steps) o.reports) }
     ensures refused { IfErr result (IsRefusal plan board) }
 {
     let (crew, board) = crew_for(alloc, board, plan)?;
@@ -141,7 +140,7 @@ pub fn run_with<R: Threads + Wait + Sync, G: Gate + Sync>(
         let why = RunFault::Memory;
         return Err(RunRefused { why, board: None });
     };
-    search(rt, gate, league, shared, seat, crew, plan)
+    search(rt, &Hearing { gate }, league, shared, seat, crew, plan)
 }
 
 /// The crew of a plan, beside the board. Where there is none, the board comes back as it was.
@@ -171,8 +170,9 @@ fn crew_for<H: Drop>(
     }
 }
 
-/// Has the workers search on a shared board that has no other seat yet, and closes it.
-fn search<R: Threads + Wait + Sync, G: Gate + Sync>(
+/// Has the workers search on a shared board that has no other seat yet, and closes it. Each report counts the replies that the
+/// gate heard to all proposals of one of the workers.
+fn search<R: Threads + Wait + Sync, G: HearingGate + Sync>(
     rt: &R,
     gate: &G,
     league: &League,

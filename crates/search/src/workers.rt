@@ -8,6 +8,7 @@ ghost use Rattle.search.specs.Steps.{report_with, slack_of};
 
 mod steps;
 
+use crate::gates::{Hearing, HearingGate};
 use crate::{Door, Gate, Progress, draw};
 use fixtures::Schedule;
 use league::League;
@@ -78,6 +79,25 @@ pub fn worker<R: Wait, D: Door, G: Gate>(
 ) -> Report
     requires { D.granted door.old < 2 ^ 62 }
     ensures report { IsReport plan.steps result }
+    ensures counted { D.granted door.new ≡ D.granted door.old + result.accepted }
+    ensures stays { D.stays door.old door.new }
+    ensures other_size { ¬ (copy.old.teams ≡ teams league.now) →
+        (result.made ≡ 0) × (copy.new ≡ copy.old) × (door.new ≡ door.old) }
+{
+    take_steps(rt, door, &Hearing { gate }, league, plan, copy)
+}
+
+/// What a worker does. Its report counts the replies that the gate heard.
+pub(crate) fn take_steps<R: Wait, D: Door, G: HearingGate>(
+    rt: &R,
+    door: &mut D,
+    gate: &G,
+    league: &League,
+    plan: WorkerPlan,
+    copy: &mut Schedule,
+) -> Report
+    requires { D.granted door.old < 2 ^ 62 }
+    ensures report { IsReport plan.steps result }
     ensures heard { IsHeard (G.heard gate.now plan.worker) result }
     ensures counted { D.granted door.new ≡ D.granted door.old + result.accepted }
     ensures stays { D.stays door.old door.new }
@@ -121,7 +141,7 @@ pub fn worker<R: Wait, D: Door, G: Gate>(
 }
 
 /// Counts a step, and tells the gate how far the worker is where its pause is over.
-fn tell<R: Wait, G: Gate>(rt: &R, gate: &G, worker: u32, progress: &mut Progress) {
+fn tell<R: Wait, G: HearingGate>(rt: &R, gate: &G, worker: u32, progress: &mut Progress) {
     progress.steps = progress.steps.saturating_add(1);
     if gate.pause() <= progress.steps {
         gate.told(rt, worker, *progress);

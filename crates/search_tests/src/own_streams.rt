@@ -3,7 +3,7 @@
 use crate::boards::{check_same_history, circle};
 use crate::distinct::are_distinct;
 use crate::searches::searched_with;
-use fixture_board::{Board, Proposal, Reply};
+use fixture_board::{Board, Proposal};
 use fixtures::Schedule;
 use moves::{Move, check};
 use rand_pcg::Lcg64Xsh32;
@@ -58,7 +58,7 @@ impl Gate for Queue {
         });
     }
 
-    fn left<R: Wait>(&self, _rt: &R, _worker: u32, _made: u32, _reply: Reply) {}
+    fn left<R: Wait>(&self, _rt: &R, _worker: u32, _made: u32) {}
 
     fn told<R: Wait>(&self, rt: &R, worker: u32, _progress: Progress) {
         self.line.lock(rt).next = worker.saturating_add(1);

@@ -126,7 +126,7 @@ impl Gate for Passed<'_> {
         let _ = writeln!(self.log.lock(rt), "enter {worker} {made}");
     }
 
-    fn left<R: Wait>(&self, rt: &R, worker: u32, made: u32, _reply: Reply) {
+    fn left<R: Wait>(&self, rt: &R, worker: u32, made: u32) {
         let _ = writeln!(self.log.lock(rt), "left {worker} {made}");
     }
 }

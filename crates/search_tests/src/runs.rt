@@ -4,7 +4,7 @@ ghost use Rattle.std.specs.Prelude.{◌≡◌, [], length, IfOk};
 
 use crate::boards::{board, check_end, check_replay, check_same_history};
 use crate::searches::{self, searched_with};
-use fixture_board::{Best, Board, Change, Entry, Reply};
+use fixture_board::{Best, Board, Change, Entry};
 use league::{League, circular};
 use moves::Move;
 use search::{Gate, NoGate, Outcome, Reports, RunFault, SearchPlan, run};
@@ -71,7 +71,7 @@ impl Gate for Meet {
         self.late.store(1, Ordering::SeqCst);
     }
 
-    fn left<R: Wait>(&self, _rt: &R, _worker: u32, _made: u32, _reply: Reply) {}
+    fn left<R: Wait>(&self, _rt: &R, _worker: u32, _made: u32) {}
 }
 
 /// Both of two workers propose, and each meets the other at the gate.

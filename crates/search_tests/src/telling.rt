@@ -1,7 +1,6 @@
 //! What a gate is told of a run.
 
 use crate::searches::searched_with;
-use fixture_board::Reply;
 use search::{Gate, Progress, SearchPlan};
 use std::alloc::Global;
 use std::fmt::Write;
@@ -18,7 +17,7 @@ struct Listener<'a> {
 impl Gate for Listener<'_> {
     fn enter<R: Wait>(&self, _rt: &R, _worker: u32, _made: u32) {}
 
-    fn left<R: Wait>(&self, _rt: &R, _worker: u32, _made: u32, _reply: Reply) {}
+    fn left<R: Wait>(&self, _rt: &R, _worker: u32, _made: u32) {}
 
     fn told<R: Wait>(&self, rt: &R, worker: u32, progress: Progress) {
         let Progress {

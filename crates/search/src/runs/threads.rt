@@ -7,8 +7,9 @@ ghost use Rattle.search.specs.Outcomes.{accepted_in, accepted_of, made_by};
 ghost use Rattle.search.specs.Heard.{IsOfWorker};
 
 use super::SearchPlan;
-use crate::workers::{Report, WorkerPlan, worker};
-use crate::{Gate, SeatDoor};
+use crate::SeatDoor;
+use crate::gates::HearingGate;
+use crate::workers::{Report, WorkerPlan, take_steps};
 use fixtures::Schedule;
 use league::League;
 use shared_board::{Seat, Shared, SplitFault};
@@ -40,7 +41,7 @@ pub(crate) struct Given<G> {
     gate: Snapshot<G>,
 }
 
-impl<G: Gate> Promise<Ended> for Given<G> {
+impl<G: HearingGate> Promise<Ended> for Given<G> {
     ghost use Rattle.search.specs.Crews.{IsBack};
 
     ghost kept_by = { λ p e. IsBack (G.heard p.gate.value) p.steps p.seat.value e.report e.seat };
@@ -92,7 +93,7 @@ pub(crate) fn seat_all<R: Wait>(
 
 /// Starts a thread for each job, until one can't be started, and waits until all that were started have ended. Tells
 /// whether all were.
-pub(crate) fn launch<R: Threads + Wait + Sync, G: Gate + Sync>(
+pub(crate) fn launch<R: Threads + Wait + Sync, G: HearingGate + Sync>(
     rt: &R,
     shared: &Shared,
     gate: &G,
@@ -115,7 +116,7 @@ pub(crate) fn launch<R: Threads + Wait + Sync, G: Gate + Sync>(
 }
 
 /// Starts a thread for each job, until one can't be started. Tells whether all were.
-fn start_all<'s, E, R: Wait + Sync, G: Gate + Sync>(
+fn start_all<'s, E, R: Wait + Sync, G: HearingGate + Sync>(
     scope: &Scope<'s, E>,
     rt: &'s R,
     shared: &'s Shared,
@@ -138,7 +139,7 @@ fn start_all<'s, E, R: Wait + Sync, G: Gate + Sync>(
 }
 
 /// Starts a worker's thread. Where that fails its seat is lost.
-fn start<'s, E, R: Wait + Sync, G: Gate + Sync>(
+fn start<'s, E, R: Wait + Sync, G: HearingGate + Sync>(
     scope: &Scope<'s, E>,
     rt: &'s R,
     shared: &'s Shared,
@@ -162,7 +163,7 @@ fn start<'s, E, R: Wait + Sync, G: Gate + Sync>(
 }
 
 /// What a worker's thread does.
-fn work<R: Wait, G: Gate>(
+fn work<R: Wait, G: HearingGate>(
     rt: &R,
     shared: &Shared,
     gate: &G,
@@ -185,13 +186,13 @@ fn work<R: Wait, G: Gate>(
         slack: plan.slack,
     };
     let mut door = SeatDoor { shared, seat };
-    let report = worker(rt, &mut door, gate, league, plan, &mut copy);
+    let report = take_steps(rt, &mut door, gate, league, plan, &mut copy);
     let SeatDoor { shared: _, seat } = door;
     Ended { report, seat }
 }
 
 /// Takes in the seats of the threads, tells the gate that all have ended, and gives their reports, in order.
-pub(crate) fn gather<R: Threads + Wait, G: Gate>(
+pub(crate) fn gather<R: Threads + Wait, G: HearingGate>(
     rt: &R,
     shared: &Shared,
     gate: &G,

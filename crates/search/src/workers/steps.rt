@@ -8,7 +8,8 @@ ghost use Rattle.fixture_board.specs.declared.reply.Reply.{Reply};
 ghost use Rattle.search.specs.Doors.{done_count};
 ghost use Rattle.search.specs.Steps.{IsKnown, IsProposed, accepted_count, least_with};
 
-use crate::{Door, Gate};
+use crate::Door;
+use crate::gates::HearingGate;
 use fixture_board::{Cost, Proposal, Reply, Why, cost_of, make_within};
 use fixtures::{Schedule, Touched};
 use league::League;
@@ -76,7 +77,7 @@ pub(crate) fn refresh<R: Wait, D: Door>(
 }
 
 /// Tries a move, and proposes it where the slack lets it pass and the copy is still the board's schedule.
-pub(crate) fn step<R: Wait, D: Door, G: Gate>(
+pub(crate) fn step<R: Wait, D: Door, G: HearingGate>(
     rt: &R,
     door: &mut D,
     gate: &G,

@@ -12,5 +12,5 @@ invariant-loop-handle g l = record {
   all : l.yielded ++ into_iter_items l.handle-iterator ≡ l.fn.handles.items;
   count : vec_len l.reports + into_iter_len l.handle-iterator ≡ vec_len l.fn.handles;
   room : vec_len l.fn.handles ≤ vec_capacity l.reports;
-  gathered : IsGathered (g.G.Gate.heard l.gate) l.steps l.shared l.fn.seat l.seat l.yielded l.reports.items;
+  gathered : IsGathered (g.G.HearingGate.heard l.gate) l.steps l.shared l.fn.seat l.seat l.yielded l.reports.items;
 }

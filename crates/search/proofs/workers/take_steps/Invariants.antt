@@ -2,7 +2,7 @@ use Rattle.std.proofs.Common.{◌≡◌, ◌+◌, ◌≤◌}
 use Rattle.league.specs.League.{teams}
 use Rattle.search.specs.Heard.{IsHeard}
 use Rattle.search.specs.Steps.{IsKnown}
-use Rattle.search.proofs.workers.worker.Given as goal
+use Rattle.search.proofs.workers.take_steps.Given as goal
 
 abbrev pub invariant-loop-s : goal.invariant-loop-s
 invariant-loop-s g l = record {
@@ -10,7 +10,7 @@ invariant-loop-s g l = record {
   few : l.report.made ≤ l.s;
   same_size : teams l.league ≡ l.copy.teams;
   known : IsKnown l.league l.copy l.known.cost l.known.score;
-  heard : IsHeard (g.G.Gate.heard l.gate l.plan.worker) l.report;
+  heard : IsHeard (g.G.HearingGate.heard l.gate l.plan.worker) l.report;
   counted : g.D.Door.granted l.door ≡ g.D.Door.granted l.fn.door + l.report.accepted;
   stays : g.D.Door.stays l.fn.door l.door;
 }

@@ -2,7 +2,7 @@ use Rattle.std.proofs.Common.{refl, sym, subst, arith, rules}
 use Rattle.search.specs.Heard.{IsHeard}
 use Rattle.search.specs.declared.workers.Report.{Report}
 use Rattle.search.proofs.Hearing.{CountsStep, counts_step, heard_none, heard_step}
-use Rattle.search.proofs.workers.worker.Goals as goal
+use Rattle.search.proofs.workers.take_steps.Goals as goal
 
 pub loop-s-init : goal.loop-s-init
 loop-s-init g c = record {
@@ -22,7 +22,7 @@ loop-s-preserved g c =
     let counts : CountsStep c.loop-s.report c.step-told.result c.with-report.result =
     subst Counts (sym c.with-report.ensures) (counts_step c.loop-s.report c.step-told.result)
     in
-    let Hears : Report → Type 0 = λ r. IsHeard (g.G.Gate.heard c.args.gate.now c.args.plan.worker) r in
+    let Hears : Report → Type 0 = λ r. IsHeard (g.G.HearingGate.heard c.args.gate.now c.args.plan.worker) r in
     record {
       whole = counts.whole was.whole;
       few = omega (arith, counts.few, was.few);
@@ -35,5 +35,5 @@ loop-s-preserved g c =
 
 pub returns-in-Full-clause-heard : goal.returns-in-Full-clause-heard
 returns-in-Full-clause-heard g c =
-    let Hears : Report → Type 0 = λ r. IsHeard (g.G.Gate.heard c.args.gate.now c.args.plan.worker) r in
+    let Hears : Report → Type 0 = λ r. IsHeard (g.G.HearingGate.heard c.args.gate.now c.args.plan.worker) r in
     subst Hears (sym c.with-report.ensures) (heard_step _ c.loop-s.report c.step-told.result c.loop-s.invariant.heard c.step-told.ensures.heard)
