@@ -20,3 +20,4 @@ pub mod GuestSteps
 pub mod SetsInSeason
 pub mod CutSets
 pub mod StoppedWalks
+pub mod RoundsTold
