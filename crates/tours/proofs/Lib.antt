@@ -21,3 +21,6 @@ pub mod SetsInSeason
 pub mod CutSets
 pub mod StoppedWalks
 pub mod RoundsTold
+pub mod TeamsTold
+pub mod OwnLegs
+pub mod VisitsTold

@@ -95,7 +95,7 @@ either_term true false x apart = omega arith
 either_term false true x apart = omega arith
 either_term false false x apart = refl
 
-and_one : (n a : ℕ) (test : ℕ → Bool) (f : ℕ → ℕ) → a < n → test a ≡ false →
+pub and_one : (n a : ℕ) (test : ℕ → Bool) (f : ℕ → ℕ) → a < n → test a ≡ false →
     sum_where n (λ r. r == a || test r) f ≡ sum_where n test f + f a
 and_one n a test f in_range out =
     sum_below_same n (λ r. if r == a || test r then f r else 0)
