@@ -39,4 +39,6 @@ mod small_leagues;
 #[cfg(test)]
 mod starts;
 #[cfg(test)]
+mod told;
+#[cfg(test)]
 mod values;

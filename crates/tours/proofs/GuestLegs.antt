@@ -11,7 +11,7 @@ use Rattle.fixtures.specs.Games.{Games, round_count, cell, is_home, place, IsDou
 use Rattle.fixtures.specs.Changes.{with_guests}
 use Rattle.tours.specs.Tours.{leg_count, leg}
 use Rattle.tours.specs.Parts.{touches_leg, travel_part_of, travel_at, travel_part, travel_around}
-use Rattle.tours.specs.Walked.{there_and_on, legs_of_guest}
+use Rattle.tours.specs.Walked.{part_of, around, there_and_on, guest_terms, legs_of_guest}
 use Rattle.tours.proofs.AroundBalance.{touches_leg_of}
 use Rattle.tours.proofs.TravelWalk.{inside, outside, sum_where_swap}
 use Rattle.tours.proofs.Turned.{sum_below_turned}
@@ -77,14 +77,14 @@ out_of_season rounds at = grind (arith, nat_tests)
 at_season : (k rounds : ℕ) (at : Bool) → k < rounds → (nat_lt k rounds && at) ≡ at
 at_season k rounds at in_k = grind (arith, nat_tests)
 
-part_by_rounds : (l : LeagueData) (g : Games) (set : ℕ → Bool) (t : ℕ) →
-    travel_part_of l g set t ≡ sum_where (round_count g.teams) set (there_and_on l g set t)
-unfolding travel_part_of touches_leg
-part_by_rounds l g set t =
-    sum_where_same (leg_count g) (touches_leg g set) (next_to (in_season g set)) (leg l g t) (leg l g t)
+part_by_rounds : (f : ℕ → ℕ → ℕ) (g : Games) (set : ℕ → Bool) (t : ℕ) →
+    part_of f g set t ≡ sum_where (round_count g.teams) set (there_and_on f g set t)
+unfolding touches_leg
+part_by_rounds f g set t =
+    sum_where_same (leg_count g) (touches_leg g set) (next_to (in_season g set)) (f t) (f t)
     (λ k in_k. touched_in_season k (round_count g.teams) (set (k - 1)) (set k) in_k) (λ k in_k touched. refl) ∙
-    sym (all_walked (in_season g set) (leg l g t) (round_count g.teams) (out_of_season (round_count g.teams) (set (round_count g.teams)))) ∙
-    sum_where_same (round_count g.teams) (in_season g set) set (there_and_on l g set t) (there_and_on l g set t)
+    sym (all_walked (in_season g set) (f t) (round_count g.teams) (out_of_season (round_count g.teams) (set (round_count g.teams)))) ∙
+    sum_where_same (round_count g.teams) (in_season g set) set (there_and_on f g set t) (there_and_on f g set t)
     (λ k in_k. at_season k (round_count g.teams) (set k) in_k) (λ k in_k touched. refl)
 
 -- the teams' own legs, and those of the others
@@ -93,17 +93,17 @@ own_rounds : (mine round at : Bool) → mine ≡ true → (round && (mine || at)
 own_rounds mine true at is = rw is refl
 own_rounds mine false at is = refl
 
-own_part : (l : LeagueData) (g : Games) (teams rounds : ℕ → Bool) (t : ℕ) → teams t ≡ true →
-    travel_part_of l g (with_guests g teams rounds t) t ≡ travel_part_of l g rounds t
-unfolding travel_part_of with_guests
-own_part l g teams rounds t mine =
-    sum_where_same (leg_count g) (touches_leg g (with_guests g teams rounds t)) (touches_leg g rounds) (leg l g t) (leg l g t)
+own_part : (f : ℕ → ℕ → ℕ) (g : Games) (teams rounds : ℕ → Bool) (t : ℕ) → teams t ≡ true →
+    part_of f g (with_guests g teams rounds t) t ≡ part_of f g rounds t
+unfolding with_guests
+own_part f g teams rounds t mine =
+    sum_where_same (leg_count g) (touches_leg g (with_guests g teams rounds t)) (touches_leg g rounds) (f t) (f t)
     (λ r in_r. touches_leg_of g rounds (with_guests g teams rounds t) r in_r (λ k in_k. own_rounds (teams t) (rounds k) (teams (place g t k)) mine))
     (λ r in_r touched. refl)
 
 -- what a guest of some teams travels around a game there
-abbrev guest_legs : LeagueData → Games → (ℕ → Bool) → (ℕ → Bool) → ℕ → ℕ → ℕ
-guest_legs l g teams rounds r t = there_and_on l g (with_guests g teams rounds t) t r
+abbrev guest_legs : (ℕ → ℕ → ℕ) → Games → (ℕ → Bool) → (ℕ → Bool) → ℕ → ℕ → ℕ
+guest_legs f g teams rounds r t = there_and_on f g (with_guests g teams rounds t) t r
 
 theirs_in_round : (mine round at : Bool) (x : ℕ) →
     (if round && (mine || at) then (if not mine then x else 0) else 0) ≡ (if round then (if not mine && at then x else 0) else 0)
@@ -112,24 +112,24 @@ theirs_in_round true false at x = refl
 theirs_in_round false true at x = refl
 theirs_in_round false false at x = refl
 
-others_part : (l : LeagueData) (g : Games) (teams rounds : ℕ → Bool) →
-    sum_where g.teams (λ t. not (teams t)) (λ t. travel_part_of l g (with_guests g teams rounds t) t) ≡
-    sum_where (round_count g.teams) rounds (λ r. sum_where g.teams (λ t. not (teams t) && teams (place g t r)) (guest_legs l g teams rounds r))
+others_part : (f : ℕ → ℕ → ℕ) (g : Games) (teams rounds : ℕ → Bool) →
+    sum_where g.teams (λ t. not (teams t)) (λ t. part_of f g (with_guests g teams rounds t) t) ≡
+    sum_where (round_count g.teams) rounds (λ r. sum_where g.teams (λ t. not (teams t) && teams (place g t r)) (guest_legs f g teams rounds r))
 unfolding with_guests
-others_part l g teams rounds =
-    sum_below_same g.teams (λ t. if not (teams t) then travel_part_of l g (with_guests g teams rounds t) t else 0)
-    (λ t. sum_below (round_count g.teams) (λ r. if with_guests g teams rounds t r then (if not (teams t) then guest_legs l g teams rounds r t else 0) else 0))
-    (λ t in_t. ap (λ x. if not (teams t) then x else 0) (part_by_rounds l g (with_guests g teams rounds t) t) ∙
-    inside (not (teams t)) (round_count g.teams) (with_guests g teams rounds t) (λ r. guest_legs l g teams rounds r t)) ∙
-    sum_below_swap g.teams (round_count g.teams) (λ t r. if with_guests g teams rounds t r then (if not (teams t) then guest_legs l g teams rounds r t else 0) else 0) ∙
+others_part f g teams rounds =
+    sum_below_same g.teams (λ t. if not (teams t) then part_of f g (with_guests g teams rounds t) t else 0)
+    (λ t. sum_below (round_count g.teams) (λ r. if with_guests g teams rounds t r then (if not (teams t) then guest_legs f g teams rounds r t else 0) else 0))
+    (λ t in_t. ap (λ x. if not (teams t) then x else 0) (part_by_rounds f g (with_guests g teams rounds t) t) ∙
+    inside (not (teams t)) (round_count g.teams) (with_guests g teams rounds t) (λ r. guest_legs f g teams rounds r t)) ∙
+    sum_below_swap g.teams (round_count g.teams) (λ t r. if with_guests g teams rounds t r then (if not (teams t) then guest_legs f g teams rounds r t else 0) else 0) ∙
     sum_below_same (round_count g.teams)
-    (λ r. sum_below g.teams (λ t. if with_guests g teams rounds t r then (if not (teams t) then guest_legs l g teams rounds r t else 0) else 0))
-    (λ r. if rounds r then sum_where g.teams (λ t. not (teams t) && teams (place g t r)) (guest_legs l g teams rounds r) else 0)
+    (λ r. sum_below g.teams (λ t. if with_guests g teams rounds t r then (if not (teams t) then guest_legs f g teams rounds r t else 0) else 0))
+    (λ r. if rounds r then sum_where g.teams (λ t. not (teams t) && teams (place g t r)) (guest_legs f g teams rounds r) else 0)
     (λ r in_r. sum_below_same g.teams
-    (λ t. if with_guests g teams rounds t r then (if not (teams t) then guest_legs l g teams rounds r t else 0) else 0)
-    (λ t. if rounds r then (if not (teams t) && teams (place g t r) then guest_legs l g teams rounds r t else 0) else 0)
-    (λ t in_t. theirs_in_round (teams t) (rounds r) (teams (place g t r)) (guest_legs l g teams rounds r t)) ∙
-    outside (rounds r) g.teams (λ t. if not (teams t) && teams (place g t r) then guest_legs l g teams rounds r t else 0))
+    (λ t. if with_guests g teams rounds t r then (if not (teams t) then guest_legs f g teams rounds r t else 0) else 0)
+    (λ t. if rounds r then (if not (teams t) && teams (place g t r) then guest_legs f g teams rounds r t else 0) else 0)
+    (λ t in_t. theirs_in_round (teams t) (rounds r) (teams (place g t r)) (guest_legs f g teams rounds r t)) ∙
+    outside (rounds r) g.teams (λ t. if not (teams t) && teams (place g t r) then guest_legs f g teams rounds r t else 0))
 
 -- the guests in a round, each found from its host
 
@@ -178,20 +178,20 @@ at_home true true false x = refl
 at_home true false own x = refl
 at_home false home own x = refl
 
-abbrev hosted_at : LeagueData → Games → (ℕ → Bool) → (ℕ → Bool) → ℕ → ℕ → ℕ
-hosted_at l g teams rounds r t = if (cell g t r).home && not (teams (opponent_in g r t)) then guest_legs l g teams rounds r (opponent_in g r t) else 0
+abbrev hosted_at : (ℕ → ℕ → ℕ) → Games → (ℕ → Bool) → (ℕ → Bool) → ℕ → ℕ → ℕ
+hosted_at f g teams rounds r t = if (cell g t r).home && not (teams (opponent_in g r t)) then guest_legs f g teams rounds r (opponent_in g r t) else 0
 
-guests_of_hosts : (l : LeagueData) (g : Games) (teams rounds : ℕ → Bool) →
-    sum_where (round_count g.teams) rounds (λ r. sum_where g.teams teams (hosted_at l g teams rounds r)) ≡
-    sum_where g.teams teams (λ t. sum_where (round_count g.teams) (λ r. rounds r && is_home g t r) (legs_of_guest l g teams rounds t))
+guests_of_hosts : (f : ℕ → ℕ → ℕ) (g : Games) (teams rounds : ℕ → Bool) →
+    sum_where (round_count g.teams) rounds (λ r. sum_where g.teams teams (hosted_at f g teams rounds r)) ≡
+    sum_where g.teams teams (λ t. sum_where (round_count g.teams) (λ r. rounds r && is_home g t r) (guest_terms f g teams rounds t))
 unfolding is_home
-guests_of_hosts l g teams rounds =
-    sum_where_swap (round_count g.teams) g.teams rounds teams (hosted_at l g teams rounds) ∙
-    sum_where_same g.teams teams teams (λ t. sum_where (round_count g.teams) rounds (λ r. hosted_at l g teams rounds r t))
-    (λ t. sum_where (round_count g.teams) (λ r. rounds r && (cell g t r).home) (legs_of_guest l g teams rounds t)) (λ t in_t. refl)
-    (λ t in_t mine. sum_below_same (round_count g.teams) (λ r. if rounds r then hosted_at l g teams rounds r t else 0)
-    (λ r. if rounds r && (cell g t r).home then legs_of_guest l g teams rounds t r else 0)
-    (λ r in_r. at_home (rounds r) (cell g t r).home (teams (opponent_in g r t)) (guest_legs l g teams rounds r (opponent_in g r t))))
+guests_of_hosts f g teams rounds =
+    sum_where_swap (round_count g.teams) g.teams rounds teams (hosted_at f g teams rounds) ∙
+    sum_where_same g.teams teams teams (λ t. sum_where (round_count g.teams) rounds (λ r. hosted_at f g teams rounds r t))
+    (λ t. sum_where (round_count g.teams) (λ r. rounds r && (cell g t r).home) (guest_terms f g teams rounds t)) (λ t in_t. refl)
+    (λ t in_t mine. sum_below_same (round_count g.teams) (λ r. if rounds r then hosted_at f g teams rounds r t else 0)
+    (λ r. if rounds r && (cell g t r).home then guest_terms f g teams rounds t r else 0)
+    (λ r in_r. at_home (rounds r) (cell g t r).home (teams (opponent_in g r t)) (guest_legs f g teams rounds r (opponent_in g r t))))
 
 -- the rounds of a set at home
 pub sum_of_visits : (g : Games) (f : ℕ → ℕ) (t home rounds visits : ℕ) →
@@ -209,20 +209,26 @@ sum_of_visits g f t home rounds visits homes members =
     turned false true = refl
     turned false false = refl
 
+pub around_walked : (f : ℕ → ℕ → ℕ) (g : Games) (teams rounds : ℕ → Bool) → IsDoubleRoundRobin g →
+    around f g teams rounds ≡
+    sum_where g.teams teams (part_of f g rounds) +
+    sum_where g.teams teams (λ t. sum_where (round_count g.teams) (λ r. rounds r && is_home g t r) (guest_terms f g teams rounds t))
+around_walked f g teams rounds rr =
+    sym (sum_where_split g.teams teams (λ t. part_of f g (with_guests g teams rounds t) t)) ∙
+    ap (λ x. x + sum_where g.teams (λ t. not (teams t)) (λ t. part_of f g (with_guests g teams rounds t) t))
+    (sum_where_same g.teams teams teams (λ t. part_of f g (with_guests g teams rounds t) t) (part_of f g rounds)
+    (λ t in_t. refl) (λ t in_t mine. own_part f g teams rounds t mine)) ∙
+    ap (λ x. sum_where g.teams teams (part_of f g rounds) + x)
+    (others_part f g teams rounds ∙
+    sum_where_same (round_count g.teams) rounds rounds
+    (λ r. sum_where g.teams (λ t. not (teams t) && teams (place g t r)) (guest_legs f g teams rounds r))
+    (λ r. sum_where g.teams teams (hosted_at f g teams rounds r)) (λ r in_r. refl)
+    (λ r in_r touched. guests_by_host g teams (guest_legs f g teams rounds r) r rr in_r) ∙
+    guests_of_hosts f g teams rounds)
+
 pub travel_around_walked : (l : LeagueData) (g : Games) (teams rounds : ℕ → Bool) → IsDoubleRoundRobin g →
     travel_around l g teams rounds ≡
     travel_part l g teams rounds +
     sum_where g.teams teams (λ t. sum_where (round_count g.teams) (λ r. rounds r && is_home g t r) (legs_of_guest l g teams rounds t))
-unfolding travel_around travel_at travel_part
-travel_around_walked l g teams rounds rr =
-    sym (sum_where_split g.teams teams (λ t. travel_part_of l g (with_guests g teams rounds t) t)) ∙
-    ap (λ x. x + sum_where g.teams (λ t. not (teams t)) (λ t. travel_part_of l g (with_guests g teams rounds t) t))
-    (sum_where_same g.teams teams teams (λ t. travel_part_of l g (with_guests g teams rounds t) t) (travel_part_of l g rounds)
-    (λ t in_t. refl) (λ t in_t mine. own_part l g teams rounds t mine)) ∙
-    ap (λ x. sum_where g.teams teams (travel_part_of l g rounds) + x)
-    (others_part l g teams rounds ∙
-    sum_where_same (round_count g.teams) rounds rounds
-    (λ r. sum_where g.teams (λ t. not (teams t) && teams (place g t r)) (guest_legs l g teams rounds r))
-    (λ r. sum_where g.teams teams (hosted_at l g teams rounds r)) (λ r in_r. refl)
-    (λ r in_r touched. guests_by_host g teams (guest_legs l g teams rounds r) r rr in_r) ∙
-    guests_of_hosts l g teams rounds)
+unfolding travel_around travel_at travel_part travel_part_of
+travel_around_walked l g teams rounds rr = around_walked (leg l g) g teams rounds rr

@@ -20,3 +20,7 @@ pub mod GuestSteps
 pub mod SetsInSeason
 pub mod CutSets
 pub mod StoppedWalks
+pub mod RoundsTold
+pub mod TeamsTold
+pub mod OwnLegs
+pub mod VisitsTold

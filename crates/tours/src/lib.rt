@@ -10,8 +10,11 @@ mod laws;
 mod legs;
 mod meetings;
 mod phases;
+mod rounds_told;
 mod runs;
 mod season;
+mod teams_told;
+mod told;
 mod travel_parts;
 mod travel_within;
 
@@ -19,6 +22,9 @@ pub use laws::{changes_around_balance, changes_balance, parts_balance, same_pair
 pub use legs::{travel, travel_of};
 pub use meetings::{repeats, repeats_part, repeats_with};
 pub use phases::{unphased, unphased_part};
+pub use rounds_told::legs_of_rounds;
 pub use runs::{runs_over, runs_part};
+pub use teams_told::legs_of_teams;
+pub use told::Legs;
 pub use travel_parts::{travel_around, travel_part};
 pub use travel_within::{travel_around_within, travel_exchanged_within, travel_part_within};

@@ -1,0 +1,150 @@
+-- The legs of a guest around its game at one of two teams that are exchanged.
+use Rattle.std.proofs.Common.{◌≡◌, ℕ, ◌+◌, ◌-◌, ◌<◌, Bool, true, false, not, ◌&&◌, ◌||◌, inl, inr, get_or, refl, sym, ◌∙◌, ap, ap₂, arith}
+use Rattle.std.specs.Prelude.{◌==◌, nat_lt, if◌then◌else◌}
+use Rattle.std.proofs.lemmas.Bool.{and_parts, cond-true, cond-false}
+use Rattle.std.proofs.lemmas.Bool.Decides.{nat_tests}
+use Rattle.league.specs.League.{LeagueData, distance}
+use Rattle.league.specs.Sets.{has, IsWithoutLowest}
+use Rattle.fixtures.specs.Games.{Games, round_of, round_count, cell, place, is_home, IsDoubleRoundRobin}
+use Rattle.fixtures.specs.Edits.{exchanged}
+use Rattle.fixtures.specs.Changes.{with_guests}
+use Rattle.tours.specs.Tours.{tour, leg}
+use Rattle.tours.specs.Walked.{guest_terms}
+use Rattle.tours.specs.Told.{is_either, in_rounds, stop_told, leg_told}
+use Rattle.tours.proofs.Stops.{tour_at_round}
+use Rattle.tours.proofs.Opponents.{opponent_in, side_of_opponent, IsPairing-opponents}
+use Rattle.tours.proofs.GuestSteps.{followed_by_next}
+use Rattle.tours.proofs.TeamsTold.{at_round, unmoved, meets_neither}
+
+-- a place is exchanged in a round of the set, where it is that of one of the two
+by_tests : (b m : Bool) (a x : ℕ) → (m ≡ false → x ≡ a) → (if b then x else a) ≡ (if m && b then x else a)
+by_tests true true a x same = refl
+by_tests true false a x same = same refl
+by_tests false true a x same = refl
+by_tests false false a x same = refl
+
+later : (r n : ℕ) (b : Bool) → (not (r + 2 == 0) && (nat_lt (r + 1) n && b)) ≡ (nat_lt (r + 1) n && b)
+later r n b = grind (arith, nat_tests)
+
+-- the numbers that are left are of the set
+pub left_in_set : (set left lowest rest : ℕ) → ((k : ℕ) → has left k ≡ true → has set k ≡ true) →
+    IsWithoutLowest left lowest rest → (k : ℕ) → has rest k ≡ true → has set k ≡ true
+left_in_set set left lowest rest within taken k is =
+    within k (and_parts (has left k) (not (k == lowest)) (sym (taken.others k) ∙ is)).0
+
+module _ (l : LeagueData) (g : Games) (rr : IsDoubleRoundRobin g) (i j : ℕ) (rounds : ℕ → Bool)
+    (first_out : rounds (round_of g i j) ≡ false) (second_out : rounds (round_of g j i) ≡ false) (host r : ℕ)
+    (of_host : is_either i j host ≡ true) (in_host : host < g.teams) (in_r : r < round_count g.teams)
+    (home : is_home g host r ≡ true) (there : rounds r ≡ true) where
+  abbrev guest : ℕ
+  guest = (cell g host r).opponent
+
+  abbrev stop_at : ℕ → ℕ
+  stop_at k = get_or (tour g guest) k 0
+
+  neither : is_either i j guest ≡ false
+  neither = meets_neither g rr i j rounds first_out second_out host r of_host in_host in_r there
+
+  at_host : stop_at (r + 1) ≡ host
+  unfolding place is_home
+  at_host =
+      tour_at_round g guest r in_r ∙
+      ap (λ b. if b then guest else (cell g guest r).opponent) (side_of_opponent g rr host r in_host in_r ∙ ap not home) ∙
+      (IsPairing-opponents g rr r in_r).turn.back host in_host
+
+  told_at : (k : ℕ) → stop_told g i j rounds guest k ≡
+      (if is_either i j (stop_at k) && in_rounds g rounds k then exchanged i j (stop_at k) else stop_at k)
+  unfolding stop_told
+  told_at k =
+      ap (λ u. if in_rounds g rounds k then exchanged i j (get_or (tour g u) k 0) else stop_at k) (unmoved i j guest neither) ∙
+      by_tests (in_rounds g rounds k) (is_either i j (stop_at k)) (stop_at k) (exchanged i j (stop_at k))
+      (unmoved i j (stop_at k))
+
+  told_host : stop_told g i j rounds guest (r + 1) ≡ exchanged i j host
+  unfolding stop_told
+  told_host =
+      let back : r + 1 - 1 ≡ r = omega arith in
+      cond-true _ _ _ (at_round (r + 1) (round_count g.teams) (rounds (r + 1 - 1)) (omega arith) (omega arith) ∙
+      ap rounds back ∙ there) ∙
+      ap (λ u. exchanged i j (get_or (tour g u) (r + 1) 0)) (unmoved i j guest neither) ∙ ap (exchanged i j) at_host
+
+  two_on : r + 1 + 1 ≡ r + 2
+  two_on = omega arith
+
+  followed : (is_either i j (stop_at (r + 2)) && in_rounds g rounds (r + 2)) ≡
+      (nat_lt (r + 1) (round_count g.teams) && with_guests g (is_either i j) rounds guest (r + 1))
+  followed =
+      let back : r + 2 - 1 ≡ r + 1 = omega arith in
+      ap (λ k. is_either i j (stop_at (r + 2)) && (not (r + 2 == 0) && (nat_lt k (round_count g.teams) && rounds k))) back ∙
+      ap (λ b. is_either i j (stop_at (r + 2)) && b) (later r (round_count g.teams) (rounds (r + 1))) ∙
+      ap (λ k. is_either i j (stop_at k) && (nat_lt (r + 1) (round_count g.teams) && rounds (r + 1))) (sym two_on) ∙
+      followed_by_next g (is_either i j) rounds guest (r + 1) neither
+
+  pub term_ends : (f : ℕ → ℕ → ℕ) → (is_either i j (stop_at (r + 2)) && in_rounds g rounds (r + 2)) ≡ true →
+      guest_terms f g (is_either i j) rounds host r ≡ f guest r
+  term_ends f visited =
+      cond-false _ _ _ neither ∙ ap (λ x. f guest r + x) (cond-true _ _ _ (sym followed ∙ visited)) ∙ and_no_more (f guest r)
+    where
+      and_no_more : (x : ℕ) → x + 0 ≡ x
+      and_no_more x = omega arith
+
+  pub term_goes_on : (f : ℕ → ℕ → ℕ) → (is_either i j (stop_at (r + 2)) && in_rounds g rounds (r + 2)) ≡ false →
+      guest_terms f g (is_either i j) rounds host r ≡ f guest r + f guest (r + 1)
+  term_goes_on f goes_on =
+      cond-false _ _ _ neither ∙ ap (λ x. f guest r + x) (cond-false _ _ _ (sym followed ∙ goes_on))
+
+  pub arriving_now : leg l g guest r ≡ distance l (stop_at r) host
+  unfolding leg
+  arriving_now = ap (distance l (stop_at r)) at_host
+
+  pub arriving_told : leg_told l g i j rounds guest r ≡
+      distance l (if is_either i j (stop_at r) && in_rounds g rounds r then exchanged i j (stop_at r) else stop_at r)
+      (exchanged i j host)
+  arriving_told = ap₂ (distance l) (told_at r) told_host
+
+  pub leaving_now : leg l g guest (r + 1) ≡ distance l host (stop_at (r + 2))
+  unfolding leg
+  leaving_now = ap₂ (distance l) at_host (ap stop_at two_on)
+
+  pub leaving_told : (is_either i j (stop_at (r + 2)) && in_rounds g rounds (r + 2)) ≡ false →
+      leg_told l g i j rounds guest (r + 1) ≡ distance l (exchanged i j host) (stop_at (r + 2))
+  leaving_told goes_on =
+      ap₂ (distance l) told_host (ap (stop_told g i j rounds guest) two_on ∙ told_at (r + 2) ∙ cond-false _ _ _ goes_on)
+
+  -- by the places that the walk reads
+  module _ (from to from_told other : ℕ) (from_is : from ≡ stop_at r) (to_is : to ≡ stop_at (r + 2))
+      (told_is : from_told ≡ (if is_either i j from && in_rounds g rounds r then exchanged i j from else from))
+      (other_is : other ≡ exchanged i j host) where
+    on : (is : Bool) → (is_either i j to && in_rounds g rounds (r + 2)) ≡ is →
+        (is_either i j (stop_at (r + 2)) && in_rounds g rounds (r + 2)) ≡ is
+    on is e = ap (λ x. is_either i j x && in_rounds g rounds (r + 2)) (sym to_is) ∙ e
+
+    from_now : distance l from host ≡ leg l g guest r
+    from_now = ap (λ x. distance l x host) from_is ∙ sym arriving_now
+
+    from_after : distance l from_told other ≡ leg_told l g i j rounds guest r
+    from_after =
+        ap₂ (distance l)
+        (told_is ∙ ap (λ x. if is_either i j x && in_rounds g rounds r then exchanged i j x else x) from_is) other_is ∙
+        sym arriving_told
+
+    pub ends_now : (is_either i j to && in_rounds g rounds (r + 2)) ≡ true →
+        distance l from host ≡ guest_terms (leg l g) g (is_either i j) rounds host r
+    ends_now visited = from_now ∙ sym (term_ends (leg l g) (on true visited))
+
+    pub ends_told : (is_either i j to && in_rounds g rounds (r + 2)) ≡ true →
+        distance l from_told other ≡ guest_terms (leg_told l g i j rounds) g (is_either i j) rounds host r
+    ends_told visited = from_after ∙ sym (term_ends (leg_told l g i j rounds) (on true visited))
+
+    pub goes_on_now : (is_either i j to && in_rounds g rounds (r + 2)) ≡ false →
+        distance l from host + distance l host to ≡ guest_terms (leg l g) g (is_either i j) rounds host r
+    goes_on_now out =
+        ap₂ (λ x y. x + y) from_now (ap (distance l host) to_is ∙ sym leaving_now) ∙
+        sym (term_goes_on (leg l g) (on false out))
+
+    pub goes_on_told : (is_either i j to && in_rounds g rounds (r + 2)) ≡ false →
+        distance l from_told other + distance l other to ≡
+        guest_terms (leg_told l g i j rounds) g (is_either i j) rounds host r
+    goes_on_told out =
+        ap₂ (λ x y. x + y) from_after (ap₂ (distance l) other_is to_is ∙ sym (leaving_told (on false out))) ∙
+        sym (term_goes_on (leg_told l g i j rounds) (on false out))

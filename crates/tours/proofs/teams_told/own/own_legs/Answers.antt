@@ -1,0 +1,25 @@
+use Rattle.std.proofs.Common.{◌≡◌, ℕ, ◌<◌, ◌+◌, false, not, ◌&&◌, ◌∙◌, ap₂, arith}
+use Rattle.league.specs.Sets.{has}
+use Rattle.league.proofs.ForCallers.{has_beyond}
+use Rattle.fixtures.specs.Games.{round_count}
+use Rattle.tours.proofs.SetsInSeason.{has_two}
+use Rattle.tours.proofs.OwnLegs.{own_balance, has_both}
+use Rattle.tours.proofs.teams_told.own.own_legs.Goals as goal
+
+pub returns-clause-balance : goal.returns-clause-balance
+returns-clause-balance c =
+    let some : 0 < round_count c.args.schedule.now.teams = omega (arith, c.requires.round_robin.four) in
+    let beyond : has c.args.rounds (round_count c.args.schedule.now.teams) ≡ false =
+    has_beyond _ _ (round_count c.args.schedule.now.teams) c.requires.below (omega arith) in
+    let is_inner : (s : ℕ) → has c.starts_within-inner.result s ≡ (has c.args.rounds s && has c.args.rounds (s + 1)) =
+    λ s. c.starts_within-inner.ensures.members s ∙ has_both c.args.rounds s in
+    rw (c.first_legs-first.ensures.before, c.first_legs-first.ensures.after, c.legs_at_edges-at_edges.ensures.before,
+    c.legs_at_edges-at_edges.ensures.after, c.turned_legs-of_i.ensures.before, c.turned_legs-of_i.ensures.after,
+    c.turned_legs-of_j.ensures.before, c.turned_legs-of_j.ensures.after)
+    (own_balance c.args.league.now c.requires.league.table.diagonal c.args.schedule.now c.requires.round_robin c.args.i
+    c.args.j (record { home_in = c.requires.i; away_in = c.requires.j; distinct = c.requires.distinct }) (has c.args.rounds)
+    c.requires.first_out c.requires.second_out beyond c.difference-edges.result c.starts_within-inner.result
+    c.turns-turns_j.result c.turns-turns_i.result some is_inner
+    (λ s. c.difference-edges.ensures.members s ∙ ap₂ (λ a b. a && not b)
+    (c.starts_meeting-either.ensures.members s ∙ has_two c.args.rounds s) (is_inner s))
+    c.turns-turns_j.ensures.members c.turns-turns_i.ensures.members)

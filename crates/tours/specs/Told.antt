@@ -1,0 +1,41 @@
+-- What the walks count that tell on the schedule before what an exchange changes: words of private functions alone.
+use Rattle.std.specs.Prelude.{◌≡◌, ℕ, ◌<◌, true, false, ◌+◌, ◌-◌, ◌==◌, ◌&&◌, ◌||◌, not, nat_lt, Bool, if◌then◌else◌, slice_index}
+use Rattle.league.specs.League.{LeagueData, distance}
+use Rattle.fixtures.specs.Games.{Games, round_count}
+use Rattle.league.specs.Sets.{has}
+use Rattle.fixtures.specs.Changes.{turns}
+use Rattle.fixtures.specs.Edits.{exchanged}
+use Rattle.tours.specs.Tours.{tour}
+
+-- of a tour's legs, those that touch one of the rounds k and l, of which k is the first
+abbrev pub legs_around : (ℕ → ℕ) → ℕ → ℕ → ℕ
+legs_around leg k l =
+    if l == k + 1 then leg k + leg (k + 1) + leg (l + 1) else leg k + leg (k + 1) + (leg l + leg (l + 1))
+
+-- one of two teams
+abbrev pub is_either : ℕ → ℕ → ℕ → Bool
+is_either i j t = t == i || t == j
+
+-- whether the stop with this index is that of a round of the set
+abbrev pub in_rounds : Games → (ℕ → Bool) → ℕ → Bool
+in_rounds g rounds index = not (index == 0) && (nat_lt (index - 1) (round_count g.teams) && rounds (index - 1))
+
+-- the stop with this index in a team's tour after i and j are exchanged in the rounds of the set
+unfoldable pub stop_told : Games → ℕ → ℕ → (ℕ → Bool) → ℕ → ℕ → ℕ
+stop_told g i j rounds t index =
+    if in_rounds g rounds index then exchanged i j (slice_index (tour g (exchanged i j t)) index)
+    else slice_index (tour g t) index
+
+-- and the leg
+abbrev pub leg_told : LeagueData → Games → ℕ → ℕ → (ℕ → Bool) → ℕ → ℕ → ℕ
+leg_told l g i j rounds t r = distance l (stop_told g i j rounds t r) (stop_told g i j rounds t (r + 1))
+
+-- the leg of a team with i and j exchanged among its places
+abbrev pub leg_turned : LeagueData → Games → ℕ → ℕ → ℕ → ℕ → ℕ
+leg_turned l g i j t r =
+    distance l (exchanged i j (slice_index (tour g t) r)) (exchanged i j (slice_index (tour g t) (r + 1)))
+
+-- the rounds of a set after which a team plays on the other side, where the next round is one of the season's
+pub record AreTurns (g : Games) (inner t set : ℕ) : Type 0 where
+  pub inside : (s : ℕ) → has inner s ≡ false → has set s ≡ false
+  pub turning : (s : ℕ) → s + 1 < round_count g.teams → has inner s ≡ true → has set s ≡ turns g s (s + 1) t

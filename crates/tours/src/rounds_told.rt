@@ -1,0 +1,148 @@
+//! What an exchange of two rounds changes in the travel, told on the schedule before it.
+
+ghost use Rattle.std.specs.Prelude.{◌≡◌, ◌≢◌, ℕ, ◌+◌, ◌*◌, ◌<◌, ◌≤◌};
+ghost use Rattle.league.specs.League.{teams};
+ghost use Rattle.league.specs.Limits.{max_teams, max_distance};
+ghost use Rattle.league.specs.Sets.{has, IsBelow};
+ghost use Rattle.league.specs.Sums.{sum_where};
+ghost use Rattle.fixtures.specs.Games.{round_count, IsDoubleRoundRobin};
+ghost use Rattle.fixtures.specs.Edits.{rounds_exchanged};
+ghost use Rattle.fixtures.specs.Closed.{IsClosed, plays_in};
+ghost use Rattle.tours.specs.Tours.{leg, travel};
+ghost use Rattle.tours.specs.Walked.{leg_exchanged};
+ghost use Rattle.tours.specs.Told.{legs_around};
+
+use crate::legs::{stop, way};
+use crate::season::teams_in;
+use crate::told::Legs;
+use fixtures::Schedule;
+use league::{League, TeamSet};
+
+/// The legs that change where rounds `k` and `l` are exchanged for the teams of the set, which has the opponents of its
+/// teams in the two rounds.
+pub fn legs_of_rounds(
+    schedule: &Schedule,
+    league: &League,
+    k: u8,
+    l: u8,
+    among: TeamSet,
+) -> Legs
+    requires same { teams league.now ≡ schedule.now.teams }
+    requires k { k < round_count schedule.now.teams }
+    requires l { l < round_count schedule.now.teams }
+    requires distinct { k ≢ l }
+    requires closed { IsClosed (plays_in schedule.now k l) (has among) }
+    ensures balance { travel league.now (rounds_exchanged schedule.now k l (has among)) + result.before ≡
+        travel league.now schedule.now + result.after }
+    ensures before_most { result.before ≤ max_teams * (4 * max_distance) }
+    ensures after_most { result.after ≤ max_teams * (4 * max_distance) }
+{
+    let teams = teams_in(schedule, among);
+    if k < l {
+        legs_of_ordered(schedule, league, k, l, teams)
+    } else {
+        legs_of_ordered(schedule, league, l, k, teams)
+    }
+}
+
+/// The same of the teams of the set one by one; `k` is the first of the two rounds.
+fn legs_of_ordered(
+    schedule: &Schedule,
+    league: &League,
+    k: u8,
+    l: u8,
+    among: TeamSet,
+) -> Legs
+    requires same { teams league.now ≡ schedule.now.teams }
+    requires round_robin { IsDoubleRoundRobin schedule.now }
+    requires below { IsBelow schedule.now.teams among }
+    requires ordered { k < l }
+    requires l { l < round_count schedule.now.teams }
+    ensures before { result.before ≡
+        sum_where schedule.now.teams (has among) (λ t. legs_around (leg league.now schedule.now t) k l) }
+    ensures after { result.after ≡
+        sum_where schedule.now.teams (has among) (λ t. legs_around (leg_exchanged league.now schedule.now k l t) k l) }
+    ensures before_most { result.before ≤ 4 * max_distance * schedule.now.teams }
+    ensures after_most { result.after ≤ 4 * max_distance * schedule.now.teams }
+{
+    let mut before = 0;
+    let mut after = 0;
+    for team in among {
+        let legs = legs_of_team(schedule, league, k, l, team);
+        before += legs.before;
+        after += legs.after;
+    }
+    Legs { before, after }
+}
+
+/// The legs of a team around two rounds, of which `k` is the first, as they are and with the two exchanged.
+fn legs_of_team(schedule: &Schedule, league: &League, k: u8, l: u8, team: u8) -> Legs
+    requires same { teams league.now ≡ schedule.now.teams }
+    requires team { team < schedule.now.teams }
+    requires ordered { k < l }
+    requires l { l < round_count schedule.now.teams }
+    ensures before { result.before ≡ legs_around (leg league.now schedule.now team) k l }
+    ensures after { result.after ≡ legs_around (leg_exchanged league.now schedule.now k l team) k l }
+    ensures before_most { result.before ≤ 4 * max_distance }
+    ensures after_most { result.after ≤ 4 * max_distance }
+{
+    if l == k + 1 {
+        legs_of_neighbours(schedule, league, k, l, team)
+    } else {
+        legs_of_two(schedule, league, k, l, team)
+    }
+}
+
+/// Where `l` is the round after `k`.
+fn legs_of_neighbours(schedule: &Schedule, league: &League, k: u8, l: u8, team: u8) -> Legs
+    requires same { teams league.now ≡ schedule.now.teams }
+    requires team { team < schedule.now.teams }
+    requires next { l ≡ k + 1 }
+    requires l { l < round_count schedule.now.teams }
+    ensures before { result.before ≡
+        leg league.now schedule.now team k + leg league.now schedule.now team (k + 1) +
+        leg league.now schedule.now team (l + 1) }
+    ensures after { result.after ≡
+        leg_exchanged league.now schedule.now k l team k + leg_exchanged league.now schedule.now k l team (k + 1) +
+        leg_exchanged league.now schedule.now k l team (l + 1) }
+    ensures before_most { result.before ≤ 3 * max_distance }
+    ensures after_most { result.after ≤ 3 * max_distance }
+{
+    let from = stop(schedule, team, k);
+    let first = stop(schedule, team, k + 1);
+    let second = stop(schedule, team, l + 1);
+    let to = stop(schedule, team, l + 2);
+    Legs {
+        before: way(league, from, first) + way(league, first, second) + way(league, second, to),
+        after: way(league, from, second) + way(league, second, first) + way(league, first, to),
+    }
+}
+
+/// Where there are rounds between the two.
+fn legs_of_two(schedule: &Schedule, league: &League, k: u8, l: u8, team: u8) -> Legs
+    requires same { teams league.now ≡ schedule.now.teams }
+    requires team { team < schedule.now.teams }
+    requires apart { k + 1 < l }
+    requires l { l < round_count schedule.now.teams }
+    ensures before { result.before ≡
+        leg league.now schedule.now team k + leg league.now schedule.now team (k + 1) +
+        (leg league.now schedule.now team l + leg league.now schedule.now team (l + 1)) }
+    ensures after { result.after ≡
+        leg_exchanged league.now schedule.now k l team k + leg_exchanged league.now schedule.now k l team (k + 1) +
+        (leg_exchanged league.now schedule.now k l team l + leg_exchanged league.now schedule.now k l team (l + 1)) }
+    ensures before_most { result.before ≤ 4 * max_distance }
+    ensures after_most { result.after ≤ 4 * max_distance }
+{
+    let before_k = stop(schedule, team, k);
+    let at_k = stop(schedule, team, k + 1);
+    let after_k = stop(schedule, team, k + 2);
+    let before_l = stop(schedule, team, l);
+    let at_l = stop(schedule, team, l + 1);
+    let after_l = stop(schedule, team, l + 2);
+    Legs {
+        before: way(league, before_k, at_k) + way(league, at_k, after_k)
+            + (way(league, before_l, at_l) + way(league, at_l, after_l)),
+        after: way(league, before_k, at_l) + way(league, at_l, after_k)
+            + (way(league, before_l, at_k) + way(league, at_k, after_l)),
+    }
+}

@@ -1,0 +1,9 @@
+//! What an exchange changes, told on the schedule before it.
+
+/// The legs that an exchange of rounds or of teams alters, before it and after it, in the unit of the league's
+/// distances. Legs that stay as long as they are may be in both or in neither.
+#[derive(Clone, Copy, Debug, Drop, PartialEq, Eq)]
+pub struct Legs {
+    pub before: u64,
+    pub after: u64,
+}
