@@ -6,8 +6,9 @@ ghost use Rattle.std.specs.declared.io.ErrorKind.TheVariants.{OutOfMemory};
 ghost use Rattle.std.specs.Process.{exit_status};
 ghost use Rattle.clap.specs.Words.{fault_of, kind_of};
 ghost use Rattle.clap.specs.declared.error.kind.ErrorKind.{ErrorKind as Kind};
-ghost use Rattle.command_line.specs.CommandLine.{program};
-ghost use Rattle.program.specs.Program.{status_of};
+ghost use Rattle.command_line.specs.CommandLine.{job_of_words, program};
+ghost use Rattle.command_line.specs.declared.job.Job.{Job};
+ghost use Rattle.program.specs.Program.{DoesJob, status_of};
 
 use crate::jobs::perform;
 use clap::error::ErrorKind;
@@ -19,13 +20,13 @@ use std::rt::Runtime;
 use std::sync::Wait;
 use std::thread::Threads;
 use std::{env, io};
-use streams::{ReaderSource, WriterSink};
+use streams::{ReaderSource, Sink, Source, WriterSink};
 
 /// The exit status of a fault on the command line.
 const MISUSE: u8 = 2;
 
-/// Does what the program's words ask for. The exit status is 0 on success, 1 after a fault, and 2
-/// where the words are wrong. A search shows how far it is where standard error is a terminal.
+/// Does what the program's words ask for, between standard input and output. The exit status is 0 on success, 1 after a
+/// fault, and 2 where the words are wrong. A search shows how far it is where standard error is a terminal.
 pub fn run<R, E>(rt: &R, error: E) -> ExitCode
 where
     R: Runtime + AllocGlobal + Threads + Wait + Sync,
@@ -37,7 +38,11 @@ where
         None
     };
     match words_of(rt) {
-        Ok(words) => answer(rt, terminal, &words),
+        Ok(words) => {
+            let source = ReaderSource::new(rt.reader());
+            let mut sink = WriterSink::new(io::writer(rt));
+            answer(rt, terminal, &words, source, &mut sink)
+        }
         Err(error) => words_not_had(rt, error),
     }
 }
@@ -46,12 +51,18 @@ fn words_of<R: Runtime + AllocGlobal>(rt: &R) -> io::Result<Vec<String>> {
     Ok(env::args(rt)?.collect(rt.alloc())?)
 }
 
-/// Does what these words ask for, between standard input and output.
-fn answer<R: Runtime + AllocGlobal + Threads + Wait + Sync, E: Write + Send + Drop>(
-    rt: &R,
-    terminal: Option<E>,
-    words: &[String],
-) -> ExitCode
+/// Does what these words ask for, between a source and a sink. Wrong words, and those that ask for help or the version,
+/// leave both as they were.
+fn answer<
+    T: Runtime + AllocGlobal + Threads + Wait + Sync,
+    E: Write + Send + Drop,
+    R: Source + Drop,
+    W: Sink,
+>(rt: &T, terminal: Option<E>, words: &[String], source: R, sink: &mut W) -> ExitCode
+    ensures done { (job : Job) → fault_of program (map string_bytes words.now) ≡ []
+        → job_of_words (map string_bytes words.now) ≡ Some job
+        → DoesJob R.left R.tally W.held W.tally job source sink.old sink.new (exit_status result) }
+    ensures quiet { (kind : Kind) → fault_of program (map string_bytes words.now) ≡ kind ∷ [] → sink.new ≡ sink.old }
     ensures taken { fault_of program (map string_bytes words.now) ≡ [] → exit_status result ≤ 1 }
     ensures shown { fault_of program (map string_bytes words.now) ≡ ErrorKind.DisplayHelp ∷ [] → exit_status result ≤ 1 }
     ensures told { fault_of program (map string_bytes words.now) ≡ ErrorKind.DisplayVersion ∷ [] → exit_status result ≤ 1 }
@@ -63,9 +74,7 @@ fn answer<R: Runtime + AllocGlobal + Threads + Wait + Sync, E: Write + Send + Dr
         Ok(job) => job,
         Err(error) => return words_not_taken(rt, error),
     };
-    let source = ReaderSource::new(rt.reader());
-    let mut sink = WriterSink::new(io::writer(rt));
-    let outcome = perform(rt, rt.alloc(), job, terminal, source, &mut sink);
+    let outcome = perform(rt, rt.alloc(), job, terminal, source, sink);
     ended(rt, outcome)
 }
 

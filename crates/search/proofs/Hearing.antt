@@ -1,5 +1,5 @@
 -- One more step of a worker: its report, and the reply that the gate heard.
-use Rattle.std.proofs.Common.{◌≡◌, ℕ, ◌+◌, ◌≤◌, List, [], ◌∷◌, ◌++◌, length, refl, arith, subst, length-append}
+use Rattle.std.proofs.Common.{◌≡◌, ℕ, ◌+◌, ◌≤◌, List, [], ◌∷◌, ◌++◌, length, refl, sum_by, sym, arith, subst, length-append}
 use Rattle.std.proofs.lemmas.List.Sums.{sum_by_push}
 use Rattle.fixture_board.specs.declared.reply.Reply.{Reply}
 use Rattle.search.specs.declared.workers.Report.{Report}
@@ -34,7 +34,7 @@ heard_more heard was is r before one made accepted =
 abbrev pub HearsStep : (ℕ → Reply → Type 0) → ℕ → Told → Type 0
 HearsStep heard made told = IsProposed told → (reply : Reply) × heard made reply × (done_count reply ≡ accepted_count told)
 
-pub heard_step : (heard : ℕ → Reply → Type 0) (r : Report) (told : Told) → IsHeard heard r → HearsStep heard r.made told →
+heard_step : (heard : ℕ → Reply → Type 0) (r : Report) (told : Told) → IsHeard heard r → HearsStep heard r.made told →
     IsHeard heard (report_with r told)
 heard_step heard r Nothing before more = before
 heard_step heard r (Accepted cost) before more =
@@ -44,14 +44,23 @@ heard_step heard r Refused before more =
 heard_step heard r Full before more =
     let one = more tt in heard_more heard r (report_with r Full) one.0 before one.1 refl (omega (arith, one.2))
 
+-- the next report counts what was heard
+pub heard_next : (heard : ℕ → Reply → Type 0) (r next : Report) (told : Told) → next ≡ report_with r told → IsHeard heard r →
+    HearsStep heard r.made told → IsHeard heard next
+heard_next heard r next told is before more =
+    let P : Report → Type 0 = λ x. IsHeard heard x in subst P (sym is) (heard_step heard r told before more)
+
 -- a step makes one proposal at most, and its report counts it once
 pub record CountsStep (r : Report) (told : Told) (next : Report) : Type 0 where
   pub few : next.made ≤ r.made + 1
   pub accepted : next.accepted ≡ r.accepted + accepted_count told
   pub whole : r.made ≡ r.accepted + r.refused → next.made ≡ next.accepted + next.refused
 
-pub counts_step : (r : Report) (told : Told) → CountsStep r told (report_with r told)
+counts_step : (r : Report) (told : Told) → CountsStep r told (report_with r told)
 counts_step r Nothing = record { few = omega arith; accepted = omega arith; whole = λ h. h }
 counts_step r (Accepted cost) = record { few = omega arith; accepted = omega arith; whole = λ h. omega (arith, h) }
 counts_step r Refused = record { few = omega arith; accepted = omega arith; whole = λ h. omega (arith, h) }
 counts_step r Full = record { few = omega arith; accepted = omega arith; whole = λ h. omega (arith, h) }
+
+pub counts_next : (r next : Report) (told : Told) → next ≡ report_with r told → CountsStep r told next
+counts_next r next told is = let P : Report → Type 0 = λ x. CountsStep r told x in subst P (sym is) (counts_step r told)
