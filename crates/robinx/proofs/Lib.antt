@@ -1,11 +1,12 @@
 mod AllTeams
 mod CountedRounds
-mod Filters
 pub mod ForCallers
 mod GameCounts
+mod GapWalk
 mod Largest
 mod Limits
 mod LookedPast
+mod OpponentRounds
 mod Pairs
 pub mod Searches
 mod SeesSame

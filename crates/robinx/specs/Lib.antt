@@ -2,3 +2,4 @@ pub mod Deviations
 pub mod Laws
 pub mod LooksPast
 pub mod Touches
+pub mod Walked

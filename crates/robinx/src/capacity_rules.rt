@@ -1,9 +1,9 @@
 //! Capacity rules: at most so many games of a side, against some opponents, in some rounds.
 
-ghost use Rattle.std.specs.Prelude.{◌≡◌, ◌+◌, ◌*◌, ◌<◌, ◌≤◌};
+ghost use Rattle.std.specs.Prelude.{◌≡◌, ◌+◌, ◌-◌, ◌*◌, ◌<◌, ◌≤◌};
 ghost use Rattle.league.specs.Limits.{max_rounds};
 ghost use Rattle.league.specs.Sets.{has, IsBelow};
-ghost use Rattle.league.specs.Sums.{sum_where, count_where};
+ghost use Rattle.league.specs.Sums.{sum_below, sum_where, count_where};
 ghost use Rattle.league.specs.declared.rule.RuleBody.TheVariants as RuleBody;
 ghost use Rattle.fixtures.specs.Games.{round_count, IsDoubleRoundRobin};
 ghost use Rattle.robinx.specs.Deviations.{over, games_in_round, over_in_windows, deviation};
@@ -45,7 +45,6 @@ pub(crate) fn ca3(schedule: &Schedule, games: &CountedGames, window: u32, most: 
 }
 
 /// The games of the team that count in each window of consecutive rounds, over the most.
-#[tactic(auto, using(league::proofs::ForCallers::sums))]
 fn over_in_windows(
     schedule: &Schedule,
     games: &CountedGames,
@@ -61,9 +60,26 @@ fn over_in_windows(
 {
     let season = SlotSet::below(schedule.rounds());
     let counted = counted_rounds(schedule, games, season, team);
-    let mut total = 0;
-    for first in 0..schedule.rounds() + 1 - window {
-        total += over(rounds_in_window(counted, first, window), most);
+    over_in_row(counted, schedule.rounds(), window, most)
+}
+
+/// The rounds of the set in each window of consecutive rounds of a season, over the most.
+#[tactic(auto, using(league::proofs::ForCallers::sums))]
+fn over_in_row(set: SlotSet, rounds: u8, window: u8, most: u32) -> u64
+    requires least { 1 ≤ window }
+    requires window { window ≤ rounds }
+    requires season { rounds ≤ max_rounds }
+    ensures value { result ≡
+        sum_below (rounds + 1 - window) (λ first. over (count_where window (λ k. has set (first + k))) most) }
+    ensures most { result ≤ max_rounds * max_rounds }
+{
+    let mut count = rounds_in_window(set, 0, window);
+    let mut total = over(count, most);
+    for first in 0..rounds - window {
+        // the window moves on by a round: one comes, and one goes
+        count += u32::from(set.has(first + window));
+        count -= u32::from(set.has(first));
+        total += over(count, most);
     }
     total
 }
