@@ -1,30 +1,48 @@
 //! Fairness rules: the numbers of home games stay close to each other.
 
-ghost use Rattle.std.specs.Prelude.{◌≡◌, ℕ, ◌+◌, ◌*◌, ◌<◌, ◌≤◌, true, false};
+ghost use Rattle.std.specs.Prelude.{◌≡◌, ℕ, ◌+◌, ◌*◌, ◌<◌, ◌≤◌, true, false, if◌then◌else◌};
 ghost use Rattle.league.specs.Limits.{max_teams, max_rounds};
 ghost use Rattle.league.specs.Sets.{has, IsBelow};
-ghost use Rattle.league.specs.Sums.{sum_where};
+ghost use Rattle.league.specs.Sums.{sum_where, sum_of_pairs};
 ghost use Rattle.league.specs.declared.rule.RuleBody.TheVariants as RuleBody;
 ghost use Rattle.fixtures.specs.Games.{round_count, IsDoubleRoundRobin};
 ghost use Rattle.robinx.specs.Deviations.{worst_gap, deviation};
+ghost use Rattle.robinx.specs.Parts.{is_pair_with};
 ghost use Rattle.robinx.specs.Walked.{worst_apart};
 
 use crate::counts::over;
+use crate::pairs::partners;
 use fixtures::Schedule;
 use league::limits::MAX_ROUNDS;
 use league::{SlotSet, TeamSet};
 
 /// The worst gap of each pair of the teams.
-#[tactic(auto, unfolding(crate::specs::Deviations::deviation))]
 pub(crate) fn fa2(schedule: &Schedule, teams: TeamSet, slots: SlotSet, most: u32) -> u64
     requires round_robin { IsDoubleRoundRobin schedule.now }
     requires teams { IsBelow schedule.now.teams teams }
     requires slots { IsBelow (round_count schedule.now.teams) slots }
     ensures { result ≡ deviation schedule.now (RuleBody.Fa2 teams slots most) }
 {
+    fa2_with(schedule, teams, teams, slots, most)
+}
+
+/// Those of each pair with a team of the set.
+pub(crate) fn fa2_with(
+    schedule: &Schedule,
+    teams: TeamSet,
+    set: TeamSet,
+    slots: SlotSet,
+    most: u32,
+) -> u64
+    requires round_robin { IsDoubleRoundRobin schedule.now }
+    requires teams { IsBelow schedule.now.teams teams }
+    requires slots { IsBelow (round_count schedule.now.teams) slots }
+    ensures { result ≡ sum_of_pairs schedule.now.teams (λ i j.
+        if is_pair_with teams set i j then worst_gap schedule.now (has slots) most i j else 0) }
+{
     let mut total = 0;
     for team in teams {
-        let lower = TeamSet::below(team).common(teams);
+        let lower = partners(teams, set, team);
         total += gaps_with(schedule, lower, slots, most, team);
     }
     total
