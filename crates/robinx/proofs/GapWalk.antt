@@ -1,5 +1,5 @@
 -- A walk over the rounds at which the members of two sets, counted so far, are otherwise apart than before.
-use Rattle.std.proofs.Common.{◌≡◌, ◌≢◌, ℕ, zero, suc, ◌+◌, ◌-◌, ◌<◌, ◌≤◌, ◌&&◌, ◌||◌, ◌==◌, not, nat_lt, max, Bool, true, false, if◌then◌else◌, inl, inr, refl, sym, ◌∙◌, ap, arith}
+use Rattle.std.proofs.Common.{◌≡◌, ℕ, zero, suc, ◌+◌, ◌-◌, ◌<◌, ◌≤◌, ◌&&◌, ◌||◌, ◌==◌, not, nat_lt, max, Bool, true, false, if◌then◌else◌, inl, inr, refl, sym, ◌∙◌, ap, arith}
 use Rattle.std.specs.Int.{abs_diff}
 use Rattle.std.proofs.lemmas.Bool.{cases_eq, cases_lt, eq-eqb, ne_eqb, lt-ltb, le-ltb, and_parts, and_right, or_parts, or_right, cond-true, cond-false, not-true, ltb-false, true≢false}
 use Rattle.league.specs.Sets.{has, IsBelow, IsWithoutLowest}
@@ -39,8 +39,12 @@ module _ (walked first second slots most : ℕ) (enough : IsEnough walked first 
 
       by_slot : (b : Bool) → has slots (k + 1) ≡ b → apart_in first second slots most (k + 1) ≤ apart_in first second slots most k
       by_slot true slot =
-          omega (arith, same, cond-true {A = ℕ} (has slots (k + 1)) (apart_at first second most (k + 1)) 0 slot,
-          cond-true {A = ℕ} (has slots k) (apart_at first second most k) 0 (enough.follows k out slot))
+          omega (
+            arith,
+            same,
+            cond-true {A = ℕ} (has slots (k + 1)) (apart_at first second most (k + 1)) 0 slot,
+            cond-true {A = ℕ} (has slots k) (apart_at first second most k) 0 (enough.follows k out slot),
+          )
       by_slot false other = omega (arith, cond-false {A = ℕ} (has slots (k + 1)) (apart_at first second most (k + 1)) 0 other)
 
   -- what rounds that aren't walked leave as it was
@@ -169,13 +173,24 @@ module _ (walked left lowest rest first second slots most count_first count_seco
 
       by_slot : (b : Bool) → has slots lowest ≡ b → new_worst ≡ largest_below (lowest + 1) (apart_in first second slots most)
       by_slot true slot =
-          omega (arith, is, so_far_worst, here, largest_below_more lowest (apart_in first second slots most),
-          cond-true {A = ℕ} (has slots lowest) (max worst (over (abs_diff new_first new_second) most)) worst slot,
-          cond-true {A = ℕ} (has slots lowest) (apart_at first second most lowest) 0 slot)
+          omega (
+            arith,
+            is,
+            so_far_worst,
+            here,
+            largest_below_more lowest (apart_in first second slots most),
+            cond-true {A = ℕ} (has slots lowest) (max worst (over (abs_diff new_first new_second) most)) worst slot,
+            cond-true {A = ℕ} (has slots lowest) (apart_at first second most lowest) 0 slot,
+          )
       by_slot false other =
-          omega (arith, is, so_far_worst, largest_below_more lowest (apart_in first second slots most),
-          cond-false {A = ℕ} (has slots lowest) (max worst (over (abs_diff new_first new_second) most)) worst other,
-          cond-false {A = ℕ} (has slots lowest) (apart_at first second most lowest) 0 other)
+          omega (
+            arith,
+            is,
+            so_far_worst,
+            largest_below_more lowest (apart_in first second slots most),
+            cond-false {A = ℕ} (has slots lowest) (max worst (over (abs_diff new_first new_second) most)) worst other,
+            cond-false {A = ℕ} (has slots lowest) (apart_at first second most lowest) 0 other,
+          )
 
 pub walk_all : (walked left first second slots most count_first count_second worst : ℕ) → IsEnough walked first second slots →
     HasWalked walked left first second slots most count_first count_second worst → left ≡ 0 → worst ≡ worst_apart first second slots most
@@ -297,8 +312,11 @@ counts_apart : (n : ℕ) (p q a b : ℕ → Bool) → ((k : ℕ) → k < n → a
 unfolding sum_below
 counts_apart zero p q a b is_a is_b = omega arith
 counts_apart (suc n) p q a b is_a is_b =
-    omega (arith, counts_apart n p q a b (λ k below. is_a k (omega arith)) (λ k below. is_b k (omega arith)),
-    at (p n) (q n) (a n) (b n) (is_a n (omega arith)) (is_b n (omega arith)))
+    omega (
+      arith,
+      counts_apart n p q a b (λ k below. is_a k (omega arith)) (λ k below. is_b k (omega arith)),
+      at (p n) (q n) (a n) (b n) (is_a n (omega arith)) (is_b n (omega arith)),
+    )
   where
     at : (x y c d : Bool) → c ≡ (x && not y) → d ≡ (y && not x) → one x + one d ≡ one y + one c
     at true true c d is_c is_d = rw (is_c, is_d) refl

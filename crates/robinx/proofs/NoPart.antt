@@ -1,20 +1,18 @@
 -- Of a rule that isn't touched, or that looks past the main teams, a change can alter nothing.
 use Rattle.std.proofs.Common.{◌≡◌, ℕ, ◌<◌, ◌^◌, ◌&&◌, ◌||◌, not, Bool, true, false, if◌then◌else◌, List, [], ◌∷◌, inl, inr, refl, sym, ◌∙◌, ap, arith}
 use Rattle.std.specs.List.{AllByRecursion, list_any}
-use Rattle.std.proofs.lemmas.Bool.{cases_lt, cond-false, false≢true, false_from_ne_true, and_cases, and_parts, and_left, and_right, or_from, or_left, or_right, or_parts, or_cases, not-true}
+use Rattle.std.proofs.lemmas.Bool.{cases_lt, cond-false, false≢true, false_from_ne_true, and_cases, and_parts, and_left, and_right, or_from, or_parts, not-true}
 use Rattle.league.specs.Sets.{has}
-use Rattle.league.specs.Sums.{sum_below, any_below}
 use Rattle.league.specs.Games.{IsGameFor}
 use Rattle.league.specs.RuleLimits.{IsBodyFor}
 use Rattle.league.specs.declared.rule.Pairing.{Pairing}
 use Rattle.league.specs.declared.rule.RuleBody.{RuleBody}
 use Rattle.league.specs.declared.rule.RuleBody.TheVariants.{Ca1, Ca2, Ca3, Ca4, Ga1, Br1, Br2, Se1, Fa2}
-use Rattle.league.proofs.ForCallers.{sum_where_none, sum_below_zero, any_below_fails, any_below_found, any_below_from_none, has_beyond}
+use Rattle.league.proofs.ForCallers.{sum_where_none, sum_below_zero, any_below_fails, any_below_from_none, has_beyond}
 use Rattle.fixtures.specs.declared.game.Cell.{Cell}
 use Rattle.fixtures.specs.Games.{Games, round_count, round_of, cell, IsPair, IsDoubleRoundRobin}
 use Rattle.fixtures.proofs.ForCallers.{cell_home}
-use Rattle.robinx.specs.Deviations.{deviation}
-use Rattle.robinx.specs.LooksPast.{takes_all_or_none, has_game_of, looks_past}
+use Rattle.robinx.specs.LooksPast.{takes_all_or_none, looks_past}
 use Rattle.robinx.specs.Touches.{has_touched_team, has_touched_game, looks_at_team, looks_at_round, touches}
 use Rattle.robinx.specs.Parts.{is_guest, counts_otherwise, has_moved_game, is_pair_with, changing_terms, deviation_part}
 use Rattle.robinx.proofs.LookedPast.{AreApart-tested, others-tested}

@@ -1,5 +1,5 @@
 -- A part of a deviation is at most the whole.
-use Rattle.std.proofs.Common.{◌≡◌, ℕ, ◌+◌, ◌-◌, ◌<◌, ◌≤◌, ◌&&◌, ◌||◌, Bool, true, false, if◌then◌else◌, arith}
+use Rattle.std.proofs.Common.{ℕ, ◌+◌, ◌-◌, ◌<◌, ◌≤◌, ◌&&◌, ◌||◌, Bool, true, false, if◌then◌else◌, arith}
 use Rattle.league.specs.Limits.{max_teams, deviation_limit}
 use Rattle.league.specs.Sets.{has}
 use Rattle.league.specs.Sums.{sum_below, sum_where}

@@ -1,6 +1,6 @@
 -- Sums of which a part changes by as much as the whole.
-use Rattle.std.proofs.Common.{◌≡◌, ℕ, ◌+◌, ◌<◌, ◌&&◌, Bool, true, false, if◌then◌else◌, refl, sym, ap, subst, arith}
-use Rattle.league.specs.Sums.{sum_below, sum_where, sum_of_pairs}
+use Rattle.std.proofs.Common.{◌≡◌, ℕ, ◌+◌, ◌<◌, ◌&&◌, Bool, true, false, if◌then◌else◌, refl, sym, subst, arith}
+use Rattle.league.specs.Sums.{sum_where, sum_of_pairs}
 use Rattle.league.proofs.ForCallers.{sum_below_balance, sum_of_pairs_balance}
 
 -- a term is in the part, where it changes by as much as the part's, or it stays

@@ -1,5 +1,5 @@
 -- The terms of a deviation that a change can alter, as loops over some of the teams count them.
-use Rattle.std.proofs.Common.{◌≡◌, ℕ, ◌+◌, ◌-◌, ◌<◌, ◌≤◌, ◌&&◌, ◌||◌, not, nat_lt, Bool, true, false, if◌then◌else◌, refl, sym, ◌∙◌, ap, arith}
+use Rattle.std.proofs.Common.{◌≡◌, ℕ, ◌<◌, ◌&&◌, ◌||◌, not, nat_lt, Bool, true, false, if◌then◌else◌, refl, sym, ◌∙◌, ap}
 use Rattle.league.specs.Sets.{has}
 use Rattle.std.proofs.lemmas.Bool.{cond-true, cond-false, lt-ltb}
 use Rattle.league.specs.Sums.{sum_below, sum_where, sum_of_pairs, any_below}
@@ -7,10 +7,10 @@ use Rattle.league.specs.declared.rule.RuleBody.TheVariants.{Ca1, Ca2, Ca3, Ca4, 
 use Rattle.league.specs.declared.rule.Side.{Side}
 use Rattle.league.proofs.ForCallers.{sum_below_same, sum_below_zero, sum_where_same, any_below_same}
 use Rattle.fixtures.specs.Games.{Games, round_count, cell}
-use Rattle.robinx.specs.Deviations.{over, games_of_team, games_in_window, games_in_round, breaks, deviation}
+use Rattle.robinx.specs.Deviations.{over, games_in_round, deviation}
 use Rattle.robinx.specs.Touches.{has_touched_team}
 use Rattle.robinx.specs.LooksPast.{takes_all_or_none}
-use Rattle.robinx.specs.Parts.{is_guest, counts_otherwise, over_in_met_windows, meets_window, is_pair_with, changing_terms}
+use Rattle.robinx.specs.Parts.{is_guest, counts_otherwise, over_in_met_windows, is_pair_with, changing_terms}
 
 pub Ca1-terms : (g : Games) (main rounds sides teams : ℕ) (side : Side) (slots most both : ℕ) →
     ((t : ℕ) → has both t ≡ (has teams t && has sides t)) →

@@ -1,7 +1,7 @@
 -- What a change around some teams adds to the part of a deviation, it adds to the whole.
-use Rattle.std.proofs.Common.{◌≡◌, ℕ, ◌+◌, ◌-◌, ◌<◌, ◌≤◌, ◌&&◌, ◌||◌, ◌⊎◌, not, Bool, true, false, if◌then◌else◌, List, [], ◌∷◌, inl, inr, refl, sym, ◌∙◌, ap, arith}
+use Rattle.std.proofs.Common.{◌≡◌, ℕ, ◌+◌, ◌-◌, ◌<◌, ◌≤◌, ◌&&◌, ◌||◌, ◌⊎◌, not, Bool, true, false, List, [], ◌∷◌, inl, inr, refl, sym, ◌∙◌, ap, arith}
 use Rattle.std.specs.List.{AllByRecursion, list_any}
-use Rattle.std.proofs.lemmas.Bool.{cases_Bool, cases_lt, false≢true, and_cases, and_parts, and_right, or_parts, or_from, not_from_false, not-false, not-true}
+use Rattle.std.proofs.lemmas.Bool.{cases_Bool, cases_lt, false≢true, and_cases, and_right, or_parts, not_from_false, not-false, not-true}
 use Rattle.league.specs.Sets.{has, IsBelow}
 use Rattle.league.specs.Sums.{any_below}
 use Rattle.league.specs.Games.{IsGameFor}
@@ -11,15 +11,15 @@ use Rattle.league.specs.declared.rule.RuleBody.{RuleBody}
 use Rattle.league.specs.declared.rule.RuleBody.TheVariants.{Ca1, Ca2, Ca3, Ca4, Ga1, Br1, Br2, Se1, Fa2}
 use Rattle.league.specs.declared.rule.Side.{Side}
 use Rattle.league.specs.declared.rule.Side.TheVariants.{Any}
-use Rattle.league.proofs.ForCallers.{any_below_fails, any_below_found, any_below_same, count_where_same, has_beyond}
+use Rattle.league.proofs.ForCallers.{any_below_fails, any_below_same, count_where_same, has_beyond}
 use Rattle.fixtures.specs.declared.game.Cell.{Cell}
 use Rattle.fixtures.specs.Games.{Games, round_count, round_of, cell, is_home, IsPair, IsDoubleRoundRobin}
-use Rattle.fixtures.specs.Changes.{DiffersOnlyIn, DiffersOnlyAt, DiffersOnlyAround, box}
+use Rattle.fixtures.specs.Changes.{DiffersOnlyAt, DiffersOnlyAround, box}
 use Rattle.fixtures.proofs.ForCallers.{is_cell, round_of_kept, round_of_kept_around}
 use Rattle.robinx.specs.Deviations.{over, is_on_side, is_counted, games_of_team, games_in_window, games_in_round, breaks, rounds_between, over_in_windows, short_pairs, worst_gap, worst_gaps, deviation}
 use Rattle.robinx.specs.LooksPast.{takes_all_or_none}
 use Rattle.robinx.specs.Touches.{has_touched_team, looks_at_round, touches}
-use Rattle.robinx.specs.Parts.{is_guest, counts_otherwise, has_moved_game, meets_window, over_in_met_windows, is_pair_with, changing_terms, deviation_part}
+use Rattle.robinx.specs.Parts.{is_guest, counts_otherwise, has_moved_game, meets_window, over_in_met_windows, changing_terms, deviation_part}
 use Rattle.robinx.proofs.LookedPast.{TakesAllOrNone-tested}
 use Rattle.robinx.proofs.PartSums.{where_balance, whole_terms_balance, pairs_balance, whole_balance, part_balance}
 use Rattle.robinx.proofs.SeesSame.{SeesSame, SeesSameBreaks, SeesSameUntil, games_of_team-same, games_in_round-same, over_in_windows-same, breaks-same, worst_gap-same, together-same, each-same, breaks_of_all-same, listed_games_in-same}

@@ -57,8 +57,8 @@ changing_terms g main rounds sides (Ca4 teams1 side teams2 slots false most) =
     if has_touched_team teams1 (counts_otherwise g main rounds teams2) then deviation g (Ca4 teams1 side teams2 slots false most) else 0
 changing_terms g main rounds sides (Ca4 teams1 side teams2 slots true most) =
     if has_touched_team teams1 (counts_otherwise g main rounds teams2) then
-      sum_where (round_count g.teams) (λ r. has slots r && has rounds r)
-      (λ r. over (games_in_round g side (has teams1) (has teams2) r) most)
+    sum_where (round_count g.teams) (λ r. has slots r && has rounds r)
+    (λ r. over (games_in_round g side (has teams1) (has teams2) r) most)
     else 0
 changing_terms g main rounds sides (Ga1 games slots least most) =
     if has_moved_game g (has main) (has rounds) games then deviation g (Ga1 games slots least most) else 0

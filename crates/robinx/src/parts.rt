@@ -117,12 +117,8 @@ fn changing_terms(
             slots,
             most,
         } => br1(schedule, teams.common(sides), *side, *slots, *most),
-        RuleBody::Br2 { teams, slots, most } => {
-            br2_with(schedule, *teams, sides, *slots, *most)
-        }
+        RuleBody::Br2 { teams, slots, most } => { br2_with(schedule, *teams, sides, *slots, *most) }
         RuleBody::Se1 { teams, min } => se1_with(schedule, *teams, main, *min),
-        RuleBody::Fa2 { teams, slots, most } => {
-            fa2_with(schedule, *teams, sides, *slots, *most)
-        }
+        RuleBody::Fa2 { teams, slots, most } => { fa2_with(schedule, *teams, sides, *slots, *most) }
     }
 }

@@ -1,6 +1,5 @@
 use Rattle.std.proofs.Common.{ℕ, sym, ◌∙◌}
 use Rattle.std.proofs.lemmas.Bool.{cond-true, cond-false}
-use Rattle.league.specs.Sets.{has}
 use Rattle.robinx.specs.Touches.{has_touched_team}
 use Rattle.robinx.specs.Parts.{changing_terms}
 use Rattle.robinx.proofs.break_rules.br2_with.Goals as goal

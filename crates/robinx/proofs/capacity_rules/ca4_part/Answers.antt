@@ -1,8 +1,5 @@
 use Rattle.std.proofs.Common.{◌≡◌, ◌∙◌, ap, sym, true, false}
-use Rattle.league.specs.Sets.{has}
 use Rattle.robinx.specs.Deviations.{over}
-use Rattle.robinx.specs.Parts.{counts_otherwise}
-use Rattle.robinx.specs.Touches.{has_touched_team}
 use Rattle.robinx.proofs.PartTerms.{one_is_met, Ca4-none, Ca4-all, Ca4-each}
 use Rattle.robinx.proofs.capacity_rules.ca4_part.Goals as goal
 

@@ -1,4 +1,4 @@
-use Rattle.std.proofs.Common.{◌<◌, ◌+◌, arith, refl, ap, ◌∙◌}
+use Rattle.std.proofs.Common.{◌<◌, arith, refl, ap, ◌∙◌}
 use Rattle.robinx.specs.Deviations.{over}
 use Rattle.league.proofs.ForCallers.{sum_without_none, sum_without_more, sum_without_all, lowest_below}
 use Rattle.robinx.proofs.capacity_rules.over_from.Goals as goal

@@ -1,6 +1,6 @@
-use Rattle.std.proofs.Common.{◌≡◌, ◌+◌, ◌*◌, ◌≤◌, ◌∙◌, ap, arith}
+use Rattle.std.proofs.Common.{◌≡◌, ◌+◌, ◌∙◌, ap, arith}
 use Rattle.league.specs.Sets.{has}
-use Rattle.league.specs.Sums.{sum_below, count_where}
+use Rattle.league.specs.Sums.{count_where}
 use Rattle.league.proofs.ForCallers.{sum_below_none, sum_below_more, count_where_le}
 use Rattle.robinx.specs.Deviations.{over}
 use Rattle.robinx.proofs.Sets.{count_next}

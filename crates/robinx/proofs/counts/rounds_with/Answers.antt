@@ -1,4 +1,4 @@
-use Rattle.std.proofs.Common.{◌≡◌, ◌∙◌}
+use Rattle.std.proofs.Common.{◌∙◌}
 use Rattle.fixtures.specs.Games.{IsPair}
 use Rattle.robinx.proofs.OpponentRounds.{met_home, met_away, met_any, none_with_itself}
 use Rattle.robinx.proofs.counts.rounds_with.Goals as goal

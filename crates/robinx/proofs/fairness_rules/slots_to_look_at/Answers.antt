@@ -1,5 +1,4 @@
-use Rattle.std.proofs.Common.{◌≡◌, ℕ, ◌&&◌, not, nat_lt, refl, ◌∙◌, ap, arith}
-use Rattle.std.proofs.lemmas.Bool.{or_left}
+use Rattle.std.proofs.Common.{◌&&◌, not, ◌∙◌, ap, arith}
 use Rattle.league.specs.Sets.{has}
 use Rattle.robinx.proofs.GapWalk.{follows_slot}
 use Rattle.robinx.proofs.fairness_rules.slots_to_look_at.Goals as goal

@@ -1,4 +1,4 @@
-use Rattle.std.proofs.Common.{◌∙◌, ap}
+use Rattle.std.proofs.Common.{◌∙◌}
 use Rattle.league.proofs.ForCallers.{has_beyond}
 use Rattle.robinx.proofs.GapWalk.{worst_gap_apart}
 use Rattle.robinx.proofs.fairness_rules.worst_gap.Goals as goal

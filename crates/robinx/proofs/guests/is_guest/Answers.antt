@@ -1,4 +1,4 @@
-use Rattle.std.proofs.Common.{◌≡◌, sym, ◌∙◌, arith}
+use Rattle.std.proofs.Common.{sym, ◌∙◌, arith}
 use Rattle.league.proofs.ForCallers.{lowest_below}
 use Rattle.robinx.specs.Parts.{is_guest}
 use Rattle.robinx.proofs.Searches.{none_before_start, none_before_more, found_here, found_none}

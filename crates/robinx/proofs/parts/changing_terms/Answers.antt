@@ -1,5 +1,4 @@
-use Rattle.std.proofs.Common.{◌≡◌, sym, ◌∙◌, ap, rules}
-use Rattle.robinx.specs.Deviations.{deviation}
+use Rattle.std.proofs.Common.{sym, ◌∙◌, ap}
 use Rattle.robinx.specs.Parts.{changing_terms}
 use Rattle.robinx.proofs.AllTeams.{Ca2-all}
 use Rattle.robinx.proofs.PartTerms.{Ca1-terms, Ca2-terms, Ca3-terms, Br1-terms}
