@@ -3,11 +3,12 @@ use Rattle.std.proofs.Common.{◌≡◌, ℕ, ◌+◌, ◌-◌, ◌<◌, ◌&&�
 use Rattle.std.specs.Bool.{beq}
 use Rattle.std.proofs.lemmas.Bool.{cases_eq, cases_lt, lt-ltb, le-ltb, ne_eqb}
 use Rattle.league.specs.Sets.{has}
-use Rattle.league.specs.Sums.{sum_below, sum_where, count_where}
+use Rattle.league.specs.Sums.{sum_below, sum_where, count_where, any_below}
 use Rattle.league.specs.declared.rule.Side.{Side}
-use Rattle.league.proofs.ForCallers.{sum_below_same, count_where_same}
+use Rattle.league.proofs.ForCallers.{sum_below_same, sum_where_same, count_where_same}
 use Rattle.fixtures.specs.Games.{Games, round_count, cell, is_home}
 use Rattle.robinx.specs.Deviations.{over, is_on_side, is_counted, games_of_team, games_in_window, games_in_round, over_in_windows, is_break, breaks}
+use Rattle.robinx.specs.Parts.{meets_window, over_in_met_windows}
 use Rattle.robinx.proofs.Sets.{sum_of_counts_swap}
 
 -- a game on the side in a slot, against one of the opponents
@@ -25,23 +26,42 @@ counted_from g side opponents t r slot =
     regrouped false b c d = refl
 
 -- the windows of the counted rounds of the season
-pub windows_of_counted : (g : Games) (side : Side) (opponents : ℕ → Bool) (window most t season counted : ℕ) →
-    ((r : ℕ) → has season r ≡ nat_lt r (round_count g.teams)) →
-    ((r : ℕ) → has counted r ≡ (nat_lt r (round_count g.teams) && (has season r && is_counted g side opponents t r))) →
-    sum_below (round_count g.teams + 1 - window) (λ first. over (count_where window (λ k. has counted (first + k))) most) ≡
-    over_in_windows g side opponents window most t
-unfolding over_in_windows games_in_window
-windows_of_counted g side opponents window most t season counted all members =
-    sum_below_same (round_count g.teams + 1 - window) (λ first. over (count_where window (λ k. has counted (first + k))) most)
-    (λ first. over (count_where window (λ k. is_counted g side opponents t (first + k))) most)
-    (λ first below. ap (λ n. over n most)
-    (count_where_same window (λ k. has counted (first + k)) (λ k. is_counted g side opponents t (first + k))
-    (λ k k_below. in_season (first + k) (omega arith))))
-  where
-    in_season : (r : ℕ) → r < round_count g.teams → has counted r ≡ is_counted g side opponents t r
-    in_season r in_r =
-        members r ∙ ap (λ b. nat_lt r (round_count g.teams) && (b && is_counted g side opponents t r)) (all r) ∙
-        ap (λ b. b && (b && is_counted g side opponents t r)) (lt-ltb r (round_count g.teams) in_r)
+module _ (g : Games) (side : Side) (opponents : ℕ → Bool) (window most t season counted : ℕ)
+    (all : (r : ℕ) → has season r ≡ nat_lt r (round_count g.teams))
+    (members : (r : ℕ) → has counted r ≡ (nat_lt r (round_count g.teams) && (has season r && is_counted g side opponents t r))) where
+  over_in_window : (first : ℕ) → first < round_count g.teams + 1 - window →
+      over (count_where window (λ k. has counted (first + k))) most ≡ over (games_in_window g side opponents window t first) most
+  unfolding games_in_window
+  over_in_window first below =
+      ap (λ n. over n most)
+      (count_where_same window (λ k. has counted (first + k)) (λ k. is_counted g side opponents t (first + k))
+      (λ k k_below. in_season (first + k) (omega arith)))
+    where
+      in_season : (r : ℕ) → r < round_count g.teams → has counted r ≡ is_counted g side opponents t r
+      in_season r in_r =
+          members r ∙ ap (λ b. nat_lt r (round_count g.teams) && (b && is_counted g side opponents t r)) (all r) ∙
+          ap (λ b. b && (b && is_counted g side opponents t r)) (lt-ltb r (round_count g.teams) in_r)
+
+  pub windows_of_counted : sum_below (round_count g.teams + 1 - window) (λ first. over (count_where window (λ k. has counted (first + k))) most) ≡
+      over_in_windows g side opponents window most t
+  unfolding over_in_windows
+  windows_of_counted =
+      sum_below_same (round_count g.teams + 1 - window) (λ first. over (count_where window (λ k. has counted (first + k))) most)
+      (λ first. over (games_in_window g side opponents window t first) most) over_in_window
+
+  -- those that have a round of a set
+  pub met_windows_of_counted : (rounds : ℕ → Bool) (whole meeting starts windows : ℕ) → windows ≡ round_count g.teams + 1 - window →
+      ((s : ℕ) → has whole s ≡ nat_lt s windows) → ((s : ℕ) → has meeting s ≡ any_below window (λ k. rounds (s + k))) →
+      ((s : ℕ) → has starts s ≡ (has whole s && has meeting s)) →
+      sum_where windows (has starts) (λ first. over (count_where window (λ k. has counted (first + k))) most) ≡
+      over_in_met_windows g side opponents window most rounds t
+  unfolding over_in_met_windows meets_window
+  met_windows_of_counted rounds whole meeting starts windows size wholes meets is =
+      ap (λ n. sum_where n (has starts) (λ first. over (count_where window (λ k. has counted (first + k))) most)) size ∙
+      sum_where_same (round_count g.teams + 1 - window) (has starts) (λ first. any_below window (λ k. rounds (first + k)))
+      (λ first. over (count_where window (λ k. has counted (first + k))) most) (λ first. over (games_in_window g side opponents window t first) most)
+      (λ s below. is s ∙ ap (λ b. b && has meeting s) (wholes s ∙ lt-ltb s windows (omega (arith, size, below))) ∙ meets s)
+      (λ s below passes. over_in_window s below)
 
 -- all games that count, team by team
 pub together_by_teams : (g : Games) (side : Side) (teams opponents slots : ℕ → Bool) →

@@ -3,10 +3,16 @@ mod CountedRounds
 mod Filters
 pub mod ForCallers
 mod GameCounts
+mod GapWalk
 mod Largest
 mod Limits
 mod LookedPast
-mod Pairs
+mod NoPart
+mod OpponentRounds
+mod PartLimits
+mod PartSums
+mod PartTerms
+mod PartsBalance
 pub mod Searches
 mod SeesSame
 mod Sets

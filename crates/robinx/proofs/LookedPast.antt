@@ -126,11 +126,11 @@ none_passes set test none t below is =
       | inr fails_there ↦ fails_there
     ]
 
-AreApart-tested : (own teams : ℕ) → not (has_touched_team own (has teams)) ≡ true → AreApart (has own) (has teams)
+pub AreApart-tested : (own teams : ℕ) → not (has_touched_team own (has teams)) ≡ true → AreApart (has own) (has teams)
 unfolding has_touched_team
 AreApart-tested own teams apart = none_passes own (has teams) (not-true _ apart)
 
-TakesAllOrNone-tested : (teams opponents : ℕ) → takes_all_or_none teams opponents ≡ true → TakesAllOrNone (has teams) (has opponents)
+pub TakesAllOrNone-tested : (teams opponents : ℕ) → takes_all_or_none teams opponents ≡ true → TakesAllOrNone (has teams) (has opponents)
 unfolding takes_all_or_none has_touched_team has_team_outside
 TakesAllOrNone-tested teams opponents tested t u in_t in_u team other = elim (or_cases _ _ tested) [
   | inl none ↦
@@ -145,7 +145,7 @@ TakesAllOrNone-tested teams opponents tested t u in_t in_u team other = elim (or
     not_false true fails = refl
     not_false false fails = sym fails
 
-others-tested : (teams : ℕ) (games : List Pairing) → has_game_of games (has teams) ≡ false →
+pub others-tested : (teams : ℕ) (games : List Pairing) → has_game_of games (has teams) ≡ false →
     AllByRecursion (λ (game : Pairing). (has teams game.home ≡ false) × (has teams game.away ≡ false)) games
 unfolding has_game_of
 others-tested teams [] none = tt

@@ -63,14 +63,14 @@ module _ (g g' : Games) (teams rounds opponents : ℕ → Bool) (sees : SeesSame
   rounds_sized : round_count g'.teams ≡ round_count g.teams
   rounds_sized = ap round_count sees.same_size
 
-  is_counted-same : (side : Side) (t r : ℕ) → t < g.teams → r < round_count g.teams → teams t ≡ true → rounds r ≡ true →
+  pub is_counted-same : (side : Side) (t r : ℕ) → t < g.teams → r < round_count g.teams → teams t ≡ true → rounds r ≡ true →
       is_counted g' side opponents t r ≡ is_counted g side opponents t r
   unfolding is_counted
   is_counted-same side t r in_t in_r team round =
       ap (λ (home : Bool). is_on_side side home && opponents (cell g' t r).opponent) (sees.side t r in_t in_r team round) ∙
       ap (λ (passes : Bool). is_on_side side (cell g t r).home && passes) (sees.opponent t r in_t in_r team round)
 
-  games_of_team-same : (side : Side) (t : ℕ) → t < g.teams → teams t ≡ true →
+  pub games_of_team-same : (side : Side) (t : ℕ) → t < g.teams → teams t ≡ true →
       games_of_team g' side opponents rounds t ≡ games_of_team g side opponents rounds t
   unfolding games_of_team
   games_of_team-same side t in_t team =
@@ -85,7 +85,7 @@ module _ (g g' : Games) (teams rounds opponents : ℕ → Bool) (sees : SeesSame
       sum_where_sized g'.teams g.teams teams _ _ sees.same_size
       (λ t in_t team. ap (λ (count : ℕ). over count most) (games_of_team-same side t in_t team))
 
-  games_in_round-same : (side : Side) (r : ℕ) → r < round_count g.teams → rounds r ≡ true →
+  pub games_in_round-same : (side : Side) (r : ℕ) → r < round_count g.teams → rounds r ≡ true →
       games_in_round g' side teams opponents r ≡ games_in_round g side teams opponents r
   unfolding games_in_round
   games_in_round-same side r in_r round =
@@ -108,14 +108,14 @@ module _ (g g' : Games) (teams rounds opponents : ℕ → Bool) (sees : SeesSame
       (λ r in_r round. ap (λ (count : ℕ). over count most) (games_in_round-same side r in_r round))
 
 module _ (g g' : Games) (teams opponents : ℕ → Bool) (sees : SeesSame g g' teams (λ _. true) opponents) where
-  games_in_window-same : (side : Side) (window t first : ℕ) → t < g.teams → teams t ≡ true → first + window ≤ round_count g.teams →
+  pub games_in_window-same : (side : Side) (window t first : ℕ) → t < g.teams → teams t ≡ true → first + window ≤ round_count g.teams →
       games_in_window g' side opponents window t first ≡ games_in_window g side opponents window t first
   unfolding games_in_window
   games_in_window-same side window t first in_t team within =
       count_where_same window (λ k. is_counted g' side opponents t (first + k)) (λ k. is_counted g side opponents t (first + k))
       (λ k below. is_counted-same g g' teams (λ _. true) opponents sees side t (first + k) in_t (omega arith) team refl)
 
-  over_in_windows-same : (side : Side) (window most t : ℕ) → t < g.teams → teams t ≡ true → window ≤ round_count g.teams →
+  pub over_in_windows-same : (side : Side) (window most t : ℕ) → t < g.teams → teams t ≡ true → window ≤ round_count g.teams →
       over_in_windows g' side opponents window most t ≡ over_in_windows g side opponents window most t
   unfolding over_in_windows
   over_in_windows-same side window most t in_t team within =
@@ -138,7 +138,7 @@ module _ (g g' : Games) (teams slots : ℕ → Bool) (sees : SeesSameBreaks g g'
       ap (λ (home : Bool). not (r == 0) && beq (cell g' t (r - 1)).home home && is_on_side side home) (sees.side t r in_t in_r team slot) ∙
       ap (λ (home : Bool). not (r == 0) && beq home (cell g t r).home && is_on_side side (cell g t r).home) (sees.before t r in_t in_r team slot)
 
-  breaks-same : (side : Side) (t : ℕ) → t < g.teams → teams t ≡ true → breaks g' t slots side ≡ breaks g t slots side
+  pub breaks-same : (side : Side) (t : ℕ) → t < g.teams → teams t ≡ true → breaks g' t slots side ≡ breaks g t slots side
   unfolding breaks
   breaks-same side t in_t team =
       count_where_sized (round_count g'.teams) (round_count g.teams) (λ r. slots r && is_break g' side t r)
@@ -172,7 +172,7 @@ module _ (g g' : Games) (teams slots : ℕ → Bool) (sees : SeesSameUntil g g' 
   gap-same most i j r in_i in_j in_r team other slot =
       rw (home_games-same i r in_i in_r team slot, home_games-same j r in_j in_r other slot) refl
 
-  worst_gap-same : (most i j : ℕ) → i < g.teams → j < g.teams → teams i ≡ true → teams j ≡ true →
+  pub worst_gap-same : (most i j : ℕ) → i < g.teams → j < g.teams → teams i ≡ true → teams j ≡ true →
       worst_gap g' slots most i j ≡ worst_gap g slots most i j
   unfolding worst_gap
   worst_gap-same most i j in_i in_j team other =

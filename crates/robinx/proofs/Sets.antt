@@ -1,10 +1,11 @@
 -- How many numbers there are in the sets that counting makes.
 use Rattle.std.proofs.Common.{◌≡◌, ℕ, zero, suc, ◌+◌, ◌<◌, ◌&&◌, not, nat_lt, Bool, true, false, if◌then◌else◌, refl, sym, ◌∙◌, ap, arith}
+use mir.Val.{bool_byte}
 use Rattle.std.proofs.Math.Nat.{add-zero, add-suc}
 use Rattle.std.proofs.lemmas.Bool.{lt-ltb, le-ltb}
 use Rattle.league.specs.Sets.{has}
 use Rattle.league.specs.Sums.{sum_below, sum_where, count_where}
-use Rattle.league.proofs.ForCallers.{sum_below_zero, sum_below_swap, sum_below_same, sum_where_same, count_where_same, count_where_none}
+use Rattle.league.proofs.ForCallers.{sum_below_none, sum_below_more, sum_below_zero, sum_below_swap, sum_below_same, sum_where_same, count_where_same, count_where_none}
 
 -- the first m terms, and n more
 sum_below_append : (m n : ℕ) (f : ℕ → ℕ) → sum_below (m + n) f ≡ sum_below m f + sum_below n (λ k. f (m + k))
@@ -17,6 +18,46 @@ pub count_of_members : (n set : ℕ) (test : ℕ → Bool) → ((k : ℕ) → ha
     count_where n (has set) ≡ count_where n test
 count_of_members n set test members =
     count_where_same n (has set) test (λ k below. members k ∙ ap (λ b. b && test k) (lt-ltb k n below))
+
+-- 1 where it is so
+pub byte_is : (b : Bool) → bool_byte b ≡ (if b then 1 else 0)
+byte_is true = refl
+byte_is false = refl
+
+-- a window moved on by one: one number comes, and one goes
+pub count_moved_on : (set first window : ℕ) →
+    count_where window (λ k. has set (first + 1 + k)) + (if has set first then 1 else 0) ≡
+    count_where window (λ k. has set (first + k)) + (if has set (first + window) then 1 else 0)
+count_moved_on set first window =
+    omega (
+      arith,
+      sum_below_more window (λ k. if has set (first + k) then 1 else 0),
+      longer,
+      ap {B = ℕ} (λ n. if has set n then 1 else 0) (add-zero first),
+      count_where_same window (λ k. has set (first + 1 + k)) (λ k. has set (first + (1 + k))) (λ k below. ap (has set) (omega arith)),
+    )
+  where
+    longer : sum_below (window + 1) (λ k. if has set (first + k) then 1 else 0) ≡
+        (if has set (first + 0) then 1 else 0) + count_where window (λ k. has set (first + (1 + k)))
+    longer =
+        let turned : window + 1 ≡ 1 + window = omega arith in
+        omega (
+          arith,
+          ap (λ n. sum_below n (λ k. if has set (first + k) then 1 else 0)) turned,
+          sum_below_append 1 window (λ k. if has set (first + k) then 1 else 0),
+          sum_below_more 0 (λ k. if has set (first + k) then 1 else 0),
+          sum_below_none (λ k. if has set (first + k) then 1 else 0),
+        )
+
+-- the same as a loop has it
+pub count_next : (set first window count comes goes : ℕ) (in_next in_first : Bool) → in_next ≡ has set (first + window) →
+    in_first ≡ has set first → comes ≡ bool_byte in_next → goes ≡ bool_byte in_first →
+    count ≡ count_where window (λ k. has set (first + k)) →
+    count_where window (λ k. has set (first + 1 + k)) + goes ≡ count + comes
+count_next set first window count comes goes in_next in_first is_next is_first is_comes is_goes is =
+    let comes_is : comes ≡ (if has set (first + window) then 1 else 0) = is_comes ∙ byte_is in_next ∙ ap {B = ℕ} (λ b. if b then 1 else 0) is_next in
+    let goes_is : goes ≡ (if has set first then 1 else 0) = is_goes ∙ byte_is in_first ∙ ap {B = ℕ} (λ b. if b then 1 else 0) is_first in
+    omega (arith, count_moved_on set first window, comes_is, goes_is, is)
 
 -- those that pass a second test
 pub count_of_both : (n : ℕ) (test other : ℕ → Bool) →

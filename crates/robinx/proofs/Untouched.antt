@@ -15,7 +15,7 @@ use Rattle.fixtures.specs.declared.game.Cell.{Cell}
 use Rattle.fixtures.specs.Games.{Games, round_count, round_of, cell, is_home, IsPair, IsDoubleRoundRobin}
 use Rattle.fixtures.specs.Changes.{DiffersOnlyIn}
 use Rattle.robinx.specs.Deviations.{over, deviation}
-use Rattle.robinx.specs.Touches.{has_touched_team, has_touched_slot, has_touched_round, has_touched_game, has_touched_until, or_before, touches}
+use Rattle.robinx.specs.Touches.{has_touched_team, has_touched_slot, has_touched_round, has_touched_game, has_touched_until, or_before, looks_at_team, looks_at_round, touches}
 use Rattle.fixtures.proofs.ForCallers.{round_of_kept}
 use Rattle.robinx.proofs.SeesSame.{SeesSame, SeesSameBreaks, SeesSameUntil, limited-same, together-same, each-same, windows-same, breaks_of_each-same, breaks_of_all-same, separation-same, gaps-same, listed_games_in-same}
 
@@ -194,7 +194,7 @@ module _ (g g' : Games) (rr : IsDoubleRoundRobin g) (in_teams in_rounds : ℕ �
 pub untouched_deviation : (g g' : Games) (in_teams in_rounds : ℕ → Bool) (body : RuleBody) → IsDoubleRoundRobin g → IsDoubleRoundRobin g' →
     IsBodyFor g.teams body → DiffersOnlyIn g g' in_teams in_rounds → touches body in_teams in_rounds ≡ false →
     deviation g' body ≡ deviation g body
-unfolding touches deviation
+unfolding touches looks_at_team looks_at_round deviation
 untouched_deviation g g' in_teams in_rounds (Ca1 teams side slots most) rr rr' is differs untouched =
     limited-same g g' (has teams) (has slots) (λ _. true) (SeesSame-slots g g' rr in_teams in_rounds differs teams slots (λ _. true) untouched) side most
 untouched_deviation g g' in_teams in_rounds (Ca2 teams1 side teams2 slots most) rr rr' is differs untouched =

@@ -1,4 +1,6 @@
 pub mod Deviations
 pub mod Laws
 pub mod LooksPast
+pub mod Parts
 pub mod Touches
+pub mod Walked

@@ -32,21 +32,30 @@ has_touched_until slots touched = any_below max_rounds (λ r. has slots r && any
 abbrev pub or_before : (ℕ → Bool) → ℕ → Bool
 or_before touched r = touched r || (not (r == 0) && touched (r - 1))
 
+-- whether the rule looks at games of the teams: of a list of games at those of the home teams
+unfoldable pub looks_at_team : RuleBody → (ℕ → Bool) → Bool
+looks_at_team (Ca1 teams side slots most) in_teams = has_touched_team teams in_teams
+looks_at_team (Ca2 teams1 side teams2 slots most) in_teams = has_touched_team teams1 in_teams
+looks_at_team (Ca3 teams1 side teams2 window most) in_teams = has_touched_team teams1 in_teams
+looks_at_team (Ca4 teams1 side teams2 slots each most) in_teams = has_touched_team teams1 in_teams
+looks_at_team (Ga1 games slots least most) in_teams = has_touched_game games in_teams
+looks_at_team (Br1 teams side slots most) in_teams = has_touched_team teams in_teams
+looks_at_team (Br2 teams slots most) in_teams = has_touched_team teams in_teams
+looks_at_team (Se1 teams least) in_teams = has_touched_team teams in_teams
+looks_at_team (Fa2 teams slots most) in_teams = has_touched_team teams in_teams
+
+-- whether the rule looks at one of the rounds
+unfoldable pub looks_at_round : RuleBody → (ℕ → Bool) → Bool
+looks_at_round (Ca1 teams side slots most) rounds = has_touched_slot slots rounds
+looks_at_round (Ca2 teams1 side teams2 slots most) rounds = has_touched_slot slots rounds
+looks_at_round (Ca3 teams1 side teams2 window most) rounds = has_touched_round rounds
+looks_at_round (Ca4 teams1 side teams2 slots each most) rounds = has_touched_slot slots rounds
+looks_at_round (Ga1 games slots least most) rounds = has_touched_slot slots rounds
+looks_at_round (Br1 teams side slots most) rounds = has_touched_slot slots (or_before rounds)
+looks_at_round (Br2 teams slots most) rounds = has_touched_slot slots (or_before rounds)
+looks_at_round (Se1 teams least) rounds = has_touched_round rounds
+looks_at_round (Fa2 teams slots most) rounds = has_touched_until slots rounds
+
+-- whether the rule looks at one of the teams in one of the rounds
 unfoldable pub touches : RuleBody → (ℕ → Bool) → (ℕ → Bool) → Bool
-touches (Ca1 teams side slots most) in_teams in_rounds =
-    has_touched_team teams in_teams && has_touched_slot slots in_rounds
-touches (Ca2 teams1 side teams2 slots most) in_teams in_rounds =
-    has_touched_team teams1 in_teams && has_touched_slot slots in_rounds
-touches (Ca3 teams1 side teams2 window most) in_teams in_rounds =
-    has_touched_team teams1 in_teams && has_touched_round in_rounds
-touches (Ca4 teams1 side teams2 slots each most) in_teams in_rounds =
-    has_touched_team teams1 in_teams && has_touched_slot slots in_rounds
-touches (Ga1 games slots least most) in_teams in_rounds =
-    has_touched_game games in_teams && has_touched_slot slots in_rounds
-touches (Br1 teams side slots most) in_teams in_rounds =
-    has_touched_team teams in_teams && has_touched_slot slots (or_before in_rounds)
-touches (Br2 teams slots most) in_teams in_rounds =
-    has_touched_team teams in_teams && has_touched_slot slots (or_before in_rounds)
-touches (Se1 teams least) in_teams in_rounds = has_touched_team teams in_teams && has_touched_round in_rounds
-touches (Fa2 teams slots most) in_teams in_rounds =
-    has_touched_team teams in_teams && has_touched_until slots in_rounds
+touches body in_teams in_rounds = looks_at_team body in_teams && looks_at_round body in_rounds

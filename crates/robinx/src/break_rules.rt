@@ -7,6 +7,7 @@ ghost use Rattle.league.specs.Sets.{has, IsBelow};
 ghost use Rattle.league.specs.declared.rule.RuleBody.TheVariants as RuleBody;
 ghost use Rattle.fixtures.specs.Games.{round_count, is_home, IsDoubleRoundRobin};
 ghost use Rattle.robinx.specs.Deviations.{breaks, deviation};
+ghost use Rattle.robinx.specs.Parts.{changing_terms};
 
 use crate::counts::{over, rounds_on_side};
 use fixtures::Schedule;
@@ -68,4 +69,24 @@ pub(crate) fn br2(schedule: &Schedule, teams: TeamSet, slots: SlotSet, most: u32
         count += breaks(schedule, team, slots, Side::Any);
     }
     over(count, most)
+}
+
+/// The part of `br2` that a change of the sides of some teams can alter.
+pub(crate) fn br2_with(
+    schedule: &Schedule,
+    teams: TeamSet,
+    sides: TeamSet,
+    slots: SlotSet,
+    most: u32,
+) -> u64
+    requires round_robin { IsDoubleRoundRobin schedule.now }
+    requires teams { IsBelow schedule.now.teams teams }
+    ensures { (main rounds : ℕ) →
+        result ≡ changing_terms schedule.now main rounds sides (RuleBody.Br2 teams slots most) }
+{
+    if teams.meets(sides) {
+        br2(schedule, teams, slots, most)
+    } else {
+        0
+    }
 }

@@ -1,16 +1,18 @@
 //! Capacity rules: at most so many games of a side, against some opponents, in some rounds.
 
-ghost use Rattle.std.specs.Prelude.{◌≡◌, ◌+◌, ◌*◌, ◌<◌, ◌≤◌};
+ghost use Rattle.std.specs.Prelude.{◌≡◌, ℕ, ◌+◌, ◌-◌, ◌*◌, ◌<◌, ◌≤◌};
 ghost use Rattle.league.specs.Limits.{max_rounds};
 ghost use Rattle.league.specs.Sets.{has, IsBelow};
-ghost use Rattle.league.specs.Sums.{sum_where, count_where};
+ghost use Rattle.league.specs.Sums.{sum_below, sum_where, count_where};
 ghost use Rattle.league.specs.declared.rule.RuleBody.TheVariants as RuleBody;
 ghost use Rattle.fixtures.specs.Games.{round_count, IsDoubleRoundRobin};
 ghost use Rattle.robinx.specs.Deviations.{over, games_in_round, over_in_windows, deviation};
+ghost use Rattle.robinx.specs.Parts.{over_in_met_windows, changing_terms};
 
 use crate::counts::{CountedGames, counted_rounds, games_in_round, games_of_team, over};
+use crate::guests::teams_otherwise;
 use fixtures::Schedule;
-use league::SlotSet;
+use league::{SlotSet, TeamSet};
 
 /// The games of each team that count in the slots, over the most.
 #[tactic(auto, unfolding(crate::specs::Deviations::deviation))]
@@ -45,7 +47,6 @@ pub(crate) fn ca3(schedule: &Schedule, games: &CountedGames, window: u32, most: 
 }
 
 /// The games of the team that count in each window of consecutive rounds, over the most.
-#[tactic(auto, using(league::proofs::ForCallers::sums))]
 fn over_in_windows(
     schedule: &Schedule,
     games: &CountedGames,
@@ -61,9 +62,87 @@ fn over_in_windows(
 {
     let season = SlotSet::below(schedule.rounds());
     let counted = counted_rounds(schedule, games, season, team);
+    over_in_row(counted, schedule.rounds(), window, most)
+}
+
+/// The rounds of the set in each window of consecutive rounds of a season, over the most.
+#[tactic(auto, using(league::proofs::ForCallers::sums))]
+fn over_in_row(set: SlotSet, rounds: u8, window: u8, most: u32) -> u64
+    requires least { 1 ≤ window }
+    requires window { window ≤ rounds }
+    requires season { rounds ≤ max_rounds }
+    ensures value { result ≡
+        sum_below (rounds + 1 - window) (λ first. over (count_where window (λ k. has set (first + k))) most) }
+    ensures most { result ≤ max_rounds * max_rounds }
+{
+    let mut count = rounds_in_window(set, 0, window);
+    let mut total = over(count, most);
+    for first in 0..rounds - window {
+        // the window moves on by a round: one comes, and one goes
+        count += u32::from(set.has(first + window));
+        count -= u32::from(set.has(first));
+        total += over(count, most);
+    }
+    total
+}
+
+/// Those windows of `ca3` that have one of the rounds.
+pub(crate) fn ca3_part(
+    schedule: &Schedule,
+    games: &CountedGames,
+    rounds: SlotSet,
+    window: u32,
+    most: u32,
+) -> u64
+    requires round_robin { IsDoubleRoundRobin schedule.now }
+    requires teams { IsBelow schedule.now.teams games.now.teams }
+    requires least { 1 ≤ window }
+    requires window { window ≤ round_count schedule.now.teams }
+    ensures { result ≡ sum_where schedule.now.teams (has games.now.teams)
+        (over_in_met_windows schedule.now games.now.side (has games.now.opponents) window most (has rounds)) }
+{
     let mut total = 0;
-    for first in 0..schedule.rounds() + 1 - window {
-        total += over(rounds_in_window(counted, first, window), most);
+    for team in games.teams {
+        total += over_in_met_windows(schedule, games, rounds, window as u8, most, team);
+    }
+    total
+}
+
+/// The games of the team that count in each window with one of the rounds, over the most.
+fn over_in_met_windows(
+    schedule: &Schedule,
+    games: &CountedGames,
+    rounds: SlotSet,
+    window: u8,
+    most: u32,
+    team: u8,
+) -> u64
+    requires team { team < schedule.now.teams }
+    requires least { 1 ≤ window }
+    requires window { window ≤ round_count schedule.now.teams }
+    ensures value { result ≡
+        over_in_met_windows schedule.now games.now.side (has games.now.opponents) window most (has rounds) team }
+    ensures most { result ≤ max_rounds * max_rounds }
+{
+    let season = SlotSet::below(schedule.rounds());
+    let counted = counted_rounds(schedule, games, season, team);
+    let windows = schedule.rounds() + 1 - window;
+    let starts = SlotSet::below(windows).common(rounds.starts_meeting(window));
+    over_from(counted, windows, starts, window, most)
+}
+
+/// The rounds of the set in each window that begins with one of the starts, over the most.
+fn over_from(set: SlotSet, windows: u8, starts: SlotSet, window: u8, most: u32) -> u64
+    requires least { 1 ≤ window }
+    requires season { windows + window ≤ max_rounds + 1 }
+    requires starts { IsBelow windows starts }
+    ensures value { result ≡
+        sum_where windows (has starts) (λ first. over (count_where window (λ k. has set (first + k))) most) }
+    ensures most { result ≤ max_rounds * max_rounds }
+{
+    let mut total = 0;
+    for first in starts {
+        total += over(rounds_in_window(set, first, window), most);
     }
     total
 }
@@ -95,6 +174,33 @@ pub(crate) fn ca4(
 {
     if each {
         over_in_slots(schedule, games, slots, most)
+    } else {
+        over(games_of_all(schedule, games, slots), most)
+    }
+}
+
+/// The part of `ca4` that a change around the main teams can alter.
+pub(crate) fn ca4_part(
+    schedule: &Schedule,
+    games: &CountedGames,
+    main: TeamSet,
+    rounds: SlotSet,
+    slots: SlotSet,
+    each: bool,
+    most: u32,
+) -> u64
+    requires round_robin { IsDoubleRoundRobin schedule.now }
+    requires teams { IsBelow schedule.now.teams games.now.teams }
+    requires slots { IsBelow (round_count schedule.now.teams) slots }
+    ensures { (sides : ℕ) → result ≡ changing_terms schedule.now main rounds sides
+        (RuleBody.Ca4 games.now.teams games.now.side games.now.opponents slots each most) }
+{
+    let otherwise = teams_otherwise(schedule, main, rounds, games.teams, games.opponents);
+    if !otherwise.meets(games.teams) {
+        return 0;
+    }
+    if each {
+        over_in_slots(schedule, games, slots.common(rounds), most)
     } else {
         over(games_of_all(schedule, games, slots), most)
     }

@@ -1,6 +1,6 @@
 //! Which games count for a rule.
 
-ghost use Rattle.std.specs.Prelude.{◌≡◌, ℕ, ◌<◌, ◌≤◌, ◌&&◌, nat_lt};
+ghost use Rattle.std.specs.Prelude.{◌≡◌, ℕ, ◌<◌, ◌≤◌, ◌&&◌, ◌==◌, nat_lt};
 ghost use Rattle.league.specs.Limits.{max_teams, max_rounds};
 ghost use Rattle.league.specs.Sets.{has, IsBelow};
 ghost use Rattle.fixtures.specs.Games.{round_count, cell, is_home, IsDoubleRoundRobin};
@@ -68,38 +68,49 @@ pub(crate) fn counted_rounds(
         is_counted schedule.now games.now.side (has games.now.opponents) team r)) }
     ensures below { IsBelow (round_count schedule.now.teams) result }
 {
-    let rounds = rounds_on_side(schedule, games.side, team).common(slots);
-    if games.opponents == TeamSet::below(schedule.teams()) {
-        rounds
-    } else {
-        rounds_against(schedule, team, games.opponents, rounds)
+    let all = TeamSet::below(schedule.teams());
+    if games.opponents == all {
+        return rounds_on_side(schedule, games.side, team).common(slots);
     }
+    let opponents = all.common(games.opponents);
+    rounds_against(schedule, games.side, opponents, team).common(slots)
 }
 
-/// Those of the rounds in which the team meets one of the opponents.
-fn rounds_against(schedule: &Schedule, team: u8, opponents: TeamSet, rounds: SlotSet) -> SlotSet
+/// The rounds in which the team meets one of the opponents on this side.
+fn rounds_against(schedule: &Schedule, side: Side, opponents: TeamSet, team: u8) -> SlotSet
     requires team { team < schedule.now.teams }
-    requires season { round_count schedule.now.teams ≤ max_rounds }
-    requires below { IsBelow (round_count schedule.now.teams) rounds }
-    ensures members { (r : ℕ) → has result r ≡ (has rounds r && has opponents (cell schedule.now team r).opponent) }
+    requires opponents { IsBelow schedule.now.teams opponents }
+    requires round_robin { IsDoubleRoundRobin schedule.now }
+    ensures members { (r : ℕ) → has result r ≡
+        (nat_lt r (round_count schedule.now.teams) && is_counted schedule.now side (has opponents) team r) }
     ensures below { IsBelow (round_count schedule.now.teams) result }
 {
     let mut against = SlotSet::empty();
-    for round in rounds {
-        if meets_one_of(schedule, opponents, team, round) {
-            against = against.with(round);
-        }
+    for opponent in opponents {
+        against = against.union(rounds_with(schedule, side, opponent, team));
     }
     against
 }
 
-/// Whether the team meets one of the opponents in the round.
-fn meets_one_of(schedule: &Schedule, opponents: TeamSet, team: u8, round: u8) -> bool
+/// The rounds in which the team meets the opponent on this side: none where that is the team itself.
+fn rounds_with(schedule: &Schedule, side: Side, opponent: u8, team: u8) -> SlotSet
     requires team { team < schedule.now.teams }
-    requires round { round < round_count schedule.now.teams }
-    ensures { result ≡ has opponents (cell schedule.now team round).opponent }
+    requires opponent { opponent < schedule.now.teams }
+    requires round_robin { IsDoubleRoundRobin schedule.now }
+    ensures members { (r : ℕ) → has result r ≡ (nat_lt r (round_count schedule.now.teams) &&
+        (is_on_side side (is_home schedule.now team r) && (cell schedule.now team r).opponent == opponent)) }
+    ensures below { IsBelow (round_count schedule.now.teams) result }
 {
-    opponents.has(schedule.game_at(team, round).opponent)
+    if team == opponent {
+        return SlotSet::empty();
+    }
+    let at_home = SlotSet::empty().with(schedule.round_of(team, opponent));
+    let away = SlotSet::empty().with(schedule.round_of(opponent, team));
+    match side {
+        Side::Home => at_home,
+        Side::Away => away,
+        Side::Any => at_home.union(away),
+    }
 }
 
 /// In how many rounds of the slots the team's game counts.

@@ -2,6 +2,7 @@
 //! speaks of all schedules and all rules whose numbers are in range for them.
 
 ghost use Rattle.robinx.specs.Laws.{UntouchedStays, LookedPastStays, LooksPastWhereTested};
+ghost use Rattle.robinx.specs.Laws.{DeviationsBalance, LookedPastHasNoPart, UntouchedHasNoPart};
 
 /// Two schedules that differ only in cells that [`touches`](crate::touches) says don't touch a rule are equally far
 /// from it.
@@ -14,4 +15,17 @@ pub fn untouched_stays()
 pub fn looked_past_stays()
     ensures stays { LookedPastStays }
     ensures tested { LooksPastWhereTested }
+{}
+
+/// What a change around some teams adds to the part of a deviation that [`deviation_part`](crate::deviation_part) counts,
+/// it adds to the deviation.
+pub fn deviations_balance()
+    ensures { DeviationsBalance }
+{}
+
+/// The part is 0 of a rule that looks past the main teams, and of one that isn't touched where the main teams and their
+/// guests are touched in these rounds.
+pub fn nothing_to_alter()
+    ensures past { LookedPastHasNoPart }
+    ensures untouched { UntouchedHasNoPart }
 {}

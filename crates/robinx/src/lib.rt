@@ -10,13 +10,17 @@ mod counts;
 mod deviations;
 mod fairness_rules;
 mod game_rules;
+mod guests;
 mod laws;
+mod pairs;
+mod parts;
 mod passed_rules;
 mod separation_rules;
 mod touched_rules;
 
 pub use break_rules::breaks;
 pub use deviations::deviation;
-pub use laws::{looked_past_stays, untouched_stays};
+pub use laws::{deviations_balance, looked_past_stays, nothing_to_alter, untouched_stays};
+pub use parts::deviation_part;
 pub use passed_rules::looks_past;
 pub use touched_rules::touches;

@@ -35,7 +35,7 @@ pub fn looks_past(rule: &Rule, changed: TeamSet) -> bool
 
 /// Whether the opponents have all of the teams, or none of them.
 #[tactic(auto, unfolding(crate::specs::LooksPast::takes_all_or_none, crate::specs::Touches::has_touched_team))]
-fn takes_all_or_none(teams: TeamSet, opponents: TeamSet) -> bool
+pub(crate) fn takes_all_or_none(teams: TeamSet, opponents: TeamSet) -> bool
     ensures { result ≡ takes_all_or_none teams opponents }
 {
     !teams.meets(opponents) || !has_team_outside(teams, opponents)

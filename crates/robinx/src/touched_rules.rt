@@ -3,7 +3,7 @@
 ghost use Rattle.std.specs.Prelude.{◌≡◌};
 ghost use Rattle.league.specs.Sets.{has};
 ghost use Rattle.robinx.specs.Touches.{has_touched_slot, has_touched_round, has_touched_game, has_touched_until};
-ghost use Rattle.robinx.specs.Touches.{or_before, touches};
+ghost use Rattle.robinx.specs.Touches.{or_before, looks_at_team, looks_at_round, touches};
 
 use fixtures::Touched;
 use league::limits::MAX_ROUNDS;
@@ -12,38 +12,46 @@ use league::{GameList, Rule, RuleBody, SlotSet, TeamSet};
 /// Whether a change of these cells can alter how far a schedule is from the rule: the rule looks at a touched team
 /// in a touched round. Where it is false, schedules that differ in these cells alone are equally far from the rule
 /// ([`untouched_stays`](crate::untouched_stays)).
-#[tactic(auto, unfolding(crate::specs::Touches::touches, crate::specs::Touches::has_touched_team, crate::specs::Touches::has_touched_slot))]
+#[tactic(auto, unfolding(crate::specs::Touches::touches))]
 pub fn touches(rule: &Rule, touched: Touched) -> bool
     ensures { result ≡ touches rule.now.body (has touched.teams) (has touched.rounds) }
 {
+    looks_at_team(rule, touched.teams) && looks_at_round(rule, touched.rounds)
+}
+
+/// Whether the rule looks at games of the teams.
+#[tactic(auto, unfolding(crate::specs::Touches::looks_at_team, crate::specs::Touches::has_touched_team))]
+fn looks_at_team(rule: &Rule, teams: TeamSet) -> bool
+    ensures { result ≡ looks_at_team rule.now.body (has teams) }
+{
     match &rule.body {
-        RuleBody::Ca1 { teams, slots, .. } => {
-            teams.meets(touched.teams) && slots.meets(touched.rounds)
-        }
-        RuleBody::Ca2 { teams1, slots, .. } => {
-            teams1.meets(touched.teams) && slots.meets(touched.rounds)
-        }
-        RuleBody::Ca3 { teams1, .. } => {
-            teams1.meets(touched.teams) && has_touched_round(touched.rounds)
-        }
-        RuleBody::Ca4 { teams1, slots, .. } => {
-            teams1.meets(touched.teams) && slots.meets(touched.rounds)
-        }
-        RuleBody::Ga1 { games, slots, .. } => {
-            has_touched_game(games, touched.teams) && slots.meets(touched.rounds)
-        }
-        RuleBody::Br1 { teams, slots, .. } => {
-            teams.meets(touched.teams) && has_touched_break(*slots, touched.rounds)
-        }
-        RuleBody::Br2 { teams, slots, .. } => {
-            teams.meets(touched.teams) && has_touched_break(*slots, touched.rounds)
-        }
-        RuleBody::Se1 { teams, .. } => {
-            teams.meets(touched.teams) && has_touched_round(touched.rounds)
-        }
-        RuleBody::Fa2 { teams, slots, .. } => {
-            teams.meets(touched.teams) && has_touched_until(*slots, touched.rounds)
-        }
+        RuleBody::Ca1 { teams: own, .. } => own.meets(teams),
+        RuleBody::Ca2 { teams1, .. } => teams1.meets(teams),
+        RuleBody::Ca3 { teams1, .. } => teams1.meets(teams),
+        RuleBody::Ca4 { teams1, .. } => teams1.meets(teams),
+        RuleBody::Ga1 { games, .. } => has_touched_game(games, teams),
+        RuleBody::Br1 { teams: own, .. } => own.meets(teams),
+        RuleBody::Br2 { teams: own, .. } => own.meets(teams),
+        RuleBody::Se1 { teams: own, .. } => own.meets(teams),
+        RuleBody::Fa2 { teams: own, .. } => own.meets(teams),
+    }
+}
+
+/// Whether the rule looks at one of the rounds.
+#[tactic(auto, unfolding(crate::specs::Touches::looks_at_round, crate::specs::Touches::has_touched_slot))]
+pub(crate) fn looks_at_round(rule: &Rule, rounds: SlotSet) -> bool
+    ensures { result ≡ looks_at_round rule.now.body (has rounds) }
+{
+    match &rule.body {
+        RuleBody::Ca1 { slots, .. } => slots.meets(rounds),
+        RuleBody::Ca2 { slots, .. } => slots.meets(rounds),
+        RuleBody::Ca3 { .. } => has_touched_round(rounds),
+        RuleBody::Ca4 { slots, .. } => slots.meets(rounds),
+        RuleBody::Ga1 { slots, .. } => slots.meets(rounds),
+        RuleBody::Br1 { slots, .. } => has_touched_break(*slots, rounds),
+        RuleBody::Br2 { slots, .. } => has_touched_break(*slots, rounds),
+        RuleBody::Se1 { .. } => has_touched_round(rounds),
+        RuleBody::Fa2 { slots, .. } => has_touched_until(*slots, rounds),
     }
 }
 

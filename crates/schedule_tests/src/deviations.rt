@@ -151,6 +151,38 @@ const TEN_TEAMS: Expected = &[
     (r#""class":"SE1","teams":[1,5,10],"min":9"#, 3),
 ];
 
+/// On the start of ten teams too: no opponents and all others, windows as long as the season, and the last round.
+const EDGES: Expected = &[
+    (
+        r#""class":"CA2","teams1":[3],"mode":"HA","teams2":[],"max":0"#,
+        0,
+    ),
+    (
+        r#""class":"CA2","teams1":[3],"mode":"H","teams2":[1,2,4,5,6,7,8,9,10],"max":4"#,
+        5,
+    ),
+    (
+        r#""class":"CA2","teams1":[3],"mode":"A","teams2":[3,5,10],"slots":[18,17,16,15,14,13,12,11],"max":0"#,
+        1,
+    ),
+    (
+        r#""class":"CA3","teams1":[1,2,3],"mode":"H","intp":18,"max":4"#,
+        15,
+    ),
+    (
+        r#""class":"CA3","teams1":[1,2,3],"mode":"A","teams2":[1,4,9],"intp":1,"max":0"#,
+        8,
+    ),
+    (
+        r#""class":"CA3","teams1":[10],"mode":"H","intp":17,"max":7"#,
+        3,
+    ),
+    (
+        r#""class":"CA1","teams":[1,2,3],"mode":"A","slots":[18],"max":0"#,
+        0,
+    ),
+];
+
 /// The longest season there is.
 const FORTY_TEAMS: Expected = &[
     (r#""class":"CA1","teams":[1,2,40],"mode":"H","max":38"#, 3),
@@ -204,6 +236,7 @@ fn deviations_of_more_teams(rt: HostRuntime) -> Result<(), Fail> {
     assert_deviations(&rt, rt.alloc(), &six, SIX_TEAMS)?;
     let ten = berger(rt.alloc(), 10)?;
     assert_deviations(&rt, rt.alloc(), &ten, TEN_TEAMS)?;
+    assert_deviations(&rt, rt.alloc(), &ten, EDGES)?;
     let forty = berger(rt.alloc(), 40)?;
     assert_deviations(&rt, rt.alloc(), &forty, FORTY_TEAMS)
 }

@@ -55,6 +55,19 @@ const TEN_TEAMS: Expected = &[
         r#""class":"FA2","teams":[1,5,10],"slots":[4,9,12],"intp":0"#,
         3,
     ),
+    (
+        r#""class":"FA2","teams":[1,2,3,4,5,6,7,8,9,10],"slots":[3,9,10,15],"intp":0"#,
+        37,
+    ),
+    (
+        r#""class":"FA2","teams":[1,2,3,4,5,6,7,8,9,10],"slots":[1],"intp":0"#,
+        25,
+    ),
+    (
+        r#""class":"FA2","teams":[1,2,3,4,5,6,7,8,9,10],"slots":[18],"intp":0"#,
+        0,
+    ),
+    (r#""class":"FA2","teams":[],"intp":0"#, 0),
 ];
 
 const FORTY_TEAMS: Expected = &[

@@ -31,6 +31,8 @@ mod refusals;
 #[cfg(test)]
 mod rule_leagues;
 #[cfg(test)]
+mod rule_parts;
+#[cfg(test)]
 mod rules_reached;
 #[cfg(test)]
 mod sheets;

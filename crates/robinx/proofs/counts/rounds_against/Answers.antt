@@ -1,40 +1,26 @@
-use Rattle.std.proofs.Common.{◌<◌, sym, ◌∙◌, ap, arith}
-use Rattle.league.specs.Sets.{has}
-use Rattle.league.proofs.ForCallers.{lowest_below, has_empty}
-use Rattle.fixtures.specs.Games.{round_count}
-use Rattle.robinx.proofs.Filters.{passing_none, passing_more, passing_same, passing_all}
+use Rattle.std.proofs.Common.{arith}
+use Rattle.league.proofs.ForCallers.{lowest_below}
+use Rattle.robinx.proofs.OpponentRounds.{met_none, met_more, met_all}
 use Rattle.robinx.proofs.counts.rounds_against.Goals as goal
 
-pub loop-round-init : goal.loop-round-init
-loop-round-init c = record {
-  left = omega (arith, c.into_iter-round-iterator.ensures.into_iter_gives);
-  below = c.empty-against.ensures.below _;
-  passing = passing_none _ _ _ _ c.into_iter-round-iterator.ensures.into_iter_gives c.empty-against.ensures.members;
-}
+pub loop-opponent-init : goal.loop-opponent-init
+loop-opponent-init c =
+    met_none c.args.schedule.now c.requires.round_robin c.args.team c.requires.team _ _ _ _ (omega arith)
+    c.into_iter-opponent-iterator.ensures.into_iter_gives (c.empty-against.ensures.below _) c.empty-against.ensures.members
 
-pub meets_one_of-requires-clause-round : goal.meets_one_of-requires-clause-round
-meets_one_of-requires-clause-round c = lowest_below _ _ _ _ c.loop-round.invariant.left c.in-Some.ensures.steps
+pub rounds_with-requires-clause-opponent : goal.rounds_with-requires-clause-opponent
+rounds_with-requires-clause-opponent c = lowest_below _ _ _ _ c.loop-opponent.invariant.below c.in-Some.ensures.steps
 
-pub with-against-requires : goal.with-against-requires
-with-against-requires c = omega (arith, lowest_below _ _ _ _ c.loop-round.invariant.left c.in-Some.ensures.steps)
-
-pub loop-round-preserved-then-meets_one_of : goal.loop-round-preserved-then-meets_one_of
-loop-round-preserved-then-meets_one_of c =
-    let in_season : c.in-Some.round < round_count c.args.schedule.now.teams =
-    lowest_below _ _ _ _ c.loop-round.invariant.left c.in-Some.ensures.steps in
-    record {
-      left = omega (arith, c.in-Some.ensures.steps.fewer);
-      below = c.with-against.ensures.below _ c.loop-round.invariant.below in_season;
-      passing = passing_more _ _ _ _ _ _ c.loop-round.invariant.passing c.in-Some.ensures.steps _ (sym c.meets_one_of.ensures ∙ c.if-meets_one_of.true) c.with-against.ensures.members;
-    }
-
-pub loop-round-preserved : goal.loop-round-preserved
-loop-round-preserved c = record {
-  left = omega (arith, c.in-Some.ensures.steps.fewer);
-  below = c.loop-round.invariant.below;
-  passing = passing_same _ _ _ _ _ _ c.loop-round.invariant.passing c.in-Some.ensures.steps (sym c.meets_one_of.ensures ∙ c.if-meets_one_of.false);
-}
+pub loop-opponent-preserved : goal.loop-opponent-preserved
+loop-opponent-preserved c =
+    met_more c.args.schedule.now c.requires.round_robin c.args.team c.requires.team _ _ _ _ _ _ _ _ c.loop-opponent.invariant
+    c.in-Some.ensures.steps c.rounds_with.ensures.members c.union-against.ensures.members
+    (c.union-against.ensures.below _ c.loop-opponent.invariant.season c.rounds_with.ensures.below)
 
 pub returns-clause-members : goal.returns-clause-members
-returns-clause-members c = λ r.
-    passing_all _ _ _ _ c.loop-round.invariant.passing r (ap (λ s. has s r) c.in-None.ensures.steps.0 ∙ has_empty r)
+returns-clause-members c =
+    met_all c.args.schedule.now c.requires.round_robin c.args.team c.requires.team _ _ _ _ c.loop-opponent.invariant
+    c.in-None.ensures.steps.0
+
+pub returns-clause-below : goal.returns-clause-below
+returns-clause-below c = c.loop-opponent.invariant.season

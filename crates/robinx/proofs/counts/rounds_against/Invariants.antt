@@ -1,11 +1,5 @@
-use Rattle.league.specs.Sets.{has, IsBelow}
-use Rattle.fixtures.specs.Games.{round_count, cell}
-use Rattle.robinx.proofs.Filters.{HasPassing}
+use Rattle.robinx.proofs.OpponentRounds.{HasMet}
 use Rattle.robinx.proofs.counts.rounds_against.Given as goal
 
-abbrev pub invariant-loop-round : goal.invariant-loop-round
-invariant-loop-round l = record {
-  left : IsBelow (round_count l.schedule.teams) l.round-iterator;
-  below : IsBelow (round_count l.schedule.teams) l.against;
-  passing : HasPassing l.fn.rounds l.round-iterator l.against (λ r. has l.opponents (cell l.schedule l.team r).opponent);
-}
+abbrev pub invariant-loop-opponent : goal.invariant-loop-opponent
+invariant-loop-opponent l = HasMet l.schedule l.team l.side l.fn.opponents l.opponent-iterator l.against

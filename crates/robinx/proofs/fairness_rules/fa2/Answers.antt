@@ -1,28 +1,11 @@
-use Rattle.std.proofs.Common.{arith, refl, ◌∙◌}
+use Rattle.std.proofs.Common.{◌∙◌}
 use Rattle.league.specs.Sets.{has}
-use Rattle.league.proofs.ForCallers.{sum_without_none, sum_without_more, sum_without_all, lowest_below}
-use Rattle.robinx.specs.Deviations.{deviation}
-use Rattle.robinx.proofs.Pairs.{gaps_at_members}
-use Rattle.robinx.proofs.Sets.{sum_of_lower}
+use Rattle.robinx.specs.Deviations.{worst_gap, worst_gaps, deviation}
+use Rattle.robinx.proofs.PartTerms.{pairs_of_all}
 use Rattle.robinx.proofs.fairness_rules.fa2.Goals as goal
 
-pub loop-team-init : goal.loop-team-init
-loop-team-init c = sum_without_none _ _ _ _ _ (omega arith) c.into_iter-team-iterator.ensures.into_iter_gives
-
-pub below-requires : goal.below-requires
-below-requires c = omega (arith, lowest_below _ _ _ _ c.loop-team.invariant.below c.in-Some.ensures.steps)
-
-pub gaps_with-total-requires-clause-team : goal.gaps_with-total-requires-clause-team
-gaps_with-total-requires-clause-team c = lowest_below _ _ _ _ c.loop-team.invariant.below c.in-Some.ensures.steps
-
-pub loop-team-preserved : goal.loop-team-preserved
-loop-team-preserved c =
-    sum_without_more _ _ _ _ _ _ _ _ _ c.loop-team.invariant c.in-Some.ensures.steps
-    (c.gaps_with-total.ensures.value ∙ sum_of_lower _ _ _ _ _ c.below.ensures.members c.common-lower.ensures.members)
-    c.gaps_with-total.ensures.most
-
 pub returns : goal.returns
-unfolding deviation
+unfolding deviation worst_gaps
 returns c =
-    sum_without_all _ _ _ _ _ _ _ c.loop-team.invariant c.in-None.ensures.steps.0 (λ k below. refl) ∙
-    gaps_at_members c.args.schedule.now (has c.args.teams) (has c.args.slots) c.args.most
+    c.fa2_with.ensures ∙
+    pairs_of_all c.args.schedule.now.teams c.args.teams (worst_gap c.args.schedule.now (has c.args.slots) c.args.most)

@@ -1,10 +1,11 @@
+use Rattle.std.proofs.Common.{◌&&◌, ◌||◌}
 use Rattle.league.specs.Sets.{has}
 use Rattle.league.specs.Sums.{sum_where}
 use Rattle.league.proofs.ForCallers.{IsSumWithout}
 use Rattle.robinx.specs.Deviations.{worst_gap}
-use Rattle.robinx.proofs.fairness_rules.fa2.Given as goal
+use Rattle.robinx.proofs.fairness_rules.fa2_with.Given as goal
 
 abbrev pub invariant-loop-team : goal.invariant-loop-team
 invariant-loop-team l =
     IsSumWithout l.schedule.teams l.fn.teams l.team-iterator l.total 3120
-    (λ t. sum_where t (has l.fn.teams) (λ other. worst_gap l.schedule (has l.slots) l.most other t))
+    (λ t. sum_where t (λ other. has l.fn.teams other && (has l.set other || has l.set t)) (λ other. worst_gap l.schedule (has l.slots) l.most other t))
