@@ -2,17 +2,21 @@
 use Rattle.std.proofs.Common.{◌≡◌, ◌≢◌, ℕ, ◌<◌, ◌⊎◌, inl, inr, Bool, true, false, not, ◌&&◌, ◌||◌, cond, eqb, refl, sym, ◌∙◌, ap, ap₂, subst, Ok}
 use Rattle.std.specs.Bool.{beq}
 use Rattle.std.specs.Prelude.{IsTrue}
-use Rattle.std.proofs.lemmas.Bool.{cond-true, cond-false, and_parts, and_cases, and_from, and_left, or_cases, or_parts, or_from, or_left, or_right, eqb-true, eqb-false, eq-eqb, ne_eqb, true_from_ne_false, false≢true, lt-ltb}
+use Rattle.std.proofs.lemmas.Bool.{cond-true, cond-false, and_parts, and_from, and_left, or_cases, or_parts, or_from, or_left, or_right, eqb-true, eqb-false, eq-eqb, ne_eqb, true_from_ne_false, false≢true}
+use Rattle.league.specs.Sets.{has}
 use Rattle.fixtures.specs.Games.{Games, round_of, round_count, IsPair, IsDoubleRoundRobin}
-use Rattle.fixtures.specs.Closed.{member, moved_teams_of, moved_rounds_of}
-use Rattle.fixtures.specs.Edits.{exchanged, homes_exchanged, rounds_exchanged, teams_exchanged}
-use Rattle.fixtures.proofs.ForCallers.{pair_swapped, exchanged_first, exchanged_second, exchanged_other, cases_exchanged, Meets, same_opponent, are_apart, are_apart_true, theirs_or_neither, distinct_rounds, round_of_homes_exchanged, round_of_rounds_exchanged, StaysAmong, round_of_teams_exchanged}
+use Rattle.fixtures.specs.Closed.{plays_in}
+use Rattle.fixtures.specs.Edits.{exchanged, rounds_exchanged, teams_exchanged}
+use Rattle.fixtures.proofs.ForCallers.{pair_swapped, exchanged_first, exchanged_second, exchanged_other, cases_exchanged, Meets, same_opponent, round_of_rounds_exchanged, plays_in_first, plays_in_second, StaysAmong, round_of_teams_exchanged}
 use Rattle.moves.specs.declared.moves.Move.{Move}
-use Rattle.moves.specs.declared.moves.Move.TheVariants.{Homes, Rounds, Teams, PartRounds, PartTeams}
+use Rattle.moves.specs.declared.exchanges.Exchange.{Exchange}
+use Rattle.moves.specs.declared.exchanges.Exchange.TheVariants as edit
 use Rattle.moves.specs.Moves.{fault_of, moved}
-use Rattle.moves.proofs.Checked.{at_variant, rounds-checked, teams-checked, part_rounds-checked, IsPartTeams, part_teams-checked}
-use Rattle.moves.proofs.WholeMoves.{apart, apart-first, apart-second, stays_apart, all_rounds}
-use Rattle.moves.proofs.PartMoves.{taken, taken-first, taken-second, stays_taken}
+use Rattle.moves.specs.Exchanges.{exchange_of, exchanged_by, main_cells, both, IsExchange}
+use Rattle.moves.proofs.MovesAsExchanges.{each-exchange}
+use Rattle.moves.proofs.EachExchange.{stays_fitting}
+use Rattle.moves.proofs.Sets.{has-both}
+use Rattle.moves.proofs.WholeMoves.{two_below}
 
 -- the test tells whether the two rounds differ
 abbrev pub TellsChange : Bool → ℕ → ℕ → Type 0
@@ -22,15 +26,13 @@ pub TellsChange-by : (test : Bool) (new old : ℕ) → (test ≡ true → new �
     TellsChange test new old
 TellsChange-by test new old changed kept = (changed, λ ne. true_from_ne_false test (λ e. ne (kept e)))
 
--- ---- homes
+-- whether a number is one of two
+abbrev pub is_one_of : ℕ → ℕ → ℕ → Bool
+is_one_of i j x = eqb x i || eqb x j
 
-pub TellsChange-homes : (g : Games) → IsDoubleRoundRobin g → (i j h a : ℕ) → IsPair g.teams h a →
-    TellsChange (eqb h i && eqb a j || eqb h j && eqb a i) (round_of (homes_exchanged g i j) h a) (round_of g h a)
-TellsChange-homes g rr i j h a p =
-    TellsChange-by _ _ _
-    (λ e same. distinct_rounds g rr h a p
-    (sym (sym (cond-true _ _ _ e) ∙ sym (round_of_homes_exchanged g i j h a p) ∙ same)))
-    (λ e. round_of_homes_exchanged g i j h a p ∙ cond-false _ _ _ e)
+and_true : (x : Bool) → (x && true) ≡ x
+and_true true = refl
+and_true false = refl
 
 -- ---- rounds
 
@@ -51,28 +53,24 @@ exchanged-stays k l r none =
     exchanged_other k l r (eqb-false r k parts.0) (eqb-false r l parts.1)
 
 -- for the teams of a set
-pub changed-rounds : (g : Games) (k l : ℕ) (among : ℕ → Bool) → k ≢ l → (h a : ℕ) → IsPair g.teams h a →
-    among h ≡ true →
-    (eqb (round_of g h a) k || eqb (round_of g h a) l) ≡ true → round_of (rounds_exchanged g k l among) h a ≢
-    round_of g h a
-changed-rounds g k l among ne h a p e one same =
-    exchanged-moves k l (round_of g h a) ne one
-    (sym (round_of_rounds_exchanged g k l among h a p ∙ cond-true _ _ _ e) ∙ same)
+module _ (g : Games) (k l : ℕ) (among : ℕ → Bool) (ne : k ≢ l) (h a : ℕ) (p : IsPair g.teams h a) where
+  after_rounds : round_of (rounds_exchanged g k l among) h a ≡
+      cond (among h) (exchanged k l (round_of g h a)) (round_of g h a)
+  after_rounds = round_of_rounds_exchanged g k l among h a p
 
-pub kept-other_rounds : (g : Games) (k l : ℕ) (among : ℕ → Bool) → (h a : ℕ) → IsPair g.teams h a →
-    (eqb (round_of g h a) k || eqb (round_of g h a) l) ≡ false → round_of (rounds_exchanged g k l among) h a ≡
-    round_of g h a
-kept-other_rounds g k l among h a p none =
-    round_of_rounds_exchanged g k l among h a p ∙ either (among h) (exchanged-stays k l (round_of g h a) none)
-  where
-    either : (b : Bool) → exchanged k l (round_of g h a) ≡ round_of g h a →
-        cond b (exchanged k l (round_of g h a)) (round_of g h a) ≡ round_of g h a
-    either true e = e
-    either false e = refl
-
-pub kept-other_teams : (g : Games) (k l : ℕ) (among : ℕ → Bool) → (h a : ℕ) → IsPair g.teams h a → among h ≡ false →
-    round_of (rounds_exchanged g k l among) h a ≡ round_of g h a
-kept-other_teams g k l among h a p out = round_of_rounds_exchanged g k l among h a p ∙ cond-false _ _ _ out
+  pub TellsChange-rounds : TellsChange (is_one_of k l (round_of g h a) && among h)
+      (round_of (rounds_exchanged g k l among) h a) (round_of g h a)
+  TellsChange-rounds =
+      TellsChange-by _ _ _
+      (λ e same.
+      let parts = and_parts (is_one_of k l (round_of g h a)) (among h) e in
+      exchanged-moves k l (round_of g h a) ne parts.0 (sym (after_rounds ∙ cond-true _ _ _ parts.1) ∙ same))
+      (λ e. after_rounds ∙ kept (among h) e)
+    where
+      kept : (b : Bool) → (is_one_of k l (round_of g h a) && b) ≡ false →
+          cond b (exchanged k l (round_of g h a)) (round_of g h a) ≡ round_of g h a
+      kept true e = exchanged-stays k l (round_of g h a) (sym (and_true _) ∙ e)
+      kept false e = refl
 
 -- ---- teams
 
@@ -80,10 +78,9 @@ kept-other_teams g k l among h a p out = round_of_rounds_exchanged g k l among h
 abbrev pub has_one : ℕ → ℕ → ℕ → ℕ → Bool
 has_one i j h a = not (beq (eqb h i || eqb h j) (eqb a i || eqb a j))
 
--- a game with one of i and j, in a round in which they don't meet
+-- a game with one of i and j
 pub record HasOne (g : Games) (i j h a : ℕ) : Type 0 where
   pub one : has_one i j h a ≡ true
-  pub apart : are_apart g i j (round_of g h a) ≡ true
   pub other : round_of g (exchanged i j h) (exchanged i j a) ≢ round_of g h a
 
 -- one with both or neither
@@ -91,10 +88,6 @@ pub record HasBothOrNeither (g : Games) (i j h a : ℕ) : Type 0 where
   pub both_or_neither : has_one i j h a ≡ false
   pub other : (among : ℕ → Bool) → among (round_of g i j) ≡ false → among (round_of g j i) ≡ false →
       cond (among (round_of g h a)) (round_of g (exchanged i j h) (exchanged i j a)) (round_of g h a) ≡ round_of g h a
-
--- the test of one team
-abbrev pub is_one_of : ℕ → ℕ → ℕ → Bool
-is_one_of i j x = eqb x i || eqb x j
 
 is_one_of-first : (i j x : ℕ) → x ≡ i → is_one_of i j x ≡ true
 is_one_of-first i j x e = or_left _ _ (eq-eqb x i e)
@@ -112,19 +105,6 @@ module _ (g : Games) (rr : IsDoubleRoundRobin g) (i j : ℕ) (pair : IsPair g.te
 
   back : IsPair g.teams a h
   back = pair_swapped g.teams h a p
-
-  -- where i and j meet no game has one of them alone
-  apart_there : (has_one i j h a ≡ true) → are_apart g i j (round_of g h a) ≡ true
-  apart_there one = are_apart_true g i j _ (λ met. elim (theirs_or_neither g rr i j _ met h a p refl) [
-    | inl e ↦ never (is_one_of-first i j h e.0) (is_one_of-second i j a e.1)
-    | inr (inl e) ↦ never (is_one_of-second i j h e.0) (is_one_of-first i j a e.1)
-    | inr (inr ne) ↦
-        false≢true (sym (ap₂ (λ x y. not (beq x y)) (is_one_of-neither i j h (ne.home_first, ne.home_second))
-        (is_one_of-neither i j a (ne.away_first, ne.away_second))) ∙ one)
-  ]) pair
-    where
-      never : is_one_of i j h ≡ true → is_one_of i j a ≡ true → ⊥
-      never e f = false≢true (sym (ap₂ (λ x y. not (beq x y)) e f) ∙ one)
 
   -- the third team would meet both i and j in the round
   home_moves : (x y : ℕ) → (x ≢ y) → x ≡ h → y < g.teams → y ≢ a → round_of g y a ≢ round_of g h a
@@ -153,7 +133,6 @@ module _ (g : Games) (rr : IsDoubleRoundRobin g) (i j : ℕ) (pair : IsPair g.te
       round_of g x y ≢ round_of g h a → HasOne g i j h a
   with_one one x y of_h of_a moves = record {
     one = one;
-    apart = apart_there one;
     other = λ same. moves (sym (ap₂ (round_of g) of_h of_a) ∙ same);
   }
 
@@ -232,94 +211,103 @@ module _ (g : Games) (rr : IsDoubleRoundRobin g) (i j : ℕ) (pair : IsPair g.te
       after : round_of (teams_exchanged g i j among) h a ≡ cond (among (round_of g h a)) other_round (round_of g h a)
       after = round_of_teams_exchanged g i j among pair.home_in pair.away_in stays h a p
 
--- ---- of each move
+-- whether an exchange gives a game another round that stands in this one
+abbrev pub is_changed_by : Exchange → ℕ → ℕ → ℕ → Bool
+is_changed_by (edit.Rounds k l among) h a r = is_one_of k l r && has among h
+is_changed_by (edit.Teams i j among) h a r = has_one i j h a && has among r
 
-pub tells-rounds : (g : Games) (k l : ℕ) → k ≢ l → (h a : ℕ) → IsPair g.teams h a →
-    TellsChange (is_one_of k l (round_of g h a)) (round_of (moved g (Rounds k l)) h a) (round_of g h a)
-tells-rounds g k l ne h a p =
-    TellsChange-by _ _ _ (changed-rounds g k l (λ _. true) ne h a p refl) (kept-other_rounds g k l (λ _. true) h a p)
-
-pub tells-part_rounds : (g : Games) (i k l : ℕ) → k ≢ l → (h a : ℕ) → IsPair g.teams h a →
-    TellsChange (is_one_of k l (round_of g h a) && member (moved_teams_of g i k l) h)
-    (round_of (moved g (PartRounds i k l)) h a) (round_of g h a)
-tells-part_rounds g i k l ne h a p =
-    TellsChange-by _ _ _
-    (λ e. let parts = and_parts (is_one_of k l (round_of g h a))
-    (among h) e in changed-rounds g k l among ne h a p parts.1 parts.0)
-    (λ e. elim (and_cases (is_one_of k l (round_of g h a)) (among h) e) [
-      | inl none ↦ kept-other_rounds g k l among h a p none
-      | inr out ↦ kept-other_teams g k l among h a p out
-    ])
-  where
-    among : ℕ → Bool
-    among = member (moved_teams_of g i k l)
-
-pub tells-teams : (g : Games) → IsDoubleRoundRobin g → (i j : ℕ) → IsPair g.teams i j → (h a : ℕ) → IsPair g.teams h a →
-    TellsChange (has_one i j h a) (round_of (moved g (Teams i j)) h a) (round_of g h a)
-tells-teams g rr i j pair h a p =
-    subst (λ (x : Games). TellsChange (has_one i j h a) (round_of x h a) (round_of g h a))
-    (sym (all_rounds g rr i j pair))
-    (TellsChange-teams g rr i j pair h a p (apart g rr i j pair) (stays_apart g rr i j pair) (apart-first g rr i j pair)
-    (apart-second g rr i j pair) (has_one i j h a)
-    (λ has. has.one ∙ sym (and_from _ _ (lt-ltb (round_of g h a) (round_count g.teams) (rr.in_range h a p)) has.apart))
-    (λ not_one. not_one.both_or_neither))
-
-pub tells-part_teams : (g : Games) → IsDoubleRoundRobin g → (i j k : ℕ) → IsPartTeams g i j k → (h a : ℕ) →
-    IsPair g.teams h a →
-    TellsChange (has_one i j h a && member (moved_rounds_of g i j k) (round_of g h a))
-    (round_of (moved g (PartTeams i j k)) h a) (round_of g h a)
-tells-part_teams g rr i j k known h a p =
-    TellsChange-teams g rr i j known.pair h a p (taken g rr i j k known) (stays_taken g rr i j k known)
-    (taken-first g rr i j k known)
-    (taken-second g rr i j k known) (has_one i j h a && member (moved_rounds_of g i j k) (round_of g h a))
-    (λ has. ap (λ b. b && member (moved_rounds_of g i j k) (round_of g h a)) has.one)
+pub each-tells : (g : Games) (exchange : Exchange) → IsExchange g exchange → (h a : ℕ) → IsPair g.teams h a →
+    TellsChange (is_changed_by exchange h a (round_of g h a)) (round_of (exchanged_by g exchange) h a) (round_of g h a)
+each-tells g (edit.Rounds k l among) can h a p = TellsChange-rounds g k l (has among) can.fits.pair.distinct h a p
+each-tells g (edit.Teams i j among) can h a p =
+    TellsChange-teams g can.round_robin i j can.fits.pair h a p (has among)
+    (stays_fitting g i j (has among) can.fits) can.fits.first_out can.fits.second_out
+    (has_one i j h a && has among (round_of g h a)) (λ one. ap (λ b. b && has among (round_of g h a)) one.one)
     (λ not_one. and_left _ _ not_one.both_or_neither)
 
--- ---- of a move that can be made, and a game that stands in its round
+-- the games that get another round are those of the main teams in their rounds
+module _ (g : Games) (h a : ℕ) (p : IsPair g.teams h a) where
+  pub main-changed : (exchange : Exchange) → IsExchange g exchange →
+      is_changed_by exchange h a (round_of g h a) ≡ true →
+      ((has (main_cells exchange).teams h ≡ true) ⊎ (has (main_cells exchange).teams a ≡ true)) ×
+      (has (main_cells exchange).rounds (round_of g h a) ≡ true)
+  main-changed (edit.Rounds k l among) can changed =
+      let parts = and_parts (is_one_of k l (round_of g h a)) (has among h) changed in
+      (inl parts.1, has-both k l (round_of g h a) ∙ parts.0)
+  main-changed (edit.Teams i j among) can changed =
+      let parts = and_parts (has_one i j h a) (has among (round_of g h a)) changed in
+      (one_in (is_one_of i j h) (is_one_of i j a) refl refl parts.0, parts.1)
+    where
+      one_in : (x y : Bool) → is_one_of i j h ≡ x → is_one_of i j a ≡ y → has_one i j h a ≡ true →
+          (has (both i j) h ≡ true) ⊎ (has (both i j) a ≡ true)
+      one_in true y e _ _ = inl (has-both i j h ∙ e)
+      one_in false true _ e _ = inr (has-both i j a ∙ e)
+      one_in false false e f one = absurd (false≢true (sym (ap₂ (λ x y. not (beq x y)) e f) ∙ one))
 
-module _ (g : Games) (rr : IsDoubleRoundRobin g) (mv : Move) (checked : fault_of g mv ≡ Ok tt) (h a r : ℕ)
-    (p : IsPair g.teams h a) (there : round_of g h a ≡ r) (result : Bool) where
-  tells-variant : (variant : Move) (test : ℕ → Bool) → mv ≡ variant → result ≡ test r →
-      TellsChange (test (round_of g h a)) (round_of (moved g variant) h a) (round_of g h a) →
-      TellsChange result (round_of (moved g mv) h a) r
-  tells-variant variant test of_variant is tells =
-      subst (λ b. TellsChange b (round_of (moved g mv) h a) r) (sym is)
-      (subst (λ (m : Move). TellsChange (test r) (round_of (moved g m) h a) r) (sym of_variant)
-      (subst (λ x. TellsChange (test x) (round_of (moved g variant) h a) x) there tells))
+  pub changed-main : (exchange : Exchange) → IsExchange g exchange →
+      (has (main_cells exchange).teams h ≡ true) ⊎ (has (main_cells exchange).teams a ≡ true) →
+      has (main_cells exchange).rounds (round_of g h a) ≡ true → is_changed_by exchange h a (round_of g h a) ≡ true
+  changed-main (edit.Rounds k l among) can main in_round =
+      let one = sym (has-both k l (round_of g h a)) ∙ in_round in
+      and_from _ _ one (elim main [
+        | inl home ↦ home
+        | inr away ↦ can.fits.closed a h (plays (or_cases _ _ one)) away
+      ])
+    where
+      back : IsPair g.teams a h
+      back = pair_swapped g.teams h a p
 
-  can_be : (variant : Move) → mv ≡ variant → fault_of g variant ≡ Ok tt
-  can_be variant is = at_variant g mv variant is checked
+      plays : (eqb (round_of g h a) k ≡ true) ⊎ (eqb (round_of g h a) l ≡ true) → IsTrue (plays_in g k l a h)
+      plays (inl e) = plays_in_first g k l a h (back, inr (eqb-true _ _ e))
+      plays (inr e) = plays_in_second g k l a h (back, inr (eqb-true _ _ e))
+  changed-main (edit.Teams i j among) can main in_round =
+      and_from _ _ (not_both (is_one_of i j h) (is_one_of i j a) refl refl (elim main [
+        | inl home ↦ inl (sym (has-both i j h) ∙ home)
+        | inr away ↦ inr (sym (has-both i j a) ∙ away)
+      ])) in_round
+    where
+      -- they don't meet in the round
+      meet : (x y : ℕ) → h ≡ x → a ≡ y → has among (round_of g x y) ≡ false → ⊥
+      meet x y of_h of_a out = false≢true (sym out ∙ ap (has among) (sym (ap₂ (round_of g) of_h of_a)) ∙ in_round)
 
-  pub of-homes : (i j : ℕ) → mv ≡ Homes i j → result ≡ (eqb h i && eqb a j || eqb h j && eqb a i) →
-      TellsChange result (round_of (moved g mv) h a) r
-  of-homes i j of_variant is =
-      tells-variant (Homes i j) (λ _. eqb h i && eqb a j || eqb h j && eqb a i) of_variant is
-      (TellsChange-homes g rr i j h a p)
+      never : (eqb h i ≡ true) ⊎ (eqb h j ≡ true) → (eqb a i ≡ true) ⊎ (eqb a j ≡ true) → ⊥
+      never (inl e) (inl f) = p.distinct (eqb-true h i e ∙ sym (eqb-true a i f))
+      never (inl e) (inr f) = meet i j (eqb-true h i e) (eqb-true a j f) can.fits.first_out
+      never (inr e) (inl f) = meet j i (eqb-true h j e) (eqb-true a i f) can.fits.second_out
+      never (inr e) (inr f) = p.distinct (eqb-true h j e ∙ sym (eqb-true a j f))
 
-  pub of-rounds : (k l : ℕ) → mv ≡ Rounds k l → result ≡ is_one_of k l r →
-      TellsChange result (round_of (moved g mv) h a) r
-  of-rounds k l of_variant is =
-      tells-variant (Rounds k l) (is_one_of k l) of_variant is
-      (tells-rounds g k l (rounds-checked g k l (can_be (Rounds k l) of_variant)).distinct h a p)
+      not_both : (x y : Bool) → is_one_of i j h ≡ x → is_one_of i j a ≡ y →
+          (is_one_of i j h ≡ true) ⊎ (is_one_of i j a ≡ true) → has_one i j h a ≡ true
+      not_both true true e f _ = absurd (never (or_cases _ _ e) (or_cases _ _ f))
+      not_both true false e f _ = ap₂ (λ x y. not (beq x y)) e f
+      not_both false true e f _ = ap₂ (λ x y. not (beq x y)) e f
+      not_both false false e f (inl one) = absurd (false≢true (sym e ∙ one))
+      not_both false false e f (inr one) = absurd (false≢true (sym f ∙ one))
 
-  pub of-teams : (i j : ℕ) → mv ≡ Teams i j → result ≡ has_one i j h a →
-      TellsChange result (round_of (moved g mv) h a) r
-  of-teams i j of_variant is =
-      tells-variant (Teams i j) (λ _. has_one i j h a) of_variant is
-      (tells-teams g rr i j (teams-checked g i j (can_be (Teams i j) of_variant)) h a p)
+-- no other team than those of the league, and no other round
+pub main_teams_below : (g : Games) (exchange : Exchange) → IsExchange g exchange → (t : ℕ) →
+    has (main_cells exchange).teams t ≡ true → t < g.teams
+main_teams_below g (edit.Rounds k l among) can t e = can.fits.below t e
+main_teams_below g (edit.Teams i j among) can t e = two_below g.teams i j can.fits.pair t (sym (has-both i j t) ∙ e)
 
-  pub of-part_rounds : (i k l : ℕ) → mv ≡ PartRounds i k l →
-      result ≡ (is_one_of k l r && member (moved_teams_of g i k l) h) → TellsChange result (round_of (moved g mv) h a) r
-  of-part_rounds i k l of_variant is =
-      tells-variant (PartRounds i k l) (λ x. is_one_of k l x && member (moved_teams_of g i k l) h) of_variant is
-      (tells-part_rounds g i k l (part_rounds-checked g i k l (can_be (PartRounds i k l) of_variant)).1.distinct h a p)
+pub main_rounds_below : (g : Games) (exchange : Exchange) → IsExchange g exchange → (r : ℕ) →
+    has (main_cells exchange).rounds r ≡ true → r < round_count g.teams
+main_rounds_below g (edit.Rounds k l among) can r e =
+    two_below (round_count g.teams) k l can.fits.pair r (sym (has-both k l r) ∙ e)
+main_rounds_below g (edit.Teams i j among) can r e = can.fits.below r e
 
-  pub of-part_teams : (i j k : ℕ) → mv ≡ PartTeams i j k →
-      result ≡ (has_one i j h a && member (moved_rounds_of g i j k) r) →
-      TellsChange result (round_of (moved g mv) h a) r
-  of-part_teams i j k of_variant is =
-      tells-variant (PartTeams i j k) (λ x. has_one i j h a && member (moved_rounds_of g i j k) x) of_variant is
-      (tells-part_teams g rr i j k (part_teams-checked g i j k (can_be (PartTeams i j k) of_variant)) h a p)
+-- of a move that can be made, by its exchange, and a game that stands in its round
+pub tells_change : (g : Games) → IsDoubleRoundRobin g → (mv : Move) → fault_of g mv ≡ Ok tt → (h a r : ℕ) →
+    IsPair g.teams h a → round_of g h a ≡ r → (exchange : Exchange) → exchange ≡ exchange_of g mv →
+    (result : Bool) → result ≡ is_changed_by exchange h a r → TellsChange result (round_of (moved g mv) h a) r
+tells_change g rr mv checked h a r p there exchange is result tested =
+    let one = each-exchange g mv rr checked in
+    subst (λ b. TellsChange b (round_of (moved g mv) h a) r)
+    (sym (tested ∙ ap (λ (e : Exchange). is_changed_by e h a r) is))
+    (subst (λ (x : Games). TellsChange (is_changed_by (exchange_of g mv) h a r) (round_of x h a) r) (sym one.is)
+    (subst (λ x. TellsChange (is_changed_by (exchange_of g mv) h a x)
+    (round_of (exchanged_by g (exchange_of g mv)) h a) x) there
+    (each-tells g (exchange_of g mv) one.can_be_made h a p)))
 
 -- both tests, of which the second is not made where the first fails
 pub both-tests : (first second x y : Bool) → first ≡ x → x ≡ true → second ≡ y → second ≡ (first && y)

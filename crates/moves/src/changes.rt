@@ -1,11 +1,11 @@
 //! Whether a move changes a game.
 
-ghost use Rattle.std.specs.Prelude.{◌≡◌, ◌≢◌, ◌↔◌, ◌&&◌, ◌||◌, ◌==◌, not, IsTrue, Ok};
+ghost use Rattle.std.specs.Prelude.{◌≡◌, ◌≢◌, ◌↔◌, ◌||◌, ◌==◌, not, IsTrue, Ok};
 ghost use Rattle.std.specs.Bool.{beq};
 ghost use Rattle.fixtures.specs.Games.{round_of, IsPair};
 ghost use Rattle.moves.specs.Moves.{fault_of, moved};
 
-use crate::{Move, moved_rounds, moved_teams};
+use crate::{Exchange, Move, exchange};
 use fixtures::{Game, Schedule};
 
 /// Whether a move that `check` lets pass gives another round to the game, which stands in its round. Takes no memory.
@@ -16,24 +16,10 @@ pub fn would_change(schedule: &Schedule, mv: Move, game: Game) -> bool
     ensures { IsTrue result ↔ (round_of (moved schedule.now mv) game.home game.away ≢ game.round) }
 {
     prove_eq!(schedule.round_of(game.home, game.away), game.round);
-    match mv {
-        Move::Homes { i, j } => is_between(game, i, j),
-        Move::Rounds { k, l } => is_either(game.round, k, l),
-        Move::Teams { i, j } => has_one(game, i, j),
-        Move::PartRounds { i, k, l } => {
-            is_either(game.round, k, l) && moved_teams(schedule, i, k, l).has(game.home)
-        }
-        Move::PartTeams { i, j, k } => {
-            has_one(game, i, j) && moved_rounds(schedule, i, j, k).has(game.round)
-        }
+    match exchange(schedule, mv) {
+        Exchange::Rounds { k, l, among } => is_either(game.round, k, l) && among.has(game.home),
+        Exchange::Teams { i, j, among } => has_one(game, i, j) && among.has(game.round),
     }
-}
-
-/// Whether the game is between these two teams.
-fn is_between(game: Game, i: u8, j: u8) -> bool
-    ensures { result ≡ (game.home == i && game.away == j || game.home == j && game.away == i) }
-{
-    game.home == i && game.away == j || game.home == j && game.away == i
 }
 
 /// Whether the game has one of the two teams, and not both.
