@@ -1,14 +1,14 @@
 -- An exchange gives a pinned game another round where a main team has one in a round of the exchange.
-use Rattle.std.proofs.Common.{◌≡◌, ◌≢◌, ℕ, ◌<◌, ◌⊎◌, Bool, true, false, not, ◌==◌, inl, inr, List, refl, sym, ◌∙◌, ap, subst}
-use Rattle.std.proofs.lemmas.Bool.{cases_Bool, cases_eq, not-true, eqb-false, ne_eqb, false≢true}
+use Rattle.std.proofs.Common.{◌≡◌, ◌≢◌, ℕ, Bool, true, false, not, ◌||◌, ◌==◌, inl, inr, List, refl, sym, ◌∙◌, ap, subst}
+use Rattle.std.proofs.lemmas.Bool.{cases_eq, and_parts, and_from, or_cases, or_left, or_right, not-true, eqb-false, ne_eqb, false≢true}
 use Rattle.league.specs.Sets.{has}
 use Rattle.fixtures.specs.declared.game.Cell.{Cell}
 use Rattle.fixtures.specs.declared.game.Game.{Game}
-use Rattle.fixtures.specs.Games.{Games, round_of, round_count, cell, cell_round, IsPair, IsCell}
+use Rattle.fixtures.specs.Games.{Games, round_of, cell, cell_round, IsPair, IsCell}
 use Rattle.fixtures.proofs.ForCallers.{cell_is, is_cell, pair_swapped}
 use Rattle.moves.specs.declared.exchanges.Exchange.{Exchange}
 use Rattle.moves.specs.Exchanges.{exchanged_by, main_cells, IsExchange}
-use Rattle.moves.proofs.ForCallers.{each_tells, is_changed_by, main_changed, changed_main, main_teams_below, main_rounds_below}
+use Rattle.moves.proofs.ForCallers.{each_tells, main_teams_below, main_rounds_below}
 use Rattle.fixture_board.specs.History.{is_pinned, moves_pin, AllStand}
 use Rattle.fixture_board.specs.PinPlaces.{pin_at, is_pinned_cell, ArePinsAt}
 use Rattle.fixture_board.proofs.PinTable.{place_of-pinned, moves_pin-none, moves_pin-some}
@@ -53,17 +53,17 @@ module _ (g : Games) (exchange : Exchange) (can : IsExchange g exchange) (table 
   kept none h a pair pin = elim (cases_eq (round_of after h a) (round_of g h a)) [
     | inl same ↦ same
     | inr other ↦
-        let main = main_changed g h a pair exchange can ((each_tells g exchange can h a pair).1 other) in
-        absurd (elim main.0 [
+        let main = and_parts (has (main_cells exchange).rounds (round_of g h a)) _ ((each_tells g exchange can h a pair).1 other) in
+        absurd (elim (or_cases (has (main_cells exchange).teams h) _ main.1) [
           | inl home ↦
               is_pinned-no table h (record { opponent = a; home = true })
               (subst (λ (c : Cell). is_pinned_cell table h c ≡ false) (cell_there h a true (round_of g h a) pair refl)
-              (none h (round_of g h a) home main.1)) pin
+              (none h (round_of g h a) home main.0)) pin
           | inr away ↦
               is_pinned-no table a (record { opponent = h; home = false })
               (subst (λ (c : Cell). is_pinned_cell table a c ≡ false)
               (cell_there a h false (round_of g h a) (pair_swapped g.teams h a pair) refl)
-              (none a (round_of g h a) away main.1)) pin
+              (none a (round_of g h a) away main.0)) pin
         ])
   ]
 
@@ -75,10 +75,11 @@ module _ (g : Games) (exchange : Exchange) (can : IsExchange g exchange) (table 
       kept none h a pair pin ∙
       sym (place_of-pinned (is_pinned pins h a) (round_of g h a) (pin_at table h a) (are h a pair) pin).1)
 
-  changed : (h a : ℕ) → IsPair g.teams h a →
-      (has (main_cells exchange).teams h ≡ true) ⊎ (has (main_cells exchange).teams a ≡ true) →
-      has (main_cells exchange).rounds (round_of g h a) ≡ true → round_of after h a ≢ round_of g h a
-  changed h a pair main in_round = (each_tells g exchange can h a pair).0 (changed_main g h a pair exchange can main in_round)
+  changed : (h a r : ℕ) → IsPair g.teams h a → round_of g h a ≡ r → has (main_cells exchange).rounds r ≡ true →
+      (has (main_cells exchange).teams h || has (main_cells exchange).teams a) ≡ true → round_of after h a ≢ round_of g h a
+  changed h a r pair there in_round main =
+      (each_tells g exchange can h a pair).0
+      (and_from _ _ (subst (λ x. has (main_cells exchange).rounds x ≡ true) (sym there) in_round) main)
 
   moves_pin-pinned : (pins : List Game) → AllStand g pins → ArePinsAt g pins table → (t r o : ℕ) (home : Bool) →
       has (main_cells exchange).teams t ≡ true → has (main_cells exchange).rounds r ≡ true →
@@ -88,15 +89,13 @@ module _ (g : Games) (exchange : Exchange) (can : IsExchange g exchange) (table 
       let pin = is_pinned-yes table t (record { opponent = o; home = true }) is in
       let stands = (place_of-pinned (is_pinned pins t o) (round_of g t o) (pin_at table t o) (are t o there.pair) pin).1 in
       moves_pin-some g after pins table t o all are there.pair pin
-      (λ same. changed t o there.pair (inl main)
-      (subst (λ x. has (main_cells exchange).rounds x ≡ true) (sym there.in_round) in_round) (same ∙ stands))
+      (λ same. changed t o r there.pair there.in_round in_round (or_left _ _ main) (same ∙ stands))
   moves_pin-pinned pins all are t r o false main in_round there is =
       let pair = pair_swapped g.teams t o there.pair in
       let pin = is_pinned-yes table t (record { opponent = o; home = false }) is in
       let stands = (place_of-pinned (is_pinned pins o t) (round_of g o t) (pin_at table o t) (are o t pair) pin).1 in
       moves_pin-some g after pins table o t all are pair pin
-      (λ same. changed o t pair (inr main)
-      (subst (λ x. has (main_cells exchange).rounds x ≡ true) (sym there.in_round) in_round) (same ∙ stands))
+      (λ same. changed o t r pair there.in_round in_round (or_right (has (main_cells exchange).teams o) _ main) (same ∙ stands))
 
   -- what is found at the main cells
   pub moves_pin-looked : (pins : List Game) (moves : Bool) → AllStand g pins → ArePinsAt g pins table →

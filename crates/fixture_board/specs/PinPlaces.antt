@@ -1,5 +1,5 @@
 -- The table in which a board has the rounds of its pinned games.
-use Rattle.std.specs.Prelude.{◌≡◌, ℕ, ◌+◌, ◌*◌, ◌==◌, ◌&&◌, not, Bool, if◌then◌else◌, List, slice_index, slice_set}
+use Rattle.std.specs.Prelude.{◌≡◌, ℕ, ◌+◌, ◌*◌, ◌==◌, not, Bool, if◌then◌else◌, List, slice_index, slice_set}
 use Rattle.league.specs.Limits.{max_teams}
 use Rattle.fixtures.specs.declared.game.Game.{Game}
 use Rattle.fixtures.specs.declared.game.Cell.{Cell}

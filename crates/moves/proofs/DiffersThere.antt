@@ -1,6 +1,6 @@
 -- What is touched does differ: each touched team in a touched round, and in each touched round a touched team.
-use Rattle.std.proofs.Common.{◌≡◌, ◌≢◌, ℕ, ◌<◌, ◌⊎◌, inl, inr, Bool, true, false, ◌&&◌, ◌||◌, eqb, ltb, refl, sym, ◌∙◌, ap, subst}
-use Rattle.std.proofs.lemmas.Bool.{cond-true, and_parts, or_cases, or_left, or_from, eqb-true, eq-eqb, ne_eqb, ltb-true, false≢true}
+use Rattle.std.proofs.Common.{◌≡◌, ◌≢◌, ℕ, ◌<◌, ◌⊎◌, inl, inr, Bool, true, false, ◌||◌, eqb, ltb, refl, sym, ◌∙◌, ap, subst}
+use Rattle.std.proofs.lemmas.Bool.{cond-true, and_parts, or_cases, or_left, or_right, or_from, eqb-true, eq-eqb, ne_eqb, ltb-true, false≢true}
 use Rattle.fixtures.specs.declared.game.Cell.{Cell}
 use Rattle.fixtures.specs.Games.{Games, round_of, round_count, cell_round, IsPair, IsDoubleRoundRobin, cell}
 use Rattle.fixtures.specs.Edits.{exchanged, rounds_exchanged, teams_exchanged}
@@ -46,17 +46,20 @@ module _ (g : Games) (rr : IsDoubleRoundRobin g) (k l : ℕ) (among : ℕ → Bo
         (sym e ∙ cell-moved t l in_t is_in fits.pair.away_in ∙ ap (cell g t) (exchanged_second k l));
   }
 
+  pub differs_in-either : (t r : ℕ) → among t ≡ true → is_either k l r ≡ true → DiffersAt g after t r
+  differs_in-either t r is_in e = by_round (or_cases _ _ e)
+    where
+      by_round : (eqb r k ≡ true) ⊎ (eqb r l ≡ true) → DiffersAt g after t r
+      by_round (inl e) = subst (DiffersAt g after t) (sym (eqb-true r k e)) (differs_in-first t (fits.below t is_in) is_in)
+      by_round (inr e) = subst (DiffersAt g after t) (sym (eqb-true r l e)) (differs_in-second t (fits.below t is_in) is_in)
+
   pub in_each-rounds : DiffersInEach g after among (is_either k l)
   in_each-rounds = record {
-    teams = λ t e. (k, or_left _ _ (eq-eqb k k refl), differs_in-first t (fits.below t e) e);
-    rounds = λ r e. (fits.some.0, fits.some.1, in_round r (or_cases _ _ e));
+    teams = λ t e.
+        let in_k = or_left _ _ (eq-eqb k k refl) in
+        (k, in_k, differs_in-either t k e in_k);
+    rounds = λ r e. (fits.some.0, fits.some.1, differs_in-either fits.some.0 r fits.some.1 e);
   }
-    where
-      in_round : (r : ℕ) → (eqb r k ≡ true) ⊎ (eqb r l ≡ true) → DiffersAt g after fits.some.0 r
-      in_round r (inl e) = subst (DiffersAt g after fits.some.0) (sym (eqb-true r k e))
-          (differs_in-first fits.some.0 (fits.below _ fits.some.1) fits.some.1)
-      in_round r (inr e) = subst (DiffersAt g after fits.some.0) (sym (eqb-true r l e))
-          (differs_in-second fits.some.0 (fits.below _ fits.some.1) fits.some.1)
 
 -- ---- teams
 
@@ -141,6 +144,13 @@ module _ (g : Games) (rr : IsDoubleRoundRobin g) (i j : ℕ) (among : ℕ → Bo
   pub differs_of-second : (r : ℕ) → among r ≡ true → DiffersAt g after_teams j r
   differs_of-second = differs_of-two j i the_two-back
 
+  pub differs_of-either : (t r : ℕ) → is_either i j t ≡ true → among r ≡ true → DiffersAt g after_teams t r
+  differs_of-either t r e is_in = by_team (or_cases _ _ e)
+    where
+      by_team : (eqb t i ≡ true) ⊎ (eqb t j ≡ true) → DiffersAt g after_teams t r
+      by_team (inl e) = subst (λ x. DiffersAt g after_teams x r) (sym (eqb-true t i e)) (differs_of-first r is_in)
+      by_team (inr e) = subst (λ x. DiffersAt g after_teams x r) (sym (eqb-true t j e)) (differs_of-second r is_in)
+
   pub differs_of-opponent : (t r : ℕ) → t ≢ i → t ≢ j → Meets g t i r ⊎ Meets g t j r → among r ≡ true →
       DiffersAt g after_teams t r
   differs_of-opponent t r not_i not_j (inl met) = differs_of-guest i j the_two t r not_i not_j met
@@ -173,12 +183,9 @@ module _ (g : Games) (rr : IsDoubleRoundRobin g) (i j : ℕ) (among : ℕ → Bo
           in_round r met is_in = (r, is_in, differs_of-opponent t r not_i not_j met is_in)
 
       of_team : (t : ℕ) → touched_of g i j among t ≡ true → (t ≡ i) ⊎ ((t ≡ j) ⊎ ((t ≢ i) × (t ≢ j))) → there t
-      of_team t _ (inl e) =
-          (fits.some.0, fits.some.1, subst (λ x. DiffersAt g after_teams x fits.some.0) (sym e)
-          (differs_of-first fits.some.0 fits.some.1))
+      of_team t _ (inl e) = (fits.some.0, fits.some.1, differs_of-either t _ (or_left _ _ (eq-eqb t i e)) fits.some.1)
       of_team t _ (inr (inl e)) =
-          (fits.some.0, fits.some.1, subst (λ x. DiffersAt g after_teams x fits.some.0) (sym e)
-          (differs_of-second fits.some.0 fits.some.1))
+          (fits.some.0, fits.some.1, differs_of-either t _ (or_right (eqb t i) _ (eq-eqb t j e)) fits.some.1)
       of_team t touched (inr (inr ne)) =
           let parts = and_parts (ltb t g.teams) (plays_among g i j among t)
           (second (eqb t i || eqb t j) _ touched (or_from _ _ (ne_eqb t i ne.0) (ne_eqb t j ne.1))) in

@@ -1,8 +1,8 @@
 -- An exchange is undone by itself, and changes what is touched alone.
-use Rattle.std.proofs.Common.{◌≡◌, ℕ, inl, inr, Bool, true, ◌&&◌, ◌||◌, ltb, refl, sym, ◌∙◌, ap, subst}
+use Rattle.std.proofs.Common.{◌≡◌, ℕ, inl, inr, Bool, refl, sym, ◌∙◌, ap, subst}
 use Rattle.league.specs.Sets.{has}
-use Rattle.fixtures.specs.Games.{Games, round_of, IsPair, IsDoubleRoundRobin}
-use Rattle.fixtures.specs.Edits.{rounds_exchanged, teams_exchanged}
+use Rattle.fixtures.specs.Games.{Games, round_of}
+use Rattle.fixtures.specs.Edits.{rounds_exchanged}
 use Rattle.fixtures.specs.Closed.{IsClosed}
 use Rattle.fixtures.specs.Changes.{DiffersOnlyIn}
 use Rattle.fixtures.proofs.ForCallers.{pair_swapped, rounds_exchanged_twice, teams_exchanged_twice, stays_among_closed, StaysAmong, among_teams_exchanged, differs_only_in_games, round_robin_rounds_exchanged, kept_rounds_exchanged, round_robin_teams_exchanged, kept_teams_exchanged}

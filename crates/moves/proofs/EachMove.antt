@@ -1,12 +1,12 @@
 -- The laws of the moves, of each move: those of its exchange, and that it can be made again.
-use Rattle.std.proofs.Common.{◌≡◌, ◌≢◌, ℕ, ◌<◌, ◌⊎◌, inl, inr, Bool, true, false, ◌&&◌, ◌||◌, eqb, ltb, Ok, refl, sym, ◌∙◌, ap, subst, arith}
+use Rattle.std.proofs.Common.{◌≡◌, ◌≢◌, ℕ, ◌<◌, ◌⊎◌, inl, inr, Bool, true, Ok, refl, sym, ◌∙◌, ap, subst, arith}
 use Rattle.std.proofs.lemmas.Bool.{cases_lt, and_from, and_left, or_left, or_right, or_from, ne_eqb, lt-ltb, le-ltb}
 use Rattle.std.proofs.Math.Path.{fun_ext}
 use Rattle.league.specs.Sets.{has}
 use Rattle.league.proofs.Bits.{has_all_numbers}
 use Rattle.fixtures.specs.Games.{Games, round_of, round_count, IsPair, IsDoubleRoundRobin}
 use Rattle.fixtures.specs.Changes.{DiffersOnlyIn}
-use Rattle.fixtures.proofs.ForCallers.{cases_exchanged, are_apart, are_apart_true, Meets, meets_swapped, same_opponent}
+use Rattle.fixtures.proofs.ForCallers.{cases_exchanged, are_apart_true, Meets, meets_swapped, same_opponent}
 use Rattle.fixtures.specs.TouchedCells.{TouchedCells}
 use Rattle.moves.specs.declared.exchanges.Exchange.{Exchange}
 use Rattle.moves.specs.declared.moves.Move.{Move}

@@ -8,5 +8,4 @@ pub use Rattle.moves.proofs.Around.{each-around as each_around, each-sides as ea
 pub use Rattle.moves.proofs.KeptMeetings.{each-keeps_meetings as each_keeps_meetings}
 -- the games that it gives another round
 pub use Rattle.moves.proofs.ChangedGames.{is_changed_by, each-tells as each_tells}
-pub use Rattle.moves.proofs.ChangedGames.{main-changed as main_changed, changed-main as changed_main}
 pub use Rattle.moves.proofs.ChangedGames.{main_teams_below, main_rounds_below}

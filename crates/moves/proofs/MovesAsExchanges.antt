@@ -1,9 +1,8 @@
 -- The exchange that a move is.
-use Rattle.std.proofs.Common.{◌≡◌, ℕ, ◌<◌, ◌*◌, ◌-◌, Bool, Ok, refl, sym, ◌∙◌, ap, subst, arith}
+use Rattle.std.proofs.Common.{◌≡◌, ℕ, ◌-◌, Bool, Ok, refl, sym, ◌∙◌, ap, subst, arith}
 use Rattle.std.proofs.Math.Path.{fun_ext}
-use Rattle.league.specs.Limits.{max_teams, max_rounds}
 use Rattle.league.specs.Sets.{has}
-use Rattle.fixtures.specs.Games.{Games, IsDoubleRoundRobin, round_count}
+use Rattle.fixtures.specs.Games.{Games, IsDoubleRoundRobin}
 use Rattle.fixtures.specs.Edits.{rounds_exchanged, teams_exchanged}
 use Rattle.fixtures.specs.Closed.{member, moved_teams_of, moved_rounds_of}
 use Rattle.moves.specs.declared.moves.Move.{Move}
@@ -11,7 +10,7 @@ use Rattle.moves.specs.declared.moves.Move.TheVariants.{Homes, Rounds, Teams, Pa
 use Rattle.moves.specs.declared.exchanges.Exchange.{Exchange}
 use Rattle.moves.specs.declared.exchanges.Exchange.TheVariants as edit
 use Rattle.moves.specs.Moves.{fault_of, moved}
-use Rattle.moves.specs.Exchanges.{exchange_of, exchanged_by, IsOfRounds, IsOfTeams, IsExchangeOf}
+use Rattle.moves.specs.Exchanges.{exchange_of, IsOfRounds, IsOfTeams, IsExchangeOf}
 use Rattle.moves.proofs.Checked.{at_variant, homes-checked, rounds-checked, teams-checked, part_rounds-checked, part_teams-checked}
 use Rattle.moves.proofs.WholeMoves.{IsOfRounds-homes, IsOfRounds-rounds, IsOfTeams-teams, as_rounds, all_rounds, of_all_teams, has-apart}
 use Rattle.moves.proofs.PartMoves.{IsOfRounds-part_rounds, IsOfTeams-part_teams, has-movers, has-taken}

@@ -1,5 +1,5 @@
 -- The teams that an exchange of teams touches: the two, and who plays one of them in a round of the set.
-use Rattle.std.proofs.Common.{◌≡◌, ◌≢◌, ℕ, ◌<◌, ◌⊎◌, inl, inr, Bool, true, false, ◌&&◌, ◌||◌, eqb, ltb, refl, sym, ◌∙◌, ap, ap₂}
+use Rattle.std.proofs.Common.{◌≡◌, ℕ, ◌<◌, ◌⊎◌, inl, inr, Bool, true, false, ◌&&◌, ◌||◌, eqb, ltb, refl, sym, ◌∙◌, ap, ap₂}
 use Rattle.std.proofs.lemmas.Bool.{and_from, or_parts, or_left, or_right, eq-eqb, eqb-false, lt-ltb, ltb-true}
 use Rattle.fixtures.specs.Games.{Games, round_of, IsPair}
 use Rattle.fixtures.specs.Edits.{exchanged, teams_exchanged}

@@ -1,5 +1,5 @@
 -- The laws of the moves of homes, of rounds and of teams.
-use Rattle.std.proofs.Common.{◌≡◌, ◌≢◌, ℕ, ◌<◌, inl, inr, Bool, true, false, not, ◌&&◌, ◌||◌, eqb, ltb, refl, sym, ◌∙◌, ap, ap₂, subst, Ok, arith}
+use Rattle.std.proofs.Common.{◌≡◌, ◌≢◌, ℕ, ◌<◌, inl, inr, Bool, true, not, ◌&&◌, ◌||◌, eqb, ltb, refl, sym, ◌∙◌, ap, ap₂, subst, Ok, arith}
 use Rattle.std.proofs.Math.Bool.{or_comm}
 use Rattle.std.proofs.lemmas.Bool.{cases_eq, cond-true, and_from, and_parts, and_right, or_cases, or_left, or_right, or_from, eqb-true, eq-eqb, ne_eqb, lt-ltb, ltb-true, not_from_false}
 use Rattle.league.specs.Sets.{has}
@@ -7,7 +7,7 @@ use Rattle.fixtures.specs.Games.{Games, round_of, round_count, IsPair, IsDoubleR
 use Rattle.fixtures.specs.Edits.{exchanged, homes_exchanged, rounds_exchanged, teams_exchanged, all_games_exchanged}
 use Rattle.fixtures.proofs.ForCallers.{pair_swapped, distinct_rounds, round_of_games, games_ext, plays_in_parts, rounds_exchanged_twice, round_of_homes_exchanged, homes_exchanged_twice, IsTwo, is_closed_two, homes_rounds_exchanged, stays_among_closed, StaysAmong, teams_exchanged_twice, round_robin_teams_exchanged, are_apart, are_apart_first, are_apart_second, are_apart_step, shares_in_range, all_games_exchanged_rounds}
 use Rattle.moves.specs.declared.moves.Move.TheVariants.{Homes, Rounds, Teams}
-use Rattle.moves.specs.Moves.{fault_of, touched_team, touched_round}
+use Rattle.moves.specs.Moves.{fault_of}
 use Rattle.moves.specs.Exchanges.{IsOfRounds, IsOfTeams, rounds_apart as set_apart}
 use Rattle.moves.specs.Laws.{IsItsOwnInverse}
 use Rattle.moves.proofs.Sets.{has-set_where}

@@ -1,12 +1,13 @@
 //! Whether a move changes a game.
 
-ghost use Rattle.std.specs.Prelude.{◌≡◌, ◌≢◌, ◌↔◌, ◌||◌, ◌==◌, not, IsTrue, Ok};
-ghost use Rattle.std.specs.Bool.{beq};
+ghost use Rattle.std.specs.Prelude.{◌≡◌, ◌≢◌, ◌↔◌, ◌<◌, ◌&&◌, ◌||◌, IsTrue, Ok};
+ghost use Rattle.league.specs.Limits.{max_teams, max_rounds};
+ghost use Rattle.league.specs.Sets.{has};
 ghost use Rattle.fixtures.specs.Games.{round_of, IsPair};
 ghost use Rattle.moves.specs.Moves.{fault_of, moved};
 
-use crate::{Exchange, Move, exchange};
-use fixtures::{Game, Schedule};
+use crate::{Move, exchange};
+use fixtures::{Game, Schedule, Touched};
 
 /// Whether a move that `check` lets pass gives another round to the game, which stands in its round. Takes no memory.
 pub fn would_change(schedule: &Schedule, mv: Move, game: Game) -> bool
@@ -16,22 +17,15 @@ pub fn would_change(schedule: &Schedule, mv: Move, game: Game) -> bool
     ensures { IsTrue result ↔ (round_of (moved schedule.now mv) game.home game.away ≢ game.round) }
 {
     prove_eq!(schedule.round_of(game.home, game.away), game.round);
-    match exchange(schedule, mv) {
-        Exchange::Rounds { k, l, among } => is_either(game.round, k, l) && among.has(game.home),
-        Exchange::Teams { i, j, among } => has_one(game, i, j) && among.has(game.round),
-    }
+    is_in(exchange(schedule, mv).main(), game)
 }
 
-/// Whether the game has one of the two teams, and not both.
-fn has_one(game: Game, i: u8, j: u8) -> bool
-    ensures { result ≡ not (beq (game.home == i || game.home == j) (game.away == i || game.away == j)) }
+/// Whether the game is one of these teams in one of these rounds.
+fn is_in(cells: Touched, game: Game) -> bool
+    requires round { game.round < max_rounds }
+    requires home { game.home < max_teams }
+    requires away { game.away < max_teams }
+    ensures { result ≡ (has cells.rounds game.round && (has cells.teams game.home || has cells.teams game.away)) }
 {
-    is_either(game.home, i, j) != is_either(game.away, i, j)
-}
-
-/// Whether the number is one of the two.
-fn is_either(number: u8, first: u8, second: u8) -> bool
-    ensures { result ≡ (number == first || number == second) }
-{
-    number == first || number == second
+    cells.rounds.has(game.round) && (cells.teams.has(game.home) || cells.teams.has(game.away))
 }

@@ -1,13 +1,13 @@
 //! What the moves are: two rounds, or two teams, exchanged in a part of the games.
 
-ghost use Rattle.std.specs.Prelude.{◌≡◌, ℕ, ◌<◌, ◌≤◌, ◌&&◌, ◌||◌, ◌==◌, not, true, false};
+ghost use Rattle.std.specs.Prelude.{◌≡◌, ℕ, ◌<◌, ◌≤◌, ◌&&◌, ◌==◌, not, true, false};
 ghost use Rattle.std.specs.Bool.{beq};
 ghost use Rattle.league.specs.Limits.{max_teams, max_rounds};
 ghost use Rattle.league.specs.Sets.{has};
 ghost use Rattle.league.specs.Sums.{any_below};
-ghost use Rattle.fixtures.specs.Games.{round_count, cell, is_home, IsPair, IsDoubleRoundRobin};
+ghost use Rattle.fixtures.specs.Games.{round_count, cell, is_home, IsPair};
 ghost use Rattle.fixtures.specs.Changes.{turns};
-ghost use Rattle.moves.specs.Exchanges.{exchanged_by, IsExchange, IsInSeason, main_cells, turning_team, same_meetings, both};
+ghost use Rattle.moves.specs.Exchanges.{exchanged_by, IsExchange, IsInSeason, main_cells, turning_team, same_meetings};
 
 use crate::exchange_of::{rounds_apart, two_rounds, two_teams};
 use fixtures::{Schedule, Touched};

@@ -224,3 +224,18 @@ fn partial_moves_of_four_that_are_whole(rt: HostRuntime) -> Result<(), Fail> {
     }
     Ok(())
 }
+
+/// Whether the same pairs meet after a move that can be made.
+fn keeps_meetings(start: &Schedule, mv: Move) -> Result<bool, Fail> {
+    check(start, mv)?;
+    Ok(exchange(start, mv).same_meetings(start))
+}
+
+#[test]
+fn meetings_are_kept_by_whole_moves_of_homes_and_teams(rt: HostRuntime) -> Result<(), Fail> {
+    let four = berger(rt.alloc(), 4)?;
+    assert!(rt; keeps_meetings(&four, Move::Homes { i: 0, j: 1 })?);
+    assert!(rt; keeps_meetings(&four, Move::Teams { i: 0, j: 1 })?);
+    assert!(rt; !keeps_meetings(&four, Move::Rounds { k: 4, l: 5 })?);
+    Ok(())
+}

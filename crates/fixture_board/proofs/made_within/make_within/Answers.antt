@@ -1,5 +1,5 @@
 use Rattle.fixture_board.proofs.Scores.{cost_small}
-use Rattle.std.proofs.Common.{◌≡◌, ◌+◌, ◌<◌, refl, sym, ◌∙◌, ap, arith, rules}
+use Rattle.std.proofs.Common.{◌+◌, ◌<◌, refl, sym, ◌∙◌, ap, arith, rules}
 use Rattle.moves.specs.Exchanges.{exchanged_by}
 use Rattle.fixture_board.specs.Costs.{score_of}
 use Rattle.fixture_board.specs.CostShares.{travel_share, is_of_rounds}
@@ -8,21 +8,22 @@ use Rattle.fixture_board.proofs.ShareLimits.{rest_balances}
 use Rattle.fixture_board.proofs.Shares.{others_exchange, cost_with_legs, score_with_rest, score_after}
 use Rattle.fixture_board.proofs.made_within.make_within.Goals as goal
 
-made : (c : goal.After-make) → c.make.new.schedule ≡ exchanged_by c.args.schedule.now c.of-scope.result.exchange
-made c = c.make.ensures.made ∙ ap (exchanged_by c.args.schedule.now) (sym c.of-scope.ensures.exchange)
-
 pub exchanged-least-requires-clause-known : goal.exchanged-least-requires-clause-known
 exchanged-least-requires-clause-known c = rw c.requires.known (cost_small _ _ c.teams.ensures.limits c.requires.same_size)
 
 pub exchanged-least-requires-clause-balance : goal.exchanged-least-requires-clause-balance
 exchanged-least-requires-clause-balance c =
     others_exchange _ _ _ _ _ _ _ c.teams.ensures.limits c.requires.same_size c.of-scope.ensures.scope
-    c.requires.known c.share_of_known-before.ensures.value (made c) c.share_but_travel-others.ensures.value
+    c.requires.known c.share_of_known-before.ensures.value
+    (c.make.ensures.made ∙ ap (exchanged_by c.args.schedule.now) (sym c.of-scope.ensures.exchange))
+    c.share_but_travel-others.ensures.value
 
 pub with_legs_within-cost-requires-clause-with_legs : goal.with_legs_within-cost-requires-clause-with_legs
 with_legs_within-cost-requires-clause-with_legs c =
     cost_with_legs _ _ _ _ _ _ _ _ c.teams.ensures.limits c.requires.same_size c.of-scope.ensures.scope
-    c.requires.known c.share_of_known-before.ensures.value (made c) c.share_but_travel-others.ensures.value
+    c.requires.known c.share_of_known-before.ensures.value
+    (c.make.ensures.made ∙ ap (exchanged_by c.args.schedule.now) (sym c.of-scope.ensures.exchange))
+    c.share_but_travel-others.ensures.value
     c.exchanged-least.ensures
 
 pub exchanged-rest-requires-clause-known : goal.exchanged-rest-requires-clause-known

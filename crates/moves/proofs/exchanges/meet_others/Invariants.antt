@@ -1,4 +1,4 @@
-use Rattle.std.proofs.Common.{◌≡◌, ℕ, true, false, not, ◌&&◌}
+use Rattle.std.proofs.Common.{◌≡◌, ℕ, true, not, ◌&&◌}
 use Rattle.league.specs.Sets.{has}
 use Rattle.fixtures.specs.Games.{cell}
 use Rattle.moves.proofs.exchanges.meet_others.Given as goal

@@ -1,8 +1,6 @@
-use Rattle.std.proofs.Common.{◌≡◌, refl, ◌∙◌, ap, sym, List}
+use Rattle.std.proofs.Common.{refl, ◌∙◌, ap, sym}
 use Rattle.std.specs.Result.{result_err}
-use Rattle.fixtures.specs.declared.game.Game.{Game}
 use Rattle.fixtures.specs.Games.{Games}
-use Rattle.moves.specs.Moves.{moved}
 use Rattle.fixture_board.specs.History.{moves_pin, pins_of}
 use Rattle.fixture_board.specs.Kept.{kept_of}
 use Rattle.fixture_board.proofs.Keeps.{IsGranted-shift, IsSound-kept, known_cost}
@@ -13,15 +11,11 @@ pub returns-in_err-check_move-clause-step : goal.returns-in_err-check_move-claus
 returns-in_err-check_move-clause-step c =
     IsStep-stopped _ _ _ _ c.from_residual.ensures.1 (shift_stopped c.args.proposal c.requires.kept c.check_move.ensures c.in_err-check_move.was)
 
-moves : (c : goal.After-would_be_moved) →
-    c.would_be_moved.result ≡ moves_pin (moved c.args.self.now.schedule c.args.proposal.mv) (pins_of c.args.self.now.history.items)
-moves c =
-    c.would_be_moved.ensures _ (IsSound-kept c.requires.kept).1 c.requires.kept.pins_are ∙
-    ap (λ (g : Games). moves_pin g (pins_of c.args.self.now.history.items)) (sym c.exchange-exchange.ensures.is_move.is)
-
 pub returns-then-would_be_moved-clause-step : goal.returns-then-would_be_moved-clause-step
 returns-then-would_be_moved-clause-step c =
-    let told = shift_told c.args.proposal c.requires.kept c.check_move.ensures c.in_ok-check_move.was (moves c) in
+    let moves = c.would_be_moved.ensures _ (IsSound-kept c.requires.kept).1 c.requires.kept.pins_are ∙
+    ap (λ (g : Games). moves_pin g (pins_of c.args.self.now.history.items)) (sym c.exchange-exchange.ensures.is_move.is) in
+    let told = shift_told c.args.proposal c.requires.kept c.check_move.ensures c.in_ok-check_move.was moves in
     record {
       reason = rw c.if-would_be_moved.true at told;
       same = refl;
@@ -32,9 +26,11 @@ make_at_cost-cost-requires-clause-known c = known_cost c.requires.kept
 
 pub returns-in-Err-clause-step : goal.returns-in-Err-clause-step
 returns-in-Err-clause-step c =
+    let moves = c.would_be_moved.ensures _ (IsSound-kept c.requires.kept).1 c.requires.kept.pins_are ∙
+    ap (λ (g : Games). moves_pin g (pins_of c.args.self.now.history.items)) (sym c.exchange-exchange.ensures.is_move.is) in
     let made = c.make_at_cost-cost.ensures.made ∙ sym c.exchange-exchange.ensures.is_move.is in
     record {
-      reason = shift_judged c.args.proposal _ _ _ _ _ _ _ c.requires.kept c.check_move.ensures c.in_ok-check_move.was (moves c)
+      reason = shift_judged c.args.proposal _ _ _ _ _ _ _ c.requires.kept c.check_move.ensures c.in_ok-check_move.was moves
           c.if-would_be_moved.false refl made c.make_at_cost-cost.ensures.value c.score-before.ensures c.score.ensures
           c.check_score.ensures ∙
           ap result_err c.in-Err.is;
@@ -44,8 +40,10 @@ returns-in-Err-clause-step c =
 
 pub returns-clause-step : goal.returns-clause-step
 returns-clause-step c =
+    let moves = c.would_be_moved.ensures _ (IsSound-kept c.requires.kept).1 c.requires.kept.pins_are ∙
+    ap (λ (g : Games). moves_pin g (pins_of c.args.self.now.history.items)) (sym c.exchange-exchange.ensures.is_move.is) in
     let made = c.make_at_cost-cost.ensures.made ∙ sym c.exchange-exchange.ensures.is_move.is in
-    let none = shift_judged c.args.proposal _ _ _ _ _ _ _ c.requires.kept c.check_move.ensures c.in_ok-check_move.was (moves c)
+    let none = shift_judged c.args.proposal _ _ _ _ _ _ _ c.requires.kept c.check_move.ensures c.in_ok-check_move.was moves
     c.if-would_be_moved.false refl made c.make_at_cost-cost.ensures.value c.score-before.ensures c.score.ensures
     c.check_score.ensures ∙
     ap result_err c.in_default.is in
