@@ -61,13 +61,7 @@ pub fn make_within(
 
 /// Whether the travel after an exchange of rounds tells that the score after it is above `most`, where all else that it
 /// can change is none. It is counted on the schedule before it, as far as it has to be.
-fn is_lost(
-    schedule: &Schedule,
-    league: &League,
-    scope: &Scope,
-    rest: Cost,
-    most: u64,
-) -> bool
+fn is_lost(schedule: &Schedule, league: &League, scope: &Scope, rest: Cost, most: u64) -> bool
     requires same_size { teams league.now ≡ schedule.now.teams }
     requires scope { IsScope schedule.now scope.now }
     requires small { score_of league.now rest < score_limit }
