@@ -8,7 +8,7 @@ ghost use Rattle.search.specs.Steps.{IsKnown};
 use fixture_board::{Cost, cost_of, make_within};
 use fixtures::Schedule;
 use league::League;
-use moves::{Move, check, main_cells};
+use moves::{Move, check, exchange};
 use rand_pcg::Lcg64Xsh32;
 use search::draw;
 
@@ -73,8 +73,8 @@ fn attempt(schedule: &mut Schedule, league: &League, mv: Move, known: &mut Known
     if check(schedule, mv).is_err() {
         return Outcome::Refused;
     }
-    let main = main_cells(schedule, mv);
-    let Some(cost) = make_within(schedule, league, mv, main, known.cost, known.score) else {
+    let exchange = exchange(schedule, mv);
+    let Some(cost) = make_within(schedule, league, &exchange, known.cost, known.score) else {
         return Outcome::Withdrawn;
     };
     let score = cost.score(league);

@@ -6,7 +6,7 @@ use crate::kept_cost::league;
 use fixture_board::{Cost, cost_of, make_at_cost, make_within};
 use fixtures::{Schedule, start};
 use league::League;
-use moves::{Move, check, main_cells};
+use moves::{Move, check, exchange};
 use std::alloc::Global;
 use std::process::Abort;
 use std::test::Fail;
@@ -31,9 +31,9 @@ fn made(
     if check(schedule, mv).is_err() {
         return Ok(None);
     }
-    let (known, main) = (cost_of(schedule, league), main_cells(schedule, mv));
+    let (known, exchange) = (cost_of(schedule, league), exchange(schedule, mv));
     let mut schedule = schedule.duplicate(alloc)?;
-    let cost = make_at_cost(&mut schedule, league, mv, main, known);
+    let cost = make_at_cost(&mut schedule, league, &exchange, known);
     let score = cost.score(league);
     Ok(Some(AfterMove {
         schedule,
@@ -55,9 +55,9 @@ fn tried(
     if check(schedule, mv).is_err() {
         return Err("a move that can be made".into());
     }
-    let (known, main) = (cost_of(schedule, league), main_cells(schedule, mv));
+    let (known, exchange) = (cost_of(schedule, league), exchange(schedule, mv));
     let mut tried = schedule.duplicate(alloc)?;
-    let answer = make_within(&mut tried, league, mv, main, known, most);
+    let answer = make_within(&mut tried, league, &exchange, known, most);
     Ok((tried, answer))
 }
 

@@ -1,5 +1,5 @@
--- A move of rounds that the travel alone shows to be lost.
-use Rattle.std.proofs.Common.{◌≡◌, ◌⊎◌, ℕ, ◌+◌, ◌-◌, ◌<◌, ◌≤◌, Bool, true, false, not, ◌&&◌, Option, Some, None, inl, inr, sym, ◌∙◌, ap, arith}
+-- An exchange of rounds that the travel alone shows to be lost.
+use Rattle.std.proofs.Common.{◌≡◌, ℕ, ◌+◌, ◌-◌, ◌<◌, ◌≤◌, Bool, true, false, not, ◌&&◌, Option, Some, None, sym, ◌∙◌, ap, subst, arith}
 use Rattle.std.specs.Option.{is_some}
 use Rattle.std.specs.Prelude.{nat_lt}
 use Rattle.std.proofs.lemmas.Bool.{false≢true}
@@ -9,14 +9,13 @@ use Rattle.league.specs.Sets.{has}
 use Rattle.fixtures.specs.Games.{Games}
 use Rattle.fixtures.specs.Edits.{rounds_exchanged}
 use Rattle.fixtures.specs.TouchedCells.{TouchedCells}
-use Rattle.moves.specs.declared.moves.Move.{Move}
-use Rattle.moves.specs.declared.moves.Move.TheVariants.{Rounds, PartRounds}
-use Rattle.moves.specs.MainCells.{AreMainCells}
-use Rattle.moves.specs.Moves.{moved}
-use Rattle.moves.proofs.ForCallers.{each_exchanges_rounds}
+use Rattle.moves.specs.declared.exchanges.Exchange.{Exchange}
+use Rattle.moves.specs.declared.exchanges.Exchange.TheVariants as edit
+use Rattle.moves.specs.Exchanges.{exchanged_by, main_cells, Fits, IsOfRounds}
 use Rattle.tours.specs.Parts.{travel_part}
 use Rattle.tours.specs.Within.{IsTotalWithin}
-use Rattle.fixture_board.specs.CostShares.{travel_share, is_of_rounds}
+use Rattle.fixture_board.specs.CostShares.{travel_share, is_of_rounds, IsScope}
+use Rattle.fixture_board.specs.declared.scope.Scope.{Scope}
 
 -- a score above the limit stays above it with the legs
 pub lost_at_once : (of_rounds : Bool) (limit score counted legs : ℕ) → of_rounds ≡ true → counted ≡ score → limit < counted →
@@ -47,23 +46,23 @@ pub is_above : (of_rounds is_lost : Bool) (limit counted : ℕ) → is_lost ≡ 
 is_above true is_lost limit counted is lost = grind (arith, nat_tests, is, lost)
 is_above false is_lost limit counted is lost = grind (arith, is, lost)
 
--- which moves exchange rounds
+-- the travel after an exchange of rounds, by its scope
+module _ (l : LeagueData) (g : Games) (scope : Scope) (is : IsScope g scope) (k m among : ℕ)
+    (kind : scope.exchange ≡ edit.Rounds k m among) where
+  pub of_rounds : is_of_rounds scope.exchange ≡ true
+  of_rounds = ap is_of_rounds kind
 
-pub of_rounds : (mv : Move) (k m : ℕ) → (mv ≡ Rounds k m) ⊎ ((i : ℕ) × (mv ≡ PartRounds i k m)) → is_of_rounds mv ≡ true
-of_rounds mv k m (inl e) = ap is_of_rounds e
-of_rounds mv k m (inr e) = ap is_of_rounds e.1
+  main_is : scope.main ≡ main_cells (edit.Rounds k m among)
+  main_is = is.main ∙ ap main_cells kind
 
-share_of_rounds : (l : LeagueData) (mv : Move) (main : TouchedCells) (k m : ℕ) (g : Games) →
-    (mv ≡ Rounds k m) ⊎ ((i : ℕ) × (mv ≡ PartRounds i k m)) →
-    travel_share l mv main g ≡ travel_part l g (has main.teams) (has main.rounds)
-share_of_rounds l mv main k m g (inl e) = ap (λ v. travel_share l v main g) e
-share_of_rounds l mv main k m g (inr e) = ap (λ v. travel_share l v main g) e.1
+  pub fits : IsOfRounds g k m (has scope.main.teams)
+  fits =
+      subst (λ (main : TouchedCells). IsOfRounds g k m (has main.teams)) (sym main_is)
+      (subst (Fits g) kind is.can_be_made.fits)
 
--- the travel after a move of rounds is that after an exchange of the two for the main teams
-pub travel_after_rounds : (l : LeagueData) (g : Games) (mv : Move) (main : TouchedCells) (k m : ℕ) → AreMainCells g mv main →
-    (mv ≡ Rounds k m) ⊎ ((i : ℕ) × (mv ≡ PartRounds i k m)) →
-    travel_share l mv main (moved g mv) ≡
-    travel_part l (rounds_exchanged g k m (has main.teams)) (has main.teams) (has main.rounds)
-travel_after_rounds l g mv main k m are one =
-    share_of_rounds l mv main k m (moved g mv) one ∙
-    ap (λ after. travel_part l after (has main.teams) (has main.rounds)) (each_exchanges_rounds g mv main are k m one).is
+  pub travel_after_rounds : travel_share l scope.exchange scope.main (exchanged_by g scope.exchange) ≡
+      travel_part l (rounds_exchanged g k m (has scope.main.teams)) (has scope.main.teams) (has scope.main.rounds)
+  travel_after_rounds =
+      ap (λ (e : Exchange). travel_share l e scope.main (exchanged_by g e)) kind ∙
+      ap (λ (cells : TouchedCells). travel_part l (rounds_exchanged g k m (has cells.teams)) (has scope.main.teams) (has scope.main.rounds))
+      (sym main_is)

@@ -1,129 +1,110 @@
--- A move gives a pinned game another round where the cell of a main team in a touched round says so.
-use Rattle.std.proofs.Common.{◌≡◌, ◌≢◌, ℕ, ◌<◌, Bool, true, false, not, ◌&&◌, ◌==◌, inl, inr, List, true≢false, refl, sym, ◌∙◌, ap, subst}
-use Rattle.std.proofs.lemmas.Bool.{cases_Bool, and_parts, not-true, eqb-true, eqb-false, ne_eqb}
+-- An exchange gives a pinned game another round where a main team has one in a round of the exchange.
+use Rattle.std.proofs.Common.{◌≡◌, ◌≢◌, ℕ, Bool, true, false, not, ◌||◌, ◌==◌, inl, inr, List, refl, sym, ◌∙◌, ap, subst}
+use Rattle.std.proofs.lemmas.Bool.{cases_eq, and_parts, and_from, or_cases, or_left, or_right, not-true, eqb-false, ne_eqb, false≢true}
 use Rattle.league.specs.Sets.{has}
 use Rattle.fixtures.specs.declared.game.Cell.{Cell}
 use Rattle.fixtures.specs.declared.game.Game.{Game}
-use Rattle.fixtures.specs.Games.{Games, round_of, round_count, cell, cell_round, IsPair, IsCell, IsDoubleRoundRobin}
-use Rattle.fixtures.specs.Changes.{DiffersOnlyAround}
-use Rattle.fixtures.specs.TouchedCells.{TouchedCells}
-use Rattle.fixtures.proofs.ForCallers.{cell_is, is_cell, pair_swapped, round_of_kept_around}
-use Rattle.moves.specs.declared.moves.Move.{Move}
-use Rattle.moves.specs.Moves.{moved}
-use Rattle.moves.specs.MainCells.{AreMainCells}
-use Rattle.moves.proofs.ForCallers.{differs_around, each_double_round_robin, main_teams_below, main_rounds_below}
+use Rattle.fixtures.specs.Games.{Games, round_of, cell, cell_round, IsPair, IsCell}
+use Rattle.fixtures.proofs.ForCallers.{cell_is, is_cell, pair_swapped}
+use Rattle.moves.specs.declared.exchanges.Exchange.{Exchange}
+use Rattle.moves.specs.Exchanges.{exchanged_by, main_cells, IsExchange}
+use Rattle.moves.proofs.ForCallers.{each_tells, main_teams_below, main_rounds_below}
 use Rattle.fixture_board.specs.History.{is_pinned, moves_pin, AllStand}
-use Rattle.fixture_board.specs.PinPlaces.{pin_at, is_pinned_elsewhere, ArePinsAt}
+use Rattle.fixture_board.specs.PinPlaces.{pin_at, is_pinned_cell, ArePinsAt}
 use Rattle.fixture_board.proofs.PinTable.{place_of-pinned, moves_pin-none, moves_pin-some}
 
--- no cell of the teams in the rounds has a game that is pinned to another round
-abbrev NoneElsewhere : Games → List ℕ → TouchedCells → Type 0
-NoneElsewhere g table cells =
-    (t r : ℕ) → has cells.teams t ≡ true → has cells.rounds r ≡ true → is_pinned_elsewhere table t r (cell g t r) ≡ false
-
--- one of them has
-abbrev SomeElsewhere : Games → List ℕ → TouchedCells → Type 0
-SomeElsewhere g table cells =
-    (t : ℕ) × (r : ℕ) × (has cells.teams t ≡ true) × (has cells.rounds r ≡ true) ×
-    (is_pinned_elsewhere table t r (cell g t r) ≡ true)
-
-pinned_here : (table : List ℕ) (t r : ℕ) (c : Cell) → is_pinned_elsewhere table t r c ≡ false →
-    cell_round (pin_at table) t c ≢ 255 → cell_round (pin_at table) t c ≡ r
-unfolding is_pinned_elsewhere
-pinned_here table t r c is pin =
-    eqb-true (cell_round (pin_at table) t c) r
-    (here (cell_round (pin_at table) t c == 255) (cell_round (pin_at table) t c == r) is
-    (ne_eqb (cell_round (pin_at table) t c) 255 pin))
+is_pinned-no : (table : List ℕ) (t : ℕ) (c : Cell) → is_pinned_cell table t c ≡ false → cell_round (pin_at table) t c ≢ 255 → ⊥
+unfolding is_pinned_cell
+is_pinned-no table t c is pin = ne (cell_round (pin_at table) t c) is pin
   where
-    here : (free same : Bool) → (not free && not same) ≡ false → free ≡ false → same ≡ true
-    here true same _ none = absurd (true≢false none)
-    here false true _ _ = refl
-    here false false is _ = absurd (true≢false is)
-
-pinned_there : (table : List ℕ) (t r : ℕ) (c : Cell) → is_pinned_elsewhere table t r c ≡ true →
-    (cell_round (pin_at table) t c ≢ 255) × (cell_round (pin_at table) t c ≢ r)
-unfolding is_pinned_elsewhere
-pinned_there table t r c is =
-    let free : Bool = cell_round (pin_at table) t c == 255 in
-    let same : Bool = cell_round (pin_at table) t c == r in
-    let parts = and_parts (not free) (not same) is in (
-      eqb-false (cell_round (pin_at table) t c) 255 (not-true free parts.0),
-      eqb-false (cell_round (pin_at table) t c) r (not-true same parts.1),
-    )
-
-module _ (g g' : Games) (cells : TouchedCells) (table : List ℕ) (robin : IsDoubleRoundRobin g) (robin' : IsDoubleRoundRobin g')
-    (differs : DiffersOnlyAround g g' (has cells.teams) (has cells.rounds)) where
-  round_in : (t o : ℕ) (home : Bool) → IsPair g.teams t o →
-      cell_round (round_of g') t (record { opponent = o; home = home }) < round_count g.teams
-  round_in t o true pair = rw (← differs.same_size) (robin'.in_range t o (rw differs.same_size pair))
-  round_in t o false pair = rw (← differs.same_size) (robin'.in_range o t (rw differs.same_size (pair_swapped g.teams t o pair)))
-
-  -- a game of one of the teams that is pinned to its round keeps it: its cell says so, or stays
-  kept_of : NoneElsewhere g' table cells → (t : ℕ) (c : Cell) → has cells.teams t ≡ true → IsPair g.teams t c.opponent →
-      cell_round (pin_at table) t c ≢ 255 → cell_round (pin_at table) t c ≡ cell_round (round_of g) t c →
-      cell_round (round_of g') t c ≡ cell_round (round_of g) t c
-  kept_of none t c main pair pin stands =
-      let r : ℕ = cell_round (round_of g') t c in
-      let in_r : r < round_count g.teams = round_in t c.opponent c.home pair in
-      let is : cell g' t r ≡ c = cell_is g' robin' t r c (record { pair = rw differs.same_size pair; in_round = refl }) in
-      elim (cases_Bool (has cells.rounds r)) [
-        | inl touched ↦
-            let looked : is_pinned_elsewhere table t r c ≡ false =
-            ap (is_pinned_elsewhere table t r) (sym is) ∙ none t r main touched in
-            sym (pinned_here table t r c looked pin) ∙ stands
-        | inr out ↦
-            let stays : cell g t r ≡ c = sym (differs.same_cells t r pair.home_in in_r out) ∙ is in
-            let there : IsCell g t r c = subst (IsCell g t r) stays (is_cell g robin t r pair.home_in in_r) in
-            sym there.in_round
-      ]
-
-  kept : NoneElsewhere g' table cells → (h a : ℕ) → IsPair g.teams h a → pin_at table h a ≢ 255 →
-      pin_at table h a ≡ round_of g h a → round_of g' h a ≡ round_of g h a
-  kept none h a pair pin stands = elim (cases_Bool (has cells.teams h)) [
-    | inl home ↦ kept_of none h (record { opponent = a; home = true }) home pair pin stands
-    | inr out ↦ elim (cases_Bool (has cells.teams a)) [
-      | inl away ↦ kept_of none a (record { opponent = h; home = false }) away (pair_swapped g.teams h a pair) pin stands
-      | inr both ↦ round_of_kept_around g g' (has cells.teams) (has cells.rounds) robin robin' differs h a pair out both
+    ne : (x : ℕ) → not (x == 255) ≡ false → x ≢ 255 → ⊥
+    ne x is pin = elim (cases_eq x 255) [
+      | inl e ↦ pin e
+      | inr other ↦ false≢true (sym is ∙ ap not (ne_eqb x 255 other))
     ]
+
+is_pinned-yes : (table : List ℕ) (t : ℕ) (c : Cell) → is_pinned_cell table t c ≡ true → cell_round (pin_at table) t c ≢ 255
+unfolding is_pinned_cell
+is_pinned-yes table t c is = eqb-false (cell_round (pin_at table) t c) 255 (not-true _ is)
+
+module _ (g : Games) (exchange : Exchange) (can : IsExchange g exchange) (table : List ℕ) where
+  abbrev after : Games
+  after = exchanged_by g exchange
+
+  -- no main team has a pinned game in a round of the exchange
+  abbrev NonePinned : Type 0
+  NonePinned =
+      (t r : ℕ) → has (main_cells exchange).teams t ≡ true → has (main_cells exchange).rounds r ≡ true →
+      is_pinned_cell table t (cell g t r) ≡ false
+
+  -- one has
+  abbrev SomePinned : Type 0
+  SomePinned =
+      (t : ℕ) × (r : ℕ) × (has (main_cells exchange).teams t ≡ true) × (has (main_cells exchange).rounds r ≡ true) ×
+      (is_pinned_cell table t (cell g t r) ≡ true)
+
+  cell_there : (t o : ℕ) (home : Bool) (r : ℕ) → IsPair g.teams t o →
+      cell_round (round_of g) t (record { opponent = o; home = home }) ≡ r → cell g t r ≡ record { opponent = o; home = home }
+  cell_there t o home r pair there =
+      cell_is g can.round_robin t r (record { opponent = o; home = home }) (record { pair = pair; in_round = there })
+
+  -- so a pinned game keeps its round
+  kept : NonePinned → (h a : ℕ) → IsPair g.teams h a → pin_at table h a ≢ 255 → round_of after h a ≡ round_of g h a
+  kept none h a pair pin = elim (cases_eq (round_of after h a) (round_of g h a)) [
+    | inl same ↦ same
+    | inr other ↦
+        let main = and_parts (has (main_cells exchange).rounds (round_of g h a)) _ ((each_tells g exchange can h a pair).1 other) in
+        absurd (elim (or_cases (has (main_cells exchange).teams h) _ main.1) [
+          | inl home ↦
+              is_pinned-no table h (record { opponent = a; home = true })
+              (subst (λ (c : Cell). is_pinned_cell table h c ≡ false) (cell_there h a true (round_of g h a) pair refl)
+              (none h (round_of g h a) home main.0)) pin
+          | inr away ↦
+              is_pinned-no table a (record { opponent = h; home = false })
+              (subst (λ (c : Cell). is_pinned_cell table a c ≡ false)
+              (cell_there a h false (round_of g h a) (pair_swapped g.teams h a pair) refl)
+              (none a (round_of g h a) away main.0)) pin
+        ])
   ]
 
-  moves_pin-none_elsewhere : (pins : List Game) → AllStand g pins → ArePinsAt g pins table → NoneElsewhere g' table cells →
-      moves_pin g' pins ≡ false
-  moves_pin-none_elsewhere pins all are none =
-      moves_pin-none g g' pins table robin all are
+  moves_pin-none_pinned : (pins : List Game) → AllStand g pins → ArePinsAt g pins table → NonePinned →
+      moves_pin after pins ≡ false
+  moves_pin-none_pinned pins all are none =
+      moves_pin-none g after pins table can.round_robin all are
       (λ h a pair pin.
-      let told = place_of-pinned (is_pinned pins h a) (round_of g h a) (pin_at table h a) (are h a pair) pin in
-      kept none h a pair pin told.1 ∙ sym told.1)
+      kept none h a pair pin ∙
+      sym (place_of-pinned (is_pinned pins h a) (round_of g h a) (pin_at table h a) (are h a pair) pin).1)
 
-  moves_pin-elsewhere : (pins : List Game) → AllStand g pins → ArePinsAt g pins table → (t r o : ℕ) (home : Bool) →
-      IsCell g' t r (record { opponent = o; home = home }) →
-      is_pinned_elsewhere table t r (record { opponent = o; home = home }) ≡ true → moves_pin g' pins ≡ true
-  moves_pin-elsewhere pins all are t r o true there is =
-      let told = pinned_there table t r (record { opponent = o; home = true }) is in
-      moves_pin-some g g' pins table t o all are (rw (← differs.same_size) there.pair) told.0
-      (λ same. told.1 (sym same ∙ there.in_round))
-  moves_pin-elsewhere pins all are t r o false there is =
-      let told = pinned_there table t r (record { opponent = o; home = false }) is in
-      moves_pin-some g g' pins table o t all are (rw (← differs.same_size) (pair_swapped g'.teams t o there.pair)) told.0
-      (λ same. told.1 (sym same ∙ there.in_round))
+  changed : (h a r : ℕ) → IsPair g.teams h a → round_of g h a ≡ r → has (main_cells exchange).rounds r ≡ true →
+      (has (main_cells exchange).teams h || has (main_cells exchange).teams a) ≡ true → round_of after h a ≢ round_of g h a
+  changed h a r pair there in_round main =
+      (each_tells g exchange can h a pair).0
+      (and_from _ _ (subst (λ x. has (main_cells exchange).rounds x ≡ true) (sym there) in_round) main)
 
--- what is found at the main cells after the move
-pub moves_pin-looked : (g other : Games) (mv : Move) (cells : TouchedCells) (pins : List Game) (table : List ℕ) (moves : Bool) →
-    AreMainCells g mv cells → other ≡ moved g mv → AllStand g pins → ArePinsAt g pins table →
-    (moves ≡ false → NoneElsewhere other table cells) → (moves ≡ true → SomeElsewhere other table cells) →
-    moves ≡ moves_pin (moved g mv) pins
-moves_pin-looked g other mv cells pins table false main is all are none some =
-    let robin' = each_double_round_robin g mv main.round_robin main.checked in
-    sym (moves_pin-none_elsewhere g (moved g mv) cells table main.round_robin robin' (differs_around g mv cells main)
-    pins all are (rw is at (none refl)))
-moves_pin-looked g other mv cells pins table true main is all are none some =
-    let robin' = each_double_round_robin g mv main.round_robin main.checked in
-    let differs = differs_around g mv cells main in
-    let found = rw is at (some refl) in
-    let t = found.0 in
-    let r = found.1 in
-    let c = cell (moved g mv) t r in
-    let there : IsCell (moved g mv) t r c =
-    is_cell (moved g mv) robin' t r (rw differs.same_size (main_teams_below g mv cells main t found.2))
-    (rw differs.same_size (main_rounds_below g mv cells main r found.3)) in
-    sym (moves_pin-elsewhere g (moved g mv) cells table main.round_robin robin' differs pins all are t r c.opponent c.home there found.4)
+  moves_pin-pinned : (pins : List Game) → AllStand g pins → ArePinsAt g pins table → (t r o : ℕ) (home : Bool) →
+      has (main_cells exchange).teams t ≡ true → has (main_cells exchange).rounds r ≡ true →
+      IsCell g t r (record { opponent = o; home = home }) →
+      is_pinned_cell table t (record { opponent = o; home = home }) ≡ true → moves_pin after pins ≡ true
+  moves_pin-pinned pins all are t r o true main in_round there is =
+      let pin = is_pinned-yes table t (record { opponent = o; home = true }) is in
+      let stands = (place_of-pinned (is_pinned pins t o) (round_of g t o) (pin_at table t o) (are t o there.pair) pin).1 in
+      moves_pin-some g after pins table t o all are there.pair pin
+      (λ same. changed t o r there.pair there.in_round in_round (or_left _ _ main) (same ∙ stands))
+  moves_pin-pinned pins all are t r o false main in_round there is =
+      let pair = pair_swapped g.teams t o there.pair in
+      let pin = is_pinned-yes table t (record { opponent = o; home = false }) is in
+      let stands = (place_of-pinned (is_pinned pins o t) (round_of g o t) (pin_at table o t) (are o t pair) pin).1 in
+      moves_pin-some g after pins table o t all are pair pin
+      (λ same. changed o t r pair there.in_round in_round (or_right (has (main_cells exchange).teams o) _ main) (same ∙ stands))
+
+  -- what is found at the main cells
+  pub moves_pin-looked : (pins : List Game) (moves : Bool) → AllStand g pins → ArePinsAt g pins table →
+      (moves ≡ false → NonePinned) → (moves ≡ true → SomePinned) → moves ≡ moves_pin after pins
+  moves_pin-looked pins false all are none some = sym (moves_pin-none_pinned pins all are (none refl))
+  moves_pin-looked pins true all are none some =
+      let found = some refl in
+      let c = cell g found.0 found.1 in
+      let there : IsCell g found.0 found.1 c =
+      is_cell g can.round_robin found.0 found.1 (main_teams_below g exchange can found.0 found.2)
+      (main_rounds_below g exchange can found.1 found.3) in
+      sym (moves_pin-pinned pins all are found.0 found.1 c.opponent c.home found.2 found.3 there found.4)

@@ -12,6 +12,9 @@ use Rattle.league.specs.declared.rule.Weight.{Weight}
 use Rattle.league.specs.declared.rule.Weight.TheVariants.{Hard, Soft}
 use Rattle.league.proofs.ForCallers.{sum_below_le, sum_of_pairs_le, count_where_le}
 use Rattle.fixtures.specs.Games.{Games, round_count, meets}
+use Rattle.moves.specs.declared.exchanges.Exchange.{Exchange}
+use Rattle.moves.specs.declared.exchanges.Exchange.TheVariants as edit
+use Rattle.moves.specs.Exchanges.{exchanged_by}
 use Rattle.moves.specs.declared.moves.Move.{Move}
 use Rattle.moves.specs.declared.moves.Move.TheVariants.{Homes, Rounds, Teams, PartRounds, PartTeams}
 use Rattle.moves.specs.Moves.{moved}
@@ -31,6 +34,10 @@ use Rattle.fixture_board.specs.History.{effective, shifted, games_after, games_o
 use Rattle.robinx.proofs.ForCallers.{deviation_below}
 
 -- the schedule of a history is of the league's teams
+
+pub exchanged-teams : (g : Games) (exchange : Exchange) → (exchanged_by g exchange).teams ≡ g.teams
+exchanged-teams g (edit.Rounds k l among) = refl
+exchanged-teams g (edit.Teams i j among) = refl
 
 pub moved-teams : (g : Games) (mv : Move) → (moved g mv).teams ≡ g.teams
 moved-teams g (Homes i j) = refl

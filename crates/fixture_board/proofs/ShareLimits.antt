@@ -1,4 +1,4 @@
--- What a move can change of a cost is at most all of it.
+-- What an exchange can change of a cost is at most all of it.
 use Rattle.std.proofs.Common.{◌≡◌, ℕ, ◌+◌, ◌-◌, ◌≤◌, ◌&&◌, ◌||◌, Bool, true, false, if◌then◌else◌, List, length, slice_get}
 use Rattle.std.proofs.Common.{Option, Some, None, refl, le_refl, arith}
 use Rattle.league.specs.League.{LeagueData}
@@ -10,9 +10,8 @@ use Rattle.league.proofs.ForCallers.{sum_below_le_each}
 use Rattle.fixtures.specs.Changes.{with_guests}
 use Rattle.fixtures.specs.Games.{Games, round_count, meets}
 use Rattle.fixtures.specs.TouchedCells.{TouchedCells}
-use Rattle.moves.specs.Laws.{keeps_meetings}
-use Rattle.moves.specs.declared.moves.Move.{Move}
-use Rattle.moves.specs.declared.moves.Move.TheVariants.{Homes, Rounds, Teams, PartRounds, PartTeams}
+use Rattle.moves.specs.declared.exchanges.Exchange.{Exchange}
+use Rattle.moves.specs.declared.exchanges.Exchange.TheVariants as edit
 use Rattle.tours.specs.Parts.{touches_leg, travel_part_of, travel_at, travel_part, travel_around}
 use Rattle.tours.specs.Parts.{touches_window, runs_part_of, runs_part, repeats_with_after, repeats_with}
 use Rattle.tours.specs.Phased.{is_unphased, unphased, unphased_part}
@@ -24,6 +23,7 @@ use Rattle.robinx.specs.LooksPast.{looks_past}
 use Rattle.fixture_board.specs.Costs.{hard_share, soft_share, share_of, sum_over_rules, cost_of}
 use Rattle.fixture_board.specs.CostShares.{travel_share, seen_share_of, sum_over_seen_rules, share_but_travel, cost_share, CostsBalance}
 use Rattle.fixture_board.specs.declared.cost.Cost.{Cost}
+use Rattle.fixture_board.specs.declared.scope.Scope.{Scope}
 
 taken_le : (taken : Bool) (n : ℕ) → (if taken then n else 0) ≤ n
 taken_le true n = le_refl n
@@ -53,12 +53,12 @@ travel_around_le l g teams rounds =
     sum_below_le_each g.teams (λ t. travel_part_of l g (with_guests g teams rounds t) t) (travel_of l g)
     (λ t under. travel_part_of_le l g (with_guests g teams rounds t) t)
 
-pub travel_share_le : (l : LeagueData) (g : Games) (mv : Move) (main : TouchedCells) → travel_share l mv main g ≤ travel l g
-travel_share_le l g (Homes i j) main = travel_part_le l g _ _
-travel_share_le l g (Rounds k m) main = travel_part_le l g _ _
-travel_share_le l g (PartRounds i k m) main = travel_part_le l g _ _
-travel_share_le l g (Teams i j) main = travel_around_le l g _ _
-travel_share_le l g (PartTeams i j k) main = travel_around_le l g _ _
+travel_of_kind_le : (l : LeagueData) (g : Games) (exchange : Exchange) (main : TouchedCells) → travel_share l exchange main g ≤ travel l g
+travel_of_kind_le l g (edit.Rounds k m among) main = travel_part_le l g _ _
+travel_of_kind_le l g (edit.Teams i j among) main = travel_around_le l g _ _
+
+pub travel_share_le : (l : LeagueData) (g : Games) (scope : Scope) → travel_share l scope.exchange scope.main g ≤ travel l g
+travel_share_le l g scope = travel_of_kind_le l g scope.exchange scope.main
 
 -- hard costs
 
@@ -130,35 +130,35 @@ unfolding sum_over_seen_rules sum_over_rules
 seen_rules_le share least rules teams g =
     sum_below_le_each (length rules) _ _ (λ i under. seen_le share least teams g (slice_get rules i))
 
-share_by_costs : (l : LeagueData) (mv : Move) (main : TouchedCells) (sides : ℕ) (g : Games) →
+share_by_costs : (l : LeagueData) (scope : Scope) (g : Games) →
     record {
-      travel = travel_share l mv main g;
-      hard = (cost_share l mv main sides g).hard;
-      soft = sum_over_seen_rules soft_share l.rules main.teams g;
-    } ≡ cost_share l mv main sides g
+      travel = travel_share l scope.exchange scope.main g;
+      hard = (cost_share l scope g).hard;
+      soft = sum_over_seen_rules soft_share l.rules scope.main.teams g;
+    } ≡ cost_share l scope g
 unfolding cost_share share_but_travel
-share_by_costs l mv main sides g = refl
+share_by_costs l scope g = refl
 
-hard_le : (l : LeagueData) (mv : Move) (main : TouchedCells) (sides : ℕ) (g : Games) →
-    (cost_share l mv main sides g).hard ≤ (cost_of l g).hard
+hard_le : (l : LeagueData) (scope : Scope) (g : Games) →
+    (cost_share l scope g).hard ≤ (cost_of l g).hard
 unfolding cost_share share_but_travel cost_of
-hard_le l mv main sides g = omega (
+hard_le l scope g = omega (
   arith,
-  runs_part_le g l.at_most (has sides) (has main.rounds),
-  kept_le (keeps_meetings mv) _ _ (repeats_with_le g (has main.teams) (has main.rounds)),
-  seen_rules_le hard_share hard_least l.rules main.teams g,
-  where_le l.phased _ _ (unphased_part_le g (has main.teams)),
+  runs_part_le g l.at_most (has scope.turning) (has scope.main.rounds),
+  kept_le (scope.same_meetings) _ _ (repeats_with_le g (has scope.main.teams) (has scope.main.rounds)),
+  seen_rules_le hard_share hard_least l.rules scope.main.teams g,
+  where_le l.phased _ _ (unphased_part_le g (has scope.main.teams)),
 )
 
 -- where nothing is hard, nothing of the share is
-pub share_none_hard : (l : LeagueData) (mv : Move) (main : TouchedCells) (sides : ℕ) (g : Games) (known : Cost) (legs weighed : ℕ) →
-    known ≡ cost_of l g → known.hard ≤ 0 → legs ≡ travel_share l mv main g →
-    weighed ≡ sum_over_seen_rules soft_share l.rules main.teams g →
-    record { travel = legs; hard = 0; soft = weighed } ≡ cost_share l mv main sides g
-share_none_hard l mv main sides g known legs weighed known_is none legs_are weighed_is =
+pub share_none_hard : (l : LeagueData) (scope : Scope) (g : Games) (known : Cost) (legs weighed : ℕ) →
+    known ≡ cost_of l g → known.hard ≤ 0 → legs ≡ travel_share l scope.exchange scope.main g →
+    weighed ≡ sum_over_seen_rules soft_share l.rules scope.main.teams g →
+    record { travel = legs; hard = 0; soft = weighed } ≡ cost_share l scope g
+share_none_hard l scope g known legs weighed known_is none legs_are weighed_is =
     let none_of_all : (cost_of l g).hard ≤ 0 = rw known_is at none in
-    let none_of_share : 0 ≡ (cost_share l mv main sides g).hard = omega (arith, hard_le l mv main sides g, none_of_all) in
-    rw (legs_are, weighed_is, none_of_share) (share_by_costs l mv main sides g)
+    let none_of_share : 0 ≡ (cost_share l scope g).hard = omega (arith, hard_le l scope g, none_of_all) in
+    rw (legs_are, weighed_is, none_of_share) (share_by_costs l scope g)
 
 -- all but the share
 abbrev pub rest_of : Cost → Cost → Cost
@@ -168,14 +168,14 @@ rest_of known share = record {
   soft = known.soft - share.soft;
 }
 
-pub rest_balances : (l : LeagueData) (mv : Move) (main : TouchedCells) (sides : ℕ) (g : Games) (known before nothing : Cost) →
-    known ≡ cost_of l g → before ≡ cost_share l mv main sides g → nothing ≡ record { travel = 0; hard = 0; soft = 0 } →
+pub rest_balances : (l : LeagueData) (scope : Scope) (g : Games) (known before nothing : Cost) →
+    known ≡ cost_of l g → before ≡ cost_share l scope g → nothing ≡ record { travel = 0; hard = 0; soft = 0 } →
     CostsBalance (rest_of known before) known before nothing
 unfolding cost_of cost_share share_but_travel
-rest_balances l mv main sides g known before nothing known_is before_is nothing_is =
+rest_balances l scope g known before nothing known_is before_is nothing_is =
     rw (known_is, before_is, nothing_is)
     (record {
-      travel = omega (arith, travel_share_le l g mv main);
-      hard = omega (arith, hard_le l mv main sides g);
-      soft = omega (arith, seen_rules_le soft_share soft_least l.rules main.teams g);
+      travel = omega (arith, travel_share_le l g scope);
+      hard = omega (arith, hard_le l scope g);
+      soft = omega (arith, seen_rules_le soft_share soft_least l.rules scope.main.teams g);
     })

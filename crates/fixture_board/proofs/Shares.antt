@@ -1,4 +1,4 @@
--- A move changes no more of the costs than their shares.
+-- An exchange changes no more of the costs than their shares.
 use Rattle.std.proofs.Common.{◌≡◌, ℕ, ◌+◌, ◌-◌, ◌*◌, ◌<◌, ◌≤◌, Bool, true, false, if◌then◌else◌, length, slice_get, Option, Some, None}
 use Rattle.std.proofs.Common.{refl, sym, ◌∙◌, ap, subst, arith}
 use Rattle.std.proofs.Math.Nat.{mul-le-mul_left}
@@ -11,15 +11,13 @@ use Rattle.league.specs.Sets.{has}
 use Rattle.league.specs.declared.rule.Rule.{Rule}
 use Rattle.league.specs.declared.rule.Weight.{Weight}
 use Rattle.league.proofs.ForCallers.{sum_below_balance}
-use Rattle.fixtures.specs.Changes.{DiffersOnlyIn}
-use Rattle.fixtures.specs.Games.{Games}
+use Rattle.fixtures.specs.Changes.{DiffersOnlyAround, DiffersOnlyAt, box}
+use Rattle.fixtures.specs.Games.{Games, IsDoubleRoundRobin, is_home}
 use Rattle.fixtures.specs.TouchedCells.{TouchedCells}
-use Rattle.moves.specs.declared.moves.Move.{Move}
-use Rattle.moves.specs.declared.moves.Move.TheVariants.{Homes, Rounds, Teams, PartRounds, PartTeams}
-use Rattle.moves.specs.MainCells.{AreMainCells, main_team, side_team}
-use Rattle.moves.specs.Moves.{moved, touched_team}
-use Rattle.moves.proofs.ForCallers.{differs_around, each_differs, each_double_round_robin, each_keeps_meetings}
-use Rattle.moves.proofs.ForCallers.{sides_differ_at}
+use Rattle.moves.specs.declared.exchanges.Exchange.{Exchange}
+use Rattle.moves.specs.declared.exchanges.Exchange.TheVariants as edit
+use Rattle.moves.specs.Exchanges.{exchanged_by, main_cells, IsExchange}
+use Rattle.moves.proofs.ForCallers.{each_undone, each_around, each_sides, each_differs_by, each_keeps_meetings}
 use Rattle.tours.specs.Repeats.{repeats}
 use Rattle.tours.specs.Phased.{unphased, unphased_part}
 use Rattle.tours.specs.Tours.{travel}
@@ -31,41 +29,56 @@ use Rattle.robinx.proofs.ForCallers.{looked_past_deviation, looks_past_tested}
 use Rattle.fixture_board.specs.Costs.{hard_share, soft_share, share_of, sum_over_rules, where_phased, cost_of, score_of}
 use Rattle.fixture_board.specs.Costs.{score_limit}
 use Rattle.fixture_board.specs.CostShares.{travel_share, repeats_share, seen_share_of, sum_over_seen_rules, cost_share}
-use Rattle.fixture_board.specs.CostShares.{share_but_travel, CostsBalance}
+use Rattle.fixture_board.specs.CostShares.{share_but_travel, CostsBalance, IsScope}
+use Rattle.fixture_board.specs.declared.scope.Scope.{Scope}
 use Rattle.fixture_board.specs.declared.cost.Cost.{Cost}
-use Rattle.fixture_board.proofs.Scores.{moved-teams, score_below}
+use Rattle.fixture_board.proofs.Scores.{exchanged-teams, score_below}
 use Rattle.fixture_board.proofs.ShareLimits.{travel_share_le}
+
+-- what differs
+
+around : (g : Games) (scope : Scope) → IsScope g scope →
+    DiffersOnlyAround g (exchanged_by g scope.exchange) (has scope.main.teams) (has scope.main.rounds)
+around g scope is =
+    subst (λ (main : TouchedCells). DiffersOnlyAround g (exchanged_by g scope.exchange) (has main.teams) (has main.rounds))
+    (sym is.main) (each_around g scope.exchange is.can_be_made)
+
+sides : (g : Games) (scope : Scope) → IsScope g scope →
+    DiffersOnlyAt is_home g (exchanged_by g scope.exchange) (box (has scope.turning) (has scope.main.rounds))
+sides g scope is =
+    subst (λ (main : TouchedCells). DiffersOnlyAt is_home g (exchanged_by g scope.exchange) (box (has scope.turning) (has main.rounds)))
+    (sym is.main)
+    (subst (λ teams. DiffersOnlyAt is_home g (exchanged_by g scope.exchange) (box teams (has (main_cells scope.exchange).rounds)))
+    (sym (fun_ext is.turning)) (each_sides g scope.exchange is.can_be_made))
+
+round_robin_after : (g : Games) (scope : Scope) → IsScope g scope → IsDoubleRoundRobin (exchanged_by g scope.exchange)
+round_robin_after g scope is = (each_undone g scope.exchange is.can_be_made).again.round_robin
 
 -- travel
 
--- a move that is none of teams differs only in its main cells
-differs_in_main : (g : Games) (mv : Move) (main : TouchedCells) → AreMainCells g mv main →
-    ((t : ℕ) → main_team g mv t ≡ touched_team g mv t) → DiffersOnlyIn g (moved g mv) (has main.teams) (has main.rounds)
-differs_in_main g mv main are same =
-    subst (λ ts. DiffersOnlyIn g (moved g mv) ts (has main.rounds)) (sym (fun_ext (λ t. are.teams t ∙ same t)))
-    (subst (DiffersOnlyIn g (moved g mv) (touched_team g mv)) (sym (fun_ext are.rounds)) (each_differs g mv are.round_robin are.checked))
+travel_of_kind : (l : LeagueData) (g : Games) (exchange : Exchange) → IsExchange g exchange →
+    travel l (exchanged_by g exchange) + travel_share l exchange (main_cells exchange) g ≡
+    travel l g + travel_share l exchange (main_cells exchange) (exchanged_by g exchange)
+travel_of_kind l g (edit.Rounds k m among) can = travel_balance l g _ _ _ (each_differs_by g (edit.Rounds k m among) can)
+travel_of_kind l g (edit.Teams i j among) can = travel_balance_around l g _ _ _ (each_around g (edit.Teams i j among) can)
 
-travel_balances : (l : LeagueData) (g : Games) (mv : Move) (main : TouchedCells) → AreMainCells g mv main →
-    travel l (moved g mv) + travel_share l mv main g ≡ travel l g + travel_share l mv main (moved g mv)
-travel_balances l g (Homes i j) main are = travel_balance l g _ _ _ (differs_in_main g (Homes i j) main are (λ t. refl))
-travel_balances l g (Rounds k m) main are = travel_balance l g _ _ _ (differs_in_main g (Rounds k m) main are (λ t. refl))
-travel_balances l g (PartRounds i k m) main are = travel_balance l g _ _ _ (differs_in_main g (PartRounds i k m) main are (λ t. refl))
-travel_balances l g (Teams i j) main are = travel_balance_around l g _ _ _ (differs_around g (Teams i j) main are)
-travel_balances l g (PartTeams i j k) main are = travel_balance_around l g _ _ _ (differs_around g (PartTeams i j k) main are)
+travel_balances : (l : LeagueData) (g : Games) (scope : Scope) → IsScope g scope →
+    travel l (exchanged_by g scope.exchange) + travel_share l scope.exchange scope.main g ≡
+    travel l g + travel_share l scope.exchange scope.main (exchanged_by g scope.exchange)
+travel_balances l g scope is =
+    subst (λ (main : TouchedCells). travel l (exchanged_by g scope.exchange) + travel_share l scope.exchange main g ≡
+    travel l g + travel_share l scope.exchange main (exchanged_by g scope.exchange))
+    (sym is.main) (travel_of_kind l g scope.exchange is.can_be_made)
 
 -- repeats
 
-repeats_balances : (g : Games) (mv : Move) (main : TouchedCells) → AreMainCells g mv main →
-    repeats (moved g mv) + repeats_share mv main g ≡ repeats g + repeats_share mv main (moved g mv)
-repeats_balances g (Homes i j) main are =
-    let keeps = each_keeps_meetings g (Homes i j) are.round_robin are.checked in
-    ap (λ n. n + 0) (repeats_of_same_pairs g _ i i are.round_robin keeps)
-repeats_balances g (Teams i j) main are =
-    let keeps = each_keeps_meetings g (Teams i j) are.round_robin are.checked in
-    ap (λ n. n + 0) (repeats_of_same_pairs g _ i j are.round_robin keeps)
-repeats_balances g (Rounds k m) main are = repeats_balance_around g _ _ _ (differs_around g (Rounds k m) main are)
-repeats_balances g (PartRounds i k m) main are = repeats_balance_around g _ _ _ (differs_around g (PartRounds i k m) main are)
-repeats_balances g (PartTeams i j k) main are = repeats_balance_around g _ _ _ (differs_around g (PartTeams i j k) main are)
+repeats_balances : (g : Games) (scope : Scope) → IsScope g scope → (same : Bool) → scope.same_meetings ≡ same →
+    repeats (exchanged_by g scope.exchange) + repeats_share same scope.main g ≡
+    repeats g + repeats_share same scope.main (exchanged_by g scope.exchange)
+repeats_balances g scope is true same =
+    let keeps = each_keeps_meetings g scope.exchange is.can_be_made (sym is.same_meetings ∙ same) in
+    ap (λ n. n + 0) (repeats_of_same_pairs g _ keeps.0 keeps.1 is.can_be_made.round_robin keeps.2)
+repeats_balances g scope is false _ = repeats_balance_around g _ _ _ (around g scope is)
 
 -- a count that is taken or not
 counted_balances : (taken : Bool) (new old before after : ℕ) → new + before ≡ old + after →
@@ -80,16 +93,17 @@ seen_balances : (past : Bool) (share : ℕ → ℕ) (new old : ℕ) → (past �
 seen_balances true share new old same = ap (λ n. share n + share 0) (same refl)
 seen_balances false share new old same = omega arith
 
-rule_balances : (share : Weight → ℕ → ℕ) (g : Games) (mv : Move) (main : TouchedCells) → AreMainCells g mv main → (rule : Option Rule) →
+rule_balances : (share : Weight → ℕ → ℕ) (g : Games) (scope : Scope) → IsScope g scope → (rule : Option Rule) →
     ((r : Rule) → rule ≡ Some r → IsBodyFor g.teams r.body) →
-    share_of share (moved g mv) rule + seen_share_of share main.teams g rule ≡
-    share_of share g rule + seen_share_of share main.teams (moved g mv) rule
-rule_balances share g mv main are None for = refl
-rule_balances share g mv main are (Some rule) for =
-    seen_balances (looks_past main.teams rule.body) (share rule.weight) (deviation (moved g mv) rule.body) (deviation g rule.body)
-    (λ past. looked_past_deviation g (moved g mv) (has main.teams) (has main.rounds) rule.body are.round_robin
-    (each_double_round_robin g mv are.round_robin are.checked) (for rule refl) (differs_around g mv main are)
-    (looks_past_tested main.teams rule.body past))
+    share_of share (exchanged_by g scope.exchange) rule + seen_share_of share scope.main.teams g rule ≡
+    share_of share g rule + seen_share_of share scope.main.teams (exchanged_by g scope.exchange) rule
+rule_balances share g scope is None for = refl
+rule_balances share g scope is (Some rule) for =
+    seen_balances (looks_past scope.main.teams rule.body) (share rule.weight) (deviation (exchanged_by g scope.exchange) rule.body)
+    (deviation g rule.body)
+    (λ past. looked_past_deviation g (exchanged_by g scope.exchange) (has scope.main.teams) (has scope.main.rounds) rule.body
+    is.can_be_made.round_robin (round_robin_after g scope is) (for rule refl) (around g scope is)
+    (looks_past_tested scope.main.teams rule.body past))
 
 rule_for : (l : LeagueData) (g : Games) (i : ℕ) → IsLeague l → teams l ≡ g.teams → (rule : Rule) →
     slice_get l.rules i ≡ Some rule → IsBodyFor g.teams rule.body
@@ -100,51 +114,50 @@ rule_for l g i is same rule at =
     (All-from_recursion (IsRuleFor (teams l)) l.rules is.rules)) in
     subst (λ n. IsBodyFor n rule.body) same for.body
 
-rules_balance : (share : Weight → ℕ → ℕ) (l : LeagueData) (g : Games) (mv : Move) (main : TouchedCells) →
-    IsLeague l → teams l ≡ g.teams → AreMainCells g mv main →
-    sum_over_rules share l.rules (moved g mv) + sum_over_seen_rules share l.rules main.teams g ≡
-    sum_over_rules share l.rules g + sum_over_seen_rules share l.rules main.teams (moved g mv)
+rules_balance : (share : Weight → ℕ → ℕ) (l : LeagueData) (g : Games) (scope : Scope) →
+    IsLeague l → teams l ≡ g.teams → IsScope g scope →
+    sum_over_rules share l.rules (exchanged_by g scope.exchange) + sum_over_seen_rules share l.rules scope.main.teams g ≡
+    sum_over_rules share l.rules g + sum_over_seen_rules share l.rules scope.main.teams (exchanged_by g scope.exchange)
 unfolding sum_over_rules sum_over_seen_rules
-rules_balance share l g mv main is same are =
+rules_balance share l g scope is same are =
     sum_below_balance (length l.rules) _ _ _ _
-    (λ i under. rule_balances share g mv main are (slice_get l.rules i) (rule_for l g i is same))
+    (λ i under. rule_balances share g scope are (slice_get l.rules i) (rule_for l g i is same))
 
 -- pairs with both games in one half
 
-phases_balance : (l : LeagueData) (g : Games) (mv : Move) (main : TouchedCells) → AreMainCells g mv main →
-    where_phased l (unphased (moved g mv)) + where_phased l (unphased_part g (has main.teams)) ≡
-    where_phased l (unphased g) + where_phased l (unphased_part (moved g mv) (has main.teams))
-phases_balance l g mv main are =
+phases_balance : (l : LeagueData) (g : Games) (scope : Scope) → IsScope g scope →
+    where_phased l (unphased (exchanged_by g scope.exchange)) + where_phased l (unphased_part g (has scope.main.teams)) ≡
+    where_phased l (unphased g) + where_phased l (unphased_part (exchanged_by g scope.exchange) (has scope.main.teams))
+phases_balance l g scope are =
     counted_balances l.phased _ _ _ _
-    (unphased_balance_around g (moved g mv) (has main.teams) (has main.rounds) are.round_robin
-    (each_double_round_robin g mv are.round_robin are.checked) (differs_around g mv main are))
+    (unphased_balance_around g (exchanged_by g scope.exchange) (has scope.main.teams) (has scope.main.rounds) are.can_be_made.round_robin
+    (round_robin_after g scope are) (around g scope are))
 
 -- all costs
 
-costs_balance : (l : LeagueData) (g : Games) (mv : Move) (main : TouchedCells) (sides : ℕ) →
-    IsLeague l → teams l ≡ g.teams → AreMainCells g mv main →
-    ((t : ℕ) → has sides t ≡ side_team g mv t) →
-    CostsBalance (cost_of l (moved g mv)) (cost_of l g)
-    (cost_share l mv main sides g) (cost_share l mv main sides (moved g mv))
+costs_balance : (l : LeagueData) (g : Games) (scope : Scope) →
+    IsLeague l → teams l ≡ g.teams → IsScope g scope →
+    CostsBalance (cost_of l (exchanged_by g scope.exchange)) (cost_of l g)
+    (cost_share l scope g) (cost_share l scope (exchanged_by g scope.exchange))
 unfolding cost_of cost_share share_but_travel
-costs_balance l g mv main sides is same are of_sides = record {
-  travel = travel_balances l g mv main are;
+costs_balance l g scope is same are = record {
+  travel = travel_balances l g scope are;
   hard = omega (
     arith,
-    runs_balance_sides g (moved g mv) l.at_most (has sides) (has main.rounds) (sides_differ_at g mv main sides are of_sides),
-    repeats_balances g mv main are,
-    rules_balance hard_share l g mv main is same are,
-    phases_balance l g mv main are,
+    runs_balance_sides g (exchanged_by g scope.exchange) l.at_most (has scope.turning) (has scope.main.rounds) (sides g scope are),
+    repeats_balances g scope are scope.same_meetings refl,
+    rules_balance hard_share l g scope is same are,
+    phases_balance l g scope are,
   );
-  soft = rules_balance soft_share l g mv main is same are;
+  soft = rules_balance soft_share l g scope is same are;
 }
 
-pub share_balances : (l : LeagueData) (g g' : Games) (mv : Move) (main : TouchedCells) (sides : ℕ) (known before after : Cost) →
-    IsLeague l → teams l ≡ g.teams → AreMainCells g mv main → ((t : ℕ) → has sides t ≡ side_team g mv t) →
-    known ≡ cost_of l g → before ≡ cost_share l mv main sides g → g' ≡ moved g mv → after ≡ cost_share l mv main sides g' →
+pub share_balances : (l : LeagueData) (g g' : Games) (scope : Scope) (known before after : Cost) →
+    IsLeague l → teams l ≡ g.teams → IsScope g scope →
+    known ≡ cost_of l g → before ≡ cost_share l scope g → g' ≡ exchanged_by g scope.exchange → after ≡ cost_share l scope g' →
     CostsBalance (cost_of l g') known before after
-share_balances l g g' mv main sides known before after is same are of_sides known_is before_is made after_is =
-    rw (known_is, before_is, after_is, made) (costs_balance l g mv main sides is same are of_sides)
+share_balances l g g' scope known before after is same are known_is before_is made after_is =
+    rw (known_is, before_is, after_is, made) (costs_balance l g scope is same are)
 
 -- what balances is one cost
 pub same_cost : (cost new known before after : Cost) →
@@ -155,20 +168,20 @@ same_cost cost new known before after one other =
     let soft : cost.soft ≡ new.soft = omega (arith, one.soft, other.soft) in
     rw (travel, hard, soft) refl
 
-pub score_after : (l : LeagueData) (g g' : Games) (mv : Move) → IsLeague l → teams l ≡ g.teams → g' ≡ moved g mv →
+pub score_after : (l : LeagueData) (g g' : Games) (exchange : Exchange) → IsLeague l → teams l ≡ g.teams → g' ≡ exchanged_by g exchange →
     (cost : Cost) → cost ≡ cost_of l g' → score_of l cost < score_limit
-score_after l g g' mv is same made cost cost_is =
-    rw cost_is (score_below l g' is (ap (λ (games : Games). games.teams) made ∙ moved-teams g mv ∙ sym same))
+score_after l g g' exchange is same made cost cost_is =
+    rw cost_is (score_below l g' is (ap (λ (games : Games). games.teams) made ∙ exchanged-teams g exchange ∙ sym same))
 
 -- all but the share before, with the legs of the share after, is no more than the score after
-pub score_with_rest : (l : LeagueData) (g g' : Games) (mv : Move) (main : TouchedCells) (sides : ℕ) (known before rest nothing : Cost) →
-    IsLeague l → teams l ≡ g.teams → AreMainCells g mv main → ((t : ℕ) → has sides t ≡ side_team g mv t) →
-    known ≡ cost_of l g → before ≡ cost_share l mv main sides g → g' ≡ moved g mv →
+pub score_with_rest : (l : LeagueData) (g g' : Games) (scope : Scope) (known before rest nothing : Cost) →
+    IsLeague l → teams l ≡ g.teams → IsScope g scope →
+    known ≡ cost_of l g → before ≡ cost_share l scope g → g' ≡ exchanged_by g scope.exchange →
     nothing ≡ record { travel = 0; hard = 0; soft = 0 } → CostsBalance rest known before nothing →
-    score_of l rest + travel_share l mv main g' ≤ score_of l (cost_of l g')
+    score_of l rest + travel_share l scope.exchange scope.main g' ≤ score_of l (cost_of l g')
 unfolding cost_share share_but_travel
-score_with_rest l g g' mv main sides known before rest nothing is same are of_sides known_is before_is made nothing_is balance =
-    let after = share_balances l g g' mv main sides known before _ is same are of_sides known_is before_is made refl in
+score_with_rest l g g' scope known before rest nothing is same are known_is before_is made nothing_is balance =
+    let after = share_balances l g g' scope known before _ is same are known_is before_is made refl in
     let without = rw nothing_is at balance in
     let more_hard : rest.hard ≤ (cost_of l g').hard = omega (arith, after.hard, without.hard) in
     let weighed : l.hard_weight * rest.hard ≤ l.hard_weight * (cost_of l g').hard = mul-le-mul_left l.hard_weight more_hard in
@@ -177,39 +190,39 @@ score_with_rest l g g' mv main sides known before rest nothing is same are of_si
 -- the cost without the legs that the move can change
 
 -- what the move makes of it is exact but for these legs
-others_balance : (l : LeagueData) (g g' : Games) (mv : Move) (main : TouchedCells) (sides : ℕ) (known before others : Cost) →
-    IsLeague l → teams l ≡ g.teams → AreMainCells g mv main → ((t : ℕ) → has sides t ≡ side_team g mv t) →
-    known ≡ cost_of l g → before ≡ cost_share l mv main sides g → g' ≡ moved g mv → others ≡ share_but_travel l mv main sides g' →
-    CostsBalance (record (cost_of l g') { travel = travel l g - travel_share l mv main g }) known before others
+others_balance : (l : LeagueData) (g g' : Games) (scope : Scope) (known before others : Cost) →
+    IsLeague l → teams l ≡ g.teams → IsScope g scope →
+    known ≡ cost_of l g → before ≡ cost_share l scope g → g' ≡ exchanged_by g scope.exchange → others ≡ share_but_travel l scope g' →
+    CostsBalance (record (cost_of l g') { travel = travel l g - travel_share l scope.exchange scope.main g }) known before others
 unfolding cost_of cost_share share_but_travel
-others_balance l g g' mv main sides known before others is same are of_sides known_is before_is made others_is =
-    let all = share_balances l g g' mv main sides known before (cost_share l mv main sides g') is same are of_sides known_is
+others_balance l g g' scope known before others is same are known_is before_is made others_is =
+    let all = share_balances l g g' scope known before (cost_share l scope g') is same are known_is
     before_is made refl in
     record {
-      travel = rw (known_is, before_is, others_is) (omega (arith, travel_share_le l g mv main));
+      travel = rw (known_is, before_is, others_is) (omega (arith, travel_share_le l g scope));
       hard = rw others_is all.hard;
       soft = rw others_is all.soft;
     }
 
-pub others_exchange : (l : LeagueData) (g g' : Games) (mv : Move) (main : TouchedCells) (sides : ℕ) (known before others : Cost) →
-    IsLeague l → teams l ≡ g.teams → AreMainCells g mv main → ((t : ℕ) → has sides t ≡ side_team g mv t) →
-    known ≡ cost_of l g → before ≡ cost_share l mv main sides g → g' ≡ moved g mv → others ≡ share_but_travel l mv main sides g' →
+pub others_exchange : (l : LeagueData) (g g' : Games) (scope : Scope) (known before others : Cost) →
+    IsLeague l → teams l ≡ g.teams → IsScope g scope →
+    known ≡ cost_of l g → before ≡ cost_share l scope g → g' ≡ exchanged_by g scope.exchange → others ≡ share_but_travel l scope g' →
     (new : Cost) × CostsBalance new known before others
-others_exchange l g g' mv main sides known before others is same are of_sides known_is before_is made others_is =
-    (_, others_balance l g g' mv main sides known before others is same are of_sides known_is before_is made others_is)
+others_exchange l g g' scope known before others is same are known_is before_is made others_is =
+    (_, others_balance l g g' scope known before others is same are known_is before_is made others_is)
 
 -- and with them it is the whole cost
-pub cost_with_legs : (l : LeagueData) (g g' : Games) (mv : Move) (main : TouchedCells) (sides : ℕ) (known before others least : Cost) →
-    IsLeague l → teams l ≡ g.teams → AreMainCells g mv main → ((t : ℕ) → has sides t ≡ side_team g mv t) →
-    known ≡ cost_of l g → before ≡ cost_share l mv main sides g → g' ≡ moved g mv → others ≡ share_but_travel l mv main sides g' →
-    CostsBalance least known before others → record least { travel = least.travel + travel_share l mv main g' } ≡ cost_of l g'
+pub cost_with_legs : (l : LeagueData) (g g' : Games) (scope : Scope) (known before others least : Cost) →
+    IsLeague l → teams l ≡ g.teams → IsScope g scope →
+    known ≡ cost_of l g → before ≡ cost_share l scope g → g' ≡ exchanged_by g scope.exchange → others ≡ share_but_travel l scope g' →
+    CostsBalance least known before others → record least { travel = least.travel + travel_share l scope.exchange scope.main g' } ≡ cost_of l g'
 unfolding cost_of
-cost_with_legs l g g' mv main sides known before others least is same are of_sides known_is before_is made others_is balance =
+cost_with_legs l g g' scope known before others least is same are known_is before_is made others_is balance =
     let least_is = same_cost _ _ _ _ _ balance
-    (others_balance l g g' mv main sides known before others is same are of_sides known_is before_is made others_is) in
-    let whole : (travel l g - travel_share l mv main g) + travel_share l mv main g' ≡ travel l g' =
-    rw made (omega (arith, travel_balances l g mv main are, travel_share_le l g mv main)) in
-    ap (λ (cost : Cost). record cost { travel = cost.travel + travel_share l mv main g' }) least_is ∙
+    (others_balance l g g' scope known before others is same are known_is before_is made others_is) in
+    let whole : (travel l g - travel_share l scope.exchange scope.main g) + travel_share l scope.exchange scope.main g' ≡ travel l g' =
+    rw made (omega (arith, travel_balances l g scope are, travel_share_le l g scope)) in
+    ap (λ (cost : Cost). record cost { travel = cost.travel + travel_share l scope.exchange scope.main g' }) least_is ∙
     ap (λ n. record (cost_of l g') { travel = n }) whole
 
 -- its score is below the limit

@@ -1,5 +1,5 @@
--- What of the costs a move can change, counted on the schedule before it or after it. `main` has the main teams of the
--- move and its rounds.
+-- What of the costs an exchange can change, counted on the schedule before it or after it. `main` has its main teams and
+-- their rounds.
 use Rattle.std.specs.Prelude.{◌≡◌, ℕ, ◌+◌, ◌<◌, Bool, true, false, if◌then◌else◌, List, length, slice_get, Option, Some, None}
 use Rattle.league.specs.League.{LeagueData}
 use Rattle.league.specs.Sets.{has}
@@ -9,31 +9,36 @@ use Rattle.league.specs.declared.rule.RuleBody.{RuleBody}
 use Rattle.league.specs.declared.rule.Weight.{Weight}
 use Rattle.fixtures.specs.Games.{Games}
 use Rattle.fixtures.specs.TouchedCells.{TouchedCells}
-use Rattle.moves.specs.Laws.{keeps_meetings}
-use Rattle.moves.specs.declared.moves.Move.{Move}
-use Rattle.moves.specs.declared.moves.Move.TheVariants.{Rounds, Teams, PartRounds, PartTeams}
+use Rattle.moves.specs.declared.exchanges.Exchange.{Exchange}
+use Rattle.moves.specs.declared.exchanges.Exchange.TheVariants as edit
+use Rattle.moves.specs.Exchanges.{IsExchange, main_cells, turning_team, same_meetings}
 use Rattle.tours.specs.Parts.{travel_part, travel_around, runs_part, repeats_with}
 use Rattle.tours.specs.Phased.{unphased_part}
 use Rattle.robinx.specs.Deviations.{deviation}
 use Rattle.robinx.specs.LooksPast.{looks_past}
 use Rattle.fixture_board.specs.Costs.{hard_share, soft_share, score_limit, where_phased}
 use Rattle.fixture_board.specs.declared.cost.Cost.{Cost}
+use Rattle.fixture_board.specs.declared.scope.Scope.{Scope}
 
--- of the travel: in a move of teams the guests of the two travel otherwise too
-abbrev pub travel_share : LeagueData → Move → TouchedCells → Games → ℕ
-travel_share l (Teams i j) main g = travel_around l g (has main.teams) (has main.rounds)
-travel_share l (PartTeams i j k) main g = travel_around l g (has main.teams) (has main.rounds)
-travel_share l mv main g = travel_part l g (has main.teams) (has main.rounds)
+-- what the scope says of its exchange is so on the schedule before it
+pub record IsScope (g : Games) (scope : Scope) : Type 0 where
+  pub can_be_made : IsExchange g scope.exchange
+  pub main : scope.main ≡ main_cells scope.exchange
+  pub turning : (t : ℕ) → has scope.turning t ≡ turning_team g scope.exchange t
+  pub same_meetings : scope.same_meetings ≡ same_meetings g scope.exchange
 
--- whether a move exchanges rounds
-abbrev pub is_of_rounds : Move → Bool
-is_of_rounds (Rounds k l) = true
-is_of_rounds (PartRounds i k l) = true
-is_of_rounds mv = false
+-- of the travel: in an exchange of teams the guests of the two travel otherwise too
+abbrev pub travel_share : LeagueData → Exchange → TouchedCells → Games → ℕ
+travel_share l (edit.Rounds k m among) main g = travel_part l g (has main.teams) (has main.rounds)
+travel_share l (edit.Teams i j among) main g = travel_around l g (has main.teams) (has main.rounds)
+
+abbrev pub is_of_rounds : Exchange → Bool
+is_of_rounds (edit.Rounds k m among) = true
+is_of_rounds (edit.Teams i j among) = false
 
 -- of the repeats: none where the same pairs meet
-abbrev pub repeats_share : Move → TouchedCells → Games → ℕ
-repeats_share mv main g = if keeps_meetings mv then 0 else repeats_with g (has main.teams) (has main.rounds)
+abbrev pub repeats_share : Bool → TouchedCells → Games → ℕ
+repeats_share same main g = if same then 0 else repeats_with g (has main.teams) (has main.rounds)
 
 -- of the deviation of a rule: none where the rule looks past the teams
 abbrev pub seen_deviation : ℕ → Games → RuleBody → ℕ
@@ -49,19 +54,20 @@ unfoldable pub sum_over_seen_rules : (Weight → ℕ → ℕ) → List Rule → 
 sum_over_seen_rules share rules teams g =
     sum_below (length rules) (λ i. seen_share_of share teams g (slice_get rules i))
 
--- of all costs but the travel, where `sides` has the teams whose sides may change
-unfoldable pub share_but_travel : LeagueData → Move → TouchedCells → ℕ → Games → Cost
-share_but_travel l mv main sides g = record {
+-- of all costs but the travel
+unfoldable pub share_but_travel : LeagueData → Scope → Games → Cost
+share_but_travel l scope g = record {
   travel = 0;
-  hard = runs_part g l.at_most (has sides) (has main.rounds) + repeats_share mv main g +
-      sum_over_seen_rules hard_share l.rules main.teams g +
-      where_phased l (unphased_part g (has main.teams));
-  soft = sum_over_seen_rules soft_share l.rules main.teams g;
+  hard = runs_part g l.at_most (has scope.turning) (has scope.main.rounds) +
+      repeats_share scope.same_meetings scope.main g +
+      sum_over_seen_rules hard_share l.rules scope.main.teams g +
+      where_phased l (unphased_part g (has scope.main.teams));
+  soft = sum_over_seen_rules soft_share l.rules scope.main.teams g;
 }
 
 -- of all costs
-unfoldable pub cost_share : LeagueData → Move → TouchedCells → ℕ → Games → Cost
-cost_share l mv main sides g = record (share_but_travel l mv main sides g) { travel = travel_share l mv main g }
+unfoldable pub cost_share : LeagueData → Scope → Games → Cost
+cost_share l scope g = record (share_but_travel l scope g) { travel = travel_share l scope.exchange scope.main g }
 
 -- the new cost with the share before is the known one with the share after
 pub record CostsBalance (new known before after : Cost) : Type 0 where

@@ -1,5 +1,5 @@
 -- The table in which a board has the rounds of its pinned games.
-use Rattle.std.specs.Prelude.{◌≡◌, ℕ, ◌+◌, ◌*◌, ◌==◌, ◌&&◌, not, Bool, if◌then◌else◌, List, slice_index, slice_set}
+use Rattle.std.specs.Prelude.{◌≡◌, ℕ, ◌+◌, ◌*◌, ◌==◌, not, Bool, if◌then◌else◌, List, slice_index, slice_set}
 use Rattle.league.specs.Limits.{max_teams}
 use Rattle.fixtures.specs.declared.game.Game.{Game}
 use Rattle.fixtures.specs.declared.game.Cell.{Cell}
@@ -23,10 +23,9 @@ free = 255
 abbrev pub pin_at : List ℕ → ℕ → ℕ → ℕ
 pin_at table home away = slice_index table (pin_place home away)
 
--- whether the game of a team, whose cell this is in the round, is pinned to another
-unfoldable pub is_pinned_elsewhere : List ℕ → ℕ → ℕ → Cell → Bool
-is_pinned_elsewhere table team round c =
-    not (cell_round (pin_at table) team c == free) && not (cell_round (pin_at table) team c == round)
+-- whether the game of a team with this cell is pinned
+unfoldable pub is_pinned_cell : List ℕ → ℕ → Cell → Bool
+is_pinned_cell table team c = not (cell_round (pin_at table) team c == free)
 
 -- the table has the rounds of the pinned games
 abbrev pub ArePinsAt : Games → List Game → List ℕ → Type 0

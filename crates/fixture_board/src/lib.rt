@@ -16,6 +16,7 @@ mod made_within;
 mod pins;
 mod reply;
 mod rule_costs;
+mod scope;
 mod state;
 
 pub use ask::{Ask, Proposal};

@@ -1,18 +1,18 @@
-//! A move that is made where the score after is within a limit.
+//! An exchange that is made where the score after is within a limit.
 
 ghost use Rattle.std.specs.Prelude.{◌≡◌, ◌+◌, ◌<◌, ◌&&◌, nat_lt, IfSome, MatchOption};
 ghost use Rattle.league.specs.League.{teams};
 ghost use Rattle.tours.specs.Within.{IsTotalWithin};
-ghost use Rattle.moves.specs.Moves.{moved};
-ghost use Rattle.moves.specs.MainCells.{AreMainCells};
+ghost use Rattle.moves.specs.Exchanges.{exchanged_by, IsExchange};
 ghost use Rattle.fixture_board.specs.Costs.{cost_of, score_of, score_limit, IsCostWithin};
-ghost use Rattle.fixture_board.specs.CostShares.{travel_share, is_of_rounds};
+ghost use Rattle.fixture_board.specs.CostShares.{travel_share, is_of_rounds, IsScope};
 
 use crate::cost::Cost;
 use crate::kept_cost::{exchanged, share_but_travel, share_of_known};
-use fixtures::{Schedule, Touched};
+use crate::scope::Scope;
+use fixtures::Schedule;
 use league::League;
-use moves::{Move, make, side_teams};
+use moves::Exchange;
 use tours::{travel_around_within, travel_exchanged_within, travel_part_within};
 
 /// The cost of nothing.
@@ -22,81 +22,75 @@ const NOTHING: Cost = Cost {
     soft: 0,
 };
 
-/// Makes a move as `make_at_cost` does where the score after is at most `most`, and gives the cost after. Else the
-/// schedule is left as it was; the travel after is counted only until the score is seen to be above `most`, for a move of
-/// rounds before the move is made. Takes no memory.
+/// Makes an exchange as `make_at_cost` does where the score after is at most `most`, and gives the cost after. Else the
+/// schedule is left as it was; the travel after is counted only until the score is seen to be above `most`, for one of
+/// rounds before it is made. Takes no memory.
 pub fn make_within(
     schedule: &mut Schedule,
     league: &League,
-    mv: Move,
-    main: Touched,
+    exchange: &Exchange,
     known: Cost,
     most: u64,
 ) -> Option<Cost>
     requires same_size { teams league.now ≡ schedule.old.teams }
-    requires main { AreMainCells schedule.old mv main }
+    requires can_be_made { IsExchange schedule.old exchange.now }
     requires known { known ≡ cost_of league.now schedule.old }
-    ensures value { IsCostWithin league.now most (moved schedule.old mv) result }
-    ensures schedule { MatchOption result (schedule.new ≡ schedule.old) (λ cost. schedule.new ≡ moved schedule.old mv) }
-    ensures again { AreMainCells schedule.new mv main }
-    ensures back { IfSome result (λ cost. moved schedule.new mv ≡ schedule.old) }
+    ensures value { IsCostWithin league.now most (exchanged_by schedule.old exchange.now) result }
+    ensures schedule { MatchOption result (schedule.new ≡ schedule.old)
+        (λ cost. schedule.new ≡ exchanged_by schedule.old exchange.now) }
+    ensures again { IsExchange schedule.new exchange.now }
+    ensures back { IfSome result (λ cost. exchanged_by schedule.new exchange.now ≡ schedule.old) }
     ensures small { IfSome result (λ cost. score_of league.now cost < score_limit) }
 {
     prove_eq!(league.teams(), schedule.teams());
-    let sides = side_teams(schedule, mv, main);
-    let before = share_of_known(schedule, league, mv, main, sides, known);
+    let scope = Scope::of(exchange, schedule);
+    let before = share_of_known(schedule, league, &scope, known);
     let rest = exchanged(known, before, NOTHING);
-    if is_lost(schedule, league, mv, main, rest, most) {
+    if is_lost(schedule, league, &scope, rest, most) {
         return None;
     }
-    make(schedule, mv, main);
-    let others = share_but_travel(schedule, league, mv, main, sides);
+    exchange.make(schedule);
+    let others = share_but_travel(schedule, league, &scope);
     let least = exchanged(known, before, others);
-    let cost = with_legs_within(schedule, league, mv, main, least, most);
+    let cost = with_legs_within(schedule, league, &scope, least, most);
     if cost.is_none() {
-        make(schedule, mv, main);
+        exchange.make(schedule);
     }
     cost
 }
 
-/// Whether the travel after a move of rounds tells that the score after it is above `most`, where all else that the move
-/// can change is none. It is counted on the schedule before the move, as far as it has to be.
-fn is_lost(
-    schedule: &Schedule,
-    league: &League,
-    mv: Move,
-    main: Touched,
-    rest: Cost,
-    most: u64,
-) -> bool
+/// Whether the travel after an exchange of rounds tells that the score after it is above `most`, where all else that it
+/// can change is none. It is counted on the schedule before it, as far as it has to be.
+fn is_lost(schedule: &Schedule, league: &League, scope: &Scope, rest: Cost, most: u64) -> bool
     requires same_size { teams league.now ≡ schedule.now.teams }
-    requires main { AreMainCells schedule.now mv main }
+    requires scope { IsScope schedule.now scope.now }
     requires small { score_of league.now rest < score_limit }
-    ensures { result ≡ (is_of_rounds mv &&
-        nat_lt most (score_of league.now rest + travel_share league.now mv main (moved schedule.now mv))) }
+    ensures { result ≡ (is_of_rounds scope.now.exchange &&
+        nat_lt most (score_of league.now rest +
+        travel_share league.now scope.now.exchange scope.now.main (exchanged_by schedule.now scope.now.exchange))) }
 {
-    match mv {
-        Move::Rounds { k, l } | Move::PartRounds { k, l, .. } => {
+    match scope.exchange {
+        Exchange::Rounds { k, l, .. } => {
             let score = rest.score(league);
             score > most
-                || travel_exchanged_within(schedule, league, k, l, main, most - score).is_none()
+                || travel_exchanged_within(schedule, league, k, l, scope.main, most - score)
+                    .is_none()
         }
-        Move::Homes { .. } | Move::Teams { .. } | Move::PartTeams { .. } => false,
+        Exchange::Teams { .. } => false,
     }
 }
 
-/// The cost of the schedule where its score is at most `most`, from that without the legs that the move can change.
+/// The cost of the schedule where its score is at most `most`, from that without the legs that the exchange can change.
 /// They are counted only as long as they may be few enough.
 fn with_legs_within(
     schedule: &Schedule,
     league: &League,
-    mv: Move,
-    main: Touched,
+    scope: &Scope,
     least: Cost,
     most: u64,
 ) -> Option<Cost>
     requires same_size { teams league.now ≡ schedule.now.teams }
-    requires with_legs { record least { travel = least.travel + travel_share league.now mv main schedule.now } ≡
+    requires with_legs { record least { travel = least.travel + travel_share league.now scope.now.exchange scope.now.main schedule.now } ≡
         cost_of league.now schedule.now }
     ensures value { IsCostWithin league.now most schedule.now result }
     ensures small { IfSome result (λ cost. score_of league.now cost < score_limit) }
@@ -106,7 +100,7 @@ fn with_legs_within(
     if score > most {
         return None;
     }
-    let legs = travel_share_within(schedule, league, mv, main, most - score)?;
+    let legs = travel_share_within(schedule, league, scope, most - score)?;
     Some(Cost {
         travel: least.travel + legs,
         ..least
@@ -117,19 +111,14 @@ fn with_legs_within(
 fn travel_share_within(
     schedule: &Schedule,
     league: &League,
-    mv: Move,
-    main: Touched,
+    scope: &Scope,
     most: u64,
 ) -> Option<u64>
     requires same_size { teams league.now ≡ schedule.now.teams }
-    ensures { IsTotalWithin most (travel_share league.now mv main schedule.now) result }
+    ensures { IsTotalWithin most (travel_share league.now scope.now.exchange scope.now.main schedule.now) result }
 {
-    match mv {
-        Move::Teams { .. } | Move::PartTeams { .. } => {
-            travel_around_within(schedule, league, main, most)
-        }
-        Move::Homes { .. } | Move::Rounds { .. } | Move::PartRounds { .. } => {
-            travel_part_within(schedule, league, main, most)
-        }
+    match scope.exchange {
+        Exchange::Rounds { .. } => travel_part_within(schedule, league, scope.main, most),
+        Exchange::Teams { .. } => travel_around_within(schedule, league, scope.main, most),
     }
 }

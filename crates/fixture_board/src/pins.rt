@@ -4,17 +4,16 @@ ghost use Rattle.std.specs.Prelude.{◌≡◌, ℕ, ◌+◌, ◌*◌, ◌<◌, �
 ghost use Rattle.std.specs.Prelude.{replicate, slice_set, IfOk};
 ghost use Rattle.league.specs.Limits.{max_teams};
 ghost use Rattle.league.specs.Sets.{has};
-ghost use Rattle.fixtures.specs.Games.{round_count, cell, cell_round};
+ghost use Rattle.fixtures.specs.Games.{round_count, cell};
 ghost use Rattle.fixtures.specs.declared.game.Game.{Game};
-ghost use Rattle.moves.specs.Moves.{moved};
-ghost use Rattle.moves.specs.MainCells.{AreMainCells};
+ghost use Rattle.moves.specs.Exchanges.{exchanged_by, IsExchange};
 ghost use Rattle.fixture_board.specs.History.{moves_pin, AllStand};
-ghost use Rattle.fixture_board.specs.PinPlaces.{free, pin_at, pin_place, pin_places, is_pinned_elsewhere, ArePinsAt};
+ghost use Rattle.fixture_board.specs.PinPlaces.{free, pin_at, pin_place, pin_places, is_pinned_cell, ArePinsAt};
 
-use fixtures::{Cell, Game, Schedule, Touched};
+use fixtures::{Cell, Game, Schedule};
 use league::limits::MAX_TEAMS;
 use league::{SlotSet, TeamSet};
-use moves::{Move, make};
+use moves::Exchange;
 use std::alloc::{AllocError, Global};
 use std::marker::Model;
 
@@ -89,77 +88,65 @@ impl Pins {
         self.rounds[place] = round;
     }
 
-    /// Whether the move would give a pinned game another round. It is made, looked at in its main cells, and made back.
-    pub(crate) fn would_be_moved(&self, schedule: &mut Schedule, mv: Move, main: Touched) -> bool
-        requires { AreMainCells schedule.old mv main }
-        ensures same { schedule.new ≡ schedule.old }
-        ensures value { (held : List Game) → AllStand schedule.old held → ArePinsAt schedule.old held self.now →
-            result ≡ moves_pin (moved schedule.old mv) held }
+    /// Whether the exchange would give a pinned game another round, where pinned games stand in their rounds: whether a
+    /// main team has one in a round of the exchange.
+    pub(crate) fn would_be_moved(&self, schedule: &Schedule, exchange: &Exchange) -> bool
+        requires { IsExchange schedule.now exchange.now }
+        ensures { (held : List Game) → AllStand schedule.now held → ArePinsAt schedule.now held self.now →
+            result ≡ moves_pin (exchanged_by schedule.now exchange.now) held }
     {
         if self.count == 0 {
             return false;
         }
-        make(schedule, mv, main);
-        let are_moved = self.are_moved_in(schedule, main.teams, main.rounds);
-        make(schedule, mv, main);
-        are_moved
+        let main = exchange.main();
+        self.are_in(schedule, main.teams, main.rounds)
     }
 
-    /// Whether a game of one of the teams in one of the rounds is pinned to another round.
-    fn are_moved_in(&self, schedule: &Schedule, teams: TeamSet, rounds: SlotSet) -> bool
+    /// Whether a game of one of the teams in one of the rounds is pinned.
+    fn are_in(&self, schedule: &Schedule, teams: TeamSet, rounds: SlotSet) -> bool
         requires teams { (t : ℕ) → has teams t ≡ true → t < schedule.now.teams }
         requires rounds { (r : ℕ) → has rounds r ≡ true → r < round_count schedule.now.teams }
         ensures none { result ≡ false → (t r : ℕ) → has teams t ≡ true → has rounds r ≡ true →
-            is_pinned_elsewhere self.now t r (cell schedule.now t r) ≡ false }
+            is_pinned_cell self.now t (cell schedule.now t r) ≡ false }
         ensures some { result ≡ true → (t : ℕ) × (r : ℕ) × (has teams t ≡ true) × (has rounds r ≡ true) ×
-            (is_pinned_elsewhere self.now t r (cell schedule.now t r) ≡ true) }
+            (is_pinned_cell self.now t (cell schedule.now t r) ≡ true) }
     {
         for team in teams {
-            if self.are_moved_of(schedule, team, rounds) {
+            if self.are_of(schedule, team, rounds) {
                 return true;
             }
         }
         false
     }
 
-    /// Whether a game of the team in one of the rounds is pinned to another round.
-    fn are_moved_of(&self, schedule: &Schedule, team: u8, rounds: SlotSet) -> bool
+    /// Whether a game of the team in one of the rounds is pinned.
+    fn are_of(&self, schedule: &Schedule, team: u8, rounds: SlotSet) -> bool
         requires team { team < schedule.now.teams }
         requires rounds { (r : ℕ) → has rounds r ≡ true → r < round_count schedule.now.teams }
         ensures none { result ≡ false → (r : ℕ) → has rounds r ≡ true →
-            is_pinned_elsewhere self.now team r (cell schedule.now team r) ≡ false }
+            is_pinned_cell self.now team (cell schedule.now team r) ≡ false }
         ensures some { result ≡ true → (r : ℕ) × (has rounds r ≡ true) ×
-            (is_pinned_elsewhere self.now team r (cell schedule.now team r) ≡ true) }
+            (is_pinned_cell self.now team (cell schedule.now team r) ≡ true) }
     {
         for round in rounds {
-            if self.is_moved(team, round, schedule.game_at(team, round)) {
+            if self.has_cell(team, schedule.game_at(team, round)) {
                 return true;
             }
         }
         false
     }
 
-    /// Whether the game of the team in the round, where this is its cell, is pinned to another round.
-    #[tactic(auto, unfolding(crate::specs::PinPlaces::is_pinned_elsewhere))]
-    fn is_moved(&self, team: u8, round: u8, cell: Cell) -> bool
+    /// Whether the game of the team with this cell is pinned.
+    #[tactic(auto, unfolding(crate::specs::PinPlaces::is_pinned_cell))]
+    fn has_cell(&self, team: u8, cell: Cell) -> bool
         requires team { team < max_teams }
         requires opponent { cell.opponent < max_teams }
-        ensures { result ≡ is_pinned_elsewhere self.now team round cell }
-    {
-        let pinned = self.pin_of(team, cell);
-        pinned != FREE && pinned != round
-    }
-
-    /// The round in which the game of the team and its opponent is pinned, or `FREE`.
-    fn pin_of(&self, team: u8, cell: Cell) -> u8
-        requires team { team < max_teams }
-        requires opponent { cell.opponent < max_teams }
-        ensures { result ≡ cell_round (pin_at self.now) team cell }
+        ensures { result ≡ is_pinned_cell self.now team cell }
     {
         if cell.home {
-            self.rounds[place(team, cell.opponent)]
+            self.has(team, cell.opponent)
         } else {
-            self.rounds[place(cell.opponent, team)]
+            self.has(cell.opponent, team)
         }
     }
 }

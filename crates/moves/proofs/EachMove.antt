@@ -1,19 +1,26 @@
--- The laws of the moves, of each move.
-use Rattle.std.proofs.Common.{◌≡◌, ◌⊎◌, inl, inr, ℕ, Bool, Ok, refl, sym, ◌∙◌, ap, subst}
+-- The laws of the moves, of each move: those of its exchange, and that it can be made again.
+use Rattle.std.proofs.Common.{◌≡◌, ◌≢◌, ℕ, ◌<◌, ◌⊎◌, inl, inr, Bool, true, Ok, refl, sym, ◌∙◌, ap, subst, arith}
+use Rattle.std.proofs.lemmas.Bool.{cases_lt, and_from, and_left, or_left, or_right, or_from, ne_eqb, lt-ltb, le-ltb}
 use Rattle.std.proofs.Math.Path.{fun_ext}
 use Rattle.league.specs.Sets.{has}
-use Rattle.fixtures.specs.Games.{Games, IsDoubleRoundRobin}
+use Rattle.league.proofs.Bits.{has_all_numbers}
+use Rattle.fixtures.specs.Games.{Games, round_of, round_count, IsPair, IsDoubleRoundRobin}
 use Rattle.fixtures.specs.Changes.{DiffersOnlyIn}
+use Rattle.fixtures.proofs.ForCallers.{cases_exchanged, are_apart_true, Meets, meets_swapped, same_opponent}
 use Rattle.fixtures.specs.TouchedCells.{TouchedCells}
+use Rattle.moves.specs.declared.exchanges.Exchange.{Exchange}
 use Rattle.moves.specs.declared.moves.Move.{Move}
 use Rattle.moves.specs.declared.moves.Move.TheVariants.{Homes, Rounds, Teams, PartRounds, PartTeams}
 use Rattle.moves.specs.Moves.{fault_of, moved, touched_team, touched_round}
-use Rattle.moves.specs.MainCells.{main_team, AreMainCells}
-use Rattle.moves.specs.Laws.{OfEachMove, IsItsOwnInverse, StaysDoubleRoundRobin, DiffersWhereTouched}
-use Rattle.moves.proofs.Checked.{at_variant, homes-checked, rounds-checked, teams-checked, part_rounds-checked, part_teams-checked}
-use Rattle.moves.proofs.Exchanges.{ExchangesRounds, ExchangesTeams}
-use Rattle.moves.proofs.WholeMoves.{ExchangesRounds-rounds, ExchangesTeams-teams, IsItsOwnInverse-homes, IsItsOwnInverse-rounds, IsItsOwnInverse-teams, IsDoubleRoundRobin-homes, IsDoubleRoundRobin-rounds, IsDoubleRoundRobin-teams, DiffersOnlyIn-homes, DiffersOnlyIn-rounds, DiffersOnlyIn-teams}
-use Rattle.moves.proofs.PartMoves.{ExchangesRounds-part_rounds, ExchangesTeams-part_teams, IsItsOwnInverse-part_rounds, IsItsOwnInverse-part_teams, IsDoubleRoundRobin-part_rounds, IsDoubleRoundRobin-part_teams, DiffersOnlyIn-part_rounds, DiffersOnlyIn-part_teams}
+use Rattle.moves.specs.Exchanges.{exchange_of, exchanged_by, main_cells, touched_of, touched_by}
+use Rattle.moves.specs.Laws.{OfEachMove, IsItsOwnInverse, StaysDoubleRoundRobin, DiffersWhereTouched, DiffersInEach, DiffersInEachTouched}
+use Rattle.moves.proofs.Checked.{homes-checked, rounds-checked, teams-checked, part_rounds-checked, part_teams-checked}
+use Rattle.moves.proofs.MovesAsExchanges.{each-exchange}
+use Rattle.moves.proofs.EachExchange.{each-undone, each-differs_by, each-in_touched}
+use Rattle.moves.proofs.Sets.{has-both}
+use Rattle.moves.proofs.TouchedTeams.{touched-first, touched-second, touched-other}
+use Rattle.moves.proofs.WholeMoves.{apart, has-apart, IsItsOwnInverse-homes, IsItsOwnInverse-rounds, IsItsOwnInverse-teams}
+use Rattle.moves.proofs.PartMoves.{has-movers, has-taken, IsItsOwnInverse-part_rounds, IsItsOwnInverse-part_teams}
 
 pub each-its_own_inverse : OfEachMove IsItsOwnInverse
 each-its_own_inverse g (Homes i j) rr checked = IsItsOwnInverse-homes g rr i j (homes-checked g i j checked) checked
@@ -26,92 +33,95 @@ each-its_own_inverse g (PartTeams i j k) rr checked =
     IsItsOwnInverse-part_teams g rr i j k (part_teams-checked g i j k checked) checked
 
 pub each-double_round_robin : OfEachMove StaysDoubleRoundRobin
-each-double_round_robin g (Homes i j) rr checked = IsDoubleRoundRobin-homes g rr i j (homes-checked g i j checked)
-each-double_round_robin g (Rounds k l) rr checked = IsDoubleRoundRobin-rounds g rr k l (rounds-checked g k l checked)
-each-double_round_robin g (Teams i j) rr checked = IsDoubleRoundRobin-teams g rr i j (teams-checked g i j checked)
-each-double_round_robin g (PartRounds i k l) rr checked =
+each-double_round_robin g mv rr checked =
+    let one = each-exchange g mv rr checked in
+    subst IsDoubleRoundRobin (sym one.is) (each-undone g (exchange_of g mv) one.can_be_made).again.round_robin
+
+-- all teams are touched by an exchange of two in all rounds in which they don't meet
+module _ (g : Games) (rr : IsDoubleRoundRobin g) (i j : ℕ) (p : IsPair g.teams i j) where
+  all_touched : (t : ℕ) → t < g.teams → (t ≡ i) ⊎ ((t ≡ j) ⊎ ((t ≢ i) × (t ≢ j))) →
+      touched_of g i j (apart g rr i j p) t ≡ true
+  all_touched t _ (inl e) = ap (touched_of g i j (apart g rr i j p)) e ∙ touched-first g i j (apart g rr i j p) p
+  all_touched t _ (inr (inl e)) = ap (touched_of g i j (apart g rr i j p)) e ∙ touched-second g i j (apart g rr i j p) p
+  all_touched t in_t (inr (inr ne)) =
+      let q : IsPair g.teams t i = record { home_in = in_t; away_in = p.home_in; distinct = ne.0 } in
+      let met : Meets g t i (round_of g t i) = (q, inl refl) in
+      touched-other g i j (apart g rr i j p) p t in_t
+      (or_left _ _ (or_left _ _ (or_right (apart g rr i j p (round_of g i t)) _
+      (and_from _ _ (lt-ltb (round_of g t i) (round_count g.teams) (rr.in_range t i q))
+      (are_apart_true g i j (round_of g t i)
+      (λ theirs. ne.1 (same_opponent g rr i t j (round_of g t i) (meets_swapped g t i (round_of g t i) met) theirs)) p)))))
+
+  whole_touched : (t : ℕ) → touched_team g (Teams i j) t ≡ touched_of g i j (apart g rr i j p) t
+  whole_touched t =
+      elim (cases_lt t g.teams) [
+        | inl lt ↦ lt-ltb t g.teams lt ∙ sym (all_touched t lt (cases_exchanged i j t))
+        | inr le ↦
+            le-ltb t g.teams le ∙
+            sym (or_from _ _ (or_from _ _ (ne_eqb t i (λ e. omega arith)) (ne_eqb t j (λ e. omega arith)))
+            (and_left _ _ (le-ltb t g.teams le)))
+      ]
+
+pub same_touched_team : (g : Games) (mv : Move) → IsDoubleRoundRobin g → fault_of g mv ≡ Ok tt → (t : ℕ) →
+    touched_team g mv t ≡ touched_by g (exchange_of g mv) t
+same_touched_team g (Homes i j) rr checked t = sym (has-both i j t)
+same_touched_team g (Rounds k l) rr checked t = sym (has_all_numbers g.teams t)
+same_touched_team g (Teams i j) rr checked t =
+    let p = teams-checked g i j checked in
+    whole_touched g rr i j p t ∙ ap (λ among. touched_of g i j among t) (sym (fun_ext (has-apart g rr i j p)))
+same_touched_team g (PartRounds i k l) rr checked t =
     let known = part_rounds-checked g i k l checked in
-    IsDoubleRoundRobin-part_rounds g rr i k l known.0 known.1
-each-double_round_robin g (PartTeams i j k) rr checked =
-    IsDoubleRoundRobin-part_teams g rr i j k (part_teams-checked g i j k checked)
+    sym (has-movers g rr i k l known.0 known.1 t)
+same_touched_team g (PartTeams i j k) rr checked t =
+    ap (λ among. touched_of g i j among t) (sym (fun_ext (has-taken g rr i j k (part_teams-checked g i j k checked))))
+
+pub same_touched_round : (g : Games) (mv : Move) → IsDoubleRoundRobin g → fault_of g mv ≡ Ok tt → (r : ℕ) →
+    touched_round g mv r ≡ has (main_cells (exchange_of g mv)).rounds r
+same_touched_round g (Homes i j) rr checked r = sym (has-both (round_of g i j) (round_of g j i) r)
+same_touched_round g (Rounds k l) rr checked r = sym (has-both k l r)
+same_touched_round g (Teams i j) rr checked r = sym (has-apart g rr i j (teams-checked g i j checked) r)
+same_touched_round g (PartRounds i k l) rr checked r = sym (has-both k l r)
+same_touched_round g (PartTeams i j k) rr checked r = sym (has-taken g rr i j k (part_teams-checked g i j k checked) r)
+
+-- what holds of the exchange over what it touches holds of the move
+by_exchange : (Law : Games → Games → (ℕ → Bool) → (ℕ → Bool) → Type 0) → (g : Games) (mv : Move) →
+    IsDoubleRoundRobin g → fault_of g mv ≡ Ok tt →
+    Law g (exchanged_by g (exchange_of g mv)) (touched_by g (exchange_of g mv)) (has (main_cells (exchange_of g mv)).rounds) →
+    Law g (moved g mv) (touched_team g mv) (touched_round g mv)
+by_exchange Law g mv rr checked of_exchange =
+    subst (λ (x : Games). Law g x (touched_team g mv) (touched_round g mv)) (sym (each-exchange g mv rr checked).is)
+    (subst (λ teams. Law g (exchanged_by g (exchange_of g mv)) teams (touched_round g mv))
+    (sym (fun_ext (same_touched_team g mv rr checked)))
+    (subst (Law g (exchanged_by g (exchange_of g mv)) (touched_by g (exchange_of g mv)))
+    (sym (fun_ext (same_touched_round g mv rr checked))) of_exchange))
 
 pub each-differs : OfEachMove DiffersWhereTouched
-each-differs g (Homes i j) rr checked = DiffersOnlyIn-homes g rr i j (homes-checked g i j checked)
-each-differs g (Rounds k l) rr checked = DiffersOnlyIn-rounds g rr k l (rounds-checked g k l checked)
-each-differs g (Teams i j) rr checked = DiffersOnlyIn-teams g rr i j (teams-checked g i j checked)
-each-differs g (PartRounds i k l) rr checked =
-    let known = part_rounds-checked g i k l checked in
-    DiffersOnlyIn-part_rounds g rr i k l known.0 known.1
-each-differs g (PartTeams i j k) rr checked =
-    DiffersOnlyIn-part_teams g rr i j k (part_teams-checked g i j k checked)
+each-differs g mv rr checked =
+    by_exchange DiffersOnlyIn g mv rr checked
+    (each-differs_by g (exchange_of g mv) (each-exchange g mv rr checked).can_be_made)
 
--- where the sets have just what is touched
-pub differs-by_sets : (g : Games) (mv : Move) → IsDoubleRoundRobin g → fault_of g mv ≡ Ok tt → (teams rounds : ℕ) →
-    ((t : ℕ) → has teams t ≡ touched_team g mv t) → ((r : ℕ) → has rounds r ≡ touched_round g mv r) →
-    DiffersOnlyIn g (moved g mv) (has teams) (has rounds)
-differs-by_sets g mv rr checked teams rounds same_teams same_rounds =
-    subst (λ (test : ℕ → Bool). DiffersOnlyIn g (moved g mv) test (has rounds)) (sym (fun_ext same_teams))
-    (subst (λ (test : ℕ → Bool). DiffersOnlyIn g (moved g mv) (touched_team g mv) test) (sym (fun_ext same_rounds))
-    (each-differs g mv rr checked))
+pub each-differs_in_touched : OfEachMove DiffersInEachTouched
+each-differs_in_touched g mv rr checked =
+    by_exchange DiffersInEach g mv rr checked
+    (each-in_touched g (exchange_of g mv) (each-exchange g mv rr checked).can_be_made)
 
--- a move of rounds or of a part of them exchanges them for its main teams
-pub each-exchanges_rounds : (g : Games) (mv : Move) (cells : TouchedCells) → AreMainCells g mv cells → (k l : ℕ) →
-    (mv ≡ Rounds k l) ⊎ ((i : ℕ) × (mv ≡ PartRounds i k l)) → ExchangesRounds g mv k l (has cells.teams)
-each-exchanges_rounds g mv cells main k l is =
-    subst (ExchangesRounds g mv k l) (sym (fun_ext main.teams)) (by_variant is)
-  where
-    by_variant : (mv ≡ Rounds k l) ⊎ ((i : ℕ) × (mv ≡ PartRounds i k l)) → ExchangesRounds g mv k l (main_team g mv)
-    by_variant (inl e) =
-        subst (λ (m : Move). ExchangesRounds g m k l (main_team g m)) (sym e)
-        (ExchangesRounds-rounds g main.round_robin k l
-        (rounds-checked g k l (at_variant g mv (Rounds k l) e main.checked)))
-    by_variant (inr e) =
-        let known = part_rounds-checked g e.0 k l (at_variant g mv (PartRounds e.0 k l) e.1 main.checked) in
-        subst (λ (m : Move). ExchangesRounds g m k l (main_team g m)) (sym e.1)
-        (ExchangesRounds-part_rounds g main.round_robin e.0 k l known.0 known.1)
+-- what is told of a move's exchange, over sets of teams and rounds, is what is told of the move
+pub record TellsTouched (g : Games) (mv : Move) (cells : TouchedCells) : Type 0 where
+  pub teams : (t : ℕ) → has cells.teams t ≡ touched_team g mv t
+  pub rounds : (r : ℕ) → has cells.rounds r ≡ touched_round g mv r
 
--- a move of teams or of a part of them exchanges them in the rounds that it touches
-pub each-exchanges_teams : (g : Games) (mv : Move) (cells : TouchedCells) → AreMainCells g mv cells → (i j : ℕ) →
-    (mv ≡ Teams i j) ⊎ ((k : ℕ) × (mv ≡ PartTeams i j k)) → ExchangesTeams g mv i j (has cells.rounds)
-each-exchanges_teams g mv cells main i j is =
-    subst (ExchangesTeams g mv i j) (sym (fun_ext main.rounds)) (by_variant is)
-  where
-    by_variant : (mv ≡ Teams i j) ⊎ ((k : ℕ) × (mv ≡ PartTeams i j k)) → ExchangesTeams g mv i j (touched_round g mv)
-    by_variant (inl e) =
-        subst (λ (m : Move). ExchangesTeams g m i j (touched_round g m)) (sym e)
-        (ExchangesTeams-teams g main.round_robin i j (teams-checked g i j (at_variant g mv (Teams i j) e main.checked)))
-    by_variant (inr e) =
-        subst (λ (m : Move). ExchangesTeams g m i j (touched_round g m)) (sym e.1)
-        (ExchangesTeams-part_teams g main.round_robin i j e.0
-        (part_teams-checked g i j e.0 (at_variant g mv (PartTeams i j e.0) e.1 main.checked)))
+pub tells_touched : (g : Games) → IsDoubleRoundRobin g → (mv : Move) → fault_of g mv ≡ Ok tt → (exchange : Exchange) →
+    exchange ≡ exchange_of g mv → (cells : TouchedCells) → ((t : ℕ) → has cells.teams t ≡ touched_by g exchange t) →
+    cells.rounds ≡ (main_cells exchange).rounds → TellsTouched g mv cells
+tells_touched g rr mv checked exchange is cells teams rounds = record {
+  teams = λ t. teams t ∙ ap (λ (e : Exchange). touched_by g e t) is ∙ sym (same_touched_team g mv rr checked t);
+  rounds = λ r. ap (λ set. has set r) rounds ∙ ap (λ (e : Exchange). has (main_cells e).rounds r) is ∙
+      sym (same_touched_round g mv rr checked r);
+}
 
--- the main teams are the same on the schedule that the move gives
-same_main_team : (g : Games) (mv : Move) → IsItsOwnInverse g mv → (t : ℕ) → main_team (moved g mv) mv t ≡
-    main_team g mv t
-same_main_team g (Homes i j) twice t = twice.teams t
-same_main_team g (Rounds k l) twice t = twice.teams t
-same_main_team g (Teams i j) twice t = refl
-same_main_team g (PartRounds i k l) twice t = twice.teams t
-same_main_team g (PartTeams i j k) twice t = refl
-
-pub AreMainCells-moved : (g : Games) (mv : Move) (cells : TouchedCells) → AreMainCells g mv cells →
-    AreMainCells (moved g mv) mv cells
-AreMainCells-moved g mv cells main =
-    let twice = each-its_own_inverse g mv main.round_robin main.checked in
-    record {
-      round_robin = each-double_round_robin g mv main.round_robin main.checked;
-      checked = twice.can_be_made;
-      teams = λ t. main.teams t ∙ sym (same_main_team g mv twice t);
-      rounds = λ r. main.rounds r ∙ sym (twice.rounds r);
-    }
-
--- made, it can be made once more with the same cells, and is then taken back
-pub made-again : (g g' : Games) (mv : Move) (cells : TouchedCells) → AreMainCells g mv cells → g' ≡ moved g mv →
-    AreMainCells g' mv cells
-made-again g g' mv cells main is = subst (λ (x : Games). AreMainCells x mv cells) (sym is)
-    (AreMainCells-moved g mv cells main)
-
-pub made-back : (g g' : Games) (mv : Move) (cells : TouchedCells) → AreMainCells g mv cells → g' ≡ moved g mv →
-    moved g' mv ≡ g
-made-back g g' mv cells main is =
-    ap (λ (x : Games). moved x mv) is ∙ (each-its_own_inverse g mv main.round_robin main.checked).back
+pub differs_by : (g g' : Games) → IsDoubleRoundRobin g → (mv : Move) → fault_of g mv ≡ Ok tt → g' ≡ moved g mv →
+    (cells : TouchedCells) → TellsTouched g mv cells → DiffersOnlyIn g g' (has cells.teams) (has cells.rounds)
+differs_by g g' rr mv checked made cells tells =
+    subst (λ (x : Games). DiffersOnlyIn g x (has cells.teams) (has cells.rounds)) (sym made)
+    (subst (λ teams. DiffersOnlyIn g (moved g mv) teams (has cells.rounds)) (sym (fun_ext tells.teams))
+    (subst (DiffersOnlyIn g (moved g mv) (touched_team g mv)) (sym (fun_ext tells.rounds)) (each-differs g mv rr checked)))

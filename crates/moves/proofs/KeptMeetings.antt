@@ -1,15 +1,17 @@
--- The same pairs meet after a move of homes, and after one of teams under each other's names.
-use Rattle.std.proofs.Common.{◌≡◌, ℕ, ◌<◌, inl, inr, Bool, true, false, cond, eqb, refl, sym, ◌∙◌, ap, subst}
-use Rattle.std.proofs.lemmas.Bool.{or_cases, eqb-true}
+-- After which exchanges the same pairs meet.
+use Rattle.std.proofs.Common.{◌≡◌, ℕ, ◌<◌, inl, inr, Bool, true, false, not, ◌&&◌, cond, eqb, refl, sym, ◌∙◌, ap, subst, arith}
+use Rattle.std.proofs.lemmas.Bool.{eqb-true, lt-ltb, not-true}
+use Rattle.league.specs.Sets.{has}
+use Rattle.league.proofs.ForCallers.{any_below_fails}
 use Rattle.fixtures.specs.declared.game.Cell.{Cell}
-use Rattle.fixtures.specs.Games.{Games, round_of, IsPair, IsDoubleRoundRobin, cell}
-use Rattle.fixtures.specs.Edits.{exchanged}
+use Rattle.fixtures.specs.Games.{Games, round_count, IsPair, IsDoubleRoundRobin, cell}
+use Rattle.fixtures.specs.Edits.{exchanged, rounds_exchanged, teams_exchanged}
 use Rattle.fixtures.specs.Changes.{MeetingsExchanged}
-use Rattle.fixtures.proofs.ForCallers.{pair_swapped, is_cell, exchanged_first, exchanged_second, exchanged_other, cases_exchanged, Meets, meets_swapped, meets_in_range, same_opponent, are_apart, meets_cell, other_cell, cell_homes_exchanged, cell_all_games_exchanged, are_apart_false}
-use Rattle.moves.specs.declared.moves.Move.TheVariants.{Homes, Teams, Rounds, PartRounds, PartTeams}
-use Rattle.moves.specs.Moves.{moved, touched_team}
-use Rattle.moves.specs.Laws.{OfEachMove, KeepsMeetings}
-use Rattle.moves.proofs.Checked.{homes-checked, teams-checked}
+use Rattle.fixtures.proofs.ForCallers.{is_cell, exchanged_first, exchanged_second, exchanged_other, cases_exchanged, Meets, meets_swapped, meets_in_range, same_opponent, are_apart, meets_cell, other_cell, cell_rounds_exchanged, cell_teams_exchanged, stays_among_closed, are_apart_false}
+use Rattle.moves.specs.declared.exchanges.Exchange.TheVariants as edit
+use Rattle.moves.specs.Exchanges.{IsOfRounds, IsOfTeams, rounds_apart}
+use Rattle.moves.specs.Laws.{OfEachExchange, KeepsMeetings}
+use Rattle.moves.proofs.Sets.{has-set_where}
 
 exchanged-same : (i x : ℕ) → exchanged i i x ≡ x
 exchanged-same i x =
@@ -25,61 +27,39 @@ opponent-meets g rr t o r met =
     same_opponent g rr t (cell g t r).opponent o r
     (meets_cell g t r (cell g t r) (is_cell g rr t r met.0.home_in (meets_in_range g rr t o r met))) met
 
--- ---- homes
+-- ---- rounds
 
-module _ (g : Games) (rr : IsDoubleRoundRobin g) (i j : ℕ) (p : IsPair g.teams i j) where
-  abbrev k : ℕ
-  k = round_of g i j
-
-  abbrev l : ℕ
-  l = round_of g j i
-
-  -- the two teams meet each other in both rounds
-  same_opponent-either : (t o r : ℕ) → Meets g t o k → Meets g t o l →
-      (cell g t (exchanged k l r)).opponent ≡ (cell g t r).opponent
-  same_opponent-either t o r in_k in_l =
+module _ (g : Games) (rr : IsDoubleRoundRobin g) (k l : ℕ) (among : ℕ → Bool) (fits : IsOfRounds g k l among)
+    (same : (t : ℕ) → among t ≡ true → (cell g t k).opponent ≡ (cell g t l).opponent) where
+  same_opponent-exchanged : (t r : ℕ) → among t ≡ true → (cell g t (exchanged k l r)).opponent ≡ (cell g t r).opponent
+  same_opponent-exchanged t r is_in =
       elim (cases_exchanged k l r) [
         | inl e ↦
-            ap (λ x. (cell g t (exchanged k l x)).opponent) e ∙ ap (λ x. (cell g t x).opponent) (exchanged_first k l) ∙
-            opponent-meets g rr t o l in_l ∙ sym (opponent-meets g rr t o k in_k) ∙
+            ap (λ x. (cell g t x).opponent) (ap (exchanged k l) e ∙ exchanged_first k l) ∙ sym (same t is_in) ∙
             ap (λ x. (cell g t x).opponent) (sym e)
         | inr (inl e) ↦
-            ap (λ x. (cell g t (exchanged k l x)).opponent) e ∙ ap (λ x. (cell g t x).opponent) (exchanged_second k l) ∙
-            opponent-meets g rr t o k in_k ∙ sym (opponent-meets g rr t o l in_l) ∙
+            ap (λ x. (cell g t x).opponent) (ap (exchanged k l) e ∙ exchanged_second k l) ∙ same t is_in ∙
             ap (λ x. (cell g t x).opponent) (sym e)
         | inr (inr ne) ↦ ap (λ x. (cell g t x).opponent) (exchanged_other k l r ne.0 ne.1)
       ]
 
-  same_opponent-two : (t r : ℕ) → touched_team g (Homes i j) t ≡ true →
-      (cell g t (exchanged k l r)).opponent ≡ (cell g t r).opponent
-  same_opponent-two t r e =
-      elim (or_cases (eqb t i) (eqb t j) e) [
-        | inl at_i ↦
-            subst (λ x. (cell g x (exchanged k l r)).opponent ≡ (cell g x r).opponent) (sym (eqb-true t i at_i))
-            (same_opponent-either i j r (p, inl refl) (p, inr refl))
-        | inr at_j ↦
-            subst (λ x. (cell g x (exchanged k l r)).opponent ≡ (cell g x r).opponent) (sym (eqb-true t j at_j))
-            (same_opponent-either j i r (back, inr refl) (back, inl refl))
-      ]
-    where
-      back : IsPair g.teams j i
-      back = pair_swapped g.teams i j p
-
-  either : (t r : ℕ) (b : Bool) → (b ≡ true → (cell g t (exchanged k l r)).opponent ≡ (cell g t r).opponent) →
+  either : (t r : ℕ) (b : Bool) → among t ≡ b →
       (cond b (cell g t (exchanged k l r)) (cell g t r)).opponent ≡ (cell g t r).opponent
-  either t r true same = same refl
+  either t r true e = same_opponent-exchanged t r e
   either t r false _ = refl
 
-  pub MeetingsExchanged-homes : MeetingsExchanged g (moved g (Homes i j)) i i
-  MeetingsExchanged-homes = record {
+  -- under the same names
+  pub MeetingsExchanged-rounds : MeetingsExchanged g (rounds_exchanged g k l among) 0 0
+  MeetingsExchanged-rounds = record {
     same_size = refl;
-    in_i = p.home_in;
-    in_j = p.home_in;
+    in_i = omega (arith, rr.four);
+    in_j = omega (arith, rr.four);
     same = λ t r in_t in_r.
-        ap (λ (c : Cell). c.opponent) (cell_homes_exchanged g rr i j p t r in_t in_r) ∙
-        either t r (touched_team g (Homes i j) t) (same_opponent-two t r) ∙
-        ap (λ x. (cell g x r).opponent) (sym (exchanged-same i t)) ∙
-        sym (exchanged-same i (cell g (exchanged i i t) r).opponent);
+        ap (λ (c : Cell). c.opponent)
+        (cell_rounds_exchanged g rr k l fits.pair.home_in fits.pair.away_in among fits.closed t r in_t in_r) ∙
+        either t r (among t) refl ∙
+        ap (λ x. (cell g x r).opponent) (sym (exchanged-same 0 t)) ∙
+        sym (exchanged-same 0 (cell g (exchanged 0 0 t) r).opponent);
   }
 
 -- ---- teams
@@ -110,25 +90,43 @@ module _ (g : Games) (rr : IsDoubleRoundRobin g) (i j : ℕ) (p : IsPair g.teams
       opponent : Meets g t (cell g t r).opponent r
       opponent = meets_cell g t r (cell g t r) (is_cell g rr t r in_t (meets_in_range g rr i j r met))
 
-  pub MeetingsExchanged-teams : MeetingsExchanged g (moved g (Teams i j)) i j
-  MeetingsExchanged-teams = record {
+  -- in a set of all rounds in which they don't meet
+  pub MeetingsExchanged-teams : (among : ℕ → Bool) → IsOfTeams g i j among →
+      ((r : ℕ) → r < round_count g.teams → among r ≡ are_apart g i j r) →
+      MeetingsExchanged g (teams_exchanged g i j among) i j
+  MeetingsExchanged-teams among fits all = record {
     same_size = refl;
     in_i = p.home_in;
     in_j = p.away_in;
     same = λ t r in_t in_r.
-        ap (λ (c : Cell). c.opponent) (cell_all_games_exchanged g rr i j p t r in_t in_r) ∙
-        either t r in_t (are_apart g i j r) refl;
+        ap (λ (c : Cell). c.opponent)
+        (cell_teams_exchanged g rr i j among p.home_in p.away_in
+        (stays_among_closed g i j among fits.first_out fits.second_out fits.closed) t r in_t in_r) ∙
+        either_way t r in_t (among r) (all r in_r);
   }
     where
-      either : (t r : ℕ) → t < g.teams → (b : Bool) → are_apart g i j r ≡ b →
+      either_way : (t r : ℕ) → t < g.teams → (b : Bool) → b ≡ are_apart g i j r →
           (cond b (other_cell i j (cell g (exchanged i j t) r)) (cell g t r)).opponent ≡
           exchanged i j (cell g (exchanged i j t) r).opponent
-      either t r in_t true _ = refl
-      either t r in_t false e = where_they_meet t r in_t (are_apart_false g i j r p e)
+      either_way t r in_t true _ = refl
+      either_way t r in_t false e = where_they_meet t r in_t (are_apart_false g i j r p (sym e))
 
-pub each-keeps_meetings : OfEachMove KeepsMeetings
-each-keeps_meetings g (Homes i j) rr checked = MeetingsExchanged-homes g rr i j (homes-checked g i j checked)
-each-keeps_meetings g (Teams i j) rr checked = MeetingsExchanged-teams g rr i j (teams-checked g i j checked)
-each-keeps_meetings g (Rounds k l) rr checked = tt
-each-keeps_meetings g (PartRounds i k l) rr checked = tt
-each-keeps_meetings g (PartTeams i j k) rr checked = tt
+pub each-keeps_meetings : OfEachExchange KeepsMeetings
+each-keeps_meetings g (edit.Rounds k l among) can keeps =
+    (0, 0, MeetingsExchanged-rounds g can.round_robin k l (has among) can.fits same)
+  where
+    same : (t : ℕ) → has among t ≡ true → (cell g t k).opponent ≡ (cell g t l).opponent
+    same t is_in =
+        eqb-true _ _ (second (has among t) _ is_in
+        (any_below_fails g.teams (λ t. has among t && not (eqb (cell g t k).opponent (cell g t l).opponent))
+        (not-true _ keeps) t (can.fits.below t is_in)))
+      where
+        second : (b x : Bool) → b ≡ true → (b && not x) ≡ false → x ≡ true
+        second true true _ _ = refl
+        second true false _ e = sym e
+        second false x e _ = absurd (cc)
+each-keeps_meetings g (edit.Teams i j among) can keeps =
+    (i, j, MeetingsExchanged-teams g can.round_robin i j can.fits.pair (has among) can.fits (λ r in_r.
+    ap (λ set. has set r) (eqb-true among (rounds_apart g i j) keeps) ∙
+    has-set_where (round_count g.teams) (are_apart g i j) r ∙
+    ap (λ b. b && are_apart g i j r) (lt-ltb r (round_count g.teams) in_r)))

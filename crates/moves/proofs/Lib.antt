@@ -1,12 +1,14 @@
 pub mod Checked
-pub mod Exchanges
+pub mod Sets
+pub mod TouchedTeams
 pub mod WholeMoves
 pub mod PartMoves
-pub mod EachMove
+pub mod MovesAsExchanges
 pub mod Around
-pub mod EachAround
 pub mod KeptMeetings
 pub mod DiffersThere
+pub mod EachExchange
+pub mod EachMove
 pub mod Added
 pub mod TeamChain
 pub mod RoundChain

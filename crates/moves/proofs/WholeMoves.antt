@@ -1,16 +1,40 @@
 -- The laws of the moves of homes, of rounds and of teams.
-use Rattle.std.proofs.Common.{◌≡◌, ℕ, ◌<◌, inl, inr, Bool, true, false, not, ◌&&◌, ◌||◌, eqb, ltb, refl, sym, ◌∙◌, ap, ap₂, subst, Ok}
+use Rattle.std.proofs.Common.{◌≡◌, ◌≢◌, ℕ, ◌<◌, inl, inr, Bool, true, not, ◌&&◌, ◌||◌, eqb, ltb, refl, sym, ◌∙◌, ap, ap₂, subst, Ok, arith}
 use Rattle.std.proofs.Math.Bool.{or_comm}
-use Rattle.std.proofs.lemmas.Bool.{cond-true, and_from, and_right, or_left, or_right, or_from, eq-eqb, ne_eqb, lt-ltb}
+use Rattle.std.proofs.lemmas.Bool.{cases_eq, cond-true, and_from, and_parts, and_right, or_cases, or_left, or_right, or_from, eqb-true, eq-eqb, ne_eqb, lt-ltb, ltb-true, not_from_false}
+use Rattle.league.specs.Sets.{has}
 use Rattle.fixtures.specs.Games.{Games, round_of, round_count, IsPair, IsDoubleRoundRobin}
 use Rattle.fixtures.specs.Edits.{exchanged, homes_exchanged, rounds_exchanged, teams_exchanged, all_games_exchanged}
-use Rattle.fixtures.specs.Closed.{IsClosed, plays_in, shares_opponent}
-use Rattle.fixtures.specs.Changes.{DiffersOnlyIn}
-use Rattle.fixtures.proofs.ForCallers.{pair_swapped, round_of_games, games_ext, plays_in_parts, rounds_exchanged_twice, round_of_homes_exchanged, homes_exchanged_twice, IsTwo, is_closed_two, homes_rounds_exchanged, stays_among_closed, StaysAmong, teams_exchanged_twice, differs_only_in_games, round_robin_rounds_exchanged, kept_rounds_exchanged, round_robin_teams_exchanged, kept_teams_exchanged, are_apart, are_apart_first, are_apart_second, are_apart_step, shares_in_range, all_games_exchanged_rounds}
+use Rattle.fixtures.proofs.ForCallers.{pair_swapped, distinct_rounds, round_of_games, games_ext, plays_in_parts, rounds_exchanged_twice, round_of_homes_exchanged, homes_exchanged_twice, IsTwo, is_closed_two, homes_rounds_exchanged, stays_among_closed, StaysAmong, teams_exchanged_twice, round_robin_teams_exchanged, are_apart, are_apart_first, are_apart_second, are_apart_step, shares_in_range, all_games_exchanged_rounds}
 use Rattle.moves.specs.declared.moves.Move.TheVariants.{Homes, Rounds, Teams}
-use Rattle.moves.specs.Moves.{fault_of, touched_team, touched_round}
+use Rattle.moves.specs.Moves.{fault_of}
+use Rattle.moves.specs.Exchanges.{IsOfRounds, IsOfTeams, rounds_apart as set_apart}
 use Rattle.moves.specs.Laws.{IsItsOwnInverse}
-use Rattle.moves.proofs.Exchanges.{ExchangesRounds, ExchangesTeams}
+use Rattle.moves.proofs.Sets.{has-set_where}
+
+-- one of the first three numbers is neither of two
+third_number : (k l : ℕ) → (r : ℕ) × (r < 3) × (r ≢ k) × (r ≢ l)
+third_number k l =
+    elim (cases_eq 0 k) [
+      | inl e ↦ elim (cases_eq 1 l) [
+        | inl f ↦ (2, omega arith, λ h. absurd (omega arith), λ h. absurd (omega arith))
+        | inr f ↦ (1, omega arith, λ h. absurd (omega arith), f)
+      ]
+      | inr e ↦ elim (cases_eq 0 l) [
+        | inl f ↦ elim (cases_eq 1 k) [
+          | inl h ↦ (2, omega arith, λ o. absurd (omega arith), λ o. absurd (omega arith))
+          | inr h ↦ (1, omega arith, h, λ o. absurd (omega arith))
+        ]
+        | inr f ↦ (0, omega arith, e, f)
+      ]
+    ]
+
+pub two_below : (n i j : ℕ) → IsPair n i j → (t : ℕ) → (eqb t i || eqb t j) ≡ true → t < n
+two_below n i j p t e =
+    elim (or_cases (eqb t i) (eqb t j) e) [
+      | inl at_i ↦ subst (λ x. x < n) (sym (eqb-true t i at_i)) p.home_in
+      | inr at_j ↦ subst (λ x. x < n) (sym (eqb-true t j at_j)) p.away_in
+    ]
 
 -- ---- homes
 
@@ -25,30 +49,20 @@ module _ (g : Games) (rr : IsDoubleRoundRobin g) (i j : ℕ) (p : IsPair g.teams
     others = λ t not_i not_j. or_from (eqb t i) (eqb t j) (ne_eqb t i not_i) (ne_eqb t j not_j);
   }
 
-  closed_two : IsClosed (plays_in g (round_of g i j) (round_of g j i)) two
-  closed_two = is_closed_two g rr i j p two is_two
+  pub IsOfRounds-homes : IsOfRounds g (round_of g i j) (round_of g j i) two
+  IsOfRounds-homes = record {
+    pair = record {
+      home_in = rr.in_range i j p;
+      away_in = rr.in_range j i (pair_swapped g.teams i j p);
+      distinct = distinct_rounds g rr i j p;
+    };
+    below = two_below g.teams i j p;
+    some = (i, is_two.first);
+    closed = is_closed_two g rr i j p two is_two;
+  }
 
-  as_rounds : rounds_exchanged g (round_of g i j) (round_of g j i) two ≡ homes_exchanged g i j
+  pub as_rounds : rounds_exchanged g (round_of g i j) (round_of g j i) two ≡ homes_exchanged g i j
   as_rounds = homes_rounds_exchanged g rr i j p two is_two
-
-  pub ExchangesRounds-homes : ExchangesRounds g (Homes i j) (round_of g i j) (round_of g j i)
-      (touched_team g (Homes i j))
-  ExchangesRounds-homes = record { closed = closed_two; is = sym as_rounds }
-
-  by_rounds : IsDoubleRoundRobin (rounds_exchanged g (round_of g i j) (round_of g j i) two)
-  by_rounds =
-      round_robin_rounds_exchanged g rr (round_of g i j) (round_of g j i) (rr.in_range i j p)
-      (rr.in_range j i (pair_swapped g.teams i j p)) two closed_two
-
-  pub IsDoubleRoundRobin-homes : IsDoubleRoundRobin (homes_exchanged g i j)
-  IsDoubleRoundRobin-homes = subst IsDoubleRoundRobin as_rounds by_rounds
-
-  pub DiffersOnlyIn-homes : DiffersOnlyIn g (homes_exchanged g i j) (touched_team g (Homes i j))
-      (touched_round g (Homes i j))
-  DiffersOnlyIn-homes =
-      subst (λ (x : Games). DiffersOnlyIn g x two (touched_round g (Homes i j))) as_rounds
-      (differs_only_in_games g _ two (touched_round g (Homes i j)) rr by_rounds refl
-      (kept_rounds_exchanged g (round_of g i j) (round_of g j i) two closed_two))
 
   here : round_of (homes_exchanged g i j) i j ≡ round_of g j i
   here =
@@ -74,30 +88,20 @@ module _ (g : Games) (rr : IsDoubleRoundRobin g) (i j : ℕ) (p : IsPair g.teams
 -- ---- rounds
 
 module _ (g : Games) (rr : IsDoubleRoundRobin g) (k l : ℕ) (p : IsPair (round_count g.teams) k l) where
-  closed_all : IsClosed (plays_in g k l) (λ _. true)
-  closed_all t u _ _ = refl
-
-  pub IsDoubleRoundRobin-rounds : IsDoubleRoundRobin (rounds_exchanged g k l (λ _. true))
-  IsDoubleRoundRobin-rounds = round_robin_rounds_exchanged g rr k l p.home_in p.away_in (λ _. true) closed_all
-
-  pub DiffersOnlyIn-rounds : DiffersOnlyIn g (rounds_exchanged g k l (λ _. true)) (touched_team g (Rounds k l))
-      (touched_round g (Rounds k l))
-  DiffersOnlyIn-rounds =
-      differs_only_in_games g _ (touched_team g (Rounds k l))
-      (touched_round g (Rounds k l)) rr IsDoubleRoundRobin-rounds refl
-      (λ h a q. elim (kept_rounds_exchanged g k l (λ _. true) closed_all h a q) [
-        | inl same ↦ inl same
-        | inr in_both ↦ inr (lt-ltb h g.teams q.home_in, lt-ltb a g.teams q.away_in, in_both.2)
-      ])
-
-  -- among all teams below n
-  pub ExchangesRounds-rounds : ExchangesRounds g (Rounds k l) k l (touched_team g (Rounds k l))
-  ExchangesRounds-rounds = record {
+  -- for all teams below n
+  pub IsOfRounds-rounds : IsOfRounds g k l (λ t. ltb t g.teams)
+  IsOfRounds-rounds = record {
+    pair = p;
+    below = λ t e. ltb-true t g.teams e;
+    some = (0, lt-ltb 0 g.teams (omega (arith, rr.four)));
     closed = λ t u plays _. lt-ltb u g.teams (plays_in_parts g k l t u plays).0.away_in;
-    is = games_ext g.teams _ _
-        (λ h a q. sym (cond-true (ltb h g.teams) (exchanged k l (round_of g h a)) (round_of g h a)
-        (lt-ltb h g.teams q.home_in)));
   }
+
+  pub of_all_teams : rounds_exchanged g k l (λ _. true) ≡ rounds_exchanged g k l (λ t. ltb t g.teams)
+  of_all_teams =
+      games_ext g.teams _ _
+      (λ h a q. sym (cond-true (ltb h g.teams) (exchanged k l (round_of g h a)) (round_of g h a)
+      (lt-ltb h g.teams q.home_in)))
 
   pub IsItsOwnInverse-rounds : fault_of g (Rounds k l) ≡ Ok tt → IsItsOwnInverse g (Rounds k l)
   IsItsOwnInverse-rounds checked = record {
@@ -118,46 +122,42 @@ module _ (g : Games) (rr : IsDoubleRoundRobin g) (i j : ℕ) (p : IsPair g.teams
   apart-same : (r : ℕ) → r < round_count g.teams → apart r ≡ are_apart g i j r
   apart-same r below = ap (λ b. b && are_apart g i j r) (lt-ltb r (round_count g.teams) below)
 
-  pub apart-first : apart (round_of g i j) ≡ false
-  apart-first = and_right _ _ (are_apart_first g i j)
+  pub has-apart : (r : ℕ) → has (set_apart g i j) r ≡ apart r
+  has-apart r = has-set_where (round_count g.teams) (are_apart g i j) r
 
-  pub apart-second : apart (round_of g j i) ≡ false
-  apart-second = and_right _ _ (are_apart_second g i j)
+  -- some round in which they don't meet
+  some_apart : (r : ℕ) × (apart r ≡ true)
+  some_apart =
+      let found = third_number (round_of g i j) (round_of g j i) in (
+        found.0,
+        and_from _ _ (lt-ltb found.0 (round_count g.teams) (omega (arith, found.1, rr.four)))
+            (not_from_false _ (or_from _ _ (ne_eqb found.0 (round_of g i j) found.2)
+            (ne_eqb found.0 (round_of g j i) found.3))),
+      )
 
-  closed_apart : IsClosed (shares_opponent g i j) apart
-  closed_apart r s step _ =
-      and_from _ _ (lt-ltb s (round_count g.teams) (shares_in_range g rr i j p r s step))
-      (are_apart_step g rr i j p r s step)
+  pub IsOfTeams-teams : IsOfTeams g i j apart
+  IsOfTeams-teams = record {
+    pair = p;
+    below = λ r e. ltb-true r (round_count g.teams) (and_parts (ltb r (round_count g.teams)) (are_apart g i j r) e).0;
+    some = some_apart;
+    first_out = and_right _ _ (are_apart_first g i j);
+    second_out = and_right _ _ (are_apart_second g i j);
+    closed = λ r s step _.
+        and_from _ _ (lt-ltb s (round_count g.teams) (shares_in_range g rr i j p r s step))
+        (are_apart_step g rr i j p r s step);
+  }
 
-  pub stays_apart : StaysAmong g.teams i j apart (round_of g)
-  stays_apart = stays_among_closed g i j apart apart-first apart-second closed_apart
+  stays_apart : StaysAmong g.teams i j apart (round_of g)
+  stays_apart = stays_among_closed g i j apart IsOfTeams-teams.first_out IsOfTeams-teams.second_out
+      IsOfTeams-teams.closed
 
   pub all_rounds : all_games_exchanged g i j ≡ teams_exchanged g i j apart
   all_rounds = all_games_exchanged_rounds g rr i j p apart apart-same
 
-  pub ExchangesTeams-teams : ExchangesTeams g (Teams i j) i j (touched_round g (Teams i j))
-  ExchangesTeams-teams = record {
-    first_out = apart-first;
-    second_out = apart-second;
-    closed = closed_apart;
-    is = all_rounds;
-  }
-
-  by_teams : IsDoubleRoundRobin (teams_exchanged g i j apart)
-  by_teams = round_robin_teams_exchanged g rr i j apart p.home_in p.away_in stays_apart
-
-  pub IsDoubleRoundRobin-teams : IsDoubleRoundRobin (all_games_exchanged g i j)
-  IsDoubleRoundRobin-teams = subst IsDoubleRoundRobin (sym all_rounds) by_teams
-
-  pub DiffersOnlyIn-teams : DiffersOnlyIn g (all_games_exchanged g i j) (touched_team g (Teams i j))
-      (touched_round g (Teams i j))
-  DiffersOnlyIn-teams =
-      subst (λ (x : Games). DiffersOnlyIn g x (touched_team g (Teams i j)) apart) (sym all_rounds)
-      (differs_only_in_games g _ (touched_team g (Teams i j)) apart rr by_teams refl
-      (λ h a q. elim (kept_teams_exchanged g i j apart p.home_in p.away_in stays_apart h a q) [
-        | inl same ↦ inl same
-        | inr in_both ↦ inr (lt-ltb h g.teams q.home_in, lt-ltb a g.teams q.away_in, in_both.0)
-      ]))
+  IsDoubleRoundRobin-teams : IsDoubleRoundRobin (all_games_exchanged g i j)
+  IsDoubleRoundRobin-teams =
+      subst IsDoubleRoundRobin (sym all_rounds)
+      (round_robin_teams_exchanged g rr i j apart p.home_in p.away_in stays_apart)
 
   own_first : round_of (all_games_exchanged g i j) i j ≡ round_of g i j
   own_first =

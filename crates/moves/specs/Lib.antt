@@ -1,3 +1,3 @@
 pub mod Moves
-pub mod MainCells
+pub mod Exchanges
 pub mod Laws

@@ -1,12 +1,13 @@
 //! Whether a move changes a game.
 
-ghost use Rattle.std.specs.Prelude.{◌≡◌, ◌≢◌, ◌↔◌, ◌&&◌, ◌||◌, ◌==◌, not, IsTrue, Ok};
-ghost use Rattle.std.specs.Bool.{beq};
+ghost use Rattle.std.specs.Prelude.{◌≡◌, ◌≢◌, ◌↔◌, ◌<◌, ◌&&◌, ◌||◌, IsTrue, Ok};
+ghost use Rattle.league.specs.Limits.{max_teams, max_rounds};
+ghost use Rattle.league.specs.Sets.{has};
 ghost use Rattle.fixtures.specs.Games.{round_of, IsPair};
 ghost use Rattle.moves.specs.Moves.{fault_of, moved};
 
-use crate::{Move, moved_rounds, moved_teams};
-use fixtures::{Game, Schedule};
+use crate::{Move, exchange};
+use fixtures::{Game, Schedule, Touched};
 
 /// Whether a move that `check` lets pass gives another round to the game, which stands in its round. Takes no memory.
 pub fn would_change(schedule: &Schedule, mv: Move, game: Game) -> bool
@@ -16,36 +17,15 @@ pub fn would_change(schedule: &Schedule, mv: Move, game: Game) -> bool
     ensures { IsTrue result ↔ (round_of (moved schedule.now mv) game.home game.away ≢ game.round) }
 {
     prove_eq!(schedule.round_of(game.home, game.away), game.round);
-    match mv {
-        Move::Homes { i, j } => is_between(game, i, j),
-        Move::Rounds { k, l } => is_either(game.round, k, l),
-        Move::Teams { i, j } => has_one(game, i, j),
-        Move::PartRounds { i, k, l } => {
-            is_either(game.round, k, l) && moved_teams(schedule, i, k, l).has(game.home)
-        }
-        Move::PartTeams { i, j, k } => {
-            has_one(game, i, j) && moved_rounds(schedule, i, j, k).has(game.round)
-        }
-    }
+    is_in(exchange(schedule, mv).main(), game)
 }
 
-/// Whether the game is between these two teams.
-fn is_between(game: Game, i: u8, j: u8) -> bool
-    ensures { result ≡ (game.home == i && game.away == j || game.home == j && game.away == i) }
+/// Whether the game is one of these teams in one of these rounds.
+fn is_in(cells: Touched, game: Game) -> bool
+    requires round { game.round < max_rounds }
+    requires home { game.home < max_teams }
+    requires away { game.away < max_teams }
+    ensures { result ≡ (has cells.rounds game.round && (has cells.teams game.home || has cells.teams game.away)) }
 {
-    game.home == i && game.away == j || game.home == j && game.away == i
-}
-
-/// Whether the game has one of the two teams, and not both.
-fn has_one(game: Game, i: u8, j: u8) -> bool
-    ensures { result ≡ not (beq (game.home == i || game.home == j) (game.away == i || game.away == j)) }
-{
-    is_either(game.home, i, j) != is_either(game.away, i, j)
-}
-
-/// Whether the number is one of the two.
-fn is_either(number: u8, first: u8, second: u8) -> bool
-    ensures { result ≡ (number == first || number == second) }
-{
-    number == first || number == second
+    cells.rounds.has(game.round) && (cells.teams.has(game.home) || cells.teams.has(game.away))
 }

@@ -5,10 +5,10 @@ ghost use Rattle.league.specs.Sets.{has};
 ghost use Rattle.fixtures.specs.Games.{round_of, round_count, IsPair, IsDoubleRoundRobin};
 ghost use Rattle.fixtures.specs.Changes.{DiffersOnlyIn};
 ghost use Rattle.moves.specs.Moves.{fault_of, moved, touched_team, touched_round};
-ghost use Rattle.moves.specs.MainCells.{AreMainCells};
+ghost use Rattle.moves.specs.Exchanges.{IsExchange, main_cells, touched_by};
 
-use crate::cells::two_teams;
-use crate::{Move, main_cells};
+use crate::exchange_of::two_teams;
+use crate::{Exchange, Move, exchange};
 use fixtures::{Schedule, Touched};
 use league::{SlotSet, TeamSet};
 
@@ -20,29 +20,10 @@ pub fn apply(schedule: &mut Schedule, mv: Move) -> Touched
     ensures rounds { (r : ℕ) → has result.rounds r ≡ touched_round schedule.old mv r }
     ensures differs { DiffersOnlyIn schedule.old schedule.new (has result.teams) (has result.rounds) }
 {
-    let main = main_cells(schedule, mv);
-    let touched = touched_around(schedule, mv, main);
-    make(schedule, mv, main);
+    let exchange = exchange(schedule, mv);
+    let touched = touched_by(schedule, &exchange);
+    exchange.make(schedule);
     touched
-}
-
-/// Makes a move whose main cells are known. They are the same afterwards, so made with them once more it is taken back.
-/// Takes no memory.
-pub fn make(schedule: &mut Schedule, mv: Move, main: Touched)
-    requires { AreMainCells schedule.old mv main }
-    ensures moved { schedule.new ≡ moved schedule.old mv }
-    ensures again { AreMainCells schedule.new mv main }
-    ensures back { moved schedule.new mv ≡ schedule.old }
-{
-    match mv {
-        Move::Homes { i, j } => schedule.exchange_homes(i, j),
-        Move::Rounds { k, l } | Move::PartRounds { k, l, .. } => {
-            schedule.exchange_rounds(k, l, main.teams)
-        }
-        Move::Teams { i, j } | Move::PartTeams { i, j, .. } => {
-            schedule.exchange_teams(i, j, main.rounds)
-        }
-    }
 }
 
 /// The teams and the rounds whose cells a move changes that `check` lets pass. Takes no memory.
@@ -52,24 +33,21 @@ pub fn touched(schedule: &Schedule, mv: Move) -> Touched
     ensures rounds { (r : ℕ) → has result.rounds r ≡ touched_round schedule.now mv r }
     ensures round_robin { IsDoubleRoundRobin schedule.now }
 {
-    let main = main_cells(schedule, mv);
-    touched_around(schedule, mv, main)
+    touched_by(schedule, &exchange(schedule, mv))
 }
 
-/// The touched teams and rounds of a move whose main cells are known.
-fn touched_around(schedule: &Schedule, mv: Move, main: Touched) -> Touched
-    requires { AreMainCells schedule.now mv main }
-    ensures teams { (t : ℕ) → has result.teams t ≡ touched_team schedule.now mv t }
-    ensures rounds { (r : ℕ) → has result.rounds r ≡ touched_round schedule.now mv r }
+/// The teams and the rounds whose cells an exchange changes.
+fn touched_by(schedule: &Schedule, exchange: &Exchange) -> Touched
+    requires { IsExchange schedule.now exchange.now }
+    ensures teams { (t : ℕ) → has result.teams t ≡ touched_by schedule.now exchange.now t }
+    ensures rounds { result.rounds ≡ (main_cells exchange.now).rounds }
+    ensures round_robin { IsDoubleRoundRobin schedule.now }
 {
-    match mv {
-        Move::Homes { .. } | Move::Rounds { .. } | Move::PartRounds { .. } => main,
-        Move::Teams { .. } => Touched {
-            teams: TeamSet::below(schedule.teams()),
-            rounds: main.rounds,
-        },
-        Move::PartTeams { i, j, .. } => Touched {
-            teams: teams_with_opponents(schedule, i, j, main.rounds),
+    let main = exchange.main();
+    match *exchange {
+        Exchange::Rounds { .. } => main,
+        Exchange::Teams { i, j, among } => Touched {
+            teams: teams_with_opponents(schedule, i, j, among),
             rounds: main.rounds,
         },
     }

@@ -5,23 +5,26 @@
 //! Teams and rounds are numbered from 0. No call takes memory.
 #![tactic(auto)]
 
-mod cells;
 mod chains;
 mod changes;
 mod effects;
+mod exchange_of;
+mod exchanges;
 mod fault;
 mod laws;
 mod moves;
 mod refusals;
 
-pub use cells::{main_cells, side_teams};
 pub use chains::{moved_rounds, moved_teams};
 pub use changes::would_change;
-pub use effects::{apply, make, touched};
+pub use effects::{apply, touched};
+pub use exchange_of::exchange;
+pub use exchanges::Exchange;
 pub use fault::MoveFault;
 pub use laws::{
-    differs_around_main, differs_in_each_touched, differs_where_touched, meetings_are_kept,
-    moves_back, sides_differ_at_side_teams, stays_double_round_robin,
+    differs_around_main, differs_in_each_touched, differs_where_touched, exchanges_back,
+    meetings_are_kept, moves_are_exchanges, moves_back, sides_differ_at_turning,
+    stays_double_round_robin,
 };
 pub use moves::Move;
 pub use refusals::check;

@@ -6,7 +6,7 @@ ghost use Rattle.fixtures.specs.Games.{round_count};
 use fixtures::{Schedule, Touched, berger};
 use league::limits::MAX_ROUNDS;
 use league::{SlotSet, TeamSet};
-use moves::{Move, apply, check, main_cells, make, side_teams, touched};
+use moves::{Move, apply, check, exchange, touched};
 use std::alloc::{AllocError, Global};
 use std::process::Abort;
 use std::test::Fail;
@@ -58,14 +58,14 @@ type Effect = (Move, &'static str, &'static str);
 /// The main teams of a move that can be made, the teams that may change sides and the touched ones.
 fn teams_said(alloc: Global, start: &Schedule, mv: Move) -> Result<String, Fail> {
     check(start, mv)?;
-    let main = main_cells(start, mv);
-    let main_teams = teams_text(alloc, main.teams)?;
-    let sides = teams_text(alloc, side_teams(start, mv, main))?;
+    let exchange = exchange(start, mv);
+    let main_teams = teams_text(alloc, exchange.main().teams)?;
+    let sides = teams_text(alloc, exchange.turning(start))?;
     let touched = teams_text(alloc, touched(start, mv).teams)?;
     Ok(format!(in alloc; "main{main_teams} sides{sides} touched{touched}")?)
 }
 
-/// Asserts what the move makes of the schedule over its main cells, and makes it once more.
+/// Asserts what the move's exchange makes of the schedule, and makes it once more.
 fn assert_made(
     rt: &impl Abort,
     alloc: Global,
@@ -73,20 +73,20 @@ fn assert_made(
     (mv, _, after): Effect,
 ) -> Result<(), Fail> {
     check(schedule, mv)?;
-    let main = main_cells(schedule, mv);
-    make(schedule, mv, main);
-    let made = sheet(alloc, schedule, main.rounds)?;
+    let exchange = exchange(schedule, mv);
+    exchange.make(schedule);
+    let made = sheet(alloc, schedule, exchange.main().rounds)?;
     assert_eq!(rt; made.as_str(), after, "{mv:?}");
-    make(schedule, mv, main);
+    exchange.make(schedule);
     Ok(())
 }
 
-/// The cells that a move touches that can be made, whose rounds are those of its main cells.
+/// The cells that a move touches that can be made, whose rounds are those of its exchange.
 fn touched_by(rt: &impl Abort, schedule: &Schedule, mv: Move) -> Result<Touched, Fail> {
     check(schedule, mv)?;
-    let main = main_cells(schedule, mv);
+    let rounds = exchange(schedule, mv).main().rounds;
     let touched = touched(schedule, mv);
-    assert_eq!(rt; main.rounds, touched.rounds, "{mv:?}");
+    assert_eq!(rt; rounds, touched.rounds, "{mv:?}");
     Ok(touched)
 }
 
@@ -222,5 +222,20 @@ fn partial_moves_of_four_that_are_whole(rt: HostRuntime) -> Result<(), Fail> {
         let after_whole = sheet_after(rt.alloc(), &four, whole)?;
         assert_eq!(rt; sheet_after(rt.alloc(), &four, part)?, after_whole);
     }
+    Ok(())
+}
+
+/// Whether the same pairs meet after a move that can be made.
+fn keeps_meetings(start: &Schedule, mv: Move) -> Result<bool, Fail> {
+    check(start, mv)?;
+    Ok(exchange(start, mv).same_meetings(start))
+}
+
+#[test]
+fn meetings_are_kept_by_whole_moves_of_homes_and_teams(rt: HostRuntime) -> Result<(), Fail> {
+    let four = berger(rt.alloc(), 4)?;
+    assert!(rt; keeps_meetings(&four, Move::Homes { i: 0, j: 1 })?);
+    assert!(rt; keeps_meetings(&four, Move::Teams { i: 0, j: 1 })?);
+    assert!(rt; !keeps_meetings(&four, Move::Rounds { k: 4, l: 5 })?);
     Ok(())
 }

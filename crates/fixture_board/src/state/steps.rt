@@ -7,7 +7,7 @@ use crate::reply::Why;
 use crate::state::State;
 use fixtures::Game;
 use league::League;
-use moves::{main_cells, make};
+use moves::exchange;
 
 impl State {
     ghost use Rattle.std.specs.Prelude.{◌≡◌, ◌≤◌, length};
@@ -41,14 +41,14 @@ impl State {
     {
         let mv = proposal.mv;
         self.check_move(proposal.version, mv)?;
-        let main = main_cells(&self.schedule, mv);
-        if self.pins.would_be_moved(&mut self.schedule, mv, main) {
+        let exchange = exchange(&self.schedule, mv);
+        if self.pins.would_be_moved(&self.schedule, &exchange) {
             return Err(Why::Pinned);
         }
         let before = self.cost.score(league);
-        let cost = make_at_cost(&mut self.schedule, league, mv, main, self.cost);
+        let cost = make_at_cost(&mut self.schedule, league, &exchange, self.cost);
         if let Err(why) = self.check_score(proposal, before, cost.score(league)) {
-            make(&mut self.schedule, mv, main);
+            exchange.make(&mut self.schedule);
             return Err(why);
         }
         self.cost = cost;
@@ -118,8 +118,8 @@ impl State {
     {
         match change {
             Change::Shift(mv) => {
-                let main = main_cells(&self.schedule, mv);
-                self.cost = make_at_cost(&mut self.schedule, league, mv, main, self.cost);
+                let exchange = exchange(&self.schedule, mv);
+                self.cost = make_at_cost(&mut self.schedule, league, &exchange, self.cost);
             }
             Change::Pin(game) => self.pins.unpin(game),
             Change::Unpin(game) => self.pins.pin(game),

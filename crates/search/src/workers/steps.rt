@@ -2,8 +2,7 @@
 
 ghost use Rattle.std.specs.Prelude.{◌≡◌, ◌+◌, ◌^◌, ◌<◌};
 ghost use Rattle.league.specs.League.{teams};
-ghost use Rattle.moves.specs.MainCells.{AreMainCells};
-ghost use Rattle.moves.specs.Moves.{moved};
+ghost use Rattle.moves.specs.Exchanges.{exchanged_by, IsExchange};
 ghost use Rattle.fixture_board.specs.declared.reply.Reply.{Reply};
 ghost use Rattle.search.specs.Doors.{done_count};
 ghost use Rattle.search.specs.Steps.{IsKnown, IsProposed, accepted_count, least_with};
@@ -11,9 +10,9 @@ ghost use Rattle.search.specs.Steps.{IsKnown, IsProposed, accepted_count, least_
 use crate::Door;
 use crate::gates::HearingGate;
 use fixture_board::{Cost, Proposal, Reply, Why, cost_of, make_within};
-use fixtures::{Schedule, Touched};
+use fixtures::Schedule;
 use league::League;
-use moves::{Move, check, main_cells, make};
+use moves::{Exchange, Move, check, exchange};
 use std::sync::Wait;
 
 /// What a worker knows of its copy.
@@ -45,11 +44,10 @@ pub(crate) enum Told {
     Full,
 }
 
-/// A move that is made on the copy, and what the copy is with it.
+/// An exchange that is made on the copy, and what the copy is with it.
 #[derive(Clone, Copy)]
 struct Made {
-    mv: Move,
-    main: Touched,
+    exchange: Exchange,
     cost: Cost,
     score: u64,
 }
@@ -100,14 +98,14 @@ pub(crate) fn step<R: Wait, D: Door, G: HearingGate>(
     if let Err(_) = check(copy, mv) {
         return Told::Nothing;
     }
-    let main = main_cells(copy, mv);
+    let exchange = exchange(copy, mv);
     let most = known.score.saturating_add(trial.slack);
-    let Some(cost) = make_within(copy, league, mv, main, known.cost, most) else {
+    let Some(cost) = make_within(copy, league, &exchange, known.cost, most) else {
         return Told::Nothing;
     };
     let score = cost.score(league);
     if door.front(rt) != known.version {
-        make(copy, mv, main);
+        exchange.make(copy);
         *known = refresh(rt, door, league, copy);
         return Told::Nothing;
     }
@@ -121,8 +119,7 @@ pub(crate) fn step<R: Wait, D: Door, G: HearingGate>(
     let reply = door.propose(rt, proposal);
     gate.left(rt, trial.worker, trial.made, reply);
     let made = Made {
-        mv,
-        main,
+        exchange,
         cost,
         score,
     };
@@ -140,9 +137,9 @@ fn settle<R: Wait, D: Door>(
     reply: Reply,
 ) -> Told
     requires same_size { teams league.now ≡ copy.old.teams }
-    requires main { AreMainCells copy.old made.mv made.main }
+    requires again { IsExchange copy.old made.exchange }
     requires made { IsKnown league.now copy.old made.cost made.score }
-    requires before { IsKnown league.now (moved copy.old made.mv) known.old.cost known.old.score }
+    requires before { IsKnown league.now (exchanged_by copy.old made.exchange) known.old.cost known.old.score }
     ensures same_size { copy.new.teams ≡ copy.old.teams }
     ensures known { IsKnown league.now copy.new known.new.cost known.new.score }
     ensures told { accepted_count result ≡ done_count reply }
@@ -164,7 +161,7 @@ fn settle<R: Wait, D: Door>(
             Told::Accepted(cost)
         }
         Reply::No { at, why } => {
-            make(copy, made.mv, made.main);
+            made.exchange.make(copy);
             if why == Why::Full {
                 return Told::Full;
             }

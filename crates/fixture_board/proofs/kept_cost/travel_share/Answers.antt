@@ -7,5 +7,5 @@ returns-in-Teams-clause-value c = search rules
 pub returns-in-Teams-clause-small : goal.returns-in-Teams-clause-small
 returns-in-Teams-clause-small c = search rules
 
-pub returns-in-Homes : goal.returns-in-Homes
-returns-in-Homes c = search rules
+pub returns-in-Rounds-clause-value : goal.returns-in-Rounds-clause-value
+returns-in-Rounds-clause-value c = search rules

@@ -1,6 +1,6 @@
 use Rattle.fixture_board.proofs.Scores.{cost_small}
-use Rattle.std.proofs.Common.{◌+◌, ◌<◌, refl, arith, rules}
-use Rattle.moves.specs.Moves.{moved}
+use Rattle.std.proofs.Common.{◌+◌, ◌<◌, refl, sym, ◌∙◌, ap, arith, rules}
+use Rattle.moves.specs.Exchanges.{exchanged_by}
 use Rattle.fixture_board.specs.Costs.{score_of}
 use Rattle.fixture_board.specs.CostShares.{travel_share, is_of_rounds}
 use Rattle.fixture_board.proofs.Lost.{is_above}
@@ -13,13 +13,17 @@ exchanged-least-requires-clause-known c = rw c.requires.known (cost_small _ _ c.
 
 pub exchanged-least-requires-clause-balance : goal.exchanged-least-requires-clause-balance
 exchanged-least-requires-clause-balance c =
-    others_exchange _ _ _ _ _ _ _ _ _ c.teams.ensures.limits c.requires.same_size c.requires.main c.side_teams-sides.ensures
-    c.requires.known c.share_of_known-before.ensures.value c.make.ensures.moved c.share_but_travel-others.ensures.value
+    others_exchange _ _ _ _ _ _ _ c.teams.ensures.limits c.requires.same_size c.of-scope.ensures.scope
+    c.requires.known c.share_of_known-before.ensures.value
+    (c.make.ensures.made ∙ ap (exchanged_by c.args.schedule.now) (sym c.of-scope.ensures.exchange))
+    c.share_but_travel-others.ensures.value
 
 pub with_legs_within-cost-requires-clause-with_legs : goal.with_legs_within-cost-requires-clause-with_legs
 with_legs_within-cost-requires-clause-with_legs c =
-    cost_with_legs _ _ _ _ _ _ _ _ _ _ c.teams.ensures.limits c.requires.same_size c.requires.main c.side_teams-sides.ensures
-    c.requires.known c.share_of_known-before.ensures.value c.make.ensures.moved c.share_but_travel-others.ensures.value
+    cost_with_legs _ _ _ _ _ _ _ _ c.teams.ensures.limits c.requires.same_size c.of-scope.ensures.scope
+    c.requires.known c.share_of_known-before.ensures.value
+    (c.make.ensures.made ∙ ap (exchanged_by c.args.schedule.now) (sym c.of-scope.ensures.exchange))
+    c.share_but_travel-others.ensures.value
     c.exchanged-least.ensures
 
 pub exchanged-rest-requires-clause-known : goal.exchanged-rest-requires-clause-known
@@ -27,26 +31,26 @@ exchanged-rest-requires-clause-known c = rw c.requires.known (cost_small _ _ c.t
 
 pub exchanged-rest-requires-clause-balance : goal.exchanged-rest-requires-clause-balance
 exchanged-rest-requires-clause-balance c =
-    (_, rest_balances _ _ _ _ _ _ _ _ c.requires.known c.share_of_known-before.ensures.value refl)
+    (_, rest_balances _ _ _ _ _ _ c.requires.known c.share_of_known-before.ensures.value refl)
 
 pub is_lost-requires-clause-small : goal.is_lost-requires-clause-small
 is_lost-requires-clause-small c =
-    let within = score_with_rest c.args.league.now c.args.schedule.now _ c.args.mv c.args.main _ _ _ _ _
-    c.teams.ensures.limits c.requires.same_size c.requires.main c.side_teams-sides.ensures c.requires.known
+    let within = score_with_rest c.args.league.now c.args.schedule.now _ c.of-scope.result _ _ _ _
+    c.teams.ensures.limits c.requires.same_size c.of-scope.ensures.scope c.requires.known
     c.share_of_known-before.ensures.value refl refl c.exchanged-rest.ensures in
-    let small = score_after c.args.league.now c.args.schedule.now _ c.args.mv c.teams.ensures.limits c.requires.same_size refl _
+    let small = score_after c.args.league.now c.args.schedule.now _ c.of-scope.result.exchange c.teams.ensures.limits c.requires.same_size refl _
     refl in
     omega (arith, within, small)
 
 pub returns-then-is_lost-clause-value : goal.returns-then-is_lost-clause-value
 returns-then-is_lost-clause-value c =
-    let within = score_with_rest c.args.league.now c.args.schedule.now _ c.args.mv c.args.main _ _ _ _ _
-    c.teams.ensures.limits c.requires.same_size c.requires.main c.side_teams-sides.ensures c.requires.known
+    let within = score_with_rest c.args.league.now c.args.schedule.now _ c.of-scope.result _ _ _ _
+    c.teams.ensures.limits c.requires.same_size c.of-scope.ensures.scope c.requires.known
     c.share_of_known-before.ensures.value refl refl c.exchanged-rest.ensures in
     let above : c.args.most < score_of c.args.league.now c.exchanged-rest.result +
-    travel_share c.args.league.now c.args.mv c.args.main (moved c.args.schedule.now c.args.mv) =
-    is_above (is_of_rounds c.args.mv) c.is_lost.result _ _ c.is_lost.ensures c.if-is_lost.true in
-    omega (arith, within, above)
+    travel_share c.args.league.now c.of-scope.result.exchange c.of-scope.result.main (exchanged_by c.args.schedule.now c.of-scope.result.exchange) =
+    is_above (is_of_rounds c.of-scope.result.exchange) c.is_lost.result _ _ c.is_lost.ensures c.if-is_lost.true in
+    rw (← c.of-scope.ensures.exchange) (omega (arith, within, above))
 
 pub returns-else-is_none-clause-value : goal.returns-else-is_none-clause-value
 returns-else-is_none-clause-value c = search rules

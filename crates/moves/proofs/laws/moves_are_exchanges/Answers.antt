@@ -1,0 +1,5 @@
+use Rattle.moves.proofs.MovesAsExchanges.{each-exchange}
+use Rattle.moves.proofs.laws.moves_are_exchanges.Goals as goal
+
+pub returns : goal.returns
+returns c = λ g mv rr checked. (each-exchange g mv rr checked).is

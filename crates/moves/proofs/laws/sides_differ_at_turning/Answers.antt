@@ -1,0 +1,5 @@
+use Rattle.moves.proofs.Around.{each-sides}
+use Rattle.moves.proofs.laws.sides_differ_at_turning.Goals as goal
+
+pub returns : goal.returns
+returns c = each-sides

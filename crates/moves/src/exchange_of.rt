@@ -1,0 +1,74 @@
+//! Which exchange a move is: beside `check`, the one place where the five moves are told apart.
+
+ghost use Rattle.std.specs.Prelude.{◌≡◌, ℕ, ◌<◌, ◌||◌, ◌==◌, Ok};
+ghost use Rattle.league.specs.Limits.{max_teams, max_rounds};
+ghost use Rattle.league.specs.Sets.{has};
+ghost use Rattle.fixtures.specs.Games.{IsPair};
+ghost use Rattle.moves.specs.Moves.{fault_of};
+ghost use Rattle.moves.specs.Exchanges.{exchange_of, IsExchangeOf, both, rounds_apart};
+
+use crate::{Exchange, Move, moved_rounds, moved_teams};
+use fixtures::Schedule;
+use league::{SlotSet, TeamSet};
+
+/// The exchange that a move is which `check` lets pass. A chain is walked once. Takes no memory.
+pub fn exchange(schedule: &Schedule, mv: Move) -> Exchange
+    requires { fault_of schedule.now mv ≡ Ok tt }
+    ensures value { result ≡ exchange_of schedule.now mv }
+    ensures is_move { IsExchangeOf schedule.now mv result }
+{
+    let teams = schedule.teams();
+    match mv {
+        Move::Homes { i, j } => Exchange::Rounds {
+            k: schedule.round_of(i, j),
+            l: schedule.round_of(j, i),
+            among: two_teams(i, j),
+        },
+        Move::Rounds { k, l } => Exchange::Rounds {
+            k,
+            l,
+            among: TeamSet::below(teams),
+        },
+        Move::Teams { i, j } => Exchange::Teams {
+            i,
+            j,
+            among: rounds_apart(schedule, i, j),
+        },
+        Move::PartRounds { i, k, l } => Exchange::Rounds {
+            k,
+            l,
+            among: moved_teams(schedule, i, k, l),
+        },
+        Move::PartTeams { i, j, k } => Exchange::Teams {
+            i,
+            j,
+            among: moved_rounds(schedule, i, j, k),
+        },
+    }
+}
+
+pub(crate) fn two_teams(i: u8, j: u8) -> TeamSet
+    requires i { i < max_teams }
+    requires j { j < max_teams }
+    ensures value { result ≡ both i j }
+    ensures members { (t : ℕ) → has result t ≡ (t == i || t == j) }
+{
+    TeamSet::empty().with(j).with(i)
+}
+
+pub(crate) fn two_rounds(k: u8, l: u8) -> SlotSet
+    requires k { k < max_rounds }
+    requires l { l < max_rounds }
+    ensures { result ≡ both k l }
+{
+    SlotSet::empty().with(l).with(k)
+}
+
+/// The rounds in which `i` and `j` don't meet.
+pub(crate) fn rounds_apart(schedule: &Schedule, i: u8, j: u8) -> SlotSet
+    requires { IsPair schedule.now.teams i j }
+    ensures { result ≡ rounds_apart schedule.now i j }
+{
+    let theirs = two_rounds(schedule.round_of(i, j), schedule.round_of(j, i));
+    SlotSet::below(schedule.rounds()).difference(theirs)
+}
