@@ -6,7 +6,9 @@ use Rattle.streams.specs.Sending.{AppendsFront}
 use Rattle.streams.specs.Writing.{Adds, Stops}
 use Rattle.streams.proofs.Pieces.{Adds-nothing, Adds-then, Adds-stops, Stops-more}
 use Rattle.fixture_board.specs.declared.change.Entry.{Entry}
+use Rattle.texts.specs.Pieces.{text_of_piece, text_of_pieces}
 use Rattle.texts.specs.PlayText.{change_line, change_lines}
+use Rattle.texts.specs.declared.pieces.Piece.{Piece}
 
 -- of the text all but what is left was added
 pub record AddsAllBut {S : Type 0} (held : S → Option (List ℕ)) (tally : S → Tally) (old new : BufferedSink S) (text left : List ℕ) : Type 0 where
@@ -43,6 +45,13 @@ pub lines_from : (h : List Entry) (i : ℕ) (e : Entry) → i < length h → e �
 lines_from h i e within is =
     let here : drop i h ≡ get_or h i e ∷ drop (i + 1) h = rw (add-one, drop-cons h i e) refl in
     rw here (rw (← is) refl)
+
+-- the text of pieces from one on
+pub pieces_from : (pieces : List Piece) (i : ℕ) (p : Piece) → i < length pieces
+    → text_of_pieces (drop i pieces) ≡ text_of_piece (get_or pieces i p) ++ text_of_pieces (drop (i + 1) pieces)
+pieces_from pieces i p within =
+    let here : drop i pieces ≡ get_or pieces i p ∷ drop (i + 1) pieces = rw (add-one, drop-cons pieces i p) refl in
+    rw here refl
 
 -- what an `Err` says of a sink, at another name of it
 pub front_at : {S T E : Type 0} (held : S → Option (List ℕ)) (r : Result T E) (old : Option (List ℕ)) (text : List ℕ) (x y : S)

@@ -11,7 +11,8 @@ use Rattle.std.proofs.lemmas.List.{take_all, drop_all, length-take-le}
 use Rattle.std.proofs.lemmas.List.Elements.{All-from_get_or}
 use Rattle.std.proofs.lemmas.List.Splits.{slice_split_first, slice_split_none, length-slice_split}
 use Rattle.std.proofs.lemmas.List.Sums.{fails_before_first, prefix_len-le-length, split_at_first, prefix_len_stops}
-use Rattle.texts.specs.Input.{TakesLine, is_line_end, is_script, league_text, script_lines}
+use Rattle.std.specs.Str.{bytes_eq}
+use Rattle.texts.specs.Input.{TakesLine, is_line_end, lines_after, text_before}
 use Rattle.texts.specs.Words.{is_blank, is_word, words_of}
 
 -- the place that was found, or the length
@@ -49,15 +50,22 @@ passes_at p bs n is within = rw is (not-true _ (prefix_len_stops (λ b. not (p b
 n≤length : (bs : List ℕ) (n : ℕ) → n ≡ position_or_len is_blank bs → n ≤ length bs
 n≤length bs n is = omega (arith, prefix_len-le-length (λ b. not (is_blank b)) bs)
 
-same_branches : {X : Type 0} (b : Bool) (x : X) → x ≡ cond b x x
-same_branches true x = refl
-same_branches false x = refl
+-- no line is left
+nothing_before : (word : List ℕ) → text_before word [] ≡ []
+unfolding text_before
+nothing_before [] = refl
+nothing_before (b ∷ bs) = refl
+
+none_left : (word : List ℕ) → 0 < length word → lines_after word [] ≡ None
+unfolding lines_after
+none_left [] letters = absurd (omega arith)
+none_left (b ∷ bs) letters = refl
 
 -- ---- lines
 
 -- the first line ends at a line end
 pub takes_ended_line : (bs : List ℕ) (n : ℕ) → n ≡ position_or_len is_line_end bs → n < length bs → TakesLine bs (strip_carriage_return (take n bs)) (drop (n + 1) bs)
-unfolding league_text script_lines
+unfolding text_before lines_after
 takes_ended_line bs n is within =
     let first = more_parts is_line_end bs n is within in
     let next = parts_of is_line_end (drop (n + 1) bs) in
@@ -67,13 +75,13 @@ takes_ended_line bs n is within =
       parts = rw append_assoc (rw end at (three_parts is_line_end bs n is within));
       shorter = omega (arith, length-drop (n + 1) bs);
       lines_are = rw (first, next.2) refl;
-      league_is = rw (first, next.2, append_assoc) refl;
-      script_is = rw (first, next.2) refl;
+      before = λ word. rw (first, next.2, append_assoc) refl;
+      after = λ word some. rw (first, next.2) refl;
     }
 
 -- the last line goes to the end of the text
 pub takes_last_line : (bs : List ℕ) → position_or_len is_line_end bs ≡ length bs → 0 < length bs → TakesLine bs bs []
-unfolding league_text script_lines
+unfolding text_before lines_after
 takes_last_line bs is some =
     let one = one_part is_line_end bs is in
     let full : eqb (length bs) 0 ≡ false = grind (arith, nat_tests) in
@@ -82,8 +90,8 @@ takes_last_line bs is some =
       parts = sym (append-nil bs);
       shorter = some;
       lines_are = rw (one, full) refl;
-      league_is = rw (one, append-nil) refl;
-      script_is = rw one (same_branches (is_script bs) []);
+      before = λ word. rw (one, nothing_before word, append-nil) refl;
+      after = λ word letters. rw (one, none_left word letters) refl;
     }
 
 -- ---- words
@@ -136,36 +144,39 @@ first_word bs n is some = elim (eq-or-lt_of_le (n≤length bs n is)) [
 
 -- ---- the two parts of an input
 
--- the lines before `rest`, which begins at `start`, are of the league
-pub record IsReadTo (input rest : List ℕ) (start : ℕ) : Type 0 where
+-- no line before `rest`, which begins at `start`, is the word
+pub record IsReadTo (word input rest : List ℕ) (start : ℕ) : Type 0 where
   pub start_is : start + length rest ≡ length input
   pub parts : input ≡ take start input ++ rest
-  pub league_is : league_text input ≡ take start input ++ league_text rest
-  pub script_is : script_lines input ≡ script_lines rest
+  pub before : text_before word input ≡ take start input ++ text_before word rest
+  pub after : lines_after word input ≡ lines_after word rest
 
 front_of : (input front rest : List ℕ) (n : ℕ) → input ≡ front ++ rest → n + length rest ≡ length input → take n input ≡ front
 front_of input front rest n e is =
     let n_is : n ≡ length front = omega (arith, length-append front rest, ap length e) in
     rw (n_is, e) (take-append_seam front rest)
 
--- one more line that is no `script`
-pub reads_on : (input rest line next : List ℕ) (start : ℕ) → IsReadTo input rest start → TakesLine rest line next → is_script line ≡ false
-    → IsReadTo input next (length input - length next)
-reads_on input rest line next start so_far takes other =
+-- one more line that is another
+pub reads_on : (word input rest line next : List ℕ) (start : ℕ) → 0 < length word → IsReadTo word input rest start → TakesLine rest line next
+    → bytes_eq line word ≡ false → IsReadTo word input next (length input - length next)
+reads_on word input rest line next start letters so_far takes other =
     let shorter = takes.shorter in
     let start_is : (length input - length next) + length next ≡ length input = omega (arith, so_far.start_is, takes.shorter) in
     let whole : input ≡ (take start input ++ takes.taken) ++ next = so_far.parts ∙ ap (λ l. take start input ++ l) takes.parts ∙ sym (append_assoc (take start input) takes.taken next) in
     let front : take (length input - length next) input ≡ take start input ++ takes.taken = front_of input _ next _ whole start_is in
-    let league : league_text rest ≡ takes.taken ++ league_text next = rw other at takes.league_is in
-    let script : script_lines rest ≡ script_lines next = rw other at takes.script_is in
+    let before : text_before word rest ≡ takes.taken ++ text_before word next = rw other at (takes.before word) in
+    let after : lines_after word rest ≡ lines_after word next = rw other at (takes.after word letters) in
     record {
       start_is = start_is;
       parts = rw front whole;
-      league_is = rw (front, append_assoc, so_far.league_is, league) refl;
-      script_is = so_far.script_is ∙ script;
+      before = rw (front, append_assoc, so_far.before, before) refl;
+      after = so_far.after ∙ after;
     }
 
 -- no line is left
-pub ends_without : (input : List ℕ) (start : ℕ) → IsReadTo input [] start → (input ≡ league_text input) × (lines [] ≡ script_lines input)
-unfolding league_text script_lines
-ends_without input start so_far = (so_far.parts ∙ sym so_far.league_is, sym so_far.script_is)
+pub ends_without : (word input : List ℕ) (start : ℕ) → 0 < length word → IsReadTo word input [] start
+    → (input ≡ text_before word input) × (None ≡ lines_after word input)
+unfolding text_before
+ends_without word input start letters so_far =
+    let none : text_before word [] ≡ [] = nothing_before word in
+    (so_far.parts ∙ rw none at (sym so_far.before), sym (so_far.after ∙ none_left word letters))

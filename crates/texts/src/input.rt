@@ -1,9 +1,27 @@
 //! The two parts of an input, a league and a script, and the lines of the script.
 
-ghost use Rattle.std.specs.Prelude.{◌≡◌, [], IfNone, IfSome, drop, ℕ, ◌≤◌, length};
+ghost use Rattle.std.specs.Prelude.{◌≡◌, [], IfNone, IfSome, drop, ℕ, ◌<◌, ◌≤◌, length, option_map};
 ghost use Rattle.std.specs.List.{position_or_len};
 ghost use Rattle.std.specs.Str.Lines.{lines, strip_carriage_return};
-ghost use Rattle.texts.specs.Input.{TakesLine, is_line_end, league_text, script_lines};
+ghost use Rattle.texts.specs.Input.{TakesLine, is_line_end, league_text, lines_after, script_lines, text_before};
+
+/// Cuts an input at the first line that is the word: the text before that line, and the text after it. Where there is
+/// no such line, all stands before it.
+pub fn split_at_line<'a>(input: &'a [u8], word: &[u8]) -> (&'a [u8], Option<&'a [u8]>)
+    requires { 0 < length word.now }
+    ensures before { result.0.now ≡ text_before word.now input.now }
+    ensures after { option_map (λ rest. lines rest.now) result.1 ≡ lines_after word.now input.now }
+{
+    let mut rest = input;
+    let mut start = 0;
+    while let Some(line) = next_line(&mut rest) {
+        if line == word {
+            return (&input[..start], Some(rest));
+        }
+        start = input.len() - rest.len();
+    }
+    (input, None)
+}
 
 /// The league's text, which runs up to the first line that is `script`, and the script after that line.
 /// Where there is no such line, all is the league's text.
@@ -11,15 +29,11 @@ pub fn split_input(input: &[u8]) -> (&[u8], &[u8])
     ensures league { result.0.now ≡ league_text input.now }
     ensures script { lines result.1.now ≡ script_lines input.now }
 {
-    let mut rest = input;
-    let mut start = 0;
-    while let Some(line) = next_line(&mut rest) {
-        if line == b"script".as_slice() {
-            return (&input[..start], rest);
-        }
-        start = input.len() - rest.len();
+    let (league, script) = split_at_line(input, b"script");
+    match script {
+        Some(script) => (league, script),
+        None => (league, &[]),
     }
-    (input, rest)
 }
 
 /// Takes the first line off a text. A line loses its line end, and one carriage return before that.

@@ -29,7 +29,7 @@ pub(crate) fn numbers(line: &[u8]) -> Option<ArrayVec<u64, MAX_NUMBERS>>
 }
 
 /// A number of 1 to 20 digits that is a `u64`.
-fn number(word: &[u8]) -> Option<u64>
+pub fn number(word: &[u8]) -> Option<u64>
     ensures { result ≡ number_of word.now }
 {
     if word.is_empty() || MAX_DIGITS < word.len() || !are_digits(word) {
@@ -58,8 +58,8 @@ fn are_digits(word: &[u8]) -> bool
     word.iter().all(|byte| byte.is_ascii_digit())
 }
 
-/// A team or a round from 0, where the script counts from 1; 255, which a board refuses, where it can't be one.
-pub(crate) fn place(number: u64) -> u8
+/// A team or a round from 0, where texts count from 1; 255, which no team and no round has, where it can't be one.
+pub fn place(number: u64) -> u8
     ensures { result ≡ place_of number }
 {
     match number {

@@ -32,7 +32,8 @@ pub fn sheet<W: Sink>(schedule: &Schedule, league: &League, sink: &mut W) -> Res
     out.flush()
 }
 
-pub(crate) fn write_sheet<W: Sink>(
+/// Writes the sheet as a piece of a longer text.
+pub fn write_sheet<W: Sink>(
     out: &mut BufferedSink<'_, W>,
     schedule: &Schedule,
     league: &League,

@@ -1,23 +1,19 @@
-use Rattle.std.proofs.Common.{◌≡◌, false, ◌∙◌, sym, rules}
-use Rattle.texts.specs.Input.{is_script}
-use Rattle.texts.proofs.Splitting.{reads_on, ends_without}
+use Rattle.std.proofs.Common.{[], ap, unwrap_or}
+use Rattle.texts.specs.Input.{league_text, script_lines}
 use Rattle.texts.proofs.input.split_input.Goals as goal
 
-pub loop-line-preserved : goal.loop-line-preserved
-loop-line-preserved c =
-    let other : is_script c.in-Some.line.now ≡ false = rw c.as_slice.ensures at (sym c.eq.ensures ∙ c.if-eq.false) in
-    reads_on c.args.input.now c.loop-line.rest.now c.in-Some.line.now c.next_line.new.text.now c.loop-line.start c.loop-line.invariant (c.in-Some.ensures).some other
+pub returns-in-Some-clause-league : goal.returns-in-Some-clause-league
+unfolding league_text
+returns-in-Some-clause-league c = c.split_at_line.ensures.before
 
-pub returns-clause-league : goal.returns-clause-league
-returns-clause-league c =
-    (ends_without c.args.input.now c.loop-line.start (rw (c.in_default.ensures).none at c.loop-line.invariant)).0
+pub returns-in-Some-clause-script : goal.returns-in-Some-clause-script
+unfolding script_lines
+returns-in-Some-clause-script c = ap (λ o. unwrap_or o []) (rw c.in-Some.is at c.split_at_line.ensures.after)
 
-pub returns-clause-script : goal.returns-clause-script
-returns-clause-script c =
-    rw (c.in_default.ensures).same (ends_without c.args.input.now c.loop-line.start (rw (c.in_default.ensures).none at c.loop-line.invariant)).1
+pub returns-in-None-clause-league : goal.returns-in-None-clause-league
+unfolding league_text
+returns-in-None-clause-league c = c.split_at_line.ensures.before
 
-pub returns-then-eq-clause-league : goal.returns-then-eq-clause-league
-returns-then-eq-clause-league c = search rules
-
-pub returns-then-eq-clause-script : goal.returns-then-eq-clause-script
-returns-then-eq-clause-script c = search rules
+pub returns-in-None-clause-script : goal.returns-in-None-clause-script
+unfolding script_lines
+returns-in-None-clause-script c = ap (λ o. unwrap_or o []) (rw c.in-None.is at c.split_at_line.ensures.after)

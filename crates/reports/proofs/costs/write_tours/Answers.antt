@@ -1,0 +1,12 @@
+use Rattle.streams.proofs.Pieces.{Adds-piece, Stops-in_pieces, Stops-writes}
+use Rattle.reports.specs.CostText.{tour_line}
+use Rattle.reports.proofs.costs.write_tours.Goals as goal
+
+pub loop-team-preserved : goal.loop-team-preserved
+loop-team-preserved g c =
+    Adds-piece (tour_line c.args.league.now c.args.schedule.now) c.loop-team.team c.loop-team.invariant c.in_ok-write_tour.ensures.ok
+
+pub returns-in_err-write_tour : goal.returns-in_err-write_tour
+returns-in_err-write_tour g c =
+    Stops-writes c.from_residual.ensures.0
+    (Stops-in_pieces (tour_line c.args.league.now c.args.schedule.now) c.loop-team.team _ (rw c.teams-team-end.ensures.number at c.loop-team-test.true) c.loop-team.invariant c.in_err-write_tour.ensures.err)

@@ -1,0 +1,11 @@
+use Rattle.streams.proofs.Pieces.{Adds-writes, Stops-more, Stops-writes}
+use Rattle.reports.specs.CostText.{cost_text}
+use Rattle.reports.proofs.report.write_schedule.Goals as goal
+
+pub returns-in_err-write_sheet : goal.returns-in_err-write_sheet
+returns-in_err-write_sheet g c =
+    Stops-writes c.from_residual.ensures.0
+    (Stops-more (cost_text c.args.league.now c.args.schedule.now) c.in_err-write_sheet.ensures.err)
+
+pub returns : goal.returns
+returns g c = Adds-writes c.in_ok-write_sheet.ensures.ok c.write_costs.ensures

@@ -1,0 +1,72 @@
+-- What is wrong with the games that lines give, a line for each fault. Teams and rounds are numbered from 0 in calls, and
+-- from 1 in texts.
+use Rattle.std.specs.Prelude.{ℕ, ◌+◌, ◌==◌, Bool, not, ◌&&◌, ◌||◌, nat_lt, List, [], ◌∷◌, ◌++◌, codes, decimal, if◌then◌else◌, count_by}
+use Rattle.std.specs.List.{concat}
+use Rattle.streams.specs.Pieces.{pieces_below}
+use Rattle.fixtures.specs.declared.game.Game.{Game}
+use Rattle.fixtures.specs.Games.{round_count}
+use Rattle.reports.specs.declared.schedule_text.ScheduleLine.{ScheduleLine}
+use Rattle.reports.specs.declared.schedule_text.ScheduleLine.TheVariants.{Other, Bad, Round}
+use Rattle.reports.specs.declared.schedule_text.WrittenGame.{WrittenGame}
+use Rattle.reports.specs.ScheduleText.{line_of, written_games}
+use Rattle.reports.specs.Given.{placed, given_games}
+
+abbrev pub bad_line : ℕ → ScheduleLine → List ℕ
+bad_line number Bad = concat (codes "bad line " ∷ decimal number ∷ codes "\n" ∷ [])
+bad_line number (Round round) = []
+bad_line number Other = []
+
+-- the bad ones of the lines, the first of which has this number
+abbrev pub bad_lines : ℕ → List (List ℕ) → List ℕ
+bad_lines number [] = []
+bad_lines number (line ∷ lines) = bad_line number (line_of line) ++ bad_lines (number + 1) lines
+
+-- whether the game has two distinct teams of n, and one of their rounds
+abbrev pub is_game : ℕ → Game → Bool
+is_game n x = nat_lt x.home n && nat_lt x.away n && not (x.home == x.away) && nat_lt x.round (round_count n)
+
+abbrev pub no_game_line : ℕ → WrittenGame → List ℕ
+no_game_line n w = if is_game n (placed w) then [] else
+    concat (codes "game " ∷ decimal w.home ∷ codes "-" ∷ decimal w.away ∷ codes " of round " ∷ decimal w.round ∷ codes " is none\n" ∷ [])
+
+-- those that are no games of n teams
+abbrev pub no_game_lines : ℕ → List WrittenGame → List ℕ
+no_game_lines n [] = []
+no_game_lines n (w ∷ ws) = no_game_line n w ++ no_game_lines n ws
+
+-- how many games of the list a team has in a round
+unfoldable pub games_in : ℕ → List Game → ℕ → ℕ → ℕ
+games_in n games team round = count_by (λ x. is_game n x && x.round == round && (x.home == team || x.away == team)) games
+
+-- a team has one game in each round
+abbrev pub team_line : ℕ → ℕ → ℕ → List ℕ
+team_line team round count =
+    if count == 1 then []
+    else if count == 0 then concat (codes "team " ∷ decimal (team + 1) ∷ codes " has no game in round " ∷ decimal (round + 1) ∷ codes "\n" ∷ [])
+    else concat (codes "team " ∷ decimal (team + 1) ∷ codes " has " ∷ decimal count ∷ codes " games in round " ∷ decimal (round + 1) ∷ codes "\n" ∷ [])
+
+abbrev pub team_lines : ℕ → List Game → ℕ → List ℕ
+team_lines n games team = pieces_below (λ round. team_line team round (games_in n games team round)) (round_count n)
+
+-- how many games of the list the pair has with this home team
+unfoldable pub games_of_pair : ℕ → List Game → ℕ → ℕ → ℕ
+games_of_pair n games home away = count_by (λ x. is_game n x && x.home == home && x.away == away) games
+
+-- two distinct teams have one game with this home team
+abbrev pub pair_line : ℕ → ℕ → ℕ → List ℕ
+pair_line home away count =
+    if home == away || count == 1 then []
+    else if count == 0 then concat (codes "game " ∷ decimal (home + 1) ∷ codes "-" ∷ decimal (away + 1) ∷ codes " is missing\n" ∷ [])
+    else concat (codes "game " ∷ decimal (home + 1) ∷ codes "-" ∷ decimal (away + 1) ∷ codes " stands " ∷ decimal count ∷ codes " times\n" ∷ [])
+
+abbrev pub pair_lines : ℕ → List Game → ℕ → List ℕ
+pair_lines n games home = pieces_below (λ away. pair_line home away (games_of_pair n games home away)) n
+
+-- the faults of the games of n teams that a list has
+unfoldable pub game_faults : ℕ → List Game → List ℕ
+game_faults n games = pieces_below (team_lines n games) n ++ pieces_below (pair_lines n games) n
+
+-- the faults of the lines
+unfoldable pub faults_text : ℕ → List (List ℕ) → List ℕ
+faults_text n lines =
+    bad_lines 1 lines ++ no_game_lines n (written_games lines) ++ game_faults n (given_games lines) ++ codes "no double round robin\n"

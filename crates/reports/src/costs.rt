@@ -1,0 +1,329 @@
+//! What a double round robin costs, and what that is made of.
+
+ghost use Rattle.std.specs.Prelude.{◌≡◌, ◌+◌, ◌-◌, ◌^◌, ◌<◌, ◌≤◌, Some, length, slice_get};
+ghost use Rattle.league.specs.League.{teams};
+ghost use Rattle.league.specs.RuleLimits.{IsBodyFor};
+ghost use Rattle.fixtures.specs.Games.{round_count, IsPair};
+ghost use Rattle.tours.specs.Phased.{is_unphased};
+ghost use Rattle.fixture_board.specs.Costs.{total_of};
+ghost use Rattle.streams.specs.Pieces.{pieces_below};
+ghost use Rattle.streams.specs.Writing.{Writes};
+ghost use Rattle.reports.specs.CostText.{class_name, cost_text, costs_line, half_line, half_lines, halves_text};
+ghost use Rattle.reports.specs.CostText.{repeat_line, repeat_lines, rule_line, rule_lines, total_line, tour_line};
+
+use crate::runs::write_runs;
+use fixture_board::{Cost, cost_of};
+use fixtures::Schedule;
+use league::{League, Rule, RuleBody, Weight};
+use robinx::deviation;
+use streams::{BufferedSink, Sink, WriteFault};
+use texts::{Piece, write_pieces};
+use tours::travel_of;
+
+/// Writes the cost of a schedule, a line for each share of it, and the total where no hard limit is broken.
+pub(crate) fn write_costs<W: Sink>(
+    out: &mut BufferedSink<'_, W>,
+    league: &League,
+    schedule: &Schedule,
+) -> Result<(), WriteFault>
+    requires { schedule.now.teams ≡ teams league.now }
+    ensures { Writes W.held W.tally out.old out.new result (cost_text league.now schedule.now) }
+{
+    let cost = cost_of(schedule, league);
+    write_cost(out, cost)?;
+    write_tours(out, league, schedule)?;
+    write_runs(out, schedule, league.at_most())?;
+    write_repeats(out, schedule)?;
+    write_halves(out, league, schedule)?;
+    write_rules(out, league, schedule)?;
+    write_total(out, cost)
+}
+
+fn write_cost<W: Sink>(out: &mut BufferedSink<'_, W>, cost: Cost) -> Result<(), WriteFault>
+    ensures { Writes W.held W.tally out.old out.new result (costs_line cost) }
+{
+    write_pieces(
+        out,
+        &[
+            Piece::Text(b"travel "),
+            Piece::Number(cost.travel),
+            Piece::Text(b" hard "),
+            Piece::Number(cost.hard),
+            Piece::Text(b" soft "),
+            Piece::Number(cost.soft),
+            Piece::Text(b"\n"),
+        ],
+    )
+}
+
+fn write_tours<W: Sink>(
+    out: &mut BufferedSink<'_, W>,
+    league: &League,
+    schedule: &Schedule,
+) -> Result<(), WriteFault>
+    requires { schedule.now.teams ≡ teams league.now }
+    ensures { Writes W.held W.tally out.old out.new result
+        (pieces_below (tour_line league.now schedule.now) schedule.now.teams) }
+{
+    for team in 0..schedule.teams() {
+        write_tour(out, league, schedule, team)?;
+    }
+    Ok(())
+}
+
+fn write_tour<W: Sink>(
+    out: &mut BufferedSink<'_, W>,
+    league: &League,
+    schedule: &Schedule,
+    team: u8,
+) -> Result<(), WriteFault>
+    requires same { schedule.now.teams ≡ teams league.now }
+    requires team { team < schedule.now.teams }
+    ensures { Writes W.held W.tally out.old out.new result (tour_line league.now schedule.now team) }
+{
+    let travel = travel_of(schedule, league, team);
+    write_pieces(
+        out,
+        &[
+            Piece::Text(b"tour "),
+            Piece::Number(team as u64 + 1),
+            Piece::Text(b" travel "),
+            Piece::Number(travel),
+            Piece::Text(b"\n"),
+        ],
+    )
+}
+
+fn write_repeats<W: Sink>(
+    out: &mut BufferedSink<'_, W>,
+    schedule: &Schedule,
+) -> Result<(), WriteFault>
+    ensures { Writes W.held W.tally out.old out.new result
+        (pieces_below (repeat_lines schedule.now) (round_count schedule.now.teams - 1)) }
+{
+    for round in 0..schedule.rounds() - 1 {
+        write_repeats_after(out, schedule, round)?;
+    }
+    Ok(())
+}
+
+fn write_repeats_after<W: Sink>(
+    out: &mut BufferedSink<'_, W>,
+    schedule: &Schedule,
+    round: u8,
+) -> Result<(), WriteFault>
+    requires { round + 1 < round_count schedule.now.teams }
+    ensures { Writes W.held W.tally out.old out.new result (repeat_lines schedule.now round) }
+{
+    for team in 0..schedule.teams() {
+        write_repeat(out, schedule, round, team)?;
+    }
+    Ok(())
+}
+
+/// Names the pair where the team meets the same lower team in the round and in the next.
+fn write_repeat<W: Sink>(
+    out: &mut BufferedSink<'_, W>,
+    schedule: &Schedule,
+    round: u8,
+    team: u8,
+) -> Result<(), WriteFault>
+    requires team { team < schedule.now.teams }
+    requires next { round + 1 < round_count schedule.now.teams }
+    ensures { Writes W.held W.tally out.old out.new result (repeat_line schedule.now round team) }
+{
+    let opponent = schedule.game_at(team, round).opponent;
+    let next = schedule.game_at(team, round + 1).opponent;
+    if opponent < team && opponent == next {
+        write_pieces(
+            out,
+            &[
+                Piece::Text(b"repeat "),
+                Piece::Number(opponent as u64 + 1),
+                Piece::Text(b"-"),
+                Piece::Number(team as u64 + 1),
+                Piece::Text(b" rounds "),
+                Piece::Number(round as u64 + 1),
+                Piece::Text(b" "),
+                Piece::Number(round as u64 + 2),
+                Piece::Text(b"\n"),
+            ],
+        )
+    } else {
+        Ok(())
+    }
+}
+
+fn write_halves<W: Sink>(
+    out: &mut BufferedSink<'_, W>,
+    league: &League,
+    schedule: &Schedule,
+) -> Result<(), WriteFault>
+    ensures { Writes W.held W.tally out.old out.new result (halves_text league.now schedule.now) }
+{
+    if league.phased() {
+        write_all_halves(out, schedule)
+    } else {
+        Ok(())
+    }
+}
+
+fn write_all_halves<W: Sink>(
+    out: &mut BufferedSink<'_, W>,
+    schedule: &Schedule,
+) -> Result<(), WriteFault>
+    ensures { Writes W.held W.tally out.old out.new result
+        (pieces_below (half_lines schedule.now) schedule.now.teams) }
+{
+    for high in 0..schedule.teams() {
+        write_halves_of(out, schedule, high)?;
+    }
+    Ok(())
+}
+
+fn write_halves_of<W: Sink>(
+    out: &mut BufferedSink<'_, W>,
+    schedule: &Schedule,
+    high: u8,
+) -> Result<(), WriteFault>
+    requires { high < schedule.now.teams }
+    ensures { Writes W.held W.tally out.old out.new result (half_lines schedule.now high) }
+{
+    for low in 0..high {
+        write_half(out, schedule, high, low)?;
+    }
+    Ok(())
+}
+
+/// Names the pair where it plays both its games in one half of the season.
+fn write_half<W: Sink>(
+    out: &mut BufferedSink<'_, W>,
+    schedule: &Schedule,
+    high: u8,
+    low: u8,
+) -> Result<(), WriteFault>
+    requires high { high < schedule.now.teams }
+    requires low { low < high }
+    ensures { Writes W.held W.tally out.old out.new result (half_line schedule.now high low) }
+{
+    let first = schedule.round_of(low, high);
+    let second = schedule.round_of(high, low);
+    if is_one_half(schedule, high, low) {
+        write_pieces(
+            out,
+            &[
+                Piece::Text(b"half "),
+                Piece::Number(low as u64 + 1),
+                Piece::Text(b"-"),
+                Piece::Number(high as u64 + 1),
+                Piece::Text(b" rounds "),
+                Piece::Number(first as u64 + 1),
+                Piece::Text(b" "),
+                Piece::Number(second as u64 + 1),
+                Piece::Text(b"\n"),
+            ],
+        )
+    } else {
+        Ok(())
+    }
+}
+
+#[tactic(auto, unfolding(tours::specs::Phased::is_unphased))]
+fn is_one_half(schedule: &Schedule, high: u8, low: u8) -> bool
+    requires high { high < schedule.now.teams }
+    requires low { low < high }
+    ensures { result ≡ is_unphased schedule.now low high }
+{
+    let half = schedule.teams() - 1;
+    (schedule.round_of(low, high) < half) == (schedule.round_of(high, low) < half)
+}
+
+fn write_rules<W: Sink>(
+    out: &mut BufferedSink<'_, W>,
+    league: &League,
+    schedule: &Schedule,
+) -> Result<(), WriteFault>
+    requires { schedule.now.teams ≡ teams league.now }
+    ensures { Writes W.held W.tally out.old out.new result (rule_lines league.now schedule.now) }
+{
+    for i in 0..league.rule_count() {
+        write_rule(out, schedule, i as u64, league.rule(i))?;
+    }
+    Ok(())
+}
+
+fn write_rule<W: Sink>(
+    out: &mut BufferedSink<'_, W>,
+    schedule: &Schedule,
+    i: u64,
+    rule: &Rule,
+) -> Result<(), WriteFault>
+    requires few { i < 256 }
+    requires body { IsBodyFor schedule.now.teams rule.now.body }
+    ensures { Writes W.held W.tally out.old out.new result (rule_line schedule.now i rule.now rule.now.weight) }
+{
+    let deviation = deviation(schedule, rule);
+    match rule.weight {
+        Weight::Hard => write_pieces(
+            out,
+            &[
+                Piece::Text(b"rule "),
+                Piece::Number(i + 1),
+                Piece::Text(b" "),
+                Piece::Text(class_name(&rule.body)),
+                Piece::Text(b" hard deviation "),
+                Piece::Number(deviation),
+                Piece::Text(b"\n"),
+            ],
+        ),
+        Weight::Soft(weight) => write_pieces(
+            out,
+            &[
+                Piece::Text(b"rule "),
+                Piece::Number(i + 1),
+                Piece::Text(b" "),
+                Piece::Text(class_name(&rule.body)),
+                Piece::Text(b" soft "),
+                Piece::Number(weight as u64),
+                Piece::Text(b" deviation "),
+                Piece::Number(deviation),
+                Piece::Text(b"\n"),
+            ],
+        ),
+    }
+}
+
+fn class_name(body: &RuleBody) -> &'static [u8]
+    ensures { result.now ≡ class_name body.now }
+{
+    match body {
+        RuleBody::Ca1 { .. } => b"CA1",
+        RuleBody::Ca2 { .. } => b"CA2",
+        RuleBody::Ca3 { .. } => b"CA3",
+        RuleBody::Ca4 { .. } => b"CA4",
+        RuleBody::Ga1 { .. } => b"GA1",
+        RuleBody::Br1 { .. } => b"BR1",
+        RuleBody::Br2 { .. } => b"BR2",
+        RuleBody::Se1 { .. } => b"SE1",
+        RuleBody::Fa2 { .. } => b"FA2",
+    }
+}
+
+/// The total, or that a hard limit is broken.
+fn write_total<W: Sink>(out: &mut BufferedSink<'_, W>, cost: Cost) -> Result<(), WriteFault>
+    requires { total_of cost < 2 ^ 64 }
+    ensures { Writes W.held W.tally out.old out.new result (total_line cost) }
+{
+    if cost.is_feasible() {
+        write_pieces(
+            out,
+            &[
+                Piece::Text(b"total "),
+                Piece::Number(cost.total()),
+                Piece::Text(b"\n"),
+            ],
+        )
+    } else {
+        out.write(b"infeasible\n")
+    }
+}

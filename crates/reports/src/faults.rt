@@ -1,0 +1,300 @@
+//! What is wrong with games that are no double round robin.
+
+ghost use Rattle.std.specs.Prelude.{◌≡◌, ◌≤◌};
+ghost use Rattle.std.specs.Str.Lines.{lines};
+ghost use Rattle.league.specs.Limits.{max_teams};
+ghost use Rattle.streams.specs.Writing.{Writes};
+ghost use Rattle.reports.specs.Faults.{bad_line, bad_lines, faults_text, game_faults, games_in, games_of_pair, is_game};
+ghost use Rattle.reports.specs.Faults.{no_game_line, no_game_lines, pair_line, pair_lines, team_line, team_lines};
+ghost use Rattle.reports.specs.Given.{given_games};
+ghost use Rattle.reports.specs.ScheduleText.{written_games};
+ghost use Rattle.streams.specs.Pieces.{pieces_below};
+
+use crate::schedule_text::{ScheduleLine, WrittenGame};
+use fixtures::Game;
+use streams::{BufferedSink, Sink, WriteFault};
+use texts::{Piece, next_line, write_pieces};
+
+/// Writes a line for each fault of a text and of the games that it gives to this number of teams.
+pub(crate) fn write_faults<W: Sink>(
+    out: &mut BufferedSink<'_, W>,
+    teams: u8,
+    text: &[u8],
+    written: &[WrittenGame],
+    games: &[Game],
+) -> Result<(), WriteFault>
+    requires least { 4 ≤ teams }
+    requires most { teams ≤ max_teams }
+    requires written { written.now ≡ written_games (lines text.now) }
+    requires games { games.now ≡ given_games (lines text.now) }
+    ensures { Writes W.held W.tally out.old out.new result (faults_text teams (lines text.now)) }
+{
+    write_bad_lines(out, text)?;
+    write_no_games(out, teams, written)?;
+    write_game_faults(out, teams, games)?;
+    out.write(b"no double round robin\n")
+}
+
+fn write_bad_lines<W: Sink>(out: &mut BufferedSink<'_, W>, text: &[u8]) -> Result<(), WriteFault>
+    ensures { Writes W.held W.tally out.old out.new result (bad_lines 1 (lines text.now)) }
+{
+    let mut number = 1;
+    let mut rest = text;
+    while let Some(line) = next_line(&mut rest) {
+        write_bad_line(out, number, ScheduleLine::of(line))?;
+        number += 1;
+    }
+    Ok(())
+}
+
+fn write_bad_line<W: Sink>(
+    out: &mut BufferedSink<'_, W>,
+    number: u64,
+    line: ScheduleLine,
+) -> Result<(), WriteFault>
+    ensures { Writes W.held W.tally out.old out.new result (bad_line number line) }
+{
+    match line {
+        ScheduleLine::Bad => write_pieces(
+            out,
+            &[
+                Piece::Text(b"bad line "),
+                Piece::Number(number),
+                Piece::Text(b"\n"),
+            ],
+        ),
+        _ => Ok(()),
+    }
+}
+
+fn write_no_games<W: Sink>(
+    out: &mut BufferedSink<'_, W>,
+    teams: u8,
+    written: &[WrittenGame],
+) -> Result<(), WriteFault>
+    requires least { 4 ≤ teams }
+    requires most { teams ≤ max_teams }
+    ensures { Writes W.held W.tally out.old out.new result (no_game_lines teams written.now) }
+{
+    for game in written {
+        write_no_game(out, teams, *game)?;
+    }
+    Ok(())
+}
+
+/// Names the game where it is none of this number of teams.
+fn write_no_game<W: Sink>(
+    out: &mut BufferedSink<'_, W>,
+    teams: u8,
+    game: WrittenGame,
+) -> Result<(), WriteFault>
+    requires least { 4 ≤ teams }
+    requires most { teams ≤ max_teams }
+    ensures { Writes W.held W.tally out.old out.new result (no_game_line teams game) }
+{
+    if is_game(teams, game.placed()) {
+        return Ok(());
+    }
+    write_pieces(
+        out,
+        &[
+            Piece::Text(b"game "),
+            Piece::Number(game.home),
+            Piece::Text(b"-"),
+            Piece::Number(game.away),
+            Piece::Text(b" of round "),
+            Piece::Number(game.round),
+            Piece::Text(b" is none\n"),
+        ],
+    )
+}
+
+/// Whether the game has two distinct teams of so many, and one of their rounds.
+fn is_game(teams: u8, game: Game) -> bool
+    requires least { 4 ≤ teams }
+    requires most { teams ≤ max_teams }
+    ensures { result ≡ is_game teams game }
+{
+    game.home < teams && game.away < teams && game.home != game.away && game.round < 2 * (teams - 1)
+}
+
+fn write_game_faults<W: Sink>(
+    out: &mut BufferedSink<'_, W>,
+    teams: u8,
+    games: &[Game],
+) -> Result<(), WriteFault>
+    requires least { 4 ≤ teams }
+    requires most { teams ≤ max_teams }
+    ensures { Writes W.held W.tally out.old out.new result (game_faults teams games.now) }
+{
+    write_teams(out, teams, games)?;
+    write_pairs(out, teams, games)
+}
+
+fn write_teams<W: Sink>(
+    out: &mut BufferedSink<'_, W>,
+    teams: u8,
+    games: &[Game],
+) -> Result<(), WriteFault>
+    requires least { 4 ≤ teams }
+    requires most { teams ≤ max_teams }
+    ensures { Writes W.held W.tally out.old out.new result (pieces_below (team_lines teams games.now) teams) }
+{
+    for team in 0..teams {
+        write_team(out, teams, games, team)?;
+    }
+    Ok(())
+}
+
+/// Names the rounds in which the team has no game or several.
+fn write_team<W: Sink>(
+    out: &mut BufferedSink<'_, W>,
+    teams: u8,
+    games: &[Game],
+    team: u8,
+) -> Result<(), WriteFault>
+    requires least { 4 ≤ teams }
+    requires most { teams ≤ max_teams }
+    ensures { Writes W.held W.tally out.old out.new result (team_lines teams games.now team) }
+{
+    for round in 0..2 * (teams - 1) {
+        write_team_round(out, team, round, games_in(teams, games, team, round))?;
+    }
+    Ok(())
+}
+
+fn write_team_round<W: Sink>(
+    out: &mut BufferedSink<'_, W>,
+    team: u8,
+    round: u8,
+    count: usize,
+) -> Result<(), WriteFault>
+    ensures { Writes W.held W.tally out.old out.new result (team_line team round count) }
+{
+    if count == 1 {
+        return Ok(());
+    }
+    if count == 0 {
+        return write_pieces(
+            out,
+            &[
+                Piece::Text(b"team "),
+                Piece::Number(team as u64 + 1),
+                Piece::Text(b" has no game in round "),
+                Piece::Number(round as u64 + 1),
+                Piece::Text(b"\n"),
+            ],
+        );
+    }
+    write_pieces(
+        out,
+        &[
+            Piece::Text(b"team "),
+            Piece::Number(team as u64 + 1),
+            Piece::Text(b" has "),
+            Piece::Number(count as u64),
+            Piece::Text(b" games in round "),
+            Piece::Number(round as u64 + 1),
+            Piece::Text(b"\n"),
+        ],
+    )
+}
+
+/// How many games the team has in the round.
+#[tactic(auto, unfolding(crate::specs::Faults::games_in))]
+fn games_in(teams: u8, games: &[Game], team: u8, round: u8) -> usize
+    requires least { 4 ≤ teams }
+    requires most { teams ≤ max_teams }
+    ensures { result ≡ games_in teams games.now team round }
+{
+    games
+        .iter()
+        .filter(|game| {
+            is_game(teams, **game)
+                && game.round == round
+                && (game.home == team || game.away == team)
+        })
+        .count()
+}
+
+fn write_pairs<W: Sink>(
+    out: &mut BufferedSink<'_, W>,
+    teams: u8,
+    games: &[Game],
+) -> Result<(), WriteFault>
+    requires least { 4 ≤ teams }
+    requires most { teams ≤ max_teams }
+    ensures { Writes W.held W.tally out.old out.new result (pieces_below (pair_lines teams games.now) teams) }
+{
+    for home in 0..teams {
+        write_home(out, teams, games, home)?;
+    }
+    Ok(())
+}
+
+/// Names the guests that the team receives never or several times.
+fn write_home<W: Sink>(
+    out: &mut BufferedSink<'_, W>,
+    teams: u8,
+    games: &[Game],
+    home: u8,
+) -> Result<(), WriteFault>
+    requires least { 4 ≤ teams }
+    requires most { teams ≤ max_teams }
+    ensures { Writes W.held W.tally out.old out.new result (pair_lines teams games.now home) }
+{
+    for away in 0..teams {
+        write_pair(out, home, away, games_of_pair(teams, games, home, away))?;
+    }
+    Ok(())
+}
+
+fn write_pair<W: Sink>(
+    out: &mut BufferedSink<'_, W>,
+    home: u8,
+    away: u8,
+    count: usize,
+) -> Result<(), WriteFault>
+    ensures { Writes W.held W.tally out.old out.new result (pair_line home away count) }
+{
+    if home == away || count == 1 {
+        return Ok(());
+    }
+    if count == 0 {
+        return write_pieces(
+            out,
+            &[
+                Piece::Text(b"game "),
+                Piece::Number(home as u64 + 1),
+                Piece::Text(b"-"),
+                Piece::Number(away as u64 + 1),
+                Piece::Text(b" is missing\n"),
+            ],
+        );
+    }
+    write_pieces(
+        out,
+        &[
+            Piece::Text(b"game "),
+            Piece::Number(home as u64 + 1),
+            Piece::Text(b"-"),
+            Piece::Number(away as u64 + 1),
+            Piece::Text(b" stands "),
+            Piece::Number(count as u64),
+            Piece::Text(b" times\n"),
+        ],
+    )
+}
+
+/// How many games of the two the home team has at home.
+#[tactic(auto, unfolding(crate::specs::Faults::games_of_pair))]
+fn games_of_pair(teams: u8, games: &[Game], home: u8, away: u8) -> usize
+    requires least { 4 ≤ teams }
+    requires most { teams ≤ max_teams }
+    ensures { result ≡ games_of_pair teams games.now home away }
+{
+    games
+        .iter()
+        .filter(|game| is_game(teams, **game) && game.home == home && game.away == away)
+        .count()
+}

@@ -1,0 +1,70 @@
+//! The report of what a text gives for a league.
+
+ghost use Rattle.std.specs.Prelude.{◌≡◌, ◌++◌, OnOk, OnErr};
+ghost use Rattle.std.specs.Io.KnownBytes.{Appends};
+ghost use Rattle.std.specs.Str.Lines.{lines};
+ghost use Rattle.league.specs.League.{teams};
+ghost use Rattle.streams.specs.Limits.{write_limit};
+ghost use Rattle.streams.specs.Sending.{AppendsFront};
+ghost use Rattle.streams.specs.Tally.{FailsWriting};
+ghost use Rattle.streams.specs.Writing.{Writes};
+ghost use Rattle.texts.specs.Sheet.{sheet_of};
+ghost use Rattle.reports.specs.CostText.{cost_text};
+ghost use Rattle.reports.specs.Report.{report_text, IsJudgedBy};
+
+use crate::costs::write_costs;
+use crate::faults::write_faults;
+use crate::judged::Judged;
+use fixtures::Schedule;
+use league::League;
+use streams::{BufferedSink, Sink, WriteFault};
+use texts::write_sheet;
+
+/// Writes the report of what was judged, where this is the text that it was read from. Takes no memory. After a fault a
+/// front of the report went out.
+pub fn write_report<W: Sink>(
+    league: &League,
+    text: &[u8],
+    judged: &Judged,
+    sink: &mut W,
+) -> Result<(), WriteFault>
+    requires { IsJudgedBy league.now (lines text.now) judged.now }
+    ensures ok { OnOk result (Appends (W.held sink.old) (W.held sink.new)
+        (report_text league.now (lines text.now) judged.now.schedule)) }
+    ensures front { OnErr result (AppendsFront (W.held sink.old) (W.held sink.new)
+        (report_text league.now (lines text.now) judged.now.schedule)) }
+    ensures cause { OnErr result (FailsWriting write_limit (W.tally sink.old) (W.tally sink.new)) }
+{
+    let mut out = BufferedSink::new(sink);
+    write_judged(&mut out, league, text, judged)?;
+    out.flush()
+}
+
+fn write_judged<W: Sink>(
+    out: &mut BufferedSink<'_, W>,
+    league: &League,
+    text: &[u8],
+    judged: &Judged,
+) -> Result<(), WriteFault>
+    requires { IsJudgedBy league.now (lines text.now) judged.now }
+    ensures { Writes W.held W.tally out.old out.new result
+        (report_text league.now (lines text.now) judged.now.schedule) }
+{
+    match &judged.schedule {
+        Some(schedule) => write_schedule(out, league, schedule),
+        None => write_faults(out, league.teams(), text, &judged.written, &judged.games),
+    }
+}
+
+fn write_schedule<W: Sink>(
+    out: &mut BufferedSink<'_, W>,
+    league: &League,
+    schedule: &Schedule,
+) -> Result<(), WriteFault>
+    requires { schedule.now.teams ≡ teams league.now }
+    ensures { Writes W.held W.tally out.old out.new result
+        (sheet_of schedule.now league.now ++ cost_text league.now schedule.now) }
+{
+    write_sheet(out, schedule, league)?;
+    write_costs(out, league, schedule)
+}

@@ -1,0 +1,129 @@
+//! The stretches of each team at home or away that are longer than the league allows.
+
+ghost use Rattle.std.specs.Prelude.{◌≡◌, ℕ, ◌+◌, ◌<◌, ◌≤◌, ◌&&◌, nat_lt, if◌then◌else◌};
+ghost use Rattle.league.specs.League.{teams};
+ghost use Rattle.league.specs.Limits.{max_rounds};
+ghost use Rattle.league.specs.Sets.{has};
+ghost use Rattle.fixtures.specs.Games.{round_count};
+ghost use Rattle.streams.specs.Pieces.{pieces_below};
+ghost use Rattle.streams.specs.Writing.{Writes};
+ghost use Rattle.reports.specs.CostText.{run_line, run_lines, side_word};
+ghost use Rattle.tours.specs.Runs.{is_run, windows};
+
+use fixtures::Schedule;
+use league::SlotSet;
+use streams::{BufferedSink, Sink, WriteFault};
+use texts::{Piece, write_pieces};
+
+/// Writes a line for each stretch of a team that is longer than this number of rounds.
+pub(crate) fn write_runs<W: Sink>(
+    out: &mut BufferedSink<'_, W>,
+    schedule: &Schedule,
+    at_most: u8,
+) -> Result<(), WriteFault>
+    requires least { 1 ≤ at_most }
+    requires most { at_most ≤ max_rounds }
+    ensures { Writes W.held W.tally out.old out.new result
+        (pieces_below (run_lines schedule.now at_most) schedule.now.teams) }
+{
+    for team in 0..schedule.teams() {
+        write_runs_of(out, schedule, at_most, team)?;
+    }
+    Ok(())
+}
+
+/// A stretch is written at the round with which no window of it begins any more.
+#[tactic(auto, using(crate::proofs::Streaks::streak_within))]
+fn write_runs_of<W: Sink>(
+    out: &mut BufferedSink<'_, W>,
+    schedule: &Schedule,
+    at_most: u8,
+    team: u8,
+) -> Result<(), WriteFault>
+    requires least { 1 ≤ at_most }
+    requires most { at_most ≤ max_rounds }
+    requires team { team < schedule.now.teams }
+    ensures { Writes W.held W.tally out.old out.new result (run_lines schedule.now at_most team) }
+{
+    let windows = windows_spent(schedule, at_most + 1, team);
+    let mut streak: u8 = 0;
+    for round in 0..schedule.rounds() {
+        let goes_on = windows.has(round);
+        let count = ended(goes_on, streak);
+        write_run(out, schedule, at_most, team, round, count)?;
+        streak = lengthened(goes_on, streak);
+    }
+    Ok(())
+}
+
+/// How many windows a stretch has that ends here.
+fn ended(goes_on: bool, streak: u8) -> u8
+    ensures { result ≡ (if goes_on then 0 else streak) }
+{
+    if goes_on { 0 } else { streak }
+}
+
+fn lengthened(goes_on: bool, streak: u8) -> u8
+    requires { streak < 255 }
+    ensures { result ≡ (if goes_on then streak + 1 else 0) }
+{
+    if goes_on { streak + 1 } else { 0 }
+}
+
+/// The rounds with which a window of this length begins that the team spends at home or away.
+fn windows_spent(schedule: &Schedule, length: u8, team: u8) -> SlotSet
+    requires least { 2 ≤ length }
+    requires most { length ≤ max_rounds + 1 }
+    requires team { team < schedule.now.teams }
+    ensures { (first : ℕ) → has result first ≡
+        (nat_lt first (windows schedule.now length) && is_run schedule.now team first length) }
+{
+    let home = schedule.home_rounds(team);
+    let like_next = home.like_next_below(schedule.rounds());
+    // each round of a window but the last is as the next one is
+    like_next.starts_within(length - 1)
+}
+
+/// Writes the stretch of so many windows, the last of which begins with the round before this one.
+fn write_run<W: Sink>(
+    out: &mut BufferedSink<'_, W>,
+    schedule: &Schedule,
+    at_most: u8,
+    team: u8,
+    round: u8,
+    count: u8,
+) -> Result<(), WriteFault>
+    requires team { team < schedule.now.teams }
+    requires round { round < round_count schedule.now.teams }
+    requires count { count ≤ round }
+    ensures { Writes W.held W.tally out.old out.new result (run_line schedule.now at_most team round count) }
+{
+    if count == 0 {
+        return Ok(());
+    }
+    let last = schedule.game_at(team, round - 1);
+    write_pieces(
+        out,
+        &[
+            Piece::Text(b"run "),
+            Piece::Number(team as u64 + 1),
+            Piece::Text(side_word(last.home)),
+            Piece::Number((round - count) as u64 + 1),
+            Piece::Text(b"-"),
+            Piece::Number(round as u64 + at_most as u64),
+            Piece::Text(b" windows "),
+            Piece::Number(count as u64),
+            Piece::Text(b"\n"),
+        ],
+    )
+}
+
+fn side_word(home: bool) -> &'static [u8]
+    ensures { result.now ≡ side_word home }
+{
+    if home {
+        b" home rounds "
+    } else {
+        b" away rounds "
+    }
+}
