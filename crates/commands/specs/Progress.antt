@@ -44,9 +44,9 @@ first (Some noted) now = Some noted
 abbrev pub pause_after : ℕ → Option Instant → Instant → ℕ
 pause_after pause None now = pause
 pause_after pause (Some told) now =
-  if nat_lt (millis told now) 8 then min pause 2048 * 2
-  else if nat_lt 64 (millis told now) then max (pause / 2) 1
-  else pause
+    if nat_lt (millis told now) 8 then min pause 2048 * 2
+    else if nat_lt 64 (millis told now) then max (pause / 2) 1
+    else pause
 
 -- what takes the line away where one stands
 abbrev pub line_to_clear : Bool → List ℕ

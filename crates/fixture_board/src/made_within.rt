@@ -73,8 +73,14 @@ fn is_lost(schedule: &Schedule, league: &League, scope: &Scope, rest: Cost, most
         Exchange::Rounds { k, l, .. } => {
             let score = rest.score(league);
             score > most
-                || travel_exchanged_within(schedule, league, k, l, scope.main, most - score)
-                    .is_none()
+                || travel_exchanged_within(
+                    schedule,
+                    league,
+                    k,
+                    l,
+                    scope.main,
+                    most - score,
+                ).is_none()
         }
         Exchange::Teams { .. } => false,
     }

@@ -125,8 +125,11 @@ each-keeps_meetings g (edit.Rounds k l among) can keeps =
         second true true _ _ = refl
         second true false _ e = sym e
         second false x e _ = absurd (cc)
-each-keeps_meetings g (edit.Teams i j among) can keeps =
-    (i, j, MeetingsExchanged-teams g can.round_robin i j can.fits.pair (has among) can.fits (λ r in_r.
-    ap (λ set. has set r) (eqb-true among (rounds_apart g i j) keeps) ∙
-    has-set_where (round_count g.teams) (are_apart g i j) r ∙
-    ap (λ b. b && are_apart g i j r) (lt-ltb r (round_count g.teams) in_r)))
+each-keeps_meetings g (edit.Teams i j among) can keeps = (
+  i,
+  j,
+  MeetingsExchanged-teams g can.round_robin i j can.fits.pair (has among) can.fits (λ r in_r.
+      ap (λ set. has set r) (eqb-true among (rounds_apart g i j) keeps) ∙
+      has-set_where (round_count g.teams) (are_apart g i j) r ∙
+      ap (λ b. b && are_apart g i j r) (lt-ltb r (round_count g.teams) in_r)),
+)

@@ -76,12 +76,7 @@ fn exchange_teams(
 type Numbers = (u8, u8, u8);
 
 /// Asserts of exchanges of rounds, each made on what the one before has left, that they change the travel as told.
-fn assert_rounds(
-    rt: &impl Abort,
-    schedule: &mut Schedule,
-    league: &League,
-    drawn: &[Numbers],
-) {
+fn assert_rounds(rt: &impl Abort, schedule: &mut Schedule, league: &League, drawn: &[Numbers]) {
     for &numbers in drawn {
         let exchanged = exchange_rounds(schedule, league, numbers);
         assert!(rt; exchanged.is_some_and(|e| e.is_balanced()), "{numbers:?}");

@@ -198,8 +198,7 @@ module _ (l : LeagueData) (diagonal : (a : ℕ) → distance l a a ≡ 0) (g : G
             (told j (s + 1) ≡ turned i (s + 1)) × (told i (s + 1) ≡ turned j (s + 1))
         swapped both =
             let parts = and_parts (rounds s) (rounds (s + 1)) both in
-            let next : s + 1 < round_count g.teams = next_in s in_s parts.1 in
-            (
+            let next : s + 1 < round_count g.teams = next_in s in_s parts.1 in (
               both_in j s next parts.0 parts.1 ∙ ap (λ t. turned t (s + 1)) (exchanged_second i j),
               both_in i s next parts.0 parts.1 ∙ ap (λ t. turned t (s + 1)) (exchanged_first i j),
             )
