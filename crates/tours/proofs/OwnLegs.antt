@@ -1,6 +1,6 @@
 -- The own legs of two teams that are exchanged in the rounds of a set: they change where a team turns between home and
 -- away, and at the edges of the set.
-use Rattle.std.proofs.Common.{◌≡◌, ◌≢◌, ℕ, zero, suc, ◌+◌, ◌-◌, ◌<◌, Bool, true, false, not, ◌&&◌, ◌||◌, inl, inr, get_or, refl, sym, ◌∙◌, ap, ap₂, arith, add-one}
+use Rattle.std.proofs.Common.{◌≡◌, ℕ, zero, suc, ◌+◌, ◌-◌, ◌<◌, Bool, true, false, not, ◌&&◌, ◌||◌, inl, inr, refl, sym, ◌∙◌, ap, ap₂, arith, add-one}
 use Rattle.std.specs.Prelude.{◌==◌, nat_lt, if◌then◌else◌}
 use Rattle.std.specs.Bool.{beq}
 use Rattle.std.proofs.lemmas.Bool.{cases_lt, and_parts, and_left, cond-true, lt-ltb, true≢false, false≢true}
@@ -198,8 +198,7 @@ module _ (l : LeagueData) (diagonal : (a : ℕ) → distance l a a ≡ 0) (g : G
             (told j (s + 1) ≡ turned i (s + 1)) × (told i (s + 1) ≡ turned j (s + 1))
         swapped both =
             let parts = and_parts (rounds s) (rounds (s + 1)) both in
-            let next : s + 1 < round_count g.teams = next_in s in_s parts.1 in
-            (
+            let next : s + 1 < round_count g.teams = next_in s in_s parts.1 in (
               both_in j s next parts.0 parts.1 ∙ ap (λ t. turned t (s + 1)) (exchanged_second i j),
               both_in i s next parts.0 parts.1 ∙ ap (λ t. turned t (s + 1)) (exchanged_first i j),
             )

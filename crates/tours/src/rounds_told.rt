@@ -20,13 +20,7 @@ use league::{League, TeamSet};
 
 /// The legs that change where rounds `k` and `l` are exchanged for the teams of the set, which has the opponents of its
 /// teams in the two rounds.
-pub fn legs_of_rounds(
-    schedule: &Schedule,
-    league: &League,
-    k: u8,
-    l: u8,
-    among: TeamSet,
-) -> Legs
+pub fn legs_of_rounds(schedule: &Schedule, league: &League, k: u8, l: u8, among: TeamSet) -> Legs
     requires same { teams league.now ≡ schedule.now.teams }
     requires k { k < round_count schedule.now.teams }
     requires l { l < round_count schedule.now.teams }
@@ -46,13 +40,7 @@ pub fn legs_of_rounds(
 }
 
 /// The same of the teams of the set one by one; `k` is the first of the two rounds.
-fn legs_of_ordered(
-    schedule: &Schedule,
-    league: &League,
-    k: u8,
-    l: u8,
-    among: TeamSet,
-) -> Legs
+fn legs_of_ordered(schedule: &Schedule, league: &League, k: u8, l: u8, among: TeamSet) -> Legs
     requires same { teams league.now ≡ schedule.now.teams }
     requires round_robin { IsDoubleRoundRobin schedule.now }
     requires below { IsBelow schedule.now.teams among }
@@ -140,9 +128,11 @@ fn legs_of_two(schedule: &Schedule, league: &League, k: u8, l: u8, team: u8) -> 
     let at_l = stop(schedule, team, l + 1);
     let after_l = stop(schedule, team, l + 2);
     Legs {
-        before: way(league, before_k, at_k) + way(league, at_k, after_k)
+        before: way(league, before_k, at_k)
+            + way(league, at_k, after_k)
             + (way(league, before_l, at_l) + way(league, at_l, after_l)),
-        after: way(league, before_k, at_l) + way(league, at_l, after_k)
+        after: way(league, before_k, at_l)
+            + way(league, at_l, after_k)
             + (way(league, before_l, at_k) + way(league, at_k, after_l)),
     }
 }

@@ -132,14 +132,7 @@ fn legs_of_visit(
 }
 
 /// Where a guest is at the stop with this index after the exchange.
-fn place_told(
-    schedule: &Schedule,
-    i: u8,
-    j: u8,
-    rounds: SlotSet,
-    place: u8,
-    index: u8,
-) -> u8
+fn place_told(schedule: &Schedule, i: u8, j: u8, rounds: SlotSet, place: u8, index: u8) -> u8
     requires i { i < schedule.now.teams }
     requires j { j < schedule.now.teams }
     requires place { place < schedule.now.teams }

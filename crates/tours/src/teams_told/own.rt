@@ -17,13 +17,7 @@ use fixtures::Schedule;
 use league::{League, SlotSet};
 
 /// The own legs of `i` and `j` that change, of those that touch a round of the set.
-pub(super) fn own_legs(
-    schedule: &Schedule,
-    league: &League,
-    i: u8,
-    j: u8,
-    rounds: SlotSet,
-) -> Legs
+pub(super) fn own_legs(schedule: &Schedule, league: &League, i: u8, j: u8, rounds: SlotSet) -> Legs
     requires same { teams league.now ≡ schedule.now.teams }
     requires league { IsLeague league.now }
     requires round_robin { IsDoubleRoundRobin schedule.now }
@@ -33,8 +27,7 @@ pub(super) fn own_legs(
     requires below { IsBelow (round_count schedule.now.teams) rounds }
     requires first_out { has rounds (round_of schedule.now i j) ≡ false }
     requires second_out { has rounds (round_of schedule.now j i) ≡ false }
-    ensures balance {
-        (part_of (leg_told league.now schedule.now i j (has rounds)) schedule.now (has rounds) j +
+    ensures balance { (part_of (leg_told league.now schedule.now i j (has rounds)) schedule.now (has rounds) j +
         part_of (leg_told league.now schedule.now i j (has rounds)) schedule.now (has rounds) i) + result.before ≡
         (part_of (leg league.now schedule.now) schedule.now (has rounds) j +
         part_of (leg league.now schedule.now) schedule.now (has rounds) i) + result.after }
@@ -124,14 +117,7 @@ fn legs_at_edges(
 }
 
 /// The legs of a team after these rounds, with `i` and `j` exchanged among its places.
-fn turned_legs(
-    schedule: &Schedule,
-    league: &League,
-    i: u8,
-    j: u8,
-    team: u8,
-    turns: SlotSet,
-) -> Legs
+fn turned_legs(schedule: &Schedule, league: &League, i: u8, j: u8, team: u8, turns: SlotSet) -> Legs
     requires same { teams league.now ≡ schedule.now.teams }
     requires round_robin { IsDoubleRoundRobin schedule.now }
     requires i { i < schedule.now.teams }
@@ -156,14 +142,7 @@ fn turned_legs(
 }
 
 #[tactic(auto, unfolding(crate::specs::Tours::leg))]
-fn turned_leg(
-    schedule: &Schedule,
-    league: &League,
-    i: u8,
-    j: u8,
-    team: u8,
-    index: u8,
-) -> Legs
+fn turned_leg(schedule: &Schedule, league: &League, i: u8, j: u8, team: u8, index: u8) -> Legs
     requires same { teams league.now ≡ schedule.now.teams }
     requires i { i < schedule.now.teams }
     requires j { j < schedule.now.teams }

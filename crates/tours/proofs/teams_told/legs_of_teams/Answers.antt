@@ -1,4 +1,3 @@
-use Rattle.std.proofs.Common.{◌≡◌, sym, ◌∙◌}
 use Rattle.league.specs.Sets.{has}
 use Rattle.fixtures.specs.Games.{IsPair}
 use Rattle.fixtures.proofs.ForCallers.{pair_swapped, stays_among_closed}
@@ -58,10 +57,14 @@ returns-clause-balance c =
     let p : IsPair c.args.schedule.now.teams c.args.i c.args.j =
     record { home_in = c.requires.i; away_in = c.requires.j; distinct = c.requires.distinct } in
     let rr = c.teams-2.ensures.round_robin in
-    rw (← cut_exchanged c.args.schedule.now rr c.args.i c.args.j p (has c.rounds_in-rounds.result) (has c.args.among)
-    c.rounds_in-rounds.ensures.members,
-    c.guests_legs-of_i.ensures.before, c.guests_legs-of_i.ensures.after, c.guests_legs-of_j.ensures.before,
-    c.guests_legs-of_j.ensures.after)
+    rw (
+      ← cut_exchanged c.args.schedule.now rr c.args.i c.args.j p (has c.rounds_in-rounds.result) (has c.args.among)
+          c.rounds_in-rounds.ensures.members,
+      c.guests_legs-of_i.ensures.before,
+      c.guests_legs-of_i.ensures.after,
+      c.guests_legs-of_j.ensures.before,
+      c.guests_legs-of_j.ensures.after,
+    )
     (told_whole _ _ _ _ _ _ _ _
     (travel_told c.args.schedule.now rr c.args.i c.args.j p (has c.rounds_in-rounds.result)
     (cut_stays c.args.schedule.now rr c.args.i c.args.j p (has c.rounds_in-rounds.result) (has c.args.among)

@@ -11,13 +11,18 @@ loop-round-init c = record {
 
 pub overflow_add-round : goal.overflow_add-round
 overflow_add-round c =
-    omega (arith, c.requires.round_robin.most,
-    lowest_below (round_count c.args.schedule.now.teams) _ _ _ c.loop-round.invariant.before.below c.in-Some.ensures.steps)
+    omega (
+      arith,
+      c.requires.round_robin.most,
+      lowest_below (round_count c.args.schedule.now.teams) _ _ _ c.loop-round.invariant.before.below c.in-Some.ensures.steps,
+    )
 
 pub legs_of_both-legs-requires-clause-index : goal.legs_of_both-legs-requires-clause-index
 legs_of_both-legs-requires-clause-index c =
-    omega (arith,
-    lowest_below (round_count c.args.schedule.now.teams) _ _ _ c.loop-round.invariant.before.below c.in-Some.ensures.steps)
+    omega (
+      arith,
+      lowest_below (round_count c.args.schedule.now.teams) _ _ _ c.loop-round.invariant.before.below c.in-Some.ensures.steps,
+    )
 
 pub loop-round-preserved : goal.loop-round-preserved
 loop-round-preserved c = record {

@@ -13,9 +13,16 @@ returns-clause-balance c =
     has_beyond _ _ (round_count c.args.schedule.now.teams) c.requires.below (omega arith) in
     let is_inner : (s : ℕ) → has c.starts_within-inner.result s ≡ (has c.args.rounds s && has c.args.rounds (s + 1)) =
     λ s. c.starts_within-inner.ensures.members s ∙ has_both c.args.rounds s in
-    rw (c.first_legs-first.ensures.before, c.first_legs-first.ensures.after, c.legs_at_edges-at_edges.ensures.before,
-    c.legs_at_edges-at_edges.ensures.after, c.turned_legs-of_i.ensures.before, c.turned_legs-of_i.ensures.after,
-    c.turned_legs-of_j.ensures.before, c.turned_legs-of_j.ensures.after)
+    rw (
+      c.first_legs-first.ensures.before,
+      c.first_legs-first.ensures.after,
+      c.legs_at_edges-at_edges.ensures.before,
+      c.legs_at_edges-at_edges.ensures.after,
+      c.turned_legs-of_i.ensures.before,
+      c.turned_legs-of_i.ensures.after,
+      c.turned_legs-of_j.ensures.before,
+      c.turned_legs-of_j.ensures.after,
+    )
     (own_balance c.args.league.now c.requires.league.table.diagonal c.args.schedule.now c.requires.round_robin c.args.i
     c.args.j (record { home_in = c.requires.i; away_in = c.requires.j; distinct = c.requires.distinct }) (has c.args.rounds)
     c.requires.first_out c.requires.second_out beyond c.difference-edges.result c.starts_within-inner.result
