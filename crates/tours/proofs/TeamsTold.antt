@@ -4,7 +4,7 @@ use Rattle.std.specs.Prelude.{◌==◌, nat_lt, if◌then◌else◌}
 use Rattle.std.proofs.lemmas.Bool.{cases_Bool, cases_eq, cases_lt, or_cases, or_parts, and_cases, cond-true, cond-false, eqb-true, eqb-false, ne_eqb, true≢false}
 use Rattle.std.proofs.lemmas.Bool.Decides.{nat_tests}
 use Rattle.league.specs.League.{LeagueData, distance}
-use Rattle.league.specs.Sums.{sum_below, sum_where}
+use Rattle.league.specs.Sums.{sum_where}
 use Rattle.league.proofs.ForCallers.{sum_below_same, sum_below_only, sum_where_same}
 use Rattle.fixtures.specs.declared.game.Cell.{Cell}
 use Rattle.fixtures.specs.Games.{Games, round_of, round_count, cell, place, is_home, IsPair, IsDoubleRoundRobin}

@@ -1,5 +1,5 @@
 -- The legs of a guest around its game at one of two teams that are exchanged.
-use Rattle.std.proofs.Common.{◌≡◌, ℕ, ◌+◌, ◌-◌, ◌<◌, Bool, true, false, not, ◌&&◌, ◌||◌, inl, inr, get_or, refl, sym, ◌∙◌, ap, ap₂, arith}
+use Rattle.std.proofs.Common.{◌≡◌, ℕ, ◌+◌, ◌-◌, ◌<◌, Bool, true, false, not, ◌&&◌, get_or, refl, sym, ◌∙◌, ap, ap₂, arith}
 use Rattle.std.specs.Prelude.{◌==◌, nat_lt, if◌then◌else◌}
 use Rattle.std.proofs.lemmas.Bool.{and_parts, cond-true, cond-false}
 use Rattle.std.proofs.lemmas.Bool.Decides.{nat_tests}
@@ -12,7 +12,7 @@ use Rattle.tours.specs.Tours.{tour, leg}
 use Rattle.tours.specs.Walked.{guest_terms}
 use Rattle.tours.specs.Told.{is_either, in_rounds, stop_told, leg_told}
 use Rattle.tours.proofs.Stops.{tour_at_round}
-use Rattle.tours.proofs.Opponents.{opponent_in, side_of_opponent, IsPairing-opponents}
+use Rattle.tours.proofs.Opponents.{side_of_opponent, IsPairing-opponents}
 use Rattle.tours.proofs.GuestSteps.{followed_by_next}
 use Rattle.tours.proofs.TeamsTold.{at_round, unmoved, meets_neither}
 

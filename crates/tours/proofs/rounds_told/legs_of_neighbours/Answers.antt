@@ -1,4 +1,3 @@
-use Rattle.std.proofs.Common.{rules}
 use Rattle.tours.proofs.RoundsTold.{neighbours_before, neighbours_after}
 use Rattle.tours.proofs.rounds_told.legs_of_neighbours.Goals as goal
 

@@ -1,4 +1,3 @@
-use Rattle.std.proofs.Common.{rules}
 use Rattle.tours.proofs.RoundsTold.{two_before, two_after}
 use Rattle.tours.proofs.rounds_told.legs_of_two.Goals as goal
 

@@ -1,4 +1,3 @@
-use Rattle.std.proofs.Common.{◌≡◌, sym, ◌∙◌}
 use Rattle.league.specs.Sets.{has}
 use Rattle.fixtures.specs.Games.{IsPair}
 use Rattle.fixtures.proofs.ForCallers.{pair_swapped, stays_among_closed}

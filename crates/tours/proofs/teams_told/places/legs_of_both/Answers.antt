@@ -1,4 +1,4 @@
-use Rattle.std.proofs.Common.{◌+◌, ◌∙◌, ap₂, get_or}
+use Rattle.std.proofs.Common.{◌+◌, ◌∙◌, ap₂}
 use Rattle.league.specs.League.{distance}
 use Rattle.tours.specs.Tours.{leg}
 use Rattle.tours.proofs.teams_told.places.legs_of_both.Goals as goal
