@@ -1,7 +1,7 @@
 -- A move changes no more of the costs than their shares.
 use Rattle.std.proofs.Common.{◌≡◌, ℕ, ◌+◌, ◌-◌, ◌*◌, ◌<◌, ◌≤◌, Bool, true, false, if◌then◌else◌, length, slice_get, Option, Some, None}
 use Rattle.std.proofs.Common.{refl, sym, ◌∙◌, ap, subst, arith}
-use Rattle.std.proofs.Math.Nat.{mul-le-mul_left}
+use Rattle.std.proofs.Math.Nat.{mul-add, mul-le-mul_left}
 use Rattle.std.proofs.Math.Path.{fun_ext}
 use Rattle.std.proofs.lemmas.List.Elements.{All-from_recursion, All-get_or}
 use Rattle.std.proofs.lemmas.Option.{slice_get_within, get_or_from_slice_get}
@@ -10,6 +10,7 @@ use Rattle.league.specs.RuleLimits.{IsRuleFor, IsBodyFor}
 use Rattle.league.specs.Sets.{has}
 use Rattle.league.specs.declared.rule.Rule.{Rule}
 use Rattle.league.specs.declared.rule.Weight.{Weight}
+use Rattle.league.specs.declared.rule.Weight.TheVariants.{Hard, Soft}
 use Rattle.league.proofs.ForCallers.{sum_below_balance}
 use Rattle.fixtures.specs.Changes.{DiffersOnlyIn}
 use Rattle.fixtures.specs.Games.{Games}
@@ -25,12 +26,10 @@ use Rattle.tours.specs.Phased.{unphased, unphased_part}
 use Rattle.tours.specs.Tours.{travel}
 use Rattle.tours.proofs.ForCallers.{travel_balance, travel_balance_around, runs_balance_sides, repeats_balance_around}
 use Rattle.tours.proofs.ForCallers.{repeats_of_same_pairs, unphased_balance_around}
-use Rattle.robinx.specs.Deviations.{deviation}
-use Rattle.robinx.specs.LooksPast.{looks_past}
-use Rattle.robinx.proofs.ForCallers.{looked_past_deviation, looks_past_tested}
+use Rattle.robinx.proofs.ForCallers.{deviation_balance}
 use Rattle.fixture_board.specs.Costs.{hard_share, soft_share, share_of, sum_over_rules, where_phased, cost_of, score_of}
 use Rattle.fixture_board.specs.Costs.{score_limit}
-use Rattle.fixture_board.specs.CostShares.{travel_share, repeats_share, seen_share_of, sum_over_seen_rules, cost_share}
+use Rattle.fixture_board.specs.CostShares.{travel_share, repeats_share, rule_share, rules_share, cost_share}
 use Rattle.fixture_board.specs.CostShares.{share_but_travel, CostsBalance}
 use Rattle.fixture_board.specs.declared.cost.Cost.{Cost}
 use Rattle.fixture_board.proofs.Scores.{moved-teams, score_below}
@@ -75,21 +74,29 @@ counted_balances false new old before after balance = refl
 
 -- rules
 
-seen_balances : (past : Bool) (share : ℕ → ℕ) (new old : ℕ) → (past ≡ true → new ≡ old) →
-    share new + share (if past then 0 else old) ≡ share old + share (if past then 0 else new)
-seen_balances true share new old same = ap (λ n. share n + share 0) (same refl)
-seen_balances false share new old same = omega arith
+-- a rule of any weight adds as much more as its deviation is more
+abbrev IsEven : (Weight → ℕ → ℕ) → Type 0
+IsEven share = (weight : Weight) (new before old after : ℕ) → new + before ≡ old + after →
+    share weight new + share weight before ≡ share weight old + share weight after
 
-rule_balances : (share : Weight → ℕ → ℕ) (g : Games) (mv : Move) (main : TouchedCells) → AreMainCells g mv main → (rule : Option Rule) →
-    ((r : Rule) → rule ≡ Some r → IsBodyFor g.teams r.body) →
-    share_of share (moved g mv) rule + seen_share_of share main.teams g rule ≡
-    share_of share g rule + seen_share_of share main.teams (moved g mv) rule
-rule_balances share g mv main are None for = refl
-rule_balances share g mv main are (Some rule) for =
-    seen_balances (looks_past main.teams rule.body) (share rule.weight) (deviation (moved g mv) rule.body) (deviation g rule.body)
-    (λ past. looked_past_deviation g (moved g mv) (has main.teams) (has main.rounds) rule.body are.round_robin
-    (each_double_round_robin g mv are.round_robin are.checked) (for rule refl) (differs_around g mv main are)
-    (looks_past_tested main.teams rule.body past))
+hard_even : IsEven hard_share
+hard_even Hard new before old after balance = balance
+hard_even (Soft weight) new before old after balance = refl
+
+soft_even : IsEven soft_share
+soft_even Hard new before old after balance = refl
+soft_even (Soft weight) new before old after balance =
+    omega (arith, mul-add weight new before, mul-add weight old after, ap (λ n. weight * n) balance)
+
+rule_balances : (share : Weight → ℕ → ℕ) → IsEven share → (g : Games) (mv : Move) (main : TouchedCells) (sides : ℕ) → AreMainCells g mv main →
+    ((t : ℕ) → has sides t ≡ side_team g mv t) → (rule : Option Rule) → ((r : Rule) → rule ≡ Some r → IsBodyFor g.teams r.body) →
+    share_of share (moved g mv) rule + rule_share share main sides g rule ≡
+    share_of share g rule + rule_share share main sides (moved g mv) rule
+rule_balances share even g mv main sides are of_sides None for = refl
+rule_balances share even g mv main sides are of_sides (Some rule) for =
+    even rule.weight _ _ _ _
+    (deviation_balance g (moved g mv) are.round_robin (each_double_round_robin g mv are.round_robin are.checked) main.teams main.rounds sides
+    (differs_around g mv main are) (sides_differ_at g mv main sides are of_sides) rule.body (for rule refl))
 
 rule_for : (l : LeagueData) (g : Games) (i : ℕ) → IsLeague l → teams l ≡ g.teams → (rule : Rule) →
     slice_get l.rules i ≡ Some rule → IsBodyFor g.teams rule.body
@@ -100,14 +107,14 @@ rule_for l g i is same rule at =
     (All-from_recursion (IsRuleFor (teams l)) l.rules is.rules)) in
     subst (λ n. IsBodyFor n rule.body) same for.body
 
-rules_balance : (share : Weight → ℕ → ℕ) (l : LeagueData) (g : Games) (mv : Move) (main : TouchedCells) →
-    IsLeague l → teams l ≡ g.teams → AreMainCells g mv main →
-    sum_over_rules share l.rules (moved g mv) + sum_over_seen_rules share l.rules main.teams g ≡
-    sum_over_rules share l.rules g + sum_over_seen_rules share l.rules main.teams (moved g mv)
-unfolding sum_over_rules sum_over_seen_rules
-rules_balance share l g mv main is same are =
+rules_balance : (share : Weight → ℕ → ℕ) → IsEven share → (l : LeagueData) (g : Games) (mv : Move) (main : TouchedCells) (sides : ℕ) →
+    IsLeague l → teams l ≡ g.teams → AreMainCells g mv main → ((t : ℕ) → has sides t ≡ side_team g mv t) →
+    sum_over_rules share l.rules (moved g mv) + rules_share share l.rules main sides g ≡
+    sum_over_rules share l.rules g + rules_share share l.rules main sides (moved g mv)
+unfolding sum_over_rules rules_share
+rules_balance share even l g mv main sides is same are of_sides =
     sum_below_balance (length l.rules) _ _ _ _
-    (λ i under. rule_balances share g mv main are (slice_get l.rules i) (rule_for l g i is same))
+    (λ i under. rule_balances share even g mv main sides are of_sides (slice_get l.rules i) (rule_for l g i is same))
 
 -- pairs with both games in one half
 
@@ -133,10 +140,10 @@ costs_balance l g mv main sides is same are of_sides = record {
     arith,
     runs_balance_sides g (moved g mv) l.at_most (has sides) (has main.rounds) (sides_differ_at g mv main sides are of_sides),
     repeats_balances g mv main are,
-    rules_balance hard_share l g mv main is same are,
+    rules_balance hard_share hard_even l g mv main sides is same are of_sides,
     phases_balance l g mv main are,
   );
-  soft = rules_balance soft_share l g mv main is same are;
+  soft = rules_balance soft_share soft_even l g mv main sides is same are of_sides;
 }
 
 pub share_balances : (l : LeagueData) (g g' : Games) (mv : Move) (main : TouchedCells) (sides : ℕ) (known before after : Cost) →

@@ -5,7 +5,6 @@ use Rattle.league.specs.League.{LeagueData}
 use Rattle.league.specs.Sets.{has}
 use Rattle.league.specs.Sums.{sum_below}
 use Rattle.league.specs.declared.rule.Rule.{Rule}
-use Rattle.league.specs.declared.rule.RuleBody.{RuleBody}
 use Rattle.league.specs.declared.rule.Weight.{Weight}
 use Rattle.fixtures.specs.Games.{Games}
 use Rattle.fixtures.specs.TouchedCells.{TouchedCells}
@@ -14,8 +13,7 @@ use Rattle.moves.specs.declared.moves.Move.{Move}
 use Rattle.moves.specs.declared.moves.Move.TheVariants.{Rounds, Teams, PartRounds, PartTeams}
 use Rattle.tours.specs.Parts.{travel_part, travel_around, runs_part, repeats_with}
 use Rattle.tours.specs.Phased.{unphased_part}
-use Rattle.robinx.specs.Deviations.{deviation}
-use Rattle.robinx.specs.LooksPast.{looks_past}
+use Rattle.robinx.specs.Parts.{deviation_part}
 use Rattle.fixture_board.specs.Costs.{hard_share, soft_share, score_limit, where_phased}
 use Rattle.fixture_board.specs.declared.cost.Cost.{Cost}
 
@@ -35,28 +33,24 @@ is_of_rounds mv = false
 abbrev pub repeats_share : Move → TouchedCells → Games → ℕ
 repeats_share mv main g = if keeps_meetings mv then 0 else repeats_with g (has main.teams) (has main.rounds)
 
--- of the deviation of a rule: none where the rule looks past the teams
-abbrev pub seen_deviation : ℕ → Games → RuleBody → ℕ
-seen_deviation teams g body = if looks_past teams body then 0 else deviation g body
-
--- what one rule adds, where there is one
-abbrev pub seen_share_of : (Weight → ℕ → ℕ) → ℕ → Games → Option Rule → ℕ
-seen_share_of share teams g None = 0
-seen_share_of share teams g (Some rule) = share rule.weight (seen_deviation teams g rule.body)
+-- of what one rule adds, where there is one
+abbrev pub rule_share : (Weight → ℕ → ℕ) → TouchedCells → ℕ → Games → Option Rule → ℕ
+rule_share share main sides g None = 0
+rule_share share main sides g (Some rule) = share rule.weight (deviation_part g main.teams main.rounds sides rule.body)
 
 -- the sum over the rules, by their places
-unfoldable pub sum_over_seen_rules : (Weight → ℕ → ℕ) → List Rule → ℕ → Games → ℕ
-sum_over_seen_rules share rules teams g =
-    sum_below (length rules) (λ i. seen_share_of share teams g (slice_get rules i))
+unfoldable pub rules_share : (Weight → ℕ → ℕ) → List Rule → TouchedCells → ℕ → Games → ℕ
+rules_share share rules main sides g =
+    sum_below (length rules) (λ i. rule_share share main sides g (slice_get rules i))
 
 -- of all costs but the travel, where `sides` has the teams whose sides may change
 unfoldable pub share_but_travel : LeagueData → Move → TouchedCells → ℕ → Games → Cost
 share_but_travel l mv main sides g = record {
   travel = 0;
   hard = runs_part g l.at_most (has sides) (has main.rounds) + repeats_share mv main g +
-      sum_over_seen_rules hard_share l.rules main.teams g +
+      rules_share hard_share l.rules main sides g +
       where_phased l (unphased_part g (has main.teams));
-  soft = sum_over_seen_rules soft_share l.rules main.teams g;
+  soft = rules_share soft_share l.rules main sides g;
 }
 
 -- of all costs

@@ -12,7 +12,7 @@ ghost use Rattle.fixture_board.specs.CostShares.{travel_share, repeats_share, sh
 ghost use Rattle.fixture_board.specs.CostShares.{CostsBalance, IsSmall};
 
 use crate::cost::Cost;
-use crate::rule_costs::costs_of_seen_rules;
+use crate::rule_costs::shares_of_rules;
 use fixtures::{Schedule, Touched};
 use league::{League, TeamSet};
 use moves::{Move, make, side_teams};
@@ -97,7 +97,7 @@ pub(crate) fn share_of_known(
     Cost {
         travel: travel_share(schedule, league, mv, main),
         hard: 0,
-        soft: costs_of_seen_rules(schedule, league, main.teams).soft,
+        soft: shares_of_rules(schedule, league, main, sides).soft,
     }
 }
 
@@ -119,7 +119,7 @@ pub(crate) fn share_but_travel(
         rounds: main.rounds,
     };
     let runs = runs_part(schedule, league, of_sides);
-    let rules = costs_of_seen_rules(schedule, league, main.teams);
+    let rules = shares_of_rules(schedule, league, main, sides);
     Cost {
         travel: 0,
         hard: runs
