@@ -1,6 +1,7 @@
 -- What an exchange can change of a cost is at most all of it.
 use Rattle.std.proofs.Common.{◌≡◌, ℕ, ◌+◌, ◌-◌, ◌≤◌, ◌&&◌, ◌||◌, Bool, true, false, if◌then◌else◌, List, length, slice_get}
 use Rattle.std.proofs.Common.{Option, Some, None, refl, le_refl, arith}
+use Rattle.std.proofs.Math.Nat.{mul-le-mul_left}
 use Rattle.league.specs.League.{LeagueData}
 use Rattle.league.specs.Sets.{has}
 use Rattle.league.specs.declared.rule.Rule.{Rule}
@@ -18,10 +19,9 @@ use Rattle.tours.specs.Phased.{is_unphased, unphased, unphased_part}
 use Rattle.tours.specs.Repeats.{repeats_after, repeats}
 use Rattle.tours.specs.Runs.{windows, is_run, runs_of, runs_over}
 use Rattle.tours.specs.Tours.{leg_count, leg, travel_of, travel}
-use Rattle.robinx.specs.Deviations.{deviation}
-use Rattle.robinx.specs.LooksPast.{looks_past}
+use Rattle.robinx.proofs.ForCallers.{part_le}
 use Rattle.fixture_board.specs.Costs.{hard_share, soft_share, share_of, sum_over_rules, cost_of}
-use Rattle.fixture_board.specs.CostShares.{travel_share, seen_share_of, sum_over_seen_rules, share_but_travel, cost_share, CostsBalance}
+use Rattle.fixture_board.specs.CostShares.{travel_share, rule_share, rules_share, share_but_travel, cost_share, CostsBalance}
 use Rattle.fixture_board.specs.declared.cost.Cost.{Cost}
 use Rattle.fixture_board.specs.declared.scope.Scope.{Scope}
 
@@ -102,39 +102,34 @@ where_le : (counted : Bool) (part whole : ℕ) → part ≤ whole → (if counte
 where_le true part whole le = le
 where_le false part whole le = omega arith
 
--- what a rule of any weight adds for no deviation is none of what it adds
-abbrev IsLeastAtNone : (Weight → ℕ → ℕ) → Type 0
-IsLeastAtNone share = (weight : Weight) (n : ℕ) → share weight 0 ≤ share weight n
+-- a rule of any weight adds no more for a lesser deviation
+abbrev Grows : (Weight → ℕ → ℕ) → Type 0
+Grows share = (weight : Weight) (m n : ℕ) → m ≤ n → share weight m ≤ share weight n
 
-hard_least : IsLeastAtNone hard_share
-hard_least Hard n = omega arith
-hard_least (Soft weight) n = omega arith
+hard_grows : Grows hard_share
+hard_grows Hard m n le = le
+hard_grows (Soft weight) m n le = omega arith
 
-soft_least : IsLeastAtNone soft_share
-soft_least Hard n = omega arith
-soft_least (Soft weight) n = omega arith
+soft_grows : Grows soft_share
+soft_grows Hard m n le = omega arith
+soft_grows (Soft weight) m n le = mul-le-mul_left weight le
 
-weighed_le : (share : Weight → ℕ → ℕ) → IsLeastAtNone share → (weight : Weight) (past : Bool) (n : ℕ) →
-    share weight (if past then 0 else n) ≤ share weight n
-weighed_le share least weight true n = least weight n
-weighed_le share least weight false n = le_refl (share weight n)
+rule_share_le : (share : Weight → ℕ → ℕ) → Grows share → (main : TouchedCells) (sides : ℕ) (g : Games) (rule : Option Rule) →
+    rule_share share main sides g rule ≤ share_of share g rule
+rule_share_le share grows main sides g None = omega arith
+rule_share_le share grows main sides g (Some rule) = grows rule.weight _ _ (part_le g main.teams main.rounds sides rule.body)
 
-seen_le : (share : Weight → ℕ → ℕ) → IsLeastAtNone share → (teams : ℕ) (g : Games) (rule : Option Rule) →
-    seen_share_of share teams g rule ≤ share_of share g rule
-seen_le share least teams g None = omega arith
-seen_le share least teams g (Some rule) = weighed_le share least rule.weight (looks_past teams rule.body) (deviation g rule.body)
-
-seen_rules_le : (share : Weight → ℕ → ℕ) → IsLeastAtNone share → (rules : List Rule) (teams : ℕ) (g : Games) →
-    sum_over_seen_rules share rules teams g ≤ sum_over_rules share rules g
-unfolding sum_over_seen_rules sum_over_rules
-seen_rules_le share least rules teams g =
-    sum_below_le_each (length rules) _ _ (λ i under. seen_le share least teams g (slice_get rules i))
+rules_share_le : (share : Weight → ℕ → ℕ) → Grows share → (rules : List Rule) (main : TouchedCells) (sides : ℕ) (g : Games) →
+    rules_share share rules main sides g ≤ sum_over_rules share rules g
+unfolding rules_share sum_over_rules
+rules_share_le share grows rules main sides g =
+    sum_below_le_each (length rules) _ _ (λ i under. rule_share_le share grows main sides g (slice_get rules i))
 
 share_by_costs : (l : LeagueData) (scope : Scope) (g : Games) →
     record {
       travel = travel_share l scope.exchange scope.main g;
       hard = (cost_share l scope g).hard;
-      soft = sum_over_seen_rules soft_share l.rules scope.main.teams g;
+      soft = rules_share soft_share l.rules scope.main scope.turning g;
     } ≡ cost_share l scope g
 unfolding cost_share share_but_travel
 share_by_costs l scope g = refl
@@ -146,14 +141,14 @@ hard_le l scope g = omega (
   arith,
   runs_part_le g l.at_most (has scope.turning) (has scope.main.rounds),
   kept_le (scope.same_meetings) _ _ (repeats_with_le g (has scope.main.teams) (has scope.main.rounds)),
-  seen_rules_le hard_share hard_least l.rules scope.main.teams g,
+  rules_share_le hard_share hard_grows l.rules scope.main scope.turning g,
   where_le l.phased _ _ (unphased_part_le g (has scope.main.teams)),
 )
 
 -- where nothing is hard, nothing of the share is
 pub share_none_hard : (l : LeagueData) (scope : Scope) (g : Games) (known : Cost) (legs weighed : ℕ) →
     known ≡ cost_of l g → known.hard ≤ 0 → legs ≡ travel_share l scope.exchange scope.main g →
-    weighed ≡ sum_over_seen_rules soft_share l.rules scope.main.teams g →
+    weighed ≡ rules_share soft_share l.rules scope.main scope.turning g →
     record { travel = legs; hard = 0; soft = weighed } ≡ cost_share l scope g
 share_none_hard l scope g known legs weighed known_is none legs_are weighed_is =
     let none_of_all : (cost_of l g).hard ≤ 0 = rw known_is at none in
@@ -177,5 +172,5 @@ rest_balances l scope g known before nothing known_is before_is nothing_is =
     (record {
       travel = omega (arith, travel_share_le l g scope);
       hard = omega (arith, hard_le l scope g);
-      soft = omega (arith, seen_rules_le soft_share soft_least l.rules scope.main.teams g);
+      soft = omega (arith, rules_share_le soft_share soft_grows l.rules scope.main scope.turning g);
     })

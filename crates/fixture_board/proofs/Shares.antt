@@ -1,7 +1,7 @@
 -- An exchange changes no more of the costs than their shares.
 use Rattle.std.proofs.Common.{◌≡◌, ℕ, ◌+◌, ◌-◌, ◌*◌, ◌<◌, ◌≤◌, Bool, true, false, if◌then◌else◌, length, slice_get, Option, Some, None}
 use Rattle.std.proofs.Common.{refl, sym, ◌∙◌, ap, subst, arith}
-use Rattle.std.proofs.Math.Nat.{mul-le-mul_left}
+use Rattle.std.proofs.Math.Nat.{mul-add, mul-le-mul_left}
 use Rattle.std.proofs.Math.Path.{fun_ext}
 use Rattle.std.proofs.lemmas.List.Elements.{All-from_recursion, All-get_or}
 use Rattle.std.proofs.lemmas.Option.{slice_get_within, get_or_from_slice_get}
@@ -10,6 +10,7 @@ use Rattle.league.specs.RuleLimits.{IsRuleFor, IsBodyFor}
 use Rattle.league.specs.Sets.{has}
 use Rattle.league.specs.declared.rule.Rule.{Rule}
 use Rattle.league.specs.declared.rule.Weight.{Weight}
+use Rattle.league.specs.declared.rule.Weight.TheVariants.{Hard, Soft}
 use Rattle.league.proofs.ForCallers.{sum_below_balance}
 use Rattle.fixtures.specs.Changes.{DiffersOnlyAround, DiffersOnlyAt, box}
 use Rattle.fixtures.specs.Games.{Games, IsDoubleRoundRobin, is_home}
@@ -23,12 +24,10 @@ use Rattle.tours.specs.Phased.{unphased, unphased_part}
 use Rattle.tours.specs.Tours.{travel}
 use Rattle.tours.proofs.ForCallers.{travel_balance, travel_balance_around, runs_balance_sides, repeats_balance_around}
 use Rattle.tours.proofs.ForCallers.{repeats_of_same_pairs, unphased_balance_around}
-use Rattle.robinx.specs.Deviations.{deviation}
-use Rattle.robinx.specs.LooksPast.{looks_past}
-use Rattle.robinx.proofs.ForCallers.{looked_past_deviation, looks_past_tested}
+use Rattle.robinx.proofs.ForCallers.{deviation_balance}
 use Rattle.fixture_board.specs.Costs.{hard_share, soft_share, share_of, sum_over_rules, where_phased, cost_of, score_of}
 use Rattle.fixture_board.specs.Costs.{score_limit}
-use Rattle.fixture_board.specs.CostShares.{travel_share, repeats_share, seen_share_of, sum_over_seen_rules, cost_share}
+use Rattle.fixture_board.specs.CostShares.{travel_share, repeats_share, rule_share, rules_share, cost_share}
 use Rattle.fixture_board.specs.CostShares.{share_but_travel, CostsBalance, IsScope}
 use Rattle.fixture_board.specs.declared.scope.Scope.{Scope}
 use Rattle.fixture_board.specs.declared.cost.Cost.{Cost}
@@ -88,22 +87,29 @@ counted_balances false new old before after balance = refl
 
 -- rules
 
-seen_balances : (past : Bool) (share : ℕ → ℕ) (new old : ℕ) → (past ≡ true → new ≡ old) →
-    share new + share (if past then 0 else old) ≡ share old + share (if past then 0 else new)
-seen_balances true share new old same = ap (λ n. share n + share 0) (same refl)
-seen_balances false share new old same = omega arith
+-- a rule of any weight adds as much more as its deviation is more
+abbrev IsEven : (Weight → ℕ → ℕ) → Type 0
+IsEven share = (weight : Weight) (new before old after : ℕ) → new + before ≡ old + after →
+    share weight new + share weight before ≡ share weight old + share weight after
 
-rule_balances : (share : Weight → ℕ → ℕ) (g : Games) (scope : Scope) → IsScope g scope → (rule : Option Rule) →
+hard_even : IsEven hard_share
+hard_even Hard new before old after balance = balance
+hard_even (Soft weight) new before old after balance = refl
+
+soft_even : IsEven soft_share
+soft_even Hard new before old after balance = refl
+soft_even (Soft weight) new before old after balance =
+    omega (arith, mul-add weight new before, mul-add weight old after, ap (λ n. weight * n) balance)
+
+rule_balances : (share : Weight → ℕ → ℕ) → IsEven share → (g : Games) (scope : Scope) → IsScope g scope → (rule : Option Rule) →
     ((r : Rule) → rule ≡ Some r → IsBodyFor g.teams r.body) →
-    share_of share (exchanged_by g scope.exchange) rule + seen_share_of share scope.main.teams g rule ≡
-    share_of share g rule + seen_share_of share scope.main.teams (exchanged_by g scope.exchange) rule
-rule_balances share g scope is None for = refl
-rule_balances share g scope is (Some rule) for =
-    seen_balances (looks_past scope.main.teams rule.body) (share rule.weight) (deviation (exchanged_by g scope.exchange) rule.body)
-    (deviation g rule.body)
-    (λ past. looked_past_deviation g (exchanged_by g scope.exchange) (has scope.main.teams) (has scope.main.rounds) rule.body
-    is.can_be_made.round_robin (round_robin_after g scope is) (for rule refl) (around g scope is)
-    (looks_past_tested scope.main.teams rule.body past))
+    share_of share (exchanged_by g scope.exchange) rule + rule_share share scope.main scope.turning g rule ≡
+    share_of share g rule + rule_share share scope.main scope.turning (exchanged_by g scope.exchange) rule
+rule_balances share even g scope is None for = refl
+rule_balances share even g scope is (Some rule) for =
+    even rule.weight _ _ _ _
+    (deviation_balance g (exchanged_by g scope.exchange) is.can_be_made.round_robin (round_robin_after g scope is) scope.main.teams
+    scope.main.rounds scope.turning (around g scope is) (sides g scope is) rule.body (for rule refl))
 
 rule_for : (l : LeagueData) (g : Games) (i : ℕ) → IsLeague l → teams l ≡ g.teams → (rule : Rule) →
     slice_get l.rules i ≡ Some rule → IsBodyFor g.teams rule.body
@@ -114,14 +120,14 @@ rule_for l g i is same rule at =
     (All-from_recursion (IsRuleFor (teams l)) l.rules is.rules)) in
     subst (λ n. IsBodyFor n rule.body) same for.body
 
-rules_balance : (share : Weight → ℕ → ℕ) (l : LeagueData) (g : Games) (scope : Scope) →
+rules_balance : (share : Weight → ℕ → ℕ) → IsEven share → (l : LeagueData) (g : Games) (scope : Scope) →
     IsLeague l → teams l ≡ g.teams → IsScope g scope →
-    sum_over_rules share l.rules (exchanged_by g scope.exchange) + sum_over_seen_rules share l.rules scope.main.teams g ≡
-    sum_over_rules share l.rules g + sum_over_seen_rules share l.rules scope.main.teams (exchanged_by g scope.exchange)
-unfolding sum_over_rules sum_over_seen_rules
-rules_balance share l g scope is same are =
+    sum_over_rules share l.rules (exchanged_by g scope.exchange) + rules_share share l.rules scope.main scope.turning g ≡
+    sum_over_rules share l.rules g + rules_share share l.rules scope.main scope.turning (exchanged_by g scope.exchange)
+unfolding sum_over_rules rules_share
+rules_balance share even l g scope is same are =
     sum_below_balance (length l.rules) _ _ _ _
-    (λ i under. rule_balances share g scope are (slice_get l.rules i) (rule_for l g i is same))
+    (λ i under. rule_balances share even g scope are (slice_get l.rules i) (rule_for l g i is same))
 
 -- pairs with both games in one half
 
@@ -146,10 +152,10 @@ costs_balance l g scope is same are = record {
     arith,
     runs_balance_sides g (exchanged_by g scope.exchange) l.at_most (has scope.turning) (has scope.main.rounds) (sides g scope are),
     repeats_balances g scope are scope.same_meetings refl,
-    rules_balance hard_share l g scope is same are,
+    rules_balance hard_share hard_even l g scope is same are,
     phases_balance l g scope are,
   );
-  soft = rules_balance soft_share l g scope is same are;
+  soft = rules_balance soft_share soft_even l g scope is same are;
 }
 
 pub share_balances : (l : LeagueData) (g g' : Games) (scope : Scope) (known before after : Cost) →

@@ -5,7 +5,6 @@ use Rattle.league.specs.League.{LeagueData}
 use Rattle.league.specs.Sets.{has}
 use Rattle.league.specs.Sums.{sum_below}
 use Rattle.league.specs.declared.rule.Rule.{Rule}
-use Rattle.league.specs.declared.rule.RuleBody.{RuleBody}
 use Rattle.league.specs.declared.rule.Weight.{Weight}
 use Rattle.fixtures.specs.Games.{Games}
 use Rattle.fixtures.specs.TouchedCells.{TouchedCells}
@@ -14,8 +13,7 @@ use Rattle.moves.specs.declared.exchanges.Exchange.TheVariants as edit
 use Rattle.moves.specs.Exchanges.{IsExchange, main_cells, turning_team, same_meetings}
 use Rattle.tours.specs.Parts.{travel_part, travel_around, runs_part, repeats_with}
 use Rattle.tours.specs.Phased.{unphased_part}
-use Rattle.robinx.specs.Deviations.{deviation}
-use Rattle.robinx.specs.LooksPast.{looks_past}
+use Rattle.robinx.specs.Parts.{deviation_part}
 use Rattle.fixture_board.specs.Costs.{hard_share, soft_share, score_limit, where_phased}
 use Rattle.fixture_board.specs.declared.cost.Cost.{Cost}
 use Rattle.fixture_board.specs.declared.scope.Scope.{Scope}
@@ -40,19 +38,15 @@ is_of_rounds (edit.Teams i j among) = false
 abbrev pub repeats_share : Bool → TouchedCells → Games → ℕ
 repeats_share same main g = if same then 0 else repeats_with g (has main.teams) (has main.rounds)
 
--- of the deviation of a rule: none where the rule looks past the teams
-abbrev pub seen_deviation : ℕ → Games → RuleBody → ℕ
-seen_deviation teams g body = if looks_past teams body then 0 else deviation g body
-
--- what one rule adds, where there is one
-abbrev pub seen_share_of : (Weight → ℕ → ℕ) → ℕ → Games → Option Rule → ℕ
-seen_share_of share teams g None = 0
-seen_share_of share teams g (Some rule) = share rule.weight (seen_deviation teams g rule.body)
+-- of what one rule adds, where there is one
+abbrev pub rule_share : (Weight → ℕ → ℕ) → TouchedCells → ℕ → Games → Option Rule → ℕ
+rule_share share main sides g None = 0
+rule_share share main sides g (Some rule) = share rule.weight (deviation_part g main.teams main.rounds sides rule.body)
 
 -- the sum over the rules, by their places
-unfoldable pub sum_over_seen_rules : (Weight → ℕ → ℕ) → List Rule → ℕ → Games → ℕ
-sum_over_seen_rules share rules teams g =
-    sum_below (length rules) (λ i. seen_share_of share teams g (slice_get rules i))
+unfoldable pub rules_share : (Weight → ℕ → ℕ) → List Rule → TouchedCells → ℕ → Games → ℕ
+rules_share share rules main sides g =
+    sum_below (length rules) (λ i. rule_share share main sides g (slice_get rules i))
 
 -- of all costs but the travel
 unfoldable pub share_but_travel : LeagueData → Scope → Games → Cost
@@ -60,9 +54,9 @@ share_but_travel l scope g = record {
   travel = 0;
   hard = runs_part g l.at_most (has scope.turning) (has scope.main.rounds) +
       repeats_share scope.same_meetings scope.main g +
-      sum_over_seen_rules hard_share l.rules scope.main.teams g +
+      rules_share hard_share l.rules scope.main scope.turning g +
       where_phased l (unphased_part g (has scope.main.teams));
-  soft = sum_over_seen_rules soft_share l.rules scope.main.teams g;
+  soft = rules_share soft_share l.rules scope.main scope.turning g;
 }
 
 -- of all costs

@@ -11,7 +11,7 @@ ghost use Rattle.fixture_board.specs.CostShares.{travel_share, repeats_share, sh
 ghost use Rattle.fixture_board.specs.CostShares.{CostsBalance, IsSmall};
 
 use crate::cost::Cost;
-use crate::rule_costs::costs_of_seen_rules;
+use crate::rule_costs::shares_of_rules;
 use crate::scope::Scope;
 use fixtures::{Schedule, Touched};
 use league::League;
@@ -88,7 +88,7 @@ pub(crate) fn share_of_known(
     Cost {
         travel: travel_share(schedule, league, scope),
         hard: 0,
-        soft: costs_of_seen_rules(schedule, league, scope.main.teams).soft,
+        soft: shares_of_rules(schedule, league, scope.main, scope.turning).soft,
     }
 }
 
@@ -104,7 +104,7 @@ pub(crate) fn share_but_travel(schedule: &Schedule, league: &League, scope: &Sco
         rounds: scope.main.rounds,
     };
     let runs = runs_part(schedule, league, of_sides);
-    let rules = costs_of_seen_rules(schedule, league, scope.main.teams);
+    let rules = shares_of_rules(schedule, league, scope.main, scope.turning);
     Cost {
         travel: 0,
         hard: runs

@@ -3,14 +3,13 @@
 ghost use Rattle.std.specs.Prelude.{◌≡◌, ◌*◌, ◌≤◌};
 ghost use Rattle.league.specs.League.{teams};
 ghost use Rattle.league.specs.Limits.{deviation_limit, max_rules, max_weight};
-ghost use Rattle.league.specs.RuleLimits.{IsRuleFor, IsWeight};
-ghost use Rattle.robinx.specs.Deviations.{deviation};
+ghost use Rattle.league.specs.RuleLimits.{IsWeight};
 ghost use Rattle.fixture_board.specs.Costs.{hard_share, soft_share, sum_over_rules};
-ghost use Rattle.fixture_board.specs.CostShares.{seen_deviation, sum_over_seen_rules};
+ghost use Rattle.fixture_board.specs.CostShares.{rules_share};
 
-use fixtures::Schedule;
-use league::{League, Rule, TeamSet, Weight};
-use robinx::{deviation, looks_past};
+use fixtures::{Schedule, Touched};
+use league::{League, TeamSet, Weight};
+use robinx::{deviation, deviation_part};
 
 /// What rules add to a cost.
 #[derive(Clone, Copy)]
@@ -63,34 +62,26 @@ pub(crate) fn costs_of_rules(schedule: &Schedule, league: &League) -> RuleCosts
     costs
 }
 
-/// What the rules add that don't look past the main teams.
-#[tactic(auto, using(league::proofs::ForCallers::sums), unfolding(crate::specs::CostShares::sum_over_seen_rules))]
-pub(crate) fn costs_of_seen_rules(schedule: &Schedule, league: &League, main: TeamSet) -> RuleCosts
+/// What of that a change around the main teams can alter, where `sides` has the teams whose sides it may change.
+#[tactic(auto, using(league::proofs::ForCallers::sums), unfolding(crate::specs::CostShares::rules_share))]
+pub(crate) fn shares_of_rules(
+    schedule: &Schedule,
+    league: &League,
+    main: Touched,
+    sides: TeamSet,
+) -> RuleCosts
     requires { teams league.now ≡ schedule.now.teams }
-    ensures hard { result.hard ≡ sum_over_seen_rules hard_share league.now.rules main schedule.now }
-    ensures soft { result.soft ≡ sum_over_seen_rules soft_share league.now.rules main schedule.now }
+    ensures hard { result.hard ≡ rules_share hard_share league.now.rules main sides schedule.now }
+    ensures soft { result.soft ≡ rules_share soft_share league.now.rules main sides schedule.now }
     ensures hard_most { result.hard ≤ max_rules * deviation_limit }
     ensures soft_most { result.soft ≤ max_rules * (max_weight * deviation_limit) }
 {
     let mut costs = RuleCosts { hard: 0, soft: 0 };
     for i in 0..league.rule_count() {
         let rule = league.rule(i);
-        let share = RuleCosts::of_rule(rule.weight, seen_deviation(schedule, rule, main));
+        let share = RuleCosts::of_rule(rule.weight, deviation_part(schedule, rule, main, sides));
         costs.hard += share.hard;
         costs.soft += share.soft;
     }
     costs
-}
-
-/// The deviation of a rule that doesn't look past the main teams, and else 0.
-fn seen_deviation(schedule: &Schedule, rule: &Rule, main: TeamSet) -> u64
-    requires { IsRuleFor schedule.now.teams rule.now }
-    ensures value { result ≡ seen_deviation main schedule.now rule.now.body }
-    ensures most { result ≤ deviation_limit }
-{
-    if looks_past(rule, main) {
-        0
-    } else {
-        deviation(schedule, rule)
-    }
 }

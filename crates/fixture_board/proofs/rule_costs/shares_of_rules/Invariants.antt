@@ -3,13 +3,13 @@ use Rattle.std.specs.Prelude.{slice_get}
 use Rattle.league.specs.Limits.{deviation_limit, max_weight}
 use Rattle.league.specs.Sums.{sum_below}
 use Rattle.fixture_board.specs.Costs.{hard_share, soft_share}
-use Rattle.fixture_board.specs.CostShares.{seen_share_of}
-use Rattle.fixture_board.proofs.rule_costs.costs_of_seen_rules.Given as goal
+use Rattle.fixture_board.specs.CostShares.{rule_share}
+use Rattle.fixture_board.proofs.rule_costs.shares_of_rules.Given as goal
 
 abbrev pub invariant-loop-i : goal.invariant-loop-i
 invariant-loop-i l = record {
-  hard : l.costs.hard ≡ sum_below l.i (λ i. seen_share_of hard_share l.main l.schedule (slice_get l.league.rules i));
-  soft : l.costs.soft ≡ sum_below l.i (λ i. seen_share_of soft_share l.main l.schedule (slice_get l.league.rules i));
+  hard : l.costs.hard ≡ sum_below l.i (λ i. rule_share hard_share l.main l.sides l.schedule (slice_get l.league.rules i));
+  soft : l.costs.soft ≡ sum_below l.i (λ i. rule_share soft_share l.main l.sides l.schedule (slice_get l.league.rules i));
   hard_most : l.costs.hard ≤ l.i * deviation_limit;
   soft_most : l.costs.soft ≤ l.i * (max_weight * deviation_limit);
 }
