@@ -122,9 +122,9 @@ fn exchanges_of_rounds_told_at_twenty_teams(rt: HostRuntime) -> Result<(), Fail>
 }
 
 /// Two teams and a round in which they don't meet.
-const TEAMS_OF_FOUR: &[Numbers] = &[(0, 1, 0), (2, 0, 5), (3, 1, 3)];
+const TEAMS_OF_FOUR: &[Numbers] = &[(0, 1, 0), (2, 0, 5), (3, 1, 4)];
 
-const TEAMS_OF_EIGHT: &[Numbers] = &[(0, 1, 0), (7, 3, 13), (2, 6, 5), (4, 1, 10)];
+const TEAMS_OF_EIGHT: &[Numbers] = &[(0, 1, 0), (7, 3, 12), (2, 6, 5), (4, 1, 10)];
 
 const TEAMS_OF_TWENTY: &[Numbers] = &[(12, 7, 2), (0, 1, 37), (18, 5, 21), (3, 9, 0)];
 
