@@ -106,12 +106,7 @@ fn parts_of_an_exchange_of_homes(rt: HostRuntime) -> Result<(), Fail> {
 }
 
 /// What of the deviation isn't in the part.
-fn rest(
-    schedule: &Schedule,
-    league: &League,
-    main: Touched,
-    sides: TeamSet,
-) -> Option<u64> {
+fn rest(schedule: &Schedule, league: &League, main: Touched, sides: TeamSet) -> Option<u64> {
     whole(schedule, league)?.checked_sub(part(schedule, league, main, sides)?)
 }
 
@@ -128,8 +123,15 @@ fn assert_kept_by(
     let before = schedule.duplicate(alloc)?;
     check(&schedule, mv)?;
     let touched = apply(&mut schedule, mv);
-    let teams = if two { TeamSet::below(2) } else { touched.teams };
-    let main = Touched { teams, rounds: touched.rounds };
+    let teams = if two {
+        TeamSet::below(2)
+    } else {
+        touched.teams
+    };
+    let main = Touched {
+        teams,
+        rounds: touched.rounds,
+    };
     let kept = rest(&before, &league, main, teams);
     assert!(rt; kept.is_some(), "{rule}");
     assert_eq!(rt; rest(&schedule, &league, main, teams), kept, "{rule}");
