@@ -6,13 +6,13 @@ ghost use Rattle.std.specs.declared.io.ErrorKind.TheVariants.{OutOfMemory};
 ghost use Rattle.std.specs.Process.{exit_status};
 ghost use Rattle.clap.specs.Words.{fault_of, kind_of};
 ghost use Rattle.clap.specs.declared.error.kind.ErrorKind.{ErrorKind as Kind};
-ghost use Rattle.command_line.specs.CommandLine.{program};
-ghost use Rattle.program.specs.Program.{status_of};
+ghost use Rattle.command_line.specs.CommandLine.{job_of_words, program};
+ghost use Rattle.program.specs.Program.{status_of, IsReport};
 
 use crate::jobs::perform;
 use clap::error::ErrorKind;
 use command_line::args;
-use commands::ProgramFault;
+use commands::{ProgramFault, Verdict};
 use std::io::{IsTerminal, Write};
 use std::process::ExitCode;
 use std::rt::Runtime;
@@ -24,8 +24,11 @@ use streams::{ReaderSource, WriterSink};
 /// The exit status of a fault on the command line.
 const MISUSE: u8 = 2;
 
-/// Does what the program's words ask for. The exit status is 0 on success, 1 after a fault, and 2
-/// where the words are wrong. A search shows how far it is where standard error is a terminal.
+/// The exit status of a report on a schedule that is no double round robin, or that breaks a hard limit.
+const INFEASIBLE: u8 = 3;
+
+/// Does what the program's words ask for. The exit status is 0 on success, 1 after a fault, 2 where the words are wrong,
+/// and 3 after a report on a schedule that isn't feasible. A search shows how far it is where standard error is a terminal.
 pub fn run<R, E>(rt: &R, error: E) -> ExitCode
 where
     R: Runtime + AllocGlobal + Threads + Wait + Sync,
@@ -52,12 +55,13 @@ fn answer<R: Runtime + AllocGlobal + Threads + Wait + Sync, E: Write + Send + Dr
     terminal: Option<E>,
     words: &[String],
 ) -> ExitCode
-    ensures taken { fault_of program (map string_bytes words.now) ≡ [] → exit_status result ≤ 1 }
+    ensures taken { fault_of program (map string_bytes words.now) ≡ [] → exit_status result ≢ 2 }
+    ensures infeasible { exit_status result ≡ 3 → IsReport (job_of_words (map string_bytes words.now)) }
     ensures shown { fault_of program (map string_bytes words.now) ≡ ErrorKind.DisplayHelp ∷ [] → exit_status result ≤ 1 }
     ensures told { fault_of program (map string_bytes words.now) ≡ ErrorKind.DisplayVersion ∷ [] → exit_status result ≤ 1 }
     ensures wrong { (kind : Kind) → fault_of program (map string_bytes words.now) ≡ kind ∷ []
         → kind ≢ ErrorKind.DisplayHelp → kind ≢ ErrorKind.DisplayVersion → 1 ≤ exit_status result }
-    ensures most { exit_status result ≤ 2 }
+    ensures most { exit_status result ≤ 3 }
 {
     let job = match args(rt.alloc(), words) {
         Ok(job) => job,
@@ -69,11 +73,12 @@ fn answer<R: Runtime + AllocGlobal + Threads + Wait + Sync, E: Write + Send + Dr
     ended(rt, outcome)
 }
 
-fn ended<R: Runtime>(rt: &R, outcome: Result<(), ProgramFault>) -> ExitCode
+fn ended<R: Runtime>(rt: &R, outcome: Result<Option<Verdict>, ProgramFault>) -> ExitCode
     ensures { exit_status result ≡ status_of outcome }
 {
     match outcome {
-        Ok(()) => ExitCode::SUCCESS,
+        Ok(Some(Verdict::Infeasible)) => ExitCode::from(INFEASIBLE),
+        Ok(_) => ExitCode::SUCCESS,
         Err(fault) => failure(rt, fault),
     }
 }
