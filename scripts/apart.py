@@ -1,8 +1,8 @@
-"""Schedules, moves, costs and play texts of leagues of both formats, written from docs/model.md, docs/rules.md,
-docs/league-format.md, docs/script.md and docs/sheet.md.
-It shares no code with the crates: scripts/worker-steps, scripts/play-apart and scripts/search-again hold the crates to it."""
+"""Schedules, moves, costs, play texts and reports of leagues of both formats, written from docs/model.md, docs/rules.md,
+docs/league-format.md, docs/script.md, docs/sheet.md and docs/report.md. It shares no code with the crates:
+scripts/worker-steps, scripts/play-apart, scripts/search-again and scripts/report-apart hold the crates to it."""
 import json
-from itertools import accumulate, combinations
+from itertools import accumulate, combinations, groupby
 
 GREATEST = 2**64 - 1
 # the first word of a script line, and what its numbers are: teams, or rounds
@@ -253,3 +253,84 @@ def play(text, script, room=1024):
     yield "end"
     yield from sheet(board.states[-1][0], league)
     yield "best none" if board.best is None else "best {} at {}".format(*board.best)
+
+
+def schedule_line(line):
+    """The games of a line of a schedule, each as a round, a home team and a guest, or None of a bad line."""
+    words = line.replace("\t", " ").split(" ")
+    words = [word for word in words if word]
+    if words[:1] != ["round"]:
+        return []
+    if len(words) < 2 or not words[1].endswith(":") or not is_number(words[1][:-1]):
+        return None
+    games = [word.split("-", 1) for word in words[2:]]
+    if not all(len(game) == 2 and all(map(is_number, game)) for game in games):
+        return None
+    return [(int(words[1][:-1]), int(h), int(a)) for h, a in games]
+
+
+def schedule_faults(teams, lines):
+    """What is wrong with the games of the lines, and the round of each pair, home first."""
+    read, numbers, rounds = [schedule_line(line) for line in lines], range(1, teams + 1), range(1, 2 * teams - 1)
+    faults = [f"bad line {k}" for k, games in enumerate(read, 1) if games is None]
+    listed, table, pairs = [game for games in read for game in games or []], {}, {}
+    for r, h, a in listed:
+        if r not in rounds or h not in numbers or a not in numbers or h == a:
+            faults.append(f"game {h}-{a} of round {r} is none")
+            continue
+        pairs.setdefault((h, a), []).append(r)
+        for t in (h, a):
+            table[t, r] = table.get((t, r), 0) + 1
+    for t in numbers:
+        for r in rounds:
+            count = table.get((t, r), 0)
+            if count != 1:
+                faults.append(f"team {t} has {f'{count} games' if count else 'no game'} in round {r}")
+    for h in numbers:
+        for a in numbers:
+            count = len(pairs.get((h, a), []))
+            if h != a and count != 1:
+                faults.append(f"game {h}-{a} " + (f"stands {count} times" if count else "is missing"))
+    return faults, {(h - 1, a - 1): found[0] - 1 for (h, a), found in pairs.items()}
+
+
+def runs(team, row, at_most):
+    """The stretches of a team at home or away that are longer than allowed."""
+    first = 1
+    for home, stretch in groupby(row, key=lambda cell: cell[1]):
+        length = len(list(stretch))
+        if length > at_most:
+            side = "home" if home else "away"
+            yield f"run {team} {side} rounds {first}-{first + length - 1} windows {length - at_most}"
+        first += length
+
+
+def report(text, lines):
+    """The exit status and the lines of the report of a league's text, which has to be one, and the lines after `sheet`."""
+    league = json.loads(text)
+    teams = len(league["teams"])
+    faults, games = schedule_faults(teams, lines)
+    if faults:
+        return 3, [*faults, "no double round robin"]
+    table, of = cells(games, teams), cost(games, league)
+    said = [*sheet(games, league), shown(of)]
+    for t, row in enumerate(table):
+        places = [t, *(t if home else opponent for opponent, home in row), t]
+        said.append(f"tour {t + 1} travel {sum(league['distances'][a][b] for a, b in zip(places, places[1:]))}")
+    for t, row in enumerate(table):
+        said += runs(t + 1, row, league.get("at_most", 3))
+    for r in range(2 * (teams - 1) - 1):
+        same = [(row[r][0], t) for t, row in enumerate(table) if row[r][0] == row[r + 1][0]]
+        said += [f"repeat {low + 1}-{high + 1} rounds {r + 1} {r + 2}" for low, high in same if low < high]
+    if league.get("format") == 2 and league.get("phased"):
+        for high in range(teams):
+            for low in range(high):
+                there, back = games[low, high], games[high, low]
+                if (there < teams - 1) == (back < teams - 1):
+                    said.append(f"half {low + 1}-{high + 1} rounds {there + 1} {back + 1}")
+    for i, rule in enumerate(league.get("rules", []), 1):
+        kind = "hard" if rule["kind"] == "hard" else f"soft {rule['weight']}"
+        said.append(f"rule {i} {rule['class']} {kind} deviation {deviation(rule, games, table)}")
+    travel, hard, soft = of
+    said.append("infeasible" if hard else f"total {travel + soft}")
+    return (3 if hard else 0), said

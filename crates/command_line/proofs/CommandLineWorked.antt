@@ -4,7 +4,7 @@ use Rattle.clap.specs.Words.{Text, fault_of}
 use Rattle.clap.specs.declared.error.kind.ErrorKind.TheVariants.{ArgumentConflict, DisplayHelp, DisplayVersion, MissingSubcommand, UnknownArgument, ValueValidation}
 use Rattle.clap.proofs.OnLiterals.{clap_on_literals}
 use Rattle.command_line.specs.CommandLine.{job_of_words, program}
-use Rattle.command_line.specs.declared.job.Job.TheVariants.{Find, Play, Start}
+use Rattle.command_line.specs.declared.job.Job.TheVariants.{Find, Play, Report, Start}
 
 abbrev ttp : List Text → List Text
 ttp words = codes "ttp" ∷ words
@@ -81,3 +81,7 @@ search_has_its_numbers = refl
 some_worker_is_needed : fault_of program (ttp (codes "search" ∷ codes "--workers" ∷ codes "0" ∷ [])) ≡ ValueValidation ∷ []
 unfolding clap_on_literals
 some_worker_is_needed = refl
+
+report_is_named : job_of_words (ttp (codes "report" ∷ [])) ≡ Some Report
+unfolding clap_on_literals
+report_is_named = refl

@@ -15,7 +15,7 @@ use Rattle.clap.specs.Walk.{Held, Names, Outcome, Row, Rule, Step, Text, Waiting
 use Rattle.clap.specs.Walk.{done, waits, plain, refused, idle, option, positional, next, trailing, subcommand, value}
 use Rattle.clap.specs.declared.error.kind.ErrorKind.TheVariants.{DisplayHelp, InvalidSubcommand}
 use Rattle.clap.proofs.OnLiterals.{clap_on_literals}
-use Rattle.command_line.specs.CommandLine.{CommandForm, HasNumbers, NamesACommand, NamesOneOf, NumberOption, app_of_command, commands, play_command, program, room_option, search_command, start_command}
+use Rattle.command_line.specs.CommandLine.{CommandForm, HasNumbers, NamesACommand, NamesOneOf, NumberOption, app_of_command, commands, play_command, program, report_command, room_option, search_command, start_command}
 use Rattle.command_line.proofs.Options.{both_pass, no_kind}
 use Rattle.command_line.proofs.OptionWords.{has_numbers}
 
@@ -129,7 +129,10 @@ commands_are_read = (
   record { named = refl; has = has_numbers [] tt (built_command start_command) },
   (
     record { named = refl; has = has_numbers (room_option ∷ []) (record { first = refl; default_fits = refl }, tt) (built_command play_command) },
-    (record { named = refl; has = has_numbers search_command.options (record { first = refl; default_fits = refl }, (record { first = refl; default_fits = refl }, (record { first = refl; default_fits = refl }, (record { first = refl; default_fits = refl }, (record { first = refl; default_fits = refl }, tt))))) (built_command search_command) }, tt),
+    (
+      record { named = refl; has = has_numbers search_command.options (record { first = refl; default_fits = refl }, (record { first = refl; default_fits = refl }, (record { first = refl; default_fits = refl }, (record { first = refl; default_fits = refl }, (record { first = refl; default_fits = refl }, tt))))) (built_command search_command) },
+      (record { named = refl; has = has_numbers [] tt (built_command report_command) }, tt),
+    ),
   ),
 )
 
@@ -198,7 +201,8 @@ pub search_numbers : (found : Text × List Row) → NamesOneOf commands found �
 search_numbers found (inl of_start) is = absurd (true≢false (ap (λ t. bytes_eq t (codes "start")) (sym of_start.0 ∙ is)))
 search_numbers found (inr (inl of_play)) is = absurd (true≢false (ap (λ t. bytes_eq t (codes "play")) (sym of_play.0 ∙ is)))
 search_numbers found (inr (inr (inl of_search))) is = of_search.1
-search_numbers found (inr (inr (inr none))) is = absurd none
+search_numbers found (inr (inr (inr (inl of_report)))) is = absurd (true≢false (ap (λ t. bytes_eq t (codes "report")) (sym of_report.0 ∙ is)))
+search_numbers found (inr (inr (inr (inr none)))) is = absurd none
 
 -- so the values of the subcommand that a parse met, where it has this name, have the numbers of its options
 pub numbers_of_met : {Z : Type 0} (word : Text) (options : List NumberOption) → ((found : Text × List Row) → NamesOneOf commands found → found.0 ≡ word → HasNumbers found.1 options)

@@ -9,7 +9,7 @@ use Rattle.clap.specs.Simple.{on_top}
 use Rattle.clap.specs.ValueTests.{is_unsigned_in}
 use Rattle.clap.specs.declared.builder.value_parser.ValueParser.TheVariants.{Unsigned}
 use Rattle.command_line.specs.declared.job.Job.{Job}
-use Rattle.command_line.specs.declared.job.Job.TheVariants.{Start, Play, Find}
+use Rattle.command_line.specs.declared.job.Job.TheVariants.{Start, Play, Find, Report}
 use Rattle.command_line.specs.declared.number_args.NumberArg.{NumberArg}
 use Rattle.fixture_board.specs.History.{max_room}
 use Rattle.search.specs.declared.runs.SearchPlan.{SearchPlan}
@@ -62,8 +62,11 @@ search_command = record {
   options = room_option ∷ workers_option ∷ seed_option ∷ steps_option ∷ slack_option ∷ [];
 }
 
+abbrev pub report_command : CommandForm
+report_command = record { name = codes "report"; options = [] }
+
 abbrev pub commands : List CommandForm
-commands = start_command ∷ play_command ∷ search_command ∷ []
+commands = start_command ∷ play_command ∷ search_command ∷ report_command ∷ []
 
 -- an option and a command, as clap has them
 abbrev pub rule_of : NumberOption → Rule
@@ -111,7 +114,8 @@ find_from _ _ = None
 abbrev pub job_of_command : Text × List Row → Option Job
 job_of_command found = if bytes_eq found.0 (codes "start") then Some Start
     else (if bytes_eq found.0 (codes "play") then option_map Play (number_in (codes "room") found.1)
-    else (if bytes_eq found.0 (codes "search") then find_from (number_in (codes "room") found.1) (plan_in found.1) else None))
+    else (if bytes_eq found.0 (codes "search") then find_from (number_in (codes "room") found.1) (plan_in found.1)
+    else (if bytes_eq found.0 (codes "report") then Some Report else None)))
 
 -- the job that the words name
 abbrev pub job_of_words : List Text → Option Job
@@ -128,6 +132,7 @@ abbrev pub IsInRange : Job → Type 0
 IsInRange Start = Unit {0}
 IsInRange (Play room) = room ≤ max_room
 IsInRange (Find room plan) = (room ≤ max_room) × IsPlanInRange plan
+IsInRange Report = Unit {0}
 
 -- the option has a text, which is a number in its range
 abbrev pub HasNumber : List Row → NumberOption → Type 0

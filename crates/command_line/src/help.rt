@@ -39,6 +39,18 @@ and writes their counts, the history, the sheet of the best schedule and the bes
 pub(crate) const SEARCH_EXAMPLE: &str = "Example (docs/search.md says how to choose the numbers):
   ttp search --workers 4 --steps 200000 --slack 8 --room 1048576 < leagues/circular-10.json";
 
+pub(crate) const REPORT_ABOUT: &str =
+    "Reads a league, a line `sheet` and a schedule from standard input, and writes whether it is a
+double round robin, what is wrong with it if not, what it costs, and what that is made of";
+
+pub(crate) const REPORT_LINES: &str =
+    "Of the schedule the lines `round R: H-A H-A ..` are read, with teams and rounds from 1
+(docs/report.md). The exit status is 0 where it is a double round robin that breaks no hard
+limit, and 3 where it isn't.
+
+Example:
+  (cat leagues/circular-4.json; echo sheet; ttp start < leagues/circular-4.json) | ttp report";
+
 pub(crate) const WORKERS_HELP: &str = "How many workers search at once, 1 to 16";
 
 pub(crate) const SEED_HELP: &str = "What the workers' draws begin with, any number of 64 bits";

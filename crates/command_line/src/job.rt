@@ -3,11 +3,11 @@
 ghost use Rattle.std.specs.Prelude.{◌≡◌, [], ◌∷◌, Some, IfOk, map, option_and_then, string_bytes};
 ghost use Rattle.clap.specs.Words.{app_of, fault_of, found_of, rows_of, FailsBy, subcommand_rows_of};
 ghost use Rattle.command_line.specs.CommandLine.{app_of_command, job_of_command, job_of_words, play_command, plan_in, program, program_of};
-ghost use Rattle.command_line.specs.CommandLine.{search_command, start_command, HasNumbers, IsInRange, IsPlanInRange, NamesACommand};
+ghost use Rattle.command_line.specs.CommandLine.{report_command, search_command, start_command, HasNumbers, IsInRange, IsPlanInRange, NamesACommand};
 
 use crate::help::{
-    PLAY_ABOUT, PLAY_LINES, PROGRAM_ABOUT, PROGRAM_EXAMPLE, SEARCH_ABOUT, SEARCH_EXAMPLE,
-    START_ABOUT, START_EXAMPLE, VERSION,
+    PLAY_ABOUT, PLAY_LINES, PROGRAM_ABOUT, PROGRAM_EXAMPLE, REPORT_ABOUT, REPORT_LINES,
+    SEARCH_ABOUT, SEARCH_EXAMPLE, START_ABOUT, START_EXAMPLE, VERSION,
 };
 use crate::number_args::{ROOM, SEED, SLACK, STEPS, WORKERS};
 use clap::{ArgMatches, Command, Error};
@@ -23,6 +23,8 @@ pub enum Job {
     Play { room: u32 },
     /// Search for a cheaper schedule of the league on standard input, on a board with room for so many changes.
     Find { room: u32, plan: SearchPlan },
+    /// Report on the schedule that stands behind the league on standard input.
+    Report,
 }
 
 /// Reads the program's words, the first of which is its name. The error is clap's: its text, which
@@ -56,6 +58,7 @@ fn job_of(matches: &ArgMatches) -> Job
             room: ROOM.number(values) as u32,
             plan: plan_of(values),
         },
+        Some(("report", _)) => Job::Report,
         // a command is required, and `help` is answered as an error
         _ => unreachable!(),
     }
@@ -77,13 +80,22 @@ fn plan_of(values: &ArgMatches) -> SearchPlan
 fn command<'a>(alloc: Global) -> Result<Command<'a>, AllocError>
     ensures { IfOk result (λ c. app_of c ≡ program) }
 {
-    let search = search_command(alloc)?;
-    let with_play = with_play(alloc)?;
-    let program = with_play.subcommand(search)?;
+    let report = report_command(alloc);
+    let with_search = with_search(alloc)?;
+    let program = with_search.subcommand(report)?;
     program.bin_name("ttp")
 }
 
-/// The program's command line without `search`.
+/// The program's command line without `report`.
+fn with_search<'a>(alloc: Global) -> Result<Command<'a>, AllocError>
+    ensures { IfOk result (λ c. app_of c ≡ program_of (start_command ∷ play_command ∷ search_command ∷ [])) }
+{
+    let search = search_command(alloc)?;
+    let with_play = with_play(alloc)?;
+    with_play.subcommand(search)
+}
+
+/// The program's command line with `start` and `play`.
 fn with_play<'a>(alloc: Global) -> Result<Command<'a>, AllocError>
     ensures { IfOk result (λ c. app_of c ≡ program_of (start_command ∷ play_command ∷ [])) }
 {
@@ -92,7 +104,7 @@ fn with_play<'a>(alloc: Global) -> Result<Command<'a>, AllocError>
     with_start.subcommand(play)
 }
 
-/// The program's command line without `play` and `search`.
+/// The program's command line with `start` alone.
 fn with_start<'a>(alloc: Global) -> Result<Command<'a>, AllocError>
     ensures { IfOk result (λ c. app_of c ≡ program_of (start_command ∷ [])) }
 {
@@ -127,4 +139,12 @@ fn search_command<'a>(alloc: Global) -> Result<Command<'a>, AllocError>
         .arg(SEED.arg(alloc))?
         .arg(STEPS.arg(alloc))?
         .arg(SLACK.arg(alloc))
+}
+
+fn report_command<'a>(alloc: Global) -> Command<'a>
+    ensures { app_of result ≡ app_of_command report_command }
+{
+    Command::new(alloc, "report")
+        .about(REPORT_ABOUT)
+        .after_help(REPORT_LINES)
 }

@@ -22,7 +22,7 @@ use Rattle.commands.specs.Find.{AnswersFind, search_text}
 use Rattle.commands.specs.Play.{AnswersPlay}
 
 -- what holds of an end by a fault holds of a result that is that fault
-pub at_fault : (P : Result Unit ProgramFault → Type 0) (fault : ProgramFault) (result : Result Unit ProgramFault) → IsErrAnd result (λ given. given ≡ fault) → P (Err fault) → P result
+pub at_fault : {T : Type 0} (P : Result T ProgramFault → Type 0) (fault : ProgramFault) (result : Result T ProgramFault) → IsErrAnd result (λ given. given ≡ fault) → P (Err fault) → P result
 at_fault P fault (Ok done) is holds = absurd is
 at_fault P fault (Err given) is holds = subst (λ f. P (Err f)) (sym is) holds
 

@@ -4,3 +4,4 @@ pub mod Start
 pub mod Play
 pub mod Find
 pub mod Progress
+pub mod Report

@@ -1,5 +1,5 @@
 -- How a command that reads an input and writes a text ends.
-use Rattle.std.specs.Prelude.{◌≡◌, ◌+◌, ◌<◌, ◌≤◌, ℕ, List, Option, Result, Ok, Err, length}
+use Rattle.std.specs.Prelude.{◌≡◌, ◌+◌, ◌<◌, ◌≤◌, ℕ, List, Option, Some, None, Result, Ok, Err, length}
 use Rattle.std.specs.Io.KnownBytes.{Consumes, IsAtEnd, Appends}
 use Rattle.streams.specs.Limits.{input_limit, read_limit, write_limit}
 use Rattle.streams.specs.declared.tally.Tally.{Tally}
@@ -7,7 +7,7 @@ use Rattle.streams.specs.Reading.{StopsPast, StopsWithin}
 use Rattle.streams.specs.Sending.{AppendsFront}
 use Rattle.streams.specs.Tally.{FailsWriting}
 use Rattle.commands.specs.declared.fault.ProgramFault.{ProgramFault}
-use Rattle.commands.specs.declared.fault.ProgramFault.TheVariants.{Read, TooLong, League, Room, Workers, Spawn, Receipts, Write, Memory}
+use Rattle.commands.specs.declared.fault.ProgramFault.TheVariants.{Read, TooLong, League, NoSheet, Room, Workers, Spawn, Receipts, Write, Memory}
 
 -- A command answers an input with the text that it writes, or with a fault that lies in the input.
 abbrev pub Answers : Type 1
@@ -32,6 +32,7 @@ module _ {R W : Type 0} (left : R → Option (List ℕ)) (pulls : R → Tally) (
   EndsBy old new before after (Err Read) = StopsWithin left pulls input_limit read_limit old new × (after ≡ before)
   EndsBy old new before after (Err TooLong) = StopsPast left pulls input_limit old new × (after ≡ before)
   EndsBy old new before after (Err (League fault)) = IsAnswered old new (Err (League fault)) × (after ≡ before)
+  EndsBy old new before after (Err NoSheet) = IsAnswered old new (Err NoSheet) × (after ≡ before)
   EndsBy old new before after (Err Room) = IsAnswered old new (Err Room) × (after ≡ before)
   EndsBy old new before after (Err Workers) = IsAnswered old new (Err Workers) × (after ≡ before)
   EndsBy old new before after (Err Spawn) = IsAnswered old new (Err Spawn) × (after ≡ before)
@@ -43,3 +44,12 @@ module _ {R W : Type 0} (left : R → Option (List ℕ)) (pulls : R → Tally) (
     pub ending : EndsBy old new before after result
     pub failed_read : (pulls old).failed < (pulls new).failed → result ≡ Err Read
     pub reads : (pulls new).calls ≤ (pulls old).calls + read_limit
+
+-- the value that a command ends with, where it does its work
+abbrev pub value_of : {T : Type 0} → Result T ProgramFault → Option T
+value_of (Ok value) = Some value
+value_of (Err fault) = None
+
+abbrev pub without_value : {T : Type 0} → Result T ProgramFault → Result Unit ProgramFault
+without_value (Ok value) = Ok tt
+without_value (Err fault) = Err fault

@@ -23,6 +23,9 @@ pub enum ProgramFault {
     /// The input is no league.
     #[error("{0}")]
     League(LeagueFault),
+    /// The input of a report has no line `sheet`.
+    #[error("input has no sheet")]
+    NoSheet,
     /// The room is over that of any board.
     #[error("room is over 1048576")]
     Room,

@@ -3,6 +3,7 @@
 
 mod fault;
 mod finding;
+mod judging;
 mod playing;
 mod progress;
 mod search_text;
@@ -10,6 +11,7 @@ mod starting;
 
 pub use fault::ProgramFault;
 pub use finding::{find, find_from, find_with};
+pub use judging::{Verdict, report, report_from};
 pub use playing::{play, play_from};
 pub use progress::ProgressLine;
 pub use search::{NoGate, Outcome, SearchPlan};

@@ -1,12 +1,14 @@
 //! What a job does between a source and a sink.
 
 ghost use Rattle.commands.specs.Find.{AnswersFind};
-ghost use Rattle.commands.specs.Outcome.{Ends};
-ghost use Rattle.program.specs.Program.{AnswersJob};
+ghost use Rattle.std.specs.Prelude.{◌≡◌, IfSome, None, true};
+ghost use Rattle.commands.specs.Outcome.{value_of, without_value, Ends};
+ghost use Rattle.program.specs.Program.{is_report, told_in, AnswersJob};
 
 use command_line::Job;
 use commands::{
-    ProgramFault, ProgressLine, SearchPlan, Sink, Source, find, find_with, play, start,
+    ProgramFault, ProgressLine, SearchPlan, Sink, Source, Verdict, find, find_with, play, report,
+    start,
 };
 use std::alloc::Global;
 use std::io::Write;
@@ -15,7 +17,7 @@ use std::thread::Threads;
 use std::time::Clock;
 use streams::WriterSink;
 
-/// Does what the job asks for, from this source to this sink.
+/// Does what the job asks for, from this source to this sink. A report has a verdict.
 pub(crate) fn perform<
     T: Threads + Wait + Clock + Sync,
     E: Write + Send + Drop,
@@ -28,13 +30,38 @@ pub(crate) fn perform<
     terminal: Option<E>,
     source: R,
     sink: &mut W,
-) -> Result<(), ProgramFault>
-    ensures { (after : R) × Ends R.left R.tally W.held W.tally (AnswersJob job) source after sink.old sink.new result }
+) -> Result<Option<Verdict>, ProgramFault>
+    ensures ends { (after : R) × Ends R.left R.tally W.held W.tally (AnswersJob job (told_in result))
+        source after sink.old sink.new (without_value result) }
+    ensures verdict { IfSome (told_in result) (λ _. is_report job ≡ true) }
 {
     match job {
-        Job::Start => start(alloc, source, sink),
-        Job::Play { room } => play(alloc, source, sink, room),
-        Job::Find { room, plan } => search(rt, alloc, terminal, source, sink, room, plan),
+        Job::Start => without_verdict(start(alloc, source, sink)),
+        Job::Play { room } => without_verdict(play(alloc, source, sink, room)),
+        Job::Find { room, plan } => {
+            without_verdict(search(rt, alloc, terminal, source, sink, room, plan))
+        }
+        Job::Report => with_verdict(report(alloc, source, sink)),
+    }
+}
+
+fn without_verdict(outcome: Result<(), ProgramFault>) -> Result<Option<Verdict>, ProgramFault>
+    ensures outcome { without_value result ≡ outcome }
+    ensures none { told_in result ≡ None }
+{
+    match outcome {
+        Ok(()) => Ok(None),
+        Err(fault) => Err(fault),
+    }
+}
+
+fn with_verdict(outcome: Result<Verdict, ProgramFault>) -> Result<Option<Verdict>, ProgramFault>
+    ensures outcome { without_value result ≡ without_value outcome }
+    ensures verdict { told_in result ≡ value_of outcome }
+{
+    match outcome {
+        Ok(verdict) => Ok(Some(verdict)),
+        Err(fault) => Err(fault),
     }
 }
 

@@ -8,12 +8,12 @@ ghost use Rattle.clap.specs.Words.{fault_of, kind_of};
 ghost use Rattle.clap.specs.declared.error.kind.ErrorKind.{ErrorKind as Kind};
 ghost use Rattle.command_line.specs.CommandLine.{job_of_words, program};
 ghost use Rattle.command_line.specs.declared.job.Job.{Job};
-ghost use Rattle.program.specs.Program.{DoesJob, status_of};
+ghost use Rattle.program.specs.Program.{status_of, DoesJob, IsReport};
 
 use crate::jobs::perform;
 use clap::error::ErrorKind;
 use command_line::args;
-use commands::ProgramFault;
+use commands::{ProgramFault, Verdict};
 use std::io::{IsTerminal, Write};
 use std::process::ExitCode;
 use std::rt::Runtime;
@@ -25,8 +25,12 @@ use streams::{ReaderSource, Sink, Source, WriterSink};
 /// The exit status of a fault on the command line.
 const MISUSE: u8 = 2;
 
+/// The exit status of a report on a schedule that is no double round robin, or that breaks a hard limit.
+const INFEASIBLE: u8 = 3;
+
 /// Does what the program's words ask for, between standard input and output. The exit status is 0 on success, 1 after a
-/// fault, and 2 where the words are wrong. A search shows how far it is where standard error is a terminal.
+/// fault, 2 where the words are wrong, and 3 after a report on a schedule that isn't feasible. A search shows how far it is
+/// where standard error is a terminal.
 pub fn run<R, E>(rt: &R, error: E) -> ExitCode
 where
     R: Runtime + AllocGlobal + Threads + Wait + Sync,
@@ -63,12 +67,13 @@ fn answer<
         → job_of_words (map string_bytes words.now) ≡ Some job
         → DoesJob R.left R.tally W.held W.tally job source sink.old sink.new (exit_status result) }
     ensures quiet { (kind : Kind) → fault_of program (map string_bytes words.now) ≡ kind ∷ [] → sink.new ≡ sink.old }
-    ensures taken { fault_of program (map string_bytes words.now) ≡ [] → exit_status result ≤ 1 }
+    ensures taken { fault_of program (map string_bytes words.now) ≡ [] → exit_status result ≢ 2 }
+    ensures infeasible { exit_status result ≡ 3 → IsReport (job_of_words (map string_bytes words.now)) }
     ensures shown { fault_of program (map string_bytes words.now) ≡ ErrorKind.DisplayHelp ∷ [] → exit_status result ≤ 1 }
     ensures told { fault_of program (map string_bytes words.now) ≡ ErrorKind.DisplayVersion ∷ [] → exit_status result ≤ 1 }
     ensures wrong { (kind : Kind) → fault_of program (map string_bytes words.now) ≡ kind ∷ []
         → kind ≢ ErrorKind.DisplayHelp → kind ≢ ErrorKind.DisplayVersion → 1 ≤ exit_status result }
-    ensures most { exit_status result ≤ 2 }
+    ensures most { exit_status result ≤ 3 }
 {
     let job = match args(rt.alloc(), words) {
         Ok(job) => job,
@@ -78,11 +83,12 @@ fn answer<
     ended(rt, outcome)
 }
 
-fn ended<R: Runtime>(rt: &R, outcome: Result<(), ProgramFault>) -> ExitCode
+fn ended<R: Runtime>(rt: &R, outcome: Result<Option<Verdict>, ProgramFault>) -> ExitCode
     ensures { exit_status result ≡ status_of outcome }
 {
     match outcome {
-        Ok(()) => ExitCode::SUCCESS,
+        Ok(Some(Verdict::Infeasible)) => ExitCode::from(INFEASIBLE),
+        Ok(_) => ExitCode::SUCCESS,
         Err(fault) => failure(rt, fault),
     }
 }

@@ -22,6 +22,7 @@ const HELP: &[(&[&str], &[&str])] = &[
             "\n  start ",
             "\n  play ",
             "\n  search ",
+            "\n  report ",
             "\nOptions:\n  -h, --help     Print help\n  -V, --version  Print version\n\n",
             "Example:\n  ttp search --slack 8 < leagues/circular-4.json\n",
         ],
@@ -52,6 +53,14 @@ const HELP: &[(&[&str], &[&str])] = &[
             "\n  undo ",
             "\n  slack S ",
             "echo script; echo 'homes 1 2'; echo undo) | ttp play --room 8\n",
+        ],
+    ),
+    (
+        &["ttp", "report", "--help"],
+        &[
+            "Reads a league, a line `sheet` and a schedule from standard input, and writes whether it is a\n",
+            "and 3 where it isn't.\n",
+            "docs/report.md",
         ],
     ),
     (

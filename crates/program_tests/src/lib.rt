@@ -22,6 +22,8 @@ mod plays;
 #[cfg(test)]
 mod progress_lines;
 #[cfg(test)]
+mod reports;
+#[cfg(test)]
 mod script_lines;
 #[cfg(test)]
 mod searches;

@@ -4,9 +4,9 @@ use Rattle.clap.specs.Words.{HasKind, Kinds, kind_of}
 use Rattle.clap.specs.declared.error.Error.{Error}
 use Rattle.clap.specs.declared.error.kind.ErrorKind.TheVariants as kind
 use Rattle.command_line.specs.declared.job.Job.{Job}
-use Rattle.commands.specs.Outcome.{Ends}
+use Rattle.commands.specs.Outcome.{without_value, Ends}
 use Rattle.commands.specs.declared.fault.ProgramFault.TheVariants.{Memory}
-use Rattle.program.specs.Program.{AnswersJob}
+use Rattle.program.specs.Program.{told_in, AnswersJob}
 use Rattle.program.proofs.words.answer.Goals as goal
 
 -- where the words have no fault, only memory can be wanting
@@ -29,10 +29,10 @@ returns-in-Err-clause-done g c = λ job none found. record {
 pub returns-clause-done : goal.returns-clause-done
 returns-clause-done g c = λ job none found.
     let same = same_job _ c.in-Ok.job job c.in-Ok.ensures.job found in
-    let IsEnd : Job → Type 0 = λ j. Ends g.R.Source.left g.R.Source.tally g.W.Sink.held g.W.Sink.tally (AnswersJob j) c.args.source c.perform-outcome.ensures.0 c.args.sink.now c.perform-outcome.new.sink c.perform-outcome.result in
+    let IsEnd : Job → Type 0 = λ j. Ends g.R.Source.left g.R.Source.tally g.W.Sink.held g.W.Sink.tally (AnswersJob j (told_in c.perform-outcome.result)) c.args.source c.perform-outcome.ensures.ends.0 c.args.sink.now c.perform-outcome.new.sink (without_value c.perform-outcome.result) in
     record {
       outcome = c.perform-outcome.result;
-      source_after = c.perform-outcome.ensures.0;
-      ends = subst IsEnd same c.perform-outcome.ensures.1;
+      source_after = c.perform-outcome.ensures.ends.0;
+      ends = subst IsEnd same c.perform-outcome.ensures.ends.1;
       status_is = c.ended.ensures;
     }

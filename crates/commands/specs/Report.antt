@@ -1,0 +1,38 @@
+-- What `ttp report` answers to an input.
+use Rattle.std.specs.Prelude.{◌≡◌, ℕ, Bool, true, false, List, Option, Some, None, Result, Ok, Err, codes}
+use Rattle.fixtures.specs.Games.{Games}
+use Rattle.league.specs.League.{LeagueData, league_of, teams}
+use Rattle.texts.specs.Input.{lines_after, text_before}
+use Rattle.reports.specs.Given.{IsVerdict}
+use Rattle.reports.specs.Report.{is_feasible, report_text}
+use Rattle.commands.specs.declared.fault.ProgramFault.{ProgramFault}
+use Rattle.commands.specs.declared.fault.ProgramFault.TheVariants.{League, NoSheet}
+use Rattle.commands.specs.declared.judging.Verdict.{Verdict}
+use Rattle.commands.specs.declared.judging.Verdict.TheVariants.{Feasible, Infeasible}
+
+abbrev pub verdict_of : Bool → Verdict
+verdict_of true = Feasible
+verdict_of false = Infeasible
+
+-- the verdict on the games, where one is told
+abbrev pub IsToldOf : LeagueData → Option Games → Option Verdict → Type 0
+IsToldOf league games None = Unit {0}
+IsToldOf league games (Some verdict) = verdict ≡ verdict_of (is_feasible league games)
+
+-- the report of the double round robin that the lines give for the league, or of their faults, and the verdict on them
+pub record IsReport (league : LeagueData) (lines : List (List ℕ)) (told : Option Verdict) (text : List ℕ) : Type 0 where
+  pub games : Option Games
+  pub given : IsVerdict (teams league) lines games
+  pub text_is : text ≡ report_text league lines games
+  pub verdict : IsToldOf league games told
+
+-- the report of the league before the first line that is `sheet` and of the lines after it, or the first fault of the league's
+-- text, or that there is no such line
+abbrev pub AnswersReport : Option Verdict → List ℕ → Result (List ℕ) ProgramFault → Type 0
+AnswersReport told input (Ok text) =
+    (league : LeagueData) × (league_of (text_before (codes "sheet") input) ≡ Ok league)
+    × (lines : List (List ℕ)) × (lines_after (codes "sheet") input ≡ Some lines) × IsReport league lines told text
+AnswersReport told input (Err (League fault)) = league_of (text_before (codes "sheet") input) ≡ Err fault
+AnswersReport told input (Err NoSheet) =
+    (league : LeagueData) × (league_of (text_before (codes "sheet") input) ≡ Ok league) × (lines_after (codes "sheet") input ≡ None)
+AnswersReport told input (Err _) = ⊥

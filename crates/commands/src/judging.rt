@@ -1,0 +1,70 @@
+//! The command `report`.
+
+ghost use Rattle.std.specs.Prelude.{◌≡◌};
+ghost use Rattle.commands.specs.Outcome.{value_of, without_value, Ends};
+ghost use Rattle.commands.specs.Report.{verdict_of, AnswersReport};
+
+use crate::fault::ProgramFault;
+use league::read_league;
+use reports::{judge, write_report};
+use std::alloc::Global;
+use streams::{Sink, Source, read_all};
+use texts::split_at_line;
+
+/// What a report comes to.
+#[derive(Clone, Copy, Debug, PartialEq, Eq)]
+pub enum Verdict {
+    /// The schedule is a double round robin that breaks no hard limit of the league.
+    Feasible,
+    /// It breaks one, or is no double round robin of the league's teams.
+    Infeasible,
+}
+
+impl Verdict {
+    fn of(feasible: bool) -> Verdict
+        ensures { result ≡ verdict_of feasible }
+    {
+        if feasible {
+            Verdict::Feasible
+        } else {
+            Verdict::Infeasible
+        }
+    }
+}
+
+/// Reads a league, a line `sheet` and a schedule to the end of the source, and writes the report: the sheet and what it
+/// costs where the games are a double round robin of the league's teams, and else what is wrong with them. Nothing is
+/// written before all other faults are past, and no memory is taken from then on.
+///
+/// The outcome is that of [`report_from`], where what the source became is some later state.
+pub fn report<R: Source + Drop, W: Sink>(
+    alloc: Global,
+    mut source: R,
+    sink: &mut W,
+) -> Result<Verdict, ProgramFault>
+    ensures { (after : R) × Ends R.left R.tally W.held W.tally (AnswersReport (value_of result))
+        source after sink.old sink.new (without_value result) }
+{
+    report_from(alloc, &mut source, sink)
+}
+
+/// As [`report`], from a source that is lent.
+pub fn report_from<R: Source, W: Sink>(
+    alloc: Global,
+    source: &mut R,
+    sink: &mut W,
+) -> Result<Verdict, ProgramFault>
+    ensures { Ends R.left R.tally W.held W.tally (AnswersReport (value_of result))
+        source.old source.new sink.old sink.new (without_value result) }
+{
+    let input = read_all(alloc, source)?;
+    let (text, sheet) = split_at_line(&input, b"sheet");
+    let league = read_league(alloc, text)?;
+    let Some(sheet) = sheet else {
+        return Err(ProgramFault::NoSheet);
+    };
+    let judged = judge(alloc, &league, sheet)?;
+    let verdict = Verdict::of(judged.is_feasible(&league));
+    write_report(&league, sheet, &judged, sink)?;
+    Ok(verdict)
+}
