@@ -14,6 +14,8 @@ mod ends;
 #[cfg(test)]
 mod help_texts;
 #[cfg(test)]
+mod judged_schedules;
+#[cfg(test)]
 mod largest;
 #[cfg(test)]
 mod memory;
@@ -21,8 +23,6 @@ mod memory;
 mod plays;
 #[cfg(test)]
 mod progress_lines;
-#[cfg(test)]
-mod reports;
 #[cfg(test)]
 mod script_lines;
 #[cfg(test)]
