@@ -3,7 +3,7 @@ pub mod Least
 pub mod Scores
 pub mod ShareLimits
 pub mod Shares
-pub mod Lost
+pub mod Fitting
 pub mod Stand
 pub mod Next
 pub mod Sound

@@ -63,7 +63,7 @@ games_of-teams league h = games_after-teams (start_of league) (effective h)
 
 -- the parts of the cost
 
-travel_le : (l : LeagueData) (g : Games) → IsLeague l → g.teams ≤ 40 → travel l g ≤ 3160000000
+pub travel_le : (l : LeagueData) (g : Games) → IsLeague l → g.teams ≤ 40 → travel l g ≤ 3160000000
 unfolding travel travel_of leg
 travel_le l g is forty =
     omega (
@@ -178,7 +178,7 @@ soft_le l g is same forty =
           (λ rule for. soft_share_le rule.weight (deviation g rule.body) for.weight (deviation_of l g rule same forty for)),
     )
 
-cost_travel : (l : LeagueData) (g : Games) → (cost_of l g).travel ≡ travel l g
+pub cost_travel : (l : LeagueData) (g : Games) → (cost_of l g).travel ≡ travel l g
 unfolding cost_of
 cost_travel l g = refl
 

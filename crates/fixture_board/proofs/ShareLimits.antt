@@ -1,6 +1,6 @@
 -- What an exchange can change of a cost is at most all of it.
 use Rattle.std.proofs.Common.{◌≡◌, ℕ, ◌+◌, ◌-◌, ◌≤◌, ◌&&◌, ◌||◌, Bool, true, false, if◌then◌else◌, List, length, slice_get}
-use Rattle.std.proofs.Common.{Option, Some, None, refl, le_refl, arith}
+use Rattle.std.proofs.Common.{Option, Some, None, refl, ap, le_refl, arith}
 use Rattle.std.proofs.Math.Nat.{mul-le-mul_left}
 use Rattle.league.specs.League.{LeagueData}
 use Rattle.league.specs.Sets.{has}
@@ -8,20 +8,15 @@ use Rattle.league.specs.declared.rule.Rule.{Rule}
 use Rattle.league.specs.declared.rule.Weight.{Weight}
 use Rattle.league.specs.declared.rule.Weight.TheVariants.{Hard, Soft}
 use Rattle.league.proofs.ForCallers.{sum_below_le_each}
-use Rattle.fixtures.specs.Changes.{with_guests}
 use Rattle.fixtures.specs.Games.{Games, round_count, meets}
 use Rattle.fixtures.specs.TouchedCells.{TouchedCells}
-use Rattle.moves.specs.declared.exchanges.Exchange.{Exchange}
-use Rattle.moves.specs.declared.exchanges.Exchange.TheVariants as edit
-use Rattle.tours.specs.Parts.{touches_leg, travel_part_of, travel_at, travel_part, travel_around}
 use Rattle.tours.specs.Parts.{touches_window, runs_part_of, runs_part, repeats_with_after, repeats_with}
 use Rattle.tours.specs.Phased.{is_unphased, unphased, unphased_part}
 use Rattle.tours.specs.Repeats.{repeats_after, repeats}
 use Rattle.tours.specs.Runs.{windows, is_run, runs_of, runs_over}
-use Rattle.tours.specs.Tours.{leg_count, leg, travel_of, travel}
 use Rattle.robinx.proofs.ForCallers.{part_le}
 use Rattle.fixture_board.specs.Costs.{hard_share, soft_share, share_of, sum_over_rules, cost_of}
-use Rattle.fixture_board.specs.CostShares.{travel_share, rule_share, rules_share, share_but_travel, cost_share, CostsBalance}
+use Rattle.fixture_board.specs.CostShares.{rule_share, rules_share, penalties_share}
 use Rattle.fixture_board.specs.declared.cost.Cost.{Cost}
 use Rattle.fixture_board.specs.declared.scope.Scope.{Scope}
 
@@ -32,33 +27,6 @@ taken_le false n = omega arith
 both_le : (taken seen : Bool) → (if taken && seen then 1 else 0) ≤ (if seen then 1 else 0)
 both_le true seen = le_refl _
 both_le false seen = omega arith
-
--- travel
-
-travel_part_of_le : (l : LeagueData) (g : Games) (rounds : ℕ → Bool) (t : ℕ) → travel_part_of l g rounds t ≤ travel_of l g t
-unfolding travel_part_of travel_of
-travel_part_of_le l g rounds t =
-    sum_below_le_each (leg_count g) (λ r. if touches_leg g rounds r then leg l g t r else 0) (leg l g t)
-    (λ r under. taken_le (touches_leg g rounds r) (leg l g t r))
-
-travel_part_le : (l : LeagueData) (g : Games) (teams rounds : ℕ → Bool) → travel_part l g teams rounds ≤ travel l g
-unfolding travel_part travel
-travel_part_le l g teams rounds =
-    sum_below_le_each g.teams (λ t. if teams t then travel_part_of l g rounds t else 0) (travel_of l g)
-    (λ t under. omega (arith, taken_le (teams t) (travel_part_of l g rounds t), travel_part_of_le l g rounds t))
-
-travel_around_le : (l : LeagueData) (g : Games) (teams rounds : ℕ → Bool) → travel_around l g teams rounds ≤ travel l g
-unfolding travel_around travel_at travel
-travel_around_le l g teams rounds =
-    sum_below_le_each g.teams (λ t. travel_part_of l g (with_guests g teams rounds t) t) (travel_of l g)
-    (λ t under. travel_part_of_le l g (with_guests g teams rounds t) t)
-
-travel_of_kind_le : (l : LeagueData) (g : Games) (exchange : Exchange) (main : TouchedCells) → travel_share l exchange main g ≤ travel l g
-travel_of_kind_le l g (edit.Rounds k m among) main = travel_part_le l g _ _
-travel_of_kind_le l g (edit.Teams i j among) main = travel_around_le l g _ _
-
-pub travel_share_le : (l : LeagueData) (g : Games) (scope : Scope) → travel_share l scope.exchange scope.main g ≤ travel l g
-travel_share_le l g scope = travel_of_kind_le l g scope.exchange scope.main
 
 -- hard costs
 
@@ -125,18 +93,8 @@ unfolding rules_share sum_over_rules
 rules_share_le share grows rules main sides g =
     sum_below_le_each (length rules) _ _ (λ i under. rule_share_le share grows main sides g (slice_get rules i))
 
-share_by_costs : (l : LeagueData) (scope : Scope) (g : Games) →
-    record {
-      travel = travel_share l scope.exchange scope.main g;
-      hard = (cost_share l scope g).hard;
-      soft = rules_share soft_share l.rules scope.main scope.turning g;
-    } ≡ cost_share l scope g
-unfolding cost_share share_but_travel
-share_by_costs l scope g = refl
-
-hard_le : (l : LeagueData) (scope : Scope) (g : Games) →
-    (cost_share l scope g).hard ≤ (cost_of l g).hard
-unfolding cost_share share_but_travel cost_of
+hard_le : (l : LeagueData) (scope : Scope) (g : Games) → (penalties_share l scope g).hard ≤ (cost_of l g).hard
+unfolding penalties_share cost_of
 hard_le l scope g = omega (
   arith,
   runs_part_le g l.at_most (has scope.turning) (has scope.main.rounds),
@@ -145,32 +103,40 @@ hard_le l scope g = omega (
   where_le l.phased _ _ (unphased_part_le g (has scope.main.teams)),
 )
 
--- where nothing is hard, nothing of the share is
-pub share_none_hard : (l : LeagueData) (scope : Scope) (g : Games) (known : Cost) (legs weighed : ℕ) →
-    known ≡ cost_of l g → known.hard ≤ 0 → legs ≡ travel_share l scope.exchange scope.main g →
-    weighed ≡ rules_share soft_share l.rules scope.main scope.turning g →
-    record { travel = legs; hard = 0; soft = weighed } ≡ cost_share l scope g
-share_none_hard l scope g known legs weighed known_is none legs_are weighed_is =
-    let none_of_all : (cost_of l g).hard ≤ 0 = rw known_is at none in
-    let none_of_share : 0 ≡ (cost_share l scope g).hard = omega (arith, hard_le l scope g, none_of_all) in
-    rw (legs_are, weighed_is, none_of_share) (share_by_costs l scope g)
+soft_le : (l : LeagueData) (scope : Scope) (g : Games) → (penalties_share l scope g).soft ≤ (cost_of l g).soft
+unfolding penalties_share cost_of
+soft_le l scope g = rules_share_le soft_share soft_grows l.rules scope.main scope.turning g
 
--- all but the share
-abbrev pub rest_of : Cost → Cost → Cost
-rest_of known share = record {
-  travel = known.travel - share.travel;
-  hard = known.hard - share.hard;
-  soft = known.soft - share.soft;
-}
+-- the soft penalties are those of rules alone
+pub soft_of_rules : (l : LeagueData) (scope : Scope) (g : Games) →
+    rules_share soft_share l.rules scope.main scope.turning g ≡ (penalties_share l scope g).soft
+unfolding penalties_share
+soft_of_rules l scope g = refl
 
-pub rest_balances : (l : LeagueData) (scope : Scope) (g : Games) (known before nothing : Cost) →
-    known ≡ cost_of l g → before ≡ cost_share l scope g → nothing ≡ record { travel = 0; hard = 0; soft = 0 } →
-    CostsBalance (rest_of known before) known before nothing
-unfolding cost_of cost_share share_but_travel
-rest_balances l scope g known before nothing known_is before_is nothing_is =
-    rw (known_is, before_is, nothing_is)
-    (record {
-      travel = omega (arith, travel_share_le l g scope);
-      hard = omega (arith, hard_le l scope g);
-      soft = omega (arith, rules_share_le soft_share soft_grows l.rules scope.main scope.turning g);
-    })
+-- what is left of the known cost without penalties
+module _ (l : LeagueData) (scope : Scope) (g : Games) (known : Cost) (is : known ≡ cost_of l g) where
+  known_hard : known.hard ≡ (cost_of l g).hard
+  known_hard = ap (λ (cost : Cost). cost.hard) is
+
+  known_soft : known.soft ≡ (cost_of l g).soft
+  known_soft = ap (λ (cost : Cost). cost.soft) is
+
+  pub hard_fits : (hard : ℕ) → hard ≡ (penalties_share l scope g).hard → hard ≤ known.hard
+  hard_fits hard hard_is = omega (arith, hard_is, known_hard, hard_le l scope g)
+
+  pub soft_fits : (soft : ℕ) → soft ≡ (penalties_share l scope g).soft → soft ≤ known.soft
+  soft_fits soft soft_is = omega (arith, soft_is, known_soft, soft_le l scope g)
+
+  pub hard_taken : (hard : ℕ) → hard ≡ (penalties_share l scope g).hard →
+      (known.hard - hard) + (penalties_share l scope g).hard ≡ (cost_of l g).hard
+  hard_taken hard hard_is = omega (arith, hard_is, known_hard, hard_fits hard hard_is)
+
+  pub soft_taken : (soft : ℕ) → soft ≡ (penalties_share l scope g).soft →
+      (known.soft - soft) + (penalties_share l scope g).soft ≡ (cost_of l g).soft
+  soft_taken soft soft_is = omega (arith, soft_is, known_soft, soft_fits soft soft_is)
+
+  pub none_hard : known.hard ≤ 0 → 0 + (penalties_share l scope g).hard ≡ (cost_of l g).hard
+  none_hard none = omega (arith, none, known_hard, hard_le l scope g)
+
+  pub none_soft : known.soft ≤ 0 → 0 + (penalties_share l scope g).soft ≡ (cost_of l g).soft
+  none_soft none = omega (arith, none, known_soft, soft_le l scope g)

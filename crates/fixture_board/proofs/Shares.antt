@@ -1,5 +1,5 @@
 -- An exchange changes no more of the costs than their shares.
-use Rattle.std.proofs.Common.{◌≡◌, ℕ, ◌+◌, ◌-◌, ◌*◌, ◌<◌, ◌≤◌, Bool, true, false, if◌then◌else◌, length, slice_get, Option, Some, None}
+use Rattle.std.proofs.Common.{◌≡◌, ℕ, ◌+◌, ◌*◌, ◌<◌, ◌≤◌, Bool, true, false, if◌then◌else◌, length, slice_get, Option, Some, None}
 use Rattle.std.proofs.Common.{refl, sym, ◌∙◌, ap, subst, arith}
 use Rattle.std.proofs.Math.Nat.{mul-add, mul-le-mul_left}
 use Rattle.std.proofs.Math.Path.{fun_ext}
@@ -16,23 +16,22 @@ use Rattle.fixtures.specs.Changes.{DiffersOnlyAround, DiffersOnlyAt, box}
 use Rattle.fixtures.specs.Games.{Games, IsDoubleRoundRobin, is_home}
 use Rattle.fixtures.specs.TouchedCells.{TouchedCells}
 use Rattle.moves.specs.declared.exchanges.Exchange.{Exchange}
-use Rattle.moves.specs.declared.exchanges.Exchange.TheVariants as edit
-use Rattle.moves.specs.Exchanges.{exchanged_by, main_cells, IsExchange}
-use Rattle.moves.proofs.ForCallers.{each_undone, each_around, each_sides, each_differs_by, each_keeps_meetings}
+use Rattle.moves.specs.Exchanges.{exchanged_by, main_cells}
+use Rattle.moves.proofs.ForCallers.{each_undone, each_around, each_sides, each_keeps_meetings}
 use Rattle.tours.specs.Repeats.{repeats}
 use Rattle.tours.specs.Phased.{unphased, unphased_part}
 use Rattle.tours.specs.Tours.{travel}
-use Rattle.tours.proofs.ForCallers.{travel_balance, travel_balance_around, runs_balance_sides, repeats_balance_around}
+use Rattle.tours.proofs.ForCallers.{runs_balance_sides, repeats_balance_around}
 use Rattle.tours.proofs.ForCallers.{repeats_of_same_pairs, unphased_balance_around}
 use Rattle.robinx.proofs.ForCallers.{deviation_balance}
 use Rattle.fixture_board.specs.Costs.{hard_share, soft_share, share_of, sum_over_rules, where_phased, cost_of, score_of}
 use Rattle.fixture_board.specs.Costs.{score_limit}
-use Rattle.fixture_board.specs.CostShares.{travel_share, repeats_share, rule_share, rules_share, cost_share}
-use Rattle.fixture_board.specs.CostShares.{share_but_travel, CostsBalance, IsScope}
+use Rattle.fixture_board.specs.CostShares.{games_share, repeats_share, rule_share, rules_share, penalties_share}
+use Rattle.fixture_board.specs.CostShares.{with_penalties, IsRest, IsScope, IsSmall}
 use Rattle.fixture_board.specs.declared.scope.Scope.{Scope}
 use Rattle.fixture_board.specs.declared.cost.Cost.{Cost}
-use Rattle.fixture_board.proofs.Scores.{exchanged-teams, score_below}
-use Rattle.fixture_board.proofs.ShareLimits.{travel_share_le}
+use Rattle.fixture_board.specs.declared.penalties.Penalties.{Penalties}
+use Rattle.fixture_board.proofs.Scores.{cost_small, cost_travel, exchanged-teams, score_below}
 
 -- what differs
 
@@ -52,22 +51,6 @@ sides g scope is =
 
 round_robin_after : (g : Games) (scope : Scope) → IsScope g scope → IsDoubleRoundRobin (exchanged_by g scope.exchange)
 round_robin_after g scope is = (each_undone g scope.exchange is.can_be_made).again.round_robin
-
--- travel
-
-travel_of_kind : (l : LeagueData) (g : Games) (exchange : Exchange) → IsExchange g exchange →
-    travel l (exchanged_by g exchange) + travel_share l exchange (main_cells exchange) g ≡
-    travel l g + travel_share l exchange (main_cells exchange) (exchanged_by g exchange)
-travel_of_kind l g (edit.Rounds k m among) can = travel_balance l g _ _ _ (each_differs_by g (edit.Rounds k m among) can)
-travel_of_kind l g (edit.Teams i j among) can = travel_balance_around l g _ _ _ (each_around g (edit.Teams i j among) can)
-
-travel_balances : (l : LeagueData) (g : Games) (scope : Scope) → IsScope g scope →
-    travel l (exchanged_by g scope.exchange) + travel_share l scope.exchange scope.main g ≡
-    travel l g + travel_share l scope.exchange scope.main (exchanged_by g scope.exchange)
-travel_balances l g scope is =
-    subst (λ (main : TouchedCells). travel l (exchanged_by g scope.exchange) + travel_share l scope.exchange main g ≡
-    travel l g + travel_share l scope.exchange main (exchanged_by g scope.exchange))
-    (sym is.main) (travel_of_kind l g scope.exchange is.can_be_made)
 
 -- repeats
 
@@ -139,15 +122,17 @@ phases_balance l g scope are =
     (unphased_balance_around g (exchanged_by g scope.exchange) (has scope.main.teams) (has scope.main.rounds) are.can_be_made.round_robin
     (round_robin_after g scope are) (around g scope are))
 
--- all costs
+-- all penalties
 
-costs_balance : (l : LeagueData) (g : Games) (scope : Scope) →
-    IsLeague l → teams l ≡ g.teams → IsScope g scope →
-    CostsBalance (cost_of l (exchanged_by g scope.exchange)) (cost_of l g)
-    (cost_share l scope g) (cost_share l scope (exchanged_by g scope.exchange))
-unfolding cost_of cost_share share_but_travel
-costs_balance l g scope is same are = record {
-  travel = travel_balances l g scope are;
+-- the penalties after are the known ones, with those that the exchange can change counted after it and not before it
+record Balances (l : LeagueData) (g g' : Games) (scope : Scope) : Type 0 where
+  hard : (cost_of l g').hard + (penalties_share l scope g).hard ≡ (cost_of l g).hard + (penalties_share l scope g').hard
+  soft : (cost_of l g').soft + (penalties_share l scope g).soft ≡ (cost_of l g).soft + (penalties_share l scope g').soft
+
+penalties_balance : (l : LeagueData) (g : Games) (scope : Scope) → IsLeague l → teams l ≡ g.teams → IsScope g scope →
+    Balances l g (exchanged_by g scope.exchange) scope
+unfolding cost_of penalties_share
+penalties_balance l g scope is same are = record {
   hard = omega (
     arith,
     runs_balance_sides g (exchanged_by g scope.exchange) l.at_most (has scope.turning) (has scope.main.rounds) (sides g scope are),
@@ -158,82 +143,92 @@ costs_balance l g scope is same are = record {
   soft = rules_balance soft_share soft_even l g scope is same are;
 }
 
-pub share_balances : (l : LeagueData) (g g' : Games) (scope : Scope) (known before after : Cost) →
-    IsLeague l → teams l ≡ g.teams → IsScope g scope →
-    known ≡ cost_of l g → before ≡ cost_share l scope g → g' ≡ exchanged_by g scope.exchange → after ≡ cost_share l scope g' →
-    CostsBalance (cost_of l g') known before after
-share_balances l g g' scope known before after is same are known_is before_is made after_is =
-    rw (known_is, before_is, after_is, made) (costs_balance l g scope is same are)
+same_cost : (one other : Cost) → one.travel ≡ other.travel → one.hard ≡ other.hard → one.soft ≡ other.soft → one ≡ other
+same_cost one other travel hard soft = rw (travel, hard, soft) refl
 
--- what balances is one cost
-pub same_cost : (cost new known before after : Cost) →
-    CostsBalance cost known before after → CostsBalance new known before after → cost ≡ new
-same_cost cost new known before after one other =
-    let travel : cost.travel ≡ new.travel = omega (arith, one.travel, other.travel) in
-    let hard : cost.hard ≡ new.hard = omega (arith, one.hard, other.hard) in
-    let soft : cost.soft ≡ new.soft = omega (arith, one.soft, other.soft) in
-    rw (travel, hard, soft) refl
+-- the rest with the penalties after is the cost after
+pub whole_after : (l : LeagueData) (g g' : Games) (scope : Scope) (rest : Cost) → IsLeague l → teams l ≡ g.teams →
+    IsScope g scope → IsRest l g scope rest → g' ≡ exchanged_by g scope.exchange →
+    with_penalties rest (penalties_share l scope g') ≡ cost_of l g'
+whole_after l g g' scope rest is same are left made =
+    let balance : Balances l g g' scope = rw made (penalties_balance l g scope is same are) in
+    same_cost (with_penalties rest (penalties_share l scope g')) (cost_of l g')
+    (left.travel_is ∙ ap (travel l) (sym made) ∙ sym (cost_travel l g'))
+    (omega (arith, left.hard, balance.hard))
+    (omega (arith, left.soft, balance.soft))
+
+-- penalties only add to a score
+score_grows : (l : LeagueData) (cost : Cost) (penalties : Penalties) → score_of l cost ≤ score_of l (with_penalties cost penalties)
+score_grows l cost penalties =
+    let weighed : l.hard_weight * cost.hard ≤ l.hard_weight * (cost.hard + penalties.hard) = mul-le-mul_left l.hard_weight (omega arith) in
+    omega (arith, weighed)
 
 pub score_after : (l : LeagueData) (g g' : Games) (exchange : Exchange) → IsLeague l → teams l ≡ g.teams → g' ≡ exchanged_by g exchange →
     (cost : Cost) → cost ≡ cost_of l g' → score_of l cost < score_limit
 score_after l g g' exchange is same made cost cost_is =
     rw cost_is (score_below l g' is (ap (λ (games : Games). games.teams) made ∙ exchanged-teams g exchange ∙ sym same))
 
--- all but the share before, with the legs of the share after, is no more than the score after
-pub score_with_rest : (l : LeagueData) (g g' : Games) (scope : Scope) (known before rest nothing : Cost) →
-    IsLeague l → teams l ≡ g.teams → IsScope g scope →
-    known ≡ cost_of l g → before ≡ cost_share l scope g → g' ≡ exchanged_by g scope.exchange →
-    nothing ≡ record { travel = 0; hard = 0; soft = 0 } → CostsBalance rest known before nothing →
-    score_of l rest + travel_share l scope.exchange scope.main g' ≤ score_of l (cost_of l g')
-unfolding cost_share share_but_travel
-score_with_rest l g g' scope known before rest nothing is same are known_is before_is made nothing_is balance =
-    let after = share_balances l g g' scope known before _ is same are known_is before_is made refl in
-    let without = rw nothing_is at balance in
-    let more_hard : rest.hard ≤ (cost_of l g').hard = omega (arith, after.hard, without.hard) in
-    let weighed : l.hard_weight * rest.hard ≤ l.hard_weight * (cost_of l g').hard = mul-le-mul_left l.hard_weight more_hard in
-    omega (arith, after.travel, after.soft, without.travel, without.soft, weighed)
+pub score_after_whole : (l : LeagueData) (g : Games) → IsLeague l → teams l ≡ g.teams → score_of l (cost_of l g) < score_limit
+score_after_whole l g is same = score_below l g is (sym same)
 
--- the cost without the legs that the move can change
+-- the score of the rest is no more than the score after
+pub rest_scores : (l : LeagueData) (g : Games) (exchange : Exchange) (scope : Scope) (rest : Cost) → IsLeague l → teams l ≡ g.teams →
+    IsScope g scope → scope.exchange ≡ exchange → IsRest l g scope rest → score_of l rest ≤ score_of l (cost_of l (exchanged_by g exchange))
+rest_scores l g exchange scope rest is same are of left =
+    subst (λ e. score_of l rest ≤ score_of l (cost_of l (exchanged_by g e))) of
+    (subst (λ cost. score_of l rest ≤ score_of l cost) (whole_after l g (exchanged_by g scope.exchange) scope rest is same are left refl)
+    (score_grows l rest (penalties_share l scope (exchanged_by g scope.exchange))))
 
--- what the move makes of it is exact but for these legs
-others_balance : (l : LeagueData) (g g' : Games) (scope : Scope) (known before others : Cost) →
-    IsLeague l → teams l ≡ g.teams → IsScope g scope →
-    known ≡ cost_of l g → before ≡ cost_share l scope g → g' ≡ exchanged_by g scope.exchange → others ≡ share_but_travel l scope g' →
-    CostsBalance (record (cost_of l g') { travel = travel l g - travel_share l scope.exchange scope.main g }) known before others
-unfolding cost_of cost_share share_but_travel
-others_balance l g g' scope known before others is same are known_is before_is made others_is =
-    let all = share_balances l g g' scope known before (cost_share l scope g') is same are known_is
-    before_is made refl in
-    record {
-      travel = rw (known_is, before_is, others_is) (omega (arith, travel_share_le l g scope));
-      hard = rw others_is all.hard;
-      soft = rw others_is all.soft;
-    }
+-- nor is the travel
+pub travel_scores : (l : LeagueData) (g : Games) → travel l g ≤ score_of l (cost_of l g)
+travel_scores l g = omega (arith, cost_travel l g)
 
-pub others_exchange : (l : LeagueData) (g g' : Games) (scope : Scope) (known before others : Cost) →
-    IsLeague l → teams l ≡ g.teams → IsScope g scope →
-    known ≡ cost_of l g → before ≡ cost_share l scope g → g' ≡ exchanged_by g scope.exchange → others ≡ share_but_travel l scope g' →
-    (new : Cost) × CostsBalance new known before others
-others_exchange l g g' scope known before others is same are known_is before_is made others_is =
-    (_, others_balance l g g' scope known before others is same are known_is before_is made others_is)
+-- on the schedule after, where all penalties that the exchange can change are counted
+module _ (l : LeagueData) (g : Games) (scope : Scope) (rest : Cost) (is : IsLeague l) (same : teams l ≡ g.teams)
+    (whole : with_penalties rest (penalties_share l scope g) ≡ cost_of l g) where
+  pub whole_is : (after : Penalties) → after ≡ penalties_share l scope g → with_penalties rest after ≡ cost_of l g
+  whole_is after counted = rw counted whole
 
--- and with them it is the whole cost
-pub cost_with_legs : (l : LeagueData) (g g' : Games) (scope : Scope) (known before others least : Cost) →
-    IsLeague l → teams l ≡ g.teams → IsScope g scope →
-    known ≡ cost_of l g → before ≡ cost_share l scope g → g' ≡ exchanged_by g scope.exchange → others ≡ share_but_travel l scope g' →
-    CostsBalance least known before others → record least { travel = least.travel + travel_share l scope.exchange scope.main g' } ≡ cost_of l g'
-unfolding cost_of
-cost_with_legs l g g' scope known before others least is same are known_is before_is made others_is balance =
-    let least_is = same_cost _ _ _ _ _ balance
-    (others_balance l g g' scope known before others is same are known_is before_is made others_is) in
-    let whole : (travel l g - travel_share l scope.exchange scope.main g) + travel_share l scope.exchange scope.main g' ≡ travel l g' =
-    rw made (omega (arith, travel_balances l g scope are, travel_share_le l g scope)) in
-    ap (λ (cost : Cost). record cost { travel = cost.travel + travel_share l scope.exchange scope.main g' }) least_is ∙
-    ap (λ n. record (cost_of l g') { travel = n }) whole
+  pub whole_small : (after : Penalties) → after ≡ penalties_share l scope g → IsSmall (with_penalties rest after)
+  whole_small after counted = subst IsSmall (sym (whole_is after counted)) (cost_small l g is same)
 
--- its score is below the limit
-pub score_with_legs : (l : LeagueData) (g : Games) (least : Cost) (counted legs : ℕ) → IsLeague l → teams l ≡ g.teams →
-    counted ≡ legs → record least { travel = least.travel + legs } ≡ cost_of l g →
-    score_of l (record least { travel = least.travel + counted }) < score_limit
-score_with_legs l g least counted legs is same counted_is whole =
-    rw counted_is (subst (λ cost. score_of l cost < score_limit) (sym whole) (score_below l g is (sym same)))
+  pub whole_scores : (after : Penalties) → after ≡ penalties_share l scope g → score_of l (with_penalties rest after) < score_limit
+  whole_scores after counted =
+      subst (λ cost. score_of l cost < score_limit) (sym (whole_is after counted)) (score_below l g is (sym same))
+
+  -- the games first, and then the rules
+  pub both_counted : (games : ℕ) (rules : Penalties) → games ≡ games_share l scope g →
+      rules.hard ≡ rules_share hard_share l.rules scope.main scope.turning g →
+      rules.soft ≡ rules_share soft_share l.rules scope.main scope.turning g →
+      with_penalties (record rest { hard = rest.hard + games }) rules ≡ cost_of l g
+  unfolding penalties_share
+  both_counted games rules games_are hard_is soft_is =
+      same_cost (with_penalties (record rest { hard = rest.hard + games }) rules) (with_penalties rest (penalties_share l scope g))
+      refl (omega (arith, games_are, hard_is)) (omega (arith, soft_is)) ∙
+      whole
+
+  pub both_small : (games : ℕ) (rules : Penalties) → games ≡ games_share l scope g →
+      rules.hard ≡ rules_share hard_share l.rules scope.main scope.turning g →
+      rules.soft ≡ rules_share soft_share l.rules scope.main scope.turning g →
+      IsSmall (with_penalties (record rest { hard = rest.hard + games }) rules)
+  both_small games rules games_are hard_is soft_is =
+      subst IsSmall (sym (both_counted games rules games_are hard_is soft_is)) (cost_small l g is same)
+
+  -- with the games alone the cost is no greater
+  rules_left : Penalties
+  rules_left = record {
+    hard = rules_share hard_share l.rules scope.main scope.turning g;
+    soft = rules_share soft_share l.rules scope.main scope.turning g;
+  }
+
+  pub games_score : (games : ℕ) → games ≡ games_share l scope g →
+      score_of l (record rest { hard = rest.hard + games }) ≤ score_of l (cost_of l g)
+  unfolding rules_left
+  games_score games games_are =
+      subst (λ cost. score_of l (record rest { hard = rest.hard + games }) ≤ score_of l cost)
+      (both_counted games rules_left games_are refl refl)
+      (score_grows l (record rest { hard = rest.hard + games }) rules_left)
+
+  pub games_small : (games : ℕ) → games ≡ games_share l scope g → rest.hard + games < score_limit
+  unfolding rules_left
+  games_small games games_are = omega (arith, (both_small games rules_left games_are refl refl).hard)

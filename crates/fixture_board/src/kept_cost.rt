@@ -1,22 +1,25 @@
-//! The cost of a schedule, kept over an exchange: what it can change is counted before it and after it.
+//! The cost of a schedule, kept over an exchange: the travel after it is told before it, and of the rest what it can change
+//! is counted before it and after it.
 
-ghost use Rattle.std.specs.Prelude.{◌≡◌, ◌*◌, ◌<◌, ◌≤◌};
+ghost use Rattle.std.specs.Prelude.{◌≡◌, ◌+◌, ◌*◌, ◌<◌, ◌≤◌};
 ghost use Rattle.league.specs.League.{teams};
-ghost use Rattle.league.specs.Limits.{max_rounds, max_teams};
+ghost use Rattle.league.specs.Limits.{max_distance, max_rounds, max_teams};
 ghost use Rattle.league.specs.Sets.{has};
 ghost use Rattle.tours.specs.Phased.{unphased_part};
+ghost use Rattle.tours.specs.Tours.{travel};
 ghost use Rattle.moves.specs.Exchanges.{exchanged_by, IsExchange};
 ghost use Rattle.fixture_board.specs.Costs.{cost_of, score_of, score_limit, where_phased};
-ghost use Rattle.fixture_board.specs.CostShares.{travel_share, repeats_share, share_but_travel, cost_share};
-ghost use Rattle.fixture_board.specs.CostShares.{CostsBalance, IsSmall};
+ghost use Rattle.fixture_board.specs.CostShares.{games_share, repeats_share, penalties_share, with_penalties};
+ghost use Rattle.fixture_board.specs.CostShares.{AreSmall, IsRest, IsScope};
 
 use crate::cost::Cost;
+use crate::penalties::Penalties;
 use crate::rule_costs::shares_of_rules;
 use crate::scope::Scope;
 use fixtures::{Schedule, Touched};
 use league::League;
 use moves::Exchange;
-use tours::{repeats_with, runs_part, travel_around, travel_part, unphased_part};
+use tours::{Legs, legs_of_rounds, legs_of_teams, repeats_with, runs_part, unphased_part};
 
 /// Makes an exchange on a schedule of known cost, and gives the cost after. Made once more, it gives the schedule back.
 /// Takes no memory.
@@ -37,94 +40,123 @@ pub fn make_at_cost(
 {
     prove_eq!(league.teams(), schedule.teams());
     let scope = Scope::of(exchange, schedule);
-    let before = share_of_known(schedule, league, &scope, known);
+    let travel = travel_after(schedule, league, exchange, known.travel);
+    let rest = rest_of(schedule, league, &scope, known, travel);
     exchange.make(schedule);
-    let after = share(schedule, league, &scope);
-    exchanged(known, before, after)
+    whole(schedule, league, &scope, rest)
 }
 
-/// The known cost with one share in place of another.
-pub(crate) fn exchanged(known: Cost, before: Cost, after: Cost) -> Cost
-    requires known { IsSmall known }
-    requires after { IsSmall after }
-    requires balance { (new : Cost) × CostsBalance new known before after }
-    ensures { CostsBalance result known before after }
-{
-    Cost {
-        travel: known.travel + after.travel - before.travel,
-        hard: known.hard + after.hard - before.hard,
-        soft: known.soft + after.soft - before.soft,
-    }
-}
-
-/// What the games that the exchange can change add to the cost.
-#[tactic(auto, unfolding(crate::specs::CostShares::cost_share))]
-pub(crate) fn share(schedule: &Schedule, league: &League, scope: &Scope) -> Cost
+/// The travel after an exchange, told on the schedule before it.
+pub(crate) fn travel_after(
+    schedule: &Schedule,
+    league: &League,
+    exchange: &Exchange,
+    known: u64,
+) -> u64
     requires same_size { teams league.now ≡ schedule.now.teams }
-    ensures value { result ≡ cost_share league.now scope.now schedule.now }
-    ensures small { IsSmall result }
+    requires can_be_made { IsExchange schedule.now exchange.now }
+    requires known { known ≡ travel league.now schedule.now }
+    ensures { result ≡ travel league.now (exchanged_by schedule.now exchange.now) }
 {
-    Cost {
-        travel: travel_share(schedule, league, scope),
-        ..share_but_travel(schedule, league, scope)
+    prove_eq!(league.teams(), schedule.teams());
+    let legs = legs_of(schedule, league, exchange);
+    known + legs.after - legs.before
+}
+
+/// The legs that an exchange alters, before it and after it.
+fn legs_of(schedule: &Schedule, league: &League, exchange: &Exchange) -> Legs
+    requires same_size { teams league.now ≡ schedule.now.teams }
+    requires can_be_made { IsExchange schedule.now exchange.now }
+    ensures balance { travel league.now (exchanged_by schedule.now exchange.now) + result.before ≡
+        travel league.now schedule.now + result.after }
+    ensures after_most { result.after ≤ (8 * max_rounds + 2) * max_distance }
+{
+    match *exchange {
+        Exchange::Rounds { k, l, among } => legs_of_rounds(schedule, league, k, l, among),
+        Exchange::Teams { i, j, among } => legs_of_teams(schedule, league, i, j, among),
     }
 }
 
-/// The same on a schedule of known cost: where nothing of that is hard, nothing of the share is.
-pub(crate) fn share_of_known(
+/// The cost with the travel after the exchange, and without the penalties that it can change. None of them is counted where
+/// the known cost has none.
+pub(crate) fn rest_of(
     schedule: &Schedule,
     league: &League,
     scope: &Scope,
     known: Cost,
+    new_travel: u64,
 ) -> Cost
     requires same_size { teams league.now ≡ schedule.now.teams }
     requires known { known ≡ cost_of league.now schedule.now }
-    ensures value { result ≡ cost_share league.now scope.now schedule.now }
-    ensures small { IsSmall result }
+    requires new_travel { new_travel ≡ travel league.now (exchanged_by schedule.now scope.now.exchange) }
+    ensures { IsRest league.now schedule.now scope.now result }
 {
     if known.hard > 0 {
-        return share(schedule, league, scope);
+        let before = penalties(schedule, league, scope);
+        return Cost {
+            travel: new_travel,
+            hard: known.hard - before.hard,
+            soft: known.soft - before.soft,
+        };
+    }
+    if known.soft > 0 {
+        let rules = shares_of_rules(schedule, league, scope.main, scope.turning);
+        return Cost {
+            travel: new_travel,
+            hard: 0,
+            soft: known.soft - rules.soft,
+        };
     }
     Cost {
-        travel: travel_share(schedule, league, scope),
+        travel: new_travel,
         hard: 0,
-        soft: shares_of_rules(schedule, league, scope.main, scope.turning).soft,
+        soft: 0,
     }
 }
 
-/// The share without the travel, which is 0 in it.
-#[tactic(auto, unfolding(crate::specs::CostShares::share_but_travel))]
-pub(crate) fn share_but_travel(schedule: &Schedule, league: &League, scope: &Scope) -> Cost
+/// The cost of the schedule after the exchange, from what the exchange left as it was.
+fn whole(schedule: &Schedule, league: &League, scope: &Scope, rest: Cost) -> Cost
     requires same_size { teams league.now ≡ schedule.now.teams }
-    ensures value { result ≡ share_but_travel league.now scope.now schedule.now }
-    ensures small { IsSmall result }
+    requires whole { with_penalties rest (penalties_share league.now scope.now schedule.now) ≡ cost_of league.now schedule.now }
+    ensures value { result ≡ cost_of league.now schedule.now }
+    ensures small { score_of league.now result < score_limit }
+{
+    prove_eq!(league.teams(), schedule.teams());
+    let after = penalties(schedule, league, scope);
+    Cost {
+        travel: rest.travel,
+        hard: rest.hard + after.hard,
+        soft: rest.soft + after.soft,
+    }
+}
+
+/// The penalties for the games that the exchange can change.
+#[tactic(auto, unfolding(crate::specs::CostShares::penalties_share))]
+fn penalties(schedule: &Schedule, league: &League, scope: &Scope) -> Penalties
+    requires same_size { teams league.now ≡ schedule.now.teams }
+    ensures value { result ≡ penalties_share league.now scope.now schedule.now }
+    ensures small { AreSmall result }
+{
+    let rules = shares_of_rules(schedule, league, scope.main, scope.turning);
+    Penalties {
+        hard: games_share(schedule, league, scope) + rules.hard,
+        soft: rules.soft,
+    }
+}
+
+/// Those of them that no rule tells: runs, repeats, and in a phased league pairs with both games in one half.
+pub(crate) fn games_share(schedule: &Schedule, league: &League, scope: &Scope) -> u64
+    requires same_size { teams league.now ≡ schedule.now.teams }
+    ensures value { result ≡ games_share league.now scope.now schedule.now }
+    ensures most { result ≤ 3 * max_rounds * max_teams }
 {
     let of_sides = Touched {
         teams: scope.turning,
         rounds: scope.main.rounds,
     };
-    let runs = runs_part(schedule, league, of_sides);
-    let rules = shares_of_rules(schedule, league, scope.main, scope.turning);
-    Cost {
-        travel: 0,
-        hard: runs
-            + repeats_share(schedule, scope)
-            + rules.hard
-            + phases_share(schedule, league, scope.main),
-        soft: rules.soft,
-    }
-}
-
-/// What the legs that the exchange can change add to the travel.
-fn travel_share(schedule: &Schedule, league: &League, scope: &Scope) -> u64
-    requires same_size { teams league.now ≡ schedule.now.teams }
-    ensures value { result ≡ travel_share league.now scope.now.exchange scope.now.main schedule.now }
-    ensures small { result < score_limit }
-{
-    match scope.exchange {
-        Exchange::Rounds { .. } => travel_part(schedule, league, scope.main),
-        Exchange::Teams { .. } => travel_around(schedule, league, scope.main),
-    }
+    runs_part(schedule, league, of_sides)
+        + repeats_share(schedule, scope)
+        + phases_share(schedule, league, scope.main)
 }
 
 /// What the meetings that the exchange can change add to the repeats.

@@ -13,6 +13,7 @@ mod counting;
 mod kept_cost;
 mod laws;
 mod made_within;
+mod penalties;
 mod pins;
 mod reply;
 mod rule_costs;

@@ -1,30 +1,22 @@
 //! An exchange that is made where the score after is within a limit.
 
-ghost use Rattle.std.specs.Prelude.{◌≡◌, ◌+◌, ◌<◌, ◌&&◌, nat_lt, IfSome, MatchOption};
+ghost use Rattle.std.specs.Prelude.{◌≡◌, ◌<◌, IfSome, MatchOption};
 ghost use Rattle.league.specs.League.{teams};
-ghost use Rattle.tours.specs.Within.{IsTotalWithin};
 ghost use Rattle.moves.specs.Exchanges.{exchanged_by, IsExchange};
 ghost use Rattle.fixture_board.specs.Costs.{cost_of, score_of, score_limit, IsCostWithin};
-ghost use Rattle.fixture_board.specs.CostShares.{travel_share, is_of_rounds, IsScope};
+ghost use Rattle.fixture_board.specs.CostShares.{penalties_share, with_penalties};
 
 use crate::cost::Cost;
-use crate::kept_cost::{exchanged, share_but_travel, share_of_known};
+use crate::kept_cost::{games_share, rest_of, travel_after};
+use crate::rule_costs::shares_of_rules;
 use crate::scope::Scope;
 use fixtures::Schedule;
 use league::League;
 use moves::Exchange;
-use tours::{travel_around_within, travel_exchanged_within, travel_part_within};
-
-/// The cost of nothing.
-const NOTHING: Cost = Cost {
-    travel: 0,
-    hard: 0,
-    soft: 0,
-};
 
 /// Makes an exchange as `make_at_cost` does where the score after is at most `most`, and gives the cost after. Else the
-/// schedule is left as it was; the travel after is counted only until the score is seen to be above `most`, for one of
-/// rounds before it is made. Takes no memory.
+/// schedule is left as it was, and what costs little to count is counted first: the travel and what the exchange leaves as
+/// it was, for which nothing is made, then runs and repeats, and last the rules. Takes no memory.
 pub fn make_within(
     schedule: &mut Schedule,
     league: &League,
@@ -43,88 +35,53 @@ pub fn make_within(
     ensures small { IfSome result (λ cost. score_of league.now cost < score_limit) }
 {
     prove_eq!(league.teams(), schedule.teams());
+    let travel = travel_after(schedule, league, exchange, known.travel);
+    if travel > most {
+        return None;
+    }
     let scope = Scope::of(exchange, schedule);
-    let before = share_of_known(schedule, league, &scope, known);
-    let rest = exchanged(known, before, NOTHING);
-    if is_lost(schedule, league, &scope, rest, most) {
+    let rest = rest_of(schedule, league, &scope, known, travel);
+    if rest.score(league) > most {
         return None;
     }
     exchange.make(schedule);
-    let others = share_but_travel(schedule, league, &scope);
-    let least = exchanged(known, before, others);
-    let cost = with_legs_within(schedule, league, &scope, least, most);
+    let cost = whole_within(schedule, league, &scope, rest, most);
     if cost.is_none() {
         exchange.make(schedule);
     }
     cost
 }
 
-/// Whether the travel after an exchange of rounds tells that the score after it is above `most`, where all else that it
-/// can change is none. It is counted on the schedule before it, as far as it has to be.
-fn is_lost(schedule: &Schedule, league: &League, scope: &Scope, rest: Cost, most: u64) -> bool
-    requires same_size { teams league.now ≡ schedule.now.teams }
-    requires scope { IsScope schedule.now scope.now }
-    requires small { score_of league.now rest < score_limit }
-    ensures { result ≡ (is_of_rounds scope.now.exchange &&
-        nat_lt most (score_of league.now rest +
-        travel_share league.now scope.now.exchange scope.now.main (exchanged_by schedule.now scope.now.exchange))) }
-{
-    match scope.exchange {
-        Exchange::Rounds { k, l, .. } => {
-            let score = rest.score(league);
-            score > most
-                || travel_exchanged_within(
-                    schedule,
-                    league,
-                    k,
-                    l,
-                    scope.main,
-                    most - score,
-                ).is_none()
-        }
-        Exchange::Teams { .. } => false,
-    }
-}
-
-/// The cost of the schedule where its score is at most `most`, from that without the legs that the exchange can change.
-/// They are counted only as long as they may be few enough.
-fn with_legs_within(
+/// The cost of the schedule after the exchange where its score is at most `most`, from what the exchange left as it was. The
+/// rules are counted only where the others leave room for them.
+fn whole_within(
     schedule: &Schedule,
     league: &League,
     scope: &Scope,
-    least: Cost,
+    rest: Cost,
     most: u64,
 ) -> Option<Cost>
     requires same_size { teams league.now ≡ schedule.now.teams }
-    requires with_legs { record least { travel = least.travel + travel_share league.now scope.now.exchange scope.now.main schedule.now } ≡
-        cost_of league.now schedule.now }
+    requires whole { with_penalties rest (penalties_share league.now scope.now schedule.now) ≡ cost_of league.now schedule.now }
     ensures value { IsCostWithin league.now most schedule.now result }
     ensures small { IfSome result (λ cost. score_of league.now cost < score_limit) }
 {
     prove_eq!(league.teams(), schedule.teams());
-    let score = least.score(league);
-    if score > most {
+    let least = Cost {
+        hard: rest.hard + games_share(schedule, league, scope),
+        ..rest
+    };
+    if least.score(league) > most {
         return None;
     }
-    let legs = travel_share_within(schedule, league, scope, most - score)?;
-    Some(Cost {
-        travel: least.travel + legs,
-        ..least
-    })
-}
-
-/// `travel_share` where it is at most `most`. The count stops where it is more.
-fn travel_share_within(
-    schedule: &Schedule,
-    league: &League,
-    scope: &Scope,
-    most: u64,
-) -> Option<u64>
-    requires same_size { teams league.now ≡ schedule.now.teams }
-    ensures { IsTotalWithin most (travel_share league.now scope.now.exchange scope.now.main schedule.now) result }
-{
-    match scope.exchange {
-        Exchange::Rounds { .. } => travel_part_within(schedule, league, scope.main, most),
-        Exchange::Teams { .. } => travel_around_within(schedule, league, scope.main, most),
+    let rules = shares_of_rules(schedule, league, scope.main, scope.turning);
+    let cost = Cost {
+        travel: least.travel,
+        hard: least.hard + rules.hard,
+        soft: least.soft + rules.soft,
+    };
+    if cost.score(league) > most {
+        return None;
     }
+    Some(cost)
 }
