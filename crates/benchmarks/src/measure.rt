@@ -12,8 +12,8 @@ pub struct Count {
     pub refused: u32,
 }
 
-/// Makes so many moves of one kind, each where it can be made, and takes each back. What they do depends on the
-/// index, so a compiler can't make one of them for all.
+/// Makes so many moves of one kind, each if it can be made, and takes each back. What they do depends on the index, so a
+/// compiler can't make one of them for all.
 pub fn measure(schedule: &mut Schedule, kind: Kind, moves: u32) -> Count {
     let teams = schedule.teams();
     let rounds = schedule.rounds();

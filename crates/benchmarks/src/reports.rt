@@ -125,7 +125,7 @@ fn league_of(alloc: Global, teams: u8) -> io::Result<League> {
     circular(alloc, teams).map_err(|_| io::Error::from(io::ErrorKind::OutOfMemory))
 }
 
-/// A board with room for so many entries, where there may be so many.
+/// A board with room for so many entries, or for as many as a board may have.
 fn board_of(alloc: Global, teams: u8, count: u32) -> io::Result<Board>
     ensures { IfOk result (λ b. b.history ≡ []) }
 {

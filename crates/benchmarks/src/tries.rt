@@ -1,5 +1,5 @@
-//! Tries of moves, as a search makes them: a move that can be made is kept where the score doesn't rise. Where it would
-//! rise, the schedule is as it was, and the move counts as withdrawn.
+//! Tries of moves, as a search makes them: a move that can be made is kept if the score doesn't rise. Otherwise the
+//! schedule is as it was, and the move counts as withdrawn.
 
 ghost use Rattle.std.specs.Prelude.{◌≡◌};
 ghost use Rattle.league.specs.League.{teams};

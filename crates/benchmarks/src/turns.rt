@@ -42,8 +42,8 @@ pub struct Work {
     pub turns: u32,
 }
 
-/// Has so many threads take turns, each with a copy of the schedule. The seat that took in all others, where each thread
-/// had its seat and its copy.
+/// Has so many threads take turns, each with a copy of the schedule. The seat that took in all others, if each thread had
+/// its seat and its copy.
 pub fn take_turns<R: Threads + Wait + Sync>(
     rt: &R,
     alloc: Global,

@@ -17,7 +17,7 @@ use streams::{Sink, Source, read_all};
 /// search text of what they came to. The history in it, given to `play` as a script, leads to the same games and the
 /// same best version. Nothing is written before all other faults are past, and no memory is taken from then on.
 ///
-/// The outcome is that of [`find_from`], where what the source became is some later state.
+/// The outcome is that of [`find_from`]. What the source became is some later state of it, which nobody can ask.
 pub fn find<T: Threads + Wait + Sync, R: Source + Drop, W: Sink>(
     rt: &T,
     alloc: Global,

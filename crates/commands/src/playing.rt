@@ -14,7 +14,7 @@ use texts::{play_script, split_input};
 /// play text. The history in it, given as a script, leads to the same history. Nothing is written before all other
 /// faults are past, and no memory is taken from then on.
 ///
-/// The outcome is that of [`play_from`], where what the source became is some later state.
+/// The outcome is that of [`play_from`]. What the source became is some later state of it, which nobody can ask.
 pub fn play<R: Source + Drop, W: Sink>(
     alloc: Global,
     mut source: R,

@@ -16,10 +16,10 @@ use texts::{write_clear, write_progress};
 /// How many milliseconds pass between two lines.
 const PAUSE: u128 = 250;
 
-/// Where fewer milliseconds passed between two tellings, the workers tell half as often.
+/// If fewer milliseconds passed between two tellings, the workers tell half as often.
 const SOON: u128 = 8;
 
-/// Where more passed, they tell twice as often.
+/// If more passed, they tell twice as often.
 const LATE: u128 = 64;
 
 /// The most steps between two tellings of a worker.
@@ -145,7 +145,7 @@ impl<W: Sink> Line<W> {
         self.told = self.told.or(Some(now));
     }
 
-    /// Has the workers tell some hundred times a second at most, and a few times where a step takes long.
+    /// Has the workers tell some hundred times a second at most, and a few times if a step takes long.
     fn pace(&mut self, now: Instant)
         ensures { self.new ≡ record self.old { pause = pause_after self.old.pause self.old.told now; told = Some now } }
     {
@@ -160,7 +160,7 @@ impl<W: Sink> Line<W> {
         self.told = Some(now);
     }
 
-    /// Whether the line is to be written now. Notes the time where it is, or is asked for the first time.
+    /// Whether the line is to be written now. Notes the time if it is, or if this is asked for the first time.
     fn is_due(&mut self, now: Instant) -> bool
         ensures due { result ≡ is_due self.old.last now }
         ensures last { self.new ≡ record self.old { last = last_after self.old.last now } }
@@ -195,7 +195,7 @@ impl<W: Sink> Line<W> {
         out.flush()
     }
 
-    /// Takes the line away where one stands.
+    /// Takes the line away if one stands.
     fn clear(&mut self) -> Result<(), WriteFault>
         ensures ok { OnOk result (Appends (W.held self.old.terminal) (W.held self.new.terminal)
             (line_to_clear self.old.shown)) }

@@ -12,7 +12,7 @@ use search::{Outcome, Reports};
 use streams::{BufferedSink, Sink, WriteFault};
 use texts::{write_found, write_plan, write_worker};
 
-/// Writes the search text of an outcome. Takes no memory. After a fault a front of the text went out.
+/// Writes the search text of an outcome. Takes no memory. After a fault a prefix of the text went out.
 pub fn search_report<W: Sink>(outcome: &Outcome, sink: &mut W) -> Result<(), WriteFault>
     ensures ok { OnOk result (Appends (W.held sink.old) (W.held sink.new) (search_text outcome.now)) }
     ensures front { OnErr result (AppendsFront (W.held sink.old) (W.held sink.new) (search_text outcome.now)) }

@@ -12,7 +12,7 @@ use texts::sheet;
 /// Reads a league to the end of the source, and writes the sheet of its start. Nothing is written before all other
 /// faults are past, and no memory is taken from then on.
 ///
-/// The outcome is that of [`start_from`], where what the source became is some later state.
+/// The outcome is that of [`start_from`]. What the source became is some later state of it, which nobody can ask.
 pub fn start<R: Source + Drop, W: Sink>(
     alloc: Global,
     mut source: R,

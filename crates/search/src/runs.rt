@@ -34,6 +34,7 @@ pub const MAX_WORKERS: u32 = 16;
 pub struct SearchPlan {
     /// 1 to 16.
     pub workers: u32,
+    /// The first state of each worker's generator. The number of the worker chooses its stream.
     pub seed: u64,
     /// How many steps each worker takes.
     pub steps: u32,
@@ -76,8 +77,11 @@ impl Reports {
 /// What a run came to.
 #[derive(Drop)]
 pub struct Outcome {
+    /// The board after the run, with each accepted change in its history.
     pub board: Board,
+    /// One for each worker, in their order.
     pub reports: Reports,
+    /// What the run was to do.
     pub plan: SearchPlan,
 }
 
@@ -98,8 +102,8 @@ pub enum RunFault {
     Memory,
 }
 
-/// Why a run came to nothing, and the board. After Workers and Memory it is as it was, or there is none where the
-/// shared board itself got no memory.
+/// Why a run came to nothing, and the board. After Workers and Memory it is as it was, or there is none if the shared
+/// board itself got no memory.
 #[derive(Drop)]
 pub struct RunRefused {
     pub why: RunFault,
@@ -143,7 +147,7 @@ pub fn run_with<R: Threads + Wait + Sync, G: Gate + Sync>(
     search(rt, &Hearing { gate }, league, shared, seat, crew, plan)
 }
 
-/// The crew of a plan, beside the board. Where there is none, the board comes back as it was.
+/// The crew of a plan, beside the board. If there is none, the board comes back as it was.
 fn crew_for<H: Drop>(
     alloc: Global,
     board: Board,
@@ -210,7 +214,7 @@ fn search<R: Threads + Wait + Sync, G: HearingGate + Sync>(
     conclude(plan, closed, reports)
 }
 
-/// The outcome, where the board is whole and the accepted proposals of the reports are its entries.
+/// The outcome, if the board is whole and the accepted proposals of the reports are its entries.
 fn conclude(plan: SearchPlan, closed: Closed, reports: Vec<Report>) -> Result<Outcome, RunRefused>
     requires workers { IsWorkers plan }
     requires many { length reports.items ≡ plan.workers }

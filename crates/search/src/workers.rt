@@ -23,6 +23,7 @@ pub struct WorkerPlan {
     pub worker: u32,
     /// The generator's first state. The number of the worker chooses its stream.
     pub seed: u64,
+    /// How many moves it draws.
     pub steps: u32,
     /// By how much the score may rise at the first step. It falls in a line, from each step to the next by one part of
     /// as many as there are steps.
@@ -32,8 +33,11 @@ pub struct WorkerPlan {
 /// How many proposals a worker made, and what the board answered.
 #[derive(Clone, Copy, Debug, PartialEq, Eq)]
 pub struct Report {
+    /// The proposals in all.
     pub made: u32,
+    /// Those that were granted.
     pub accepted: u32,
+    /// Those that were refused, for whatever reason.
     pub refused: u32,
 }
 
@@ -60,15 +64,15 @@ impl Report {
     }
 }
 
-/// Looks, and takes the plan's steps, or fewer where the board is full. The copy may be any schedule of the league's
+/// Looks, and takes the plan's steps, or fewer if the board gets full. The copy may be any schedule of the league's
 /// teams; with another one no step is taken. The league has to be the board's own, since the claims are counted with it:
 /// with another one most proposals are refused for a wrong claim. Takes no memory.
 ///
-/// In a step a move is drawn and, where it can be made and the score after it is above the copy's by no more than the
-/// slack, made on the copy. It is withdrawn where the board has another version than the copy, at which the worker looks
-/// again. Else it is proposed for the copy's version, with the score as claim and with the slack. What the copy is after
-/// the reply is the board's schedule as far as the worker can tell: where the version isn't the one that it expects, it
-/// looks.
+/// A step draws a move. If the move can be made, and the score after it is above the copy's by no more than the slack, it
+/// is made on the copy. If the board has another version than the copy by then, the move is withdrawn, and the worker
+/// looks again. Otherwise the move is proposed for the copy's version, with the score as claim and with the slack. After
+/// the reply the copy is the board's schedule as far as the worker can tell: if the version isn't the one that it
+/// expects, it looks.
 pub fn worker<R: Wait, D: Door, G: Gate>(
     rt: &R,
     door: &mut D,
@@ -140,7 +144,7 @@ pub(crate) fn take_steps<R: Wait, D: Door, G: HearingGate>(
     report
 }
 
-/// Counts a step, and tells the gate how far the worker is where its pause is over.
+/// Counts a step, and tells the gate how far the worker is once its pause is over.
 fn tell<R: Wait, G: HearingGate>(rt: &R, gate: &G, worker: u32, progress: &mut Progress) {
     progress.steps = progress.steps.saturating_add(1);
     if gate.pause() <= progress.steps {

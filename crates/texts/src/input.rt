@@ -5,8 +5,8 @@ ghost use Rattle.std.specs.List.{position_or_len};
 ghost use Rattle.std.specs.Str.Lines.{lines, strip_carriage_return};
 ghost use Rattle.texts.specs.Input.{TakesLine, is_line_end, league_text, lines_after, script_lines, text_before};
 
-/// Cuts an input at the first line that is the word: the text before that line, and the text after it. Where there is
-/// no such line, all stands before it.
+/// Cuts an input at the first line that is the word: the text before that line, and the text after it. If there is no
+/// such line, all of the input is the text before it.
 pub fn split_at_line<'a>(input: &'a [u8], word: &[u8]) -> (&'a [u8], Option<&'a [u8]>)
     requires { 0 < length word.now }
     ensures before { result.0.now ≡ text_before word.now input.now }
@@ -24,7 +24,7 @@ pub fn split_at_line<'a>(input: &'a [u8], word: &[u8]) -> (&'a [u8], Option<&'a 
 }
 
 /// The league's text, which runs up to the first line that is `script`, and the script after that line.
-/// Where there is no such line, all is the league's text.
+/// If there is no such line, all is the league's text.
 pub fn split_input(input: &[u8]) -> (&[u8], &[u8])
     ensures league { result.0.now ≡ league_text input.now }
     ensures script { lines result.1.now ≡ script_lines input.now }

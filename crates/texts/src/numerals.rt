@@ -15,7 +15,7 @@ const MAX_DIGITS: usize = 20;
 /// The most numbers that a command has.
 const MAX_NUMBERS: usize = 3;
 
-/// The numbers that the words of a line are. There are none where a word is no number, or more than a command has.
+/// The numbers that the words of a line are, or none if a word is no number or there are more words than a change has.
 pub(crate) fn numbers(line: &[u8]) -> Option<ArrayVec<u64, MAX_NUMBERS>>
     ensures some { IfSome result (λ numbers. numbers_of (words_of line.now) ≡ Some numbers.items) }
     ensures none { IfNone result (IfSome (numbers_of (words_of line.now)) (λ numbers. 3 < length numbers)) }
@@ -58,7 +58,8 @@ fn are_digits(word: &[u8]) -> bool
     word.iter().all(|byte| byte.is_ascii_digit())
 }
 
-/// A team or a round from 0, where texts count from 1; 255, which no team and no round has, where it can't be one.
+/// The number from 0 of a team or a round, which texts count from 1. If it can't be one it is 255, which no team and no
+/// round has.
 pub fn place(number: u64) -> u8
     ensures { result ≡ place_of number }
 {

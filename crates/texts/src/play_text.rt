@@ -18,8 +18,8 @@ use crate::sheets::write_sheet;
 use fixture_board::{Best, Board, Cost};
 use streams::{BufferedSink, Sink, WriteFault};
 
-/// Plays a script on a new board, and writes the play text. Takes no memory. The board has the script's history then;
-/// after a fault a front of the text went out, and the board may have a part of it.
+/// Plays a script on a new board, and writes the play text. Takes no memory. The board then has the script's history.
+/// After a fault a prefix of the text went out, and the board may have a prefix of the history.
 pub fn play_script<W: Sink>(
     board: &mut Board,
     script: &[u8],

@@ -53,7 +53,7 @@ pub fn write_clear<W: Sink>(out: &mut BufferedSink<'_, W>) -> Result<(), WriteFa
     out.write(b"\r\x1b[K")
 }
 
-/// Writes over the terminal's line how many steps of all were taken, the version, and the least total where one is
+/// Writes over the terminal's line how many steps of all were taken, the version, and the least total if one is
 /// known.
 pub fn write_progress<W: Sink>(
     out: &mut BufferedSink<'_, W>,
@@ -92,7 +92,7 @@ fn write_least<W: Sink>(out: &mut BufferedSink<'_, W>, least: Option<u64>) -> Re
     }
 }
 
-/// Writes the board in the end: its history, the sheet of its best schedule, or of the present one where none was
+/// Writes the board in the end: its history, the sheet of its best schedule, or of the present one if none was
 /// feasible, and its best version.
 pub fn write_found<W: Sink>(out: &mut BufferedSink<'_, W>, board: &Board) -> Result<(), WriteFault>
     ensures { Writes W.held W.tally out.old out.new result
@@ -111,7 +111,7 @@ fn write_best_sheet<W: Sink>(out: &mut BufferedSink<'_, W>, board: &Board) -> Re
     write_sheet(out, best_or_present(board), board.league())
 }
 
-/// The board's best schedule, or the present one where none was feasible.
+/// The board's best schedule, or the present one if none was feasible.
 fn best_or_present(board: &Board) -> &Schedule
     ensures games { result.now ≡ games_at_best board.now.league board.now.history
         (best_prefix board.now.league board.now.history) }

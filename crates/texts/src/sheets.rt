@@ -17,7 +17,7 @@ use league::League;
 use streams::{BufferedSink, Sink, WriteFault};
 
 /// Writes the sheet of a schedule, with the names of its league's teams. Takes no memory. After a
-/// fault a front of the sheet went out.
+/// fault a prefix of the sheet went out.
 pub fn sheet<W: Sink>(schedule: &Schedule, league: &League, sink: &mut W) -> Result<(), WriteFault>
     requires { schedule.now.teams ≡ teams league.now }
     ensures ok { OnOk result (Appends (W.held sink.old) (W.held sink.new)

@@ -8,7 +8,7 @@ use fixture_board::Board;
 use fixtures::Schedule;
 use shared_board::Seen;
 
-/// Makes the copy the board's schedule, where it is of as many teams, and tells the board's version and cost.
+/// Makes the copy the board's schedule, if it is of as many teams, and tells the board's version and cost.
 pub(crate) fn show(board: &Board, copy: &mut Schedule) -> Seen
     ensures legal { IsLegal board.now.league board.now.room board.now.history }
     ensures version { result.version ≡ length board.now.history }

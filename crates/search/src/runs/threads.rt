@@ -138,7 +138,7 @@ fn start_all<'s, E, R: Wait + Sync, G: HearingGate + Sync>(
     (true, handles)
 }
 
-/// Starts a worker's thread. Where that fails its seat is lost.
+/// Starts a worker's thread. If that fails, its seat is lost.
 fn start<'s, E, R: Wait + Sync, G: HearingGate + Sync>(
     scope: &Scope<'s, E>,
     rt: &'s R,

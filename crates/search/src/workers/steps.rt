@@ -74,7 +74,7 @@ pub(crate) fn refresh<R: Wait, D: Door>(
     }
 }
 
-/// Tries a move, and proposes it where the slack lets it pass and the copy is still the board's schedule.
+/// Tries a move, and proposes it if the slack lets it pass and the copy is still the board's schedule.
 pub(crate) fn step<R: Wait, D: Door, G: HearingGate>(
     rt: &R,
     door: &mut D,
@@ -126,7 +126,7 @@ pub(crate) fn step<R: Wait, D: Door, G: HearingGate>(
     settle(rt, door, league, copy, known, made, reply)
 }
 
-/// Keeps the move that was proposed, or withdraws it, and looks where the board has gone on.
+/// Keeps the move that was proposed, or withdraws it, and looks if the board has gone on.
 fn settle<R: Wait, D: Door>(
     rt: &R,
     door: &mut D,

@@ -1,0 +1,74 @@
+//! A search of one's own over the board, as a researcher would write it: a hill climber, alone and then in two threads.
+//!
+//! What the climber alone finds is printed as `ttp search` prints it, so its history is a script for `ttp play`. What two
+//! threads find depends on how they take turns, so of them only what holds each time is printed.
+#![tactic(auto)]
+
+ghost use Rattle.std.specs.Prelude.{◌≡◌, [], IfOk};
+
+mod alone;
+mod proposals;
+mod together;
+
+use alone::climb;
+use fixture_board::Board;
+use league::circular;
+use proposals::generator;
+use std::alloc::Global;
+use std::io;
+use std::process::ExitCode;
+use std::rt::Runtime;
+use std::sync::Wait;
+use std::thread::Threads;
+use streams::{BufferedSink, WriteFault, WriterSink};
+use texts::write_found;
+use together::{climb_together, replays};
+
+const TEAMS: u8 = 6;
+
+/// How many moves a climber proposes.
+const STEPS: u32 = 4_000;
+
+fn main(rt: HostRuntime) -> ExitCode {
+    match run(&rt) {
+        Ok(()) => ExitCode::SUCCESS,
+        Err(error) => {
+            let _ = eprintln!(rt; "climber: {error}");
+            ExitCode::FAILURE
+        }
+    }
+}
+
+fn run<R: Runtime + AllocGlobal + Threads + Wait + Sync>(rt: &R) -> io::Result<()> {
+    let mut board = board_of(rt.alloc())?;
+    climb(&mut board, &mut generator(0), STEPS);
+    if print(rt, &board).is_err() {
+        return Err(io::Error::from(io::ErrorKind::WriteZero));
+    }
+    let Some(shared) = climb_together(rt, rt.alloc(), board_of(rt.alloc())?, STEPS) else {
+        return Err(io::Error::from(io::ErrorKind::OutOfMemory));
+    };
+    let replays = replays(board_of(rt.alloc())?, &shared);
+    println!(rt; "two threads: history replays {replays}")
+}
+
+/// A board for the circle, with room for each change of two climbers.
+fn board_of(alloc: Global) -> io::Result<Board>
+    ensures { IfOk result (λ b. b.history ≡ []) }
+{
+    let Ok(league) = circular(alloc, TEAMS) else {
+        return Err(io::Error::from(io::ErrorKind::OutOfMemory));
+    };
+    match Board::new(alloc, league, 2 * STEPS) {
+        Ok(board) => Ok(board),
+        Err(_) => Err(io::Error::from(io::ErrorKind::OutOfMemory)),
+    }
+}
+
+/// Prints the history, the sheet of the best schedule and its total.
+fn print<R: Runtime>(rt: &R, board: &Board) -> Result<(), WriteFault> {
+    let mut sink = WriterSink::new(io::writer(rt));
+    let mut out = BufferedSink::new(&mut sink);
+    write_found(&mut out, board)?;
+    out.flush()
+}
