@@ -8,7 +8,8 @@ use Rattle.phases.specs.declared.chain.Chain.{Chain}
 use Rattle.phases.specs.declared.chain.PhaseOutcome.{PhaseOutcome}
 use Rattle.phases.specs.Chains.{chain_with, new_chain, put, chain_at, settled}
 use Rattle.phases.specs.Policy.{PolicyData, policy_data, IsPolicy, is_chain, chains_after}
-use Rattle.phases.proofs.Levels.{place_of, step_of}
+use Rattle.phases.specs.Stages.{place_of}
+use Rattle.phases.proofs.Levels.{chains_most, place_in_level}
 use Rattle.phases.proofs.Order.{length_put, all_put}
 use Rattle.phases.proofs.Runs.{told_chains, after_inside, after_bout}
 
@@ -41,7 +42,7 @@ told_kept : (told : ℕ) (cs : List Chain) (o : PhaseOutcome) → AreChains cs �
 told_kept told cs o p =
     let k = place_of told in
     let c = chain_at cs k in
-    let below : k < length cs = omega (arith, (step_of told).place, (step_of told).chains, p.count) in
+    let below : k < length cs = omega (arith, place_in_level told, chains_most told, p.count) in
     record {
       count = length-set cs k (chain_with c o) ∙ p.count;
       all = All-set is_chain cs k (chain_with c o) (All-get_or is_chain cs k (new_chain 0) below p.all) p.all;
@@ -49,7 +50,7 @@ told_kept told cs o p =
 
 settled_kept : (told : ℕ) (cs : List Chain) → AreChains cs → AreChains (settled cs (place_of told))
 settled_kept told cs p =
-    let below : place_of told < length cs = omega (arith, (step_of told).place, (step_of told).chains, p.count) in
+    let below : place_of told < length cs = omega (arith, place_in_level told, chains_most told, p.count) in
     record {
       count = length_settled cs (place_of told) below ∙ p.count;
       all = all_settled cs (place_of told) below p.all;

@@ -74,6 +74,12 @@ in_order_put c (d ∷ ds) order = elim (cases_Bool (is_better c d)) [
   | inr h ↦ rw (put_behind c d ds h) (all_put (IsNotBetter d) c ds h order.0, in_order_put c ds order.1)
 ]
 
+pub in_order_take : (n : ℕ) (cs : List Chain) → IsInOrder cs → IsInOrder (take n cs)
+unfolding IsInOrder
+in_order_take zero cs order = tt
+in_order_take (suc n) [] order = tt
+in_order_take (suc n) (c ∷ cs) order = (All-take (IsNotBetter c) n cs order.0, in_order_take n cs order.1)
+
 -- the lesser of totals
 
 lesser_none : (a : Option ℕ) → lesser a None ≡ a

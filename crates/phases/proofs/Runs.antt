@@ -3,16 +3,18 @@ use Rattle.std.proofs.Common.{◌≡◌, ◌≢◌, ℕ, suc, ◌+◌, ◌-◌, 
 use Rattle.std.proofs.Common.{sym, ◌∙◌, ap, subst, arith, inl, inr}
 use Rattle.std.specs.Prelude.{fold}
 use Rattle.std.proofs.Math.Seq.{take-add}
-use Rattle.std.proofs.lemmas.Bool.{cond-true, cond-false, eq-eqb, ne_eqb, lt-ltb}
+use Rattle.std.proofs.lemmas.Bool.{cases_eq, cond-true, cond-false, eq-eqb, ne_eqb, lt-ltb}
 use Rattle.std.proofs.lemmas.List.{length-set, length-take-le, length-append, length-drop, take-set, take_at, drop_at, take_more, take-take}
 use Rattle.league.specs.League.{LeagueData}
 use Rattle.phases.specs.declared.chain.Chain.{Chain}
 use Rattle.phases.specs.declared.chain.PhaseOutcome.{PhaseOutcome}
 use Rattle.phases.specs.Chains.{lesser, chain_with, new_chain, put, chain_at, settled}
 use Rattle.phases.specs.Policy.{PolicyData, policy_data, new_policy, first_chains, chains_after, policy_after}
-use Rattle.phases.specs.Laws.{policy_of, least_told, lesser_told, least_best, chain_count, IsInOrder}
-use Rattle.phases.proofs.Levels.{place_of, IsWithin, IsBoutEnd, IsLevelEnd, step_of}
-use Rattle.phases.proofs.Order.{length_put, in_order_put, least_put_last, least_same_front, least_set, least_of_front, least_of_one}
+use Rattle.phases.specs.Laws.{policy_of, least_told, lesser_told, least_best, IsInOrder}
+use Rattle.phases.specs.Stages.{chain_count, place_of}
+use Rattle.phases.proofs.Levels.{chains_most, chains_fall, place_in_level, place_rises}
+use Rattle.phases.proofs.Levels.{place_in_bout, chains_in_bout, level_ends}
+use Rattle.phases.proofs.Order.{length_put, in_order_put, in_order_take, least_put_last, least_same_front, least_set, least_of_front, least_of_one}
 
 -- the first of the chains, with the one at the place put into those before it
 record IsSettled (cs : List Chain) (place n : ℕ) : Type 0 where
@@ -46,14 +48,12 @@ is_settled cs place n below within order =
     }
 
 -- After so many phases: the chains of the level that had their bouts are in order, and its chains have the least total
--- of all that were told. As a level ends, all its chains are in order.
+-- of all that were told. As a bout ends, its chain is in order with those before it.
 pub record Holds (told : ℕ) (cs : List Chain) (least : Option ℕ) : Type 0 where
   pub count : length cs ≡ 8
   pub order : IsInOrder (take (place_of told) cs)
   pub least_is : least_best (take (chain_count told) cs) ≡ least
-  pub eight : told ≡ 160 → IsInOrder (take 8 cs)
-  pub four : told ≡ 240 → IsInOrder (take 4 cs)
-  pub two : told ≡ 280 → IsInOrder (take 2 cs)
+  pub ended : (before : ℕ) → before + 1 ≡ told → before % 20 ≡ 19 → IsInOrder (take (place_of before + 1) cs)
 
 pub holds_first : Holds 0 first_chains None
 unfolding place_of chain_count least_best IsInOrder
@@ -61,21 +61,19 @@ holds_first = record {
   count = refl;
   order = tt;
   least_is = refl;
-  eight = λ e. absurd (omega arith);
-  four = λ e. absurd (omega arith);
-  two = λ e. absurd (omega arith);
+  ended = λ before next ends. absurd (omega arith);
 }
 
 abbrev pub told_chains : ℕ → List Chain → PhaseOutcome → List Chain
 told_chains told cs o = set cs (place_of told) (chain_with (chain_at cs (place_of told)) o)
 
 pub after_inside : (told : ℕ) (cs : List Chain) (o : PhaseOutcome) → told % 20 ≢ 19 → chains_after cs told o ≡ told_chains told cs o
-unfolding chains_after place_of
+unfolding chains_after
 after_inside told cs o inside = cond-false _ _ _ (ne_eqb (told % 20) 19 inside)
 
 pub after_bout : (told : ℕ) (cs : List Chain) (o : PhaseOutcome) → told % 20 ≡ 19 →
     chains_after cs told o ≡ settled (told_chains told cs o) (place_of told)
-unfolding chains_after place_of
+unfolding chains_after
 after_bout told cs o ends = cond-true _ _ _ (eq-eqb (told % 20) 19 ends)
 
 -- the chains once the outcome stands at its place
@@ -89,68 +87,58 @@ is_told : (told : ℕ) (cs : List Chain) (least : Option ℕ) (o : PhaseOutcome)
 is_told told cs least o was =
     let k = place_of told in
     let c = chain_with (chain_at cs k) o in
-    let below : k < chain_count told = (step_of told).place in
-    let within : k < length cs = omega (arith, (step_of told).chains, was.count, below) in
+    let below : k < chain_count told = place_in_level told in
+    let within : k < length cs = omega (arith, chains_most told, was.count, below) in
     record {
       count = length-set cs k c ∙ was.count;
       order = rw take-set was.order;
       least_is = least_set (chain_count told) k cs c o.best below within refl ∙ ap (λ b. lesser b o.best) was.least_is;
     }
 
-inside_next : (told : ℕ) (cs : List Chain) (least : Option ℕ) → IsWithin told → IsTold told cs least → Holds (told + 1) cs least
-inside_next told cs least w is = record {
+in_order_front : (m n : ℕ) (cs : List Chain) → m ≤ n → IsInOrder (take n cs) → IsInOrder (take m cs)
+in_order_front m n cs fewer order =
+    let P : List Chain → Type 0 = λ xs. IsInOrder xs in
+    subst P (take-take m n cs fewer) (in_order_take m (take n cs) order)
+
+inside_next : (told : ℕ) (cs : List Chain) (least : Option ℕ) → told % 20 ≢ 19 → IsTold told cs least → Holds (told + 1) cs least
+inside_next told cs least inside is = record {
   count = is.count;
-  order = rw w.place is.order;
-  least_is = rw w.chains is.least_is;
-  eight = λ e. absurd (w.inside (omega arith));
-  four = λ e. absurd (w.inside (omega arith));
-  two = λ e. absurd (w.inside (omega arith));
+  order = in_order_front (place_of (told + 1)) (place_of told) cs (place_in_bout told inside) is.order;
+  least_is = rw (chains_in_bout told inside) is.least_is;
+  ended = λ before next ends. let same : told ≡ before = omega arith in absurd (inside (rw same ends));
 }
 
-bout_next : (told : ℕ) (cs : List Chain) (least : Option ℕ) → IsBoutEnd told → IsTold told cs least →
-    Holds (told + 1) (settled cs (place_of told)) least
-bout_next told cs least w is =
-    let step = step_of told in
-    let s = is_settled cs (place_of told) (chain_count told) step.place (omega (arith, step.chains, is.count)) is.order in
-    record {
-      count = s.count ∙ is.count;
-      order = rw w.place s.order;
-      least_is = rw w.chains (s.least ∙ is.least_is);
-      eight = λ e. absurd (w.not_first e);
-      four = λ e. absurd (w.not_second e);
-      two = λ e. absurd (w.not_third e);
-    }
+-- the least total goes on to the next level
+least_onward : (told : ℕ) (cs : List Chain) → IsInOrder (take (place_of told + 1) cs) →
+    least_best (take (chain_count (told + 1)) cs) ≡ least_best (take (chain_count told) cs)
+least_onward told cs order = elim (cases_eq (chain_count (told + 1)) (chain_count told)) [
+  | inl same ↦ ap (λ n. least_best (take n cs)) same
+  | inr other ↦
+      let all : IsInOrder (take (chain_count told) cs) = rw (level_ends told other) order in
+      ap least_best (sym (take-take (chain_count (told + 1)) (chain_count told) cs (chains_fall told))) ∙
+      least_of_front (chain_count (told + 1)) (take (chain_count told) cs) all (omega (arith, place_in_level (told + 1)))
+]
 
-level_next : (told : ℕ) (cs : List Chain) (least : Option ℕ) → IsLevelEnd told → IsTold told cs least →
+bout_next : (told : ℕ) (cs : List Chain) (least : Option ℕ) → IsTold told cs least →
     Holds (told + 1) (settled cs (place_of told)) least
-unfolding IsInOrder
-level_next told cs least w is =
-    let step = step_of told in
-    let s = is_settled cs (place_of told) (chain_count told) step.place (omega (arith, step.chains, is.count)) is.order in
+bout_next told cs least is =
+    let few : chain_count told ≤ length cs = omega (arith, chains_most told, is.count) in
+    let s = is_settled cs (place_of told) (chain_count told) (place_in_level told) few is.order in
     let new = settled cs (place_of told) in
-    let all : IsInOrder (take (chain_count told) new) = rw w.all s.order in
-    let front : take (chain_count (told + 1)) (take (chain_count told) new) ≡ take (chain_count (told + 1)) new =
-    take-take (chain_count (told + 1)) (chain_count told) new w.fewer in
     record {
       count = s.count ∙ is.count;
-      order = rw w.place tt;
-      least_is = ap least_best (sym front) ∙ least_of_front (chain_count (told + 1)) (take (chain_count told) new) all w.some ∙
-          s.least ∙ is.least_is;
-      eight = λ e. rw (w.eight e) at all;
-      four = λ e. rw (w.four e) at all;
-      two = λ e. rw (w.two e) at all;
+      order = in_order_front (place_of (told + 1)) (place_of told + 1) new (place_rises told) s.order;
+      least_is = least_onward told new s.order ∙ s.least ∙ is.least_is;
+      ended = λ before next ends. let same : before ≡ told = omega arith in rw same s.order;
     }
 
 holds_next : (told : ℕ) (cs : List Chain) (least : Option ℕ) (o : PhaseOutcome) → Holds told cs least →
     Holds (told + 1) (chains_after cs told o) (lesser least o.best)
 holds_next told cs least o was =
     let is = is_told told cs least o was in
-    elim ((step_of told).goes_on) [
-      | inl w ↦ rw (after_inside told cs o w.inside) (inside_next told _ _ w is)
-      | inr end ↦ elim end [
-        | inl w ↦ rw (after_bout told cs o w.ends) (bout_next told _ _ w is)
-        | inr w ↦ rw (after_bout told cs o w.ends) (level_next told _ _ w is)
-      ]
+    elim (cases_eq (told % 20) 19) [
+      | inl ends ↦ rw (after_bout told cs o ends) (bout_next told _ _ is)
+      | inr inside ↦ rw (after_inside told cs o inside) (inside_next told _ _ inside is)
     ]
 
 next_is : (p : PolicyData) (o : PhaseOutcome) → p.told < 380 →

@@ -1,5 +1,5 @@
 -- What the laws speak of: whole runs of the policy.
-use Rattle.std.specs.Prelude.{◌≡◌, ℕ, nat_lt, false, if◌then◌else◌, All, ⊤, List, [], ◌∷◌, fold, Option, None}
+use Rattle.std.specs.Prelude.{◌≡◌, ℕ, false, All, ⊤, List, [], ◌∷◌, fold, Option, None}
 use Rattle.league.specs.League.{LeagueData}
 use Rattle.phases.specs.declared.chain.Chain.{Chain}
 use Rattle.phases.specs.declared.chain.PhaseOutcome.{PhaseOutcome}
@@ -21,11 +21,6 @@ least_told outcomes = fold lesser_told None outcomes
 unfoldable pub least_best : List Chain → Option ℕ
 least_best [] = None
 least_best (c ∷ cs) = lesser c.best (least_best cs)
-
--- how many chains there are in the level of the phase that comes after so many
-unfoldable pub chain_count : ℕ → ℕ
-chain_count told =
-    if nat_lt told 160 then 8 else (if nat_lt told 240 then 4 else (if nat_lt told 280 then 2 else 1))
 
 -- no chain is better than one that stands before it
 unfoldable pub IsInOrder : List Chain → Type 0

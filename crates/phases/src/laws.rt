@@ -5,8 +5,8 @@ ghost use Rattle.league.specs.League.{LeagueData};
 ghost use Rattle.league.specs.Sums.{sum_below};
 ghost use Rattle.phases.specs.declared.chain.PhaseOutcome.{PhaseOutcome};
 ghost use Rattle.phases.specs.Chains.{chain_at};
-ghost use Rattle.phases.specs.Laws.{policy_of, least_told, least_best, chain_count, IsInOrder};
-ghost use Rattle.phases.specs.Stages.{phase_count, steps_of};
+ghost use Rattle.phases.specs.Laws.{policy_of, least_told, least_best, IsInOrder};
+ghost use Rattle.phases.specs.Stages.{phase_count, chain_count, steps_of};
 
 /// The steps of all phases add up to the effort.
 pub fn steps_add_up()

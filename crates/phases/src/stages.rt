@@ -1,7 +1,7 @@
 //! The levels, the phases in their order, and the steps of each.
 
 ghost use Rattle.std.specs.Prelude.{◌≡◌, ◌+◌, ◌<◌, ◌≤◌};
-ghost use Rattle.phases.specs.Stages.{stage_of, cut, steps_of, slack_of};
+ghost use Rattle.phases.specs.Stages.{place_of, parts_of, share_of, cut, steps_of, slack_of};
 
 /// How many phases there are.
 pub const PHASES: u32 = 380;
@@ -15,7 +15,6 @@ pub const MIN_EFFORT: u32 = PARTS;
 /// Where a phase stands.
 #[derive(Clone, Copy)]
 pub(crate) struct Stage {
-    pub(crate) level: u32,
     /// The place of its chain among the chains of the level.
     pub(crate) place: u32,
     /// The parts of the effort that were used before it.
@@ -25,25 +24,26 @@ pub(crate) struct Stage {
 }
 
 /// Where the phase stands that comes after so many.
+#[tactic(auto, unfolding(crate::specs::Stages::place_of, crate::specs::Stages::parts_of, crate::specs::Stages::share_of))]
 pub(crate) fn stage_of(told: u32) -> Stage
     requires { told < PHASES }
-    ensures value { result ≡ stage_of told }
-    ensures level { result.level < 8 }
-    ensures place { result.place < 8 }
-    ensures share { 1 ≤ result.share }
-    ensures parts { result.parts + result.share ≤ 1280 }
+    ensures place { result.place ≡ place_of told }
+    ensures parts { result.parts ≡ parts_of told }
+    ensures share { result.share ≡ share_of told }
+    ensures place_in { result.place < 8 }
+    ensures share_least { 1 ≤ result.share }
+    ensures parts_most { result.parts + result.share ≤ 1280 }
 {
-    let (level, place, parts, share) = if told < 160 {
-        (0, told / BOUT, told, 1)
+    let (place, parts, share) = if told < 160 {
+        (told / BOUT, told, 1)
     } else if told < 240 {
-        (1, (told - 160) / BOUT, 160 + 2 * (told - 160), 2)
+        ((told - 160) / BOUT, 160 + 2 * (told - 160), 2)
     } else if told < 280 {
-        (2, (told - 240) / BOUT, 320 + 4 * (told - 240), 4)
+        ((told - 240) / BOUT, 320 + 4 * (told - 240), 4)
     } else {
-        (3 + (told - 280) / BOUT, 0, 480 + 8 * (told - 280), 8)
+        (0, 480 + 8 * (told - 280), 8)
     };
     Stage {
-        level,
         place,
         parts,
         share,

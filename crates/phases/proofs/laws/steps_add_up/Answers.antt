@@ -1,7 +1,7 @@
 use Rattle.std.proofs.Common.{◌≡◌, ◌∙◌, arith}
-use Rattle.phases.specs.Stages.{cut}
-use Rattle.phases.proofs.Levels.{parts_of}
-use Rattle.phases.proofs.Sums.{steps_sum, parts_in_all}
+use Rattle.phases.specs.Stages.{parts_of, cut}
+use Rattle.phases.proofs.Levels.{parts_in_all}
+use Rattle.phases.proofs.Sums.{steps_sum}
 use Rattle.phases.proofs.laws.steps_add_up.Goals as goal
 
 pub returns : goal.returns
