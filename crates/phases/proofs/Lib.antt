@@ -1,0 +1,6 @@
+pub mod Settling
+pub mod Order
+pub mod Levels
+pub mod Sums
+pub mod Runs
+pub mod Kept
