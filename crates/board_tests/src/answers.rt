@@ -19,6 +19,27 @@ pub(crate) fn no(at: u64, why: Why) -> Reply {
     Reply::No { at, why }
 }
 
+/// What is answered.
+#[derive(Clone, Copy)]
+pub(crate) enum Answer {
+    /// The version, the travel and the hard breaches, with no soft cost.
+    Done(u64, u64, u64),
+    /// The version, and a cost that may be soft.
+    Cost(u64, Cost),
+    /// The version.
+    No(u64, Why),
+}
+
+impl Answer {
+    pub(crate) fn reply(self) -> Reply {
+        match self {
+            Answer::Done(at, travel, hard) => done(at, travel, hard),
+            Answer::Cost(at, cost) => Reply::Done { at, cost },
+            Answer::No(at, why) => no(at, why),
+        }
+    }
+}
+
 pub(crate) fn best(at: u64, total: u64) -> Option<Best> {
     Some(Best { at, total })
 }

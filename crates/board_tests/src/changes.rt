@@ -1,170 +1,156 @@
 //! Changes of one thread's board, one after the other.
 
-use crate::answers::{best, done, no, travel};
-use crate::boards::board;
-use crate::checks::{
-    check_ask, check_best, check_cost, check_round, check_shift, check_travels, check_undo,
-    check_version,
-};
-use crate::questions::{at_any_cost, game, homes, propose, rounds, shift, teams};
-use fixture_board::{Ask, Board, Change, Entry, Proposal, Reply, Why};
+use crate::answers::Answer::{Done, No};
+use crate::questions::Asked;
+use crate::steps::Act::{Answer, Ask, AskBy, Homes, Rounds, Shift, Teams, Undo};
+use crate::steps::Sight::{Best, BestRound, Cost, Entry, Round, Travels, Version};
+use crate::steps::Step::{self, Do, See};
+use crate::steps::check_board;
+use fixture_board::{Change, Why};
 use moves::Move;
-use std::alloc::Global;
-use std::process::Abort;
 use std::test::Fail;
+
+const HOMES_UNDONE: &[Step] = &[
+    See(Cost(30, 0, 0)),
+    See(Best(0, 30)),
+    Do(Homes(1, 2, Done(1, 26, 0))),
+    See(Round(2, 1, 2)),
+    See(Round(1, 2, 5)),
+    Do(Undo(Done(2, 30, 0))),
+    See(Round(1, 2, 2)),
+    See(Best(1, 26)),
+    See(BestRound(2, 1, 2)),
+    See(Version(2)),
+    See(Entry(0, 0, Change::Shift(Move::Homes { i: 0, j: 1 }))),
+    See(Entry(1, 0, Change::Undo)),
+];
 
 #[test]
 fn undo_restores_the_travel_and_leaves_the_best(rt: HostRuntime) -> Result<(), Fail> {
-    let mut board = board(rt.alloc(), 1024)?;
-    check_cost(&rt, &board, travel(30));
-    check_best(&rt, &board, best(0, 30));
-    check_shift(&rt, &mut board, homes(1, 2), done(1, 26, 0));
-    check_round(&rt, board.schedule(), 2, 1, 2);
-    check_round(&rt, board.schedule(), 1, 2, 5);
-    check_undo(&rt, &mut board, done(2, 30, 0));
-    check_round(&rt, board.schedule(), 1, 2, 2);
-    check_best(&rt, &board, best(1, 26));
-    let of_best = board.best_schedule().expect(&rt, "a best schedule");
-    check_round(&rt, of_best, 2, 1, 2);
-    check_shift_and_undo(&rt, &board);
-    Ok(())
+    check_board(&rt, rt.alloc(), 1024, HOMES_UNDONE)
 }
 
-/// The history is a move of caller 0 and its undo.
-fn check_shift_and_undo(rt: &impl Abort, board: &Board) {
-    assert!(rt; board.version() == 2);
-    let change = Change::Shift(Move::Homes { i: 0, j: 1 });
-    assert_eq!(rt; board.entry(0), Entry { caller: 0, change });
-    let change = Change::Undo;
-    assert_eq!(rt; board.entry(1), Entry { caller: 0, change });
-}
+const ROUNDS: Move = Move::Rounds { k: 1, l: 3 };
 
-/// Two rounds exchanged at version 0, as caller 7.
-fn check_within(rt: &impl Abort, board: &mut Board, slack: u64, reply: Reply) {
-    let mv = Move::Rounds { k: 1, l: 3 };
-    let proposal = Proposal {
-        version: 0,
-        mv,
-        claim: None,
-        slack,
-    };
-    let answer = board.propose(7, proposal);
-    assert_eq!(rt; answer, reply, "within {slack}");
-}
+/// Two rounds exchanged within a slack, as caller 7.
+const WITHIN: &[Step] = &[
+    Do(AskBy(7, Asked::Shift(0, ROUNDS, None, 0), No(0, Why::Worse))),
+    Do(AskBy(7, Asked::Shift(0, ROUNDS, None, 399), No(0, Why::Worse))),
+    See(Version(0)),
+    See(Round(1, 2, 2)),
+    Do(AskBy(7, Asked::Shift(0, ROUNDS, None, 400), Done(1, 30, 4))),
+    See(Best(0, 30)),
+    See(Version(1)),
+    See(Entry(0, 7, Change::Shift(ROUNDS))),
+];
 
 #[test]
 fn slack_bounds_the_score_and_not_the_travel(rt: HostRuntime) -> Result<(), Fail> {
-    let mut board = board(rt.alloc(), 1024)?;
-    check_within(&rt, &mut board, 0, no(0, Why::Worse));
-    check_within(&rt, &mut board, 399, no(0, Why::Worse));
-    check_version(&rt, &board, 0);
-    check_round(&rt, board.schedule(), 1, 2, 2);
-    check_within(&rt, &mut board, 400, done(1, 30, 4));
-    check_best(&rt, &board, best(0, 30));
-    assert!(rt; board.version() == 1);
-    assert_eq!(rt; board.entry(0).caller, 7);
-    Ok(())
+    check_board(&rt, rt.alloc(), 1024, WITHIN)
 }
 
-/// Of a board without an entry.
-fn check_first_shift(rt: &impl Abort, alloc: Global, mv: Move, reply: Reply) -> Result<(), Fail> {
-    check_shift(rt, &mut board(alloc, 8)?, mv, reply);
-    Ok(())
-}
+/// Moves of boards without an entry.
+const FIRST_MOVES: &[Step] = &[
+    Do(Rounds(1, 3, Done(1, 32, 2))),
+    Do(Rounds(5, 6, Done(1, 28, 0))),
+    Do(Teams(1, 2, Done(1, 26, 0))),
+    Do(Homes(1, 4, Done(1, 30, 0))),
+    Do(Homes(1, 1, No(0, Why::BadMove))),
+    Do(Rounds(1, 7, No(0, Why::BadMove))),
+];
 
 #[test]
 fn moves_of_whole_rounds_and_teams(rt: HostRuntime) -> Result<(), Fail> {
-    check_first_shift(&rt, rt.alloc(), rounds(1, 3), done(1, 32, 2))?;
-    check_first_shift(&rt, rt.alloc(), rounds(5, 6), done(1, 28, 0))?;
-    check_first_shift(&rt, rt.alloc(), teams(1, 2), done(1, 26, 0))?;
-    check_first_shift(&rt, rt.alloc(), homes(1, 4), done(1, 30, 0))?;
-    check_first_shift(&rt, rt.alloc(), homes(1, 1), no(0, Why::BadMove))?;
-    check_first_shift(&rt, rt.alloc(), rounds(1, 7), no(0, Why::BadMove))
+    for &first in FIRST_MOVES {
+        check_board(&rt, rt.alloc(), 8, &[first])?;
+    }
+    Ok(())
 }
+
+const FIRST_PARTIAL_MOVES: &[Step] = &[
+    Do(Shift(Move::PartRounds { i: 0, k: 0, l: 3 }, Done(1, 30, 0))),
+    Do(Shift(Move::PartTeams { i: 0, j: 2, k: 0 }, Done(1, 28, 4))),
+    Do(Shift(Move::PartTeams { i: 0, j: 2, k: 2 }, No(0, Why::Meet))),
+];
 
 #[test]
 fn moves_of_parts_of_rounds_and_teams(rt: HostRuntime) -> Result<(), Fail> {
-    let part = Move::PartRounds { i: 0, k: 0, l: 3 };
-    check_first_shift(&rt, rt.alloc(), part, done(1, 30, 0))?;
-    let part = Move::PartTeams { i: 0, j: 2, k: 0 };
-    check_first_shift(&rt, rt.alloc(), part, done(1, 28, 4))?;
-    let part = Move::PartTeams { i: 0, j: 2, k: 2 };
-    check_first_shift(&rt, rt.alloc(), part, no(0, Why::Meet))
+    for &first in FIRST_PARTIAL_MOVES {
+        check_board(&rt, rt.alloc(), 8, &[first])?;
+    }
+    Ok(())
 }
+
+/// Teams 1 and 2 exchanged.
+const TEAMS: Move = Move::Teams { i: 0, j: 1 };
+
+const RIGHT_CLAIM: &[Step] = &[Do(Ask(Asked::Shift(0, TEAMS, Some(26), 0), Done(1, 26, 0)))];
 
 #[test]
 fn a_claim_has_to_be_the_score(rt: HostRuntime) -> Result<(), Fail> {
-    let mut right = board(rt.alloc(), 8)?;
-    let claimed = propose(0, teams(1, 2), Some(26), 0);
-    check_ask(&rt, &mut right, claimed, done(1, 26, 0));
-    Ok(())
+    check_board(&rt, rt.alloc(), 8, RIGHT_CLAIM)
 }
+
+const WRONG_CLAIM: &[Step] = &[
+    Do(Ask(Asked::Shift(0, TEAMS, Some(25), 0), No(0, Why::WrongClaim))),
+    Do(Ask(Asked::Shift(1, TEAMS, Some(26), 0), No(0, Why::Ahead))),
+];
 
 #[test]
 fn a_claim_that_is_not_the_score_is_refused(rt: HostRuntime) -> Result<(), Fail> {
-    let mut wrong = board(rt.alloc(), 8)?;
-    let claimed = propose(0, teams(1, 2), Some(25), 0);
-    check_ask(&rt, &mut wrong, claimed, no(0, Why::WrongClaim));
-    let ahead = propose(1, teams(1, 2), Some(26), 0);
-    check_ask(&rt, &mut wrong, ahead, no(0, Why::Ahead));
-    Ok(())
+    check_board(&rt, rt.alloc(), 8, WRONG_CLAIM)
 }
+
+const OLD_CLAIM: &[Step] = &[
+    Do(Homes(1, 2, Done(1, 26, 0))),
+    Do(Ask(Asked::Shift(0, TEAMS, Some(999), 0), Done(2, 26, 0))),
+    See(Travels([8, 4, 6, 8])),
+];
 
 #[test]
 fn a_claim_at_an_old_version_is_ignored(rt: HostRuntime) -> Result<(), Fail> {
-    let mut board = board(rt.alloc(), 8)?;
-    check_shift(&rt, &mut board, homes(1, 2), done(1, 26, 0));
-    let old = propose(0, teams(1, 2), Some(999), 0);
-    check_ask(&rt, &mut board, old, done(2, 26, 0));
-    check_travels(&rt, &board, [8, 4, 6, 8]);
-    Ok(())
+    check_board(&rt, rt.alloc(), 8, OLD_CLAIM)
 }
 
-fn check_travels_after(
-    rt: &impl Abort,
-    alloc: Global,
-    mv: Move,
-    tours: [u64; 4],
-) -> Result<(), Fail> {
-    let mut board = board(alloc, 8)?;
-    shift(&mut board, mv);
-    check_travels(rt, &board, tours);
-    Ok(())
-}
+/// Moves of boards without an entry, and the tours after each.
+const TOURS: &[(Step, [u64; 4])] = &[
+    (Do(Homes(1, 2, Done(1, 26, 0))), [4, 6, 8, 8]),
+    (Do(Teams(1, 2, Done(1, 26, 0))), [6, 6, 6, 8]),
+    (Do(Rounds(5, 6, Done(1, 28, 0))), [6, 6, 8, 8]),
+];
 
 #[test]
 fn each_team_travels_its_own_tour(rt: HostRuntime) -> Result<(), Fail> {
-    check_travels_after(&rt, rt.alloc(), homes(1, 2), [4, 6, 8, 8])?;
-    check_travels_after(&rt, rt.alloc(), teams(1, 2), [6, 6, 6, 8])?;
-    check_travels_after(&rt, rt.alloc(), rounds(5, 6), [6, 6, 8, 8])
+    for &(first, tours) in TOURS {
+        check_board(&rt, rt.alloc(), 8, &[first, See(Travels(tours))])?;
+    }
+    Ok(())
 }
+
+const SAME_TOTAL_TWICE: &[Step] = &[
+    Do(Homes(1, 2, Done(1, 26, 0))),
+    Do(Undo(Done(2, 30, 0))),
+    Do(Teams(1, 2, Done(3, 26, 0))),
+    See(Best(1, 26)),
+];
 
 #[test]
 fn the_best_stays_at_its_first_version(rt: HostRuntime) -> Result<(), Fail> {
-    let mut board = board(rt.alloc(), 1024)?;
-    check_shift(&rt, &mut board, homes(1, 2), done(1, 26, 0));
-    check_undo(&rt, &mut board, done(2, 30, 0));
-    check_shift(&rt, &mut board, teams(1, 2), done(3, 26, 0));
-    check_best(&rt, &board, best(1, 26));
-    Ok(())
+    check_board(&rt, rt.alloc(), 1024, SAME_TOTAL_TWICE)
 }
 
-fn check_answer(rt: &impl Abort, board: &mut Board, ask: Ask, reply: Reply) {
-    let answer = board.answer(0, ask);
-    assert_eq!(rt; answer, reply, "{ask:?}");
-}
+/// Rounds 1 and 2 exchanged at version 1, whatever it costs.
+const SHIFT: Asked = Asked::Shift(1, Move::Rounds { k: 0, l: 1 }, None, u64::MAX);
+
+const ANSWERED: &[Step] = &[
+    Do(Answer(Asked::Pin(0, 0, 0, 3), Done(1, 30, 0))),
+    Do(Answer(SHIFT, No(1, Why::Pinned))),
+    Do(Answer(Asked::Undo(1), Done(2, 30, 0))),
+    Do(Answer(SHIFT, Done(3, 28, 0))),
+    Do(Answer(Asked::Unpin(3, 0, 0, 3), No(3, Why::NotThere))),
+];
 
 #[test]
 fn what_is_asked_is_answered_by_its_call(rt: HostRuntime) -> Result<(), Fail> {
-    let mut board = board(rt.alloc(), 8)?;
-    let game = game(1, 1, 4);
-    let shift = Ask::Shift(at_any_cost(1, rounds(1, 2)));
-    let pin = Ask::Pin { version: 0, game };
-    check_answer(&rt, &mut board, pin, done(1, 30, 0));
-    check_answer(&rt, &mut board, shift, no(1, Why::Pinned));
-    check_answer(&rt, &mut board, Ask::Undo { version: 1 }, done(2, 30, 0));
-    check_answer(&rt, &mut board, shift, done(3, 28, 0));
-    let unpin = Ask::Unpin { version: 3, game };
-    check_answer(&rt, &mut board, unpin, no(3, Why::NotThere));
-    Ok(())
+    check_board(&rt, rt.alloc(), 8, ANSWERED)
 }

@@ -36,6 +36,10 @@ mod seat_callers;
 #[cfg(test)]
 mod seat_checks;
 #[cfg(test)]
+mod seat_steps;
+#[cfg(test)]
 mod seats;
+#[cfg(test)]
+mod steps;
 #[cfg(test)]
 mod threads;

@@ -1,6 +1,7 @@
 //! Moves within a limit, against the same moves made whatever they cost.
 
 use crate::answers::have_same_games;
+use crate::checks::check_same_of;
 use crate::drawn_numbers::drawn_move;
 use crate::kept_cost::league;
 use fixture_board::{Cost, cost_of, make_at_cost, make_within};
@@ -72,17 +73,25 @@ fn check_limit(
     most: u64,
 ) -> Result<(), Fail> {
     let (tried, answer) = tried(rt, alloc, league, schedule, mv, most)?;
-    if made.score <= most {
-        assert_eq!(rt; answer, Some(made.cost), "{mv:?} within {most}");
-        assert!(rt;
-            have_same_games(&tried, &made.schedule),
-            "{mv:?} within {most}"
-        );
+    let (cost, left) = if made.score <= most {
+        (Some(made.cost), &made.schedule)
     } else {
-        assert_eq!(rt; answer, None, "{mv:?} within {most}");
-        assert!(rt; have_same_games(&tried, schedule), "{mv:?} within {most}");
-    }
+        (None, schedule)
+    };
+    let is_left = have_same_games(&tried, left);
+    check_same_of(rt, &(mv, most), &(answer, is_left), &(cost, true));
     Ok(())
+}
+
+/// The least and the greatest limit, and those around a score.
+fn limits_around(score: u64) -> [u64; 5] {
+    [
+        0,
+        score.saturating_sub(1),
+        score,
+        score.saturating_add(1),
+        u64::MAX,
+    ]
 }
 
 /// Tries a move at limits around the score after it, each time from the same schedule, and then makes it. Tells
@@ -97,28 +106,9 @@ fn keeps_limits(
     let Some(made) = made(rt, alloc, league, schedule, mv)? else {
         return Ok(false);
     };
-    let score = made.score;
-    check_limit(rt, alloc, league, schedule, mv, &made, 0)?;
-    check_limit(
-        rt,
-        alloc,
-        league,
-        schedule,
-        mv,
-        &made,
-        score.saturating_sub(1),
-    )?;
-    check_limit(rt, alloc, league, schedule, mv, &made, score)?;
-    check_limit(
-        rt,
-        alloc,
-        league,
-        schedule,
-        mv,
-        &made,
-        score.saturating_add(1),
-    )?;
-    check_limit(rt, alloc, league, schedule, mv, &made, u64::MAX)?;
+    for most in limits_around(made.score) {
+        check_limit(rt, alloc, league, schedule, mv, &made, most)?;
+    }
     schedule.copy_from(&made.schedule);
     Ok(true)
 }
@@ -144,10 +134,14 @@ fn check_moves(
     Ok(())
 }
 
+/// Numbers of teams, and of moves of so many.
+const SIZES: &[(u8, u64)] = &[(4, 400), (6, 300), (10, 200)];
+
 #[test]
 fn a_move_is_made_where_its_score_is_within_the_limit(rt: HostRuntime) -> Result<(), Fail> {
     let mut state = 5;
-    check_moves(&rt, rt.alloc(), &mut state, 4, 400)?;
-    check_moves(&rt, rt.alloc(), &mut state, 6, 300)?;
-    check_moves(&rt, rt.alloc(), &mut state, 10, 200)
+    for &(teams, moves) in SIZES {
+        check_moves(&rt, rt.alloc(), &mut state, teams, moves)?;
+    }
+    Ok(())
 }

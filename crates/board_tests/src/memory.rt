@@ -2,6 +2,7 @@
 
 ghost use Rattle.std.specs.Prelude.{◌≡◌, [], IfSome};
 
+use crate::checks::check_same;
 use fixture_board::{Board, BoardFault};
 use league::circular;
 use shared_board::Shared;
@@ -11,7 +12,7 @@ use std::test::Fail;
 #[test]
 fn a_board_with_ample_memory(rt: HostRuntime) -> Result<(), Fail> {
     let board = Board::new(rt.alloc(), circular(rt.alloc(), 4)?, 8)?;
-    assert_eq!(rt; board.room(), 8);
+    check_same(&rt, &board.room(), &8);
     Ok(())
 }
 
@@ -21,10 +22,10 @@ fn refused_memory_hands_the_league_back(rt: HostRuntime) {
         return;
     };
     match Board::new(rt.alloc(), league, 8) {
-        Ok(board) => assert_eq!(rt; board.version(), 0),
+        Ok(board) => check_same(&rt, &board.version(), &0),
         Err(refused) => {
-            assert_eq!(rt; refused.why, BoardFault::Memory);
-            assert_eq!(rt; refused.league.teams(), 4);
+            check_same(&rt, &refused.why, &BoardFault::Memory);
+            check_same(&rt, &refused.league.teams(), &4);
         }
     }
 }
@@ -39,7 +40,7 @@ fn board(alloc: Global) -> Option<Board>
 fn a_shared_board_with_ample_memory(rt: HostRuntime) -> Result<(), Fail> {
     let board = board(rt.alloc()).expect(&rt, "a board");
     let (_shared, seat) = Shared::new(rt.alloc(), board)?;
-    assert_eq!(rt; (seat.number(), seat.held(), seat.seen()), (0, 1, 0));
+    check_same(&rt, &(seat.number(), seat.held(), seat.seen()), &(0, 1, 0));
     Ok(())
 }
 
@@ -49,8 +50,8 @@ fn refused_memory_makes_no_shared_board(rt: HostRuntime) {
         return;
     };
     if let Ok((shared, mut seat)) = Shared::new(rt.alloc(), board) {
-        assert_eq!(rt; shared.front(&mut seat), 0);
-        assert_eq!(rt; shared.best(&mut seat), Some(30));
-        assert!(rt; shared.close(&rt, seat).whole);
+        check_same(&rt, &shared.front(&mut seat), &0);
+        check_same(&rt, &shared.best(&mut seat), &Some(30));
+        check_same(&rt, &shared.close(&rt, seat).whole, &true);
     }
 }

@@ -1,67 +1,75 @@
 //! Games that are pinned to their rounds.
 
-use crate::answers::{best, done, no};
-use crate::boards::board;
-use crate::checks::{
-    check_ask, check_best, check_pin, check_pinned, check_shift, check_undo, check_unpin,
-};
-use crate::questions::{game, homes, pin_from_0, rounds, teams, unpin_from_0};
-use fixture_board::{Ask, Why};
+use crate::answers::Answer::{Done, No};
+use crate::questions::Asked;
+use crate::steps::Act::{Ask, Homes, Pin, Rounds, Teams, Undo, Unpin};
+use crate::steps::Sight::{Best, Pinned};
+use crate::steps::Step::{self, Do, See};
+use crate::steps::check_board;
+use fixture_board::Why;
 use std::test::Fail;
+
+const ROUNDS_KEPT: &[Step] = &[
+    Do(Pin((1, 1, 4), Done(1, 30, 0))),
+    See(Pinned(1, 4, true)),
+    See(Pinned(4, 1, false)),
+    Do(Rounds(1, 2, No(1, Why::Pinned))),
+    Do(Teams(1, 2, No(1, Why::Pinned))),
+    Do(Homes(2, 3, Done(2, 30, 0))),
+    Do(Pin((1, 1, 4), No(2, Why::AlreadyPinned))),
+    Do(Unpin((1, 4, 1), No(2, Why::NotThere))),
+    Do(Unpin((4, 4, 1), No(2, Why::NotPinned))),
+    Do(Pin((7, 1, 4), No(2, Why::BadGame))),
+    Do(Unpin((1, 4, 4), No(2, Why::BadGame))),
+    See(Best(0, 30)),
+    Do(Unpin((1, 1, 4), Done(3, 30, 0))),
+    See(Pinned(1, 4, false)),
+];
 
 #[test]
 fn pinned_games_keep_their_rounds(rt: HostRuntime) -> Result<(), Fail> {
-    let mut board = board(rt.alloc(), 1024)?;
-    check_pin(&rt, &mut board, game(1, 1, 4), done(1, 30, 0));
-    check_pinned(&rt, &board, 1, 4, true);
-    check_pinned(&rt, &board, 4, 1, false);
-    check_shift(&rt, &mut board, rounds(1, 2), no(1, Why::Pinned));
-    check_shift(&rt, &mut board, teams(1, 2), no(1, Why::Pinned));
-    check_shift(&rt, &mut board, homes(2, 3), done(2, 30, 0));
-    check_pin(&rt, &mut board, game(1, 1, 4), no(2, Why::AlreadyPinned));
-    check_unpin(&rt, &mut board, game(1, 4, 1), no(2, Why::NotThere));
-    check_unpin(&rt, &mut board, game(4, 4, 1), no(2, Why::NotPinned));
-    check_pin(&rt, &mut board, game(7, 1, 4), no(2, Why::BadGame));
-    check_unpin(&rt, &mut board, game(1, 4, 4), no(2, Why::BadGame));
-    check_best(&rt, &board, best(0, 30));
-    check_unpin(&rt, &mut board, game(1, 1, 4), done(3, 30, 0));
-    check_pinned(&rt, &board, 1, 4, false);
-    Ok(())
+    check_board(&rt, rt.alloc(), 1024, ROUNDS_KEPT)
 }
+
+const OTHER_VERSIONS: &[Step] = &[
+    Do(Ask(Asked::Pin(1, 0, 0, 3), No(0, Why::Ahead))),
+    Do(Ask(Asked::Unpin(1, 0, 0, 3), No(0, Why::Ahead))),
+    Do(Ask(Asked::Pin(0, 0, 0, 3), Done(1, 30, 0))),
+    Do(Ask(Asked::Pin(0, 0, 0, 3), No(1, Why::Old))),
+    Do(Ask(Asked::Unpin(0, 0, 0, 3), No(1, Why::Old))),
+    Do(Ask(Asked::Unpin(2, 0, 0, 3), No(1, Why::Ahead))),
+    See(Pinned(1, 4, true)),
+];
 
 #[test]
 fn a_pin_is_for_the_version_that_there_is(rt: HostRuntime) -> Result<(), Fail> {
-    let mut board = board(rt.alloc(), 8)?;
-    check_ask(&rt, &mut board, pin_from_0(1, 0, 0, 3), no(0, Why::Ahead));
-    check_ask(&rt, &mut board, unpin_from_0(1, 0, 0, 3), no(0, Why::Ahead));
-    check_ask(&rt, &mut board, pin_from_0(0, 0, 0, 3), done(1, 30, 0));
-    check_ask(&rt, &mut board, pin_from_0(0, 0, 0, 3), no(1, Why::Old));
-    check_ask(&rt, &mut board, unpin_from_0(0, 0, 0, 3), no(1, Why::Old));
-    check_ask(&rt, &mut board, unpin_from_0(2, 0, 0, 3), no(1, Why::Ahead));
-    check_pinned(&rt, &board, 1, 4, true);
-    Ok(())
+    check_board(&rt, rt.alloc(), 8, OTHER_VERSIONS)
 }
+
+const PIN_UNDONE: &[Step] = &[
+    Do(Undo(No(0, Why::NothingToUndo))),
+    Do(Pin((1, 1, 4), Done(1, 30, 0))),
+    Do(Undo(Done(2, 30, 0))),
+    Do(Rounds(1, 2, Done(3, 28, 0))),
+    See(Best(3, 28)),
+    Do(Ask(Asked::Undo(2), No(3, Why::Old))),
+    Do(Ask(Asked::Undo(4), No(3, Why::Ahead))),
+];
 
 #[test]
 fn undo_drops_a_pin(rt: HostRuntime) -> Result<(), Fail> {
-    let mut board = board(rt.alloc(), 1024)?;
-    check_undo(&rt, &mut board, no(0, Why::NothingToUndo));
-    check_pin(&rt, &mut board, game(1, 1, 4), done(1, 30, 0));
-    check_undo(&rt, &mut board, done(2, 30, 0));
-    check_shift(&rt, &mut board, rounds(1, 2), done(3, 28, 0));
-    check_best(&rt, &board, best(3, 28));
-    check_ask(&rt, &mut board, Ask::Undo { version: 2 }, no(3, Why::Old));
-    check_ask(&rt, &mut board, Ask::Undo { version: 4 }, no(3, Why::Ahead));
-    Ok(())
+    check_board(&rt, rt.alloc(), 1024, PIN_UNDONE)
 }
+
+const UNPIN_UNDONE: &[Step] = &[
+    Do(Pin((1, 1, 4), Done(1, 30, 0))),
+    Do(Unpin((1, 1, 4), Done(2, 30, 0))),
+    Do(Undo(Done(3, 30, 0))),
+    See(Pinned(1, 4, true)),
+    Do(Rounds(1, 2, No(3, Why::Pinned))),
+];
 
 #[test]
 fn undo_takes_a_pin_back_that_was_dropped(rt: HostRuntime) -> Result<(), Fail> {
-    let mut board = board(rt.alloc(), 1024)?;
-    check_pin(&rt, &mut board, game(1, 1, 4), done(1, 30, 0));
-    check_unpin(&rt, &mut board, game(1, 1, 4), done(2, 30, 0));
-    check_undo(&rt, &mut board, done(3, 30, 0));
-    check_pinned(&rt, &board, 1, 4, true);
-    check_shift(&rt, &mut board, rounds(1, 2), no(3, Why::Pinned));
-    Ok(())
+    check_board(&rt, rt.alloc(), 1024, UNPIN_UNDONE)
 }

@@ -69,6 +69,28 @@ pub(crate) fn propose(version: u64, mv: Move, claim: Option<u64>, slack: u64) ->
     })
 }
 
+/// What is asked at a version. Teams and rounds count from 0.
+#[derive(Clone, Copy)]
+pub(crate) enum Asked {
+    /// The version, the move, the claim and the slack.
+    Shift(u64, Move, Option<u64>, u64),
+    /// The version, and the round, home and away of the game.
+    Pin(u64, u8, u8, u8),
+    Unpin(u64, u8, u8, u8),
+    Undo(u64),
+}
+
+impl Asked {
+    pub(crate) fn ask(self) -> Ask {
+        match self {
+            Asked::Shift(version, mv, claim, slack) => propose(version, mv, claim, slack),
+            Asked::Pin(version, round, home, away) => pin_from_0(version, round, home, away),
+            Asked::Unpin(version, round, home, away) => unpin_from_0(version, round, home, away),
+            Asked::Undo(version) => Ask::Undo { version },
+        }
+    }
+}
+
 /// To make the move at this version, without a claim and without slack.
 pub(crate) fn to_shift(version: u64, mv: Move) -> Ask {
     Ask::Shift(at(version, mv))
@@ -107,13 +129,13 @@ pub(crate) fn undo(board: &mut Board) -> Reply {
     board.undo(0, version)
 }
 
-/// Asks by the call that it stands for, as caller 0.
-pub(crate) fn ask_board(board: &mut Board, ask: Ask) -> Reply {
+/// Asks by the call that it stands for.
+pub(crate) fn ask_board(board: &mut Board, caller: u32, ask: Ask) -> Reply {
     match ask {
-        Ask::Shift(proposal) => board.propose(0, proposal),
-        Ask::Pin { version, game } => board.pin(0, version, game),
-        Ask::Unpin { version, game } => board.unpin(0, version, game),
-        Ask::Undo { version } => board.undo(0, version),
+        Ask::Shift(proposal) => board.propose(caller, proposal),
+        Ask::Pin { version, game } => board.pin(caller, version, game),
+        Ask::Unpin { version, game } => board.unpin(caller, version, game),
+        Ask::Undo { version } => board.undo(caller, version),
     }
 }
 

@@ -1,10 +1,10 @@
 //! Costs of a league's limits and rules.
 
-use crate::answers::{best, done, travel};
-use crate::boards::board_with;
-use crate::checks::{check_best, check_cost, check_shift, check_undo};
-use crate::questions::{homes, rounds};
-use fixture_board::{Cost, Reply};
+use crate::answers::Answer::{self, Done};
+use crate::steps::Act::{Homes, Rounds, Undo};
+use crate::steps::Sight::{Best, Cost, NoBest, NoBestSchedule};
+use crate::steps::Step::{self, Do, See};
+use crate::steps::check_board_with;
 use std::test::Fail;
 
 const SOFT_RULES: &str = r#""rules":[
@@ -14,35 +14,33 @@ const SOFT_RULES: &str = r#""rules":[
     {"class":"CA2","kind":"soft","weight":10,"teams1":[1],"mode":"A","teams2":[3,4],"slots":[3,4],"max":0},
     {"class":"GA1","kind":"soft","weight":10,"games":[[1,2]],"slots":[2],"min":1,"max":1}]"#;
 
+const RUNS: &[Step] = &[
+    See(Cost(30, 2, 0)),
+    See(NoBest),
+    See(NoBestSchedule),
+    Do(Rounds(5, 6, Done(1, 28, 0))),
+    Do(Undo(Done(2, 30, 2))),
+    See(Best(1, 28)),
+];
+
 #[test]
 fn runs_make_the_start_no_best(rt: HostRuntime) -> Result<(), Fail> {
-    let mut board = board_with(rt.alloc(), 1, "\"at_most\":2")?;
-    let cost = Cost {
-        hard: 2,
-        ..travel(30)
-    };
-    check_cost(&rt, &board, cost);
-    check_best(&rt, &board, None);
-    assert!(rt; board.best_schedule().is_none());
-    check_shift(&rt, &mut board, rounds(5, 6), done(1, 28, 0));
-    check_undo(&rt, &mut board, done(2, 30, 2));
-    check_best(&rt, &board, best(1, 28));
-    Ok(())
+    check_board_with(&rt, rt.alloc(), (1, "\"at_most\":2"), RUNS)
 }
+
+const WORSE: fixture_board::Cost = fixture_board::Cost {
+    travel: 26,
+    hard: 0,
+    soft: 110,
+};
+
+const SOFT: &[Step] = &[
+    See(Cost(30, 0, 60)),
+    Do(Homes(1, 2, Answer::Cost(1, WORSE))),
+    See(Best(0, 90)),
+];
 
 #[test]
 fn soft_rules_count_in_the_total(rt: HostRuntime) -> Result<(), Fail> {
-    let mut board = board_with(rt.alloc(), 1, SOFT_RULES)?;
-    let cost = Cost {
-        soft: 60,
-        ..travel(30)
-    };
-    check_cost(&rt, &board, cost);
-    let cost = Cost {
-        soft: 110,
-        ..travel(26)
-    };
-    check_shift(&rt, &mut board, homes(1, 2), Reply::Done { at: 1, cost });
-    check_best(&rt, &board, best(0, 90));
-    Ok(())
+    check_board_with(&rt, rt.alloc(), (1, SOFT_RULES), SOFT)
 }

@@ -1,19 +1,18 @@
 //! What two callers may ask that is out of range, of another version or past the room, and what becomes of a board whose
 //! seats were dropped. The answers were worked out by hand.
 
-ghost use Rattle.std.specs.Prelude.{◌≡◌};
-
-use crate::answers::{done, have_same_games, no, travel};
-use crate::boards::{four, four_with_room};
-use crate::checks::{check_cost, check_version};
-use crate::questions::{ask_seat, pin_from_0 as pin, propose, to_shift};
-use crate::seat_checks::{absorb, check_front, check_look, check_total, close, split};
-use fixture_board::{Ask, Reply, Why};
-use fixtures::berger_fide;
+use crate::answers::Answer::{Done, No};
+use crate::answers::{have_same_games, travel};
+use crate::boards::four;
+use crate::checks::{check_cost, check_same, check_version};
+use crate::questions::{Asked, propose};
+use crate::seat_checks::{check_ask, check_front, check_look, close, split};
+use crate::seat_steps::SeatStep::{self, Accepted, Ask, Look, Total};
+use crate::seat_steps::Who::{self, First, Second};
+use crate::seat_steps::check_pair;
+use fixture_board::{Change, Why};
+use fixtures::{Game, berger_fide};
 use moves::Move;
-use shared_board::{Seat, Shared};
-use std::process::Abort;
-use std::sync::Wait;
 use std::test::Fail;
 
 /// A move of no two teams.
@@ -21,82 +20,78 @@ const SAME: Move = Move::Homes { i: 0, j: 0 };
 
 const ROUNDS: Move = Move::Rounds { k: 1, l: 3 };
 
-/// To exchange two rounds at version 1.
-fn claimed(claim: u64, slack: u64) -> Ask {
-    propose(1, ROUNDS, Some(claim), slack)
-}
+const FIRST_REASONS: &[(Who, SeatStep)] = &[
+    (First, Ask(Asked::Pin(0, 0, 0, 3), Done(1, 30, 0))),
+    (
+        Second,
+        Ask(
+            Asked::Shift(1, Move::Rounds { k: 0, l: 1 }, Some(0), 0),
+            No(1, Why::Pinned),
+        ),
+    ),
+    (
+        First,
+        Ask(Asked::Shift(1, ROUNDS, Some(0), 0), No(1, Why::WrongClaim)),
+    ),
+    (
+        Second,
+        Ask(Asked::Shift(1, ROUNDS, Some(430), 399), No(1, Why::Worse)),
+    ),
+    (
+        First,
+        Ask(Asked::Shift(1, ROUNDS, Some(430), 400), Done(2, 30, 4)),
+    ),
+    (Second, Ask(Asked::Undo(1), No(2, Why::Old))),
+    (
+        First,
+        Ask(Asked::Shift(u64::MAX, SAME, None, 0), No(2, Why::Ahead)),
+    ),
+    (Second, Ask(Asked::Pin(2, 6, 0, 3), No(2, Why::BadGame))),
+    (First, Ask(Asked::Pin(2, 0, 0, 0), No(2, Why::BadGame))),
+    (
+        Second,
+        Ask(Asked::Shift(2, ROUNDS, None, u64::MAX), Done(3, 30, 0)),
+    ),
+    (First, Look(3, 30)),
+    (First, Accepted(2)),
+    (Second, Accepted(1)),
+];
 
-/// Asks through a seat. A refusal is no entry of the seat.
-fn check_ask<R: Wait + Abort>(rt: &R, shared: &Shared, seat: &mut Seat, ask: Ask, reply: Reply)
-    requires { seat.old.table ≡ shared.now }
-    ensures { seat.new.table ≡ shared.now }
-{
-    let before = seat.accepted();
-    let answer = ask_seat(rt, shared, seat, ask);
-    assert_eq!(rt; answer, reply, "{ask:?}");
-    let (Reply::Done { at, .. } | Reply::No { at, .. }) = reply;
-    assert_eq!(rt; seat.seen(), at, "{ask:?}");
-    assert_eq!(rt; shared.front(seat), at, "{ask:?}");
-    if matches!(reply, Reply::No { .. }) {
-        assert_eq!(rt; seat.accepted(), before, "{ask:?}");
-    }
-}
+const PINNED: Game = Game {
+    round: 0,
+    home: 0,
+    away: 3,
+};
+
+const ENTRIES: &[(u32, Change)] = &[
+    (0, Change::Pin(PINNED)),
+    (0, Change::Shift(ROUNDS)),
+    (1, Change::Shift(ROUNDS)),
+];
 
 #[test]
 fn two_seats_are_answered_the_first_reason(rt: HostRuntime) -> Result<(), Fail> {
-    let (shared, mut a, mut copy) = four(rt.alloc())?;
-    let mut b = split(&rt, &shared, &mut a)?;
-    check_ask(&rt, &shared, &mut a, pin(0, 0, 0, 3), done(1, 30, 0));
-    let pinned = propose(1, Move::Rounds { k: 0, l: 1 }, Some(0), 0);
-    check_ask(&rt, &shared, &mut b, pinned, no(1, Why::Pinned));
-    check_ask(&rt, &shared, &mut a, claimed(0, 0), no(1, Why::WrongClaim));
-    check_ask(&rt, &shared, &mut b, claimed(430, 399), no(1, Why::Worse));
-    check_ask(&rt, &shared, &mut a, claimed(430, 400), done(2, 30, 4));
-    check_ask(
-        &rt,
-        &shared,
-        &mut b,
-        Ask::Undo { version: 1 },
-        no(2, Why::Old),
-    );
-    let same = to_shift(u64::MAX, SAME);
-    check_ask(&rt, &shared, &mut a, same, no(2, Why::Ahead));
-    check_ask(&rt, &shared, &mut b, pin(2, 6, 0, 3), no(2, Why::BadGame));
-    check_ask(&rt, &shared, &mut a, pin(2, 0, 0, 0), no(2, Why::BadGame));
-    let loose = propose(2, ROUNDS, None, u64::MAX);
-    check_ask(&rt, &shared, &mut b, loose, done(3, 30, 0));
-    check_look(&rt, &shared, &mut a, &mut copy, 3, 30);
-    assert_eq!(rt; (a.accepted(), b.accepted()), (2, 1));
-    Ok(())
+    check_pair(&rt, rt.alloc(), 8, FIRST_REASONS, ENTRIES)
 }
+
+const WITHOUT_ROOM: &[(Who, SeatStep)] = &[
+    (
+        First,
+        Ask(Asked::Shift(1, SAME, None, 0), No(0, Why::Ahead)),
+    ),
+    (
+        Second,
+        Ask(Asked::Shift(0, SAME, None, 0), No(0, Why::Full)),
+    ),
+    (First, Ask(Asked::Pin(0, 0, 0, 0), No(0, Why::Full))),
+    (Second, Ask(Asked::Undo(u64::MAX), No(0, Why::Ahead))),
+    (First, Ask(Asked::Undo(0), No(0, Why::Full))),
+    (First, Total(Some(30))),
+];
 
 #[test]
 fn a_shared_board_without_room_is_full(rt: HostRuntime) -> Result<(), Fail> {
-    let (shared, mut a, _copy) = four_with_room(rt.alloc(), 0)?;
-    let mut b = split(&rt, &shared, &mut a)?;
-    check_ask(&rt, &shared, &mut a, to_shift(1, SAME), no(0, Why::Ahead));
-    check_ask(&rt, &shared, &mut b, to_shift(0, SAME), no(0, Why::Full));
-    check_ask(&rt, &shared, &mut a, pin(0, 0, 0, 0), no(0, Why::Full));
-    let most = u64::MAX;
-    check_ask(
-        &rt,
-        &shared,
-        &mut b,
-        Ask::Undo { version: most },
-        no(0, Why::Ahead),
-    );
-    check_ask(
-        &rt,
-        &shared,
-        &mut a,
-        Ask::Undo { version: 0 },
-        no(0, Why::Full),
-    );
-    check_total(&rt, &shared, &mut a, Some(30));
-    absorb(&shared, &mut a, b);
-    let board = close(&rt, shared, a, true);
-    check_version(&rt, &board, 0);
-    Ok(())
+    check_pair(&rt, rt.alloc(), 0, WITHOUT_ROOM, &[])
 }
 
 #[test]
@@ -104,9 +99,9 @@ fn a_dropped_seat_makes_the_board_not_whole(rt: HostRuntime) -> Result<(), Fail>
     let (shared, mut a, start) = four(rt.alloc())?;
     drop(split(&rt, &shared, &mut a)?);
     let mut copy = berger_fide(rt.alloc(), 4)?;
-    assert!(rt; !have_same_games(&copy, &start));
+    check_same(&rt, &have_same_games(&copy, &start), &false);
     check_look(&rt, &shared, &mut a, &mut copy, 0, 30);
-    assert!(rt; have_same_games(&copy, &start));
+    check_same(&rt, &have_same_games(&copy, &start), &true);
     let board = close(&rt, shared, a, false);
     check_version(&rt, &board, 0);
     Ok(())
@@ -117,7 +112,7 @@ fn a_dropped_seats_change_stands(rt: HostRuntime) -> Result<(), Fail> {
     let (shared, mut a, _copy) = four(rt.alloc())?;
     let mut b = split(&rt, &shared, &mut a)?;
     let homes = propose(0, Move::Homes { i: 0, j: 1 }, Some(26), 0);
-    check_ask(&rt, &shared, &mut b, homes, done(1, 26, 0));
+    check_ask(&rt, &shared, &mut b, homes, Done(1, 26, 0).reply());
     drop(b);
     check_front(&rt, &shared, &mut a, 1);
     let board = close(&rt, shared, a, false);

@@ -4,8 +4,9 @@
 ghost use Rattle.std.specs.Prelude.{◌≡◌, IfOk};
 
 use crate::answers::seen;
+use crate::checks::{check_same, check_same_of};
 use crate::questions::ask_seat;
-use fixture_board::{Ask, Board, Change, Entry, Reply};
+use fixture_board::{Ask, Board, Reply};
 use fixtures::Schedule;
 use shared_board::{Seat, Shared, SplitFault};
 use std::process::Abort;
@@ -21,8 +22,38 @@ pub(crate) fn check_reply<R: Wait + Abort>(
     requires { seat.old.table ≡ shared.now }
     ensures { seat.new.table ≡ shared.now }
 {
-    let answer = ask_seat(rt, shared, seat, ask);
-    assert_eq!(rt; answer, reply, "{ask:?}");
+    check_same_of(rt, &ask, &ask_seat(rt, shared, seat, ask), &reply);
+}
+
+/// Asks through a seat. It has then seen the version that is answered, which is the front, and a refusal is no entry of it.
+pub(crate) fn check_ask<R: Wait + Abort>(
+    rt: &R,
+    shared: &Shared,
+    seat: &mut Seat,
+    ask: Ask,
+    reply: Reply,
+)
+    requires { seat.old.table ≡ shared.now }
+    ensures { seat.new.table ≡ shared.now }
+{
+    let before = seat.accepted();
+    check_reply(rt, shared, seat, ask, reply);
+    match reply {
+        Reply::Done { at, .. } => check_seen(rt, shared, seat, at, ask),
+        Reply::No { at, .. } => {
+            check_seen(rt, shared, seat, at, ask);
+            check_same_of(rt, &ask, &seat.accepted(), &before);
+        }
+    }
+}
+
+/// After it asked, the seat has seen this version, which is the front.
+fn check_seen(rt: &impl Abort, shared: &Shared, seat: &mut Seat, version: u64, ask: Ask)
+    requires { seat.old.table ≡ shared.now }
+    ensures { seat.new.table ≡ shared.now }
+{
+    check_same_of(rt, &ask, &seat.seen(), &version);
+    check_same_of(rt, &ask, &shared.front(seat), &version);
 }
 
 /// The change is made, whatever it costs.
@@ -40,7 +71,7 @@ pub(crate) fn check_done<R: Wait + Abort>(
     let Reply::Done { at, .. } = answer else {
         panic!(rt; "{ask:?} is granted");
     };
-    assert_eq!(rt; at, version, "{ask:?}");
+    check_same_of(rt, &ask, &at, &version);
 }
 
 pub(crate) fn check_look<R: Wait + Abort>(
@@ -55,7 +86,7 @@ pub(crate) fn check_look<R: Wait + Abort>(
     ensures { seat.new.table ≡ shared.now }
 {
     let shown = shared.look(rt, seat, copy);
-    assert_eq!(rt; shown, seen(version, travel));
+    check_same(rt, &shown, &seen(version, travel));
 }
 
 pub(crate) fn check_front(rt: &impl Abort, shared: &Shared, seat: &mut Seat, front: u64)
@@ -63,7 +94,7 @@ pub(crate) fn check_front(rt: &impl Abort, shared: &Shared, seat: &mut Seat, fro
     ensures { seat.new.table ≡ shared.now }
 {
     let found = shared.front(seat);
-    assert_eq!(rt; found, front);
+    check_same(rt, &found, &front);
 }
 
 pub(crate) fn check_total(rt: &impl Abort, shared: &Shared, seat: &mut Seat, best: Option<u64>)
@@ -71,19 +102,22 @@ pub(crate) fn check_total(rt: &impl Abort, shared: &Shared, seat: &mut Seat, bes
     ensures { seat.new.table ≡ shared.now }
 {
     let found = shared.best(seat);
-    assert_eq!(rt; found, best);
+    check_same(rt, &found, &best);
 }
 
 /// How many numbers the seat holds, how many entries it has seen, and how many of them are its own.
 pub(crate) fn check_seat(rt: &impl Abort, seat: &Seat, held: u32, seen: u64, accepted: u64) {
-    assert_eq!(rt;
-        (seat.held(), seat.seen(), seat.accepted()),
-        (held, seen, accepted)
-    );
+    check_same(rt, &seat.held(), &held);
+    check_same(rt, &seat.seen(), &seen);
+    check_same(rt, &seat.accepted(), &accepted);
+}
+
+pub(crate) fn check_held(rt: &impl Abort, seat: &Seat, held: u32) {
+    check_same(rt, &seat.held(), &held);
 }
 
 pub(crate) fn check_number(rt: &impl Abort, seat: &Seat, number: u32) {
-    assert_eq!(rt; seat.number(), number);
+    check_same(rt, &seat.number(), &number);
 }
 
 /// One more seat.
@@ -108,11 +142,6 @@ pub(crate) fn close<R: Wait + Abort>(rt: &R, shared: Shared, seat: Seat, is_whol
     requires { seat.table ≡ shared }
 {
     let closed = shared.close(rt, seat);
-    assert_eq!(rt; closed.whole, is_whole);
+    check_same(rt, &closed.whole, &is_whole);
     closed.board
-}
-
-pub(crate) fn check_entry(rt: &impl Abort, board: &Board, i: u64, caller: u32, change: Change) {
-    assert!(rt; i < board.version());
-    assert_eq!(rt; board.entry(i), Entry { caller, change });
 }

@@ -5,10 +5,10 @@ ghost use Rattle.std.specs.Thread.{IsSync};
 
 use crate::answers::have_same_games;
 use crate::boards::board;
-use crate::checks::check_version;
+use crate::checks::{check_same, check_version};
 use crate::drawn_numbers::{next_word, part};
 use crate::questions::{ask_seat, at_any_cost, game_from_0};
-use crate::seat_checks::close;
+use crate::seat_checks::{check_held, close};
 use fixture_board::{Ask, Board, Change, Reply};
 use moves::Move;
 use shared_board::{Seat, Shared};
@@ -128,7 +128,7 @@ fn check_run<R: Threads + Wait + Sync + Abort>(
     let (shared, seat) = Shared::new(alloc, board(alloc, ROOM)?)?;
     let seat = crew(rt, &shared, seat, threads, seed);
     let seat = seat.expect(rt, "each count is right");
-    assert_eq!(rt; seat.held(), threads);
+    check_held(rt, &seat, threads);
     let accepted = seat.accepted();
     let board = close(rt, shared, seat, true);
     check_version(rt, &board, accepted);
@@ -137,9 +137,10 @@ fn check_run<R: Threads + Wait + Sync + Abort>(
 
 fn check_replay(rt: &impl Abort, alloc: Global, changed: &Board) -> Result<(), Fail> {
     let board = replayed(rt, alloc, changed)?;
-    assert!(rt; have_same_games(board.schedule(), changed.schedule()));
-    assert_eq!(rt; board.cost(), changed.cost());
-    assert_eq!(rt; board.best(), changed.best());
+    let has_same_games = have_same_games(board.schedule(), changed.schedule());
+    check_same(rt, &has_same_games, &true);
+    check_same(rt, &board.cost(), &changed.cost());
+    check_same(rt, &board.best(), &changed.best());
     Ok(())
 }
 
