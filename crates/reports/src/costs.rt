@@ -293,7 +293,8 @@ fn write_rule<W: Sink>(
     }
 }
 
-fn class_name(body: &RuleBody) -> &'static [u8]
+/// The name of a rule's class, as in a league.
+pub fn class_name(body: &RuleBody) -> &'static [u8]
     ensures { result.now ≡ class_name body.now }
 {
     match body {

@@ -1,6 +1,6 @@
 //! What a text gives for a league.
 
-ghost use Rattle.std.specs.Prelude.{◌≡◌, IfOk, IfSome};
+ghost use Rattle.std.specs.Prelude.{◌≡◌, IfOk, IfSome, option_map};
 ghost use Rattle.std.specs.Str.Lines.{lines};
 ghost use Rattle.league.specs.League.{teams};
 ghost use Rattle.reports.specs.Given.{given_games, IsVerdict};
@@ -55,6 +55,16 @@ fn given_schedule(
 }
 
 impl Judged {
+    /// The schedule, if no line is bad and the games are a double round robin.
+    pub fn schedule(&self) -> Option<&Schedule>
+        ensures { option_map (λ s. s.now) result ≡ self.now.schedule }
+    {
+        match &self.schedule {
+            Some(schedule) => Some(schedule),
+            None => None,
+        }
+    }
+
     /// Whether the text gives a double round robin that breaks no hard limit of the league that it was judged for.
     pub fn is_feasible(&self, league: &League) -> bool
         requires { IfSome self.now.schedule (λ s. s.teams ≡ teams league.now) }

@@ -12,7 +12,9 @@ mod report;
 mod runs;
 mod schedule_text;
 
+pub use costs::class_name;
 pub use judged::{Judged, judge};
 pub use laws::figures_add_up;
 pub use report::write_report;
+pub use runs::windows_spent;
 pub use schedule_text::{ScheduleLine, WrittenGame};

@@ -71,7 +71,7 @@ fn lengthened(goes_on: bool, streak: u8) -> u8
 }
 
 /// The rounds with which a window of this length begins that the team spends at home or away.
-fn windows_spent(schedule: &Schedule, length: u8, team: u8) -> SlotSet
+pub fn windows_spent(schedule: &Schedule, length: u8, team: u8) -> SlotSet
     requires least { 2 ≤ length }
     requires most { length ≤ max_rounds + 1 }
     requires team { team < schedule.now.teams }

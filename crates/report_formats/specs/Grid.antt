@@ -1,0 +1,48 @@
+-- The grid of teams and rounds on a page. Teams and rounds are numbered from 0 in calls, and from 1 in texts.
+use Rattle.std.specs.Prelude.{ℕ, ◌+◌, ◌-◌, ◌==◌, List, [], ◌∷◌, ◌++◌, Bool, not, ◌&&◌, nat_le, nat_lt, codes, decimal, if◌then◌else◌}
+use Rattle.std.specs.List.{concat}
+use Rattle.fixtures.specs.Games.{Games, cell, round_count}
+use Rattle.league.specs.League.{LeagueData, name_of}
+use Rattle.reports.specs.Runs.{is_over}
+use Rattle.streams.specs.Pieces.{pieces_below}
+use Rattle.report_formats.specs.Parts.{escaped}
+
+abbrev pub word_if : Bool → List ℕ → List ℕ
+word_if wanted word = if wanted then word else []
+
+-- whether a window of one round more than allowed, spent at home or away, ends with the round
+abbrev pub goes_over : Games → ℕ → ℕ → ℕ → Bool
+goes_over g at_most team round = nat_le at_most round && is_over g at_most team (round - at_most)
+
+-- whether the team meets in the round whom it met in the round before
+abbrev pub meets_again : Games → ℕ → ℕ → Bool
+meets_again g team round = nat_lt 0 round && (cell g team round).opponent == (cell g team (round - 1)).opponent
+
+-- the opponent, and whether the game is at home, goes over the most in a row, and repeats
+abbrev pub cell_of : ℕ → Bool → Bool → Bool → List ℕ
+cell_of opponent home over again =
+    concat (codes "<td class='" ∷ word_if home (codes "h") ∷ word_if over (codes " o") ∷ word_if again (codes " r") ∷ codes "'>" ∷ word_if (not home) (codes "@") ∷ decimal (opponent + 1) ∷ codes "</td>" ∷ [])
+
+abbrev pub cell_text : Games → ℕ → ℕ → ℕ → List ℕ
+cell_text g at_most team round =
+    cell_of (cell g team round).opponent (cell g team round).home (goes_over g at_most team round) (meets_again g team round)
+
+abbrev pub grid_row : LeagueData → Games → ℕ → List ℕ
+grid_row l g team =
+    concat (codes "</tr><tr><th>" ∷ decimal (team + 1) ∷ codes " " ∷ escaped (name_of l team) ∷ codes "</th>" ∷ [])
+    ++ pieces_below (cell_text g l.at_most team) (round_count g.teams)
+
+abbrev pub round_head : ℕ → List ℕ
+round_head round = concat (codes "<th>" ∷ decimal (round + 1) ∷ codes "</th>" ∷ [])
+
+-- a head with the rounds, and a row for each team
+abbrev pub grid_lines : LeagueData → Games → List ℕ
+grid_lines l g = pieces_below round_head (round_count g.teams) ++ pieces_below (grid_row l g) g.teams
+
+-- what the marks mean
+abbrev pub legend_text : ℕ → List ℕ
+legend_text at_most =
+    concat (codes "<h2>Games</h2><p><span class='h'>Shaded</span>: at home. @: away. <span class='o'>Ringed</span>: more than " ∷ decimal at_most ∷ codes " in a row at home or away. <span class='r'>Dashed</span>: the opponent of the round before.</p><div class='wide'><table class='grid'><tr><th>Team</th>" ∷ [])
+
+unfoldable pub grid_text : LeagueData → Games → List ℕ
+grid_text l g = legend_text l.at_most ++ grid_lines l g ++ codes "</tr></table></div>"

@@ -1,0 +1,90 @@
+-- The page of a schedule. Teams, rounds and rules are numbered from 0 in calls, and from 1 in texts.
+use Rattle.std.specs.Prelude.{ℕ, ◌+◌, ◌-◌, ◌*◌, ◌==◌, List, [], ◌∷◌, ◌++◌, Bool, true, false, nat_lt, length, slice_get, Option, Some, None, codes, decimal, if◌then◌else◌}
+use Rattle.std.specs.Bool.{beq}
+use Rattle.std.specs.List.{concat}
+use Rattle.fixtures.specs.Games.{Games, round_count}
+use Rattle.fixture_board.specs.declared.cost.Cost.{Cost}
+use Rattle.fixture_board.specs.Costs.{cost_of, total_of}
+use Rattle.league.specs.League.{LeagueData, name_of, teams}
+use Rattle.league.specs.declared.rule.Rule.{Rule}
+use Rattle.league.specs.declared.rule.Weight.{Weight}
+use Rattle.league.specs.declared.rule.Weight.TheVariants.{Hard, Soft}
+use Rattle.reports.specs.CostText.{class_name}
+use Rattle.robinx.specs.Deviations.{deviation}
+use Rattle.streams.specs.Pieces.{pieces_below}
+use Rattle.tours.specs.Tours.{travel_of}
+use Rattle.report_formats.specs.Grid.{grid_text}
+use Rattle.report_formats.specs.Parts.{escaped}
+use Rattle.report_formats.specs.Style.{style_text}
+
+-- the numbers that the style takes from the page
+abbrev pub measures_text : Games → ℕ → List ℕ
+measures_text g travel =
+    concat (decimal g.teams ∷ codes ";--rounds:" ∷ decimal (round_count g.teams) ∷ codes ";--travel:" ∷ decimal travel ∷ codes "'>" ∷ [])
+
+abbrev pub total_text : Cost → List ℕ
+total_text cost =
+    if cost.hard == 0 then concat (codes "<li>total <b>" ∷ decimal (total_of cost) ∷ codes "</b></li></ul>" ∷ [])
+    else codes "<li class='bad'><b>infeasible</b></li></ul>"
+
+abbrev pub figures_text : LeagueData → Cost → List ℕ
+figures_text l cost =
+    concat (codes "<h1>" ∷ decimal (teams l) ∷ codes " teams, " ∷ decimal (2 * (teams l - 1)) ∷ codes " rounds</h1><ul><li>travel <b>" ∷ decimal cost.travel ∷ codes "</b></li><li>hard <b>" ∷ decimal cost.hard ∷ codes "</b></li><li>soft <b>" ∷ decimal cost.soft ∷ codes "</b></li>" ∷ [])
+    ++ total_text cost
+
+-- the travel of a team, with a bar
+abbrev pub tour_row : LeagueData → Games → ℕ → List ℕ
+tour_row l g team =
+    concat (codes "<tr><th>" ∷ decimal (team + 1) ∷ codes " " ∷ escaped (name_of l team) ∷ codes "</th><td>" ∷ decimal (travel_of l g team) ∷ codes "</td><td class='bar'><div style='--tour:" ∷ decimal (travel_of l g team) ∷ codes "'></div></td></tr>" ∷ [])
+
+abbrev pub travel_text : LeagueData → Games → List ℕ
+travel_text l g =
+    codes "<h2>Travel</h2><p>A bar that ends at the line is as long as the average.</p><table class='travel'>"
+    ++ pieces_below (tour_row l g) g.teams ++ codes "</table>"
+
+abbrev pub weight_text : Weight → List ℕ
+weight_text Hard = codes "hard"
+weight_text (Soft weight) = codes "soft " ++ decimal weight
+
+abbrev pub row_head : Bool → List ℕ
+row_head broken = if broken then codes "<tr class='bad'><td>" else codes "<tr><td>"
+
+-- the rule, if it is broken or not as is asked
+abbrev pub rule_row : Games → Bool → ℕ → Rule → List ℕ
+rule_row g broken i rule = if beq (nat_lt 0 (deviation g rule.body)) broken then
+    concat (row_head broken ∷ decimal (i + 1) ∷ codes "</td><td>" ∷ class_name rule.body ∷ codes "</td><td>" ∷ weight_text rule.weight ∷ codes "</td><td>" ∷ decimal (deviation g rule.body) ∷ codes "</td></tr>" ∷ []) else []
+
+-- where there is one
+abbrev pub rule_row_at : Games → Bool → ℕ → Option Rule → List ℕ
+rule_row_at g broken i None = []
+rule_row_at g broken i (Some rule) = rule_row g broken i rule
+
+abbrev pub rule_rows : LeagueData → Games → Bool → List ℕ
+rule_rows l g broken = pieces_below (λ i. rule_row_at g broken i (slice_get l.rules i)) (length l.rules)
+
+-- the broken ones before the others
+unfoldable pub sorted_rules : LeagueData → Games → List ℕ
+sorted_rules l g = rule_rows l g true ++ rule_rows l g false
+
+abbrev pub rules_head : List ℕ
+rules_head = codes "<h2>Rules</h2><p>Broken ones first.</p><table class='rules'><tr><th>Rule</th><th>Class</th><th>Kind</th><th>Deviation</th></tr>"
+
+abbrev pub rule_table : LeagueData → Games → List ℕ
+rule_table l g = rules_head ++ sorted_rules l g ++ codes "</table>"
+
+-- if there are any
+abbrev pub rules_text : LeagueData → Games → List ℕ
+rules_text l g = if length l.rules == 0 then [] else rule_table l g
+
+abbrev pub costs_text : LeagueData → Games → Cost → List ℕ
+costs_text l g cost = style_text ++ measures_text g cost.travel ++ figures_text l cost
+
+unfoldable pub top_text : LeagueData → Games → List ℕ
+top_text l g = costs_text l g (cost_of l g)
+
+unfoldable pub sections_text : LeagueData → Games → List ℕ
+sections_text l g = grid_text l g ++ travel_text l g ++ rules_text l g
+
+-- the figures, the grid, the travel of each team, and the rules
+unfoldable pub page_text : LeagueData → Games → List ℕ
+page_text l g = top_text l g ++ sections_text l g ++ codes "</body></html>\n"

@@ -1,0 +1,37 @@
+-- The page up to the number of teams, with how it looks.
+use Rattle.std.specs.Prelude.{ℕ, List, [], ◌∷◌, codes}
+use Rattle.std.specs.List.{concat}
+
+abbrev pub style_text : List ℕ
+style_text = concat (
+    codes "<!DOCTYPE html>\n" ∷
+    codes "<html lang='en'><head><meta charset='utf-8'><title>Schedule</title>\n" ∷
+    codes "<meta name='viewport' content='width=device-width, initial-scale=1'><style>\n" ∷
+    codes ":root { color-scheme: light dark; --back: #fff; --text: #1c1d21; --pale: #5d6168; --line: #d3d6db }\n" ∷
+    codes ":root { --home: #dbe9fa; --bad: #b3261e; --bar: #3f7fbf }\n" ∷
+    codes "@media (prefers-color-scheme: dark) { :root { --back: #17191d; --text: #e5e6e9; --pale: #a3a7ae }\n" ∷
+    codes ":root { --line: #3c4048; --home: #20405f; --bad: #ff8a80; --bar: #6aa9e9 } }\n" ∷
+    codes "body { margin: 0 auto; padding: 1rem; max-width: 100rem; font: 1rem/1.4 sans-serif }\n" ∷
+    codes "body { background: var(--back); color: var(--text) } p { margin: 0 0 .5rem; color: var(--pale) }\n" ∷
+    codes "h1 { font-size: 1.4rem } h2 { font-size: 1.15rem; margin: 1.5rem 0 .3rem }\n" ∷
+    codes "ul { display: flex; flex-wrap: wrap; gap: .5rem; margin: 0; padding: 0; list-style: none }\n" ∷
+    codes "li { border: 1px solid var(--line); border-radius: .4rem; padding: .3rem .7rem }\n" ∷
+    codes "table { border-collapse: collapse; font-variant-numeric: tabular-nums }\n" ∷
+    codes "th, td { border: 1px solid var(--line); padding: .15rem .45rem; text-align: right }\n" ∷
+    codes "th:first-child { text-align: left } .wide { overflow-x: auto } p span { padding: .1rem .4rem }\n" ∷
+    codes ".wide th:first-child { position: sticky; left: 0; z-index: 1; background: var(--back) }\n" ∷
+    codes ".wide th:first-child { max-width: min(12rem, 30vw); overflow: hidden; white-space: nowrap }\n" ∷
+    codes ".wide th:first-child { text-overflow: ellipsis }\n" ∷
+    codes ".travel th { min-width: min(12rem, 30vw); overflow-wrap: anywhere }\n" ∷
+    codes ".h { background: var(--home) } .o { box-shadow: inset 0 0 0 .12em var(--bad) }\n" ∷
+    codes ".r { outline: .12em dashed var(--bad); outline-offset: -.25em }\n" ∷
+    codes ".bad { color: var(--bad); font-weight: bold } .travel { width: 100% } .bar { width: 100%; padding: 0 }\n" ∷
+    codes ".bar { background: linear-gradient(var(--line), var(--line)) 50% / 1px 100% no-repeat }\n" ∷
+    codes ".bar div { width: calc(100% * var(--tour) * var(--teams) / (2 * var(--travel))) }\n" ∷
+    codes ".bar div { height: .8em; max-width: 100%; background: var(--bar) }\n" ∷
+    codes "@media print { @page { size: landscape; margin: 10mm } * { print-color-adjust: exact }\n" ∷
+    codes ".wide { overflow: visible } body { padding: 0; font-size: 10pt } tr { break-inside: avoid }\n" ∷
+    codes ".grid { font-size: min(10pt, 270mm / (var(--rounds) * 2.4 + 12)) }\n" ∷
+    codes ".grid th, .grid td { padding: .05em .1em; min-width: 2em } }\n" ∷
+    codes "</style></head><body style='--teams:" ∷
+    [])

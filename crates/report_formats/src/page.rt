@@ -1,0 +1,305 @@
+//! The page of a schedule: the league's figures, the grid of its games, the travel of each team, and the rules.
+
+ghost use Rattle.std.specs.Prelude.{◌≡◌, ◌++◌, ◌<◌, ◌^◌, IfOk, OnOk};
+ghost use Rattle.fixture_board.specs.Costs.{total_of};
+ghost use Rattle.league.specs.League.{teams};
+ghost use Rattle.league.specs.RuleLimits.{IsBodyFor};
+ghost use Rattle.streams.specs.Pieces.{pieces_below};
+ghost use Rattle.report_formats.specs.Page.{costs_text, figures_text, measures_text, page_text, row_head, rule_row, rule_rows, rule_table, rules_text};
+ghost use Rattle.report_formats.specs.Page.{sections_text, sorted_rules, top_text, total_text, tour_row, travel_text, weight_text};
+
+use crate::grid::push_grid;
+use crate::parts::{Part, push_parts};
+use crate::style::push_style;
+use fixture_board::{Cost, cost_of};
+use fixtures::Schedule;
+use league::{League, Rule, Weight};
+use reports::class_name;
+use robinx::deviation;
+use std::alloc::{AllocError, Global};
+use tours::travel_of;
+
+/// The page. It stands alone: it holds no script, and nothing from elsewhere.
+#[tactic(auto, unfolding(crate::specs::Page::page_text))]
+pub(crate) fn page(
+    alloc: Global,
+    league: &League,
+    schedule: &Schedule,
+) -> Result<Vec<u8>, AllocError>
+    requires { schedule.now.teams ≡ teams league.now }
+    ensures { IfOk result (λ page. page.items ≡ page_text league.now schedule.now) }
+{
+    let mut page = Vec::new(alloc);
+    push_top(&mut page, league, schedule)?;
+    push_sections(&mut page, league, schedule)?;
+    push_parts(&mut page, &[Part::Html(b"</body></html>\n")])?;
+    Ok(page)
+}
+
+/// Adds the page up to the figures.
+fn push_top(page: &mut Vec<u8>, league: &League, schedule: &Schedule) -> Result<(), AllocError>
+    requires { schedule.now.teams ≡ teams league.now }
+    ensures { OnOk result (page.new.items ≡ page.old.items ++ top_text league.now schedule.now) }
+{
+    let cost = cost_of(schedule, league);
+    push_costs(page, league, schedule, cost)
+}
+
+fn push_costs(
+    page: &mut Vec<u8>,
+    league: &League,
+    schedule: &Schedule,
+    cost: Cost,
+) -> Result<(), AllocError>
+    requires { total_of cost < 2 ^ 64 }
+    ensures { OnOk result (page.new.items ≡ page.old.items ++ costs_text league.now schedule.now cost) }
+{
+    push_style(page)?;
+    push_measures(page, schedule, cost.travel)?;
+    push_figures(page, league, cost)
+}
+
+/// Adds the games, the travel and the rules.
+#[tactic(auto, unfolding(crate::specs::Page::sections_text))]
+fn push_sections(page: &mut Vec<u8>, league: &League, schedule: &Schedule) -> Result<(), AllocError>
+    requires { schedule.now.teams ≡ teams league.now }
+    ensures { OnOk result (page.new.items ≡ page.old.items ++ sections_text league.now schedule.now) }
+{
+    push_grid(page, league, schedule)?;
+    push_travel(page, league, schedule)?;
+    push_rules(page, league, schedule)
+}
+
+/// Adds the numbers that the style takes from the page.
+fn push_measures(page: &mut Vec<u8>, schedule: &Schedule, travel: u64) -> Result<(), AllocError>
+    ensures { OnOk result (page.new.items ≡ page.old.items ++ measures_text schedule.now travel) }
+{
+    push_parts(
+        page,
+        &[
+            Part::Number(schedule.teams() as u64),
+            Part::Html(b";--rounds:"),
+            Part::Number(schedule.rounds() as u64),
+            Part::Html(b";--travel:"),
+            Part::Number(travel),
+            Part::Html(b"'>"),
+        ],
+    )
+}
+
+fn push_figures(page: &mut Vec<u8>, league: &League, cost: Cost) -> Result<(), AllocError>
+    requires { total_of cost < 2 ^ 64 }
+    ensures { OnOk result (page.new.items ≡ page.old.items ++ figures_text league.now cost) }
+{
+    let teams = league.teams() as u64;
+    push_parts(
+        page,
+        &[
+            Part::Html(b"<h1>"),
+            Part::Number(teams),
+            Part::Html(b" teams, "),
+            Part::Number(2 * (teams - 1)),
+            Part::Html(b" rounds</h1><ul><li>travel <b>"),
+            Part::Number(cost.travel),
+            Part::Html(b"</b></li><li>hard <b>"),
+            Part::Number(cost.hard),
+            Part::Html(b"</b></li><li>soft <b>"),
+            Part::Number(cost.soft),
+            Part::Html(b"</b></li>"),
+        ],
+    )?;
+    push_total(page, cost)
+}
+
+fn push_total(page: &mut Vec<u8>, cost: Cost) -> Result<(), AllocError>
+    requires { total_of cost < 2 ^ 64 }
+    ensures { OnOk result (page.new.items ≡ page.old.items ++ total_text cost) }
+{
+    if cost.is_feasible() {
+        push_parts(
+            page,
+            &[
+                Part::Html(b"<li>total <b>"),
+                Part::Number(cost.total()),
+                Part::Html(b"</b></li></ul>"),
+            ],
+        )
+    } else {
+        push_parts(
+            page,
+            &[Part::Html(b"<li class='bad'><b>infeasible</b></li></ul>")],
+        )
+    }
+}
+
+fn push_travel(page: &mut Vec<u8>, league: &League, schedule: &Schedule) -> Result<(), AllocError>
+    requires { schedule.now.teams ≡ teams league.now }
+    ensures { OnOk result (page.new.items ≡ page.old.items ++ travel_text league.now schedule.now) }
+{
+    push_parts(
+        page,
+        &[Part::Html(
+            b"<h2>Travel</h2><p>A bar that ends at the line is as long as the average.</p><table class='travel'>",
+        )],
+    )?;
+    push_tours(page, league, schedule)?;
+    push_parts(page, &[Part::Html(b"</table>")])
+}
+
+fn push_tours(page: &mut Vec<u8>, league: &League, schedule: &Schedule) -> Result<(), AllocError>
+    requires { schedule.now.teams ≡ teams league.now }
+    ensures { OnOk result (page.new.items ≡ page.old.items
+        ++ pieces_below (tour_row league.now schedule.now) schedule.now.teams) }
+{
+    for team in 0..schedule.teams() {
+        push_tour(page, league, schedule, team)?;
+    }
+    Ok(())
+}
+
+fn push_tour(
+    page: &mut Vec<u8>,
+    league: &League,
+    schedule: &Schedule,
+    team: u8,
+) -> Result<(), AllocError>
+    requires same { schedule.now.teams ≡ teams league.now }
+    requires team { team < schedule.now.teams }
+    ensures { OnOk result (page.new.items ≡ page.old.items ++ tour_row league.now schedule.now team) }
+{
+    let travel = travel_of(schedule, league, team);
+    push_parts(
+        page,
+        &[
+            Part::Html(b"<tr><th>"),
+            Part::Number(team as u64 + 1),
+            Part::Html(b" "),
+            Part::Name(league.name(team).as_bytes()),
+            Part::Html(b"</th><td>"),
+            Part::Number(travel),
+            Part::Html(b"</td><td class='bar'><div style='--tour:"),
+            Part::Number(travel),
+            Part::Html(b"'></div></td></tr>"),
+        ],
+    )
+}
+
+/// Adds the rules, if there are any.
+fn push_rules(page: &mut Vec<u8>, league: &League, schedule: &Schedule) -> Result<(), AllocError>
+    requires { schedule.now.teams ≡ teams league.now }
+    ensures { OnOk result (page.new.items ≡ page.old.items ++ rules_text league.now schedule.now) }
+{
+    if league.rule_count() == 0 {
+        Ok(())
+    } else {
+        push_rule_table(page, league, schedule)
+    }
+}
+
+/// Adds the rules with a head.
+fn push_rule_table(
+    page: &mut Vec<u8>,
+    league: &League,
+    schedule: &Schedule,
+) -> Result<(), AllocError>
+    requires { schedule.now.teams ≡ teams league.now }
+    ensures { OnOk result (page.new.items ≡ page.old.items ++ rule_table league.now schedule.now) }
+{
+    push_parts(
+        page,
+        &[Part::Html(
+            b"<h2>Rules</h2><p>Broken ones first.</p><table class='rules'><tr><th>Rule</th><th>Class</th><th>Kind</th><th>Deviation</th></tr>",
+        )],
+    )?;
+    push_sorted_rules(page, league, schedule)?;
+    push_parts(page, &[Part::Html(b"</table>")])
+}
+
+/// Adds the broken rules, and then the others.
+#[tactic(auto, unfolding(crate::specs::Page::sorted_rules))]
+fn push_sorted_rules(
+    page: &mut Vec<u8>,
+    league: &League,
+    schedule: &Schedule,
+) -> Result<(), AllocError>
+    requires { schedule.now.teams ≡ teams league.now }
+    ensures { OnOk result (page.new.items ≡ page.old.items ++ sorted_rules league.now schedule.now) }
+{
+    push_rule_rows(page, league, schedule, true)?;
+    push_rule_rows(page, league, schedule, false)
+}
+
+/// Adds the rules that are broken, or those that are not.
+fn push_rule_rows(
+    page: &mut Vec<u8>,
+    league: &League,
+    schedule: &Schedule,
+    broken: bool,
+) -> Result<(), AllocError>
+    requires { schedule.now.teams ≡ teams league.now }
+    ensures { OnOk result (page.new.items ≡ page.old.items ++ rule_rows league.now schedule.now broken) }
+{
+    for i in 0..league.rule_count() {
+        push_rule(page, schedule, broken, i as u64, league.rule(i))?;
+    }
+    Ok(())
+}
+
+/// Adds the rule, if it is broken or not as is asked.
+fn push_rule(
+    page: &mut Vec<u8>,
+    schedule: &Schedule,
+    broken: bool,
+    i: u64,
+    rule: &Rule,
+) -> Result<(), AllocError>
+    requires few { i < 256 }
+    requires body { IsBodyFor schedule.now.teams rule.now.body }
+    ensures { OnOk result (page.new.items ≡ page.old.items ++ rule_row schedule.now broken i rule.now) }
+{
+    let deviation = deviation(schedule, rule);
+    if (deviation > 0) != broken {
+        return Ok(());
+    }
+    push_parts(
+        page,
+        &[
+            Part::Html(row_head(broken)),
+            Part::Number(i + 1),
+            Part::Html(b"</td><td>"),
+            Part::Html(class_name(&rule.body)),
+            Part::Html(b"</td><td>"),
+        ],
+    )?;
+    push_weight(page, rule.weight)?;
+    push_parts(
+        page,
+        &[
+            Part::Html(b"</td><td>"),
+            Part::Number(deviation),
+            Part::Html(b"</td></tr>"),
+        ],
+    )
+}
+
+fn row_head(broken: bool) -> &'static [u8]
+    ensures { result.now ≡ row_head broken }
+{
+    if broken {
+        b"<tr class='bad'><td>"
+    } else {
+        b"<tr><td>"
+    }
+}
+
+fn push_weight(page: &mut Vec<u8>, weight: Weight) -> Result<(), AllocError>
+    ensures { OnOk result (page.new.items ≡ page.old.items ++ weight_text weight) }
+{
+    match weight {
+        Weight::Hard => push_parts(page, &[Part::Html(b"hard")]),
+        Weight::Soft(weight) => push_parts(
+            page,
+            &[Part::Html(b"soft "), Part::Number(weight as u64)],
+        ),
+    }
+}

@@ -1,0 +1,71 @@
+//! Parts of a page: markup, names and numbers.
+
+ghost use Rattle.std.specs.Prelude.{◌≡◌, ◌++◌, decimal, OnOk};
+ghost use Rattle.report_formats.specs.Parts.{escape_of, escaped, text_of_part, text_of_parts};
+
+use std::alloc::AllocError;
+
+/// A part of a page.
+#[derive(Clone, Copy)]
+pub(crate) enum Part<'a> {
+    /// Markup, as it is.
+    Html(&'a [u8]),
+    /// A text that stands for itself, whatever it holds.
+    Name(&'a [u8]),
+    /// In decimal.
+    Number(u64),
+}
+
+/// Adds the parts, one after another.
+pub(crate) fn push_parts(page: &mut Vec<u8>, parts: &[Part<'_>]) -> Result<(), AllocError>
+    ensures { OnOk result (page.new.items ≡ page.old.items ++ text_of_parts parts.now) }
+{
+    let mut rest = parts;
+    while let [part, later @ ..] = rest {
+        push_part(page, *part)?;
+        rest = later;
+    }
+    Ok(())
+}
+
+fn push_part(page: &mut Vec<u8>, part: Part<'_>) -> Result<(), AllocError>
+    ensures { OnOk result (page.new.items ≡ page.old.items ++ text_of_part part.entry) }
+{
+    match part {
+        Part::Html(text) => page.extend_from_slice(text),
+        Part::Name(text) => push_escaped(page, text),
+        Part::Number(number) => push_number(page, number),
+    }
+}
+
+fn push_number(page: &mut Vec<u8>, number: u64) -> Result<(), AllocError>
+    ensures { OnOk result (page.new.items ≡ page.old.items ++ decimal number) }
+{
+    let mut digits = itoa::Buffer::new();
+    page.extend_from_slice(digits.format(number).as_bytes())
+}
+
+/// Adds the text with its marks escaped, so that no markup begins or ends in it.
+fn push_escaped(page: &mut Vec<u8>, text: &[u8]) -> Result<(), AllocError>
+    ensures { OnOk result (page.new.items ≡ page.old.items ++ escaped text.now) }
+{
+    let mut rest = text;
+    while let [byte, later @ ..] = rest {
+        push_byte(page, *byte)?;
+        rest = later;
+    }
+    Ok(())
+}
+
+fn push_byte(page: &mut Vec<u8>, byte: u8) -> Result<(), AllocError>
+    ensures { OnOk result (page.new.items ≡ page.old.items ++ escape_of byte) }
+{
+    match byte {
+        b'&' => page.extend_from_slice(b"&amp;"),
+        b'<' => page.extend_from_slice(b"&lt;"),
+        b'>' => page.extend_from_slice(b"&gt;"),
+        b'"' => page.extend_from_slice(b"&quot;"),
+        b'\'' => page.extend_from_slice(b"&#39;"),
+        _ => page.extend_from_slice(&[byte]),
+    }
+}
