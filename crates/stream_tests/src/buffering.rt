@@ -2,6 +2,7 @@
 
 ghost use Rattle.std.specs.Prelude.{◌<◌};
 
+use super::checks::{check_same, check_same_of};
 use super::samples::TEXT;
 use std::alloc::{AllocError, Global};
 use std::process::Abort;
@@ -26,11 +27,9 @@ fn gathers_small_pieces(rt: HostRuntime) {
     let mut room = [0; 64];
     let mut sink = MemorySink::new(&mut room);
     let outcome = write_small_pieces(&mut sink);
-    assert_eq!(rt; (outcome, sink.tally().calls), (Ok(()), 1));
-    assert_eq!(rt;
-        sink.held(),
-        b"numbers 0 and 18446744073709551615\n".as_slice()
-    );
+    check_same(&rt, &(outcome, sink.tally().calls), &(Ok(()), 1));
+    let text = b"numbers 0 and 18446744073709551615\n";
+    check_same(&rt, &sink.held(), &text.as_slice());
 }
 
 /// Hands the pieces to the sink by a buffer.
@@ -57,7 +56,7 @@ fn check_pieces(rt: &impl Abort, alloc: Global, pieces: &[&[u8]], calls: u64) ->
     write_pieces(&mut sink, pieces)?;
     let text = joined(alloc, pieces)?;
     let calls_made = sink.tally().calls;
-    assert_eq!(rt; (sink.held(), calls_made), (text.as_slice(), calls));
+    check_same(rt, &(sink.held(), calls_made), &(text.as_slice(), calls));
     Ok(())
 }
 
@@ -86,7 +85,7 @@ fn check_chunks(rt: &impl Abort, alloc: Global, text: &[u8], size: usize) -> Res
     let mut sink = MemorySink::new(&mut room);
     write_chunks(&mut sink, text, size)?;
     let holds = sink.held() == text && sink.tally().calls <= 7;
-    assert!(rt; holds, "pieces of {size} bytes");
+    check_same_of(rt, &size, &holds, &true);
     Ok(())
 }
 
@@ -111,8 +110,8 @@ fn a_fault_leaves_a_front_of_the_text(rt: HostRuntime) {
     let mut memory = MemorySink::new(&mut room);
     let steps = [Step::Moved(2), Step::Failed];
     let outcomes = write_and_flush_twice(&mut RehearsedSink::new(&mut memory, &steps));
-    assert_eq!(rt; outcomes, [Ok(()), Err(WriteFault), Ok(())]);
-    assert_eq!(rt; memory.held(), b"tw".as_slice());
+    check_same(&rt, &outcomes, &[Ok(()), Err(WriteFault), Ok(())]);
+    check_same(&rt, &memory.held(), &b"tw".as_slice());
 }
 
 /// How a short piece is taken, and then a long one.
@@ -127,7 +126,7 @@ fn a_piece_that_does_not_fit_meets_a_fault_at_once(rt: HostRuntime) -> Result<()
     let mut room = [0; 16];
     let mut memory = MemorySink::new(&mut room);
     let outcomes = write_two(&mut RehearsedSink::new(&mut memory, &[Step::Failed]), &long);
-    assert_eq!(rt; outcomes, [Ok(()), Err(WriteFault)]);
-    assert_eq!(rt; memory.held(), b"".as_slice());
+    check_same(&rt, &outcomes, &[Ok(()), Err(WriteFault)]);
+    check_same(&rt, &memory.held(), &b"".as_slice());
     Ok(())
 }

@@ -4,6 +4,8 @@
 #[cfg(test)]
 mod buffering;
 #[cfg(test)]
+mod checks;
+#[cfg(test)]
 mod reading;
 #[cfg(test)]
 mod samples;

@@ -2,6 +2,7 @@
 
 ghost use Rattle.std.specs.Prelude.{◌<◌, None};
 
+use super::checks::{check_holds, check_same, check_same_of};
 use super::samples::{NO_CALLS, TEXT};
 use std::alloc::Global;
 use std::io;
@@ -21,7 +22,7 @@ fn check_read<S: Source>(
     text: &[u8],
 ) -> Result<(), Fail> {
     let found = read_all(alloc, source)?;
-    assert_eq!(rt; found.as_slice(), text);
+    check_same(rt, &found.as_slice(), &text);
     Ok(())
 }
 
@@ -34,7 +35,7 @@ fn check_read_in_pieces(rt: &impl Abort, alloc: Global, most: usize) -> Result<(
     requires { 0 < most }
 {
     let found = read_all(alloc, &mut MemorySource::in_pieces(TEXT, most))?;
-    assert_eq!(rt; found.as_slice(), TEXT, "at most {most}");
+    check_same_of(rt, &most, &found.as_slice(), &TEXT);
     Ok(())
 }
 
@@ -50,14 +51,12 @@ fn reads_all_in_pieces_of_any_size(rt: HostRuntime) -> Result<(), Fail> {
 fn reads_until_a_call_gives_nothing(rt: HostRuntime) -> Result<(), Fail> {
     let mut source = MemorySource::new(TEXT);
     check_read(&rt, rt.alloc(), &mut source, TEXT)?;
-    assert_eq!(rt;
-        source.tally(),
-        Tally {
-            calls: 2,
-            empty: 1,
-            ..NO_CALLS
-        }
-    );
+    let tally = Tally {
+        calls: 2,
+        empty: 1,
+        ..NO_CALLS
+    };
+    check_same(&rt, &source.tally(), &tally);
     Ok(())
 }
 
@@ -66,15 +65,13 @@ fn tries_an_interrupted_read_again(rt: HostRuntime) -> Result<(), Fail> {
     let steps = [Step::Again, Step::Moved(1), Step::Again, Step::Again];
     let mut source = RehearsedSource::new(MemorySource::new(TEXT), &steps);
     check_read(&rt, rt.alloc(), &mut source, TEXT)?;
-    assert_eq!(rt;
-        source.tally(),
-        Tally {
-            calls: 6,
-            empty: 1,
-            again: 3,
-            ..NO_CALLS
-        }
-    );
+    let tally = Tally {
+        calls: 6,
+        empty: 1,
+        again: 3,
+        ..NO_CALLS
+    };
+    check_same(&rt, &source.tally(), &tally);
     Ok(())
 }
 
@@ -83,15 +80,13 @@ fn stops_at_a_failed_read(rt: HostRuntime) -> Result<(), Fail> {
     let mut memory = MemorySource::new(TEXT);
     let steps = [Step::Moved(4), Step::Failed];
     let mut source = RehearsedSource::new(&mut memory, &steps);
-    assert!(rt; is_unreadable(rt.alloc(), &mut source));
-    assert_eq!(rt;
-        source.tally(),
-        Tally {
-            calls: 2,
-            failed: 1,
-            ..NO_CALLS
-        }
-    );
+    check_holds(&rt, is_unreadable(rt.alloc(), &mut source));
+    let tally = Tally {
+        calls: 2,
+        failed: 1,
+        ..NO_CALLS
+    };
+    check_same(&rt, &source.tally(), &tally);
     check_read(&rt, rt.alloc(), &mut memory, b"lines\n")
 }
 
@@ -99,7 +94,7 @@ fn stops_at_a_failed_read(rt: HostRuntime) -> Result<(), Fail> {
 fn reads_up_to_the_limit(rt: HostRuntime) -> Result<(), Fail> {
     let zeros = vec![in rt.alloc(); 0u8; INPUT_LIMIT]?;
     let text = read_all(rt.alloc(), &mut MemorySource::new(&zeros))?;
-    assert_eq!(rt; text.len(), 4_194_304);
+    check_same(&rt, &text.len(), &4_194_304);
     Ok(())
 }
 
@@ -110,7 +105,7 @@ fn stops_after_the_limit(rt: HostRuntime) -> Result<(), Fail> {
     let mut source = MemorySource::in_pieces(&zeros, 1);
     let fault = read_all(rt.alloc(), &mut source).err();
     let calls = source.tally().calls;
-    assert_eq!(rt; (fault, calls), (Some(ReadFault::TooLong), 4_194_305));
+    check_same(&rt, &(fault, calls), &(Some(ReadFault::TooLong), 4_194_305));
     Ok(())
 }
 
@@ -134,9 +129,9 @@ impl Source for Busy {
 #[test]
 fn gives_up_on_a_source_that_never_ends(rt: HostRuntime) {
     let mut source = Busy { tally: NO_CALLS };
-    assert!(rt; is_unreadable(rt.alloc(), &mut source));
-    assert_eq!(rt; source.tally.calls, 8_388_608);
-    assert_eq!(rt; READ_LIMIT, 8_388_608);
+    check_holds(&rt, is_unreadable(rt.alloc(), &mut source));
+    check_same(&rt, &source.tally.calls, &8_388_608);
+    check_same(&rt, &READ_LIMIT, &8_388_608);
 }
 
 /// A read is interrupted, one gives two bytes, and one fails.
@@ -164,16 +159,14 @@ fn reads_from_a_reader(rt: HostRuntime) -> Result<(), Fail> {
 #[test]
 fn reads_from_a_reader_until_it_fails(rt: HostRuntime) {
     let mut source = ReaderSource::new(FlakyReader { calls: 0 });
-    assert!(rt; is_unreadable(rt.alloc(), &mut source));
-    assert_eq!(rt;
-        source.tally(),
-        Tally {
-            calls: 3,
-            failed: 1,
-            again: 1,
-            ..NO_CALLS
-        }
-    );
+    check_holds(&rt, is_unreadable(rt.alloc(), &mut source));
+    let tally = Tally {
+        calls: 3,
+        failed: 1,
+        again: 1,
+        ..NO_CALLS
+    };
+    check_same(&rt, &source.tally(), &tally);
 }
 
 // The next two tests are run with each allocation refused in turn: the first passes whichever is, the second where
@@ -182,8 +175,8 @@ fn reads_from_a_reader_until_it_fails(rt: HostRuntime) {
 fn read_all_tells_refused_memory(rt: HostRuntime) {
     let bytes = [7; 20_000];
     match read_all(rt.alloc(), &mut MemorySource::in_pieces(&bytes, 1000)) {
-        Ok(text) => assert_eq!(rt; text.as_slice(), bytes.as_slice()),
-        Err(fault) => assert_eq!(rt; fault, ReadFault::Memory),
+        Ok(text) => check_same(&rt, &text.as_slice(), &bytes.as_slice()),
+        Err(fault) => check_same(&rt, &fault, &ReadFault::Memory),
     }
 }
 

@@ -1,5 +1,6 @@
 //! Tests compare by `==`, so it has to see the variant and each field. What faults say.
 
+use super::checks::{check_holds, check_same};
 use super::samples::NO_CALLS;
 use std::alloc::Global;
 use std::fmt::Display;
@@ -55,8 +56,9 @@ fn tallies_that_differ_in_one_field(rt: HostRuntime) {
 
 #[test]
 fn faults_that_differ(rt: HostRuntime) {
-    assert!(rt; are_distinct(&[ReadFault::Read, ReadFault::TooLong, ReadFault::Memory]));
-    assert!(rt; are_distinct(&[WriteFault]));
+    let faults = [ReadFault::Read, ReadFault::TooLong, ReadFault::Memory];
+    check_holds(&rt, are_distinct(&faults));
+    check_holds(&rt, are_distinct(&[WriteFault]));
 }
 
 fn check_says(
@@ -65,7 +67,7 @@ fn check_says(
     fault: &impl Display,
     text: &str,
 ) -> Result<(), Fail> {
-    assert_eq!(rt; format!(in alloc; "{fault}")?.as_str(), text);
+    check_same(rt, &format!(in alloc; "{fault}")?.as_str(), &text);
     Ok(())
 }
 

@@ -1,5 +1,6 @@
 //! Texts written to sinks that take a few bytes at each call, are interrupted, fail or are full.
 
+use super::checks::check_same;
 use super::samples::{NO_CALLS, TEXT};
 use std::io;
 use std::io::{ErrorKind, Write};
@@ -38,14 +39,14 @@ fn writes_to_a_writer_until_it_fails(rt: HostRuntime) {
         again: 1,
         ..NO_CALLS
     };
-    assert_eq!(rt; (outcome, sink.tally()), (Err(WriteFault), tally));
+    check_same(&rt, &(outcome, sink.tally()), &(Err(WriteFault), tally));
 }
 
 #[test]
 fn writes_to_a_writer(rt: HostRuntime) -> Result<(), Fail> {
     let mut written = Vec::new(rt.alloc());
     write_all(&mut WriterSink::new(&mut written), TEXT)?;
-    assert_eq!(rt; written.as_slice(), TEXT);
+    check_same(&rt, &written.as_slice(), &TEXT);
     Ok(())
 }
 
@@ -59,8 +60,8 @@ fn stops_at_a_sink_that_is_full(rt: HostRuntime) {
         empty: 1,
         ..NO_CALLS
     };
-    assert_eq!(rt; (outcome, sink.tally()), (Err(WriteFault), tally));
-    assert_eq!(rt; sink.held(), b"two\n".as_slice());
+    check_same(&rt, &(outcome, sink.tally()), &(Err(WriteFault), tally));
+    check_same(&rt, &sink.held(), &b"two\n".as_slice());
 }
 
 /// What becomes of a text that is written by these steps to a sink with room for it, and the sink's tally.
@@ -80,8 +81,12 @@ fn stops_at_a_failed_write(rt: HostRuntime) {
         again: 1,
         ..NO_CALLS
     };
-    assert_eq!(rt; written(&mut memory, &steps), (Err(WriteFault), tally));
-    assert_eq!(rt; memory.held(), b"two\nl".as_slice());
+    check_same(
+        &rt,
+        &written(&mut memory, &steps),
+        &(Err(WriteFault), tally),
+    );
+    check_same(&rt, &memory.held(), &b"two\nl".as_slice());
 }
 
 /// A text that is written by these steps comes to this end, and the sink holds so much of it.
@@ -89,7 +94,7 @@ fn check_steps(rt: &impl Abort, steps: &[Step], wanted: Result<(), WriteFault>, 
     let mut room = [0; 16];
     let mut memory = MemorySink::new(&mut room);
     let (outcome, _) = written(&mut memory, steps);
-    assert_eq!(rt; (outcome, memory.held()), (wanted, held));
+    check_same(rt, &(outcome, memory.held()), &(wanted, held));
 }
 
 #[test]
@@ -107,6 +112,6 @@ fn hands_a_sink_with_room_the_whole_text_at_once(rt: HostRuntime) -> Result<(), 
     let mut room = vec![in rt.alloc(); 0; 12_000]?;
     let mut sink = MemorySink::new(&mut room);
     write_all(&mut sink, &text)?;
-    assert_eq!(rt; sink.tally().calls, 1);
+    check_same(&rt, &sink.tally().calls, &1);
     Ok(())
 }
