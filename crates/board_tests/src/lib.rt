@@ -8,6 +8,8 @@ mod boards;
 #[cfg(test)]
 mod callers;
 #[cfg(test)]
+mod change_lines;
+#[cfg(test)]
 mod changes;
 #[cfg(test)]
 mod checks;

@@ -7,3 +7,4 @@ pub mod Replay
 pub mod PinPlaces
 pub mod Kept
 pub mod Laws
+pub mod Lines

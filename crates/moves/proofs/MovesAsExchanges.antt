@@ -1,5 +1,5 @@
 -- The exchange that a move is.
-use Rattle.std.proofs.Common.{◌≡◌, ℕ, ◌-◌, Bool, Ok, refl, sym, ◌∙◌, ap, subst, arith}
+use Rattle.std.proofs.Common.{◌≡◌, ℕ, Bool, Ok, refl, sym, ◌∙◌, ap, subst, arith}
 use Rattle.std.proofs.Math.Path.{fun_ext}
 use Rattle.league.specs.Sets.{has}
 use Rattle.fixtures.specs.Games.{Games, IsDoubleRoundRobin}

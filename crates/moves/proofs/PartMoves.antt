@@ -1,5 +1,5 @@
 -- The laws of the two partial moves.
-use Rattle.std.proofs.Common.{◌≡◌, ℕ, ◌<◌, Bool, true, false, ltb, List, refl, sym, ◌∙◌, ap, Ok}
+use Rattle.std.proofs.Common.{◌≡◌, ℕ, ◌<◌, Bool, true, ltb, List, refl, sym, ◌∙◌, ap, Ok}
 use Rattle.std.proofs.lemmas.Bool.{cond-false, lt-ltb, ltb-true, false_from_ne_true, false≢true}
 use Rattle.league.specs.Sets.{has}
 use Rattle.fixtures.specs.Games.{Games, round_of, round_count, IsPair, IsDoubleRoundRobin}

@@ -1,7 +1,6 @@
 use Rattle.std.proofs.Common.{sym, ◌∙◌, ap, subst}
 use Rattle.league.specs.Sets.{has}
 use Rattle.moves.specs.declared.exchanges.Exchange.{Exchange}
-use Rattle.moves.specs.declared.exchanges.Exchange.TheVariants as edit
 use Rattle.moves.specs.Exchanges.{Fits, IsOfTeams, touched_by}
 use Rattle.moves.proofs.EachExchange.{stays_fitting}
 use Rattle.moves.proofs.TouchedTeams.{touched-by_first}

@@ -1,4 +1,4 @@
-use Rattle.std.proofs.Common.{true, not, ◌&&◌, inl, inr, eqb, sym, ◌∙◌, ap}
+use Rattle.std.proofs.Common.{not, ◌&&◌, inl, inr, eqb, sym, ◌∙◌, ap}
 use Rattle.std.proofs.lemmas.Bool.{cases_Bool, cases_eq, and_parts, and_from, and_left, and_right, eq-eqb, ne_eqb}
 use Rattle.league.specs.Sets.{has}
 use Rattle.league.proofs.ForCallers.{any_below_found, any_below_from_none, has_empty, others_kept}
