@@ -19,7 +19,6 @@ pub mod GuestLegs
 pub mod GuestSteps
 pub mod SetsInSeason
 pub mod CutSets
-pub mod StoppedWalks
 pub mod RoundsTold
 pub mod TeamsTold
 pub mod OwnLegs
