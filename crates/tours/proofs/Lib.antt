@@ -21,5 +21,7 @@ pub mod SetsInSeason
 pub mod CutSets
 pub mod RoundsTold
 pub mod TeamsTold
+pub mod TurnedLegs
+pub mod EdgeLegs
 pub mod OwnLegs
 pub mod VisitsTold

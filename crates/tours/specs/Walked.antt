@@ -1,5 +1,5 @@
 -- What the walks over a part count at each of its teams: words of private functions alone.
-use Rattle.std.specs.Prelude.{◌≡◌, ℕ, ◌+◌, ◌≤◌, ◌&&◌, ◌||◌, ◌==◌, not, nat_lt, Bool, if◌then◌else◌, slice_index}
+use Rattle.std.specs.Prelude.{ℕ, ◌+◌, ◌&&◌, ◌||◌, ◌==◌, not, nat_lt, Bool, if◌then◌else◌, slice_index}
 use Rattle.league.specs.League.{LeagueData, distance}
 use Rattle.league.specs.Sums.{sum_below, sum_where}
 use Rattle.fixtures.specs.Games.{Games, round_count, cell}
