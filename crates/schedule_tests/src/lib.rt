@@ -23,8 +23,6 @@ mod halves;
 #[cfg(test)]
 mod home_games;
 #[cfg(test)]
-mod legs_within;
-#[cfg(test)]
 mod parts;
 #[cfg(test)]
 mod refusals;

@@ -97,13 +97,15 @@ fn parts_follow_exchanges_of_homes(rt: HostRuntime) -> Result<(), Fail> {
     Ok(())
 }
 
-/// Travel around touched rounds, and the runs that touch them, where the league has as many teams as the schedule.
-fn parts_of(schedule: &Schedule, league: &League, touched: Touched) -> Option<(u64, u64)> {
+/// The legs of touched teams and those around them, and the runs, that touch touched rounds, where the league has as many
+/// teams as the schedule.
+fn parts_of(schedule: &Schedule, league: &League, touched: Touched) -> Option<(u64, u64, u64)> {
     if schedule.teams() != league.teams() {
         return None;
     }
     Some((
         travel_part(schedule, league, touched),
+        travel_around(schedule, league, touched),
         runs_part(schedule, league, touched),
     ))
 }
@@ -114,9 +116,9 @@ fn parts_of_last_two_rounds(rt: HostRuntime) -> Result<(), Fail> {
     let league = league_of(alloc, 2)?;
     let touched = last_two_rounds();
     let start = berger(alloc, 4)?;
-    assert_eq!(rt; parts_of(&start, &league, touched), Some((14, 2)));
+    assert_eq!(rt; parts_of(&start, &league, touched), Some((14, 14, 2)));
     let exchanged = rounds_exchanged(alloc, 4, 5)?;
-    assert_eq!(rt; parts_of(&exchanged, &league, touched), Some((12, 0)));
+    assert_eq!(rt; parts_of(&exchanged, &league, touched), Some((12, 12, 0)));
     Ok(())
 }
 
@@ -129,8 +131,21 @@ fn parts_of_two_teams(rt: HostRuntime) -> Result<(), Fail> {
         rounds: SlotSet::empty().with(1).with(4),
     };
     let start = berger(alloc, 4)?;
-    assert_eq!(rt; parts_of(&start, &league, touched), Some((10, 0)));
+    assert_eq!(rt; parts_of(&start, &league, touched), Some((10, 10, 0)));
     let exchanged = homes_exchanged(alloc)?;
-    assert_eq!(rt; parts_of(&exchanged, &league, touched), Some((6, 0)));
+    assert_eq!(rt; parts_of(&exchanged, &league, touched), Some((6, 6, 0)));
+    Ok(())
+}
+
+#[test]
+fn parts_around_two_hosts(rt: HostRuntime) -> Result<(), Fail> {
+    let alloc = rt.alloc();
+    let league = circular(alloc, 4)?;
+    let touched = Touched {
+        teams: TeamSet::below(2),
+        rounds: SlotSet::empty().with(0),
+    };
+    let start = berger(alloc, 4)?;
+    assert_eq!(rt; parts_of(&start, &league, touched), Some((1, 6, 0)));
     Ok(())
 }

@@ -1,6 +1,5 @@
 -- The legs of tours in which two rounds are exchanged.
 use Rattle.std.proofs.Common.{◌≡◌, ℕ, ◌+◌, ◌-◌, ◌<◌, ◌≤◌, Bool, true, inl, inr, get_or, refl, sym, ◌∙◌, ap, arith}
-use Rattle.std.proofs.Math.Path.{fun_ext}
 use Rattle.std.proofs.lemmas.Bool.{cases_eq, cases_lt, cond-true}
 use Rattle.league.specs.League.{LeagueData}
 use Rattle.league.specs.Sums.{sum_where}
@@ -13,21 +12,6 @@ use Rattle.tours.specs.Tours.{tour, leg_count, leg}
 use Rattle.tours.specs.Parts.{touches_leg, travel_part_of, travel_part}
 use Rattle.tours.specs.Walked.{leg_exchanged, legs_exchanged}
 use Rattle.tours.proofs.Stops.{tour_at_round, tour_at_end}
-
--- no exchange
-
-exchanged_same : (i x : ℕ) → exchanged i i x ≡ x
-exchanged_same i x = elim (cases_eq x i) [
-  | inl e ↦ ap (exchanged i i) e ∙ exchanged_first i i ∙ sym e
-  | inr other ↦ exchanged_other i i x other other
-]
-
-pub legs_unexchanged : (l : LeagueData) (g : Games) (teams rounds : ℕ → Bool) →
-    legs_exchanged l g 0 0 teams rounds ≡ travel_part l g teams rounds
-unfolding travel_part travel_part_of leg
-legs_unexchanged l g teams rounds =
-    ap (λ (f : ℕ → ℕ → ℕ). sum_where g.teams teams (λ t. sum_where (leg_count g) (touches_leg g rounds) (f t)))
-    (fun_ext (λ t. fun_ext (λ r. rw (exchanged_same 1 r, exchanged_same 1 (r + 1)) refl)))
 
 -- rounds k and l exchanged for the teams of a set that has their opponents
 

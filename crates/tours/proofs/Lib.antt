@@ -19,8 +19,9 @@ pub mod GuestLegs
 pub mod GuestSteps
 pub mod SetsInSeason
 pub mod CutSets
-pub mod StoppedWalks
 pub mod RoundsTold
 pub mod TeamsTold
+pub mod TurnedLegs
+pub mod EdgeLegs
 pub mod OwnLegs
 pub mod VisitsTold

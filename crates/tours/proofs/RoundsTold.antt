@@ -6,7 +6,7 @@ use Rattle.std.proofs.lemmas.Bool.Decides.{nat_tests}
 use Rattle.std.proofs.Math.Path.{fun_ext}
 use Rattle.league.specs.League.{LeagueData, distance}
 use Rattle.league.specs.Sums.{sum_where}
-use Rattle.league.proofs.ForCallers.{sum_below_same, sum_below_add, sum_below_only, sum_where_same, sum_where_none}
+use Rattle.league.proofs.ForCallers.{sum_below_same, sum_below_add, sum_below_only, sum_below_balance, sum_where_same, sum_where_none}
 use Rattle.fixtures.specs.Games.{Games, round_count, IsPair, IsDoubleRoundRobin}
 use Rattle.fixtures.specs.Edits.{exchanged, rounds_exchanged}
 use Rattle.fixtures.specs.Closed.{IsClosed, plays_in}
@@ -15,7 +15,7 @@ use Rattle.fixtures.proofs.ForCallers.{differs_only_in_games, kept_rounds_exchan
 use Rattle.tours.specs.Tours.{tour, leg_count, leg, travel}
 use Rattle.tours.specs.Parts.{touches_leg, travel_part_of, travel_part}
 use Rattle.tours.specs.Walked.{leg_exchanged, legs_exchanged}
-use Rattle.tours.specs.Told.{legs_around}
+use Rattle.tours.specs.Told.{legs_around, legs_changed}
 use Rattle.tours.proofs.AroundBalance.{travel_balance}
 use Rattle.tours.proofs.ExchangedTours.{legs_after}
 
@@ -158,6 +158,54 @@ legs_touched g f k l ordered in_l = elim (cases_eq l (k + 1)) [
     four_in_order : (a b c d : ℕ) → (((0 + d) + c) + b) + a ≡ a + b + (c + d)
     four_in_order a b c d = omega arith
 
+-- a team that is at one place in both rounds
+
+stop_same : (g : Games) (t k m r : ℕ) → slice_index (tour g t) (k + 1) ≡ slice_index (tour g t) (m + 1) →
+    slice_index (tour g t) (exchanged (k + 1) (m + 1) r) ≡ slice_index (tour g t) r
+stop_same g t k m r same = elim (cases_eq r (k + 1)) [
+  | inl e ↦
+      ap (λ x. slice_index (tour g t) (exchanged (k + 1) (m + 1) x)) e ∙
+      ap (slice_index (tour g t)) (exchanged_first (k + 1) (m + 1)) ∙ sym same ∙ sym (ap (slice_index (tour g t)) e)
+  | inr not_k ↦ elim (cases_eq r (m + 1)) [
+    | inl e ↦
+        ap (λ x. slice_index (tour g t) (exchanged (k + 1) (m + 1) x)) e ∙
+        ap (slice_index (tour g t)) (exchanged_second (k + 1) (m + 1)) ∙ same ∙ sym (ap (slice_index (tour g t)) e)
+    | inr not_m ↦ ap (slice_index (tour g t)) (exchanged_other (k + 1) (m + 1) r not_k not_m)
+  ]
+]
+
+legs_same : (l : LeagueData) (g : Games) (t k m : ℕ) → slice_index (tour g t) (k + 1) ≡ slice_index (tour g t) (m + 1) →
+    leg_exchanged l g k m t ≡ leg l g t
+unfolding leg
+legs_same l g t k m same =
+    fun_ext (λ r. ap₂ (distance l) (stop_same g t k m r same) (stop_same g t k m (r + 1) same))
+
+changed_term : (is_in same : Bool) (now after : ℕ) → (same ≡ true → after ≡ now) →
+    (if is_in then after else 0) + (if is_in then (if same then 0 else now) else 0) ≡
+    (if is_in then now else 0) + (if is_in then (if same then 0 else after) else 0)
+changed_term true true now after stays = ap (λ x. x + 0) (stays refl)
+changed_term true false now after stays = omega arith
+changed_term false true now after stays = refl
+changed_term false false now after stays = refl
+
+changed_balance : (l : LeagueData) (g : Games) (k m : ℕ) (teams : ℕ → Bool) →
+    sum_where g.teams teams (λ t. legs_around (leg_exchanged l g k m t) k m) +
+    sum_where g.teams teams (legs_changed g (leg l g) k m) ≡
+    sum_where g.teams teams (λ t. legs_around (leg l g t) k m) +
+    sum_where g.teams teams (legs_changed g (leg_exchanged l g k m) k m)
+changed_balance l g k m teams =
+    sum_below_balance g.teams (λ t. if teams t then legs_around (leg_exchanged l g k m t) k m else 0)
+    (λ t. if teams t then legs_around (leg l g t) k m else 0)
+    (λ t. if teams t then legs_changed g (leg_exchanged l g k m) k m t else 0)
+    (λ t. if teams t then legs_changed g (leg l g) k m t else 0)
+    (λ t in_t. changed_term (teams t) (slice_index (tour g t) (k + 1) == slice_index (tour g t) (m + 1))
+    (legs_around (leg l g t) k m) (legs_around (leg_exchanged l g k m t) k m)
+    (λ is. ap (λ (f : ℕ → ℕ). legs_around f k m) (legs_same l g t k m (eqb-true _ _ is))))
+
+of_changed : (new old now after part_now part_after : ℕ) → new + now ≡ old + after →
+    after + part_now ≡ now + part_after → new + part_now ≡ old + part_after
+of_changed new old now after part_now part_after whole parts = omega arith
+
 -- the balance, by the legs of each team
 
 either_turned : (k l r : ℕ) → two_rounds k l r ≡ two_rounds l k r
@@ -200,12 +248,15 @@ module _ (l : LeagueData) (g : Games) (rr : IsDoubleRoundRobin g) (k m : ℕ) (p
       (λ r. distance l (slice_index (tour g t) (stop r)) (slice_index (tour g t) (stop (r + 1)))) first second)) stops)
 
   pub told_forward : (teams : ℕ → Bool) → ((t : ℕ) → t < g.teams → teams t ≡ among t) → k < m →
-      travel l (rounds_exchanged g k m among) + sum_where g.teams teams (λ t. legs_around (leg l g t) k m) ≡
-      travel l g + sum_where g.teams teams (λ t. legs_around (leg_exchanged l g k m t) k m)
-  told_forward teams members ordered = told teams k m members ordered p.away_in refl refl
+      travel l (rounds_exchanged g k m among) + sum_where g.teams teams (legs_changed g (leg l g) k m) ≡
+      travel l g + sum_where g.teams teams (legs_changed g (leg_exchanged l g k m) k m)
+  told_forward teams members ordered =
+      of_changed _ _ _ _ _ _ (told teams k m members ordered p.away_in refl refl) (changed_balance l g k m teams)
 
   pub told_back : (teams : ℕ → Bool) → ((t : ℕ) → t < g.teams → teams t ≡ among t) → m < k →
-      travel l (rounds_exchanged g k m among) + sum_where g.teams teams (λ t. legs_around (leg l g t) m k) ≡
-      travel l g + sum_where g.teams teams (λ t. legs_around (leg_exchanged l g m k t) m k)
+      travel l (rounds_exchanged g k m among) + sum_where g.teams teams (legs_changed g (leg l g) m k) ≡
+      travel l g + sum_where g.teams teams (legs_changed g (leg_exchanged l g m k) m k)
   told_back teams members ordered =
-      told teams m k members ordered p.home_in (fun_ext (either_turned k m)) (fun_ext (exchanged_turned (k + 1) (m + 1)))
+      of_changed _ _ _ _ _ _
+      (told teams m k members ordered p.home_in (fun_ext (either_turned k m)) (fun_ext (exchanged_turned (k + 1) (m + 1))))
+      (changed_balance l g m k teams)

@@ -7,8 +7,8 @@ use Rattle.std.proofs.Math.Bool.{or-not_self}
 use Rattle.std.proofs.lemmas.Bool.{cases_lt, lt-ltb, le-ltb}
 use Rattle.std.proofs.lemmas.Bool.Decides.{nat_tests}
 use Rattle.league.specs.Sets.{has, is_like_next}
-use Rattle.league.specs.Sums.{sum_where, count_where, all_below}
-use Rattle.league.proofs.ForCallers.{all_below_same, all_below_fails, sum_below_past, sum_where_same, count_where_same}
+use Rattle.league.specs.Sums.{sum_where, count_where, all_below, any_below}
+use Rattle.league.proofs.ForCallers.{all_below_same, all_below_fails, sum_below_past, sum_where_same, count_where_same, count_where_none, any_below_fails}
 use Rattle.fixtures.specs.Games.{Games, round_count, is_home}
 use Rattle.tours.specs.Runs.{windows, is_run, runs_of, runs_over}
 use Rattle.tours.specs.Parts.{touches_window, runs_part_of, runs_part}
@@ -103,6 +103,24 @@ runs_counted g team length runs starts counted least season is_runs is_counted =
     (λ f past below. if_below f (windows g length) (has starts f && is_run g team f length) past) ∙
     count_where_same (windows g length) (λ f. nat_lt f (windows g length) && (has starts f && is_run g team f length)) (λ f. has starts f && is_run g team f length)
     (λ f below. ap (λ b. b && (has starts f && is_run g team f length)) (lt-ltb f (windows g length) below))
+
+-- none, where none of its runs does
+pub no_runs_counted : (g : Games) (team length runs starts : ℕ) → 1 ≤ length → round_count g.teams ≤ 78 →
+    ((first : ℕ) → has runs first ≡ (nat_lt first (windows g length) && is_run g team first length)) →
+    any_below 78 (λ s. has runs s && has starts s) ≡ false →
+    count_where (windows g length) (λ first. has starts first && is_run g team first length) ≡ 0
+no_runs_counted g team length runs starts least season is_runs out =
+    count_where_none (windows g length) (λ first. has starts first && is_run g team first length)
+    (λ f below. neither (is_run g team f length) (has starts f)
+    (ap (λ b. b && has starts f)
+    (sym (is_runs f ∙ ap (λ b. b && is_run g team f length) (lt-ltb f (windows g length) below))) ∙
+    any_below_fails 78 (λ s. has runs s && has starts s) out f (omega arith)))
+  where
+    neither : (a b : Bool) → (a && b) ≡ false → (b && a) ≡ false
+    neither true true e = e
+    neither true false e = refl
+    neither false true e = refl
+    neither false false e = refl
 
 -- what a walk over the teams of a set counts
 abbrev pub runs_walked : Games → ℕ → ℕ → ℕ → ℕ

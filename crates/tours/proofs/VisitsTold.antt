@@ -1,17 +1,18 @@
 -- The legs of a guest around its game at one of two teams that are exchanged.
-use Rattle.std.proofs.Common.{◌≡◌, ℕ, ◌+◌, ◌-◌, ◌<◌, Bool, true, false, not, ◌&&◌, get_or, refl, sym, ◌∙◌, ap, ap₂, arith}
+use Rattle.std.proofs.Common.{◌≡◌, ◌≢◌, ℕ, ◌+◌, ◌-◌, ◌<◌, Bool, true, false, not, ◌&&◌, ◌||◌, inl, inr, get_or, refl, sym, ◌∙◌, ap, ap₂, arith}
 use Rattle.std.specs.Prelude.{◌==◌, nat_lt, if◌then◌else◌}
-use Rattle.std.proofs.lemmas.Bool.{and_parts, cond-true, cond-false}
+use Rattle.std.proofs.lemmas.Bool.{cases_eq, cases_lt, or_cases, and_parts, cond-true, cond-false, eqb-true, ne_eqb, false≢true}
 use Rattle.std.proofs.lemmas.Bool.Decides.{nat_tests}
 use Rattle.league.specs.League.{LeagueData, distance}
 use Rattle.league.specs.Sets.{has, IsWithoutLowest}
-use Rattle.fixtures.specs.Games.{Games, round_of, round_count, cell, place, is_home, IsDoubleRoundRobin}
+use Rattle.fixtures.specs.Games.{Games, round_of, round_count, cell, place, is_home, IsCell, IsDoubleRoundRobin}
 use Rattle.fixtures.specs.Edits.{exchanged}
 use Rattle.fixtures.specs.Changes.{with_guests}
+use Rattle.fixtures.proofs.ForCallers.{exchanged_first, exchanged_second, exchanged_exchanged, is_cell}
 use Rattle.tours.specs.Tours.{tour, leg}
 use Rattle.tours.specs.Walked.{guest_terms}
 use Rattle.tours.specs.Told.{is_either, in_rounds, stop_told, leg_told}
-use Rattle.tours.proofs.Stops.{tour_at_round}
+use Rattle.tours.proofs.Stops.{tour_at_round, tour_at_end}
 use Rattle.tours.proofs.Opponents.{side_of_opponent, IsPairing-opponents}
 use Rattle.tours.proofs.GuestSteps.{followed_by_next}
 use Rattle.tours.proofs.TeamsTold.{at_round, unmoved, meets_neither}
@@ -111,13 +112,95 @@ module _ (l : LeagueData) (g : Games) (rr : IsDoubleRoundRobin g) (i j : ℕ) (r
   leaving_told goes_on =
       ap₂ (distance l) told_host (ap (stop_told g i j rounds guest) two_on ∙ told_at (r + 2) ∙ cond-false _ _ _ goes_on)
 
+  -- it is there in no other round, so of the two hosts at most the other is its place before and after
+
+  apart : guest ≢ host
+  apart = (IsPairing-opponents g rr r in_r).apart host in_host
+
+  in_guest : guest < g.teams
+  in_guest = (IsPairing-opponents g rr r in_r).turn.in_range host in_host
+
+  visited_at : (q o : ℕ) (at_home : Bool) → IsCell g guest q (record { opponent = o; home = at_home }) →
+      (if at_home then guest else o) ≡ host → round_of g host guest ≡ q
+  visited_at q o true is there = absurd (apart there)
+  visited_at q o false is there = ap (λ x. round_of g x guest) (sym there) ∙ is.in_round
+
+  visited_here : round_of g host guest ≡ r
+  unfolding is_home
+  visited_here = by_side guest (cell g host r).home (is_cell g rr host r in_host in_r) home
+    where
+      by_side : (o : ℕ) (at_home : Bool) → IsCell g host r (record { opponent = o; home = at_home }) → at_home ≡ true →
+          round_of g host o ≡ r
+      by_side o true is e = is.in_round
+      by_side o false is e = absurd (false≢true e)
+
+  place_once : (q : ℕ) → q < round_count g.teams → q ≢ r → place g guest q ≢ host
+  unfolding place
+  place_once q in_q other there =
+      other (sym (visited_at q (cell g guest q).opponent (cell g guest q).home (is_cell g rr guest q in_guest in_q) there) ∙ visited_here)
+
+  pub not_before : stop_at r ≢ host
+  not_before there = elim (cases_eq r 0) [
+    | inl first ↦ apart (sym (ap stop_at first) ∙ there)
+    | inr later_on ↦
+        let next : r ≡ (r - 1) + 1 = omega arith in
+        place_once (r - 1) (omega arith) (λ e. omega arith)
+        (sym (ap stop_at next ∙ tour_at_round g guest (r - 1) (omega arith)) ∙ there)
+  ]
+
+  pub not_after : stop_at (r + 2) ≢ host
+  not_after there = elim (cases_lt (r + 1) (round_count g.teams)) [
+    | inl more ↦
+        place_once (r + 1) more (λ e. omega arith)
+        (sym (ap stop_at (sym two_on) ∙ tour_at_round g guest (r + 1) more) ∙ there)
+    | inr end ↦
+        let last : r + 2 ≡ round_count g.teams + 1 = omega arith in
+        apart (sym (ap stop_at last ∙ tour_at_end g guest) ∙ there)
+  ]
+
+  -- of a place that isn't the host's own
+  module _ (x other : ℕ) (other_is : other ≡ exchanged i j host) (not_host : x ≢ host) where
+    either_other : is_either i j x ≡ (x == other)
+    either_other = elim (or_cases (host == i) (host == j) of_host) [
+      | inl is_i ↦
+          let first : host ≡ i = eqb-true host i is_i in
+          let second : other ≡ j = other_is ∙ ap (exchanged i j) first ∙ exchanged_first i j in
+          ap (λ b. b || x == j) (ne_eqb x i (λ e. not_host (e ∙ sym first))) ∙ ap (λ y. x == y) (sym second)
+      | inr is_j ↦
+          let first : host ≡ j = eqb-true host j is_j in
+          let second : other ≡ i = other_is ∙ ap (exchanged i j) first ∙ exchanged_second i j in
+          ap (λ b. x == i || b) (ne_eqb x j (λ e. not_host (e ∙ sym first))) ∙ or_none (x == i) ∙
+          ap (λ y. x == y) (sym second)
+    ]
+      where
+        or_none : (b : Bool) → (b || false) ≡ b
+        or_none true = refl
+        or_none false = refl
+
+    moved : (is : Bool) → (x == other) ≡ is → (at : Bool) →
+        (if is && at then exchanged i j x else x) ≡ (if is && at then host else x)
+    moved false e at = refl
+    moved true e false = refl
+    moved true e true =
+        ap (exchanged i j) (eqb-true x other e ∙ other_is) ∙ exchanged_exchanged i j host
+
+    pub other_told : (at : Bool) → (if x == other && at then host else x) ≡ (if is_either i j x && at then exchanged i j x else x)
+    other_told at =
+        sym (ap (λ b. if b && at then exchanged i j x else x) either_other ∙ moved (x == other) refl at)
+
   -- by the places that the walk reads
   module _ (from to from_told other : ℕ) (from_is : from ≡ stop_at r) (to_is : to ≡ stop_at (r + 2))
-      (told_is : from_told ≡ (if is_either i j from && in_rounds g rounds r then exchanged i j from else from))
+      (told_is : from_told ≡ (if from == other && in_rounds g rounds r then host else from))
       (other_is : other ≡ exchanged i j host) where
-    on : (is : Bool) → (is_either i j to && in_rounds g rounds (r + 2)) ≡ is →
+    on : (is : Bool) → (to == other && in_rounds g rounds (r + 2)) ≡ is →
         (is_either i j (stop_at (r + 2)) && in_rounds g rounds (r + 2)) ≡ is
-    on is e = ap (λ x. is_either i j x && in_rounds g rounds (r + 2)) (sym to_is) ∙ e
+    on is e =
+        ap (λ b. b && in_rounds g rounds (r + 2))
+        (either_other (stop_at (r + 2)) other other_is not_after ∙ ap (λ x. x == other) (sym to_is)) ∙ e
+
+    told_place : from_told ≡ (if is_either i j from && in_rounds g rounds r then exchanged i j from else from)
+    told_place =
+        told_is ∙ other_told from other other_is (λ e. not_before (sym from_is ∙ e)) (in_rounds g rounds r)
 
     from_now : distance l from host ≡ leg l g guest r
     from_now = ap (λ x. distance l x host) from_is ∙ sym arriving_now
@@ -125,24 +208,24 @@ module _ (l : LeagueData) (g : Games) (rr : IsDoubleRoundRobin g) (i j : ℕ) (r
     from_after : distance l from_told other ≡ leg_told l g i j rounds guest r
     from_after =
         ap₂ (distance l)
-        (told_is ∙ ap (λ x. if is_either i j x && in_rounds g rounds r then exchanged i j x else x) from_is) other_is ∙
+        (told_place ∙ ap (λ x. if is_either i j x && in_rounds g rounds r then exchanged i j x else x) from_is) other_is ∙
         sym arriving_told
 
-    pub ends_now : (is_either i j to && in_rounds g rounds (r + 2)) ≡ true →
+    pub ends_now : (to == other && in_rounds g rounds (r + 2)) ≡ true →
         distance l from host ≡ guest_terms (leg l g) g (is_either i j) rounds host r
     ends_now visited = from_now ∙ sym (term_ends (leg l g) (on true visited))
 
-    pub ends_told : (is_either i j to && in_rounds g rounds (r + 2)) ≡ true →
+    pub ends_told : (to == other && in_rounds g rounds (r + 2)) ≡ true →
         distance l from_told other ≡ guest_terms (leg_told l g i j rounds) g (is_either i j) rounds host r
     ends_told visited = from_after ∙ sym (term_ends (leg_told l g i j rounds) (on true visited))
 
-    pub goes_on_now : (is_either i j to && in_rounds g rounds (r + 2)) ≡ false →
+    pub goes_on_now : (to == other && in_rounds g rounds (r + 2)) ≡ false →
         distance l from host + distance l host to ≡ guest_terms (leg l g) g (is_either i j) rounds host r
     goes_on_now out =
         ap₂ (λ x y. x + y) from_now (ap (distance l host) to_is ∙ sym leaving_now) ∙
         sym (term_goes_on (leg l g) (on false out))
 
-    pub goes_on_told : (is_either i j to && in_rounds g rounds (r + 2)) ≡ false →
+    pub goes_on_told : (to == other && in_rounds g rounds (r + 2)) ≡ false →
         distance l from_told other + distance l other to ≡
         guest_terms (leg_told l g i j rounds) g (is_either i j) rounds host r
     goes_on_told out =

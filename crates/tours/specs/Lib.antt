@@ -4,5 +4,4 @@ pub mod Repeats
 pub mod Parts
 pub mod Phased
 pub mod Walked
-pub mod Within
 pub mod Told

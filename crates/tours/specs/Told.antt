@@ -1,7 +1,7 @@
 -- What the walks count that tell on the schedule before what an exchange changes: words of private functions alone.
 use Rattle.std.specs.Prelude.{◌≡◌, ℕ, ◌<◌, true, false, ◌+◌, ◌-◌, ◌==◌, ◌&&◌, ◌||◌, not, nat_lt, Bool, if◌then◌else◌, slice_index}
 use Rattle.league.specs.League.{LeagueData, distance}
-use Rattle.fixtures.specs.Games.{Games, round_count}
+use Rattle.fixtures.specs.Games.{Games, round_count, cell}
 use Rattle.league.specs.Sets.{has}
 use Rattle.fixtures.specs.Changes.{turns}
 use Rattle.fixtures.specs.Edits.{exchanged}
@@ -11,6 +11,11 @@ use Rattle.tours.specs.Tours.{tour}
 abbrev pub legs_around : (ℕ → ℕ) → ℕ → ℕ → ℕ
 legs_around leg k l =
     if l == k + 1 then leg k + leg (k + 1) + leg (l + 1) else leg k + leg (k + 1) + (leg l + leg (l + 1))
+
+-- those of a team that is at different places in the two rounds: at one place in both, its legs stay as they are
+abbrev pub legs_changed : Games → (ℕ → ℕ → ℕ) → ℕ → ℕ → ℕ → ℕ
+legs_changed g leg k l t =
+    if slice_index (tour g t) (k + 1) == slice_index (tour g t) (l + 1) then 0 else legs_around (leg t) k l
 
 -- one of two teams
 abbrev pub is_either : ℕ → ℕ → ℕ → Bool
@@ -34,6 +39,13 @@ leg_told l g i j rounds t r = distance l (stop_told g i j rounds t r) (stop_told
 abbrev pub leg_turned : LeagueData → Games → ℕ → ℕ → ℕ → ℕ → ℕ
 leg_turned l g i j t r =
     distance l (exchanged i j (slice_index (tour g t) r)) (exchanged i j (slice_index (tour g t) (r + 1)))
+
+-- a round after which a team plays on the other side, and neither in it nor in the next against i or j
+pub record IsTurn (g : Games) (i j t s : ℕ) : Type 0 where
+  pub next : s + 1 < round_count g.teams
+  pub turning : turns g s (s + 1) t ≡ true
+  pub here : is_either i j (cell g t s).opponent ≡ false
+  pub there : is_either i j (cell g t (s + 1)).opponent ≡ false
 
 -- the rounds of a set after which a team plays on the other side, where the next round is one of the season's
 pub record AreTurns (g : Games) (inner t set : ℕ) : Type 0 where

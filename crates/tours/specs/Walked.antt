@@ -1,5 +1,5 @@
--- What the walks over a part count at each of its teams, and where they may stop: words of private functions alone.
-use Rattle.std.specs.Prelude.{◌≡◌, ℕ, ◌+◌, ◌≤◌, ◌&&◌, ◌||◌, ◌==◌, not, nat_lt, Bool, if◌then◌else◌, slice_index}
+-- What the walks over a part count at each of its teams: words of private functions alone.
+use Rattle.std.specs.Prelude.{ℕ, ◌+◌, ◌&&◌, ◌||◌, ◌==◌, not, nat_lt, Bool, if◌then◌else◌, slice_index}
 use Rattle.league.specs.League.{LeagueData, distance}
 use Rattle.league.specs.Sums.{sum_below, sum_where}
 use Rattle.fixtures.specs.Games.{Games, round_count, cell}
@@ -46,8 +46,3 @@ abbrev pub repeat_at : Games → (ℕ → Bool) → ℕ → ℕ → ℕ
 repeat_at g teams r t =
     if (cell g t r).opponent == (cell g t (r + 1)).opponent &&
     (nat_lt (cell g t r).opponent t || not (teams (cell g t r).opponent)) then 1 else 0
-
--- what a walk has counted that may stop once it is above `most`
-pub record IsTotalOrAbove (most total counted : ℕ) : Type 0 where
-  pub part : counted ≤ total
-  pub whole : counted ≤ most → counted ≡ total

@@ -53,13 +53,15 @@ pub(crate) fn leg(schedule: &Schedule, league: &League, team: u8, index: u8) -> 
     way(league, from, to)
 }
 
-/// The way from the home of a team to that of another.
+/// The way from the home of a team to that of another, as long as the way back.
 pub(crate) fn way(league: &League, from: u8, to: u8) -> u64
     requires from { from < teams league.now }
     requires to { to < teams league.now }
     ensures value { result ≡ distance league.now from to }
+    ensures back { result ≡ distance league.now to from }
     ensures most { result ≤ max_distance }
 {
+    prove!(from < league.teams());
     u64::from(league.distance(from, to))
 }
 

@@ -5,7 +5,6 @@
 //! memory. Teams and rounds are numbered from 0.
 #![tactic(auto)]
 
-mod exchange;
 mod laws;
 mod legs;
 mod meetings;
@@ -16,7 +15,6 @@ mod season;
 mod teams_told;
 mod told;
 mod travel_parts;
-mod travel_within;
 
 pub use laws::{changes_around_balance, changes_balance, parts_balance, same_pairs_repeat_alike};
 pub use legs::{travel, travel_of};
@@ -27,4 +25,3 @@ pub use runs::{runs_over, runs_part};
 pub use teams_told::legs_of_teams;
 pub use told::Legs;
 pub use travel_parts::{travel_around, travel_part};
-pub use travel_within::{travel_around_within, travel_exchanged_within, travel_part_within};

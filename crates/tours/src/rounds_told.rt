@@ -10,7 +10,7 @@ ghost use Rattle.fixtures.specs.Edits.{rounds_exchanged};
 ghost use Rattle.fixtures.specs.Closed.{IsClosed, plays_in};
 ghost use Rattle.tours.specs.Tours.{leg, travel};
 ghost use Rattle.tours.specs.Walked.{leg_exchanged};
-ghost use Rattle.tours.specs.Told.{legs_around};
+ghost use Rattle.tours.specs.Told.{legs_around, legs_changed};
 
 use crate::legs::{stop, way};
 use crate::season::teams_in;
@@ -47,20 +47,40 @@ fn legs_of_ordered(schedule: &Schedule, league: &League, k: u8, l: u8, among: Te
     requires ordered { k < l }
     requires l { l < round_count schedule.now.teams }
     ensures before { result.before ≡
-        sum_where schedule.now.teams (has among) (λ t. legs_around (leg league.now schedule.now t) k l) }
+        sum_where schedule.now.teams (has among) (legs_changed schedule.now (leg league.now schedule.now) k l) }
     ensures after { result.after ≡
-        sum_where schedule.now.teams (has among) (λ t. legs_around (leg_exchanged league.now schedule.now k l t) k l) }
+        sum_where schedule.now.teams (has among) (legs_changed schedule.now (leg_exchanged league.now schedule.now k l) k l) }
     ensures before_most { result.before ≤ 4 * max_distance * schedule.now.teams }
     ensures after_most { result.after ≤ 4 * max_distance * schedule.now.teams }
 {
     let mut before = 0;
     let mut after = 0;
     for team in among {
-        let legs = legs_of_team(schedule, league, k, l, team);
+        let legs = changed_legs(schedule, league, k, l, team);
         before += legs.before;
         after += legs.after;
     }
     Legs { before, after }
+}
+
+/// The legs of a team that change. Where it is at one place in both rounds, at home, none does.
+fn changed_legs(schedule: &Schedule, league: &League, k: u8, l: u8, team: u8) -> Legs
+    requires same { teams league.now ≡ schedule.now.teams }
+    requires team { team < schedule.now.teams }
+    requires ordered { k < l }
+    requires l { l < round_count schedule.now.teams }
+    ensures before { result.before ≡ legs_changed schedule.now (leg league.now schedule.now) k l team }
+    ensures after { result.after ≡ legs_changed schedule.now (leg_exchanged league.now schedule.now k l) k l team }
+    ensures before_most { result.before ≤ 4 * max_distance }
+    ensures after_most { result.after ≤ 4 * max_distance }
+{
+    if stop(schedule, team, k + 1) == stop(schedule, team, l + 1) {
+        return Legs {
+            before: 0,
+            after: 0,
+        };
+    }
+    legs_of_team(schedule, league, k, l, team)
 }
 
 /// The legs of a team around two rounds, of which `k` is the first, as they are and with the two exchanged.
@@ -101,8 +121,8 @@ fn legs_of_neighbours(schedule: &Schedule, league: &League, k: u8, l: u8, team: 
     let second = stop(schedule, team, l + 1);
     let to = stop(schedule, team, l + 2);
     Legs {
-        before: way(league, from, first) + way(league, first, second) + way(league, second, to),
-        after: way(league, from, second) + way(league, second, first) + way(league, first, to),
+        before: way(league, first, from) + way(league, first, second) + way(league, second, to),
+        after: way(league, second, from) + way(league, first, second) + way(league, first, to),
     }
 }
 
@@ -127,12 +147,13 @@ fn legs_of_two(schedule: &Schedule, league: &League, k: u8, l: u8, team: u8) -> 
     let before_l = stop(schedule, team, l);
     let at_l = stop(schedule, team, l + 1);
     let after_l = stop(schedule, team, l + 2);
+    // from two places alone, so that two rows of the distances are read
     Legs {
-        before: way(league, before_k, at_k)
+        before: way(league, at_k, before_k)
             + way(league, at_k, after_k)
-            + (way(league, before_l, at_l) + way(league, at_l, after_l)),
-        after: way(league, before_k, at_l)
+            + (way(league, at_l, before_l) + way(league, at_l, after_l)),
+        after: way(league, at_l, before_k)
             + way(league, at_l, after_k)
-            + (way(league, before_l, at_k) + way(league, at_k, after_l)),
+            + (way(league, at_k, before_l) + way(league, at_k, after_l)),
     }
 }

@@ -1,4 +1,4 @@
-//! The legs that a change can alter, counted in full or until there are more than a limit.
+//! The legs that a change can alter.
 
 ghost use Rattle.std.specs.Prelude.{◌≡◌, ◌+◌, ◌*◌, ◌-◌, ◌<◌, ◌≤◌, ◌&&◌, nat_lt, if◌then◌else◌};
 ghost use Rattle.league.specs.League.{teams};
@@ -6,11 +6,11 @@ ghost use Rattle.league.specs.Limits.{max_teams, max_rounds, max_distance};
 ghost use Rattle.league.specs.Sets.{has, IsBelow};
 ghost use Rattle.league.specs.Sums.{sum_where};
 ghost use Rattle.fixtures.specs.Games.{round_count, is_home, IsDoubleRoundRobin};
+ghost use Rattle.tours.specs.Tours.{leg};
 ghost use Rattle.tours.specs.Parts.{travel_part, travel_around};
-ghost use Rattle.tours.specs.Walked.{leg_exchanged, legs_exchanged, legs_of_guest, IsTotalOrAbove};
+ghost use Rattle.tours.specs.Walked.{legs_of_guest};
 
-use crate::exchange::Exchange;
-use crate::legs::{stop, way};
+use crate::legs::{leg, stop, way};
 use crate::season::{rounds_in, teams_in};
 use fixtures::{Schedule, Touched};
 use league::{League, SlotSet, TeamSet};
@@ -22,7 +22,7 @@ pub fn travel_part(schedule: &Schedule, league: &League, touched: Touched) -> u6
     ensures value { result ≡ travel_part league.now schedule.now (has touched.teams) (has touched.rounds) }
     ensures most { result ≤ max_teams * ((max_rounds + 1) * max_distance) }
 {
-    travel_among(schedule, league, touched.teams, touched.rounds, u64::MAX)
+    travel_among(schedule, league, touched.teams, touched.rounds)
 }
 
 /// The legs that touch a touched round in which the team or its host is touched.
@@ -31,210 +31,111 @@ pub fn travel_around(schedule: &Schedule, league: &League, touched: Touched) -> 
     ensures value { result ≡ travel_around league.now schedule.now (has touched.teams) (has touched.rounds) }
     ensures most { result ≤ max_teams * ((3 * max_rounds + 1) * max_distance) }
 {
-    travel_near(schedule, league, touched.teams, touched.rounds, u64::MAX)
+    let hosts = teams_in(schedule, touched.teams);
+    let rounds = rounds_in(schedule, touched.rounds);
+    travel_among(schedule, league, hosts, rounds) + legs_to_hosts(schedule, league, hosts, rounds)
 }
 
-/// Those of `travel_around`, or some of them that are more than `most`.
-pub(crate) fn travel_near(
-    schedule: &Schedule,
-    league: &League,
-    set: TeamSet,
-    slots: SlotSet,
-    most: u64,
-) -> u64
+/// The legs of the teams of the set that touch one of the rounds.
+fn travel_among(schedule: &Schedule, league: &League, set: TeamSet, rounds: SlotSet) -> u64
     requires same { teams league.now ≡ schedule.now.teams }
-    ensures value { IsTotalOrAbove most (travel_around league.now schedule.now (has set) (has slots)) result }
-    ensures small { result ≤ max_teams * ((3 * max_rounds + 1) * max_distance) }
-{
-    let hosts = teams_in(schedule, set);
-    let rounds = rounds_in(schedule, slots);
-    let own = travel_among(schedule, league, hosts, rounds, most);
-    if own > most {
-        return own;
-    }
-    own + guests_within(schedule, league, hosts, rounds, most - own)
-}
-
-/// Those of `travel_part`, or some of them that are more than `most`.
-pub(crate) fn travel_among(
-    schedule: &Schedule,
-    league: &League,
-    set: TeamSet,
-    rounds: SlotSet,
-    most: u64,
-) -> u64
-    requires same { teams league.now ≡ schedule.now.teams }
-    ensures value { IsTotalOrAbove most (travel_part league.now schedule.now (has set) (has rounds)) result }
-    ensures small { result ≤ max_teams * ((max_rounds + 1) * max_distance) }
+    ensures value { result ≡ travel_part league.now schedule.now (has set) (has rounds) }
+    ensures most { result ≤ max_teams * ((max_rounds + 1) * max_distance) }
 {
     prove_eq!(league.teams(), schedule.teams());
-    travel_exchanged(schedule, league, set, rounds, Exchange::none(), most)
-}
-
-/// The same after an exchange of two rounds in the tours. It is inlined with what it calls, since a walk that knows that
-/// nothing is exchanged takes fewer instructions.
-#[inline(always)]
-pub(crate) fn travel_exchanged(
-    schedule: &Schedule,
-    league: &League,
-    set: TeamSet,
-    rounds: SlotSet,
-    exchange: Exchange,
-    most: u64,
-) -> u64
-    requires same { teams league.now ≡ schedule.now.teams }
-    requires k { exchange.k < round_count schedule.now.teams }
-    requires l { exchange.l < round_count schedule.now.teams }
-    ensures value { IsTotalOrAbove most
-        (legs_exchanged league.now schedule.now exchange.k exchange.l (has set) (has rounds)) result }
-    ensures small { result ≤ max_teams * ((max_rounds + 1) * max_distance) }
-{
     let among = teams_in(schedule, set);
     let indices = rounds.with_next_below(schedule.rounds());
-    let legs = legs_within(schedule, league, among, indices, exchange, most);
-    if legs > most {
-        return legs;
-    }
-    legs + home_legs(schedule, league, among, rounds, exchange)
+    legs_with(schedule, league, among, indices) + home_legs(schedule, league, among, rounds)
 }
 
-/// The legs of the teams of the set with these indices, up to the index at which they are more than `most`.
-#[inline(always)]
-fn legs_within(
-    schedule: &Schedule,
-    league: &League,
-    among: TeamSet,
-    indices: SlotSet,
-    exchange: Exchange,
-    most: u64,
-) -> u64
+/// The legs of the teams of the set with these indices.
+fn legs_with(schedule: &Schedule, league: &League, among: TeamSet, indices: SlotSet) -> u64
     requires same { teams league.now ≡ schedule.now.teams }
     requires round_robin { IsDoubleRoundRobin schedule.now }
     requires among { IsBelow schedule.now.teams among }
     requires below { IsBelow (round_count schedule.now.teams) indices }
-    requires k { exchange.k < round_count schedule.now.teams }
-    requires l { exchange.l < round_count schedule.now.teams }
-    ensures value { IsTotalOrAbove most (sum_where (round_count schedule.now.teams) (has indices) (λ r.
-        sum_where schedule.now.teams (has among) (λ t.
-        leg_exchanged league.now schedule.now exchange.k exchange.l t r))) result }
-    ensures small { result ≤ max_teams * max_distance * round_count schedule.now.teams }
+    ensures value { result ≡ sum_where (round_count schedule.now.teams) (has indices) (λ r.
+        sum_where schedule.now.teams (has among) (λ t. leg league.now schedule.now t r)) }
+    ensures most { result ≤ max_teams * max_distance * round_count schedule.now.teams }
 {
     let mut total = 0;
     for index in indices {
-        total += legs_of(schedule, league, among, exchange, index);
-        if total > most {
-            return total;
-        }
+        total += legs_of(schedule, league, among, index);
     }
     total
 }
 
 /// The legs home of the teams of the set, where the last round is one of these.
-#[inline(always)]
-fn home_legs(
-    schedule: &Schedule,
-    league: &League,
-    among: TeamSet,
-    rounds: SlotSet,
-    exchange: Exchange,
-) -> u64
+fn home_legs(schedule: &Schedule, league: &League, among: TeamSet, rounds: SlotSet) -> u64
     requires same { teams league.now ≡ schedule.now.teams }
     requires round_robin { IsDoubleRoundRobin schedule.now }
     requires below { IsBelow schedule.now.teams among }
-    requires k { exchange.k < round_count schedule.now.teams }
-    requires l { exchange.l < round_count schedule.now.teams }
     ensures value { result ≡ (if has rounds (round_count schedule.now.teams - 1)
         then sum_where schedule.now.teams (has among) (λ t.
-        leg_exchanged league.now schedule.now exchange.k exchange.l t (round_count schedule.now.teams)) else 0) }
+        leg league.now schedule.now t (round_count schedule.now.teams)) else 0) }
     ensures most { result ≤ max_teams * max_distance }
 {
     if rounds.has(schedule.rounds() - 1) {
-        legs_of(schedule, league, among, exchange, schedule.rounds())
+        legs_of(schedule, league, among, schedule.rounds())
     } else {
         0
     }
 }
 
 /// The legs of the teams of the set with this index.
-#[inline(always)]
-fn legs_of(
-    schedule: &Schedule,
-    league: &League,
-    among: TeamSet,
-    exchange: Exchange,
-    index: u8,
-) -> u64
+fn legs_of(schedule: &Schedule, league: &League, among: TeamSet, index: u8) -> u64
     requires same { teams league.now ≡ schedule.now.teams }
     requires index { index ≤ round_count schedule.now.teams }
     requires round_robin { IsDoubleRoundRobin schedule.now }
     requires below { IsBelow schedule.now.teams among }
-    requires k { exchange.k < round_count schedule.now.teams }
-    requires l { exchange.l < round_count schedule.now.teams }
-    ensures value { result ≡ sum_where schedule.now.teams (has among) (λ t.
-        leg_exchanged league.now schedule.now exchange.k exchange.l t index) }
+    ensures value { result ≡ sum_where schedule.now.teams (has among) (λ t. leg league.now schedule.now t index) }
     ensures most { result ≤ max_distance * schedule.now.teams }
 {
-    let from = exchange.stop(index);
-    let to = exchange.stop(index + 1);
     let mut total = 0;
     for team in among {
-        total += way(league, stop(schedule, team, from), stop(schedule, team, to));
+        total += leg(schedule, league, team, index);
     }
     total
 }
 
-/// The legs of the teams that these teams receive in these rounds, up to the visit at which they are more than `most`.
-fn guests_within(
-    schedule: &Schedule,
-    league: &League,
-    hosts: TeamSet,
-    rounds: SlotSet,
-    most: u64,
-) -> u64
+/// The legs of the teams that these teams receive in these rounds.
+fn legs_to_hosts(schedule: &Schedule, league: &League, hosts: TeamSet, rounds: SlotSet) -> u64
     requires same { teams league.now ≡ schedule.now.teams }
     requires round_robin { IsDoubleRoundRobin schedule.now }
     requires hosts { IsBelow schedule.now.teams hosts }
-    ensures value { IsTotalOrAbove most (sum_where schedule.now.teams (has hosts) (λ host.
+    ensures value { result ≡ sum_where schedule.now.teams (has hosts) (λ host.
         sum_where (round_count schedule.now.teams) (λ r. has rounds r && is_home schedule.now host r)
-        (legs_of_guest league.now schedule.now (has hosts) (has rounds) host))) result }
-    ensures small { result ≤ 2 * max_rounds * max_distance * schedule.now.teams }
+        (legs_of_guest league.now schedule.now (has hosts) (has rounds) host)) }
+    ensures most { result ≤ 2 * max_rounds * max_distance * schedule.now.teams }
 {
     let mut total = 0;
     for host in hosts {
         let visits = schedule.home_rounds(host).common(rounds);
-        total += guest_legs(schedule, league, hosts, rounds, host, visits, most - total);
-        if total > most {
-            return total;
-        }
+        total += legs_to_host(schedule, league, hosts, rounds, host, visits);
     }
     total
 }
 
-/// The legs of the teams that a host receives in these of its rounds at home, up to the visit at which they are more
-/// than `most`.
-fn guest_legs(
+/// The legs of the teams that a host receives in these of its rounds at home.
+fn legs_to_host(
     schedule: &Schedule,
     league: &League,
     hosts: TeamSet,
     rounds: SlotSet,
     host: u8,
     visits: SlotSet,
-    most: u64,
 ) -> u64
     requires same { teams league.now ≡ schedule.now.teams }
     requires round_robin { IsDoubleRoundRobin schedule.now }
     requires host { host < schedule.now.teams }
     requires below { IsBelow (round_count schedule.now.teams) visits }
-    ensures value { IsTotalOrAbove most (sum_where (round_count schedule.now.teams) (has visits)
-        (legs_of_guest league.now schedule.now (has hosts) (has rounds) host)) result }
-    ensures small { result ≤ 2 * max_rounds * max_distance }
+    ensures value { result ≡ sum_where (round_count schedule.now.teams) (has visits)
+        (legs_of_guest league.now schedule.now (has hosts) (has rounds) host) }
+    ensures most { result ≤ 2 * max_rounds * max_distance }
 {
     let mut total = 0;
     for round in visits {
         total += legs_of_guest(schedule, league, hosts, rounds, host, round);
-        if total > most {
-            return total;
-        }
     }
     total
 }

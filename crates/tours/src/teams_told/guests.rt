@@ -1,6 +1,6 @@
 //! The legs of the guests of two teams that are exchanged.
 
-ghost use Rattle.std.specs.Prelude.{◌≡◌, ℕ, ◌+◌, ◌*◌, ◌<◌, ◌≤◌, ◌&&◌, true, false, if◌then◌else◌};
+ghost use Rattle.std.specs.Prelude.{◌≡◌, ℕ, ◌+◌, ◌*◌, ◌<◌, ◌≤◌, ◌&&◌, ◌==◌, true, false, if◌then◌else◌};
 ghost use Rattle.league.specs.League.{teams};
 ghost use Rattle.league.specs.Limits.{max_rounds, max_distance};
 ghost use Rattle.league.specs.Sets.{has, IsBelow};
@@ -8,7 +8,6 @@ ghost use Rattle.league.specs.Sums.{sum_where};
 ghost use Rattle.fixtures.specs.Games.{round_count, round_of, is_home, IsDoubleRoundRobin};
 ghost use Rattle.tours.specs.Tours.{leg};
 ghost use Rattle.tours.specs.Walked.{guest_terms};
-ghost use Rattle.fixtures.specs.Edits.{exchanged};
 ghost use Rattle.tours.specs.Told.{is_either, in_rounds, leg_told};
 
 use super::places::{exchanged, is_visit};
@@ -119,10 +118,10 @@ fn legs_of_visit(
     let guest = schedule.game_at(host, round).opponent;
     let from = stop(schedule, guest, round);
     let to = stop(schedule, guest, round + 2);
-    let from_told = place_told(schedule, i, j, rounds, from, round);
-    let before = way(league, from, host);
-    let after = way(league, from_told, other);
-    if is_visit(schedule, i, j, rounds, to, round + 2) {
+    let from_told = place_told(schedule, rounds, host, other, from, round);
+    let before = way(league, host, from);
+    let after = way(league, other, from_told);
+    if is_visit(schedule, rounds, other, to, round + 2) {
         return Legs { before, after };
     }
     Legs {
@@ -131,17 +130,16 @@ fn legs_of_visit(
     }
 }
 
-/// Where a guest is at the stop with this index after the exchange.
-fn place_told(schedule: &Schedule, i: u8, j: u8, rounds: SlotSet, place: u8, index: u8) -> u8
-    requires i { i < schedule.now.teams }
-    requires j { j < schedule.now.teams }
+/// Where the host's guest is at a stop before or after its visit, once the host and the other are exchanged.
+fn place_told(schedule: &Schedule, rounds: SlotSet, host: u8, other: u8, place: u8, index: u8) -> u8
+    requires host { host < schedule.now.teams }
     requires place { place < schedule.now.teams }
-    ensures value { result ≡ (if is_either i j place && in_rounds schedule.now (has rounds) index
-        then exchanged i j place else place) }
+    ensures value { result ≡
+        (if place == other && in_rounds schedule.now (has rounds) index then host else place) }
     ensures in_range { result < schedule.now.teams }
 {
-    if is_visit(schedule, i, j, rounds, place, index) {
-        exchanged(i, j, place)
+    if is_visit(schedule, rounds, other, place, index) {
+        host
     } else {
         place
     }

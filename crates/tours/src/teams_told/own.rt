@@ -1,14 +1,15 @@
 //! The own legs of two teams that are exchanged: they change at the edges of the set, and where a team turns.
 
-ghost use Rattle.std.specs.Prelude.{◌≡◌, ◌≢◌, ◌+◌, ◌*◌, ◌<◌, ◌≤◌, false, if◌then◌else◌};
-ghost use Rattle.league.specs.League.{teams, IsLeague};
+ghost use Rattle.std.specs.Prelude.{◌≡◌, ◌≢◌, ℕ, ◌+◌, ◌*◌, ◌<◌, ◌≤◌, ◌==◌, not, true, false, slice_index, if◌then◌else◌};
+ghost use Rattle.league.specs.League.{teams, distance, IsLeague};
 ghost use Rattle.league.specs.Limits.{max_rounds, max_distance};
 ghost use Rattle.league.specs.Sets.{has, IsBelow};
 ghost use Rattle.league.specs.Sums.{sum_where};
 ghost use Rattle.fixtures.specs.Games.{round_count, round_of, IsDoubleRoundRobin};
-ghost use Rattle.tours.specs.Tours.{leg};
+ghost use Rattle.fixtures.specs.Edits.{exchanged};
+ghost use Rattle.tours.specs.Tours.{tour, leg};
 ghost use Rattle.tours.specs.Walked.{part_of};
-ghost use Rattle.tours.specs.Told.{leg_told, leg_turned, AreTurns};
+ghost use Rattle.tours.specs.Told.{leg_told, leg_turned, AreTurns, IsTurn};
 
 use super::places::{exchanged, legs_of_both};
 use crate::legs::{stop, way};
@@ -98,6 +99,8 @@ fn legs_at_edges(
     requires i { i < schedule.now.teams }
     requires j { j < schedule.now.teams }
     requires below { IsBelow (round_count schedule.now.teams) edges }
+    requires in_season { IsBelow (round_count schedule.now.teams) rounds }
+    requires edges { (s : ℕ) → has edges s ≡ true → has rounds (s + 1) ≡ not (has rounds s) }
     ensures before { result.before ≡ sum_where (round_count schedule.now.teams) (has edges) (λ s.
         leg league.now schedule.now j (s + 1) + leg league.now schedule.now i (s + 1)) }
     ensures after { result.after ≡ sum_where (round_count schedule.now.teams) (has edges) (λ s.
@@ -109,11 +112,71 @@ fn legs_at_edges(
     let mut before = 0;
     let mut after = 0;
     for round in edges {
-        let legs = legs_of_both(schedule, league, i, j, rounds, round + 1);
+        let legs = legs_at_edge(schedule, league, i, j, rounds, round);
         before += legs.before;
         after += legs.after;
     }
     Legs { before, after }
+}
+
+/// The legs of `i` and `j` after a round, where either it or the next one is in the set.
+fn legs_at_edge(
+    schedule: &Schedule,
+    league: &League,
+    i: u8,
+    j: u8,
+    rounds: SlotSet,
+    round: u8,
+) -> Legs
+    requires same { teams league.now ≡ schedule.now.teams }
+    requires i { i < schedule.now.teams }
+    requires j { j < schedule.now.teams }
+    requires round { round < round_count schedule.now.teams }
+    requires in_season { IsBelow (round_count schedule.now.teams) rounds }
+    requires edge { has rounds (round + 1) ≡ not (has rounds round) }
+    ensures before { result.before ≡
+        leg league.now schedule.now j (round + 1) + leg league.now schedule.now i (round + 1) }
+    ensures after { result.after ≡
+        leg_told league.now schedule.now i j (has rounds) j (round + 1) +
+        leg_told league.now schedule.now i j (has rounds) i (round + 1) }
+    ensures before_most { result.before ≤ 2 * max_distance }
+    ensures after_most { result.after ≤ 2 * max_distance }
+{
+    prove_eq!(league.teams(), schedule.teams());
+    if rounds.has(round) {
+        legs_across(schedule, league, i, j, round + 1, round + 2)
+    } else {
+        legs_across(schedule, league, i, j, round + 2, round + 1)
+    }
+}
+
+/// The legs of `i` and `j` between their stops with two indices, as they are and with the two exchanged at the first.
+fn legs_across(schedule: &Schedule, league: &League, i: u8, j: u8, inside: u8, outside: u8) -> Legs
+    requires same { teams league.now ≡ schedule.now.teams }
+    requires i { i < schedule.now.teams }
+    requires j { j < schedule.now.teams }
+    requires inside { inside ≤ round_count schedule.now.teams + 1 }
+    requires outside { outside ≤ round_count schedule.now.teams + 1 }
+    ensures before { result.before ≡
+        distance league.now (slice_index (tour schedule.now j) outside) (slice_index (tour schedule.now j) inside) +
+        distance league.now (slice_index (tour schedule.now i) outside) (slice_index (tour schedule.now i) inside) }
+    ensures after { result.after ≡
+        distance league.now (slice_index (tour schedule.now j) outside)
+        (exchanged i j (slice_index (tour schedule.now i) inside)) +
+        distance league.now (slice_index (tour schedule.now i) outside)
+        (exchanged i j (slice_index (tour schedule.now j) inside)) }
+    ensures before_most { result.before ≤ 2 * max_distance }
+    ensures after_most { result.after ≤ 2 * max_distance }
+{
+    let from_i = stop(schedule, i, outside);
+    let from_j = stop(schedule, j, outside);
+    let at_i = stop(schedule, i, inside);
+    let at_j = stop(schedule, j, inside);
+    Legs {
+        before: way(league, from_j, at_j) + way(league, from_i, at_i),
+        after: way(league, from_j, exchanged(i, j, at_i))
+            + way(league, from_i, exchanged(i, j, at_j)),
+    }
 }
 
 /// The legs of a team after these rounds, with `i` and `j` exchanged among its places.
@@ -124,6 +187,7 @@ fn turned_legs(schedule: &Schedule, league: &League, i: u8, j: u8, team: u8, tur
     requires j { j < schedule.now.teams }
     requires team { team < schedule.now.teams }
     requires below { IsBelow (round_count schedule.now.teams) turns }
+    requires turning { (s : ℕ) → has turns s ≡ true → IsTurn schedule.now i j team s }
     ensures before { result.before ≡ sum_where (round_count schedule.now.teams) (has turns) (λ s.
         leg league.now schedule.now team (s + 1)) }
     ensures after { result.after ≡ sum_where (round_count schedule.now.teams) (has turns) (λ s.
@@ -134,29 +198,41 @@ fn turned_legs(schedule: &Schedule, league: &League, i: u8, j: u8, team: u8, tur
     let mut before = 0;
     let mut after = 0;
     for round in turns {
-        let legs = turned_leg(schedule, league, i, j, team, round + 1);
+        let legs = turned_leg(schedule, league, i, j, team, round);
         before += legs.before;
         after += legs.after;
     }
     Legs { before, after }
 }
 
-#[tactic(auto, unfolding(crate::specs::Tours::leg))]
-fn turned_leg(schedule: &Schedule, league: &League, i: u8, j: u8, team: u8, index: u8) -> Legs
+/// The leg of a team after a round. One of its two places is the team's own home, in whose place the other's comes.
+fn turned_leg(schedule: &Schedule, league: &League, i: u8, j: u8, team: u8, round: u8) -> Legs
     requires same { teams league.now ≡ schedule.now.teams }
+    requires round_robin { IsDoubleRoundRobin schedule.now }
     requires i { i < schedule.now.teams }
     requires j { j < schedule.now.teams }
     requires team { team < schedule.now.teams }
-    requires index { index ≤ round_count schedule.now.teams }
-    ensures before { result.before ≡ leg league.now schedule.now team index }
-    ensures after { result.after ≡ leg_turned league.now schedule.now i j team index }
+    requires turn { IsTurn schedule.now i j team round }
+    ensures before { result.before ≡ leg league.now schedule.now team (round + 1) }
+    ensures after { result.after ≡ leg_turned league.now schedule.now i j team (round + 1) }
     ensures before_most { result.before ≤ max_distance }
     ensures after_most { result.after ≤ max_distance }
 {
-    let from = stop(schedule, team, index);
-    let to = stop(schedule, team, index + 1);
+    prove_eq!(league.teams(), schedule.teams());
+    let from = stop(schedule, team, round + 1);
+    let to = stop(schedule, team, round + 2);
+    let away = away_of(team, from, to);
+    let other = exchanged(i, j, team);
     Legs {
-        before: way(league, from, to),
-        after: way(league, exchanged(i, j, from), exchanged(i, j, to)),
+        before: way(league, team, away),
+        after: way(league, other, away),
     }
+}
+
+/// Which of two places of a team isn't its home.
+fn away_of(team: u8, from: u8, to: u8) -> u8
+    ensures value { result ≡ (if from == team then to else from) }
+    ensures in_range { (n : ℕ) → from < n → to < n → result < n }
+{
+    if from == team { to } else { from }
 }

@@ -1,13 +1,13 @@
 //! The places of two teams that are exchanged in the rounds of a set.
 
-ghost use Rattle.std.specs.Prelude.{◌≡◌, ℕ, ◌+◌, ◌*◌, ◌<◌, ◌≤◌, ◌&&◌, slice_index};
+ghost use Rattle.std.specs.Prelude.{◌≡◌, ℕ, ◌+◌, ◌*◌, ◌<◌, ◌≤◌, ◌&&◌, ◌==◌, slice_index};
 ghost use Rattle.league.specs.League.{teams};
 ghost use Rattle.league.specs.Limits.{max_rounds, max_distance};
 ghost use Rattle.league.specs.Sets.{has};
 ghost use Rattle.fixtures.specs.Games.{round_count};
 ghost use Rattle.fixtures.specs.Edits.{exchanged};
 ghost use Rattle.tours.specs.Tours.{tour, leg};
-ghost use Rattle.tours.specs.Told.{is_either, in_rounds, stop_told, leg_told};
+ghost use Rattle.tours.specs.Told.{in_rounds, stop_told, leg_told};
 
 use crate::legs::{stop, way};
 use crate::told::Legs;
@@ -35,18 +35,18 @@ pub(super) fn in_rounds(schedule: &Schedule, rounds: SlotSet, index: u8) -> bool
     index != 0 && (index - 1 < schedule.rounds() && rounds.has(index - 1))
 }
 
-/// Whether a team that goes to this place for the stop with the index plays there at `i` or `j` in a round of the set.
+/// Whether a team that goes to this place for the stop with the index plays there at the other of two teams in a round of
+/// the set.
 pub(super) fn is_visit(
     schedule: &Schedule,
-    i: u8,
-    j: u8,
     rounds: SlotSet,
+    other: u8,
     place: u8,
     index: u8,
 ) -> bool
-    ensures { result ≡ (is_either i j place && in_rounds schedule.now (has rounds) index) }
+    ensures { result ≡ (place == other && in_rounds schedule.now (has rounds) index) }
 {
-    (place == i || place == j) && in_rounds(schedule, rounds, index)
+    place == other && in_rounds(schedule, rounds, index)
 }
 
 /// The stops of `i` and `j` with an index, as they are and after the two are exchanged.

@@ -8,18 +8,18 @@ loop-team-init c = record {
   after = sum_without_none _ _ _ _ _ (omega arith) c.into_iter-team-iterator.ensures.into_iter_gives;
 }
 
-pub legs_of_team-legs-requires-clause-team : goal.legs_of_team-legs-requires-clause-team
-legs_of_team-legs-requires-clause-team c =
+pub changed_legs-legs-requires-clause-team : goal.changed_legs-legs-requires-clause-team
+changed_legs-legs-requires-clause-team c =
     lowest_below _ _ _ _ c.loop-team.invariant.before.below c.in-Some.ensures.steps
 
 pub loop-team-preserved : goal.loop-team-preserved
 loop-team-preserved c = record {
   before =
       sum_without_more _ _ _ _ _ _ _ _ _ c.loop-team.invariant.before c.in-Some.ensures.steps
-      c.legs_of_team-legs.ensures.before c.legs_of_team-legs.ensures.before_most;
+      c.changed_legs-legs.ensures.before c.changed_legs-legs.ensures.before_most;
   after =
       sum_without_more _ _ _ _ _ _ _ _ _ c.loop-team.invariant.after c.in-Some.ensures.steps
-      c.legs_of_team-legs.ensures.after c.legs_of_team-legs.ensures.after_most;
+      c.changed_legs-legs.ensures.after c.changed_legs-legs.ensures.after_most;
 }
 
 pub returns-clause-before : goal.returns-clause-before

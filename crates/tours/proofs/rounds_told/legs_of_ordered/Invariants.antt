@@ -3,15 +3,15 @@ use Rattle.league.specs.Limits.{max_distance}
 use Rattle.league.proofs.ForCallers.{IsSumWithout}
 use Rattle.tours.specs.Tours.{leg}
 use Rattle.tours.specs.Walked.{leg_exchanged}
-use Rattle.tours.specs.Told.{legs_around}
+use Rattle.tours.specs.Told.{legs_changed}
 use Rattle.tours.proofs.rounds_told.legs_of_ordered.Given as goal
 
 abbrev pub invariant-loop-team : goal.invariant-loop-team
 invariant-loop-team l = record {
   before :
       IsSumWithout l.schedule.teams l.fn.among l.team-iterator l.before (4 * max_distance)
-      (λ t. legs_around (leg l.league l.schedule t) l.k l.l);
+      (legs_changed l.schedule (leg l.league l.schedule) l.k l.l);
   after :
       IsSumWithout l.schedule.teams l.fn.among l.team-iterator l.after (4 * max_distance)
-      (λ t. legs_around (leg_exchanged l.league l.schedule l.k l.l t) l.k l.l);
+      (legs_changed l.schedule (leg_exchanged l.league l.schedule l.k l.l) l.k l.l);
 }

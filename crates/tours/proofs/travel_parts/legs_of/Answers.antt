@@ -5,18 +5,13 @@ use Rattle.tours.proofs.travel_parts.legs_of.Goals as goal
 pub loop-team-init : goal.loop-team-init
 loop-team-init c = sum_without_none _ _ _ _ _ (omega arith) c.into_iter-team-iterator.ensures.into_iter_gives
 
-pub stop-requires-clause-team : goal.stop-requires-clause-team
-stop-requires-clause-team c = lowest_below _ _ _ _ c.loop-team.invariant.below c.in-Some.ensures.steps
-
-pub stop-requires-in-loop-team-clause-team : goal.stop-requires-in-loop-team-clause-team
-stop-requires-in-loop-team-clause-team c = lowest_below _ _ _ _ c.loop-team.invariant.below c.in-Some.ensures.steps
+pub leg-total-requires-clause-team : goal.leg-total-requires-clause-team
+leg-total-requires-clause-team c = lowest_below _ _ _ _ c.loop-team.invariant.below c.in-Some.ensures.steps
 
 pub loop-team-preserved : goal.loop-team-preserved
 loop-team-preserved c =
-    sum_without_more _ _ _ _ _ _ _ _ _ c.loop-team.invariant c.in-Some.ensures.steps
-    (rw (c.stop.ensures.value, c.stop-in-loop-team.ensures.value, c.stop-from.ensures.value, c.stop-to.ensures.value)
-    at c.way-total.ensures.value)
-    c.way-total.ensures.most
+    sum_without_more _ _ _ _ _ _ _ _ _ c.loop-team.invariant c.in-Some.ensures.steps c.leg-total.ensures.value
+    c.leg-total.ensures.most
 
 pub returns-clause-value : goal.returns-clause-value
 returns-clause-value c = sum_without_all _ _ _ _ _ _ _ c.loop-team.invariant c.in-None.ensures.steps.0 (λ k below. refl)

@@ -10,7 +10,7 @@ pub returns-then-is_visit-clause-before : goal.returns-then-is_visit-clause-befo
 returns-then-is_visit-clause-before c =
     let guest : c.game_at-guest.result.opponent ≡ (cell c.args.schedule.now c.args.host c.args.round).opponent =
     ap (λ (x : Cell). x.opponent) c.game_at-guest.ensures.value in
-    c.way-before.ensures.value ∙
+    c.way-before.ensures.back ∙
     ends_now c.args.league.now c.args.schedule.now c.requires.round_robin c.args.i c.args.j (has c.args.rounds)
     c.requires.first_out c.requires.second_out c.args.host c.args.round c.requires.is_host c.requires.host
     c.requires.round c.requires.home c.requires.in_set c.stop-from.result c.stop-to.result c.place_told-from_told.result
@@ -23,7 +23,7 @@ pub returns-then-is_visit-clause-after : goal.returns-then-is_visit-clause-after
 returns-then-is_visit-clause-after c =
     let guest : c.game_at-guest.result.opponent ≡ (cell c.args.schedule.now c.args.host c.args.round).opponent =
     ap (λ (x : Cell). x.opponent) c.game_at-guest.ensures.value in
-    c.way-after.ensures.value ∙
+    c.way-after.ensures.back ∙
     ends_told c.args.league.now c.args.schedule.now c.requires.round_robin c.args.i c.args.j (has c.args.rounds)
     c.requires.first_out c.requires.second_out c.args.host c.args.round c.requires.is_host c.requires.host
     c.requires.round c.requires.home c.requires.in_set c.stop-from.result c.stop-to.result c.place_told-from_told.result
@@ -36,7 +36,7 @@ pub returns-clause-before : goal.returns-clause-before
 returns-clause-before c =
     let guest : c.game_at-guest.result.opponent ≡ (cell c.args.schedule.now c.args.host c.args.round).opponent =
     ap (λ (x : Cell). x.opponent) c.game_at-guest.ensures.value in
-    ap₂ (λ x y. x + y) c.way-before.ensures.value c.way.ensures.value ∙
+    ap₂ (λ x y. x + y) c.way-before.ensures.back c.way.ensures.value ∙
     goes_on_now c.args.league.now c.args.schedule.now c.requires.round_robin c.args.i c.args.j (has c.args.rounds)
     c.requires.first_out c.requires.second_out c.args.host c.args.round c.requires.is_host c.requires.host
     c.requires.round c.requires.home c.requires.in_set c.stop-from.result c.stop-to.result c.place_told-from_told.result
@@ -49,7 +49,7 @@ pub returns-clause-after : goal.returns-clause-after
 returns-clause-after c =
     let guest : c.game_at-guest.result.opponent ≡ (cell c.args.schedule.now c.args.host c.args.round).opponent =
     ap (λ (x : Cell). x.opponent) c.game_at-guest.ensures.value in
-    ap₂ (λ x y. x + y) c.way-after.ensures.value c.way-2.ensures.value ∙
+    ap₂ (λ x y. x + y) c.way-after.ensures.back c.way-2.ensures.value ∙
     goes_on_told c.args.league.now c.args.schedule.now c.requires.round_robin c.args.i c.args.j (has c.args.rounds)
     c.requires.first_out c.requires.second_out c.args.host c.args.round c.requires.is_host c.requires.host
     c.requires.round c.requires.home c.requires.in_set c.stop-from.result c.stop-to.result c.place_told-from_told.result

@@ -1,4 +1,4 @@
-use Rattle.std.proofs.Common.{◌+◌, ◌*◌}
+use Rattle.std.proofs.Common.{◌≡◌, ℕ, ◌+◌, ◌*◌, true}
 use Rattle.league.specs.Limits.{max_distance}
 use Rattle.league.specs.Sets.{has}
 use Rattle.league.proofs.ForCallers.{IsSumWithout}
@@ -16,4 +16,5 @@ invariant-loop-round l = record {
       IsSumWithout (round_count l.schedule.teams) l.fn.edges l.round-iterator l.after (2 * max_distance)
       (λ s. leg_told l.league l.schedule l.i l.j (has l.rounds) l.j (s + 1) +
       leg_told l.league l.schedule l.i l.j (has l.rounds) l.i (s + 1));
+  of_set : (k : ℕ) → has l.round-iterator k ≡ true → has l.fn.edges k ≡ true;
 }

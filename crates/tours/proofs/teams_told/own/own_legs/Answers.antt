@@ -1,10 +1,34 @@
-use Rattle.std.proofs.Common.{◌≡◌, ℕ, ◌<◌, ◌+◌, false, not, ◌&&◌, ◌∙◌, ap₂, arith}
+use Rattle.std.proofs.Common.{◌≡◌, ℕ, ◌<◌, ◌+◌, false, not, ◌&&◌, sym, ◌∙◌, ap₂, arith}
 use Rattle.league.specs.Sets.{has}
 use Rattle.league.proofs.ForCallers.{has_beyond}
 use Rattle.fixtures.specs.Games.{round_count}
 use Rattle.tours.proofs.SetsInSeason.{has_two}
+use Rattle.tours.proofs.TeamsTold.{of_first, of_second}
+use Rattle.tours.proofs.TurnedLegs.{is_turn}
+use Rattle.tours.proofs.EdgeLegs.{one_of_two}
 use Rattle.tours.proofs.OwnLegs.{own_balance, has_both}
 use Rattle.tours.proofs.teams_told.own.own_legs.Goals as goal
+
+pub legs_at_edges-at_edges-requires-clause-edges : goal.legs_at_edges-at_edges-requires-clause-edges
+legs_at_edges-at_edges-requires-clause-edges c = λ s is.
+    one_of_two (has c.args.rounds s) (has c.args.rounds (s + 1))
+    (sym (c.difference-edges.ensures.members s ∙ ap₂ (λ a b. a && not b)
+    (c.starts_meeting-either.ensures.members s ∙ has_two c.args.rounds s)
+    (c.starts_within-inner.ensures.members s ∙ has_both c.args.rounds s)) ∙ is)
+
+pub turned_legs-of_i-requires-clause-turning : goal.turned_legs-of_i-requires-clause-turning
+turned_legs-of_i-requires-clause-turning c =
+    is_turn c.args.schedule.now c.requires.round_robin c.args.i c.args.j c.args.i c.starts_within-inner.result
+    c.turns-turns_i.result c.args.rounds (of_first c.args.i c.args.j) c.requires.i c.requires.first_out
+    c.requires.second_out c.requires.below (λ s. c.starts_within-inner.ensures.members s ∙ has_both c.args.rounds s)
+    c.turns-turns_i.ensures.members
+
+pub turned_legs-of_j-requires-clause-turning : goal.turned_legs-of_j-requires-clause-turning
+turned_legs-of_j-requires-clause-turning c =
+    is_turn c.args.schedule.now c.requires.round_robin c.args.i c.args.j c.args.j c.starts_within-inner.result
+    c.turns-turns_j.result c.args.rounds (of_second c.args.i c.args.j) c.requires.j c.requires.first_out
+    c.requires.second_out c.requires.below (λ s. c.starts_within-inner.ensures.members s ∙ has_both c.args.rounds s)
+    c.turns-turns_j.ensures.members
 
 pub returns-clause-balance : goal.returns-clause-balance
 returns-clause-balance c =

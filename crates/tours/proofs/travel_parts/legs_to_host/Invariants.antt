@@ -4,7 +4,7 @@ use Rattle.league.specs.Sets.{has}
 use Rattle.league.proofs.ForCallers.{IsSumWithout}
 use Rattle.fixtures.specs.Games.{round_count}
 use Rattle.tours.specs.Walked.{legs_of_guest}
-use Rattle.tours.proofs.travel_parts.guest_legs.Given as goal
+use Rattle.tours.proofs.travel_parts.legs_to_host.Given as goal
 
 abbrev pub invariant-loop-round : goal.invariant-loop-round
 invariant-loop-round l =

@@ -1,6 +1,0 @@
-use Rattle.std.proofs.Common.{refl}
-use Rattle.tours.proofs.StoppedWalks.{total_told}
-use Rattle.tours.proofs.travel_within.travel_around_within.Goals as goal
-
-pub returns : goal.returns
-returns c = rw (← c.touched.view_is, c.then_some.ensures) (total_told _ _ _ _ refl c.travel_near-legs.ensures.value)
