@@ -13,4 +13,5 @@ pub mod RuleLimits
 pub mod RuleMembers
 pub mod RuleClasses
 pub mod League
+pub mod Reweighted
 pub mod Made
