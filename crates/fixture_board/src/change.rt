@@ -35,6 +35,7 @@ impl fmt::Display for Change {
 }
 
 /// The round, the home team and the away team of a game, as a line of a script has them.
+#[derive(Clone, Copy)]
 struct Numbers(Game);
 
 impl fmt::Display for Numbers {
@@ -42,7 +43,13 @@ impl fmt::Display for Numbers {
 
     fn fmt<W: fmt::Write>(&self, f: &mut fmt::Formatter<W>) -> fmt::Result {
         let Game { round, home, away } = self.0;
-        write!(f, "{} {} {}", from_one(round), from_one(home), from_one(away))
+        write!(
+            f,
+            "{} {} {}",
+            from_one(round),
+            from_one(home),
+            from_one(away)
+        )
     }
 }
 
