@@ -1,5 +1,5 @@
 -- An exchange changes no more of the costs than their shares.
-use Rattle.std.proofs.Common.{◌≡◌, ℕ, ◌+◌, ◌*◌, ◌<◌, ◌≤◌, Bool, true, false, if◌then◌else◌, length, slice_get, Option, Some, None}
+use Rattle.std.proofs.Common.{◌≡◌, ℕ, ◌+◌, ◌-◌, ◌*◌, ◌<◌, ◌≤◌, Bool, true, false, if◌then◌else◌, length, slice_get, Option, Some, None}
 use Rattle.std.proofs.Common.{refl, sym, ◌∙◌, ap, subst, arith}
 use Rattle.std.proofs.Math.Nat.{mul-add, mul-le-mul_left}
 use Rattle.std.proofs.Math.Path.{fun_ext}
@@ -197,38 +197,46 @@ module _ (l : LeagueData) (g : Games) (scope : Scope) (rest : Cost) (is : IsLeag
       subst (λ cost. score_of l cost < score_limit) (sym (whole_is after counted)) (score_below l g is (sym same))
 
   -- the games first, and then the rules
-  pub both_counted : (games : ℕ) (rules : Penalties) → games ≡ games_share l scope g →
+  pub both_counted : (hard : ℕ) (rules : Penalties) → hard ≡ rest.hard + games_share l scope g →
       rules.hard ≡ rules_share hard_share l.rules scope.main scope.turning g →
       rules.soft ≡ rules_share soft_share l.rules scope.main scope.turning g →
-      with_penalties (record rest { hard = rest.hard + games }) rules ≡ cost_of l g
+      with_penalties (record rest { hard = hard }) rules ≡ cost_of l g
   unfolding penalties_share
-  both_counted games rules games_are hard_is soft_is =
-      same_cost (with_penalties (record rest { hard = rest.hard + games }) rules) (with_penalties rest (penalties_share l scope g))
-      refl (omega (arith, games_are, hard_is)) (omega (arith, soft_is)) ∙
+  both_counted hard rules hard_is of_hard of_soft =
+      same_cost (with_penalties (record rest { hard = hard }) rules) (with_penalties rest (penalties_share l scope g))
+      refl (omega (arith, hard_is, of_hard)) (omega (arith, of_soft)) ∙
       whole
 
-  pub both_small : (games : ℕ) (rules : Penalties) → games ≡ games_share l scope g →
+  pub both_small : (hard : ℕ) (rules : Penalties) → hard ≡ rest.hard + games_share l scope g →
       rules.hard ≡ rules_share hard_share l.rules scope.main scope.turning g →
       rules.soft ≡ rules_share soft_share l.rules scope.main scope.turning g →
-      IsSmall (with_penalties (record rest { hard = rest.hard + games }) rules)
-  both_small games rules games_are hard_is soft_is =
-      subst IsSmall (sym (both_counted games rules games_are hard_is soft_is)) (cost_small l g is same)
+      IsSmall (with_penalties (record rest { hard = hard }) rules)
+  both_small hard rules hard_is of_hard of_soft =
+      subst IsSmall (sym (both_counted hard rules hard_is of_hard of_soft)) (cost_small l g is same)
 
-  -- with the games alone the cost is no greater
-  rules_left : Penalties
-  rules_left = record {
-    hard = rules_share hard_share l.rules scope.main scope.turning g;
+  -- with some of the games alone the cost is no greater
+  left_out : ℕ → Penalties
+  left_out hard = record {
+    hard = (rest.hard + games_share l scope g) - hard + rules_share hard_share l.rules scope.main scope.turning g;
     soft = rules_share soft_share l.rules scope.main scope.turning g;
   }
 
-  pub games_score : (games : ℕ) → games ≡ games_share l scope g →
-      score_of l (record rest { hard = rest.hard + games }) ≤ score_of l (cost_of l g)
-  unfolding rules_left
-  games_score games games_are =
-      subst (λ cost. score_of l (record rest { hard = rest.hard + games }) ≤ score_of l cost)
-      (both_counted games rules_left games_are refl refl)
-      (score_grows l (record rest { hard = rest.hard + games }) rules_left)
+  with_left_out : (hard : ℕ) → hard ≤ rest.hard + games_share l scope g →
+      with_penalties (record rest { hard = hard }) (left_out hard) ≡ cost_of l g
+  unfolding penalties_share left_out
+  with_left_out hard less =
+      same_cost (with_penalties (record rest { hard = hard }) (left_out hard))
+      (with_penalties rest (penalties_share l scope g)) refl (omega (arith, less)) refl ∙
+      whole
 
-  pub games_small : (games : ℕ) → games ≡ games_share l scope g → rest.hard + games < score_limit
-  unfolding rules_left
-  games_small games games_are = omega (arith, (both_small games rules_left games_are refl refl).hard)
+  pub games_score : (hard : ℕ) → hard ≤ rest.hard + games_share l scope g →
+      score_of l (record rest { hard = hard }) ≤ score_of l (cost_of l g)
+  games_score hard less =
+      subst (λ cost. score_of l (record rest { hard = hard }) ≤ score_of l cost) (with_left_out hard less)
+      (score_grows l (record rest { hard = hard }) (left_out hard))
+
+  pub games_small : (hard : ℕ) → hard ≤ rest.hard + games_share l scope g → hard < score_limit
+  games_small hard less =
+      let small : IsSmall (with_penalties (record rest { hard = hard }) (left_out hard)) =
+      subst IsSmall (sym (with_left_out hard less)) (cost_small l g is same) in
+      omega (arith, small.hard)

@@ -5,6 +5,7 @@ ghost use Rattle.std.specs.Prelude.{◌≡◌, ◌+◌, ◌*◌, ◌<◌, ◌≤
 ghost use Rattle.league.specs.League.{teams};
 ghost use Rattle.league.specs.Limits.{max_distance, max_rounds, max_teams};
 ghost use Rattle.league.specs.Sets.{has};
+ghost use Rattle.tours.specs.Parts.{runs_part};
 ghost use Rattle.tours.specs.Phased.{unphased_part};
 ghost use Rattle.tours.specs.Tours.{travel};
 ghost use Rattle.moves.specs.Exchanges.{exchanged_by, IsExchange};
@@ -150,13 +151,33 @@ pub(crate) fn games_share(schedule: &Schedule, league: &League, scope: &Scope) -
     ensures value { result ≡ games_share league.now scope.now schedule.now }
     ensures most { result ≤ 3 * max_rounds * max_teams }
 {
+    runs_share(schedule, league, scope) + meetings_share(schedule, league, scope)
+}
+
+/// What the teams that change sides add to the runs.
+pub(crate) fn runs_share(schedule: &Schedule, league: &League, scope: &Scope) -> u64
+    requires same_size { teams league.now ≡ schedule.now.teams }
+    ensures value { result ≡
+        runs_part schedule.now league.now.at_most (has scope.now.turning) (has scope.now.main.rounds) }
+    ensures most { result ≤ max_rounds * max_teams }
+{
     let of_sides = Touched {
         teams: scope.turning,
         rounds: scope.main.rounds,
     };
     runs_part(schedule, league, of_sides)
-        + repeats_share(schedule, scope)
-        + phases_share(schedule, league, scope.main)
+}
+
+/// What the meetings that the exchange can change add to the repeats and, in a phased league, to the pairs with both games in
+/// one half.
+pub(crate) fn meetings_share(schedule: &Schedule, league: &League, scope: &Scope) -> u64
+    requires same_size { teams league.now ≡ schedule.now.teams }
+    ensures value { result ≡
+        repeats_share scope.now.same_meetings scope.now.main schedule.now +
+        where_phased league.now (unphased_part schedule.now (has scope.now.main.teams)) }
+    ensures most { result ≤ 2 * max_rounds * max_teams }
+{
+    repeats_share(schedule, scope) + phases_share(schedule, league, scope.main)
 }
 
 /// What the meetings that the exchange can change add to the repeats.

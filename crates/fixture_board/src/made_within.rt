@@ -7,7 +7,7 @@ ghost use Rattle.fixture_board.specs.Costs.{cost_of, score_of, score_limit, IsCo
 ghost use Rattle.fixture_board.specs.CostShares.{penalties_share, with_penalties};
 
 use crate::cost::Cost;
-use crate::kept_cost::{games_share, rest_of, travel_after};
+use crate::kept_cost::{meetings_share, rest_of, runs_share, travel_after};
 use crate::rule_costs::shares_of_rules;
 use crate::scope::Scope;
 use fixtures::Schedule;
@@ -16,7 +16,7 @@ use moves::Exchange;
 
 /// Makes an exchange as `make_at_cost` does where the score after is at most `most`, and gives the cost after. Else the
 /// schedule is left as it was, and what costs little to count is counted first: the travel and what the exchange leaves as
-/// it was, for which nothing is made, then runs and repeats, and last the rules. Takes no memory.
+/// it was, for which nothing is made, then runs, then repeats, and last the rules. Takes no memory.
 pub fn make_within(
     schedule: &mut Schedule,
     league: &League,
@@ -53,7 +53,7 @@ pub fn make_within(
 }
 
 /// The cost of the schedule after the exchange where its score is at most `most`, from what the exchange left as it was. The
-/// rules are counted only where the others leave room for them.
+/// meetings are counted only where the runs leave room for them, and the rules only where both do.
 fn whole_within(
     schedule: &Schedule,
     league: &League,
@@ -67,8 +67,15 @@ fn whole_within(
     ensures small { IfSome result (λ cost. score_of league.now cost < score_limit) }
 {
     prove_eq!(league.teams(), schedule.teams());
+    let runs = Cost {
+        hard: rest.hard + runs_share(schedule, league, scope),
+        ..rest
+    };
+    if runs.score(league) > most {
+        return None;
+    }
     let least = Cost {
-        hard: rest.hard + games_share(schedule, league, scope),
+        hard: runs.hard + meetings_share(schedule, league, scope),
         ..rest
     };
     if least.score(league) > most {

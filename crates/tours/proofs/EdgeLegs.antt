@@ -10,6 +10,21 @@ use Rattle.tours.specs.Tours.{tour, leg}
 use Rattle.tours.specs.Told.{in_rounds, stop_told, leg_told}
 use Rattle.tours.proofs.TeamsTold.{at_round, told_out, told_first, told_second}
 
+-- the first legs, where the first round is in the set
+pub told_at_start : (l : LeagueData) (g : Games) (i j : ℕ) (rounds : ℕ → Bool) → 0 < round_count g.teams → rounds 0 ≡ true →
+    distance l (get_or (tour g j) 0 0) (exchanged i j (get_or (tour g i) 1 0)) +
+    distance l (get_or (tour g i) 0 0) (exchanged i j (get_or (tour g j) 1 0)) ≡
+    leg_told l g i j rounds j 0 + leg_told l g i j rounds i 0
+told_at_start l g i j rounds some is =
+    ap₂ (λ x y. x + y)
+    (ap₂ (distance l) (sym (told_out g i j rounds j 0 refl)) (sym (told_second g i j rounds 1 first_in)))
+    (ap₂ (distance l) (sym (told_out g i j rounds i 0 refl)) (sym (told_first g i j rounds 1 first_in)))
+  where
+    first_in : in_rounds g rounds 1 ≡ true
+    first_in = at_round 1 (round_count g.teams) (rounds 0) (omega arith) some ∙ is
+
+-- after a round
+
 pub one_of_two : (a b : Bool) → ((a || b) && not (a && b)) ≡ true → b ≡ not a
 one_of_two true true e = absurd (false≢true e)
 one_of_two true false e = refl

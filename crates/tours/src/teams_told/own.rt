@@ -11,7 +11,7 @@ ghost use Rattle.tours.specs.Tours.{tour, leg};
 ghost use Rattle.tours.specs.Walked.{part_of};
 ghost use Rattle.tours.specs.Told.{leg_told, leg_turned, AreTurns, IsTurn};
 
-use super::places::{exchanged, legs_of_both};
+use super::places::exchanged;
 use crate::legs::{stop, way};
 use crate::told::Legs;
 use fixtures::Schedule;
@@ -65,6 +65,7 @@ fn turns(schedule: &Schedule, inner: SlotSet, team: u8) -> SlotSet
 /// The first legs of `i` and `j`, where the first round is in the set.
 fn first_legs(schedule: &Schedule, league: &League, i: u8, j: u8, rounds: SlotSet) -> Legs
     requires same { teams league.now ≡ schedule.now.teams }
+    requires round_robin { IsDoubleRoundRobin schedule.now }
     requires i { i < schedule.now.teams }
     requires j { j < schedule.now.teams }
     ensures before { result.before ≡ (if has rounds 0
@@ -76,7 +77,7 @@ fn first_legs(schedule: &Schedule, league: &League, i: u8, j: u8, rounds: SlotSe
     ensures after_most { result.after ≤ 2 * max_distance }
 {
     if rounds.has(0) {
-        legs_of_both(schedule, league, i, j, rounds, 0)
+        legs_across(schedule, league, i, j, 1, 0)
     } else {
         Legs {
             before: 0,
