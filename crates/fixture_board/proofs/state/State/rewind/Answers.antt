@@ -8,7 +8,7 @@ use Rattle.fixture_board.proofs.state.State.rewind.Goals as goal
 
 pub retrace-requires-2 : goal.retrace-requires-2
 retrace-requires-2 c =
-    HavePlaces-kept c.in-Some.best.at _ c.requires.kept
+    HavePlaces-kept _ _ c.requires.kept
     (c.deref-2.ensures.value ∙ c.retrace.ensures.items ∙ ap effective (c.deref.ensures.value ∙ c.truncate.ensures.items))
 
 pub cost_of-self-requires : goal.cost_of-self-requires
