@@ -4,6 +4,8 @@
 #[cfg(test)]
 mod answers;
 #[cfg(test)]
+mod between_phases;
+#[cfg(test)]
 mod boards;
 #[cfg(test)]
 mod callers;

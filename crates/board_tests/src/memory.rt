@@ -2,11 +2,14 @@
 
 ghost use Rattle.std.specs.Prelude.{◌≡◌, [], IfSome};
 
-use crate::checks::check_same;
-use fixture_board::{Board, BoardFault};
+use crate::answers::{best, travel};
+use crate::checks::{check_best, check_cost, check_entry, check_same, check_version};
+use crate::questions::{homes, shift, undo};
+use fixture_board::{Board, BoardFault, Change};
 use league::circular;
 use shared_board::Shared;
 use std::alloc::Global;
+use std::process::Abort;
 use std::test::Fail;
 
 #[test]
@@ -53,5 +56,31 @@ fn refused_memory_makes_no_shared_board(rt: HostRuntime) {
         check_same(&rt, &shared.front(&mut seat), &0);
         check_same(&rt, &shared.best(&mut seat), &Some(30));
         check_same(&rt, &shared.close(&rt, seat).whole, &true);
+    }
+}
+
+/// What a search does between two phases takes no memory: it is all done, or there is no board to do it on.
+fn check_between_phases(rt: &impl Abort, mut board: Board) {
+    shift(&mut board, homes(1, 2));
+    undo(&mut board);
+    board.set_hard_weight(7);
+    board.credit(5);
+    board.rewind_to_best();
+    check_same(rt, &board.league().hard_weight(), &7);
+    check_version(rt, &board, 1);
+    check_cost(rt, &board, travel(26));
+    check_best(rt, &board, best(1, 26));
+    check_entry(rt, &board, 0, 5, Change::Shift(homes(1, 2)));
+}
+
+#[test]
+fn between_phases_with_ample_memory(rt: HostRuntime) {
+    check_between_phases(&rt, board(rt.alloc()).expect(&rt, "a board"));
+}
+
+#[test]
+fn between_phases_no_memory_is_refused(rt: HostRuntime) {
+    if let Some(board) = board(rt.alloc()) {
+        check_between_phases(&rt, board);
     }
 }

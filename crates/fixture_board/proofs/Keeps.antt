@@ -66,7 +66,7 @@ IsLeader-more league (Some q) p best g best_g cost at leader cost_is at_is g_is 
 
 -- the changes in effect are no more than the entries
 
-effect-length : (changes : List Change) (change : Change) → length (effect changes change) ≤ length changes + 1
+pub effect-length : (changes : List Change) (change : Change) → length (effect changes change) ≤ length changes + 1
 effect-length changes (Shift mv) = omega (arith, length-append changes (Shift mv ∷ []))
 effect-length changes (Pin game) = omega (arith, length-append changes (Pin game ∷ []))
 effect-length changes (Unpin game) = omega (arith, length-append changes (Unpin game ∷ []))

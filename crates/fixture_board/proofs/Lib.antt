@@ -7,9 +7,12 @@ pub mod Fitting
 pub mod Stand
 pub mod Next
 pub mod Sound
+pub mod Credits
 pub mod Script
 pub mod PinTable
 pub mod PinsLooked
 pub mod Keeps
+pub mod Weighed
+pub mod Rewinding
 pub mod Reasons
 pub mod ForCallers

@@ -1,5 +1,5 @@
 -- A legal history, given as a script, is accepted line by line and leads to the same changes, games, pins and best.
-use Rattle.std.proofs.Common.{◌≡◌, ℕ, suc, ◌+◌, ◌^◌, ◌<◌, Bool, true, false, not, nat_lt, if◌then◌else◌, ◌&&◌, ◌==◌}
+use Rattle.std.proofs.Common.{◌≡◌, ℕ, ◌+◌, ◌^◌, ◌<◌, Bool, false, not, nat_lt, if◌then◌else◌, ◌==◌}
 use Rattle.std.proofs.Common.{List, [], ◌∷◌, ◌++◌, length, Option, Some, None, refl, sym, ◌∙◌, ap, subst, append_assoc}
 use Rattle.std.proofs.Common.{append-nil, arith}
 use Rattle.std.proofs.lemmas.Bool.{and_right, le-ltb, ne_eqb}
@@ -7,7 +7,7 @@ use Rattle.league.specs.League.{LeagueData}
 use Rattle.fixtures.specs.declared.game.Game.{Game}
 use Rattle.moves.specs.declared.moves.Move.{Move}
 use Rattle.moves.specs.Moves.{moved}
-use Rattle.fixture_board.specs.Costs.{cost_of, score_of, total_of}
+use Rattle.fixture_board.specs.Costs.{cost_of, score_of}
 use Rattle.fixture_board.specs.declared.change.Change.{Change}
 use Rattle.fixture_board.specs.declared.change.Change.TheVariants.{Shift, Pin, Unpin, Undo}
 use Rattle.fixture_board.specs.declared.change.Entry.{Entry}
@@ -15,12 +15,14 @@ use Rattle.fixture_board.specs.declared.cost.Cost.{Cost}
 use Rattle.fixture_board.specs.declared.ask.Ask.{Ask}
 use Rattle.fixture_board.specs.declared.reply.Why.{Why}
 use Rattle.fixture_board.specs.declared.reply.Reply.TheVariants.{Done}
-use Rattle.fixture_board.specs.History.{effect, effective, effective_after, games_of, pins_of, Fits, May, legal_after}
-use Rattle.fixture_board.specs.History.{IsLegal, cost_at, better, best_after, best_prefix, as_best, best_of}
+use Rattle.fixture_board.specs.History.{effective, games_of, pins_of, Fits, May, legal_after}
+use Rattle.fixture_board.specs.History.{IsLegal, cost_at}
 use Rattle.fixture_board.specs.Replies.{change_of, is_bad, is_meeting, refusal_at, refusal, entry, next_of, reply_of}
 use Rattle.fixture_board.specs.Replies.{ask_of, played_from, answers_from}
 use Rattle.fixture_board.specs.Replay.{changes_of, under_caller_0, AllDone, IsReplayed}
-use Rattle.fixture_board.proofs.OneMore.{games_of-by, pins_of-by, games_of-more, accepted, replies_done}
+use Rattle.fixture_board.proofs.Credits.{credited-more, length-credited, effective-credited, games_of-credited}
+use Rattle.fixture_board.proofs.Credits.{pins_of-credited, best_of-credited}
+use Rattle.fixture_board.proofs.OneMore.{games_of-more, accepted, replies_done}
 use Rattle.fixture_board.proofs.Scores.{IsScored}
 use Rattle.fixture_board.proofs.Stand.{FitFrom, FitFrom-more, AllStand-fit, pinned_stands}
 
@@ -94,36 +96,7 @@ granted league room h (Pin game) scored under all may = granted-pin league room 
 granted league room h (Unpin game) scored under all may = granted-unpin league room h game under all may
 granted league room h Undo scored under all may = granted-undo league room h under may
 
--- a history under caller 0 has the same changes in effect
-
-under-more : (h : List Entry) (e : Entry) →
-    under_caller_0 (h ++ e ∷ []) ≡ under_caller_0 h ++ record { caller = 0; change = e.change } ∷ []
-under-more [] e = refl
-under-more (x ∷ h) e = ap (λ rest. record { caller = 0; change = x.change } ∷ rest) (under-more h e)
-
-length-under : (h : List Entry) → length (under_caller_0 h) ≡ length h
-length-under [] = refl
-length-under (x ∷ h) = ap suc (length-under h)
-
-effective_after-under : (changes : List Change) (h : List Entry) →
-    effective_after changes (under_caller_0 h) ≡ effective_after changes h
-effective_after-under changes [] = refl
-effective_after-under changes (e ∷ h) = effective_after-under (effect changes e.change) h
-
-effective-under : (h : List Entry) → effective (under_caller_0 h) ≡ effective h
-unfolding effective
-effective-under h = effective_after-under [] h
-
-games_of-under : (league : LeagueData) (h : List Entry) → games_of league (under_caller_0 h) ≡ games_of league h
-games_of-under league h =
-    games_of-by league (under_caller_0 h) (effective h) (effective-under h) ∙ sym (games_of-by league h (effective h) refl)
-
-pins_of-under : (h : List Entry) → pins_of (under_caller_0 h) ≡ pins_of h
-pins_of-under h = pins_of-by (under_caller_0 h) (effective h) (effective-under h) ∙ sym (pins_of-by h (effective h) refl)
-
-cost_at-under : (league : LeagueData) (h : List Entry) → cost_at league (under_caller_0 h) ≡ cost_at league h
-unfolding cost_at
-cost_at-under league h = ap (cost_of league) (games_of-under league h)
+-- a call is refused alike after a history and after the same under caller 0
 
 refusal-under : (league : LeagueData) (room : ℕ) (h : List Entry) (change : Change) →
     refusal league room (under_caller_0 h) (ask_of (length (under_caller_0 h)) change) ≡
@@ -131,65 +104,13 @@ refusal-under : (league : LeagueData) (room : ℕ) (h : List Entry) (change : Ch
 unfolding refusal
 refusal-under league room h change =
     ap (λ at. refusal_at league room at (length (effective (under_caller_0 h))) (games_of league (under_caller_0 h))
-    (pins_of (under_caller_0 h)) (ask_of at change)) (length-under h) ∙
+    (pins_of (under_caller_0 h)) (ask_of at change)) (length-credited 0 h) ∙
     ap (λ changes. refusal_at league room (length h) (length changes) (games_of league (under_caller_0 h))
-    (pins_of (under_caller_0 h)) (ask_of (length h) change)) (effective-under h) ∙
+    (pins_of (under_caller_0 h)) (ask_of (length h) change)) (effective-credited 0 h) ∙
     ap (λ g. refusal_at league room (length h) (length (effective h)) g (pins_of (under_caller_0 h))
-    (ask_of (length h) change)) (games_of-under league h) ∙
+    (ask_of (length h) change)) (games_of-credited league 0 h) ∙
     ap (λ pins. refusal_at league room (length h) (length (effective h)) (games_of league h) pins
-    (ask_of (length h) change)) (pins_of-under h)
-
--- the best prefix under caller 0 is the best prefix, under caller 0
-
-abbrev under_found : Option (List Entry) → Option (List Entry)
-under_found None = None
-under_found (Some p) = Some (under_caller_0 p)
-
-under_found-if : (test : Bool) (x y : Option (List Entry)) →
-    (if test then under_found x else under_found y) ≡ under_found (if test then x else y)
-under_found-if true x y = refl
-under_found-if false x y = refl
-
-better-under : (league : LeagueData) (found : Option (List Entry)) (p : List Entry) →
-    better league (under_found found) (under_caller_0 p) ≡ under_found (better league found p)
-better-under league None p =
-    ap (λ (cost : Cost). if cost.hard == 0 then Some (under_caller_0 p) else None) (cost_at-under league p) ∙
-    under_found-if ((cost_at league p).hard == 0) (Some p) None
-better-under league (Some q) p =
-    ap (λ (cost : Cost). if cost.hard == 0 && nat_lt (total_of cost) (total_of (cost_at league (under_caller_0 q)))
-    then Some (under_caller_0 p) else Some (under_caller_0 q)) (cost_at-under league p) ∙
-    ap (λ (cost : Cost). if (cost_at league p).hard == 0 && nat_lt (total_of (cost_at league p)) (total_of cost)
-    then Some (under_caller_0 p) else Some (under_caller_0 q)) (cost_at-under league q) ∙
-    under_found-if ((cost_at league p).hard == 0 && nat_lt (total_of (cost_at league p)) (total_of (cost_at league q)))
-    (Some p) (Some q)
-
-best_after-under : (league : LeagueData) (before h : List Entry) (found : Option (List Entry)) →
-    best_after league (under_caller_0 before) (under_found found) (under_caller_0 h) ≡
-    under_found (best_after league before found h)
-best_after-under league before [] found = refl
-best_after-under league before (e ∷ h) found =
-    ap (λ x. best_after league x (better league (under_found found) x) (under_caller_0 h)) (sym (under-more before e)) ∙
-    ap (λ x. best_after league (under_caller_0 (before ++ e ∷ [])) x (under_caller_0 h))
-    (better-under league found (before ++ e ∷ [])) ∙
-    best_after-under league (before ++ e ∷ []) h (better league found (before ++ e ∷ []))
-
-best_prefix-under : (league : LeagueData) (h : List Entry) →
-    best_prefix league (under_caller_0 h) ≡ under_found (best_prefix league h)
-unfolding best_prefix
-best_prefix-under league h =
-    ap (λ found. best_after league [] found (under_caller_0 h)) (better-under league None []) ∙
-    best_after-under league [] h (better league None [])
-
-as_best-under : (league : LeagueData) (found : Option (List Entry)) → as_best league (under_found found) ≡ as_best league found
-as_best-under league None = refl
-as_best-under league (Some p) =
-    ap (λ at. Some (record { at = at; total = total_of (cost_at league (under_caller_0 p)) })) (length-under p) ∙
-    ap (λ (cost : Cost). Some (record { at = length p; total = total_of cost })) (cost_at-under league p)
-
-best_of-under : (league : LeagueData) (h : List Entry) → best_of league (under_caller_0 h) ≡ best_of league h
-unfolding best_of
-best_of-under league h =
-    ap (as_best league) (best_prefix-under league h) ∙ as_best-under league (best_prefix league h)
+    (ask_of (length h) change)) (pins_of-credited 0 h)
 
 -- a line after another
 
@@ -217,7 +138,7 @@ line-granted league room before e scored under all may =
       next = accepted league room (under_caller_0 before) 0 ask none ∙
           ap (λ change. under_caller_0 before ++ record { caller = 0; change = change } ∷ [])
           (change_of-ask_of (length (under_caller_0 before)) e.change) ∙
-          sym (under-more before e);
+          sym (credited-more 0 before e);
       at = length (under_caller_0 before) + 1;
       cost = cost_at league (under_caller_0 before ++ entry 0 ask ∷ []);
       reply = replies_done league room (under_caller_0 before) ask none;
@@ -256,7 +177,7 @@ replayed league room h scored legal =
     record {
       history = all.history;
       accepted = all.accepted;
-      games = games_of-under league h;
-      pins = pins_of-under h;
-      best = best_of-under league h;
+      games = games_of-credited league 0 h;
+      pins = pins_of-credited 0 h;
+      best = best_of-credited league 0 h;
     }

@@ -27,7 +27,7 @@ pub FitFrom-legal : (league : LeagueData) (room : ℕ) (h : List Entry) → IsLe
 unfolding IsLegal effective
 FitFrom-legal league room h legal = FitFrom-after league room [] h tt legal
 
-IsDoubleRoundRobin-change : (g : Games) (pins : List Game) (change : Change) → IsDoubleRoundRobin g →
+pub IsDoubleRoundRobin-change : (g : Games) (pins : List Game) (change : Change) → IsDoubleRoundRobin g →
     Fits g pins change → IsDoubleRoundRobin (shifted g change)
 IsDoubleRoundRobin-change g pins (Shift mv) robin fits = each_double_round_robin g mv robin fits.0
 IsDoubleRoundRobin-change g pins (Pin game) robin fits = robin

@@ -47,7 +47,7 @@ AllStand-filter g test [] all = tt
 AllStand-filter g test (pin ∷ pins) all =
     AllStand-if g pin (filter test pins) (test pin) all.0 (AllStand-filter g test pins all.1)
 
-AllStand-change : (g : Games) (pins : List Game) (change : Change) → AllStand g pins → Fits g pins change →
+pub AllStand-change : (g : Games) (pins : List Game) (change : Change) → AllStand g pins → Fits g pins change →
     AllStand (shifted g change) (pinned pins change)
 AllStand-change g pins (Shift mv) all fits = AllStand-moved g mv pins all fits.1
 AllStand-change g pins (Pin game) all fits = ((fits.0, fits.1), all)

@@ -3,8 +3,12 @@ pub mod CostShares
 pub mod History
 pub mod Replies
 pub mod Record
+pub mod Weights
+pub mod Credited
+pub mod Rewound
 pub mod Replay
 pub mod PinPlaces
+pub mod Retraced
 pub mod Kept
 pub mod Laws
 pub mod Lines

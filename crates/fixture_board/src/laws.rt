@@ -8,6 +8,9 @@ ghost use Rattle.fixture_board.specs.History.{IsLegal, best_prefix, IsBestOf};
 ghost use Rattle.fixture_board.specs.Replies.{entry, next_of, reply_of};
 ghost use Rattle.fixture_board.specs.Replay.{IsReplayed};
 ghost use Rattle.fixture_board.specs.Laws.{least_of, TellsOf, IsSound};
+ghost use Rattle.fixture_board.specs.Credited.{IsSameCredited};
+ghost use Rattle.fixture_board.specs.Rewound.{IsSameBestRewound};
+ghost use Rattle.fixture_board.specs.Weights.{IsSameReweighted};
 
 /// The empty history is legal.
 pub fn empty_history_is_legal()
@@ -47,4 +50,21 @@ pub fn best_never_rises()
 pub fn replay()
     ensures { (league : LeagueData) (room : ℕ) (h : List Entry) →
         IsLeague league → IsLegal league room h → IsReplayed league room h }
+{}
+
+/// Under another weight of hard limits a history is legal if it was so before, with the same games, cost and best. Its
+/// changes in effect and its pins are no functions of the league.
+pub fn weight_is_for_scores_alone()
+    ensures { (league : LeagueData) (weight room : ℕ) (h : List Entry) → IsSameReweighted league weight room h }
+{}
+
+/// With all its changes under one caller a history is legal if it was so before, with the same changes in effect, games,
+/// pins, cost and best.
+pub fn callers_are_names_alone()
+    ensures { (league : LeagueData) (room caller : ℕ) (h : List Entry) → IsSameCredited league room caller h }
+{}
+
+/// A history that is taken back to its best version is legal if it was so before, with the same best.
+pub fn rewinding_keeps_the_best()
+    ensures { (league : LeagueData) (room : ℕ) (h : List Entry) → IsSameBestRewound league room h }
 {}

@@ -27,8 +27,9 @@ pub use cost::{Best, Cost};
 pub use counting::cost_of;
 pub use kept_cost::make_at_cost;
 pub use laws::{
-    answer_tells_history, best_is_least, best_never_rises, empty_history_is_legal,
-    legal_history_is_sound, next_history_is_legal, replay,
+    answer_tells_history, best_is_least, best_never_rises, callers_are_names_alone,
+    empty_history_is_legal, legal_history_is_sound, next_history_is_legal, replay,
+    rewinding_keeps_the_best, weight_is_for_scores_alone,
 };
 pub use made_within::make_within;
 pub use reply::{Reply, Why};

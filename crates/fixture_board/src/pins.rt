@@ -1,15 +1,18 @@
 //! Which games are pinned to their rounds.
 
 ghost use Rattle.std.specs.Prelude.{◌≡◌, ℕ, ◌+◌, ◌*◌, ◌<◌, ◌==◌, not, true, false, if◌then◌else◌, List};
-ghost use Rattle.std.specs.Prelude.{replicate, slice_set, IfOk};
+ghost use Rattle.std.specs.Prelude.{replicate, length, slice_set, slice_index_or, IfOk};
 ghost use Rattle.league.specs.Limits.{max_teams};
 ghost use Rattle.league.specs.Sets.{has};
 ghost use Rattle.fixtures.specs.Games.{round_count, cell};
 ghost use Rattle.fixtures.specs.declared.game.Game.{Game};
 ghost use Rattle.moves.specs.Exchanges.{exchanged_by, IsExchange};
 ghost use Rattle.fixture_board.specs.History.{moves_pin, AllStand};
+ghost use Rattle.fixture_board.specs.declared.change.Change.{Change};
+ghost use Rattle.fixture_board.specs.Retraced.{HasPlace, written, written_after};
 ghost use Rattle.fixture_board.specs.PinPlaces.{free, pin_at, pin_place, pin_places, is_pinned_cell, ArePinsAt};
 
+use crate::change::Change;
 use fixtures::{Cell, Game, Schedule};
 use league::limits::MAX_TEAMS;
 use league::{SlotSet, TeamSet};
@@ -78,6 +81,37 @@ impl Pins {
         ensures { self.new ≡ slice_set self.old (pin_place game.home game.away) free }
     {
         self.write(place(game.home, game.away), FREE);
+    }
+
+    /// No game is pinned any more.
+    fn clear(&mut self)
+        ensures { self.new ≡ replicate pin_places free }
+    {
+        self.rounds.fill(FREE);
+        self.count = 0;
+    }
+
+    /// Makes the pin or the unpin that a change is.
+    fn make(&mut self, change: Change)
+        requires { HasPlace change }
+        ensures { self.new ≡ written self.old change }
+    {
+        match change {
+            Change::Pin(game) => self.pin(game),
+            Change::Unpin(game) => self.unpin(game),
+            Change::Shift(_) | Change::Undo => {}
+        }
+    }
+
+    /// Makes the table anew from the changes in effect.
+    pub(crate) fn retrace(&mut self, changes: &[Change])
+        requires { (i : ℕ) (d : Change) → i < length changes.now → HasPlace (slice_index_or changes.now i d) }
+        ensures { self.new ≡ written_after (replicate pin_places free) changes.now }
+    {
+        self.clear();
+        for change in changes {
+            self.make(*change);
+        }
     }
 
     fn write(&mut self, place: usize, round: u8)

@@ -1,7 +1,11 @@
 //! What a board keeps beside its league.
 
 mod checks;
+mod rewind;
 mod steps;
+
+ghost use Rattle.std.specs.Prelude.{◌≡◌};
+ghost use Rattle.fixture_board.specs.Credited.{credited};
 
 use crate::best::keep_best;
 use crate::change::{Change, Entry};
@@ -32,6 +36,7 @@ pub(crate) struct State {
 impl State {
     ghost use Rattle.std.specs.Prelude.{◌≡◌, ◌+◌, ◌^◌, ◌<◌, ◌≤◌, [], length, IfOk};
     ghost use Rattle.fixture_board.specs.Costs.{total_of};
+    ghost use Rattle.fixture_board.specs.Credited.{credited};
     ghost use Rattle.fixture_board.specs.History.{max_room};
     ghost use Rattle.fixture_board.specs.Kept.{kept_of, entered, HasMemory, IsKept};
 
@@ -90,5 +95,25 @@ impl State {
             at,
         );
         Reply::Done { at, cost }
+    }
+
+    /// Puts all changes under one caller.
+    pub(crate) fn credit(&mut self, caller: u32)
+        requires memory { HasMemory self.old }
+        ensures memory { HasMemory self.new }
+        ensures credited { kept_of self.new ≡ record (kept_of self.old) {
+          history = credited caller self.old.history.items;
+        } }
+    {
+        put_under(&mut self.history, caller);
+    }
+}
+
+/// Puts each entry under the caller.
+fn put_under(history: &mut [Entry], caller: u32)
+    ensures { history.new ≡ credited caller history.old }
+{
+    for entry in history.iter_mut() {
+        entry.caller = caller;
     }
 }

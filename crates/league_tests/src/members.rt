@@ -1,18 +1,23 @@
 //! The members of a league as they are read, and those of a league that is made.
 
 use crate::league_texts::{check_fault, circle_text, even_text, league_text, list, square};
+use league::limits::MAX_WEIGHT;
 use league::{Field, League, LeagueFault, circular, constant, read_league};
 use std::alloc::Global;
 use std::process::Abort;
 use std::test::Fail;
 
-fn check_limits(rt: &impl Abort, alloc: Global, at_most: u8, hard_weight: u32) -> Result<(), Fail> {
+fn limits_text(alloc: Global, at_most: u8, hard_weight: u32) -> Result<String, Fail> {
     let far = square(alloc, 4, "1000000")?;
     let names = list(alloc, 4, r#""0123456789012345678901234567890123456789""#)?;
     let more = format!(in alloc;
         ",\"at_most\":{at_most},\"hard_weight\":{hard_weight},\"rules\":[],\"note\":3.5"
     )?;
-    let text = league_text(alloc, names.as_str(), far.as_str(), more.as_str())?;
+    Ok(league_text(alloc, names.as_str(), far.as_str(), more.as_str())?)
+}
+
+fn check_limits(rt: &impl Abort, alloc: Global, at_most: u8, hard_weight: u32) -> Result<(), Fail> {
+    let text = limits_text(alloc, at_most, hard_weight)?;
     check_read_limits(
         rt,
         &read_league(alloc, text.as_bytes())?,
@@ -34,6 +39,21 @@ fn check_read_limits(rt: &impl Abort, league: &League, at_most: u8, hard_weight:
 fn reads_members_to_their_limits(rt: HostRuntime) -> Result<(), Fail> {
     check_limits(&rt, rt.alloc(), 1, 1)?;
     check_limits(&rt, rt.alloc(), 78, 1_000_000)
+}
+
+fn check_set_limits(rt: &impl Abort, league: &mut League, hard_weight: u32) {
+    assert!(rt; (1..=MAX_WEIGHT).contains(&hard_weight));
+    league.set_hard_weight(hard_weight);
+    check_read_limits(rt, league, 78, hard_weight);
+}
+
+#[test]
+fn sets_the_hard_weight_to_its_limits(rt: HostRuntime) -> Result<(), Fail> {
+    let text = limits_text(rt.alloc(), 78, 100)?;
+    let mut league = read_league(rt.alloc(), text.as_bytes())?;
+    check_set_limits(&rt, &mut league, 1_000_000);
+    check_set_limits(&rt, &mut league, 1);
+    Ok(())
 }
 
 #[test]

@@ -1,9 +1,13 @@
 //! What can be asked of a board.
 
-ghost use Rattle.std.specs.Prelude.{◌≡◌};
+ghost use Rattle.std.specs.Prelude.{◌≡◌, ◌≤◌};
+ghost use Rattle.league.specs.Limits.{max_weight};
+ghost use Rattle.league.specs.Reweighted.{reweighted};
+ghost use Rattle.fixture_board.specs.Credited.{credited};
 ghost use Rattle.fixture_board.specs.History.{IsLegal};
 ghost use Rattle.fixture_board.specs.Record.{book};
 ghost use Rattle.fixture_board.specs.Replies.{next_of, reply_of};
+ghost use Rattle.fixture_board.specs.Rewound.{rewound};
 
 use crate::ask::{Ask, Proposal};
 use crate::board::Board;
@@ -53,6 +57,29 @@ impl Board {
         ensures legal { IsLegal self.old.league self.old.room self.old.history }
     {
         self.answer(caller, Ask::Undo { version })
+    }
+
+    /// Sets what each breach of a hard limit adds to a score, from 1 to 1,000,000. All that doesn't speak of scores stays.
+    pub fn set_hard_weight(&mut self, weight: u32)
+        requires least { 1 ≤ weight }
+        requires most { weight ≤ max_weight }
+        ensures { self.new ≡ book (reweighted weight self.old.league) self.old.room self.old.history }
+    {
+        self.league.set_hard_weight(weight);
+    }
+
+    /// Puts all changes under one caller.
+    pub fn credit(&mut self, caller: u32)
+        ensures { self.new ≡ book self.old.league self.old.room (credited caller self.old.history) }
+    {
+        self.state.credit(caller);
+    }
+
+    /// Goes back to the best version, where there is one: the later entries are forgotten.
+    pub fn rewind_to_best(&mut self)
+        ensures { self.new ≡ book self.old.league self.old.room (rewound self.old.league self.old.history) }
+    {
+        self.state.rewind(&self.league);
     }
 
     /// Answers what is asked, as the call that it stands for.

@@ -1,0 +1,7 @@
+use Rattle.std.proofs.Common.{◌≡◌, ℕ, vec_len, ◌∙◌, ap, replicate, arith}
+use Rattle.fixture_board.proofs.pins.Pins.clear.Goals as goal
+
+pub returns : goal.returns
+returns c =
+    let size : vec_len c.self.inside.rounds ≡ 1600 = omega (arith, c.self.invariant.0) in
+    c.fill.ensures.items (λ y is. is) ∙ ap (λ (n : ℕ). replicate n 255) size
