@@ -1,47 +1,71 @@
 //! Schedules read from lists of games, and copied.
 
-use crate::sheets::{FOUR, SIX, games, games_of, has_games, has_sheet};
-use fixtures::{FixtureFault, Game, Schedule, berger, berger_fide, from_games};
+use crate::checks::{check_holds, check_same, check_same_of};
+use crate::sheets::{FOUR, SIX, check_sheet, games, games_of, has_games};
+use crate::small_leagues::{Plan, schedule};
+use fixtures::{FixtureFault, Game, Schedule, berger, from_games};
 use league::limits::{MAX_TEAMS, MIN_TEAMS};
 use std::alloc::Global;
 use std::process::Abort;
 use std::test::Fail;
 
-/// Whether the games of four teams are refused as no double round robin.
-fn is_refused(alloc: Global, games: &[Game]) -> bool {
-    matches!(
-        from_games(alloc, 4, games),
-        Err(FixtureFault::NotRoundRobin)
-    )
+/// The games of four teams, of which there are 12.
+fn games_of_four(rt: &impl Abort, alloc: Global) -> Result<Vec<Game>, Fail> {
+    let four = games(alloc, FOUR)?;
+    check_same(rt, &four.len(), &12);
+    Ok(four)
 }
 
-#[test]
-fn games_in_reverse_order(rt: HostRuntime) -> Result<(), Fail> {
-    let mut games = games(rt.alloc(), FOUR)?;
-    games.reverse();
-    let schedule = from_games(rt.alloc(), 4, &games)?;
-    assert_eq!(rt; schedule.teams(), 4);
-    assert!(rt; has_games(&schedule, &games));
+/// These games of four teams are refused as no double round robin.
+fn check_refused(rt: &impl Abort, alloc: Global, games: &[Game]) {
+    let fault = from_games(alloc, 4, games).err();
+    check_same_of(rt, &games, &fault, &Some(FixtureFault::NotRoundRobin));
+}
+
+/// The schedule has so many teams and these games.
+fn check_schedule(rt: &impl Abort, schedule: &Schedule, teams: u8, games: &[Game]) {
+    let found = (schedule.teams(), u32::from(schedule.rounds()) + 2);
+    check_same(rt, &found, &(teams, 2 * u32::from(teams)));
+    check_holds(rt, &teams, has_games(schedule, games));
+}
+
+fn read(alloc: Global, teams: u8, games: &[Game]) -> Result<Schedule, Fail> {
+    if teams < MIN_TEAMS || teams > MAX_TEAMS || teams % 2 != 0 {
+        return Err("a number of teams".into());
+    }
+    Ok(from_games(alloc, teams, games)?)
+}
+
+/// The games of so many teams, read and copied, are a schedule with these games.
+fn check_read(rt: &impl Abort, alloc: Global, teams: u8, games: &[Game]) -> Result<(), Fail> {
+    let schedule = read(alloc, teams, games)?;
+    check_schedule(rt, &schedule, teams, games);
+    check_schedule(rt, &schedule.duplicate(alloc)?, teams, games);
     Ok(())
 }
 
 #[test]
+fn games_in_reverse_order(rt: HostRuntime) -> Result<(), Fail> {
+    let mut games = games_of_four(&rt, rt.alloc())?;
+    games.reverse();
+    check_read(&rt, rt.alloc(), 4, &games)
+}
+
+#[test]
 fn lists_of_too_few_games(rt: HostRuntime) -> Result<(), Fail> {
-    assert!(rt; is_refused(rt.alloc(), &[]));
-    let mut four = games(rt.alloc(), FOUR)?;
-    assert_eq!(rt; four.len(), 12);
+    check_refused(&rt, rt.alloc(), &[]);
+    let mut four = games_of_four(&rt, rt.alloc())?;
     four.truncate(11);
-    assert!(rt; is_refused(rt.alloc(), &four), "a game left out");
+    check_refused(&rt, rt.alloc(), &four);
     Ok(())
 }
 
 #[test]
 fn list_with_a_game_twice(rt: HostRuntime) -> Result<(), Fail> {
-    let mut four = games(rt.alloc(), FOUR)?;
-    assert_eq!(rt; four.len(), 12);
-    let first = four[0];
+    let mut four = games_of_four(&rt, rt.alloc())?;
+    let first = *four.first().ok_or("a game")?;
     four.push(first)?;
-    assert!(rt; is_refused(rt.alloc(), &four));
+    check_refused(&rt, rt.alloc(), &four);
     Ok(())
 }
 
@@ -56,76 +80,73 @@ const WRONG_GAMES: &[(usize, &str)] = &[
     (11, "6: 2-4"),
 ];
 
-/// The games of four teams, of which one is replaced by that of the sheet.
-fn games_with(alloc: Global, place: usize, sheet: &str) -> Result<Option<Vec<Game>>, Fail> {
-    let mut four = games(alloc, FOUR)?;
+/// The games of four teams with one replaced by that of the sheet are refused.
+fn check_replaced(
+    rt: &impl Abort,
+    alloc: Global,
+    (place, sheet): (usize, &str),
+) -> Result<(), Fail> {
+    let mut four = games_of_four(rt, alloc)?;
     let wrong = games(alloc, sheet)?;
-    if four.len() != 12 || place >= 12 || wrong.len() != 1 {
-        return Ok(None);
-    }
-    four[place] = wrong[0];
-    Ok(Some(four))
+    *four.get_mut(place).ok_or("a place")? = *wrong.first().ok_or("a game")?;
+    check_refused(rt, alloc, &four);
+    Ok(())
 }
 
 #[test]
 fn lists_of_no_double_round_robin(rt: HostRuntime) -> Result<(), Fail> {
-    for &(place, sheet) in WRONG_GAMES {
-        match games_with(rt.alloc(), place, sheet)? {
-            Some(games) => assert!(rt; is_refused(rt.alloc(), &games), "{sheet} at {place}"),
-            None => panic!(rt; "no game {sheet} for {place}"),
-        }
+    for &wrong in WRONG_GAMES {
+        check_replaced(&rt, rt.alloc(), wrong)?;
     }
     Ok(())
 }
 
-/// Asserts that the games of a schedule, read and copied, are a schedule of as many teams with the same games.
-fn assert_read_and_copied(rt: &impl Abort, alloc: Global, schedule: &Schedule) -> Result<(), Fail> {
-    let teams = schedule.teams();
-    let games = games_of(alloc, schedule)?;
-    let copy = from_games(alloc, teams, &games)?.duplicate(alloc)?;
-    assert_eq!(rt; copy.teams(), teams);
-    assert_eq!(rt; copy.rounds(), 2 * teams - 2);
-    assert!(rt; has_games(&copy, &games));
-    Ok(())
+/// The games of the start of so many teams, read and copied.
+fn check_start(rt: &impl Abort, alloc: Global, teams: u8) -> Result<(), Fail> {
+    let start = schedule(alloc, Plan::Berger(teams))?;
+    check_same(rt, &start.teams(), &teams);
+    let games = games_of(alloc, &start)?;
+    check_read(rt, alloc, teams, &games)
 }
 
 #[test]
 fn each_number_of_teams(rt: HostRuntime) -> Result<(), Fail> {
-    for half in MIN_TEAMS / 2..MAX_TEAMS / 2 + 1 {
-        let schedule = berger(rt.alloc(), 2 * half)?;
-        assert_eq!(rt; schedule.teams(), 2 * half);
-        assert_read_and_copied(&rt, rt.alloc(), &schedule)?;
+    for half in 2..=20 {
+        check_start(&rt, rt.alloc(), 2 * half)?;
     }
     Ok(())
 }
 
 #[test]
 fn each_number_of_teams_in_the_order_of_fide(rt: HostRuntime) -> Result<(), Fail> {
-    for half in MIN_TEAMS / 2..MAX_TEAMS / 2 + 1 {
-        assert_eq!(rt; berger_fide(rt.alloc(), 2 * half)?.teams(), 2 * half);
+    for half in 2..=20 {
+        let teams = schedule(rt.alloc(), Plan::Fide(2 * half))?.teams();
+        check_same(&rt, &teams, &(2 * half));
     }
     Ok(())
 }
 
-/// Copies the other schedule, and asserts how many rounds the copy has, and its games.
-fn assert_copied(
+/// Teams of a Berger start that is copied, its rounds, and games of it.
+type Copied = (u8, u8, &'static str);
+
+const COPIES: &[Copied] = &[(4, 6, FOUR), (6, 10, SIX), (4, 6, FOUR)];
+
+fn check_copied(
     rt: &impl Abort,
     alloc: Global,
     copy: &mut Schedule,
-    (other, rounds, sheet): (&Schedule, u8, &str),
+    (teams, rounds, sheet): Copied,
 ) -> Result<(), Fail> {
-    copy.copy_from(other);
-    assert_eq!(rt; copy.rounds(), rounds);
-    assert!(rt; has_sheet(alloc, copy, sheet)?, "{sheet}");
-    Ok(())
+    copy.copy_from(&schedule(alloc, Plan::Berger(teams))?);
+    check_same(rt, &copy.rounds(), &rounds);
+    check_sheet(rt, alloc, copy, sheet)
 }
 
 #[test]
 fn copies_between_sizes(rt: HostRuntime) -> Result<(), Fail> {
-    let four = berger(rt.alloc(), 4)?;
-    let six = berger(rt.alloc(), 6)?;
     let mut copy = berger(rt.alloc(), 10)?;
-    assert_copied(&rt, rt.alloc(), &mut copy, (&four, 6, FOUR))?;
-    assert_copied(&rt, rt.alloc(), &mut copy, (&six, 10, SIX))?;
-    assert_copied(&rt, rt.alloc(), &mut copy, (&four, 6, FOUR))
+    for &copied in COPIES {
+        check_copied(&rt, rt.alloc(), &mut copy, copied)?;
+    }
+    Ok(())
 }
