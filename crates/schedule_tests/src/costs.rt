@@ -4,7 +4,7 @@
 use crate::checks::check_same;
 use crate::small_leagues::{HOMES_EXCHANGED, Plan, league_of, schedule};
 use fixtures::{Schedule, berger};
-use league::{League, circular, constant, read_league};
+use league::{League, constant, read_league};
 use moves::Move;
 use std::alloc::Global;
 use std::process::Abort;
@@ -41,19 +41,22 @@ fn costs_of(schedule: &Schedule, league: &League) -> Option<Costs> {
     ))
 }
 
-/// What each of four teams travels in a circle.
-fn check_tours(rt: &impl Abort, alloc: Global, plan: Plan, tours: Tours) -> Result<(), Fail> {
+/// Tours and costs of four teams in a circle that allows so many rounds in a row.
+fn found(alloc: Global, plan: Plan, at_most: u8) -> Result<(Option<Tours>, Option<Costs>), Fail> {
     let schedule = schedule(alloc, plan)?;
-    let league = circular(alloc, 4)?;
-    check_same(rt, &tours_of(&schedule, &league), &Some(tours));
+    let league = league_of(alloc, at_most)?;
+    Ok((tours_of(&schedule, &league), costs_of(&schedule, &league)))
+}
+
+fn check_tours(rt: &impl Abort, alloc: Global, plan: Plan, tours: Tours) -> Result<(), Fail> {
+    let (found, _) = found(alloc, plan, 3)?;
+    check_same(rt, &found, &Some(tours));
     Ok(())
 }
 
-/// Costs of four teams in a circle.
 fn check_costs(rt: &impl Abort, alloc: Global, plan: Plan, costs: Costs) -> Result<(), Fail> {
-    let schedule = schedule(alloc, plan)?;
-    let league = circular(alloc, 4)?;
-    check_same(rt, &costs_of(&schedule, &league), &Some(costs));
+    let (_, found) = found(alloc, plan, 3)?;
+    check_same(rt, &found, &Some(costs));
     Ok(())
 }
 
@@ -112,9 +115,8 @@ fn check_runs(
     plan: Plan,
     (at_most, runs): (u8, u64),
 ) -> Result<(), Fail> {
-    let schedule = schedule(alloc, plan)?;
-    let league = league_of(alloc, at_most)?;
-    check_same(rt, &costs_of(&schedule, &league), &Some((30, runs, 0)));
+    let (_, found) = found(alloc, plan, at_most)?;
+    check_same(rt, &found, &Some((30, runs, 0)));
     Ok(())
 }
 

@@ -9,19 +9,6 @@ use std::alloc::Global;
 use std::process::Abort;
 use std::test::Fail;
 
-/// The games of four teams, of which there are 12.
-fn games_of_four(rt: &impl Abort, alloc: Global) -> Result<Vec<Game>, Fail> {
-    let four = games(alloc, FOUR)?;
-    check_same(rt, &four.len(), &12);
-    Ok(four)
-}
-
-/// These games of four teams are refused as no double round robin.
-fn check_refused(rt: &impl Abort, alloc: Global, games: &[Game]) {
-    let fault = from_games(alloc, 4, games).err();
-    check_same_of(rt, &games, &fault, &Some(FixtureFault::NotRoundRobin));
-}
-
 /// The schedule has so many teams and these games.
 fn check_schedule(rt: &impl Abort, schedule: &Schedule, teams: u8, games: &[Game]) {
     let found = (schedule.teams(), u32::from(schedule.rounds()) + 2);
@@ -46,59 +33,60 @@ fn check_read(rt: &impl Abort, alloc: Global, teams: u8, games: &[Game]) -> Resu
 
 #[test]
 fn games_in_reverse_order(rt: HostRuntime) -> Result<(), Fail> {
-    let mut games = games_of_four(&rt, rt.alloc())?;
+    let mut games = games(rt.alloc(), FOUR)?;
     games.reverse();
     check_read(&rt, rt.alloc(), 4, &games)
 }
 
-#[test]
-fn lists_of_too_few_games(rt: HostRuntime) -> Result<(), Fail> {
-    check_refused(&rt, rt.alloc(), &[]);
-    let mut four = games_of_four(&rt, rt.alloc())?;
-    four.truncate(11);
-    check_refused(&rt, rt.alloc(), &four);
+/// The games of each sheet, of which there are so many, are refused as no double round robin of four teams.
+fn check_refused(
+    rt: &impl Abort,
+    alloc: Global,
+    count: usize,
+    sheets: &[&str],
+) -> Result<(), Fail> {
+    for sheet in sheets {
+        let games = games(alloc, sheet)?;
+        let fault = from_games(alloc, 4, &games).err();
+        let wanted = (count, Some(FixtureFault::NotRoundRobin));
+        check_same_of(rt, sheet, &(games.len(), fault), &wanted);
+    }
     Ok(())
 }
+
+const A_GAME_LEFT_OUT: &[&str] = &[
+    "1: 1-4 2-3  2: 1-2 4-3  3: 2-4 3-1  4: 3-2 4-1  5: 2-1 3-4  6: 1-3",
+];
+
+#[test]
+fn lists_of_too_few_games(rt: HostRuntime) -> Result<(), Fail> {
+    check_refused(&rt, rt.alloc(), 0, &[""])?;
+    check_refused(&rt, rt.alloc(), 11, A_GAME_LEFT_OUT)
+}
+
+const A_GAME_TWICE: &[&str] = &[
+    "1: 1-4 2-3  2: 1-2 4-3  3: 2-4 3-1  4: 3-2 4-1  5: 2-1 3-4  6: 1-3 4-2  1: 1-4",
+];
 
 #[test]
 fn list_with_a_game_twice(rt: HostRuntime) -> Result<(), Fail> {
-    let mut four = games_of_four(&rt, rt.alloc())?;
-    let first = *four.first().ok_or("a game")?;
-    four.push(first)?;
-    check_refused(&rt, rt.alloc(), &four);
-    Ok(())
+    check_refused(&rt, rt.alloc(), 13, A_GAME_TWICE)
 }
 
-/// The place of a game of four teams, and by which it is replaced.
-const WRONG_GAMES: &[(usize, &str)] = &[
-    (0, "2: 1-4"),
-    (11, "7: 4-2"),
-    (11, "none: 4-2"),
-    (3, "2: 4-4"),
-    (3, "2: 5-3"),
-    (3, "2: 4-5"),
-    (11, "6: 2-4"),
+/// In each one game is replaced.
+const WRONG_GAMES: &[&str] = &[
+    "2: 1-4  1: 2-3  2: 1-2 4-3  3: 2-4 3-1  4: 3-2 4-1  5: 2-1 3-4  6: 1-3 4-2",
+    "1: 1-4 2-3  2: 1-2 4-3  3: 2-4 3-1  4: 3-2 4-1  5: 2-1 3-4  6: 1-3  7: 4-2",
+    "1: 1-4 2-3  2: 1-2 4-3  3: 2-4 3-1  4: 3-2 4-1  5: 2-1 3-4  6: 1-3  none: 4-2",
+    "1: 1-4 2-3  2: 1-2 4-4  3: 2-4 3-1  4: 3-2 4-1  5: 2-1 3-4  6: 1-3 4-2",
+    "1: 1-4 2-3  2: 1-2 5-3  3: 2-4 3-1  4: 3-2 4-1  5: 2-1 3-4  6: 1-3 4-2",
+    "1: 1-4 2-3  2: 1-2 4-5  3: 2-4 3-1  4: 3-2 4-1  5: 2-1 3-4  6: 1-3 4-2",
+    "1: 1-4 2-3  2: 1-2 4-3  3: 2-4 3-1  4: 3-2 4-1  5: 2-1 3-4  6: 1-3 2-4",
 ];
-
-/// The games of four teams with one replaced by that of the sheet are refused.
-fn check_replaced(
-    rt: &impl Abort,
-    alloc: Global,
-    (place, sheet): (usize, &str),
-) -> Result<(), Fail> {
-    let mut four = games_of_four(rt, alloc)?;
-    let wrong = games(alloc, sheet)?;
-    *four.get_mut(place).ok_or("a place")? = *wrong.first().ok_or("a game")?;
-    check_refused(rt, alloc, &four);
-    Ok(())
-}
 
 #[test]
 fn lists_of_no_double_round_robin(rt: HostRuntime) -> Result<(), Fail> {
-    for &wrong in WRONG_GAMES {
-        check_replaced(&rt, rt.alloc(), wrong)?;
-    }
-    Ok(())
+    check_refused(&rt, rt.alloc(), 12, WRONG_GAMES)
 }
 
 /// The games of the start of so many teams, read and copied.

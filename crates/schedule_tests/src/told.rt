@@ -78,24 +78,37 @@ fn exchange_teams(
 
 type Numbers = (u8, u8, u8);
 
-/// Exchanges of rounds on the start of so many teams, each made on what the one before has left, change the travel as told.
-fn check_rounds(rt: &impl Abort, alloc: Global, teams: u8, drawn: &[Numbers]) -> Result<(), Fail> {
-    let league = circular(alloc, teams)?;
-    let mut schedule = schedule(alloc, Plan::Berger(teams))?;
-    for &numbers in drawn {
-        let exchanged = exchange_rounds(&mut schedule, &league, numbers);
-        check_balance(rt, numbers, exchanged);
-    }
-    Ok(())
+/// What is exchanged.
+#[derive(Clone, Copy)]
+enum Kind {
+    Rounds,
+    Teams,
 }
 
-/// Exchanges of teams likewise.
-fn check_teams(rt: &impl Abort, alloc: Global, teams: u8, drawn: &[Numbers]) -> Result<(), Fail> {
+fn exchange(
+    kind: Kind,
+    schedule: &mut Schedule,
+    league: &League,
+    numbers: Numbers,
+) -> Option<Exchanged> {
+    match kind {
+        Kind::Rounds => exchange_rounds(schedule, league, numbers),
+        Kind::Teams => exchange_teams(schedule, league, numbers),
+    }
+}
+
+/// Exchanges on the start of so many teams, each made on what the one before has left, change the travel as told.
+fn check_told(
+    rt: &impl Abort,
+    alloc: Global,
+    kind: Kind,
+    teams: u8,
+    drawn: &[Numbers],
+) -> Result<(), Fail> {
     let league = circular(alloc, teams)?;
     let mut schedule = schedule(alloc, Plan::Berger(teams))?;
     for &numbers in drawn {
-        let exchanged = exchange_teams(&mut schedule, &league, numbers);
-        check_balance(rt, numbers, exchanged);
+        check_balance(rt, numbers, exchange(kind, &mut schedule, &league, numbers));
     }
     Ok(())
 }
@@ -117,17 +130,17 @@ const ROUNDS_OF_TWENTY: &[Numbers] = &[(17, 30, 2), (4, 21, 22), (9, 0, 37), (11
 
 #[test]
 fn exchanges_of_rounds_told_at_four_teams(rt: HostRuntime) -> Result<(), Fail> {
-    check_rounds(&rt, rt.alloc(), 4, ROUNDS_OF_FOUR)
+    check_told(&rt, rt.alloc(), Kind::Rounds, 4, ROUNDS_OF_FOUR)
 }
 
 #[test]
 fn exchanges_of_rounds_told_at_eight_teams(rt: HostRuntime) -> Result<(), Fail> {
-    check_rounds(&rt, rt.alloc(), 8, ROUNDS_OF_EIGHT)
+    check_told(&rt, rt.alloc(), Kind::Rounds, 8, ROUNDS_OF_EIGHT)
 }
 
 #[test]
 fn exchanges_of_rounds_told_at_twenty_teams(rt: HostRuntime) -> Result<(), Fail> {
-    check_rounds(&rt, rt.alloc(), 20, ROUNDS_OF_TWENTY)
+    check_told(&rt, rt.alloc(), Kind::Rounds, 20, ROUNDS_OF_TWENTY)
 }
 
 /// Two teams and a round in which they don't meet.
@@ -139,15 +152,15 @@ const TEAMS_OF_TWENTY: &[Numbers] = &[(12, 7, 2), (0, 1, 37), (18, 5, 21), (3, 9
 
 #[test]
 fn exchanges_of_teams_told_at_four_teams(rt: HostRuntime) -> Result<(), Fail> {
-    check_teams(&rt, rt.alloc(), 4, TEAMS_OF_FOUR)
+    check_told(&rt, rt.alloc(), Kind::Teams, 4, TEAMS_OF_FOUR)
 }
 
 #[test]
 fn exchanges_of_teams_told_at_eight_teams(rt: HostRuntime) -> Result<(), Fail> {
-    check_teams(&rt, rt.alloc(), 8, TEAMS_OF_EIGHT)
+    check_told(&rt, rt.alloc(), Kind::Teams, 8, TEAMS_OF_EIGHT)
 }
 
 #[test]
 fn exchanges_of_teams_told_at_twenty_teams(rt: HostRuntime) -> Result<(), Fail> {
-    check_teams(&rt, rt.alloc(), 20, TEAMS_OF_TWENTY)
+    check_told(&rt, rt.alloc(), Kind::Teams, 20, TEAMS_OF_TWENTY)
 }
