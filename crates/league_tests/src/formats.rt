@@ -1,83 +1,80 @@
 //! What the second format of a league's text has besides.
 
-use crate::league_texts::{check_fault, circle_text};
-use league::{Field, League, LeagueFault, circular, constant, read_league};
+use crate::checks::check_same;
+use crate::league_texts::{check_circle, circle_with};
+use league::LeagueFault::WrongKind;
+use league::{Field, League, circular, constant};
 use std::alloc::Global;
 use std::process::Abort;
 use std::test::Fail;
 
 const FIDE_AND_PHASED: &str = r#","start":"fide","phased":true"#;
 
-fn order_and_phases(league: &League) -> (bool, bool) {
-    (league.fide(), league.phased())
+/// A format, members, and whether the league that is read starts in the order of FIDE and is phased.
+type Start = (u64, &'static str, (bool, bool));
+
+const STARTS: &[Start] = &[
+    (1, "", (false, false)),
+    (1, FIDE_AND_PHASED, (false, false)),
+    (1, r#","start":7,"phased":7"#, (false, false)),
+    (2, "", (false, false)),
+    (2, r#","start":"plain","phased":false"#, (false, false)),
+    (2, r#","start":"fide""#, (true, false)),
+    (2, r#","phased":true"#, (false, true)),
+    (2, FIDE_AND_PHASED, (true, true)),
+    (2, r#","start":"fide","start":"plain""#, (false, false)),
+];
+
+fn check_order_and_phases(rt: &impl Abort, league: &League, expected: (bool, bool)) {
+    check_same(rt, &(league.fide(), league.phased()), &expected);
 }
 
-// the league that is read, and its copy
-fn check_start(
+// the league, and its copy
+fn check_copied(
     rt: &impl Abort,
     alloc: Global,
-    text: &str,
+    league: &League,
     expected: (bool, bool),
 ) -> Result<(), Fail> {
-    let league = read_league(alloc, text.as_bytes())?;
-    assert_eq!(rt; order_and_phases(&league), expected, "{text}");
-    let copy = league.duplicate(alloc)?;
-    assert_eq!(rt; order_and_phases(&copy), expected, "{text}");
+    check_order_and_phases(rt, league, expected);
+    check_order_and_phases(rt, &league.duplicate(alloc)?, expected);
     Ok(())
 }
 
 #[test]
 fn reads_the_order_of_the_start_and_the_phases(rt: HostRuntime) -> Result<(), Fail> {
-    let alloc = rt.alloc();
-    let cases = [
-        (1, "", false, false),
-        (1, FIDE_AND_PHASED, false, false),
-        (1, r#","start":7,"phased":7"#, false, false),
-        (2, "", false, false),
-        (2, r#","start":"plain","phased":false"#, false, false),
-        (2, r#","start":"fide""#, true, false),
-        (2, r#","phased":true"#, false, true),
-        (2, FIDE_AND_PHASED, true, true),
-        (2, r#","start":"fide","start":"plain""#, false, false),
-    ];
-    for (format, more, fide, phased) in cases {
-        let text = circle_text(alloc, format, more)?;
-        check_start(&rt, alloc, text.as_str(), (fide, phased))?;
+    for &(format, more, expected) in STARTS {
+        let league = circle_with(rt.alloc(), format, more)?;
+        check_copied(&rt, rt.alloc(), &league, expected)?;
     }
     Ok(())
 }
 
 #[test]
 fn made_leagues_have_neither_order_nor_phases(rt: HostRuntime) -> Result<(), Fail> {
-    let circle = circular(rt.alloc(), 4)?;
-    assert_eq!(rt; order_and_phases(&circle), (false, false));
-    let even = constant(rt.alloc(), 4)?;
-    assert_eq!(rt; order_and_phases(&even), (false, false));
+    check_order_and_phases(&rt, &circular(rt.alloc(), 4)?, (false, false));
+    check_order_and_phases(&rt, &constant(rt.alloc(), 4)?, (false, false));
     Ok(())
 }
 
+const FAULTS: &[(&str, Field)] = &[
+    (r#","start":"FIDE""#, Field::Start),
+    (r#","start":"""#, Field::Start),
+    (r#","start":true"#, Field::Start),
+    (r#","start":null"#, Field::Start),
+    (r#","phased":1"#, Field::Phased),
+    (r#","phased":"true""#, Field::Phased),
+    (r#","phased":null"#, Field::Phased),
+    (r#","phased":1,"start":1"#, Field::Start),
+    (r#","start":1,"rules":1"#, Field::Rules),
+    (r#","phased":1,"rules":[{}]"#, Field::Phased),
+];
+
 #[test]
 fn tells_faults_of_the_second_format(rt: HostRuntime) -> Result<(), Fail> {
-    let cases = [
-        (r#","start":"FIDE""#, Field::Start),
-        (r#","start":"""#, Field::Start),
-        (r#","start":true"#, Field::Start),
-        (r#","start":null"#, Field::Start),
-        (r#","phased":1"#, Field::Phased),
-        (r#","phased":"true""#, Field::Phased),
-        (r#","phased":null"#, Field::Phased),
-        (r#","phased":1,"start":1"#, Field::Start),
-        (r#","start":1,"rules":1"#, Field::Rules),
-        (r#","phased":1,"rules":[{}]"#, Field::Phased),
-    ];
-    for (more, field) in cases {
-        let text = circle_text(rt.alloc(), 2, more)?;
-        check_fault(
-            &rt,
-            rt.alloc(),
-            text.as_str(),
-            Some(LeagueFault::WrongKind(field)),
-        );
+    for &(more, field) in FAULTS {
+        let case = (more, WrongKind(field));
+        check_circle(&rt, rt.alloc(), 2, case)?;
     }
     Ok(())
 }

@@ -1,9 +1,11 @@
 //! Texts of leagues, and of their parts, for the tests; and the fault that is told of one.
 
-use league::{LeagueFault, read_league};
+use crate::checks::check_same_of;
+use league::{League, LeagueFault, read_league};
 use std::alloc::{AllocError, Global};
 use std::fmt::Write;
 use std::process::Abort;
+use std::test::Fail;
 
 pub(crate) const TEAMS: &str = r#"["T1","T2","T3","T4"]"#;
 
@@ -32,6 +34,18 @@ pub(crate) fn circle_text(alloc: Global, format: u64, more: &str) -> Result<Stri
 pub(crate) fn rules_text(alloc: Global, format: u64, rules: &str) -> Result<String, AllocError> {
     let more = format!(in alloc; ",\"rules\":{rules}")?;
     circle_text(alloc, format, more.as_str())
+}
+
+// four teams in a circle with these members more
+pub(crate) fn circle_with(alloc: Global, format: u64, more: &str) -> Result<League, Fail> {
+    let text = circle_text(alloc, format, more)?;
+    Ok(read_league(alloc, text.as_bytes())?)
+}
+
+// four teams in a circle with these rules
+pub(crate) fn with_rules(alloc: Global, format: u64, rules: &str) -> Result<League, Fail> {
+    let text = rules_text(alloc, format, rules)?;
+    Ok(read_league(alloc, text.as_bytes())?)
 }
 
 // n teams of one name, each as far from each other one
@@ -69,13 +83,32 @@ pub(crate) fn all_games_text(alloc: Global) -> Result<String, AllocError> {
     even_text(alloc, 40, "1", rules.as_str())
 }
 
-pub(crate) fn fault_of(alloc: Global, text: &str) -> Option<LeagueFault> {
-    read_league(alloc, text.as_bytes()).err()
+// the bytes are told to have this fault, or none
+pub(crate) fn check_bytes(
+    rt: &impl Abort,
+    alloc: Global,
+    bytes: &[u8],
+    fault: Option<LeagueFault>,
+) {
+    check_same_of(rt, &bytes, &read_league(alloc, bytes).err(), &fault);
 }
 
 // the text is told to have this fault, or none
 pub(crate) fn check_fault(rt: &impl Abort, alloc: Global, text: &str, fault: Option<LeagueFault>) {
-    assert_eq!(rt; fault_of(alloc, text), fault, "{text}");
+    let found = read_league(alloc, text.as_bytes()).err();
+    check_same_of(rt, &text, &found, &fault);
+}
+
+// four teams in a circle with these members more are told to have this fault
+pub(crate) fn check_circle(
+    rt: &impl Abort,
+    alloc: Global,
+    format: u64,
+    (more, fault): (&str, LeagueFault),
+) -> Result<(), Fail> {
+    let text = circle_text(alloc, format, more)?;
+    check_fault(rt, alloc, text.as_str(), Some(fault));
+    Ok(())
 }
 
 // n times the item, between commas
@@ -89,16 +122,21 @@ pub(crate) fn list(alloc: Global, n: usize, item: &str) -> Result<String, AllocE
     Ok(text)
 }
 
+// adds the row of a team, of n numbers
+fn push_row(text: &mut String, n: usize, a: usize, other: &str) -> Result<(), AllocError> {
+    text.push_str(if a > 0 { ",[" } else { "[" })?;
+    for b in 0..n {
+        text.push_str(if b > 0 { "," } else { "" })?;
+        text.push_str(if a == b { "0" } else { other })?;
+    }
+    text.push_str("]")
+}
+
 // n rows of n numbers: 0 on the diagonal, and the other one elsewhere
-pub(crate) fn square(alloc: Global, n: usize, other: &str) -> Result<String, AllocError> {
+fn square(alloc: Global, n: usize, other: &str) -> Result<String, AllocError> {
     let mut text = String::from_str(alloc, "[")?;
     for a in 0..n {
-        text.push_str(if a > 0 { ",[" } else { "[" })?;
-        for b in 0..n {
-            text.push_str(if b > 0 { "," } else { "" })?;
-            text.push_str(if a == b { "0" } else { other })?;
-        }
-        text.push_str("]")?;
+        push_row(&mut text, n, a, other)?;
     }
     text.push_str("]")?;
     Ok(text)

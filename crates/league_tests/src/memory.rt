@@ -3,8 +3,10 @@
 //! `rt try --test --fail-alloc N` refuses the Nth allocation of each test. A test `.._tells_refused_memory` passes at
 //! every N; `.._with_ample_memory` fails while N is among its allocations.
 
-use crate::league_texts::{FOUR_TEAMS, GOOD_RULE, all_games_text, list, rules_text};
-use league::{League, LeagueFault, Rule, RuleBody, Weight, circular, constant, read_league};
+use crate::checks::{check_holds, check_same, check_same_of};
+use crate::league_texts::{FOUR_TEAMS, GOOD_RULE, all_games_text, check_bytes, list, rules_text};
+use crate::rules::{TWO_GAMES, check_all_games, check_body, check_games, weight_of};
+use league::{League, LeagueFault, SlotSet, TeamSet, Weight, circular, constant, read_league};
 use std::alloc::{AllocError, Global};
 use std::process::Abort;
 use std::test::Fail;
@@ -20,41 +22,34 @@ const WITH_RULES: &str = r#"{
     ]
 }"#;
 
+const NAMES: &[&str; 4] = &["T1", "T2", "T3", "T4"];
+
+/// Distances of four teams.
+type Table = [[u32; 4]; 4];
+
+const CIRCLE: &Table = &[[0, 1, 2, 1], [1, 0, 1, 2], [2, 1, 0, 1], [1, 2, 1, 0]];
+
+const CONSTANT: &Table = &[[0, 1, 1, 1], [1, 0, 1, 1], [1, 1, 0, 1], [1, 1, 1, 0]];
+
 fn check_team_of_four(rt: &impl Abort, league: &League, a: u8, distances: &[u32; 4]) {
     assert!(rt; a < 4 && league.teams() == 4);
-    let names = ["T1", "T2", "T3", "T4"];
-    assert_eq!(rt; league.name(a), names[usize::from(a)]);
-    for b in 0..4 {
-        let distance = distances[usize::from(b)];
-        assert_eq!(rt; league.distance(a, b), distance, "from {a} to {b}");
-    }
+    check_same(rt, &league.name(a), &NAMES[usize::from(a)]);
+    let found = [
+        league.distance(a, 0),
+        league.distance(a, 1),
+        league.distance(a, 2),
+        league.distance(a, 3),
+    ];
+    check_same_of(rt, &a, &found, distances);
 }
 
-fn check_table_of_four(rt: &impl Abort, league: &League, rules: usize, distances: &[[u32; 4]; 4]) {
-    assert_eq!(rt; league.teams(), 4);
-    assert_eq!(rt; league.rule_count(), rules);
+fn check_four(rt: &impl Abort, league: &League, rules: usize, distances: &Table) {
+    check_same(rt, &league.rule_count(), &rules);
     for a in 0..4 {
         check_team_of_four(rt, league, a, &distances[usize::from(a)]);
     }
-    assert_eq!(rt; (league.at_most(), league.hard_weight()), (3, 100));
-}
-
-fn check_circle_of_four(rt: &impl Abort, league: &League, rules: usize) {
-    check_table_of_four(
-        rt,
-        league,
-        rules,
-        &[[0, 1, 2, 1], [1, 0, 1, 2], [2, 1, 0, 1], [1, 2, 1, 0]],
-    );
-}
-
-fn check_constant_of_four(rt: &impl Abort, league: &League) {
-    check_table_of_four(
-        rt,
-        league,
-        0,
-        &[[0, 1, 1, 1], [1, 0, 1, 1], [1, 1, 0, 1], [1, 1, 1, 0]],
-    );
+    let limits = (league.at_most(), league.hard_weight());
+    check_same(rt, &limits, &(3, 100));
 }
 
 // four teams in a circle with so many rules
@@ -68,79 +63,94 @@ fn told(rt: &impl Abort, answer: Result<League, LeagueFault>) -> Option<League> 
     match answer {
         Ok(league) => Some(league),
         Err(fault) => {
-            assert_eq!(rt; fault, LeagueFault::Memory);
+            check_same(rt, &fault, &LeagueFault::Memory);
             None
         }
     }
 }
 
+// the league without rules, or memory was refused
+fn check_told(rt: &impl Abort, answer: Result<League, LeagueFault>, distances: &Table) {
+    if let Some(league) = told(rt, answer) {
+        check_four(rt, &league, 0, distances);
+    }
+}
+
 #[test]
 fn read_league_succeeds_with_ample_memory(rt: HostRuntime) -> Result<(), Fail> {
-    check_circle_of_four(&rt, &read_league(rt.alloc(), FOUR_TEAMS.as_bytes())?, 0);
+    let league = read_league(rt.alloc(), FOUR_TEAMS.as_bytes())?;
+    check_four(&rt, &league, 0, CIRCLE);
     Ok(())
 }
 
 #[test]
 fn read_league_tells_refused_memory(rt: HostRuntime) {
-    if let Some(league) = told(&rt, read_league(rt.alloc(), FOUR_TEAMS.as_bytes())) {
-        check_circle_of_four(&rt, &league, 0);
-    }
+    let answer = read_league(rt.alloc(), FOUR_TEAMS.as_bytes());
+    check_told(&rt, answer, CIRCLE);
 }
 
 #[test]
 fn read_league_tells_refused_memory_before_a_later_fault(rt: HostRuntime) {
     let fault = read_league(rt.alloc(), ASYMMETRIC.as_bytes()).err();
-    assert!(rt; matches!(fault, Some(LeagueFault::Asymmetric | LeagueFault::Memory)));
-}
-
-fn check_game_rule(rt: &impl Abort, rule: &Rule) {
-    assert_eq!(rt; rule.weight, Weight::Soft(10));
-    assert!(rt; matches!(&rule.body, RuleBody::Ga1 { games, .. } if games.len() == 2));
-}
-
-fn check_break_rule(rt: &impl Abort, rule: &Rule) {
-    assert_eq!(rt; rule.weight, Weight::Hard);
-    assert!(rt; matches!(rule.body, RuleBody::Br2 { most: 4, .. }));
+    let is_told = matches!(fault, Some(LeagueFault::Asymmetric | LeagueFault::Memory));
+    check_holds(&rt, &fault, is_told);
 }
 
 fn check_rules(rt: &impl Abort, league: &League) {
-    check_circle_of_four(rt, league, 2);
-    assert_eq!(rt; league.rule_count(), 2);
-    check_game_rule(rt, league.rule(0));
-    check_break_rule(rt, league.rule(1));
+    check_four(rt, league, 2, CIRCLE);
+    let weights = (weight_of(league, 0), weight_of(league, 1));
+    check_same(rt, &weights, &(Some(Weight::Soft(10)), Some(Weight::Hard)));
+    let second = SlotSet::empty().with(1);
+    check_games(rt, league, 0, TWO_GAMES, [1, 1], second);
+    let sets = (Some(TeamSet::below(4)), None, Some(SlotSet::below(6)));
+    check_body(rt, league, 1, ("BR2", None, [4, 0]), sets);
+}
+
+fn check_rules_and_copy(rt: &impl Abort, alloc: Global, league: &League) -> Result<(), AllocError> {
+    check_rules(rt, league);
+    check_rules(rt, &league.duplicate(alloc)?);
+    Ok(())
 }
 
 #[test]
 fn read_league_with_rules_succeeds_with_ample_memory(rt: HostRuntime) -> Result<(), Fail> {
     let league = read_league(rt.alloc(), WITH_RULES.as_bytes())?;
-    check_rules(&rt, &league);
-    check_rules(&rt, &league.duplicate(rt.alloc())?);
+    check_rules_and_copy(&rt, rt.alloc(), &league)?;
     Ok(())
 }
 
 #[test]
 fn read_league_with_rules_tells_refused_memory(rt: HostRuntime) {
     if let Some(league) = told(&rt, read_league(rt.alloc(), WITH_RULES.as_bytes())) {
-        check_rules(&rt, &league);
-        if let Ok(copy) = league.duplicate(rt.alloc()) {
-            check_rules(&rt, &copy);
-        }
+        let _copied = check_rules_and_copy(&rt, rt.alloc(), &league);
         check_rules(&rt, &league);
     }
 }
 
+// the league, its copy if there is memory, and the league again
+fn check_copied(rt: &impl Abort, alloc: Global, league: &League, rules: usize) {
+    check_four(rt, league, rules, CIRCLE);
+    if let Ok(copy) = league.duplicate(alloc) {
+        check_four(rt, &copy, rules, CIRCLE);
+    }
+    check_four(rt, league, rules, CIRCLE);
+}
+
+// four teams in a circle with so many rules
+fn check_many_rules(rt: &impl Abort, alloc: Global, count: usize) -> Result<(), AllocError> {
+    let text = many_rules_text(alloc, count)?;
+    if let Some(league) = told(rt, read_league(alloc, text.as_bytes())) {
+        check_copied(rt, alloc, &league, count);
+    }
+    Ok(())
+}
+
+const RULE_COUNTS: &[usize] = &[0, 1, 256];
+
 #[test]
 fn read_league_tells_refused_memory_at_each_number_of_rules(rt: HostRuntime) {
-    for count in [0, 1, 256] {
-        let Ok(text) = many_rules_text(rt.alloc(), count) else {
-            continue;
-        };
-        if let Some(league) = told(&rt, read_league(rt.alloc(), text.as_bytes())) {
-            check_circle_of_four(&rt, &league, count);
-            if let Ok(copy) = league.duplicate(rt.alloc()) {
-                check_circle_of_four(&rt, &copy, count);
-            }
-        }
+    for &count in RULE_COUNTS {
+        let _made = check_many_rules(&rt, rt.alloc(), count);
     }
 }
 
@@ -150,66 +160,56 @@ fn read_league_tells_refused_memory_at_all_games(rt: HostRuntime) {
         return;
     };
     if let Some(league) = told(&rt, read_league(rt.alloc(), text.as_bytes())) {
-        assert_eq!(rt; league.rule_count(), 1);
-        assert!(rt;
-            matches!(&league.rule(0).body, RuleBody::Ga1 { games, .. } if games.len() == 1560)
-        );
+        check_all_games(&rt, &league);
     }
 }
 
 #[test]
 fn circular_succeeds_with_ample_memory(rt: HostRuntime) -> Result<(), Fail> {
-    check_circle_of_four(&rt, &circular(rt.alloc(), 4)?, 0);
+    check_four(&rt, &circular(rt.alloc(), 4)?, 0, CIRCLE);
     Ok(())
 }
 
 #[test]
 fn circular_tells_refused_memory(rt: HostRuntime) {
-    if let Some(league) = told(&rt, circular(rt.alloc(), 4)) {
-        check_circle_of_four(&rt, &league, 0);
-    }
+    check_told(&rt, circular(rt.alloc(), 4), CIRCLE);
 }
 
 #[test]
 fn constant_succeeds_with_ample_memory(rt: HostRuntime) -> Result<(), Fail> {
-    check_constant_of_four(&rt, &constant(rt.alloc(), 4)?);
+    check_four(&rt, &constant(rt.alloc(), 4)?, 0, CONSTANT);
     Ok(())
 }
 
 #[test]
 fn constant_tells_refused_memory(rt: HostRuntime) {
-    if let Some(league) = told(&rt, constant(rt.alloc(), 4)) {
-        check_constant_of_four(&rt, &league);
-    }
+    check_told(&rt, constant(rt.alloc(), 4), CONSTANT);
 }
 
 #[test]
 fn duplicate_succeeds_with_ample_memory(rt: HostRuntime) -> Result<(), Fail> {
     let league = circular(rt.alloc(), 4)?;
-    check_circle_of_four(&rt, &league.duplicate(rt.alloc())?, 0);
-    check_circle_of_four(&rt, &league, 0);
+    let copy = league.duplicate(rt.alloc())?;
+    check_four(&rt, &copy, 0, CIRCLE);
+    check_four(&rt, &league, 0, CIRCLE);
     Ok(())
 }
 
 #[test]
 fn duplicate_tells_refused_memory(rt: HostRuntime) {
     if let Some(league) = told(&rt, circular(rt.alloc(), 4)) {
-        match league.duplicate(rt.alloc()) {
-            Ok(copy) => check_circle_of_four(&rt, &copy, 0),
-            Err(AllocError) => {}
-        }
-        check_circle_of_four(&rt, &league, 0);
+        check_copied(&rt, rt.alloc(), &league, 0);
     }
 }
 
+const WRONG_COUNTS: &[u8] = &[0, 5, 42];
+
 #[test]
 fn refusals_without_memory(rt: HostRuntime) {
-    for n in [0, 5, 42] {
-        assert_eq!(rt; circular(rt.alloc(), n).err(), Some(LeagueFault::TeamCount));
-        assert_eq!(rt; constant(rt.alloc(), n).err(), Some(LeagueFault::TeamCount));
+    let refused = Some(LeagueFault::TeamCount);
+    for &n in WRONG_COUNTS {
+        check_same_of(&rt, &n, &circular(rt.alloc(), n).err(), &refused);
+        check_same_of(&rt, &n, &constant(rt.alloc(), n).err(), &refused);
     }
-    assert_eq!(rt;
-        read_league(rt.alloc(), b"").err(),
-        Some(LeagueFault::NotJson)
-    );
+    check_bytes(&rt, rt.alloc(), b"", Some(LeagueFault::NotJson));
 }

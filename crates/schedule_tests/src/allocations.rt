@@ -1,5 +1,6 @@
 //! Calls for which there may be too little memory.
 
+use crate::checks::{check_holds, check_same};
 use crate::sheets::{FOUR, games, has_games};
 use fixtures::{FixtureFault, Game, Schedule, berger, berger_fide, from_games};
 use std::alloc::Global;
@@ -12,7 +13,7 @@ use std::test::Fail;
 fn is_start_refused(rt: &impl Abort, alloc: Global, four: &[Game]) -> bool {
     match berger(alloc, 4) {
         Ok(start) => {
-            assert!(rt; has_games(&start, four));
+            check_holds(rt, &"the start", has_games(&start, four));
             is_copy_refused(rt, alloc, &start, four)
         }
         Err(_) => true,
@@ -22,7 +23,7 @@ fn is_start_refused(rt: &impl Abort, alloc: Global, four: &[Game]) -> bool {
 fn is_copy_refused(rt: &impl Abort, alloc: Global, start: &Schedule, four: &[Game]) -> bool {
     match start.duplicate(alloc) {
         Ok(copy) => {
-            assert!(rt; has_games(&copy, four));
+            check_holds(rt, &"the copy", has_games(&copy, four));
             false
         }
         Err(_) => true,
@@ -32,7 +33,7 @@ fn is_copy_refused(rt: &impl Abort, alloc: Global, start: &Schedule, four: &[Gam
 fn is_fide_refused(rt: &impl Abort, alloc: Global) -> bool {
     match berger_fide(alloc, 4) {
         Ok(fide) => {
-            assert_eq!(rt; fide.teams(), 4);
+            check_same(rt, &fide.teams(), &4);
             false
         }
         Err(_) => true,
@@ -42,11 +43,11 @@ fn is_fide_refused(rt: &impl Abort, alloc: Global) -> bool {
 fn is_list_refused(rt: &impl Abort, alloc: Global, four: &[Game]) -> bool {
     match from_games(alloc, 4, four) {
         Ok(schedule) => {
-            assert!(rt; has_games(&schedule, four));
+            check_holds(rt, &"the list", has_games(&schedule, four));
             false
         }
         Err(fault) => {
-            assert_eq!(rt; fault, FixtureFault::Memory);
+            check_same(rt, &fault, &FixtureFault::Memory);
             true
         }
     }
@@ -54,9 +55,11 @@ fn is_list_refused(rt: &impl Abort, alloc: Global, four: &[Game]) -> bool {
 
 fn is_half_refused(rt: &impl Abort, alloc: Global, four: &[Game]) -> bool {
     match from_games(alloc, 4, &four[..four.len() / 2]) {
-        Ok(_) => panic!(rt; "half of the games are no double round robin"),
-        Err(FixtureFault::NotRoundRobin) => false,
         Err(FixtureFault::Memory) => true,
+        other => {
+            check_same(rt, &other.err(), &Some(FixtureFault::NotRoundRobin));
+            false
+        }
     }
 }
 
@@ -81,6 +84,6 @@ fn memory_calls_answer_or_are_refused(rt: HostRuntime) {
 #[test]
 fn memory_calls_answer_with_ample_memory(rt: HostRuntime) -> Result<(), Fail> {
     let four = games(rt.alloc(), FOUR)?;
-    assert!(rt; !is_any_refused(&rt, rt.alloc(), &four));
+    check_same(&rt, &is_any_refused(&rt, rt.alloc(), &four), &false);
     Ok(())
 }

@@ -1,33 +1,14 @@
 //! The teams and the rounds that partial moves take along.
 
+use crate::checks::{check_holds, check_same};
+use crate::sets::{rounds_of, teams_of};
+use crate::small_leagues::{Plan, schedule};
 use fixtures::{Schedule, berger};
-use league::limits::{MAX_ROUNDS, MAX_TEAMS};
-use league::{SlotSet, TeamSet};
+use league::TeamSet;
 use moves::{Move, check, moved_rounds, moved_teams};
+use std::alloc::Global;
 use std::process::Abort;
 use std::test::Fail;
-
-/// The set of these teams, without those that are none.
-fn teams_of(teams: &[u8]) -> TeamSet {
-    let mut set = TeamSet::empty();
-    for &team in teams {
-        if team < MAX_TEAMS {
-            set = set.with(team);
-        }
-    }
-    set
-}
-
-/// The set of these rounds, without those that are none.
-fn rounds_of(rounds: &[u8]) -> SlotSet {
-    let mut set = SlotSet::empty();
-    for &round in rounds {
-        if round < MAX_ROUNDS {
-            set = set.with(round);
-        }
-    }
-    set
-}
 
 /// Whether just these teams exchange rounds `k` and `l` with `i`.
 fn move_along(schedule: &Schedule, (i, k, l): (u8, u8, u8), teams: &[u8]) -> bool {
@@ -49,16 +30,22 @@ fn are_exchanged_in(schedule: &Schedule, (i, j, k): (u8, u8, u8), rounds: &[u8])
 /// Three numbers of a partial move, and the teams or rounds that it takes along.
 type Case = ((u8, u8, u8), &'static [u8]);
 
-fn assert_along(rt: &impl Abort, schedule: &Schedule, cases: &[Case]) {
-    for &(numbers, teams) in cases {
-        assert!(rt; move_along(schedule, numbers, teams), "{numbers:?}");
+/// On the start of so many teams.
+fn check_sets(
+    rt: &impl Abort,
+    alloc: Global,
+    size: u8,
+    teams: &[Case],
+    rounds: &[Case],
+) -> Result<(), Fail> {
+    let schedule = schedule(alloc, Plan::Berger(size))?;
+    for &(numbers, teams) in teams {
+        check_holds(rt, &numbers, move_along(&schedule, numbers, teams));
     }
-}
-
-fn assert_exchanged_in(rt: &impl Abort, schedule: &Schedule, cases: &[Case]) {
-    for &(numbers, rounds) in cases {
-        assert!(rt; are_exchanged_in(schedule, numbers, rounds), "{numbers:?}");
+    for &(numbers, rounds) in rounds {
+        check_holds(rt, &numbers, are_exchanged_in(&schedule, numbers, rounds));
     }
+    Ok(())
 }
 
 /// The last is of a round with itself.
@@ -72,10 +59,7 @@ const ROUNDS_OF_FOUR: &[Case] = &[((0, 1, 0), &[0, 2, 3, 5]), ((0, 2, 0), &[0, 4
 
 #[test]
 fn least_sets_of_four(rt: HostRuntime) -> Result<(), Fail> {
-    let four = berger(rt.alloc(), 4)?;
-    assert_along(&rt, &four, TEAMS_OF_FOUR);
-    assert_exchanged_in(&rt, &four, ROUNDS_OF_FOUR);
-    Ok(())
+    check_sets(&rt, rt.alloc(), 4, TEAMS_OF_FOUR, ROUNDS_OF_FOUR)
 }
 
 const TEAMS_OF_TEN: &[Case] = &[((0, 0, 3), &[0, 3, 6, 9]), ((4, 0, 3), &[1, 2, 4, 5, 7, 8])];
@@ -86,12 +70,8 @@ const ROUNDS_OF_SIX: &[Case] = &[((0, 3, 0), &[0, 2, 6, 9])];
 
 #[test]
 fn least_sets_of_ten_and_six(rt: HostRuntime) -> Result<(), Fail> {
-    let ten = berger(rt.alloc(), 10)?;
-    assert_along(&rt, &ten, TEAMS_OF_TEN);
-    assert_exchanged_in(&rt, &ten, ROUNDS_OF_TEN);
-    let six = berger(rt.alloc(), 6)?;
-    assert_exchanged_in(&rt, &six, ROUNDS_OF_SIX);
-    Ok(())
+    check_sets(&rt, rt.alloc(), 10, TEAMS_OF_TEN, ROUNDS_OF_TEN)?;
+    check_sets(&rt, rt.alloc(), 6, &[], ROUNDS_OF_SIX)
 }
 
 // Two rounds d apart of the first 39 fall into as many chains as 39 and d have for their greatest common divisor. The rounds of
@@ -111,11 +91,15 @@ const ROUNDS_OF_FORTY: &[Case] = &[
     ((0, 39, 1), &[1, 5, 11, 25, 41, 43, 47, 49, 55, 59, 61, 71]),
 ];
 
+/// Rounds 0 and 1 are exchanged for all teams.
+fn check_all_of_forty(rt: &impl Abort, alloc: Global) -> Result<(), Fail> {
+    let teams = moved_teams(&berger(alloc, 40)?, 0, 0, 1);
+    check_same(rt, &teams, &TeamSet::below(40));
+    Ok(())
+}
+
 #[test]
 fn least_sets_of_forty(rt: HostRuntime) -> Result<(), Fail> {
-    let forty = berger(rt.alloc(), 40)?;
-    assert_eq!(rt; moved_teams(&forty, 0, 0, 1), TeamSet::below(40));
-    assert_along(&rt, &forty, TEAMS_OF_FORTY);
-    assert_exchanged_in(&rt, &forty, ROUNDS_OF_FORTY);
-    Ok(())
+    check_all_of_forty(&rt, rt.alloc())?;
+    check_sets(&rt, rt.alloc(), 40, TEAMS_OF_FORTY, ROUNDS_OF_FORTY)
 }

@@ -1,7 +1,10 @@
 //! Which games a move changes.
 
+use crate::checks::check_same_of;
 use fixtures::{Game, Schedule, berger};
 use moves::{Move, check, would_change};
+use std::alloc::Global;
+use std::process::Abort;
 use std::test::Fail;
 
 /// Whether the move changes the game, where it can be made and the game is there.
@@ -20,7 +23,9 @@ fn changes(schedule: &Schedule, mv: Move, game: Game) -> Option<bool> {
 }
 
 /// A move, round, home and away of a game, and whether it changes it.
-const CASES: &[(Move, (u8, u8, u8), bool)] = &[
+type Case = (Move, (u8, u8, u8), bool);
+
+const CASES: &[Case] = &[
     (Move::Rounds { k: 0, l: 1 }, (0, 0, 3), true),
     (Move::Teams { i: 0, j: 1 }, (0, 0, 3), true),
     (Move::Teams { i: 0, j: 1 }, (1, 0, 1), false),
@@ -32,12 +37,17 @@ const CASES: &[(Move, (u8, u8, u8), bool)] = &[
     (Move::PartTeams { i: 0, j: 2, k: 0 }, (1, 0, 1), false),
 ];
 
-#[test]
-fn games_of_four_that_would_change(rt: HostRuntime) -> Result<(), Fail> {
-    let start = berger(rt.alloc(), 4)?;
-    for &(mv, (round, home, away), answer) in CASES {
+/// On the start of four teams.
+fn check_changes(rt: &impl Abort, alloc: Global, cases: &[Case]) -> Result<(), Fail> {
+    let start = berger(alloc, 4)?;
+    for &(mv, (round, home, away), answer) in cases {
         let game = Game { round, home, away };
-        assert_eq!(rt; changes(&start, mv, game), Some(answer), "{mv:?} {game:?}");
+        check_same_of(rt, &(mv, game), &changes(&start, mv, game), &Some(answer));
     }
     Ok(())
+}
+
+#[test]
+fn games_of_four_that_would_change(rt: HostRuntime) -> Result<(), Fail> {
+    check_changes(&rt, rt.alloc(), CASES)
 }

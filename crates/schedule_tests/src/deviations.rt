@@ -1,10 +1,14 @@
 //! Deviations from rules. The expected ones were counted by hand, and by `deviation` of `scripts/apart.py`, which shares no
 //! code with the crates.
 
-use crate::rule_leagues::{Expected, assert_deviations};
+use crate::checks::check_same_of;
+use crate::rule_leagues::{Expected, check_deviations};
+use crate::small_leagues::{self, Plan};
 use fixtures::berger;
-use league::{Side, SlotSet, TeamSet};
+use league::{Side, SlotSet};
 use robinx::breaks;
+use std::alloc::Global;
+use std::process::Abort;
 use std::test::Fail;
 
 /// The Berger start of four teams is 1-4 2-3, 1-2 4-3, 2-4 3-1, 4-1 3-2, 2-1 3-4, 4-2 1-3.
@@ -209,53 +213,68 @@ const FORTY_TEAMS: Expected = &[
     ),
 ];
 
+type Cases = &'static [(Plan, Expected)];
+
+const OF_THE_START: Cases = &[(Plan::Berger(4), START), (Plan::Berger(4), BOTH_SIDES)];
+
 #[test]
 fn deviations_of_the_start(rt: HostRuntime) -> Result<(), Fail> {
-    let start = berger(rt.alloc(), 4)?;
-    assert_deviations(&rt, rt.alloc(), &start, START)?;
-    assert_deviations(&rt, rt.alloc(), &start, BOTH_SIDES)
+    check_deviations(&rt, rt.alloc(), OF_THE_START)
 }
+
+const AFTER_HOMES: Cases = &[(small_leagues::HOMES_EXCHANGED, HOMES_EXCHANGED)];
 
 #[test]
 fn deviations_after_an_exchange_of_homes(rt: HostRuntime) -> Result<(), Fail> {
-    let mut schedule = berger(rt.alloc(), 4)?;
-    schedule.exchange_homes(0, 1);
-    assert_deviations(&rt, rt.alloc(), &schedule, HOMES_EXCHANGED)
+    check_deviations(&rt, rt.alloc(), AFTER_HOMES)
 }
+
+const AFTER_ROUNDS: Cases = &[(Plan::Rounds(1, 3), IN_A_ROW)];
 
 #[test]
 fn deviations_of_games_in_a_row(rt: HostRuntime) -> Result<(), Fail> {
-    let mut schedule = berger(rt.alloc(), 4)?;
-    schedule.exchange_rounds(1, 3, TeamSet::below(4));
-    assert_deviations(&rt, rt.alloc(), &schedule, IN_A_ROW)
+    check_deviations(&rt, rt.alloc(), AFTER_ROUNDS)
 }
+
+const MORE_TEAMS: Cases = &[
+    (Plan::Berger(6), SIX_TEAMS),
+    (Plan::Berger(10), TEN_TEAMS),
+    (Plan::Berger(10), EDGES),
+    (Plan::Berger(40), FORTY_TEAMS),
+];
 
 #[test]
 fn deviations_of_more_teams(rt: HostRuntime) -> Result<(), Fail> {
-    let six = berger(rt.alloc(), 6)?;
-    assert_deviations(&rt, rt.alloc(), &six, SIX_TEAMS)?;
-    let ten = berger(rt.alloc(), 10)?;
-    assert_deviations(&rt, rt.alloc(), &ten, TEN_TEAMS)?;
-    assert_deviations(&rt, rt.alloc(), &ten, EDGES)?;
-    let forty = berger(rt.alloc(), 40)?;
-    assert_deviations(&rt, rt.alloc(), &forty, FORTY_TEAMS)
+    check_deviations(&rt, rt.alloc(), MORE_TEAMS)
 }
 
-/// The breaks of team 1 on each side in all rounds of the start of four teams.
-const BREAKS: &[(Side, u32)] = &[(Side::Home, 1), (Side::Away, 2), (Side::Any, 3)];
+/// A side, and the breaks of team 1 on it.
+type Breaks = (Side, u32);
 
-#[test]
-fn breaks_of_the_start(rt: HostRuntime) -> Result<(), Fail> {
-    let start = berger(rt.alloc(), 4)?;
-    for &(side, count) in BREAKS {
-        assert_eq!(rt; breaks(&start, 0, SlotSet::below(6), side), count);
+/// In all rounds of the start of four teams.
+const BREAKS: &[Breaks] = &[(Side::Home, 1), (Side::Away, 2), (Side::Any, 3)];
+
+const IN_FIRST_ROUND: &[Breaks] = &[(Side::Any, 0)];
+
+fn check_breaks(
+    rt: &impl Abort,
+    alloc: Global,
+    slots: SlotSet,
+    cases: &[Breaks],
+) -> Result<(), Fail> {
+    let start = berger(alloc, 4)?;
+    for &(side, count) in cases {
+        check_same_of(rt, &side, &breaks(&start, 0, slots, side), &count);
     }
     Ok(())
 }
 
 #[test]
+fn breaks_of_the_start(rt: HostRuntime) -> Result<(), Fail> {
+    check_breaks(&rt, rt.alloc(), SlotSet::below(6), BREAKS)
+}
+
+#[test]
 fn no_break_in_the_first_round(rt: HostRuntime) -> Result<(), Fail> {
-    let start = berger(rt.alloc(), 4)?;
-    assert_eq!(rt; breaks(&start, 0, SlotSet::below(1), Side::Any), 0);
-    Ok(())
+    check_breaks(&rt, rt.alloc(), SlotSet::below(1), IN_FIRST_ROUND)
 }

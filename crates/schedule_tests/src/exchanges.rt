@@ -3,10 +3,14 @@
 //! An exchange for some teams or in some rounds is called with a set from which no game leads out. The contracts of
 //! `moved_teams` and `moved_rounds` say so of theirs, which is therefore compared with the set that is meant, and passed.
 
-use crate::sheets::{FOUR, has_sheet};
+use crate::checks::check_same;
+use crate::sets::{rounds_of, teams_of};
+use crate::sheets::{FOUR, check_sheet};
+use crate::small_leagues::{Plan, schedule};
 use fixtures::{Schedule, berger};
 use league::{SlotSet, TeamSet};
 use moves::{Move, check, moved_rounds, moved_teams};
+use std::alloc::Global;
 use std::process::Abort;
 use std::test::Fail;
 
@@ -34,71 +38,72 @@ const TEAMS_OF_FOUR: &str =
 fn homes_exchanged_and_back(rt: HostRuntime) -> Result<(), Fail> {
     let mut four = berger(rt.alloc(), 4)?;
     four.exchange_homes(0, 1);
-    assert!(rt; has_sheet(rt.alloc(), &four, HOMES_OF_FOUR)?);
+    check_sheet(&rt, rt.alloc(), &four, HOMES_OF_FOUR)?;
     four.exchange_homes(1, 0);
-    assert!(rt; has_sheet(rt.alloc(), &four, FOUR)?);
-    Ok(())
+    check_sheet(&rt, rt.alloc(), &four, FOUR)
 }
 
 #[test]
 fn rounds_exchanged_for_all_teams(rt: HostRuntime) -> Result<(), Fail> {
     let mut four = berger(rt.alloc(), 4)?;
     four.exchange_rounds(0, 1, TeamSet::below(4));
-    assert!(rt; has_sheet(rt.alloc(), &four, ROUNDS_OF_FOUR)?);
-    Ok(())
+    check_sheet(&rt, rt.alloc(), &four, ROUNDS_OF_FOUR)
 }
 
 #[test]
 fn rounds_exchanged_for_four_of_ten_teams(rt: HostRuntime) -> Result<(), Fail> {
     let mut ten = berger(rt.alloc(), 10)?;
     let among = moved_teams(&ten, 0, 0, 3);
-    assert_eq!(rt; among, TeamSet::empty().with(0).with(3).with(6).with(9));
+    check_same(&rt, &among, &teams_of(&[0, 3, 6, 9]));
     ten.exchange_rounds(0, 3, among);
-    assert!(rt; has_sheet(rt.alloc(), &ten, ROUNDS_OF_TEN)?);
-    Ok(())
+    check_sheet(&rt, rt.alloc(), &ten, ROUNDS_OF_TEN)
 }
 
-/// Exchanges teams `i` and `j` in these rounds, of which `k` is one.
-fn exchange_in(
-    rt: &impl Abort,
-    schedule: &mut Schedule,
-    (i, j, k): (u8, u8, u8),
-    rounds: SlotSet,
-) -> Result<(), Fail> {
-    check(schedule, Move::PartTeams { i, j, k })?;
-    let among = moved_rounds(schedule, i, j, k);
-    assert_eq!(rt; among, rounds);
+/// Exchanges teams `i` and `j` in the rounds that go along with `k`, where the two don't meet in these, and returns them.
+fn exchange_teams(schedule: &mut Schedule, (i, j, k): (u8, u8, u8)) -> Option<SlotSet> {
     let teams = schedule.teams();
-    assert!(rt; i < teams && j < teams && i != j);
-    let first = schedule.round_of(i, j);
-    let second = schedule.round_of(j, i);
-    assert!(rt; !among.has(first) && !among.has(second));
+    let checked = check(schedule, Move::PartTeams { i, j, k });
+    if i >= teams || j >= teams || i == j || checked.is_err() {
+        return None;
+    }
+    let among = moved_rounds(schedule, i, j, k);
+    if among.has(schedule.round_of(i, j)) || among.has(schedule.round_of(j, i)) {
+        return None;
+    }
     schedule.exchange_teams(i, j, among);
-    Ok(())
+    Some(among)
+}
+
+/// Teams `i` and `j` of the start of so many teams are exchanged in these rounds, of which `k` is one, and leave the sheet.
+fn check_teams(
+    rt: &impl Abort,
+    alloc: Global,
+    teams: u8,
+    numbers: (u8, u8, u8),
+    rounds: &[u8],
+    sheet: &str,
+) -> Result<(), Fail> {
+    let mut schedule = schedule(alloc, Plan::Berger(teams))?;
+    let among = exchange_teams(&mut schedule, numbers);
+    check_same(rt, &among, &Some(rounds_of(rounds)));
+    check_sheet(rt, alloc, &schedule, sheet)
 }
 
 #[test]
 fn teams_exchanged_in_four_rounds_of_six(rt: HostRuntime) -> Result<(), Fail> {
-    let mut six = berger(rt.alloc(), 6)?;
-    let among = SlotSet::empty().with(0).with(2).with(6).with(9);
-    exchange_in(&rt, &mut six, (0, 3, 0), among)?;
-    assert!(rt; has_sheet(rt.alloc(), &six, TEAMS_OF_SIX)?);
-    Ok(())
+    let rounds = &[0, 2, 6, 9];
+    check_teams(&rt, rt.alloc(), 6, (0, 3, 0), rounds, TEAMS_OF_SIX)
 }
 
 #[test]
 fn teams_exchanged_in_all_games_of_four_but_their_own(rt: HostRuntime) -> Result<(), Fail> {
-    let mut four = berger(rt.alloc(), 4)?;
-    let among = SlotSet::empty().with(0).with(2).with(3).with(5);
-    exchange_in(&rt, &mut four, (0, 1, 0), among)?;
-    assert!(rt; has_sheet(rt.alloc(), &four, TEAMS_OF_FOUR)?);
-    Ok(())
+    let rounds = &[0, 2, 3, 5];
+    check_teams(&rt, rt.alloc(), 4, (0, 1, 0), rounds, TEAMS_OF_FOUR)
 }
 
 #[test]
 fn teams_exchanged_in_no_round(rt: HostRuntime) -> Result<(), Fail> {
     let mut four = berger(rt.alloc(), 4)?;
     four.exchange_teams(0, 1, SlotSet::empty());
-    assert!(rt; has_sheet(rt.alloc(), &four, FOUR)?);
-    Ok(())
+    check_sheet(&rt, rt.alloc(), &four, FOUR)
 }

@@ -1,8 +1,8 @@
 //! Home games in step. The expected deviations were counted by hand or, of 10 and 40 teams, by `deviation` of
 //! `scripts/apart.py`.
 
-use crate::rule_leagues::{Expected, assert_deviations};
-use fixtures::{berger, berger_fide};
+use crate::rule_leagues::{Expected, check_deviations};
+use crate::small_leagues::{self, Plan};
 use std::test::Fail;
 
 /// On the start of four teams: after round 2 team 1 has had two home games and team 3 none, and no others are ever
@@ -78,27 +78,27 @@ const FORTY_TEAMS: Expected = &[
     ),
 ];
 
+const FOURS: &[(Plan, Expected)] = &[(Plan::Fide(4), FIDE_ORDER), (Plan::Berger(4), FOUR_TEAMS)];
+
 #[test]
 fn home_games_of_four(rt: HostRuntime) -> Result<(), Fail> {
-    let fide = berger_fide(rt.alloc(), 4)?;
-    assert_deviations(&rt, rt.alloc(), &fide, FIDE_ORDER)?;
-    let four = berger(rt.alloc(), 4)?;
-    assert_deviations(&rt, rt.alloc(), &four, FOUR_TEAMS)
+    check_deviations(&rt, rt.alloc(), FOURS)
 }
+
+const MORE_TEAMS: &[(Plan, Expected)] = &[
+    (Plan::Berger(6), SIX_TEAMS),
+    (Plan::Berger(10), TEN_TEAMS),
+    (Plan::Berger(40), FORTY_TEAMS),
+];
 
 #[test]
 fn home_games_of_more_teams(rt: HostRuntime) -> Result<(), Fail> {
-    let six = berger(rt.alloc(), 6)?;
-    assert_deviations(&rt, rt.alloc(), &six, SIX_TEAMS)?;
-    let ten = berger(rt.alloc(), 10)?;
-    assert_deviations(&rt, rt.alloc(), &ten, TEN_TEAMS)?;
-    let forty = berger(rt.alloc(), 40)?;
-    assert_deviations(&rt, rt.alloc(), &forty, FORTY_TEAMS)
+    check_deviations(&rt, rt.alloc(), MORE_TEAMS)
 }
+
+const AFTER_AN_EXCHANGE: &[(Plan, Expected)] = &[(small_leagues::HOMES_EXCHANGED, HOMES_EXCHANGED)];
 
 #[test]
 fn home_games_after_an_exchange(rt: HostRuntime) -> Result<(), Fail> {
-    let mut schedule = berger(rt.alloc(), 4)?;
-    schedule.exchange_homes(0, 1);
-    assert_deviations(&rt, rt.alloc(), &schedule, HOMES_EXCHANGED)
+    check_deviations(&rt, rt.alloc(), AFTER_AN_EXCHANGE)
 }

@@ -9,6 +9,8 @@ mod chains;
 #[cfg(test)]
 mod changes;
 #[cfg(test)]
+mod checks;
+#[cfg(test)]
 mod costs;
 #[cfg(test)]
 mod deviations;
@@ -32,6 +34,8 @@ mod rule_leagues;
 mod rule_parts;
 #[cfg(test)]
 mod rules_reached;
+#[cfg(test)]
+mod sets;
 #[cfg(test)]
 mod sheets;
 #[cfg(test)]

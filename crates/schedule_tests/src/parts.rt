@@ -1,9 +1,11 @@
 //! The parts of travel, of runs and of repeats that a change can alter. The expected numbers were worked by hand from the
 //! Berger table of four teams.
 
-use crate::small_leagues::{homes_exchanged, last_two_rounds, league_of, rounds_exchanged};
-use fixtures::{Schedule, Touched, berger, start};
+use crate::checks::check_same;
+use crate::small_leagues::{HOMES_EXCHANGED, Plan, last_two_rounds, league_of, schedule};
+use fixtures::{Schedule, Touched, start};
 use league::{League, SlotSet, TeamSet, circular};
+use std::alloc::Global;
 use std::process::Abort;
 use std::test::Fail;
 use tours::{
@@ -79,20 +81,21 @@ fn homes_follow(schedule: &mut Schedule, league: &League, i: u8, j: u8) -> Optio
     Some(all_follow(&old, &new))
 }
 
-/// Exchanges the homes of each team and the next, and asserts that the parts follow each time.
-fn assert_neighbours_follow(rt: &impl Abort, schedule: &mut Schedule, league: &League, teams: u8) {
+/// Exchanges the homes of each team and the next in a circle of so many, and has the parts follow each time.
+fn check_neighbours(rt: &impl Abort, alloc: Global, teams: u8) -> Result<(), Fail> {
+    let league = circular(alloc, teams)?;
+    let mut schedule = start(alloc, &league)?;
     for i in 1..teams {
-        assert_eq!(rt; homes_follow(schedule, league, i - 1, i), Some(true));
+        let found = homes_follow(&mut schedule, &league, i - 1, i);
+        check_same(rt, &found, &Some(true));
     }
+    Ok(())
 }
 
 #[test]
 fn parts_follow_exchanges_of_homes(rt: HostRuntime) -> Result<(), Fail> {
-    let alloc = rt.alloc();
     for half in 2..=20 {
-        let league = circular(alloc, 2 * half)?;
-        let mut schedule = start(alloc, &league)?;
-        assert_neighbours_follow(&rt, &mut schedule, &league, 2 * half);
+        check_neighbours(&rt, rt.alloc(), 2 * half)?;
     }
     Ok(())
 }
@@ -110,42 +113,43 @@ fn parts_of(schedule: &Schedule, league: &League, touched: Touched) -> Option<(u
     ))
 }
 
+/// The parts of a schedule in a circle of four teams that allows so many rounds in a row.
+fn check_parts(
+    rt: &impl Abort,
+    alloc: Global,
+    (plan, at_most): (Plan, u8),
+    touched: Touched,
+    parts: (u64, u64, u64),
+) -> Result<(), Fail> {
+    let league = league_of(alloc, at_most)?;
+    let schedule = schedule(alloc, plan)?;
+    let found = parts_of(&schedule, &league, touched);
+    check_same(rt, &found, &Some(parts));
+    Ok(())
+}
+
 #[test]
 fn parts_of_last_two_rounds(rt: HostRuntime) -> Result<(), Fail> {
-    let alloc = rt.alloc();
-    let league = league_of(alloc, 2)?;
     let touched = last_two_rounds();
-    let start = berger(alloc, 4)?;
-    assert_eq!(rt; parts_of(&start, &league, touched), Some((14, 14, 2)));
-    let exchanged = rounds_exchanged(alloc, 4, 5)?;
-    assert_eq!(rt; parts_of(&exchanged, &league, touched), Some((12, 12, 0)));
-    Ok(())
+    check_parts(&rt, rt.alloc(), (Plan::Berger(4), 2), touched, (14, 14, 2))?;
+    check_parts(&rt, rt.alloc(), (Plan::Rounds(4, 5), 2), touched, (12, 12, 0))
 }
 
 #[test]
 fn parts_of_two_teams(rt: HostRuntime) -> Result<(), Fail> {
-    let alloc = rt.alloc();
-    let league = circular(alloc, 4)?;
     let touched = Touched {
         teams: TeamSet::below(2),
         rounds: SlotSet::empty().with(1).with(4),
     };
-    let start = berger(alloc, 4)?;
-    assert_eq!(rt; parts_of(&start, &league, touched), Some((10, 10, 0)));
-    let exchanged = homes_exchanged(alloc)?;
-    assert_eq!(rt; parts_of(&exchanged, &league, touched), Some((6, 6, 0)));
-    Ok(())
+    check_parts(&rt, rt.alloc(), (Plan::Berger(4), 3), touched, (10, 10, 0))?;
+    check_parts(&rt, rt.alloc(), (HOMES_EXCHANGED, 3), touched, (6, 6, 0))
 }
 
 #[test]
 fn parts_around_two_hosts(rt: HostRuntime) -> Result<(), Fail> {
-    let alloc = rt.alloc();
-    let league = circular(alloc, 4)?;
     let touched = Touched {
         teams: TeamSet::below(2),
         rounds: SlotSet::empty().with(0),
     };
-    let start = berger(alloc, 4)?;
-    assert_eq!(rt; parts_of(&start, &league, touched), Some((1, 6, 0)));
-    Ok(())
+    check_parts(&rt, rt.alloc(), (Plan::Berger(4), 3), touched, (1, 6, 0))
 }

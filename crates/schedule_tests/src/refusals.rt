@@ -1,5 +1,6 @@
 //! Moves that can be made, and moves that are refused.
 
+use crate::checks::check_same_of;
 use fixtures::berger;
 use moves::{Move, MoveFault, check};
 use std::alloc::Global;
@@ -35,8 +36,8 @@ const MEETINGS: &[Move] = &[
     Move::PartTeams { i: 0, j: 2, k: 2 },
 ];
 
-/// Asserts what each of these moves is answered on the start of four teams.
-fn assert_answers(
+/// What each of these moves is answered on the start of four teams.
+fn check_answers(
     rt: &impl Abort,
     alloc: Global,
     moves: &[Move],
@@ -44,22 +45,22 @@ fn assert_answers(
 ) -> Result<(), Fail> {
     let four = berger(alloc, 4)?;
     for &mv in moves {
-        assert_eq!(rt; check(&four, mv), answer, "{mv:?}");
+        check_same_of(rt, &mv, &check(&four, mv), &answer);
     }
     Ok(())
 }
 
 #[test]
 fn moves_of_four_that_can_be_made(rt: HostRuntime) -> Result<(), Fail> {
-    assert_answers(&rt, rt.alloc(), GOOD_MOVES, Ok(()))
+    check_answers(&rt, rt.alloc(), GOOD_MOVES, Ok(()))
 }
 
 #[test]
 fn bad_moves_of_four(rt: HostRuntime) -> Result<(), Fail> {
-    assert_answers(&rt, rt.alloc(), BAD_MOVES, Err(MoveFault::BadMove))
+    check_answers(&rt, rt.alloc(), BAD_MOVES, Err(MoveFault::BadMove))
 }
 
 #[test]
 fn teams_of_four_that_meet(rt: HostRuntime) -> Result<(), Fail> {
-    assert_answers(&rt, rt.alloc(), MEETINGS, Err(MoveFault::Meet))
+    check_answers(&rt, rt.alloc(), MEETINGS, Err(MoveFault::Meet))
 }

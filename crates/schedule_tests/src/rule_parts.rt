@@ -1,10 +1,11 @@
 //! The parts of deviations that a move can alter.
 
-use crate::rule_leagues::league_with;
+use crate::checks::{check_holds, check_same_of};
+use crate::rule_leagues::{check_deviation, league_with, only_deviation};
 use fixtures::{Schedule, Touched, berger};
 use league::{League, SlotSet, TeamSet};
 use moves::{Move, apply, check};
-use robinx::{deviation, deviation_part};
+use robinx::deviation_part;
 use std::alloc::Global;
 use std::process::Abort;
 use std::test::Fail;
@@ -72,78 +73,95 @@ const MOVES: &[(Move, bool)] = &[
     (Move::PartTeams { i: 0, j: 1, k: 2 }, true),
 ];
 
-/// The deviation from a league's only rule, if it has one rule and as many teams.
-fn whole(schedule: &Schedule, league: &League) -> Option<u64> {
+/// The part of the deviation from a league's only rule that a change of these cells can alter, whose teams may change sides.
+fn part(schedule: &Schedule, league: &League, main: Touched) -> Option<u64> {
     if league.teams() != schedule.teams() || league.rule_count() != 1 {
         return None;
     }
-    Some(deviation(schedule, league.rule(0)))
+    let rule = league.rule(0);
+    Some(deviation_part(schedule, rule, main, main.teams))
 }
 
-/// Its part that a change can alter.
-fn part(schedule: &Schedule, league: &League, main: Touched, sides: TeamSet) -> Option<u64> {
-    if league.teams() != schedule.teams() || league.rule_count() != 1 {
-        return None;
-    }
-    Some(deviation_part(schedule, league.rule(0), main, sides))
-}
-
-#[test]
-fn parts_of_an_exchange_of_homes(rt: HostRuntime) -> Result<(), Fail> {
-    let start = berger(rt.alloc(), 6)?;
-    let two = TeamSet::below(2);
+/// The part that an exchange of the homes of teams 1 and 2 can alter.
+fn check_part(
+    rt: &impl Abort,
+    alloc: Global,
+    start: &Schedule,
+    (rule, count): (&str, u64),
+) -> Result<(), Fail> {
+    let league = league_with(alloc, 6, rule)?;
     let main = Touched {
-        teams: two,
+        teams: TeamSet::below(2),
         rounds: SlotSet::empty().with(1).with(6),
     };
+    check_same_of(rt, &rule, &part(start, &league, main), &Some(count));
+    Ok(())
+}
+
+fn check_parts(rt: &impl Abort, alloc: Global, start: &Schedule) -> Result<(), Fail> {
     for &(rule, altered, count) in OF_HOMES {
-        let league = league_with(rt.alloc(), 6, rule)?;
-        let within = league_with(rt.alloc(), 6, altered)?;
-        assert_eq!(rt; part(&start, &league, main, two), Some(count), "{rule}");
-        assert_eq!(rt; whole(&start, &within), Some(count), "{altered}");
+        check_part(rt, alloc, start, (rule, count))?;
+        check_deviation(rt, alloc, start, (altered, count))?;
     }
     Ok(())
 }
 
-/// What of the deviation isn't in the part.
-fn rest(schedule: &Schedule, league: &League, main: Touched, sides: TeamSet) -> Option<u64> {
-    whole(schedule, league)?.checked_sub(part(schedule, league, main, sides)?)
+#[test]
+fn parts_of_an_exchange_of_homes(rt: HostRuntime) -> Result<(), Fail> {
+    check_parts(&rt, rt.alloc(), &berger(rt.alloc(), 6)?)
 }
 
-/// The rest is the same before the move and after it.
-fn assert_kept_by(
+/// Makes the move, and returns its main cells.
+fn made(schedule: &mut Schedule, (mv, two): (Move, bool)) -> Result<Touched, Fail> {
+    check(schedule, mv)?;
+    let mut main = apply(schedule, mv);
+    if two {
+        main.teams = TeamSet::below(2);
+    }
+    Ok(main)
+}
+
+/// What of the deviation isn't in the part.
+fn rest(schedule: &Schedule, league: &League, main: Touched) -> Option<u64> {
+    only_deviation(schedule, league)?.checked_sub(part(schedule, league, main)?)
+}
+
+/// The rest before the move and after it.
+fn rests(
+    alloc: Global,
+    start: &Schedule,
+    league: &League,
+    mv: (Move, bool),
+) -> Result<(Option<u64>, Option<u64>), Fail> {
+    let mut after = start.duplicate(alloc)?;
+    let main = made(&mut after, mv)?;
+    Ok((rest(start, league, main), rest(&after, league, main)))
+}
+
+fn check_rest(
     rt: &impl Abort,
     alloc: Global,
-    mv: Move,
-    two: bool,
+    start: &Schedule,
+    mv: (Move, bool),
     rule: &str,
 ) -> Result<(), Fail> {
     let league = league_with(alloc, 6, rule)?;
-    let mut schedule = berger(alloc, 6)?;
-    let before = schedule.duplicate(alloc)?;
-    check(&schedule, mv)?;
-    let touched = apply(&mut schedule, mv);
-    let teams = if two {
-        TeamSet::below(2)
-    } else {
-        touched.teams
-    };
-    let main = Touched {
-        teams,
-        rounds: touched.rounds,
-    };
-    let kept = rest(&before, &league, main, teams);
-    assert!(rt; kept.is_some(), "{rule}");
-    assert_eq!(rt; rest(&schedule, &league, main, teams), kept, "{rule}");
+    let (kept, found) = rests(alloc, start, &league, mv)?;
+    check_holds(rt, &rule, kept.is_some());
+    check_same_of(rt, &rule, &found, &kept);
+    Ok(())
+}
+
+fn check_rests(rt: &impl Abort, alloc: Global, start: &Schedule) -> Result<(), Fail> {
+    for &mv in MOVES {
+        for &rule in RULES {
+            check_rest(rt, alloc, start, mv, rule)?;
+        }
+    }
     Ok(())
 }
 
 #[test]
 fn moves_keep_what_is_not_in_the_part(rt: HostRuntime) -> Result<(), Fail> {
-    for &(mv, two) in MOVES {
-        for &rule in RULES {
-            assert_kept_by(&rt, rt.alloc(), mv, two, rule)?;
-        }
-    }
-    Ok(())
+    check_rests(&rt, rt.alloc(), &berger(rt.alloc(), 6)?)
 }

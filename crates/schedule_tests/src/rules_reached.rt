@@ -1,11 +1,21 @@
 //! Rules that a change of some cells can reach, and rules that look past teams.
 
+use crate::checks::check_same_of;
 use crate::rule_leagues::league_with;
 use fixtures::Touched;
-use league::{SlotSet, TeamSet};
+use league::{Rule, SlotSet, TeamSet};
 use robinx::{looks_past, touches};
 use std::alloc::Global;
+use std::process::Abort;
 use std::test::Fail;
+
+#[derive(Clone, Copy)]
+enum Question {
+    /// Whether the rule is touched by team 1 in round 2.
+    IsTouched,
+    /// Whether the rule looks past teams 1 and 2.
+    LooksPast,
+}
 
 /// With team 1 touched in round 2 alone, the first rule of each pair is touched, and the second isn't.
 const TOUCHED: &[(&str, &str)] = &[
@@ -87,42 +97,49 @@ const PASSED: &[(&str, &str)] = &[
     ),
 ];
 
-/// Whether the rule is touched by team 1 in round 2, where a league of four teams has it.
-fn is_touched(alloc: Global, rule: &str) -> Result<Option<bool>, Fail> {
-    let league = league_with(alloc, 4, rule)?;
-    if league.rule_count() != 1 {
-        return Ok(None);
-    }
+fn answer(question: Question, rule: &Rule) -> bool {
     let touched = Touched {
         teams: TeamSet::below(1),
         rounds: SlotSet::empty().with(1),
     };
-    Ok(Some(touches(league.rule(0), touched)))
-}
-
-#[test]
-fn touched_rules(rt: HostRuntime) -> Result<(), Fail> {
-    for &(rule, other) in TOUCHED {
-        assert_eq!(rt; is_touched(rt.alloc(), rule)?, Some(true), "{rule}");
-        assert_eq!(rt; is_touched(rt.alloc(), other)?, Some(false), "{other}");
+    match question {
+        Question::IsTouched => touches(rule, touched),
+        Question::LooksPast => looks_past(rule, TeamSet::below(2)),
     }
-    Ok(())
 }
 
-/// Whether the rule looks past teams 1 and 2, where a league of four teams has it.
-fn is_passed(alloc: Global, rule: &str) -> Result<Option<bool>, Fail> {
+/// Of the rule, where a league of four teams has it.
+fn answered(alloc: Global, question: Question, rule: &str) -> Result<Option<bool>, Fail> {
     let league = league_with(alloc, 4, rule)?;
     if league.rule_count() != 1 {
         return Ok(None);
     }
-    Ok(Some(looks_past(league.rule(0), TeamSet::below(2))))
+    Ok(Some(answer(question, league.rule(0))))
+}
+
+/// It is so with the first rule of each pair, and isn't with the second.
+fn check_pairs(
+    rt: &impl Abort,
+    alloc: Global,
+    question: Question,
+    pairs: &[(&str, &str)],
+) -> Result<(), Fail> {
+    for &(rule, other) in pairs {
+        let found = (
+            answered(alloc, question, rule)?,
+            answered(alloc, question, other)?,
+        );
+        check_same_of(rt, &rule, &found, &(Some(true), Some(false)));
+    }
+    Ok(())
+}
+
+#[test]
+fn touched_rules(rt: HostRuntime) -> Result<(), Fail> {
+    check_pairs(&rt, rt.alloc(), Question::IsTouched, TOUCHED)
 }
 
 #[test]
 fn rules_that_look_past_two_teams(rt: HostRuntime) -> Result<(), Fail> {
-    for &(rule, other) in PASSED {
-        assert_eq!(rt; is_passed(rt.alloc(), rule)?, Some(true), "{rule}");
-        assert_eq!(rt; is_passed(rt.alloc(), other)?, Some(false), "{other}");
-    }
-    Ok(())
+    check_pairs(&rt, rt.alloc(), Question::LooksPast, PASSED)
 }

@@ -1,7 +1,11 @@
 //! Schedules compared with sheets. A sheet has rounds, each before its games, and numbers rounds and teams from 1.
 
+use crate::checks::check_holds;
 use fixtures::{Cell, Game, Schedule};
+use league::SlotSet;
 use std::alloc::{AllocError, Global};
+use std::process::Abort;
+use std::test::Fail;
 
 /// The double round robin of four teams.
 pub(crate) const FOUR: &str =
@@ -43,6 +47,27 @@ pub(crate) fn games_of(alloc: Global, schedule: &Schedule) -> Result<Vec<Game>, 
             if home != away {
                 let round = schedule.round_of(home, away);
                 games.push(Game { round, home, away })?;
+            }
+        }
+    }
+    Ok(games)
+}
+
+/// The games of these rounds, by round and home team.
+pub(crate) fn games_in(
+    alloc: Global,
+    schedule: &Schedule,
+    rounds: SlotSet,
+) -> Result<Vec<Game>, AllocError> {
+    let mut games = Vec::new(alloc);
+    for round in rounds {
+        for home in 0..schedule.teams() {
+            if round < schedule.rounds() {
+                let cell = schedule.game_at(home, round);
+                let away = cell.opponent;
+                if cell.home {
+                    games.push(Game { round, home, away })?;
+                }
             }
         }
     }
@@ -91,12 +116,14 @@ pub(crate) fn has_games(schedule: &Schedule, games: &[Game]) -> bool {
     !games.is_empty()
 }
 
-/// Whether the schedule has the games of the sheet.
-pub(crate) fn has_sheet(
+/// The schedule has the games of the sheet.
+pub(crate) fn check_sheet(
+    rt: &impl Abort,
     alloc: Global,
     schedule: &Schedule,
     sheet: &str,
-) -> Result<bool, AllocError> {
+) -> Result<(), Fail> {
     let games = games(alloc, sheet)?;
-    Ok(has_games(schedule, &games))
+    check_holds(rt, &sheet, has_games(schedule, &games));
+    Ok(())
 }

@@ -1,7 +1,9 @@
-//! Leagues and schedules of four teams, which several tests take.
+//! Leagues of four teams, and schedules, which several tests take.
 
-use fixtures::{Schedule, Touched, berger};
+use fixtures::{Schedule, Touched, berger, berger_fide};
+use league::limits::{MAX_TEAMS, MIN_TEAMS};
 use league::{League, SlotSet, TeamSet, read_league};
+use moves::{Move, apply, check};
 use std::alloc::Global;
 use std::test::Fail;
 
@@ -19,11 +21,32 @@ pub(crate) fn league_of(alloc: Global, at_most: u8) -> Result<League, Fail> {
     circle_of_four(alloc, 1, &members)
 }
 
+/// How a schedule is made.
+#[derive(Clone, Copy)]
+pub(crate) enum Plan {
+    /// The Berger start of so many teams.
+    Berger(u8),
+    /// The start of so many teams in the order of FIDE.
+    Fide(u8),
+    /// The Berger start of four teams with two rounds exchanged.
+    Rounds(u8, u8),
+    /// The Berger start of four teams after moves.
+    Moved(&'static [Move]),
+}
+
 /// The start of four teams with the homes of teams 0 and 1 exchanged.
-pub(crate) fn homes_exchanged(alloc: Global) -> Result<Schedule, Fail> {
-    let mut schedule = berger(alloc, 4)?;
-    schedule.exchange_homes(0, 1);
-    Ok(schedule)
+pub(crate) const HOMES_EXCHANGED: Plan = Plan::Moved(&[Move::Homes { i: 0, j: 1 }]);
+
+/// The start of so many teams, by Berger or in the order of FIDE.
+fn start_of(alloc: Global, teams: u8, fide: bool) -> Result<Schedule, Fail> {
+    if teams < MIN_TEAMS || teams > MAX_TEAMS || teams % 2 != 0 {
+        return Err("a number of teams".into());
+    }
+    if fide {
+        Ok(berger_fide(alloc, teams)?)
+    } else {
+        Ok(berger(alloc, teams)?)
+    }
 }
 
 /// The start of four teams with two rounds exchanged.
@@ -33,6 +56,24 @@ pub(crate) fn rounds_exchanged(alloc: Global, k: u8, l: u8) -> Result<Schedule, 
         schedule.exchange_rounds(k, l, TeamSet::below(4));
     }
     Ok(schedule)
+}
+
+fn moved(alloc: Global, moves: &[Move]) -> Result<Schedule, Fail> {
+    let mut schedule = berger(alloc, 4)?;
+    for &mv in moves {
+        check(&schedule, mv)?;
+        apply(&mut schedule, mv);
+    }
+    Ok(schedule)
+}
+
+pub(crate) fn schedule(alloc: Global, plan: Plan) -> Result<Schedule, Fail> {
+    match plan {
+        Plan::Berger(teams) => start_of(alloc, teams, false),
+        Plan::Fide(teams) => start_of(alloc, teams, true),
+        Plan::Rounds(k, l) => rounds_exchanged(alloc, k, l),
+        Plan::Moved(moves) => moved(alloc, moves),
+    }
 }
 
 /// All cells of the last two rounds of four teams.

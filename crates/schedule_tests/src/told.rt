@@ -1,9 +1,12 @@
 //! What an exchange changes in the travel, told on the schedule before it, beside the travel counted before and after. The
 //! numbers of the exchanges were drawn.
 
-use fixtures::{Schedule, berger};
+use crate::checks::check_holds;
+use crate::small_leagues::{Plan, schedule};
+use fixtures::Schedule;
 use league::{League, circular};
 use moves::{Move, check, moved_rounds, moved_teams};
+use std::alloc::Global;
 use std::process::Abort;
 use std::test::Fail;
 use tours::{Legs, legs_of_rounds, legs_of_teams, travel};
@@ -75,19 +78,47 @@ fn exchange_teams(
 
 type Numbers = (u8, u8, u8);
 
-/// Asserts of exchanges of rounds, each made on what the one before has left, that they change the travel as told.
-fn assert_rounds(rt: &impl Abort, schedule: &mut Schedule, league: &League, drawn: &[Numbers]) {
-    for &numbers in drawn {
-        let exchanged = exchange_rounds(schedule, league, numbers);
-        assert!(rt; exchanged.is_some_and(|e| e.is_balanced()), "{numbers:?}");
+/// What is exchanged.
+#[derive(Clone, Copy)]
+enum Kind {
+    Rounds,
+    Teams,
+}
+
+fn exchange(
+    kind: Kind,
+    schedule: &mut Schedule,
+    league: &League,
+    numbers: Numbers,
+) -> Option<Exchanged> {
+    match kind {
+        Kind::Rounds => exchange_rounds(schedule, league, numbers),
+        Kind::Teams => exchange_teams(schedule, league, numbers),
     }
 }
 
-fn assert_teams(rt: &impl Abort, schedule: &mut Schedule, league: &League, drawn: &[Numbers]) {
+/// Exchanges on the start of so many teams, each made on what the one before has left, change the travel as told.
+fn check_told(
+    rt: &impl Abort,
+    alloc: Global,
+    kind: Kind,
+    teams: u8,
+    drawn: &[Numbers],
+) -> Result<(), Fail> {
+    let league = circular(alloc, teams)?;
+    let mut schedule = schedule(alloc, Plan::Berger(teams))?;
     for &numbers in drawn {
-        let exchanged = exchange_teams(schedule, league, numbers);
-        assert!(rt; exchanged.is_some_and(|e| e.is_balanced()), "{numbers:?}");
+        check_balance(rt, numbers, exchange(kind, &mut schedule, &league, numbers));
     }
+    Ok(())
+}
+
+fn check_balance(rt: &impl Abort, numbers: Numbers, exchanged: Option<Exchanged>) {
+    let is_balanced = match exchanged {
+        Some(exchanged) => exchanged.is_balanced(),
+        None => false,
+    };
+    check_holds(rt, &numbers, is_balanced);
 }
 
 /// A team and two rounds: neighbours, the first and the last, two with one between them.
@@ -99,26 +130,17 @@ const ROUNDS_OF_TWENTY: &[Numbers] = &[(17, 30, 2), (4, 21, 22), (9, 0, 37), (11
 
 #[test]
 fn exchanges_of_rounds_told_at_four_teams(rt: HostRuntime) -> Result<(), Fail> {
-    let league = circular(rt.alloc(), 4)?;
-    let mut schedule = berger(rt.alloc(), 4)?;
-    assert_rounds(&rt, &mut schedule, &league, ROUNDS_OF_FOUR);
-    Ok(())
+    check_told(&rt, rt.alloc(), Kind::Rounds, 4, ROUNDS_OF_FOUR)
 }
 
 #[test]
 fn exchanges_of_rounds_told_at_eight_teams(rt: HostRuntime) -> Result<(), Fail> {
-    let league = circular(rt.alloc(), 8)?;
-    let mut schedule = berger(rt.alloc(), 8)?;
-    assert_rounds(&rt, &mut schedule, &league, ROUNDS_OF_EIGHT);
-    Ok(())
+    check_told(&rt, rt.alloc(), Kind::Rounds, 8, ROUNDS_OF_EIGHT)
 }
 
 #[test]
 fn exchanges_of_rounds_told_at_twenty_teams(rt: HostRuntime) -> Result<(), Fail> {
-    let league = circular(rt.alloc(), 20)?;
-    let mut schedule = berger(rt.alloc(), 20)?;
-    assert_rounds(&rt, &mut schedule, &league, ROUNDS_OF_TWENTY);
-    Ok(())
+    check_told(&rt, rt.alloc(), Kind::Rounds, 20, ROUNDS_OF_TWENTY)
 }
 
 /// Two teams and a round in which they don't meet.
@@ -130,24 +152,15 @@ const TEAMS_OF_TWENTY: &[Numbers] = &[(12, 7, 2), (0, 1, 37), (18, 5, 21), (3, 9
 
 #[test]
 fn exchanges_of_teams_told_at_four_teams(rt: HostRuntime) -> Result<(), Fail> {
-    let league = circular(rt.alloc(), 4)?;
-    let mut schedule = berger(rt.alloc(), 4)?;
-    assert_teams(&rt, &mut schedule, &league, TEAMS_OF_FOUR);
-    Ok(())
+    check_told(&rt, rt.alloc(), Kind::Teams, 4, TEAMS_OF_FOUR)
 }
 
 #[test]
 fn exchanges_of_teams_told_at_eight_teams(rt: HostRuntime) -> Result<(), Fail> {
-    let league = circular(rt.alloc(), 8)?;
-    let mut schedule = berger(rt.alloc(), 8)?;
-    assert_teams(&rt, &mut schedule, &league, TEAMS_OF_EIGHT);
-    Ok(())
+    check_told(&rt, rt.alloc(), Kind::Teams, 8, TEAMS_OF_EIGHT)
 }
 
 #[test]
 fn exchanges_of_teams_told_at_twenty_teams(rt: HostRuntime) -> Result<(), Fail> {
-    let league = circular(rt.alloc(), 20)?;
-    let mut schedule = berger(rt.alloc(), 20)?;
-    assert_teams(&rt, &mut schedule, &league, TEAMS_OF_TWENTY);
-    Ok(())
+    check_told(&rt, rt.alloc(), Kind::Teams, 20, TEAMS_OF_TWENTY)
 }

@@ -1,21 +1,22 @@
 //! Values that tests compare by `==`, and the texts of faults.
 
+use crate::checks::{check_same, check_same_of};
 use crate::sheets::games;
 use fixtures::{Cell, FixtureFault, Touched};
 use league::{SlotSet, TeamSet};
 use moves::{Move, MoveFault};
+use std::alloc::Global;
+use std::fmt::{Debug, Display};
+use std::process::Abort;
 use std::test::Fail;
 
-/// Whether each of the values is equal to itself and to no other.
-fn are_distinct<T: PartialEq>(values: &[T]) -> bool {
+/// Each of the values is equal to itself and to no other.
+fn check_distinct<T: PartialEq + Debug>(rt: &impl Abort, values: &[T]) {
     for (i, one) in values.iter().enumerate() {
         for (j, other) in values.iter().enumerate() {
-            if (one == other) != (i == j) {
-                return false;
-            }
+            check_same_of(rt, &(one, other), &(one == other), &(i == j));
         }
     }
-    true
 }
 
 /// Games of which each differs from the first in one field.
@@ -41,29 +42,31 @@ const CELLS: &[Cell] = &[
 #[test]
 fn games_and_cells_that_differ_in_one_field(rt: HostRuntime) -> Result<(), Fail> {
     let games = games(rt.alloc(), GAMES)?;
-    assert_eq!(rt; games.len(), 4);
-    assert!(rt; are_distinct(&games));
-    assert!(rt; are_distinct(CELLS));
+    check_same(&rt, &games.len(), &4);
+    check_distinct(&rt, &games);
+    check_distinct(&rt, CELLS);
     Ok(())
 }
 
 #[test]
 fn values_that_differ_in_one_field(rt: HostRuntime) {
-    let all = Touched {
-        teams: TeamSet::below(4),
-        rounds: SlotSet::below(6),
+    let (teams, rounds) = (TeamSet::below(4), SlotSet::below(6));
+    let all = Touched { teams, rounds };
+    let no_teams = Touched {
+        teams: TeamSet::empty(),
+        rounds,
     };
-    let mut no_teams = all;
-    no_teams.teams = TeamSet::empty();
-    let mut no_rounds = all;
-    no_rounds.rounds = SlotSet::empty();
-    assert!(rt; are_distinct(&[all, no_teams, no_rounds]));
+    let no_rounds = Touched {
+        teams,
+        rounds: SlotSet::empty(),
+    };
+    check_distinct(&rt, &[all, no_teams, no_rounds]);
 }
 
 #[test]
 fn faults_that_differ(rt: HostRuntime) {
-    assert!(rt; are_distinct(&[FixtureFault::NotRoundRobin, FixtureFault::Memory]));
-    assert!(rt; are_distinct(&[MoveFault::BadMove, MoveFault::Meet]));
+    check_distinct(&rt, &[FixtureFault::NotRoundRobin, FixtureFault::Memory]);
+    check_distinct(&rt, &[MoveFault::BadMove, MoveFault::Meet]);
 }
 
 /// Of each kind of move some, of which each differs from the first in one number or in all.
@@ -93,27 +96,29 @@ const MOVES: &[Move] = &[
 // Of moves it has to see the kind and each number.
 #[test]
 fn moves_that_differ_in_one_number(rt: HostRuntime) {
-    assert!(rt; are_distinct(MOVES));
+    check_distinct(&rt, MOVES);
+}
+
+fn check_text(
+    rt: &impl Abort,
+    alloc: Global,
+    fault: &impl Display,
+    text: &str,
+) -> Result<(), Fail> {
+    let found = format!(in alloc; "{fault}")?;
+    check_same(rt, &found.as_str(), &text);
+    Ok(())
 }
 
 #[test]
 fn texts_of_fixture_faults(rt: HostRuntime) -> Result<(), Fail> {
-    let unfit = FixtureFault::NotRoundRobin;
-    let unfit = format!(in rt.alloc(); "{unfit}")?;
-    assert_eq!(rt; unfit.as_str(), "the games are no double round robin");
-    let memory = FixtureFault::Memory;
-    let memory = format!(in rt.alloc(); "{memory}")?;
-    assert_eq!(rt; memory.as_str(), "out of memory");
-    Ok(())
+    let text = "the games are no double round robin";
+    check_text(&rt, rt.alloc(), &FixtureFault::NotRoundRobin, text)?;
+    check_text(&rt, rt.alloc(), &FixtureFault::Memory, "out of memory")
 }
 
 #[test]
 fn texts_of_move_faults(rt: HostRuntime) -> Result<(), Fail> {
-    let bad = MoveFault::BadMove;
-    let bad = format!(in rt.alloc(); "{bad}")?;
-    assert_eq!(rt; bad.as_str(), "bad move");
-    let meet = MoveFault::Meet;
-    let meet = format!(in rt.alloc(); "{meet}")?;
-    assert_eq!(rt; meet.as_str(), "meet");
-    Ok(())
+    check_text(&rt, rt.alloc(), &MoveFault::BadMove, "bad move")?;
+    check_text(&rt, rt.alloc(), &MoveFault::Meet, "meet")
 }
