@@ -28,6 +28,8 @@ mod pins;
 #[cfg(test)]
 mod questions;
 #[cfg(test)]
+mod resumed;
+#[cfg(test)]
 mod room;
 #[cfg(test)]
 mod rules;
