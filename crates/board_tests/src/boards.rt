@@ -1,10 +1,13 @@
 //! Boards of four teams on a circle.
 
-ghost use Rattle.std.specs.Prelude.{◌≡◌, [], IfOk};
+ghost use Rattle.std.specs.Prelude.{◌≡◌, [], IfOk, IfSome};
+ghost use Rattle.shared_board.specs.Held.{AreOf};
 
-use fixture_board::Board;
+use crate::questions::to_shift;
+use fixture_board::{Ask, Board};
 use fixtures::Schedule;
 use league::{circular, read_league};
+use moves::Move;
 use shared_board::{Seat, Shared};
 use std::alloc::Global;
 use std::test::Fail;
@@ -25,6 +28,23 @@ pub(crate) fn board_with(alloc: Global, format: u8, members: &str) -> Result<Boa
 {
     let text = format!(in alloc; "{{\"format\":{format},{CIRCLE},{members}}}")?;
     Ok(Board::new(alloc, read_league(alloc, text.as_bytes())?, 8)?)
+}
+
+/// A board with room for eight entries, if there is memory.
+pub(crate) fn circle(alloc: Global) -> Option<Board>
+    ensures { IfSome result (λ b. b.history ≡ []) }
+{
+    Board::new(alloc, circular(alloc, 4).ok()?, 8).ok()
+}
+
+/// A board with two entries of caller 0: the home rights of teams 1 and 2 are exchanged, which is undone.
+pub(crate) fn undone(alloc: Global) -> Option<Board>
+    ensures { IfSome result (λ b. AreOf 0 b.history) }
+{
+    let mut board = circle(alloc)?;
+    board.answer(0, to_shift(0, Move::Homes { i: 0, j: 1 }));
+    board.answer(0, Ask::Undo { version: 1 });
+    Some(board)
 }
 
 /// A shared board with room for eight entries, its first seat, and a copy to look into.

@@ -32,6 +32,8 @@ mod pins;
 #[cfg(test)]
 mod questions;
 #[cfg(test)]
+mod resumed;
+#[cfg(test)]
 mod room;
 #[cfg(test)]
 mod rules;

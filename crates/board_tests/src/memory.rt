@@ -1,14 +1,12 @@
 //! Boards where there is memory, and where some is refused.
 
-ghost use Rattle.std.specs.Prelude.{◌≡◌, [], IfSome};
-
 use crate::answers::{best, travel};
+use crate::boards::{circle, undone};
 use crate::checks::{check_best, check_cost, check_entry, check_same, check_version};
 use crate::questions::{homes, shift, undo};
 use fixture_board::{Board, BoardFault, Change};
 use league::circular;
 use shared_board::Shared;
-use std::alloc::Global;
 use std::process::Abort;
 use std::test::Fail;
 
@@ -33,15 +31,9 @@ fn refused_memory_hands_the_league_back(rt: HostRuntime) {
     }
 }
 
-fn board(alloc: Global) -> Option<Board>
-    ensures { IfSome result (λ b. b.history ≡ []) }
-{
-    Board::new(alloc, circular(alloc, 4).ok()?, 8).ok()
-}
-
 #[test]
 fn a_shared_board_with_ample_memory(rt: HostRuntime) -> Result<(), Fail> {
-    let board = board(rt.alloc()).expect(&rt, "a board");
+    let board = circle(rt.alloc()).expect(&rt, "a board");
     let (_shared, seat) = Shared::new(rt.alloc(), board)?;
     check_same(&rt, &(seat.number(), seat.held(), seat.seen()), &(0, 1, 0));
     Ok(())
@@ -49,7 +41,7 @@ fn a_shared_board_with_ample_memory(rt: HostRuntime) -> Result<(), Fail> {
 
 #[test]
 fn refused_memory_makes_no_shared_board(rt: HostRuntime) {
-    let Some(board) = board(rt.alloc()) else {
+    let Some(board) = circle(rt.alloc()) else {
         return;
     };
     if let Ok((shared, mut seat)) = Shared::new(rt.alloc(), board) {
@@ -75,12 +67,32 @@ fn check_between_phases(rt: &impl Abort, mut board: Board) {
 
 #[test]
 fn between_phases_with_ample_memory(rt: HostRuntime) {
-    check_between_phases(&rt, board(rt.alloc()).expect(&rt, "a board"));
+    check_between_phases(&rt, circle(rt.alloc()).expect(&rt, "a board"));
 }
 
 #[test]
 fn between_phases_no_memory_is_refused(rt: HostRuntime) {
-    if let Some(board) = board(rt.alloc()) {
+    if let Some(board) = circle(rt.alloc()) {
         check_between_phases(&rt, board);
+    }
+}
+
+#[test]
+fn a_resumed_board_with_ample_memory(rt: HostRuntime) -> Result<(), Fail> {
+    let board = undone(rt.alloc()).expect(&rt, "a board");
+    let (_shared, seat) = Shared::resume(rt.alloc(), board)?;
+    check_same(&rt, &(seat.number(), seat.held(), seat.seen()), &(0, 1, 2));
+    Ok(())
+}
+
+#[test]
+fn refused_memory_resumes_no_board(rt: HostRuntime) {
+    let Some(board) = undone(rt.alloc()) else {
+        return;
+    };
+    if let Ok((shared, mut seat)) = Shared::resume(rt.alloc(), board) {
+        check_same(&rt, &shared.front(&mut seat), &2);
+        check_same(&rt, &shared.best(&mut seat), &Some(26));
+        check_same(&rt, &shared.close(&rt, seat).whole, &true);
     }
 }

@@ -1,5 +1,5 @@
 -- One more step of a worker: its report, and the reply that the gate heard.
-use Rattle.std.proofs.Common.{◌≡◌, ℕ, ◌+◌, ◌≤◌, List, [], ◌∷◌, ◌++◌, length, refl, sum_by, sym, arith, subst, length-append}
+use Rattle.std.proofs.Common.{◌≡◌, ℕ, ◌+◌, ◌≤◌, List, [], ◌∷◌, ◌++◌, length, refl, sym, arith, subst, length-append}
 use Rattle.std.proofs.lemmas.List.Sums.{sum_by_push}
 use Rattle.fixture_board.specs.declared.reply.Reply.{Reply}
 use Rattle.search.specs.declared.workers.Report.{Report}

@@ -1,4 +1,5 @@
 pub mod SeatLaws
 pub mod Chains
 pub mod Credited
+pub mod Conclusions
 pub mod Hearing

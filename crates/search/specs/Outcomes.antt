@@ -1,5 +1,5 @@
 -- What a run answers.
-use Rattle.std.specs.Prelude.{◌≡◌, ◌⊎◌, ℕ, ◌≤◌, List, [], ◌∷◌, length, map, sum_by, All, Option, Some, None}
+use Rattle.std.specs.Prelude.{◌≡◌, ◌⊎◌, ℕ, ◌≤◌, List, [], ◌∷◌, ◌++◌, length, map, sum_by, All, Option, Some, None}
 use Rattle.std.specs.List.Sorted.{IsStrictlyIncreasing}
 use Rattle.fixture_board.specs.declared.change.Entry.{Entry}
 use Rattle.fixture_board.specs.History.{IsLegal}
@@ -32,6 +32,25 @@ pub record Credits (reports : List Report) (h : List Entry) : Type 0 where
   pub rising : IsStrictlyIncreasing numbers
   pub each : map (λ n. made_by n h) numbers ≡ map accepted_of reports
 
+-- The history begins with `start`. As many entries come after it as were accepted, and the reports are credited with these
+pub record AreAdded (reports : List Report) (start h : List Entry) : Type 0 where
+  pub after : List Entry
+  pub begins : h ≡ start ++ after
+  pub sum : accepted_in reports ≡ length after
+  pub credits : Credits reports after
+
+-- the outcome of a run that went on from a board's history
+pub record IsResumed (plan : SearchPlan) (was : Book) (o : Outcome) : Type 0 where
+  pub plan_is : o.plan ≡ plan
+  pub workers : IsWorkers plan
+  pub league : o.board.league ≡ was.league
+  pub room : o.board.room ≡ was.room
+  pub legal : IsLegal o.board.league o.board.room o.board.history
+  pub many : length o.reports ≡ plan.workers
+  pub each : All (IsReport plan.steps) o.reports
+  pub added : AreAdded o.reports was.history o.board.history
+
+-- the outcome of a run from a board without an entry
 pub record IsOutcome (plan : SearchPlan) (was : Book) (o : Outcome) : Type 0 where
   pub plan_is : o.plan ≡ plan
   pub workers : IsWorkers plan

@@ -1,12 +1,12 @@
 //! A run: workers in threads, on one shared board.
 
-ghost use Rattle.std.specs.Prelude.{◌≡◌, ◌<◌, [], Some, length, slice_index_or, All, IfOk, IfErr, IsTrue};
+ghost use Rattle.std.specs.Prelude.{◌≡◌, ◌<◌, ◌≤◌, [], Some, length, slice_index_or, All, IfOk, IfErr, IsTrue};
+ghost use Rattle.shared_board.specs.Held.{AreOf};
 ghost use Rattle.shared_board.specs.Setting.{board_at};
-ghost use Rattle.search.specs.Outcomes.{Credits, IsAlike, IsOutcome, IsRefusal, IsWorkers};
+ghost use Rattle.search.specs.Outcomes.{IsAlike, IsOutcome, IsRefusal, IsResumed, IsWorkers};
 ghost use Rattle.search.specs.Heard.{IsOfWorker};
-ghost use Rattle.search.specs.Reports.{IsReport};
 ghost use Rattle.search.specs.declared.runs.RunFault.TheVariants.{Receipts};
-ghost use Rattle.search.specs.Crews.{HasRoom, IsFresh};
+ghost use Rattle.search.specs.Crews.{HasRoom, IsConcluded, IsFresh};
 ghost use Rattle.search.specs.declared.workers.Report.{Report};
 
 mod crew;
@@ -14,7 +14,7 @@ mod threads;
 
 use crate::gates::{Hearing, HearingGate};
 use crate::workers::Report;
-use crate::{Gate, NoGate};
+use crate::{Gate, NoGate, SlackCourse};
 use crew::Crew;
 use fixture_board::Board;
 use league::League;
@@ -40,6 +40,14 @@ pub struct SearchPlan {
     pub steps: u32,
     /// By how much a score may rise at a worker's first step.
     pub slack: u64,
+}
+
+/// What a run is to do that goes on from a board's history.
+#[derive(Clone, Copy, Debug, PartialEq, Eq)]
+pub struct PhasePlan {
+    pub search: SearchPlan,
+    /// How the slack goes on from each worker's first step.
+    pub course: SlackCourse,
 }
 
 /// The reports of a run's workers, in their order. Contracts see the list.
@@ -139,12 +147,49 @@ pub fn run_with<R: Threads + Wait + Sync, G: Gate + Sync>(
     ensures done { IfOk result (IsOutcome plan board) }
     ensures refused { IfErr result (IsRefusal plan board) }
 {
-    let (crew, board) = crew_for(alloc, board, plan)?;
-    let Ok((shared, seat)) = Shared::new(alloc, board) else {
+    let course = SlackCourse::Falls;
+    let search = plan;
+    resume_with(rt, alloc, gate, league, board, PhasePlan { search, course })
+}
+
+/// As `run`, from a board whose entries are all of caller 0. The history goes on from there, and the reports count the
+/// entries after it. The slack falls as in a run, or stays. The league has to be the board's own here too.
+pub fn resume<R: Threads + Wait + Sync>(
+    rt: &R,
+    alloc: Global,
+    league: &League,
+    board: Board,
+    phase: PhasePlan,
+) -> Result<Outcome, RunRefused>
+    requires { AreOf 0 board.history }
+    ensures done { IfOk result (IsResumed phase.search board) }
+    ensures refused { IfErr result (IsRefusal phase.search board) }
+{
+    resume_with(rt, alloc, &NoGate, league, board, phase)
+}
+
+/// As `resume`, with a gate that the workers pass. The league has to be the board's own here too.
+pub fn resume_with<R: Threads + Wait + Sync, G: Gate + Sync>(
+    rt: &R,
+    alloc: Global,
+    gate: &G,
+    league: &League,
+    board: Board,
+    phase: PhasePlan,
+) -> Result<Outcome, RunRefused>
+    requires { AreOf 0 board.history }
+    ensures done { IfOk result (IsResumed phase.search board) }
+    ensures refused { IfErr result (IsRefusal phase.search board) }
+{
+    let (crew, board) = crew_for(alloc, board, phase.search)?;
+    let version = board.version();
+    let room = board.room();
+    prove!(version <= u64::from(room));
+    let Ok((shared, seat)) = Shared::resume(alloc, board) else {
         let why = RunFault::Memory;
         return Err(RunRefused { why, board: None });
     };
-    search(rt, &Hearing { gate }, league, shared, seat, crew, plan)
+    search(rt, &Hearing { gate }, league, shared, seat, crew, phase)
 }
 
 /// The crew of a plan, beside the board. If there is none, the board comes back as it was.
@@ -183,15 +228,16 @@ fn search<R: Threads + Wait + Sync, G: HearingGate + Sync>(
     shared: Shared,
     mut seat: Seat,
     crew: Crew<Handle<G>>,
-    plan: SearchPlan,
+    phase: PhasePlan,
 ) -> Result<Outcome, RunRefused>
     requires seat { IsFresh shared seat }
-    requires crew { HasRoom plan.workers crew }
-    requires workers { IsWorkers plan }
-    ensures done { IfOk result (IsOutcome plan (board_at seat.setting [])) }
-    ensures heard { IfOk result (λ o. All (IsOfWorker (G.heard gate.now) plan.steps) o.reports) }
-    ensures refused { IfErr result (IsRefusal plan (board_at seat.setting [])) }
+    requires crew { HasRoom phase.search.workers crew }
+    requires workers { IsWorkers phase.search }
+    ensures done { IfOk result (IsResumed phase.search (board_at seat.setting seat.seen)) }
+    ensures heard { IfOk result (λ o. All (IsOfWorker (G.heard gate.now) phase.search.steps) o.reports) }
+    ensures refused { IfErr result (IsRefusal phase.search (board_at seat.setting seat.seen)) }
 {
+    let before = seat.seen();
     let Crew {
         copies,
         jobs,
@@ -203,30 +249,34 @@ fn search<R: Threads + Wait + Sync, G: HearingGate + Sync>(
         let board = Some(shared.close(rt, seat).board);
         return Err(RunRefused { why, board });
     };
-    let (all, handles) = launch(rt, &shared, gate, league, plan, jobs, handles);
-    let reports = gather(rt, &shared, gate, &mut seat, handles, reports, plan.steps);
+    let (all, handles) = launch(rt, &shared, gate, league, phase, jobs, handles);
+    let steps = phase.search.steps;
+    let reports = gather(rt, &shared, gate, &mut seat, handles, reports, steps);
     let closed = shared.close(rt, seat);
     if !all {
         let why = RunFault::Spawn;
         let board = Some(closed.board);
         return Err(RunRefused { why, board });
     }
-    conclude(plan, closed, reports)
+    conclude(phase.search, before, closed, reports)
 }
 
-/// The outcome, if the board is whole and the accepted proposals of the reports are its entries.
-fn conclude(plan: SearchPlan, closed: Closed, reports: Vec<Report>) -> Result<Outcome, RunRefused>
+/// The outcome, if the board is whole and the accepted proposals of the reports are its entries after so many.
+fn conclude(
+    plan: SearchPlan,
+    before: u64,
+    closed: Closed,
+    reports: Vec<Report>,
+) -> Result<Outcome, RunRefused>
     requires workers { IsWorkers plan }
     requires many { length reports.items ≡ plan.workers }
-    requires each { All (IsReport plan.steps) reports.items }
-    requires credits { IsTrue closed.whole → Credits reports.items closed.board.history }
-    ensures done { IfOk result (IsOutcome plan closed.board) }
-    ensures reports { IfOk result (λ o. o.reports ≡ reports.items) }
+    requires begins { IsTrue closed.whole → before ≤ length closed.board.history }
+    ensures done { IfOk result (IsConcluded plan before closed reports.items) }
     ensures refused { IfErr result (λ e. (e.why ≡ Receipts) × IsAlike closed.board e.board) }
 {
     let accepted = accepted_in(&reports);
     let Closed { board, whole } = closed;
-    if !whole || accepted != board.version() {
+    if !whole || accepted != board.version() - before {
         let why = RunFault::Receipts;
         let board = Some(board);
         return Err(RunRefused { why, board });

@@ -4,7 +4,7 @@ ghost use Rattle.std.specs.Prelude.{◌≡◌, ◌+◌, ◌^◌, ◌<◌};
 ghost use Rattle.league.specs.League.{teams};
 ghost use Rattle.search.specs.Heard.{IsHeard};
 ghost use Rattle.search.specs.Reports.{IsReport};
-ghost use Rattle.search.specs.Steps.{report_with, slack_of};
+ghost use Rattle.search.specs.Steps.{report_with, slack_in};
 
 mod steps;
 
@@ -28,6 +28,15 @@ pub struct WorkerPlan {
     /// By how much the score may rise at the first step. It falls in a line, from each step to the next by one part of
     /// as many as there are steps.
     pub slack: u64,
+}
+
+/// How the slack goes on from a worker's first step.
+#[derive(Clone, Copy, Debug, PartialEq, Eq)]
+pub enum SlackCourse {
+    /// In a line, from each step to the next by one part of as many as there are steps.
+    Falls,
+    /// At each step it is what it was at the first.
+    Stays,
 }
 
 /// How many proposals a worker made, and what the board answered.
@@ -88,16 +97,18 @@ pub fn worker<R: Wait, D: Door, G: Gate>(
     ensures other_size { ¬ (copy.old.teams ≡ teams league.now) →
         (result.made ≡ 0) × (copy.new ≡ copy.old) × (door.new ≡ door.old) }
 {
-    take_steps(rt, door, &Hearing { gate }, league, plan, copy)
+    let course = SlackCourse::Falls;
+    take_steps(rt, door, &Hearing { gate }, league, plan, course, copy)
 }
 
-/// What a worker does. Its report counts the replies that the gate heard.
+/// What a worker does, with a slack that falls or stays. Its report counts the replies that the gate heard.
 pub(crate) fn take_steps<R: Wait, D: Door, G: HearingGate>(
     rt: &R,
     door: &mut D,
     gate: &G,
     league: &League,
     plan: WorkerPlan,
+    course: SlackCourse,
     copy: &mut Schedule,
 ) -> Report
     requires { D.granted door.old < 2 ^ 62 }
@@ -127,7 +138,7 @@ pub(crate) fn take_steps<R: Wait, D: Door, G: HearingGate>(
             let trial = Trial {
                 worker: plan.worker,
                 made: report.made,
-                slack: slack_at(plan, s),
+                slack: slack_at(plan, course, s),
                 mv: draw(&mut generator, teams),
             };
             let told = step(rt, door, gate, league, copy, &mut known, trial);
@@ -154,9 +165,14 @@ fn tell<R: Wait, G: HearingGate>(rt: &R, gate: &G, worker: u32, progress: &mut P
 }
 
 /// The slack of a step, from 0.
-fn slack_at(plan: WorkerPlan, s: u32) -> u64
+fn slack_at(plan: WorkerPlan, course: SlackCourse, s: u32) -> u64
     requires { s < plan.steps }
-    ensures { result ≡ slack_of plan.slack plan.steps s }
+    ensures { result ≡ slack_in course plan.slack plan.steps s }
 {
-    (u128::from(plan.slack) * u128::from(plan.steps - s) / u128::from(plan.steps)) as u64
+    match course {
+        SlackCourse::Falls => {
+            (u128::from(plan.slack) * u128::from(plan.steps - s) / u128::from(plan.steps)) as u64
+        }
+        SlackCourse::Stays => plan.slack,
+    }
 }

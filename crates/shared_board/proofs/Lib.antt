@@ -1,4 +1,4 @@
-mod BoardLaws
+pub mod BoardLaws
 pub mod Counts
 mod Views
 mod Steps

@@ -2,11 +2,11 @@
 
 ghost use Rattle.std.specs.Prelude.{◌≡◌, ◌+◌, ◌≤◌, [], length, map, All, IfOk, IfSome, vec_len, vec_capacity};
 ghost use Rattle.std.specs.List.Sorted.{IsStrictlyIncreasing};
-ghost use Rattle.search.specs.Crews.{AreStarted, CanStart, IsBack, IsFresh, IsHandle, IsJob, handle_number, job_number};
-ghost use Rattle.search.specs.Outcomes.{accepted_in, accepted_of, made_by};
+ghost use Rattle.search.specs.Crews.{AreCredited, AreStarted, CanStart, HandleSaw, IsBack, IsFresh, IsHandle, IsJob, JobSaw, handle_number, job_number};
+ghost use Rattle.search.specs.Outcomes.{accepted_in};
 ghost use Rattle.search.specs.Heard.{IsOfWorker};
 
-use super::SearchPlan;
+use super::PhasePlan;
 use crate::SeatDoor;
 use crate::gates::HearingGate;
 use crate::workers::{Report, WorkerPlan, take_steps};
@@ -74,6 +74,8 @@ pub(crate) fn seat_all<R: Wait>(
     requires few { vec_len copies ≤ 16 }
     ensures table { seat.new.table ≡ shared.now }
     ensures setting { seat.new.setting ≡ seat.old.setting }
+    ensures seen { seat.new.seen ≡ seat.old.seen }
+    ensures saw { IfOk result (λ v. All (JobSaw seat.old.seen) v.items) }
     ensures jobs { IfOk result (λ v. All (IsJob shared.now) v.items) }
     ensures many { IfOk result (λ v. vec_len v ≡ vec_len copies) }
     ensures rising { IfOk result (λ v. IsStrictlyIncreasing (map job_number v.items)) }
@@ -98,20 +100,20 @@ pub(crate) fn launch<R: Threads + Wait + Sync, G: HearingGate + Sync>(
     shared: &Shared,
     gate: &G,
     league: &League,
-    plan: SearchPlan,
+    phase: PhasePlan,
     jobs: Vec<Job>,
     handles: Vec<Handle<G>>,
 ) -> (bool, Vec<Handle<G>>)
     requires { CanStart shared.now jobs handles }
-    ensures { AreStarted gate.now plan.steps shared.now jobs result.0 result.1 }
+    ensures { AreStarted gate.now phase.search.steps shared.now jobs result.0 result.1 }
 {
     thread::scope(
         thread::scope_env(),
         rt,
         move |scope| -> (bool, Vec<Handle<G>>)
             requires { CanStart shared.now jobs handles }
-            ensures { AreStarted gate.entry.now plan.steps shared.entry.now jobs result.0 result.1 }
-        { start_all(scope, rt, shared, gate, league, plan, jobs, handles) },
+            ensures { AreStarted gate.entry.now phase.search.steps shared.entry.now jobs result.0 result.1 }
+        { start_all(scope, rt, shared, gate, league, phase, jobs, handles) },
     )
 }
 
@@ -122,15 +124,15 @@ fn start_all<'s, E, R: Wait + Sync, G: HearingGate + Sync>(
     shared: &'s Shared,
     gate: &'s G,
     league: &'s League,
-    plan: SearchPlan,
+    phase: PhasePlan,
     jobs: Vec<Job>,
     mut handles: Vec<Handle<G>>,
 ) -> (bool, Vec<Handle<G>>)
     requires { CanStart shared.now jobs handles }
-    ensures { AreStarted gate.now plan.steps shared.now jobs result.0 result.1 }
+    ensures { AreStarted gate.now phase.search.steps shared.now jobs result.0 result.1 }
 {
     for job in jobs {
-        let Some(handle) = start(scope, rt, shared, gate, league, plan, job) else {
+        let Some(handle) = start(scope, rt, shared, gate, league, phase, job) else {
             return (false, handles);
         };
         handles.push_reserved(handle);
@@ -145,20 +147,20 @@ fn start<'s, E, R: Wait + Sync, G: HearingGate + Sync>(
     shared: &'s Shared,
     gate: &'s G,
     league: &'s League,
-    plan: SearchPlan,
+    phase: PhasePlan,
     job: Job,
 ) -> Option<Handle<G>>
     requires { IsJob shared.now job }
-    ensures handle { IfSome result (IsHandle gate.now plan.steps shared.now) }
-    ensures number { IfSome result (λ h. handle_number h ≡ job_number job) }
+    ensures handle { IfSome result (IsHandle gate.now phase.search.steps shared.now) }
+    ensures seat { IfSome result (λ h. h.promise.seat.value ≡ job.seat) }
 {
     let given = Given {
-        steps: plan.steps,
+        steps: phase.search.steps,
         seat: Snapshot::of(&job.seat),
         gate: Snapshot::of(gate),
     };
     scope
-        .spawn_with(given, move || work(rt, shared, gate, league, plan, job))
+        .spawn_with(given, move || work(rt, shared, gate, league, phase, job))
         .ok()
 }
 
@@ -168,25 +170,26 @@ fn work<R: Wait, G: HearingGate>(
     shared: &Shared,
     gate: &G,
     league: &League,
-    plan: SearchPlan,
+    phase: PhasePlan,
     job: Job,
 ) -> Ended
     requires { IsJob shared.now job }
-    ensures { IsBack (G.heard gate.now) plan.steps job.seat result.report result.seat }
+    ensures { IsBack (G.heard gate.now) phase.search.steps job.seat result.report result.seat }
 {
     let Job {
         worker: number,
         seat,
         mut copy,
     } = job;
+    let PhasePlan { search, course } = phase;
     let plan = WorkerPlan {
         worker: number,
-        seed: plan.seed,
-        steps: plan.steps,
-        slack: plan.slack,
+        seed: search.seed,
+        steps: search.steps,
+        slack: search.slack,
     };
     let mut door = SeatDoor { shared, seat };
-    let report = take_steps(rt, &mut door, gate, league, plan, &mut copy);
+    let report = take_steps(rt, &mut door, gate, league, plan, course, &mut copy);
     let SeatDoor { shared: _, seat } = door;
     Ended { report, seat }
 }
@@ -203,13 +206,14 @@ pub(crate) fn gather<R: Threads + Wait, G: HearingGate>(
 ) -> Vec<Report>
     requires table { seat.old.table ≡ shared.now }
     requires handles { All (IsHandle gate.now steps shared.now) handles.items }
+    requires saw { All (HandleSaw seat.old.seen) handles.items }
     requires none { reports.items ≡ [] }
     requires room { vec_len handles ≤ vec_capacity reports }
     ensures table { seat.new.table ≡ shared.now }
     ensures setting { seat.new.setting ≡ seat.old.setting }
     ensures many { vec_len result ≡ vec_len handles }
     ensures each { All (IsOfWorker (G.heard gate.now) steps) result.items }
-    ensures credits { map (λ n. made_by n seat.new.seen) (map handle_number handles.items) ≡ map accepted_of result.items }
+    ensures credits { AreCredited seat.old.seen (map handle_number handles.items) result.items seat.new.seen }
 {
     for handle in handles {
         let ended = handle.join(rt);

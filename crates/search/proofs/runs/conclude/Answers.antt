@@ -12,6 +12,3 @@ returns-clause-done c = search rules
 
 pub returns-clause-refused : goal.returns-clause-refused
 returns-clause-refused c = search rules
-
-pub returns-clause-reports : goal.returns-clause-reports
-returns-clause-reports c = search rules

@@ -1,8 +1,10 @@
-use Rattle.std.proofs.Common.{◌≡◌, ◌∷◌, [], ◌++◌, length, map, ap, ◌∙◌, arith}
+use Rattle.std.proofs.Common.{◌≡◌, ◌∷◌, [], ◌++◌, List, length, map, ap, sym, ◌∙◌, arith}
 use Rattle.std.proofs.lemmas.List.{map-append}
-use Rattle.std.proofs.lemmas.List.Elements.{All-push, All-rest, All-same}
+use Rattle.std.proofs.lemmas.List.Elements.{All-head, All-push, All-rest, All-same}
 use Rattle.std.specs.Vec.Iter.{into_iter_items}
-use Rattle.search.specs.Crews.{IsHandle, IsJob, handle_number, job_number}
+use Rattle.shared_board.specs.Seats.{SeatValue}
+use Rattle.search.specs.declared.runs.threads.Job.{Job}
+use Rattle.search.specs.Crews.{HandleSaw, IsHandle, IsJob, JobSaw, handle_number, job_number}
 use Rattle.search.proofs.Chains.{numbers_more}
 use Rattle.search.proofs.runs.threads.start_all.Goals as goal
 
@@ -16,16 +18,23 @@ loop-job-preserved g c =
     let pushed = c.push_reserved.ensures in
     let old = c.loop-job.handles.items in
     let handle = c.in-Some-start.handle in
+    let given : handle.promise.seat.value ≡ c.in-Some.job.seat = c.in-Some-start.ensures.seat in
+    let left : List Job = into_iter_items c.loop-job.job-iterator in
     record {
+      left_saw = λ start saw. All-rest (JobSaw start) c.in-Some.job rest left steps (was.left_saw start saw);
+      saw = λ start saw. All-same (HandleSaw start) c.push_reserved.new.self.items (old ++ handle ∷ []) pushed.items
+          (All-push (HandleSaw start) old handle (was.saw start saw)
+          (ap (λ (s : SeatValue). s.seen) given
+          ∙ All-head (JobSaw start) c.in-Some.job rest (All-same (JobSaw start) (c.in-Some.job ∷ rest) left (sym steps) (was.left_saw start saw))));
       jobs = All-rest (IsJob c.args.shared.now) c.in-Some.job rest (into_iter_items c.loop-job.job-iterator) steps was.jobs;
       left = omega (arith, was.left, gone, short);
-      handles = All-same (IsHandle c.args.gate.now c.args.plan.steps c.args.shared.now) c.push_reserved.new.self.items (old ++ handle ∷ []) pushed.items
-          (All-push (IsHandle c.args.gate.now c.args.plan.steps c.args.shared.now) old handle was.handles c.in-Some-start.ensures.handle);
+      handles = All-same (IsHandle c.args.gate.now c.args.phase.search.steps c.args.shared.now) c.push_reserved.new.self.items (old ++ handle ∷ []) pushed.items
+          (All-push (IsHandle c.args.gate.now c.args.phase.search.steps c.args.shared.now) old handle was.handles c.in-Some-start.ensures.handle);
       count = omega (arith, gone, pushed.len, was.count);
       room = omega (arith, pushed.capacity, was.room);
       numbers = numbers_more (map handle_number old) (map handle_number c.push_reserved.new.self.items)
           (map job_number (into_iter_items c.loop-job.job-iterator)) (map job_number rest) (map job_number c.args.jobs.items)
           (handle_number handle) (job_number c.in-Some.job)
           (ap (map handle_number) pushed.items ∙ map-append handle_number old (handle ∷ []))
-          (ap (map job_number) steps) c.in-Some-start.ensures.number was.numbers;
+          (ap (map job_number) steps) (ap (λ (s : SeatValue). s.number) given) was.numbers;
     }
