@@ -72,7 +72,9 @@ pub(crate) fn wrong_format(alloc: Global, matches: &ArgMatches) -> Error
 fn wrong_name(alloc: Global, name: &str) -> Result<Error, AllocError>
     ensures { IfOk result (λ error. kind_of error ≡ ErrorKind.InvalidValue) }
 {
-    let message = format!(in alloc; "invalid value '{name}' for '--format <FORMAT>'\n  [possible values: text, csv, html]")?;
+    let message = format!(in alloc;
+        "invalid value '{name}' for '--format <FORMAT>'\n  [possible values: text, csv, html]"
+    )?;
     let mut command = report_command(alloc)?.bin_name("ttp report")?;
     command.error(ErrorKind::InvalidValue, message.as_str())
 }

@@ -222,7 +222,11 @@ const ENDS: &[(&[&str], ErrorKind, i32)] = &[
         ErrorKind::InvalidValue,
         2,
     ),
-    (&["ttp", "report", "--format=CSV"], ErrorKind::InvalidValue, 2),
+    (
+        &["ttp", "report", "--format=CSV"],
+        ErrorKind::InvalidValue,
+        2,
+    ),
     (&["ttp", "report", "--format="], ErrorKind::InvalidValue, 2),
     (&["ttp", "report", "--format"], ErrorKind::InvalidValue, 2),
     (
@@ -309,7 +313,13 @@ fn check_memory(rt: &impl Abort, alloc: Global, is_ample: bool) {
     let words = ["ttp", "report", "--format=html"];
     check_answer(rt, alloc, is_ample, &words, Ok(Job::Report(Format::Html)));
     let wrong = Err(ErrorKind::InvalidValue);
-    check_answer(rt, alloc, is_ample, &["ttp", "report", "--format=pdf"], wrong);
+    check_answer(
+        rt,
+        alloc,
+        is_ample,
+        &["ttp", "report", "--format=pdf"],
+        wrong,
+    );
 }
 
 #[test]

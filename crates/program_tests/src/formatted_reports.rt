@@ -60,7 +60,8 @@ fn table_of_a_start_is_its_games(rt: HostRuntime) -> Result<(), Fail> {
 }
 
 /// Four teams whose names have marks of CSV and of HTML.
-const MARKED: &str = r#"{"format":1,"teams":["a, b","say \"c\"","<script>d</script>","\"' onload='&lt;"],
+const MARKED: &str =
+    r#"{"format":1,"teams":["a, b","say \"c\"","<script>d</script>","\"' onload='&lt;"],
     "distances":[[0,1,2,1],[1,0,1,2],[2,1,0,1],[1,2,1,0]]}"#;
 
 const FIRST: &str = "a, b";
@@ -180,7 +181,10 @@ fn check_front(
     let steps = [Step::Moved(length), Step::Failed];
     let mut sink = RehearsedSink::new(&mut memory, &steps);
     let answer = report(alloc, MemorySource::new(input), &mut sink, Format::Html);
-    assert_eq!(rt; (answer, memory.held().len()), (Err(ProgramFault::Write), length));
+    assert_eq!(rt;
+        (answer, memory.held().len()),
+        (Err(ProgramFault::Write), length)
+    );
     assert!(rt; page.starts_with(memory.held()), "{length}");
     Ok(())
 }
