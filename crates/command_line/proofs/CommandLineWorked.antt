@@ -1,10 +1,11 @@
 -- What the definition of the command line answers at words that are written out.
 use Rattle.std.proofs.Common.{◌≡◌, List, [], ◌∷◌, None, Some, codes, refl}
 use Rattle.clap.specs.Words.{Text, fault_of}
-use Rattle.clap.specs.declared.error.kind.ErrorKind.TheVariants.{ArgumentConflict, DisplayHelp, DisplayVersion, MissingSubcommand, UnknownArgument, ValueValidation}
+use Rattle.clap.specs.declared.error.kind.ErrorKind.TheVariants.{ArgumentConflict, DisplayHelp, DisplayVersion, InvalidValue, MissingSubcommand, UnknownArgument, ValueValidation}
 use Rattle.clap.proofs.OnLiterals.{clap_on_literals}
-use Rattle.command_line.specs.CommandLine.{job_of_words, program}
+use Rattle.command_line.specs.CommandLine.{job_of_words, program, words_fault}
 use Rattle.command_line.specs.declared.job.Job.TheVariants.{Find, Play, Report, Start}
+use Rattle.report_formats.specs.declared.format.Format.TheVariants as formats
 
 abbrev ttp : List Text → List Text
 ttp words = codes "ttp" ∷ words
@@ -82,6 +83,22 @@ some_worker_is_needed : fault_of program (ttp (codes "search" ∷ codes "--worke
 unfolding clap_on_literals
 some_worker_is_needed = refl
 
-report_is_named : job_of_words (ttp (codes "report" ∷ [])) ≡ Some Report
+report_is_named : job_of_words (ttp (codes "report" ∷ [])) ≡ Some (Report formats.Text)
 unfolding clap_on_literals
 report_is_named = refl
+
+report_has_its_format : job_of_words (ttp (codes "report" ∷ codes "--format" ∷ codes "csv" ∷ [])) ≡ Some (Report formats.Csv)
+unfolding clap_on_literals
+report_has_its_format = refl
+
+page_after_an_equals_sign : job_of_words (ttp (codes "report" ∷ codes "--format=html" ∷ [])) ≡ Some (Report formats.Html)
+unfolding clap_on_literals
+page_after_an_equals_sign = refl
+
+clap_takes_any_format : fault_of program (ttp (codes "report" ∷ codes "--format=pdf" ∷ [])) ≡ []
+unfolding clap_on_literals
+clap_takes_any_format = refl
+
+other_format_is_refused : words_fault (ttp (codes "report" ∷ codes "--format=pdf" ∷ [])) ≡ InvalidValue ∷ []
+unfolding clap_on_literals
+other_format_is_refused = refl

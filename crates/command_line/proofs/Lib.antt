@@ -3,3 +3,4 @@ pub mod Options
 pub mod NumberLemmas
 pub mod OptionWords
 pub mod NamedCommand
+pub mod WordsFault

@@ -1,4 +1,4 @@
--- Where the words are no fault, they name a command, and each of its options has a number.
+-- Where the words are no fault, they name a command, and each of its options has a value.
 use Rattle.std.proofs.Common.{◌≡◌, ◌∙◌, ap, ◌&&◌, ◌||◌, cond, ℕ, Bool, true, false, List, [], ◌∷◌, Option, Some, None, is_some, refl, sym, subst, codes, inl, inr, option_map, true≢false, map, ◌++◌}
 use Rattle.std.specs.Prelude.{Box, find, fold}
 use Rattle.std.specs.Box.{box_value}
@@ -15,9 +15,9 @@ use Rattle.clap.specs.Walk.{Held, Names, Outcome, Row, Rule, Step, Text, Waiting
 use Rattle.clap.specs.Walk.{done, waits, plain, refused, idle, option, positional, next, trailing, subcommand, value}
 use Rattle.clap.specs.declared.error.kind.ErrorKind.TheVariants.{DisplayHelp, InvalidSubcommand}
 use Rattle.clap.proofs.OnLiterals.{clap_on_literals}
-use Rattle.command_line.specs.CommandLine.{CommandForm, HasNumbers, NamesACommand, NamesOneOf, NumberOption, app_of_command, commands, play_command, program, report_command, room_option, search_command, start_command}
+use Rattle.command_line.specs.CommandLine.{CommandForm, HasValues, NamesACommand, NamesOneOf, OptionForm, app_of_command, commands, format_option, play_command, program, report_command, room_option, search_command, start_command}
 use Rattle.command_line.proofs.Options.{both_pass, no_kind}
-use Rattle.command_line.proofs.OptionWords.{has_numbers}
+use Rattle.command_line.proofs.OptionWords.{has_values}
 
 -- the program as clap builds it
 abbrev top : Shape
@@ -114,10 +114,10 @@ walk_on w (x ∷ xs) e ok =
 
 -- ---- the subcommand
 
--- a command keeps its name, and where its words are no fault each option has a number
+-- a command keeps its name, and where its words are no fault each option has a value
 record IsRead (c : CommandForm) : Type 0 where
   named : (built_command c).name ≡ c.name
-  has : (words : List Text) → level_fault (built_command c) [] nothing_held words false [] ≡ [] → HasNumbers (rows_at (built_command c) words).1 c.options
+  has : (words : List Text) → level_fault (built_command c) [] nothing_held words false [] ≡ [] → HasValues (rows_at (built_command c) words).1 c.options
 
 abbrev AreRead : List CommandForm → Type 0
 AreRead [] = Unit {0}
@@ -126,12 +126,12 @@ AreRead (c ∷ cs) = IsRead c × AreRead cs
 commands_are_read : AreRead commands
 unfolding clap_on_literals
 commands_are_read = (
-  record { named = refl; has = has_numbers [] tt (built_command start_command) },
+  record { named = refl; has = has_values [] tt (built_command start_command) },
   (
-    record { named = refl; has = has_numbers (room_option ∷ []) (record { first = refl; default_fits = refl }, tt) (built_command play_command) },
+    record { named = refl; has = has_values (room_option ∷ []) (record { first = refl; as_written = refl; default_fits = refl }, tt) (built_command play_command) },
     (
-      record { named = refl; has = has_numbers search_command.options (record { first = refl; default_fits = refl }, (record { first = refl; default_fits = refl }, (record { first = refl; default_fits = refl }, (record { first = refl; default_fits = refl }, (record { first = refl; default_fits = refl }, tt))))) (built_command search_command) },
-      (record { named = refl; has = has_numbers [] tt (built_command report_command) }, tt),
+      record { named = refl; has = has_values search_command.options (record { first = refl; as_written = refl; default_fits = refl }, (record { first = refl; as_written = refl; default_fits = refl }, (record { first = refl; as_written = refl; default_fits = refl }, (record { first = refl; as_written = refl; default_fits = refl }, (record { first = refl; as_written = refl; default_fits = refl }, tt))))) (built_command search_command) },
+      (record { named = refl; has = has_values (format_option ∷ []) (record { first = refl; as_written = refl; default_fits = refl }, tt) (built_command report_command) }, tt),
     ),
   ),
 )
@@ -196,21 +196,21 @@ names_a_command words e =
     let last = both_pass (defaults_fault (settled top.rules end.held).rows top.rules) _ rest.1 in
     entered_is end.stopped (finished top.rules end.held) (walk_on (walk_from nothing_held) (argument_words program words) met.0 tt) below.0 last.1
 
--- a command that is named and has this name has the numbers of its options
-pub search_numbers : (found : Text × List Row) → NamesOneOf commands found → found.0 ≡ codes "search" → HasNumbers found.1 search_command.options
-search_numbers found (inl of_start) is = absurd (true≢false (ap (λ t. bytes_eq t (codes "start")) (sym of_start.0 ∙ is)))
-search_numbers found (inr (inl of_play)) is = absurd (true≢false (ap (λ t. bytes_eq t (codes "play")) (sym of_play.0 ∙ is)))
-search_numbers found (inr (inr (inl of_search))) is = of_search.1
-search_numbers found (inr (inr (inr (inl of_report)))) is = absurd (true≢false (ap (λ t. bytes_eq t (codes "report")) (sym of_report.0 ∙ is)))
-search_numbers found (inr (inr (inr (inr none)))) is = absurd none
+-- a command that is named and has this name has the values of its options
+pub search_values : (found : Text × List Row) → NamesOneOf commands found → found.0 ≡ codes "search" → HasValues found.1 search_command.options
+search_values found (inl of_start) is = absurd (true≢false (ap (λ t. bytes_eq t (codes "start")) (sym of_start.0 ∙ is)))
+search_values found (inr (inl of_play)) is = absurd (true≢false (ap (λ t. bytes_eq t (codes "play")) (sym of_play.0 ∙ is)))
+search_values found (inr (inr (inl of_search))) is = of_search.1
+search_values found (inr (inr (inr (inl of_report)))) is = absurd (true≢false (ap (λ t. bytes_eq t (codes "report")) (sym of_report.0 ∙ is)))
+search_values found (inr (inr (inr (inr none)))) is = absurd none
 
--- so the values of the subcommand that a parse met, where it has this name, have the numbers of its options
-pub numbers_of_met : {Z : Type 0} (word : Text) (options : List NumberOption) → ((found : Text × List Row) → NamesOneOf commands found → found.0 ≡ word → HasNumbers found.1 options)
+-- so the rows of the subcommand that a parse met, where it has this name, have the values of its options
+pub values_of_met : {Z : Type 0} (word : Text) (options : List OptionForm) → ((found : Text × List Row) → NamesOneOf commands found → found.0 ≡ word → HasValues found.1 options)
     → (met : Option (Box SubCommand Z)) (name : Text) (rows : List Row) → NamesACommand (subcommand_rows met)
     → Some name ≡ option_map (λ b. (out-SubCommand (box_value b)).name.now) met → Some rows ≡ option_map (λ found. found.1) (subcommand_rows met)
-    → name ≡ word → HasNumbers rows options
-numbers_of_met word options numbers None name rows named is_name are_rows is = absurd named
-numbers_of_met word options numbers (Some b) name rows named is_name are_rows is =
+    → name ≡ word → HasValues rows options
+values_of_met word options values None name rows named is_name are_rows is = absurd named
+values_of_met word options values (Some b) name rows named is_name are_rows is =
     let same_name = ap (λ o. option_map_or (λ x. x) o name) is_name in
     let same_rows = ap (λ o. option_map_or (λ x. x) o rows) are_rows in
-    subst (λ rs. HasNumbers rs options) (sym same_rows) (numbers _ named (sym same_name ∙ is))
+    subst (λ rs. HasValues rs options) (sym same_rows) (values _ named (sym same_name ∙ is))

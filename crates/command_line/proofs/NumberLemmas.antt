@@ -7,15 +7,16 @@ use Rattle.clap.specs.declared.parser.matches.Found.{Found}
 use Rattle.clap.specs.declared.builder.value_parser.ValueParser.TheVariants.{Unsigned}
 use Rattle.clap.proofs.ValueTestLemmas.{accepts-Accepts}
 use Rattle.clap.proofs.WalkLemmas.{one_text-rows}
-use Rattle.command_line.specs.CommandLine.{HasNumber, NumberOption, number_in}
+use Rattle.command_line.specs.CommandLine.{HasValue, form_of, number_in}
+use Rattle.command_line.specs.declared.number_args.NumberArg.{NumberArg}
 
 -- how `u64` reads a text
 abbrev Reads : Text → Result ℕ ParseIntError → Type 0
 Reads t r = ParsesUnsigned 64 10 t r × ExplainsUnsignedError 10 t r × HasUnsignedDigitsIfOk t r
 
-module _ (o : NumberOption) (f : Found) (r : Option ℕ) (has : HasNumber (rows_of f) o) (value : (t : Text) → one_text f o.name ≡ Some t → ReadsOne Reads t r) where
+module _ (o : NumberArg) (f : Found) (r : Option ℕ) (has : HasValue (rows_of f) (form_of o)) (value : (t : Text) → one_text f o.name.now ≡ Some t → ReadsOne Reads t r) where
   read : ReadsOne Reads has.0 r
-  read = value has.0 (one_text-rows f o.name ∙ has.1)
+  read = value has.0 (one_text-rows f o.name.now ∙ has.1)
 
   accepted : Accepts false (Unsigned o.least o.most) has.0
   accepted = accepts-Accepts false (Unsigned o.least o.most) has.0 has.2
@@ -25,7 +26,7 @@ module _ (o : NumberOption) (f : Found) (r : Option ℕ) (has : HasNumber (rows_
       let g = rw none at read in
       g.1.0 (accepted.0, accepted.1)
 
-  pub number_in_rows : (n : ℕ) → r ≡ Some n → number_in o.name (rows_of f) ≡ Some n
+  pub number_in_rows : (n : ℕ) → r ≡ Some n → number_in o.name.now (rows_of f) ≡ Some n
   number_in_rows n is =
       let g = rw is at read in
       rw has.1 (ap Some (sym g.0.1))

@@ -1,10 +1,10 @@
--- Where the words of a command are no fault, each of its options has a number in its range.
+-- Where the words of a command are no fault, each of its options has a value that clap takes.
 use Rattle.std.proofs.Common.{◌≡◌, ◌&&◌, not, cond, ℕ, zero, suc, Bool, true, false, List, [], ◌∷◌, Option, Some, None, is_some, refl, sym, subst, drop, length}
 use Rattle.std.specs.Prelude.{encode_utf8, find, fold, slice_get}
 use Rattle.std.specs.Option.{option_map_or}
 use Rattle.std.specs.Str.{bytes_eq, chars}
 use Rattle.clap.specs.Lexer.{long_of, short_of}
-use Rattle.clap.specs.ValueTests.{is_unsigned_in}
+use Rattle.clap.specs.ValueTests.{accepts}
 use Rattle.clap.specs.Kinds.{or_else, range_kinds, value_kinds}
 use Rattle.clap.specs.Faults.{bundle_fault, bundle_step_fault, flag_word_fault, flags_fault, level_fault, long_fault, option_fault, other_fault, positional_fault, react_fault, repeat_fault, settle_fault, short_fault, step_fault, stray_fault, turn_fault, use_fault, values_fault, walk_fault, word_fault}
 use Rattle.clap.specs.Simple.{Shape}
@@ -12,14 +12,13 @@ use Rattle.clap.specs.Walk.{Held, Outcome, Row, Rule, Step, Text, Waiting, Walk,
 use Rattle.clap.specs.Walk.{done, waits, plain, refused, idle, option, positional, next, trailing, subcommand, value}
 use Rattle.clap.specs.declared.error.kind.ErrorKind.TheVariants.{UnknownArgument, InvalidSubcommand}
 use Rattle.clap.specs.declared.parser.matches.ValueSource.TheVariants.{CommandLine}
-use Rattle.clap.specs.declared.builder.value_parser.ValueParser.TheVariants.{Unsigned}
-use Rattle.command_line.specs.CommandLine.{HasNumbers, NumberOption}
-use Rattle.command_line.proofs.Options.{AreSound, IsFine as IsFineFor, IsSound, all_given, both_pass, help, no_kind, none_yet, number_rule, row_added, rules_of, without-none}
+use Rattle.command_line.specs.CommandLine.{HasValues, OptionForm}
+use Rattle.command_line.proofs.Options.{AreSound, IsFine as IsFineFor, IsSound, all_given, both_pass, help, no_kind, none_yet, option_rule, row_added, rules_of, without-none}
 
-value_passes : (o : NumberOption) (t : Text) → value_kinds false (Unsigned o.least o.most) t ≡ [] → is_unsigned_in o.least o.most t ≡ true
-value_passes o t e = go (is_unsigned_in o.least o.most t) refl
+value_passes : (o : OptionForm) (t : Text) → value_kinds false o.parser t ≡ [] → accepts false o.parser t ≡ true
+value_passes o t e = go (accepts false o.parser t) refl
   where
-    go : (b : Bool) → is_unsigned_in o.least o.most t ≡ b → b ≡ true
+    go : (b : Bool) → accepts false o.parser t ≡ b → b ≡ true
     go true is = refl
     go false is = absurd (no_kind _ _ (rw is at e))
 
@@ -35,12 +34,12 @@ stray : (is_leaf : Bool) → cond is_leaf (UnknownArgument ∷ []) (UnknownArgum
 stray true e = no_kind _ _ e
 stray false e = no_kind _ _ e
 
-no_position : (os : List NumberOption) (i : ℕ) → arg_by_index (rules_of os) i ≡ None
+no_position : (os : List OptionForm) (i : ℕ) → arg_by_index (rules_of os) i ≡ None
 no_position [] i = refl
 no_position (o ∷ os) i = no_position os i
 
 -- a command with these options and the help
-module _ (options : List NumberOption) (sound : AreSound options options) (base : Shape) where
+module _ (options : List OptionForm) (sound : AreSound options options) (base : Shape) where
   abbrev rules : List Rule
   rules = rules_of options
 
@@ -50,32 +49,32 @@ module _ (options : List NumberOption) (sound : AreSound options options) (base 
   abbrev IsFine : List Row → Type 0
   IsFine = IsFineFor options
 
-  among : (os : List NumberOption) → AreSound options os → (K : Option Rule → Type 0) (p : Rule → Bool) → K None → ((o : NumberOption) → IsSound options o → K (Some (number_rule o))) → K (Some help)
+  among : (os : List OptionForm) → AreSound options os → (K : Option Rule → Type 0) (p : Rule → Bool) → K None → ((o : OptionForm) → IsSound options o → K (Some (option_rule o))) → K (Some help)
       → K (find p (rules_of os))
-  among [] s K p none at_number at_help = go (p help)
+  among [] s K p none at_option at_help = go (p help)
     where
       go : (b : Bool) → K (cond b (Some help) None)
       go true = at_help
       go false = none
-  among (o ∷ os) s K p none at_number at_help = go (p (number_rule o)) (among os s.1 K p none at_number at_help)
+  among (o ∷ os) s K p none at_option at_help = go (p (option_rule o)) (among os s.1 K p none at_option at_help)
     where
-      go : (b : Bool) → K (find p (rules_of os)) → K (cond b (Some (number_rule o)) (find p (rules_of os)))
-      go true rest = at_number o s.0
+      go : (b : Bool) → K (find p (rules_of os)) → K (cond b (Some (option_rule o)) (find p (rules_of os)))
+      go true rest = at_option o s.0
       go false rest = rest
 
-  is_a_rule : (K : Option Rule → Type 0) (p : Rule → Bool) → K None → ((o : NumberOption) → IsSound options o → K (Some (number_rule o))) → K (Some help) → K (find p rules)
+  is_a_rule : (K : Option Rule → Type 0) (p : Rule → Bool) → K None → ((o : OptionForm) → IsSound options o → K (Some (option_rule o))) → K (Some help) → K (find p rules)
   is_a_rule = among options sound
 
   -- ---- one use of an argument
 
-  use_number : (o : NumberOption) (values : List Text) (rows : List Row) → IsSound options o → use_fault false (number_rule o) values rows ≡ [] → IsFine rows → IsFine (used (number_rule o) values rows)
-  use_number o [] rows s e fine = absurd (no_kind _ _ e)
-  use_number o (v ∷ vs) rows s e fine =
+  use_option : (o : OptionForm) (values : List Text) (rows : List Row) → IsSound options o → use_fault false (option_rule o) values rows ≡ [] → IsFine rows → IsFine (used (option_rule o) values rows)
+  use_option o [] rows s e fine = absurd (no_kind _ _ e)
+  use_option o (v ∷ vs) rows s e fine =
       let uses = both_pass (range_kinds 1 1 (length (v ∷ vs))) _ e in
-      let set = both_pass (repeat_fault false o.name rows) (values_fault (number_rule o) (v ∷ vs)) uses.1 in
-      let first = both_pass (value_kinds false (Unsigned o.least o.most) v) (values_fault (number_rule o) vs) set.1 in
+      let set = both_pass (repeat_fault false o.name rows) (values_fault (option_rule o) (v ∷ vs)) uses.1 in
+      let first = both_pass (value_kinds false o.parser v) (values_fault (option_rule o) vs) set.1 in
       let none = none_yet o.name rows set.0 in
-      subst (λ rs. IsFine (with_values o.name (reading_by (number_rule o)) CommandLine (v ∷ vs) rs)) (sym (without-none o.name rows none))
+      subst (λ rs. IsFine (with_values o.name (reading_by (option_rule o)) CommandLine (v ∷ vs) rs)) (sym (without-none o.name rows none))
       (row_added options o CommandLine v vs rows s none (value_passes o v first.0) fine)
 
   settled_fine : (h : Held) → settle_fault rules false h ≡ [] → IsFine h.rows → IsFine (settled rules h).rows
@@ -85,16 +84,16 @@ module _ (options : List NumberOption) (sound : AreSound options options) (base 
           → IsFine (settled_rows rules p h.rows)
       go None e = fine
       go (Some p) e = is_a_rule (λ o. option_map_or (λ a. use_fault false a p.1 h.rows) o [] ≡ [] → IsFine (used_by_id o p.1 h.rows)) (λ a. bytes_eq a.id p.0)
-          (λ e. fine) (λ o s e. use_number o p.1 h.rows s e fine) (λ e. absurd (use_help p.1 h.rows e)) e
+          (λ e. fine) (λ o s e. use_option o p.1 h.rows s e fine) (λ e. absurd (use_help p.1 h.rows e)) e
 
   reacted_help : (values : List Text) (h : Held) → react_fault rules false help values h ≡ [] → ⊥
   reacted_help values h e = use_help values (settled rules h).rows (both_pass _ _ e).1
 
-  option_fine : (o : NumberOption) → IsSound options o → (v : Option Text) (h : Held) → option_fault rules false (number_rule o) v h ≡ [] → IsFine h.rows → IsFine (option_met rules (number_rule o) v h).0.rows
+  option_fine : (o : OptionForm) → IsSound options o → (v : Option Text) (h : Held) → option_fault rules false (option_rule o) v h ≡ [] → IsFine h.rows → IsFine (option_met rules (option_rule o) v h).0.rows
   option_fine o s None h e fine = settled_fine h e fine
   option_fine o s (Some v) h e fine =
       let parts = both_pass _ _ e in
-      use_number o (v ∷ []) (settled rules h).rows s parts.1 (settled_fine h parts.0 fine)
+      use_option o (v ∷ []) (settled rules h).rows s parts.1 (settled_fine h parts.0 fine)
 
   -- ---- a word
 
@@ -200,8 +199,8 @@ module _ (options : List NumberOption) (sound : AreSound options options) (base 
       let parts = both_pass _ _ e in
       walk_fine (walked rules [] w x) xs parts.1 (walked_fine w x parts.0 way)
 
-  pub has_numbers : (words : List Text) → level_fault leaf [] nothing_held words false [] ≡ [] → HasNumbers (rows_after rules [] words) options
-  has_numbers words e =
+  pub has_values : (words : List Text) → level_fault leaf [] nothing_held words false [] ≡ [] → HasValues (rows_after rules [] words) options
+  has_values words e =
       let end = (walk rules [] nothing_held words).held in
       let parts = both_pass (walk_fault leaf [] (walk_from nothing_held) words) _ e in
       let after = both_pass (settle_fault rules false end) _ parts.1 in

@@ -3,16 +3,18 @@ use Rattle.std.proofs.Common.{◌≡◌, ◌||◌, cond, Bool, true, false, List
 use Rattle.std.specs.Prelude.{find, fold, ◌&&◌}
 use Rattle.std.specs.Str.{bytes_eq}
 use Rattle.std.proofs.lemmas.Slice.Eq.{bytes_eq-Decides}
-use Rattle.clap.specs.ValueTests.{is_unsigned_in}
+use Rattle.clap.specs.ValueTests.{accepts}
 use Rattle.clap.specs.Kinds.{Kinds, or_else}
 use Rattle.clap.specs.Faults.{repeat_fault}
 use Rattle.clap.specs.Simple.{filled, help_rule, with_index}
 use Rattle.clap.specs.Walk.{Row, Rule, Text, at_row, has_row, more_values, reading_by, row_text, with_default, with_values}
+use Rattle.clap.specs.Values.{read_as, reading_of}
+use Rattle.clap.specs.declared.builder.value_parser.Reading.TheVariants.{AsWritten}
 use Rattle.clap.specs.declared.error.kind.ErrorKind.{ErrorKind}
 use Rattle.clap.specs.declared.error.kind.ErrorKind.TheVariants.{ArgumentConflict}
 use Rattle.clap.specs.declared.parser.matches.ValueSource.{ValueSource}
 use Rattle.clap.specs.declared.parser.matches.ValueSource.TheVariants.{DefaultValue}
-use Rattle.command_line.specs.CommandLine.{HasNumber, HasNumbers, NumberOption, rule_of}
+use Rattle.command_line.specs.CommandLine.{HasValue, HasValues, OptionForm, rule_of}
 
 pub no_kind : (k : ErrorKind) (ks : Kinds) → k ∷ ks ≡ [] → ⊥
 no_kind k ks e = cc
@@ -23,31 +25,32 @@ both_pass [] b e = (refl, e)
 both_pass (k ∷ ks) b e = absurd (no_kind k ks e)
 
 -- an option and the help as clap builds them
-abbrev pub number_rule : NumberOption → Rule
-number_rule o = with_index 1 (filled (rule_of o))
+abbrev pub option_rule : OptionForm → Rule
+option_rule o = with_index 1 (filled (rule_of o))
 
 abbrev pub help : Rule
 help = with_index 1 (filled help_rule)
 
-abbrev pub rules_of : List NumberOption → List Rule
-rules_of os = map number_rule os ++ help ∷ []
+abbrev pub rules_of : List OptionForm → List Rule
+rules_of os = map option_rule os ++ help ∷ []
 
-abbrev pub option_of : List NumberOption → Text → Option NumberOption
+abbrev pub option_of : List OptionForm → Text → Option OptionForm
 option_of os name = find (λ o. bytes_eq o.name name) os
 
--- the option is the first of its name, and its default is a number in its range
-pub record IsSound (options : List NumberOption) (o : NumberOption) : Type 0 where
+-- the option is the first of its name, its values are read as they are written, and clap takes its default
+pub record IsSound (options : List OptionForm) (o : OptionForm) : Type 0 where
   pub first : option_of options o.name ≡ Some o
-  pub default_fits : is_unsigned_in o.least o.most o.default ≡ true
+  pub as_written : reading_of o.parser ≡ AsWritten
+  pub default_fits : accepts false o.parser o.default ≡ true
 
-abbrev pub AreSound : List NumberOption → List NumberOption → Type 0
+abbrev pub AreSound : List OptionForm → List OptionForm → Type 0
 AreSound options [] = Unit {0}
 AreSound options (o ∷ os) = IsSound options o × AreSound options os
 
--- a row's first value is a number of its option
-abbrev pub FitsOption : Option NumberOption → Row → Type 0
+-- a row's first value is one that clap takes for its option
+abbrev pub FitsOption : Option OptionForm → Row → Type 0
 FitsOption None r = ⊥
-FitsOption (Some o) r = (t : Text) × (row_text r ≡ Some t) × (is_unsigned_in o.least o.most t ≡ true)
+FitsOption (Some o) r = (t : Text) × (row_text r ≡ Some t) × (accepts false o.parser t ≡ true)
 
 -- ---- rows
 
@@ -90,19 +93,19 @@ same_either_way : {X : Type 0} (b : Bool) (x : X) → cond b x x ≡ x
 same_either_way true x = refl
 same_either_way false x = refl
 
-abbrev HasRows : List Row → List NumberOption → Type 0
+abbrev HasRows : List Row → List OptionForm → Type 0
 HasRows rows [] = Unit {0}
 HasRows rows (o ∷ os) = (has_row o.name rows ≡ true) × HasRows rows os
 
-abbrev row_of : NumberOption → ValueSource → List Text → Row
-row_of o s values = record { id = o.name; values = values; count = None; source = Some s; reading = reading_by (number_rule o) }
+abbrev row_of : OptionForm → ValueSource → List Text → Row
+row_of o s values = record { id = o.name; values = values; count = None; source = Some s; reading = reading_by (option_rule o) }
 
 -- an option without a row gets one at the end
-row_at_end : (o : NumberOption) (s : ValueSource) (t : Text) (ts : List Text) (rows : List Row) → has_row o.name rows ≡ false
-    → with_values o.name (reading_by (number_rule o)) s (t ∷ ts) rows ≡ rows ++ row_of o s (t ∷ ts) ∷ []
+row_at_end : (o : OptionForm) (s : ValueSource) (t : Text) (ts : List Text) (rows : List Row) → has_row o.name rows ≡ false
+    → with_values o.name (reading_by (option_rule o)) s (t ∷ ts) rows ≡ rows ++ row_of o s (t ∷ ts) ∷ []
 row_at_end o s t ts rows none = at_row-none o.name (more_values s (t ∷ ts)) (row_of o s (t ∷ ts) ∷ []) rows none
 
-module _ (options : List NumberOption) where
+module _ (options : List OptionForm) where
   abbrev pub IsFine : List Row → Type 0
   IsFine [] = Unit {0}
   IsFine (r ∷ rs) = FitsOption (option_of options r.id) r × IsFine rs
@@ -111,67 +114,67 @@ module _ (options : List NumberOption) where
   IsFine-last [] r fine fits = (fits, tt)
   IsFine-last (x ∷ xs) r fine fits = (fine.0, IsFine-last xs r fine.1 fits)
 
-  pub row_added : (o : NumberOption) (s : ValueSource) (t : Text) (ts : List Text) (rows : List Row) → IsSound options o → has_row o.name rows ≡ false
-      → is_unsigned_in o.least o.most t ≡ true → IsFine rows → IsFine (with_values o.name (reading_by (number_rule o)) s (t ∷ ts) rows)
+  pub row_added : (o : OptionForm) (s : ValueSource) (t : Text) (ts : List Text) (rows : List Row) → IsSound options o → has_row o.name rows ≡ false
+      → accepts false o.parser t ≡ true → IsFine rows → IsFine (with_values o.name (reading_by (option_rule o)) s (t ∷ ts) rows)
   row_added o s t ts rows sound none fits fine =
       subst IsFine (sym (row_at_end o s t ts rows none))
-      (IsFine-last rows (row_of o s (t ∷ ts)) fine (subst (λ p. FitsOption p (row_of o s (t ∷ ts))) (sym sound.first) (t, refl, fits)))
+      (IsFine-last rows (row_of o s (t ∷ ts)) fine (subst (λ p. FitsOption p (row_of o s (t ∷ ts))) (sym sound.first) (t, ap (λ r. Some (read_as r t)) sound.as_written, fits)))
 
   -- ---- the defaults
 
-  default_fine : (o : NumberOption) (rows : List Row) → IsSound options o → IsFine rows → IsFine (with_default rows (number_rule o))
+  default_fine : (o : OptionForm) (rows : List Row) → IsSound options o → IsFine rows → IsFine (with_default rows (option_rule o))
   default_fine o rows sound fine = go (has_row o.name rows) refl
     where
-      go : (b : Bool) → has_row o.name rows ≡ b → IsFine (cond b rows (with_values o.name (reading_by (number_rule o)) DefaultValue (o.default ∷ []) rows))
+      go : (b : Bool) → has_row o.name rows ≡ b → IsFine (cond b rows (with_values o.name (reading_by (option_rule o)) DefaultValue (o.default ∷ []) rows))
       go true is = fine
       go false is = row_added o DefaultValue o.default [] rows sound is sound.default_fits fine
 
-  default_given : (o : NumberOption) (rows : List Row) → has_row o.name (with_default rows (number_rule o)) ≡ true
+  default_given : (o : OptionForm) (rows : List Row) → has_row o.name (with_default rows (option_rule o)) ≡ true
   default_given o rows = go (has_row o.name rows) refl
     where
-      go : (b : Bool) → has_row o.name rows ≡ b → has_row o.name (cond b rows (with_values o.name (reading_by (number_rule o)) DefaultValue (o.default ∷ []) rows)) ≡ true
+      go : (b : Bool) → has_row o.name rows ≡ b → has_row o.name (cond b rows (with_values o.name (reading_by (option_rule o)) DefaultValue (o.default ∷ []) rows)) ≡ true
       go true is = is
       go false is = subst (λ rs. has_row o.name rs ≡ true) (sym (row_at_end o DefaultValue o.default [] rows is)) (has_row-last o.name rows (row_of o DefaultValue (o.default ∷ [])) ((bytes_eq-Decides o.name o.name).1 refl))
 
-  default_kept : (name : Text) (o : NumberOption) (rows : List Row) → has_row name rows ≡ true → has_row name (with_default rows (number_rule o)) ≡ true
+  default_kept : (name : Text) (o : OptionForm) (rows : List Row) → has_row name rows ≡ true → has_row name (with_default rows (option_rule o)) ≡ true
   default_kept name o rows e = go (has_row o.name rows) refl
     where
-      go : (b : Bool) → has_row o.name rows ≡ b → has_row name (cond b rows (with_values o.name (reading_by (number_rule o)) DefaultValue (o.default ∷ []) rows)) ≡ true
+      go : (b : Bool) → has_row o.name rows ≡ b → has_row name (cond b rows (with_values o.name (reading_by (option_rule o)) DefaultValue (o.default ∷ []) rows)) ≡ true
       go true is = e
       go false is = subst (λ rs. has_row name rs ≡ true) (sym (row_at_end o DefaultValue o.default [] rows is)) (has_row-append name rows (row_of o DefaultValue (o.default ∷ []) ∷ []) e)
 
   help_adds_none : (rows : List Row) → with_default rows help ≡ rows
   help_adds_none rows = same_either_way (has_row help.id rows) rows
 
-  defaults_fine : (os : List NumberOption) (rows : List Row) → AreSound options os → IsFine rows → IsFine (fold with_default rows (rules_of os))
+  defaults_fine : (os : List OptionForm) (rows : List Row) → AreSound options os → IsFine rows → IsFine (fold with_default rows (rules_of os))
   defaults_fine [] rows sound fine = subst IsFine (sym (help_adds_none rows)) fine
-  defaults_fine (o ∷ os) rows sound fine = defaults_fine os (with_default rows (number_rule o)) sound.1 (default_fine o rows sound.0 fine)
+  defaults_fine (o ∷ os) rows sound fine = defaults_fine os (with_default rows (option_rule o)) sound.1 (default_fine o rows sound.0 fine)
 
-  defaults_kept : (name : Text) (os : List NumberOption) (rows : List Row) → has_row name rows ≡ true → has_row name (fold with_default rows (rules_of os)) ≡ true
+  defaults_kept : (name : Text) (os : List OptionForm) (rows : List Row) → has_row name rows ≡ true → has_row name (fold with_default rows (rules_of os)) ≡ true
   defaults_kept name [] rows e = subst (λ rs. has_row name rs ≡ true) (sym (help_adds_none rows)) e
-  defaults_kept name (o ∷ os) rows e = defaults_kept name os (with_default rows (number_rule o)) (default_kept name o rows e)
+  defaults_kept name (o ∷ os) rows e = defaults_kept name os (with_default rows (option_rule o)) (default_kept name o rows e)
 
-  rows_given : (os : List NumberOption) (rows : List Row) → HasRows (fold with_default rows (rules_of os)) os
+  rows_given : (os : List OptionForm) (rows : List Row) → HasRows (fold with_default rows (rules_of os)) os
   rows_given [] rows = tt
   rows_given (o ∷ os) rows =
-      let next = with_default rows (number_rule o) in
+      let next = with_default rows (option_rule o) in
       (defaults_kept o.name os next (default_given o rows), rows_given os next)
 
-  number_found : (o : NumberOption) (rows : List Row) → IsSound options o → IsFine rows → has_row o.name rows ≡ true → HasNumber rows o
-  number_found o [] sound fine e = absurd (true≢false (sym e))
-  number_found o (r ∷ rs) sound fine e = go (bytes_eq r.id o.name) refl e (number_found o rs sound fine.1)
+  value_found : (o : OptionForm) (rows : List Row) → IsSound options o → IsFine rows → has_row o.name rows ≡ true → HasValue rows o
+  value_found o [] sound fine e = absurd (true≢false (sym e))
+  value_found o (r ∷ rs) sound fine e = go (bytes_eq r.id o.name) refl e (value_found o rs sound fine.1)
     where
-      go : (b : Bool) → bytes_eq r.id o.name ≡ b → (b || has_row o.name rs) ≡ true → (has_row o.name rs ≡ true → HasNumber rs o)
-          → (t : Text) × (option_and_then row_text (cond b (Some r) (find (λ x. bytes_eq x.id o.name) rs)) ≡ Some t) × (is_unsigned_in o.least o.most t ≡ true)
+      go : (b : Bool) → bytes_eq r.id o.name ≡ b → (b || has_row o.name rs) ≡ true → (has_row o.name rs ≡ true → HasValue rs o)
+          → (t : Text) × (option_and_then row_text (cond b (Some r) (find (λ x. bytes_eq x.id o.name) rs)) ≡ Some t) × (accepts false o.parser t ≡ true)
       go true is e rest =
           let same = (bytes_eq-Decides r.id o.name).0 is in
           subst (λ p. FitsOption p r) (subst (λ n. option_of options n ≡ Some o) (sym same) sound.first) fine.0
       go false is e rest = rest e
 
-  numbers_found : (os : List NumberOption) (rows : List Row) → AreSound options os → IsFine rows → HasRows rows os → HasNumbers rows os
-  numbers_found [] rows sound fine has = tt
-  numbers_found (o ∷ os) rows sound fine has = (number_found o rows sound.0 fine has.0, numbers_found os rows sound.1 fine has.1)
+  values_found : (os : List OptionForm) (rows : List Row) → AreSound options os → IsFine rows → HasRows rows os → HasValues rows os
+  values_found [] rows sound fine has = tt
+  values_found (o ∷ os) rows sound fine has = (value_found o rows sound.0 fine has.0, values_found os rows sound.1 fine has.1)
 
-  -- after the defaults each option has a number
-  pub all_given : (rows : List Row) → AreSound options options → IsFine rows → HasNumbers (fold with_default rows (rules_of options)) options
-  all_given rows sound fine = numbers_found options _ sound (defaults_fine options rows sound fine) (rows_given options rows)
+  -- after the defaults each option has a value
+  pub all_given : (rows : List Row) → AreSound options options → IsFine rows → HasValues (fold with_default rows (rules_of options)) options
+  all_given rows sound fine = values_found options _ sound (defaults_fine options rows sound fine) (rows_given options rows)

@@ -1,54 +1,66 @@
--- The program's command line, as clap reads it: commands, each with whole-number options.
-use Rattle.std.specs.Prelude.{◌≡◌, ◌≤◌, ◌^◌, ◌-◌, ℕ, Some, None, Option, List, [], ◌∷◌, codes, true, map, fold}
-use Rattle.std.specs.Prelude.{◌⊎◌, if◌then◌else◌, option_and_then, option_map}
+-- The program's command line, as clap reads it: commands, each with options.
+use Rattle.std.specs.Prelude.{◌≡◌, ◌≤◌, ◌^◌, ◌-◌, ℕ, Some, None, Option, List, [], ◌∷◌, codes, true, false, map, fold}
+use Rattle.std.specs.Prelude.{◌⊎◌, if◌then◌else◌, is_some, option_and_then, option_map}
 use Rattle.std.specs.Str.{bytes_eq}
 use Rattle.std.specs.Str.Parse.{digits_value, without_leading_plus}
 use Rattle.clap.specs.Words.{App, Rule, Row, Text, new_app, new_rule, with_rule, with_subcommand}
-use Rattle.clap.specs.Words.{one_of, subcommand_of}
+use Rattle.clap.specs.Words.{Kinds, fault_of, first_of, one_of, subcommand_of}
+use Rattle.clap.specs.Kinds.{or_else}
 use Rattle.clap.specs.Simple.{on_top}
-use Rattle.clap.specs.ValueTests.{is_unsigned_in}
-use Rattle.clap.specs.declared.builder.value_parser.ValueParser.TheVariants.{Unsigned}
+use Rattle.clap.specs.ValueTests.{accepts}
+use Rattle.clap.specs.declared.builder.value_parser.ValueParser.{ValueParser}
+use Rattle.clap.specs.declared.builder.value_parser.ValueParser.TheVariants as parsers
+use Rattle.clap.specs.declared.error.kind.ErrorKind.TheVariants.{InvalidValue}
 use Rattle.command_line.specs.declared.job.Job.{Job}
 use Rattle.command_line.specs.declared.job.Job.TheVariants.{Start, Play, Find, Report}
 use Rattle.command_line.specs.declared.number_args.NumberArg.{NumberArg}
 use Rattle.fixture_board.specs.History.{max_room}
+use Rattle.report_formats.specs.declared.format.Format.{Format}
+use Rattle.report_formats.specs.declared.format.Format.TheVariants as formats
 use Rattle.search.specs.declared.runs.SearchPlan.{SearchPlan}
 
--- an option `--name N`: the range of N, and what stands for it where it isn't given
-pub record NumberOption : Type 0 where
+-- an option `--name VALUE`: what clap asks of the value, and what stands for it where it isn't given
+pub record OptionForm : Type 0 where
   pub name : Text
-  pub least : ℕ
-  pub most : ℕ
+  pub parser : ValueParser
   pub default : Text
 
 -- a command and its options
 pub record CommandForm : Type 0 where
   pub name : Text
-  pub options : List NumberOption
+  pub options : List OptionForm
+
+-- an option `--name N` with the range of N
+abbrev pub number_option : Text → ℕ → ℕ → Text → OptionForm
+number_option name least most default = record { name = name; parser = parsers.Unsigned least most; default = default }
 
 -- how many changes a board has room for
-abbrev pub room_option : NumberOption
-room_option = record { name = codes "room"; least = 0; most = max_room; default = codes "1024" }
+abbrev pub room_option : OptionForm
+room_option = number_option (codes "room") 0 max_room (codes "1024")
 
 -- how many workers search at once
-abbrev pub workers_option : NumberOption
-workers_option = record { name = codes "workers"; least = 1; most = 16; default = codes "2" }
+abbrev pub workers_option : OptionForm
+workers_option = number_option (codes "workers") 1 16 (codes "2")
 
 -- what the workers' draws begin with
-abbrev pub seed_option : NumberOption
-seed_option = record { name = codes "seed"; least = 0; most = 2 ^ 64 - 1; default = codes "1" }
+abbrev pub seed_option : OptionForm
+seed_option = number_option (codes "seed") 0 (2 ^ 64 - 1) (codes "1")
 
 -- how many moves each worker draws
-abbrev pub steps_option : NumberOption
-steps_option = record { name = codes "steps"; least = 0; most = 1000000; default = codes "1000" }
+abbrev pub steps_option : OptionForm
+steps_option = number_option (codes "steps") 0 1000000 (codes "1000")
 
 -- by how much a score may rise at the first step
-abbrev pub slack_option : NumberOption
-slack_option = record { name = codes "slack"; least = 0; most = 2 ^ 64 - 1; default = codes "0" }
+abbrev pub slack_option : OptionForm
+slack_option = number_option (codes "slack") 0 (2 ^ 64 - 1) (codes "0")
+
+-- in which form a report is written; the names that a format has are asked for apart
+abbrev pub format_option : OptionForm
+format_option = record { name = codes "format"; parser = parsers.String; default = codes "text" }
 
 -- an option as the program has it
-abbrev pub form_of : NumberArg → NumberOption
-form_of o = record { name = o.name.now; least = o.least; most = o.most; default = o.default.now }
+abbrev pub form_of : NumberArg → OptionForm
+form_of o = number_option o.name.now o.least o.most o.default.now
 
 abbrev pub start_command : CommandForm
 start_command = record { name = codes "start"; options = [] }
@@ -63,14 +75,14 @@ search_command = record {
 }
 
 abbrev pub report_command : CommandForm
-report_command = record { name = codes "report"; options = [] }
+report_command = record { name = codes "report"; options = format_option ∷ [] }
 
 abbrev pub commands : List CommandForm
 commands = start_command ∷ play_command ∷ search_command ∷ report_command ∷ []
 
 -- an option and a command, as clap has them
-abbrev pub rule_of : NumberOption → Rule
-rule_of o = record (new_rule o.name) { long = Some o.name; value_names = 1; parser = Some (Unsigned o.least o.most); defaults = o.default ∷ [] }
+abbrev pub rule_of : OptionForm → Rule
+rule_of o = record (new_rule o.name) { long = Some o.name; value_names = 1; parser = Some o.parser; defaults = o.default ∷ [] }
 
 abbrev pub app_of_command : CommandForm → App
 app_of_command c = fold with_rule (new_app c.name) (map rule_of c.options)
@@ -110,16 +122,30 @@ abbrev pub find_from : Option ℕ → Option SearchPlan → Option Job
 find_from (Some room) (Some plan) = Some (Find room plan)
 find_from _ _ = None
 
+-- the format of that name
+abbrev pub format_named : Text → Option Format
+format_named name = if bytes_eq name (codes "text") then Some formats.Text
+    else (if bytes_eq name (codes "csv") then Some formats.Csv
+    else (if bytes_eq name (codes "html") then Some formats.Html else None))
+
+-- the format whose name stands after its option, or its default
+abbrev pub format_in : List Row → Option Format
+format_in rows = option_and_then format_named (first_of (codes "format") rows)
+
 -- the job of a command and its values
 abbrev pub job_of_command : Text × List Row → Option Job
 job_of_command found = if bytes_eq found.0 (codes "start") then Some Start
     else (if bytes_eq found.0 (codes "play") then option_map Play (number_in (codes "room") found.1)
     else (if bytes_eq found.0 (codes "search") then find_from (number_in (codes "room") found.1) (plan_in found.1)
-    else (if bytes_eq found.0 (codes "report") then Some Report else None)))
+    else (if bytes_eq found.0 (codes "report") then option_map Report (format_in found.1) else None)))
 
 -- the job that the words name
 abbrev pub job_of_words : List Text → Option Job
 job_of_words words = option_and_then job_of_command (subcommand_of program words)
+
+-- why the words are refused: by clap, or else since a format has another name
+abbrev pub words_fault : List Text → Kinds
+words_fault words = or_else (fault_of program words) (if is_some (job_of_words words) then [] else InvalidValue ∷ [])
 
 -- 1 to 16 workers, of at most a million steps
 pub record IsPlanInRange (plan : SearchPlan) : Type 0 where
@@ -132,22 +158,22 @@ abbrev pub IsInRange : Job → Type 0
 IsInRange Start = Unit {0}
 IsInRange (Play room) = room ≤ max_room
 IsInRange (Find room plan) = (room ≤ max_room) × IsPlanInRange plan
-IsInRange Report = Unit {0}
+IsInRange (Report format) = Unit {0}
 
--- the option has a text, which is a number in its range
-abbrev pub HasNumber : List Row → NumberOption → Type 0
-HasNumber rows o = (text : Text) × (one_of o.name rows ≡ Some text)
-    × (is_unsigned_in o.least o.most text ≡ true)
+-- the option has a text, which clap takes for it
+abbrev pub HasValue : List Row → OptionForm → Type 0
+HasValue rows o = (text : Text) × (one_of o.name rows ≡ Some text)
+    × (accepts false o.parser text ≡ true)
 
-abbrev pub HasNumbers : List Row → List NumberOption → Type 0
-HasNumbers rows [] = Unit {0}
-HasNumbers rows (o ∷ os) = HasNumber rows o × HasNumbers rows os
+abbrev pub HasValues : List Row → List OptionForm → Type 0
+HasValues rows [] = Unit {0}
+HasValues rows (o ∷ os) = HasValue rows o × HasValues rows os
 
--- what a parse that succeeds gives: a command of the program, with a number for each of its options
+-- what a parse that succeeds gives: a command of the program, with a value for each of its options
 abbrev pub NamesOneOf : List CommandForm → Text × List Row → Type 0
 NamesOneOf [] found = ⊥
 NamesOneOf (c ∷ cs) found =
-    ((found.0 ≡ c.name) × HasNumbers found.1 c.options) ⊎ NamesOneOf cs found
+    ((found.0 ≡ c.name) × HasValues found.1 c.options) ⊎ NamesOneOf cs found
 
 abbrev pub NamesACommand : Option (Text × List Row) → Type 0
 NamesACommand None = ⊥

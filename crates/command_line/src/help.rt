@@ -49,7 +49,11 @@ pub(crate) const REPORT_LINES: &str =
 limit, and 3 where it isn't.
 
 Example:
-  (cat leagues/circular-4.json; echo sheet; ttp start < leagues/circular-4.json) | ttp report";
+  (cat leagues/circular-4.json; echo sheet; ttp start < leagues/circular-4.json) | ttp report
+  .. | ttp report --format html > season.html";
+
+pub(crate) const FORMAT_HELP: &str =
+    "How the report is written: text, csv (the games) or html (a page for a browser)";
 
 pub(crate) const WORKERS_HELP: &str = "How many workers search at once, 1 to 16";
 

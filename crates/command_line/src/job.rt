@@ -1,16 +1,18 @@
 //! The program's command line.
 
-ghost use Rattle.std.specs.Prelude.{◌≡◌, [], ◌∷◌, Some, IfOk, map, option_and_then, string_bytes};
-ghost use Rattle.clap.specs.Words.{app_of, fault_of, found_of, rows_of, FailsBy, subcommand_rows_of};
+ghost use Rattle.std.specs.Prelude.{◌≡◌, [], ◌∷◌, Some, IfOk, IfSome, map, option_and_then, string_bytes};
+ghost use Rattle.clap.specs.Words.{app_of, found_of, rows_of, FailsBy, subcommand_rows_of};
 ghost use Rattle.command_line.specs.CommandLine.{app_of_command, job_of_command, job_of_words, play_command, plan_in, program, program_of};
-ghost use Rattle.command_line.specs.CommandLine.{report_command, search_command, start_command, HasNumbers, IsInRange, IsPlanInRange, NamesACommand};
+ghost use Rattle.command_line.specs.CommandLine.{search_command, start_command, words_fault, HasValues, IsInRange, IsPlanInRange, NamesACommand};
 
 use crate::help::{
-    PLAY_ABOUT, PLAY_LINES, PROGRAM_ABOUT, PROGRAM_EXAMPLE, REPORT_ABOUT, REPORT_LINES,
-    SEARCH_ABOUT, SEARCH_EXAMPLE, START_ABOUT, START_EXAMPLE, VERSION,
+    PLAY_ABOUT, PLAY_LINES, PROGRAM_ABOUT, PROGRAM_EXAMPLE, SEARCH_ABOUT, SEARCH_EXAMPLE,
+    START_ABOUT, START_EXAMPLE, VERSION,
 };
 use crate::number_args::{ROOM, SEED, SLACK, STEPS, WORKERS};
+use crate::report_args::{format_of, report_command, wrong_format};
 use clap::{ArgMatches, Command, Error};
+use report_formats::Format;
 use search::SearchPlan;
 use std::alloc::{AllocError, Global};
 
@@ -23,14 +25,14 @@ pub enum Job {
     Play { room: u32 },
     /// Search for a cheaper schedule of the league on standard input, on a board with room for so many changes.
     Find { room: u32, plan: SearchPlan },
-    /// Report on the schedule that stands behind the league on standard input.
-    Report,
+    /// Report, in the format, on the schedule that stands behind the league on standard input.
+    Report(Format),
 }
 
-/// Reads the program's words, the first of which is its name. The error is clap's: its text, which
-/// for `--help` and `--version` is no fault, and its exit status.
+/// Reads the program's words, the first of which is its name. The error is clap's, or in clap's form where no format has the
+/// name that is given: its text, which for `--help` and `--version` is no fault, and its exit status.
 pub fn args(alloc: Global, words: &[String]) -> Result<Job, Error>
-    ensures fault { FailsBy (fault_of program (map string_bytes words.now)) result }
+    ensures fault { FailsBy (words_fault (map string_bytes words.now)) result }
     ensures job { IfOk result (λ job. job_of_words (map string_bytes words.now) ≡ Some job) }
     ensures in_range { IfOk result IsInRange }
 {
@@ -39,33 +41,40 @@ pub fn args(alloc: Global, words: &[String]) -> Result<Job, Error>
         Err(error) => return Err(Error::from(error)),
     };
     match command.try_get_matches_from(words) {
-        Ok(matches) => Ok(job_of(&matches)),
+        Ok(matches) => match job_of(&matches) {
+            Some(job) => Ok(job),
+            None => Err(wrong_format(alloc, &matches)),
+        },
         Err(error) => Err(error),
     }
 }
 
-fn job_of(matches: &ArgMatches) -> Job
+/// The job of a command and its values, unless they name a format that there isn't.
+fn job_of(matches: &ArgMatches) -> Option<Job>
     requires { NamesACommand (subcommand_rows_of matches.now) }
-    ensures job { option_and_then job_of_command (subcommand_rows_of matches.now) ≡ Some result }
-    ensures in_range { IsInRange result }
+    ensures job { result ≡ option_and_then job_of_command (subcommand_rows_of matches.now) }
+    ensures in_range { IfSome result IsInRange }
 {
     match matches.subcommand() {
-        Some(("start", _)) => Job::Start,
-        Some(("play", values)) => Job::Play {
+        Some(("start", _)) => Some(Job::Start),
+        Some(("play", values)) => Some(Job::Play {
             room: ROOM.number(values) as u32,
-        },
-        Some(("search", values)) => Job::Find {
+        }),
+        Some(("search", values)) => Some(Job::Find {
             room: ROOM.number(values) as u32,
             plan: plan_of(values),
+        }),
+        Some(("report", values)) => match format_of(values) {
+            Some(format) => Some(Job::Report(format)),
+            None => None,
         },
-        Some(("report", _)) => Job::Report,
         // a command is required, and `help` is answered as an error
         _ => unreachable!(),
     }
 }
 
 fn plan_of(values: &ArgMatches) -> SearchPlan
-    requires { HasNumbers (rows_of (found_of values.now)) search_command.options }
+    requires { HasValues (rows_of (found_of values.now)) search_command.options }
     ensures plan { plan_in (rows_of (found_of values.now)) ≡ Some result }
     ensures in_range { IsPlanInRange result }
 {
@@ -80,7 +89,7 @@ fn plan_of(values: &ArgMatches) -> SearchPlan
 fn command<'a>(alloc: Global) -> Result<Command<'a>, AllocError>
     ensures { IfOk result (λ c. app_of c ≡ program) }
 {
-    let report = report_command(alloc);
+    let report = report_command(alloc)?;
     let with_search = with_search(alloc)?;
     let program = with_search.subcommand(report)?;
     program.bin_name("ttp")
@@ -139,12 +148,4 @@ fn search_command<'a>(alloc: Global) -> Result<Command<'a>, AllocError>
         .arg(SEED.arg(alloc))?
         .arg(STEPS.arg(alloc))?
         .arg(SLACK.arg(alloc))
-}
-
-fn report_command<'a>(alloc: Global) -> Command<'a>
-    ensures { app_of result ≡ app_of_command report_command }
-{
-    Command::new(alloc, "report")
-        .about(REPORT_ABOUT)
-        .after_help(REPORT_LINES)
 }

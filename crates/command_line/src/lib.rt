@@ -4,6 +4,8 @@
 mod help;
 mod job;
 mod number_args;
+mod report_args;
 
 pub use job::{Job, args};
+pub use report_formats::Format;
 pub use search::SearchPlan;

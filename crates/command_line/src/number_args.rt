@@ -2,7 +2,7 @@
 
 ghost use Rattle.std.specs.Prelude.{◌≡◌, ◌≤◌, Some, false};
 ghost use Rattle.clap.specs.Words.{found_of, rows_of, rule_of as rule_of_arg};
-ghost use Rattle.command_line.specs.CommandLine.{HasNumber, form_of, number_in, rule_of};
+ghost use Rattle.command_line.specs.CommandLine.{HasValue, form_of, number_in, rule_of};
 
 use crate::help::{ROOM_HELP, SEED_HELP, SLACK_HELP, STEPS_HELP, WORKERS_HELP};
 use clap::builder::ValueParser;
@@ -86,7 +86,7 @@ impl NumberArg {
 
     /// The number that was given, or that stands for it.
     pub(crate) fn number(&self, values: &ArgMatches) -> u64
-        requires { HasNumber (rows_of (found_of values.now)) (form_of self.now) }
+        requires { HasValue (rows_of (found_of values.now)) (form_of self.now) }
         ensures number { number_in (form_of self.now).name (rows_of (found_of values.now)) ≡ Some result }
         ensures least { self.now.least ≤ result }
         ensures most { result ≤ self.now.most }

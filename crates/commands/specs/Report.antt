@@ -4,7 +4,9 @@ use Rattle.fixtures.specs.Games.{Games}
 use Rattle.league.specs.League.{LeagueData, league_of, teams}
 use Rattle.texts.specs.Input.{lines_after, text_before}
 use Rattle.reports.specs.Given.{IsVerdict}
-use Rattle.reports.specs.Report.{is_feasible, report_text}
+use Rattle.reports.specs.Report.{is_feasible}
+use Rattle.report_formats.specs.declared.format.Format.{Format}
+use Rattle.report_formats.specs.Format.{report_in}
 use Rattle.commands.specs.declared.fault.ProgramFault.{ProgramFault}
 use Rattle.commands.specs.declared.fault.ProgramFault.TheVariants.{League, NoSheet}
 use Rattle.commands.specs.declared.judging.Verdict.{Verdict}
@@ -19,20 +21,21 @@ abbrev pub IsToldOf : LeagueData → Option Games → Option Verdict → Type 0
 IsToldOf league games None = Unit {0}
 IsToldOf league games (Some verdict) = verdict ≡ verdict_of (is_feasible league games)
 
--- the report of the double round robin that the lines give for the league, or of their faults, and the verdict on them
-pub record IsReport (league : LeagueData) (lines : List (List ℕ)) (told : Option Verdict) (text : List ℕ) : Type 0 where
+-- the report, in the format, of the double round robin that the lines give for the league, or the text of their faults, and
+-- the verdict on them
+pub record IsReport (format : Format) (league : LeagueData) (lines : List (List ℕ)) (told : Option Verdict) (text : List ℕ) : Type 0 where
   pub games : Option Games
   pub given : IsVerdict (teams league) lines games
-  pub text_is : text ≡ report_text league lines games
+  pub text_is : text ≡ report_in format league lines games
   pub verdict : IsToldOf league games told
 
 -- the report of the league before the first line that is `sheet` and of the lines after it, or the first fault of the league's
 -- text, or that there is no such line
-abbrev pub AnswersReport : Option Verdict → List ℕ → Result (List ℕ) ProgramFault → Type 0
-AnswersReport told input (Ok text) =
+abbrev pub AnswersReport : Format → Option Verdict → List ℕ → Result (List ℕ) ProgramFault → Type 0
+AnswersReport format told input (Ok text) =
     (league : LeagueData) × (league_of (text_before (codes "sheet") input) ≡ Ok league)
-    × (lines : List (List ℕ)) × (lines_after (codes "sheet") input ≡ Some lines) × IsReport league lines told text
-AnswersReport told input (Err (League fault)) = league_of (text_before (codes "sheet") input) ≡ Err fault
-AnswersReport told input (Err NoSheet) =
+    × (lines : List (List ℕ)) × (lines_after (codes "sheet") input ≡ Some lines) × IsReport format league lines told text
+AnswersReport format told input (Err (League fault)) = league_of (text_before (codes "sheet") input) ≡ Err fault
+AnswersReport format told input (Err NoSheet) =
     (league : LeagueData) × (league_of (text_before (codes "sheet") input) ≡ Ok league) × (lines_after (codes "sheet") input ≡ None)
-AnswersReport told input (Err _) = ⊥
+AnswersReport format told input (Err _) = ⊥

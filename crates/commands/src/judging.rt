@@ -6,7 +6,8 @@ ghost use Rattle.commands.specs.Report.{verdict_of, AnswersReport};
 
 use crate::fault::ProgramFault;
 use league::read_league;
-use reports::{judge, write_report};
+use report_formats::{Format, prepare, write_prepared};
+use reports::judge;
 use std::alloc::Global;
 use streams::{Sink, Source, read_all};
 use texts::split_at_line;
@@ -32,20 +33,21 @@ impl Verdict {
     }
 }
 
-/// Reads a league, a line `sheet` and a schedule to the end of the source, and writes the report: the sheet and what it
-/// costs where the games are a double round robin of the league's teams, and else what is wrong with them. Nothing is
-/// written before all other faults are past, and no memory is taken from then on.
+/// Reads a league, a line `sheet` and a schedule to the end of the source, and writes the report: the games and what they
+/// cost in the format where they are a double round robin of the league's teams, and else what is wrong with them, as text.
+/// Nothing is written before all other faults are past, and no memory is taken from then on.
 ///
 /// The outcome is that of [`report_from`], where what the source became is some later state.
 pub fn report<R: Source + Drop, W: Sink>(
     alloc: Global,
     mut source: R,
     sink: &mut W,
+    format: Format,
 ) -> Result<Verdict, ProgramFault>
-    ensures { (after : R) × Ends R.left R.tally W.held W.tally (AnswersReport (value_of result))
+    ensures { (after : R) × Ends R.left R.tally W.held W.tally (AnswersReport format (value_of result))
         source after sink.old sink.new (without_value result) }
 {
-    report_from(alloc, &mut source, sink)
+    report_from(alloc, &mut source, sink, format)
 }
 
 /// As [`report`], from a source that is lent.
@@ -53,8 +55,9 @@ pub fn report_from<R: Source, W: Sink>(
     alloc: Global,
     source: &mut R,
     sink: &mut W,
+    format: Format,
 ) -> Result<Verdict, ProgramFault>
-    ensures { Ends R.left R.tally W.held W.tally (AnswersReport (value_of result))
+    ensures { Ends R.left R.tally W.held W.tally (AnswersReport format (value_of result))
         source.old source.new sink.old sink.new (without_value result) }
 {
     let input = read_all(alloc, source)?;
@@ -65,6 +68,7 @@ pub fn report_from<R: Source, W: Sink>(
     };
     let judged = judge(alloc, &league, sheet)?;
     let verdict = Verdict::of(judged.is_feasible(&league));
-    write_report(&league, sheet, &judged, sink)?;
+    let prepared = prepare(alloc, format, &league, &judged)?;
+    write_prepared(&league, sheet, &judged, &prepared, sink)?;
     Ok(verdict)
 }

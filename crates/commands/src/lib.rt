@@ -14,6 +14,7 @@ pub use finding::{find, find_from, find_with};
 pub use judging::{Verdict, report, report_from};
 pub use playing::{play, play_from};
 pub use progress::ProgressLine;
+pub use report_formats::Format;
 pub use search::{NoGate, Outcome, SearchPlan};
 pub use search_text::search_report;
 pub use starting::{start, start_from};

@@ -19,7 +19,7 @@ told_in (Err fault) = None
 
 -- whether the job is a report
 abbrev pub is_report : Job → Bool
-is_report Report = true
+is_report (Report format) = true
 is_report job = false
 
 -- how a job with this verdict answers an input
@@ -27,7 +27,7 @@ abbrev pub AnswersJob : Job → Option Verdict → List ℕ → Result (List ℕ
 AnswersJob Start verdict = AnswersStart
 AnswersJob (Play room) verdict = AnswersPlay room
 AnswersJob (Find room plan) verdict = AnswersFind room plan
-AnswersJob Report verdict = AnswersReport verdict
+AnswersJob (Report format) verdict = AnswersReport format verdict
 
 -- the exit status after a job
 abbrev pub status_of : Result (Option Verdict) ProgramFault → ℕ

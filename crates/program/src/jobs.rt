@@ -41,7 +41,7 @@ pub(crate) fn perform<
         Job::Find { room, plan } => {
             without_verdict(search(rt, alloc, terminal, source, sink, room, plan))
         }
-        Job::Report => with_verdict(report(alloc, source, sink)),
+        Job::Report(format) => with_verdict(report(alloc, source, sink, format)),
     }
 }
 

@@ -4,9 +4,9 @@ ghost use Rattle.std.specs.Prelude.{◌≡◌, ◌≢◌, ◌≤◌, [], ◌∷�
 ghost use Rattle.std.specs.IoError.{error_kind};
 ghost use Rattle.std.specs.declared.io.ErrorKind.TheVariants.{OutOfMemory};
 ghost use Rattle.std.specs.Process.{exit_status};
-ghost use Rattle.clap.specs.Words.{fault_of, kind_of};
+ghost use Rattle.clap.specs.Words.{kind_of};
 ghost use Rattle.clap.specs.declared.error.kind.ErrorKind.{ErrorKind as Kind};
-ghost use Rattle.command_line.specs.CommandLine.{job_of_words, program};
+ghost use Rattle.command_line.specs.CommandLine.{job_of_words, words_fault};
 ghost use Rattle.command_line.specs.declared.job.Job.{Job};
 ghost use Rattle.program.specs.Program.{status_of, DoesJob, IsReport};
 
@@ -63,15 +63,15 @@ fn answer<
     R: Source + Drop,
     W: Sink,
 >(rt: &T, terminal: Option<E>, words: &[String], source: R, sink: &mut W) -> ExitCode
-    ensures done { (job : Job) → fault_of program (map string_bytes words.now) ≡ []
+    ensures done { (job : Job) → words_fault (map string_bytes words.now) ≡ []
         → job_of_words (map string_bytes words.now) ≡ Some job
         → DoesJob R.left R.tally W.held W.tally job source sink.old sink.new (exit_status result) }
-    ensures quiet { (kind : Kind) → fault_of program (map string_bytes words.now) ≡ kind ∷ [] → sink.new ≡ sink.old }
-    ensures taken { fault_of program (map string_bytes words.now) ≡ [] → exit_status result ≢ 2 }
+    ensures quiet { (kind : Kind) → words_fault (map string_bytes words.now) ≡ kind ∷ [] → sink.new ≡ sink.old }
+    ensures taken { words_fault (map string_bytes words.now) ≡ [] → exit_status result ≢ 2 }
     ensures infeasible { exit_status result ≡ 3 → IsReport (job_of_words (map string_bytes words.now)) }
-    ensures shown { fault_of program (map string_bytes words.now) ≡ ErrorKind.DisplayHelp ∷ [] → exit_status result ≤ 1 }
-    ensures told { fault_of program (map string_bytes words.now) ≡ ErrorKind.DisplayVersion ∷ [] → exit_status result ≤ 1 }
-    ensures wrong { (kind : Kind) → fault_of program (map string_bytes words.now) ≡ kind ∷ []
+    ensures shown { words_fault (map string_bytes words.now) ≡ ErrorKind.DisplayHelp ∷ [] → exit_status result ≤ 1 }
+    ensures told { words_fault (map string_bytes words.now) ≡ ErrorKind.DisplayVersion ∷ [] → exit_status result ≤ 1 }
+    ensures wrong { (kind : Kind) → words_fault (map string_bytes words.now) ≡ kind ∷ []
         → kind ≢ ErrorKind.DisplayHelp → kind ≢ ErrorKind.DisplayVersion → 1 ≤ exit_status result }
     ensures most { exit_status result ≤ 3 }
 {

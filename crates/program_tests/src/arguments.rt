@@ -3,7 +3,7 @@
 
 use super::distinct::are_distinct;
 use clap::error::ErrorKind;
-use command_line::{Job, SearchPlan, args};
+use command_line::{Format, Job, SearchPlan, args};
 use std::alloc::{AllocError, Global};
 use std::process::Abort;
 use std::test::Fail;
@@ -118,6 +118,22 @@ fn command_line_asks_for_a_search(rt: HostRuntime) -> Result<(), Fail> {
     Ok(())
 }
 
+/// Words of a report, and its format.
+const REPORTS: &[(&[&str], Format)] = &[
+    (&["ttp", "report"], Format::Text),
+    (&["ttp", "report", "--format", "text"], Format::Text),
+    (&["ttp", "report", "--format", "csv"], Format::Csv),
+    (&["ttp", "report", "--format=html"], Format::Html),
+];
+
+#[test]
+fn command_line_asks_for_a_report_in_a_format(rt: HostRuntime) -> Result<(), Fail> {
+    for (given, format) in REPORTS {
+        check_job(&rt, rt.alloc(), given, Job::Report(*format))?;
+    }
+    Ok(())
+}
+
 fn search(plan: SearchPlan) -> Job {
     Job::Find { room: 8, plan }
 }
@@ -143,6 +159,9 @@ fn jobs_differ_in_each_number(rt: HostRuntime) {
             ..PLAIN
         }),
         search(SearchPlan { slack: 1, ..PLAIN }),
+        Job::Report(Format::Text),
+        Job::Report(Format::Csv),
+        Job::Report(Format::Html),
     ];
     assert!(rt; are_distinct(&jobs));
 }
@@ -196,6 +215,28 @@ const ENDS: &[(&[&str], ErrorKind, i32)] = &[
     (
         &["ttp", "search", "--slack=-1"],
         ErrorKind::ValueValidation,
+        2,
+    ),
+    (
+        &["ttp", "report", "--format", "pdf"],
+        ErrorKind::InvalidValue,
+        2,
+    ),
+    (
+        &["ttp", "report", "--format=CSV"],
+        ErrorKind::InvalidValue,
+        2,
+    ),
+    (&["ttp", "report", "--format="], ErrorKind::InvalidValue, 2),
+    (&["ttp", "report", "--format"], ErrorKind::InvalidValue, 2),
+    (
+        &["ttp", "report", "--format=csv", "--format=csv"],
+        ErrorKind::ArgumentConflict,
+        2,
+    ),
+    (
+        &["ttp", "start", "--format", "csv"],
+        ErrorKind::UnknownArgument,
         2,
     ),
     (&["ttp", "--help"], ErrorKind::DisplayHelp, 0),
@@ -269,6 +310,16 @@ fn check_memory(rt: &impl Abort, alloc: Global, is_ample: bool) {
     check_answer(rt, alloc, is_ample, &words, Ok(search));
     let mistake = Err(ErrorKind::ValueValidation);
     check_answer(rt, alloc, is_ample, &["ttp", "play", "--room=x"], mistake);
+    let words = ["ttp", "report", "--format=html"];
+    check_answer(rt, alloc, is_ample, &words, Ok(Job::Report(Format::Html)));
+    let wrong = Err(ErrorKind::InvalidValue);
+    check_answer(
+        rt,
+        alloc,
+        is_ample,
+        &["ttp", "report", "--format=pdf"],
+        wrong,
+    );
 }
 
 #[test]

@@ -4,9 +4,11 @@
 ghost use Rattle.std.specs.Prelude.{None};
 
 use super::circle::{CIRCLE, SHEET};
+use super::formatted_reports::{TABLE, judged_input};
+use super::judged_schedules::COST_OF_START;
 use super::plays::{AFTER_UNDO, input};
 use super::searches::{NO_STEPS, NO_STEPS_TEXT};
-use commands::{ProgramFault, find_from, play_from, start_from};
+use commands::{Format, ProgramFault, find_from, play_from, report_from, start_from};
 use league::LeagueFault;
 use std::alloc::{AllocError, Global};
 use std::process::Abort;
@@ -23,9 +25,16 @@ pub(super) enum Command {
     Start,
     Play,
     Find,
+    Report(Format),
 }
 
-const COMMANDS: [Command; 3] = [Command::Start, Command::Play, Command::Find];
+const COMMANDS: [Command; 5] = [
+    Command::Start,
+    Command::Play,
+    Command::Find,
+    Command::Report(Format::Text),
+    Command::Report(Format::Csv),
+];
 
 impl Command {
     /// What it reads.
@@ -33,6 +42,7 @@ impl Command {
         match self {
             Command::Start | Command::Find => Vec::from_slice(alloc, CIRCLE.as_bytes()),
             Command::Play => input(alloc, CIRCLE, b"homes 1 2\nundo\n"),
+            Command::Report(_) => judged_input(alloc, CIRCLE, SHEET),
         }
     }
 
@@ -42,6 +52,8 @@ impl Command {
             Command::Start => [SHEET, "", ""],
             Command::Play => AFTER_UNDO,
             Command::Find => NO_STEPS_TEXT,
+            Command::Report(Format::Csv) => [TABLE, "", ""],
+            Command::Report(_) => [SHEET, COST_OF_START, ""],
         };
         let mut text = Vec::new(alloc);
         for part in parts {
@@ -61,6 +73,10 @@ impl Command {
             Command::Start => start_from(alloc, source, sink),
             Command::Play => play_from(alloc, source, sink, 8),
             Command::Find => find_from(rt, alloc, source, sink, 8, NO_STEPS),
+            Command::Report(format) => {
+                report_from(alloc, source, sink, format)?;
+                Ok(())
+            }
         }
     }
 }

@@ -61,6 +61,9 @@ const HELP: &[(&[&str], &[&str])] = &[
             "Reads a league, a line `sheet` and a schedule from standard input, and writes whether it is a\n",
             "and 3 where it isn't.\n",
             "docs/report.md",
+            "--format <FORMAT>",
+            "How the report is written: text, csv (the games) or html (a page for a browser)",
+            "[default: text]",
         ],
     ),
     (
@@ -94,6 +97,18 @@ fn check_parts(rt: &impl Abort, alloc: Global, given: &[&str], parts: &[&str]) -
     for part in parts {
         assert!(rt; text.contains(*part), "{part} in {text}");
     }
+    Ok(())
+}
+
+/// What a wrong format is told.
+const WRONG_FORMAT: &str = "error: invalid value 'pdf' for '--format <FORMAT>'\n  \
+    [possible values: text, csv, html]\n\nUsage: ttp report [OPTIONS]\n\n\
+    For more information, try '--help'.\n";
+
+#[test]
+fn wrong_format_is_told_which_there_are(rt: HostRuntime) -> Result<(), Fail> {
+    let text = told(rt.alloc(), &["ttp", "report", "--format", "pdf"])?;
+    assert_eq!(rt; text.as_str(), WRONG_FORMAT);
     Ok(())
 }
 

@@ -2,7 +2,7 @@
 //! scripts/apart.py, which shares no code with the crates.
 
 use super::circle::{CIRCLE, SHEET, is_made_of};
-use commands::{ProgramFault, Verdict, report};
+use commands::{Format, ProgramFault, Verdict, report};
 use std::alloc::Global;
 use std::process::Abort;
 use std::test::Fail;
@@ -20,13 +20,14 @@ fn check_report(
     let input = format!(in alloc; "{league}\nsheet\n{schedule}")?;
     let mut room = [0; 2000];
     let mut sink = MemorySink::new(&mut room);
-    let told = report(alloc, MemorySource::new(input.as_bytes()), &mut sink)?;
+    let source = MemorySource::new(input.as_bytes());
+    let told = report(alloc, source, &mut sink, Format::Text)?;
     assert_eq!(rt; told, verdict);
     assert!(rt; is_made_of(sink.held(), parts));
     Ok(())
 }
 
-const COST_OF_START: &str = "travel 30 hard 0 soft 0\n\
+pub(super) const COST_OF_START: &str = "travel 30 hard 0 soft 0\n\
     tour 1 travel 6\n\
     tour 2 travel 8\n\
     tour 3 travel 8\n\
@@ -159,7 +160,7 @@ fn report_names_the_rules(rt: HostRuntime) -> Result<(), Fail> {
 }
 
 /// The start with a bad line, three games that are none, and a game that stands in another's place.
-const DAMAGED: &str = "round 1: 1-4 2-3 3-3\n\
+pub(super) const DAMAGED: &str = "round 1: 1-4 2-3 3-3\n\
     round 2: 1-2 4-3\n\
     round 3: 2-4 3-1\n\
     round x: 1-2\n\
@@ -169,7 +170,7 @@ const DAMAGED: &str = "round 1: 1-4 2-3 3-3\n\
     round 18446744073709551615: 5-1\n\
     round 0: 1-2\n";
 
-const FAULTS: &str = "bad line 4\n\
+pub(super) const FAULTS: &str = "bad line 4\n\
     game 3-3 of round 1 is none\n\
     game 5-1 of round 18446744073709551615 is none\n\
     game 1-2 of round 0 is none\n\
@@ -209,7 +210,8 @@ fn bad_line_beside_all_games_is_a_fault(rt: HostRuntime) -> Result<(), Fail> {
 fn check_fault(rt: &impl Abort, alloc: Global, input: &str, fault: ProgramFault) {
     let mut room = [0; 100];
     let mut sink = MemorySink::new(&mut room);
-    let answer = report(alloc, MemorySource::new(input.as_bytes()), &mut sink);
+    let source = MemorySource::new(input.as_bytes());
+    let answer = report(alloc, source, &mut sink, Format::Text);
     assert_eq!(rt; answer, Err(fault), "{input}");
     assert_eq!(rt; sink.tally().calls, 0);
 }

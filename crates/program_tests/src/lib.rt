@@ -12,6 +12,8 @@ mod distinct;
 #[cfg(test)]
 mod ends;
 #[cfg(test)]
+mod formatted_reports;
+#[cfg(test)]
 mod help_texts;
 #[cfg(test)]
 mod judged_schedules;

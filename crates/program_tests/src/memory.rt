@@ -4,7 +4,7 @@
 //! `.._tells_refused_memory` passes at every N; `.._with_ample_memory` fails while N is among its allocations.
 
 use super::ends::Command;
-use commands::ProgramFault;
+use commands::{Format, ProgramFault};
 use std::alloc::Global;
 use std::process::Abort;
 use std::sync::Wait;
@@ -64,6 +64,19 @@ fn play_succeeds_with_ample_memory(rt: HostRuntime) -> Result<(), Fail> {
 #[test]
 fn play_tells_refused_memory(rt: HostRuntime) {
     check_refused(&rt, rt.alloc(), Command::Play, &[ProgramFault::Memory]);
+}
+
+/// The games of four teams as CSV.
+const TABLE: Command = Command::Report(Format::Csv);
+
+#[test]
+fn table_succeeds_with_ample_memory(rt: HostRuntime) -> Result<(), Fail> {
+    check_with_ample_memory(&rt, rt.alloc(), TABLE)
+}
+
+#[test]
+fn table_tells_refused_memory(rt: HostRuntime) {
+    check_refused(&rt, rt.alloc(), TABLE, &[ProgramFault::Memory]);
 }
 
 #[test]

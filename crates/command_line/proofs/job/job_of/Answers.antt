@@ -1,17 +1,17 @@
 use Rattle.std.proofs.Common.{◌≡◌, codes, rules}
 use Rattle.clap.specs.declared.parser.matches.ArgMatches.TheViews.{out-ArgMatches}
 use Rattle.command_line.specs.CommandLine.{search_command}
-use Rattle.command_line.proofs.NamedCommand.{numbers_of_met, search_numbers}
+use Rattle.command_line.proofs.NamedCommand.{values_of_met, search_values}
 use Rattle.command_line.proofs.job.job_of.Goals as goal
 
 pub number-requires-in-Some-search-default : goal.number-requires-in-Some-search-default
 number-requires-in-Some-search-default c =
     let is : c.in-Some-search-default.field-0-0.now ≡ codes "search" = search rules in
-    (numbers_of_met (codes "search") search_command.options search_numbers (out-ArgMatches c.args.matches.now).subcommand _ _ c.requires
+    (values_of_met (codes "search") search_command.options search_values (out-ArgMatches c.args.matches.now).subcommand _ _ c.requires
     (c.in-Some-search-default.ensures).name (c.in-Some-search-default.ensures).rows is).0
 
 pub plan_of-requires : goal.plan_of-requires
 plan_of-requires c =
     let is : c.in-Some-search-default.field-0-0.now ≡ codes "search" = search rules in
-    numbers_of_met (codes "search") search_command.options search_numbers (out-ArgMatches c.args.matches.now).subcommand _ _ c.requires
+    values_of_met (codes "search") search_command.options search_values (out-ArgMatches c.args.matches.now).subcommand _ _ c.requires
     (c.in-Some-search-default.ensures).name (c.in-Some-search-default.ensures).rows is
