@@ -2,9 +2,11 @@
 
 ghost use Rattle.std.specs.Prelude.{◌≡◌, [], IfOk};
 
-use fixture_board::{Board, Change, Cost, Entry, Proposal, Reply};
+use crate::checks::{check_holds, check_same, check_same_of};
+use fixture_board::{Best, Board, Change, Cost, Entry, Proposal, Reply};
 use fixtures::Schedule;
 use league::{League, circular};
+use moves::Move;
 use std::alloc::Global;
 use std::process::Abort;
 use std::test::Fail;
@@ -26,17 +28,36 @@ pub(crate) fn board(alloc: Global, teams: u8, room: u32) -> Result<Board, Fail>
     Ok(Board::new(alloc, circular(alloc, teams)?, room)?)
 }
 
+/// The move, proposed at a version whatever it costs.
+pub(crate) fn at_any_cost(version: u64, mv: Move) -> Proposal {
+    Proposal {
+        version,
+        mv,
+        claim: None,
+        slack: u64::MAX,
+    }
+}
+
+pub(crate) fn check_granted(rt: &impl Abort, reply: &Reply) {
+    check_holds(rt, matches!(reply, Reply::Done { .. }));
+}
+
+fn entry(rt: &impl Abort, board: &Board, i: u64) -> Entry {
+    assert!(rt; i < board.version());
+    board.entry(i)
+}
+
+const TRAVEL_90: Cost = Cost {
+    travel: 90,
+    hard: 0,
+    soft: 0,
+};
+
 /// The board's last entry is this one, and it travels 90 without a breach.
 pub(crate) fn check_end(rt: &impl Abort, board: &Board, version: u64, last: Entry) {
-    assert!(rt; 0 < version);
-    assert!(rt; board.version() == version);
-    assert_eq!(rt; board.entry(version - 1), last);
-    let cost = Cost {
-        travel: 90,
-        hard: 0,
-        soft: 0,
-    };
-    assert_eq!(rt; board.cost(), cost);
+    check_same(rt, &board.version(), &version);
+    check_same(rt, &entry(rt, board, version.saturating_sub(1)), &last);
+    check_same(rt, &board.cost(), &TRAVEL_90);
 }
 
 /// The history, made by one thread on a board of its own, gives the same schedule, cost and best.
@@ -49,10 +70,12 @@ pub(crate) fn check_replay(rt: &impl Abort, alloc: Global, played: &Board) -> Re
     Ok(())
 }
 
+fn shown(board: &Board) -> (u64, Cost, Option<Best>) {
+    (board.version(), board.cost(), board.best())
+}
+
 fn check_same_end(rt: &impl Abort, one: &Board, other: &Board) {
-    assert_eq!(rt; one.version(), other.version());
-    assert_eq!(rt; one.cost(), other.cost());
-    assert_eq!(rt; one.best(), other.best());
+    check_same(rt, &shown(one), &shown(other));
     check_same_schedule(rt, one.schedule(), other.schedule());
 }
 
@@ -61,29 +84,23 @@ fn make_again(rt: &impl Abort, again: &mut Board, version: u64, entry: Entry) {
     let Change::Shift(mv) = entry.change else {
         panic!(rt; "workers only move");
     };
-    let proposal = Proposal {
-        version,
-        mv,
-        claim: None,
-        slack: u64::MAX,
-    };
-    let reply = again.propose(entry.caller, proposal);
-    assert!(rt; matches!(reply, Reply::Done { .. }));
+    let reply = again.propose(entry.caller, at_any_cost(version, mv));
+    check_granted(rt, &reply);
 }
 
 fn check_same_schedule(rt: &impl Abort, one: &Schedule, other: &Schedule) {
     assert_eq!(rt; one.teams(), other.teams());
     for team in 0..one.teams() {
         for round in 0..one.rounds() {
-            assert_eq!(rt; one.game_at(team, round), other.game_at(team, round));
+            check_same(rt, &one.game_at(team, round), &other.game_at(team, round));
         }
     }
 }
 
 /// The boards have the same entries.
 pub(crate) fn check_same_history(rt: &impl Abort, one: &Board, other: &Board) {
-    assert_eq!(rt; one.version(), other.version());
+    check_same(rt, &one.version(), &other.version());
     for i in 0..one.version() {
-        assert_eq!(rt; one.entry(i), other.entry(i), "entry {i}");
+        check_same_of(rt, &("entry", i), &one.entry(i), &entry(rt, other, i));
     }
 }

@@ -2,8 +2,9 @@
 
 ghost use Rattle.std.specs.Prelude.{◌^◌, ◌<◌};
 
-use crate::boards::{board, check_end, circle};
-use fixture_board::{Board, Change, Entry, Proposal, Reply};
+use crate::boards::{at_any_cost, board, check_end, check_granted, circle};
+use crate::checks::{check_holds, check_same};
+use fixture_board::{Board, Change, Entry};
 use fixtures::{Schedule, berger};
 use league::League;
 use moves::Move;
@@ -38,8 +39,8 @@ fn check_seven<R: Wait + Abort, D: Door>(rt: &R, door: &mut D, league: &League, 
     ensures { D.stays door.old door.new }
 {
     let report = worker(rt, door, &NoGate, league, PLAN, copy);
-    assert_eq!(rt; report, SEVEN);
-    assert_eq!(rt; door.dones(), 7);
+    check_same(rt, &report, &SEVEN);
+    check_same(rt, &door.dones(), &7);
 }
 
 #[test]
@@ -79,24 +80,18 @@ fn front_under_a_lock_counts_the_changes_of_others(rt: HostRuntime) -> Result<()
         dones: 0,
     };
     for version in 0..3 {
-        assert_eq!(rt; door.front(&rt), version);
+        check_same(&rt, &door.front(&rt), &version);
         change_as_another(&rt, &board, version);
     }
-    assert_eq!(rt; door.front(&rt), 3);
-    assert_eq!(rt; door.dones(), 0);
+    check_same(&rt, &(door.front(&rt), door.dones()), &(3, 0));
     Ok(())
 }
 
 /// Caller 7 exchanges rounds 1 and 2, whatever that costs.
 fn change_as_another(rt: &(impl Wait + Abort), board: &Mutex<Board>, version: u64) {
-    let proposal = Proposal {
-        version,
-        mv: Move::Rounds { k: 0, l: 1 },
-        claim: None,
-        slack: u64::MAX,
-    };
+    let proposal = at_any_cost(version, Move::Rounds { k: 0, l: 1 });
     let reply = board.lock(rt).propose(7, proposal);
-    assert!(rt; matches!(reply, Reply::Done { .. }));
+    check_granted(rt, &reply);
 }
 
 #[test]
@@ -110,7 +105,7 @@ fn worker_with_a_seat(rt: HostRuntime) -> Result<(), Fail> {
     check_seven(&rt, &mut door, &league, &mut copy);
     let SeatDoor { shared: _, seat } = door;
     let closed = shared.close(&rt, seat);
-    assert!(rt; closed.whole);
+    check_holds(&rt, closed.whole);
     check_end(&rt, &closed.board, 7, seventh(0));
     Ok(())
 }
@@ -125,7 +120,6 @@ fn worker_with_a_copy_for_other_teams(rt: HostRuntime) -> Result<(), Fail> {
         dones: 0,
     };
     let report = worker(&rt, &mut door, &NoGate, &league, PLAN, &mut copy);
-    assert_eq!(rt; report.made, 0);
-    assert_eq!(rt; door.board.version(), 0);
+    check_same(&rt, &(report.made, door.board.version()), &(0, 0));
     Ok(())
 }

@@ -4,7 +4,7 @@
 #[cfg(test)]
 mod boards;
 #[cfg(test)]
-mod distinct;
+mod checks;
 #[cfg(test)]
 mod doors;
 #[cfg(test)]

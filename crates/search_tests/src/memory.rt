@@ -2,6 +2,8 @@
 
 ghost use Rattle.std.specs.Prelude.{◌≡◌, [], IfSome};
 
+use crate::checks::check_same;
+use crate::searches::{searched, searched_with};
 use fixture_board::Board;
 use league::{League, circular};
 use search::{NoGate, Outcome, RunFault, RunRefused, SearchPlan, run, run_with};
@@ -41,25 +43,13 @@ fn search<R: Threads + Wait + Sync>(
     }
 }
 
-/// The outcome of a run is one of two workers.
-fn two_workers_run<R: Threads + Wait + Sync + Abort>(
-    rt: &R,
-    alloc: Global,
-    has_gate: bool,
-) -> Result<(), Fail> {
-    let league = circular(alloc, 4)?;
-    let board = board(alloc).expect(rt, "a board");
-    match search(rt, alloc, &league, board, has_gate) {
-        Ok(outcome) => assert_eq!(rt; outcome.reports.len(), 2),
-        Err(refused) => return Err(refused.why.into()),
-    }
-    Ok(())
-}
-
 #[test]
 fn runs_with_ample_memory(rt: HostRuntime) -> Result<(), Fail> {
-    two_workers_run(&rt, rt.alloc(), false)?;
-    two_workers_run(&rt, rt.alloc(), true)
+    let outcome = searched(&rt, rt.alloc(), 4, 16, PLAN)?;
+    check_same(&rt, &outcome.reports.len(), &2);
+    let outcome = searched_with(&rt, rt.alloc(), &NoGate, 4, 16, PLAN)?;
+    check_same(&rt, &outcome.reports.len(), &2);
+    Ok(())
 }
 
 /// Each answer but one of two workers is for want of memory.
@@ -73,14 +63,14 @@ fn runs_or_has_no_memory<R: Threads + Wait + Sync + Abort>(
     requires { board.history ≡ [] }
 {
     match search(rt, alloc, league, board, has_gate) {
-        Ok(outcome) => assert_eq!(rt; outcome.reports.len(), 2),
+        Ok(outcome) => check_same(rt, &outcome.reports.len(), &2),
         Err(refused) => check_refusal(rt, refused),
     }
 }
 
 fn check_refusal(rt: &impl Abort, refused: RunRefused) {
     match (refused.why, refused.board) {
-        (RunFault::Memory, Some(board)) => assert_eq!(rt; board.version(), 0),
+        (RunFault::Memory, Some(board)) => check_same(rt, &board.version(), &0),
         // a thread takes memory of its own
         (RunFault::Memory, None) | (RunFault::Spawn, Some(_)) => {}
         _ => panic!(rt; "neither memory nor a thread is wanting"),

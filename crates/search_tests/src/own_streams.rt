@@ -1,9 +1,9 @@
 //! Each worker draws from the stream of its own number: what it is granted is what this page draws anew from that stream.
 
-use crate::boards::{check_same_history, circle};
-use crate::distinct::are_distinct;
+use crate::boards::{at_any_cost, check_same_history, circle};
+use crate::checks::{check_distinct, check_holds, check_holds_of, check_same};
 use crate::searches::searched_with;
-use fixture_board::{Board, Proposal};
+use fixture_board::Board;
 use fixtures::Schedule;
 use moves::{Move, check};
 use rand_pcg::Lcg64Xsh32;
@@ -75,13 +75,7 @@ fn propose_stream(board: &mut Board, start: &Schedule, worker: u32, steps: u32) 
         let mv = draw(&mut generator, TEAMS);
         proposes = proposes || check(start, mv).is_ok();
         if proposes {
-            let proposal = Proposal {
-                version: board.version(),
-                mv,
-                claim: None,
-                slack: u64::MAX,
-            };
-            board.propose(worker, proposal);
+            board.propose(worker, at_any_cost(board.version(), mv));
         }
     }
 }
@@ -133,9 +127,9 @@ fn expect_own_streams<R: Threads + Wait + Sync + Abort>(
 }
 
 fn check_many_accepted(rt: &impl Abort, reports: &Reports, workers: u32) {
-    assert_eq!(rt; reports.len(), workers as usize);
+    check_same(rt, &reports.len(), &(workers as usize));
     for i in 0..reports.len() {
-        assert!(rt; 1000 < reports.at(i).accepted);
+        check_holds_of(rt, &("worker", i), 1000 < reports.at(i).accepted);
     }
 }
 
@@ -172,7 +166,7 @@ fn searched_alone(rt: &impl Wait, alloc: Global, number: u32, steps: u32) -> Res
 fn expect_own_stream<R: Wait + Abort>(rt: &R, alloc: Global, number: u32) -> Result<(), Fail> {
     let played = searched_alone(rt, alloc, number, 200)?;
     let expected = drawn_anew(alloc, number, number.saturating_add(1), 200)?;
-    assert!(rt; 50 < played.version());
+    check_holds(rt, 50 < played.version());
     check_same_history(rt, &played, &expected);
     Ok(())
 }
@@ -202,6 +196,6 @@ fn streams_of_the_workers_differ(rt: HostRuntime) -> Result<(), Fail> {
     for number in 0..MAX_WORKERS {
         streams.push(eight_moves(number))?;
     }
-    assert!(rt; are_distinct(&streams));
+    check_distinct(&rt, &streams);
     Ok(())
 }

@@ -2,6 +2,7 @@
 
 ghost use Rattle.std.specs.Prelude.{◌≡◌, [], IfOk};
 
+use crate::checks::{check_holds, check_holds_of};
 use fixture_board::Board;
 use fixtures::Schedule;
 use league::read_league;
@@ -58,9 +59,9 @@ fn expect_phased<R: Threads + Wait + Sync + Abort>(
 
 fn check_best(rt: &impl Abort, board: &Board) -> Result<(), Fail> {
     let best = board.best().ok_or("a best")?;
-    assert!(rt; best.total < 30, "{best:?}");
+    check_holds_of(rt, &best, best.total < 30);
     let schedule = board.best_schedule().ok_or("a schedule")?;
-    assert!(rt; is_phased(schedule));
+    check_holds(rt, is_phased(schedule));
     Ok(())
 }
 

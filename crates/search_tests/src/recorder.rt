@@ -2,6 +2,7 @@
 
 ghost use Rattle.std.specs.Prelude.{◌≡◌};
 
+use crate::boards::at_any_cost;
 use fixture_board::{Board, Change, Proposal, Reply};
 use fixtures::Schedule;
 use search::{Door, Gate, LockedDoor};
@@ -24,13 +25,7 @@ fn enter(board: &mut Board, change: Change) {
     let version = board.version();
     match change {
         Change::Shift(mv) => {
-            let proposal = Proposal {
-                version,
-                mv,
-                claim: None,
-                slack: u64::MAX,
-            };
-            board.propose(9, proposal);
+            board.propose(9, at_any_cost(version, mv));
         }
         Change::Pin(game) => {
             board.pin(9, version, game);

@@ -3,11 +3,12 @@
 ghost use Rattle.std.specs.Prelude.{◌≡◌, [], length, IfOk};
 
 use crate::boards::{board, check_end, check_replay, check_same_history};
+use crate::checks::{check_holds, check_same};
 use crate::searches::{self, searched_with};
 use fixture_board::{Best, Board, Change, Entry};
 use league::{League, circular};
 use moves::Move;
-use search::{Gate, NoGate, Outcome, Reports, RunFault, SearchPlan, run};
+use search::{Gate, NoGate, Outcome, Report, Reports, RunFault, SearchPlan, run};
 use std::alloc::Global;
 use std::hint::spin_loop;
 use std::process::Abort;
@@ -51,6 +52,17 @@ struct Meet {
     late: AtomicU64,
 }
 
+impl Meet {
+    /// Whether the first and the second were at their first proposals, and whether one was late.
+    fn seen(&self) -> [u64; 3] {
+        [
+            self.first.load(Ordering::SeqCst),
+            self.second.load(Ordering::SeqCst),
+            self.late.load(Ordering::SeqCst),
+        ]
+    }
+}
+
 impl Gate for Meet {
     fn enter<R: Wait>(&self, _rt: &R, worker: u32, made: u32) {
         if made != 0 {
@@ -82,17 +94,20 @@ fn two_at_once<R: Threads + Wait + Sync + Abort>(rt: &R, alloc: Global) -> Resul
         late: AtomicU64::new(0),
     };
     let outcome = searched(rt, alloc, &gate, 1024, plan(2))?;
-    assert_eq!(rt; gate.first.load(Ordering::SeqCst), 1);
-    assert_eq!(rt; gate.second.load(Ordering::SeqCst), 1);
-    assert_eq!(rt; gate.late.load(Ordering::SeqCst), 0);
-    check_two_reports(rt, &outcome);
+    check_same(rt, &gate.seen(), &[1, 1, 0]);
+    check_two_reports(rt, &outcome.reports);
     Ok(())
 }
 
-fn check_two_reports(rt: &impl Abort, outcome: &Outcome) {
-    assert_eq!(rt; outcome.reports.len(), 2);
-    assert!(rt; 0 < outcome.reports.at(0).made);
-    assert!(rt; 0 < outcome.reports.at(1).made);
+fn report(rt: &impl Abort, reports: &Reports, worker: usize) -> Report {
+    assert!(rt; worker < reports.len());
+    reports.at(worker)
+}
+
+fn check_two_reports(rt: &impl Abort, reports: &Reports) {
+    check_same(rt, &reports.len(), &2);
+    check_holds(rt, 0 < report(rt, reports, 0).made);
+    check_holds(rt, 0 < report(rt, reports, 1).made);
 }
 
 #[test]
@@ -103,28 +118,49 @@ fn two_workers_at_once_20_times(rt: HostRuntime) -> Result<(), Fail> {
     Ok(())
 }
 
+/// Each of so many workers has its report.
+fn check_workers<R: Threads + Wait + Sync + Abort>(
+    rt: &R,
+    alloc: Global,
+    workers: u32,
+) -> Result<(), Fail> {
+    let outcome = searched(rt, alloc, &NoGate, 1024, plan(workers))?;
+    check_same(rt, &outcome.reports.len(), &(workers as usize));
+    check_same(rt, &outcome.plan, &plan(workers));
+    Ok(())
+}
+
 #[test]
 fn one_to_sixteen_workers(rt: HostRuntime) -> Result<(), Fail> {
     for workers in [1, 2, 3, 16] {
-        let outcome = searched(&rt, rt.alloc(), &NoGate, 1024, plan(workers))?;
-        assert_eq!(rt; outcome.reports.len(), workers as usize);
-        assert_eq!(rt; outcome.plan, plan(workers));
+        check_workers(&rt, rt.alloc(), workers)?;
     }
     Ok(())
 }
 
-/// The room is over after 64 changes, which any of the workers may find at any time.
+/// Four workers fill the room, which is over after 64 changes.
+fn check_full<R: Threads + Wait + Sync + Abort>(
+    rt: &R,
+    alloc: Global,
+    seed: u64,
+) -> Result<(), Fail> {
+    let plan = SearchPlan {
+        workers: 4,
+        seed,
+        steps: 200,
+        slack: u64::MAX,
+    };
+    let outcome = searched(rt, alloc, &NoGate, 64, plan)?;
+    check_same(rt, &outcome.reports.len(), &4);
+    check_same(rt, &outcome.board.version(), &64);
+    Ok(())
+}
+
+/// Any of the workers may find at any time that the room is over.
 #[test]
 fn four_workers_fill_the_room_50_times(rt: HostRuntime) -> Result<(), Fail> {
     for seed in 0..50 {
-        let plan = SearchPlan {
-            seed,
-            steps: 200,
-            ..plan(4)
-        };
-        let outcome = searched(&rt, rt.alloc(), &NoGate, 64, plan)?;
-        assert_eq!(rt; outcome.reports.len(), 4);
-        assert_eq!(rt; outcome.board.version(), 64);
+        check_full(&rt, rt.alloc(), seed)?;
     }
     Ok(())
 }
@@ -140,46 +176,53 @@ fn one_worker_does_the_same_twice(rt: HostRuntime) -> Result<(), Fail> {
 
 /// Each has one report, and both the same, of a worker with accepted proposals.
 fn check_same_report(rt: &impl Abort, one: &Reports, two: &Reports) {
-    assert_eq!(rt; one.len(), 1);
-    assert_eq!(rt; two.len(), 1);
-    assert!(rt; 0 < one.at(0).accepted);
-    assert_eq!(rt; one.at(0), two.at(0));
+    check_same(rt, &[one.len(), two.len()], &[1, 1]);
+    let (one, two) = (report(rt, one, 0), report(rt, two, 0));
+    check_holds(rt, 0 < one.accepted);
+    check_same(rt, &one, &two);
 }
+
+const PLAN_OF_SIX: SearchPlan = SearchPlan {
+    workers: 1,
+    seed: 8,
+    steps: 24,
+    slack: 30,
+};
+
+const SIXTH: Entry = Entry {
+    caller: 0,
+    change: Change::Shift(Move::Rounds { k: 4, l: 3 }),
+};
 
 /// Six proposals, each granted, are those of `asks 8 0 6 24 30 1024` of `scripts/worker-steps`, a program written apart. With
 /// another seed, slack, number of steps or number of the worker it prints others.
 #[test]
 fn a_worker_has_the_numbers_of_the_plan(rt: HostRuntime) -> Result<(), Fail> {
-    let plan = SearchPlan {
-        workers: 1,
-        seed: 8,
-        steps: 24,
-        slack: 30,
-    };
-    let outcome = searches::searched(&rt, rt.alloc(), 6, 1024, plan)?;
-    let change = Change::Shift(Move::Rounds { k: 4, l: 3 });
-    check_end(&rt, &outcome.board, 6, Entry { caller: 0, change });
+    let outcome = searches::searched(&rt, rt.alloc(), 6, 1024, PLAN_OF_SIX)?;
+    check_end(&rt, &outcome.board, 6, SIXTH);
     Ok(())
 }
+
+const NO_STEPS: SearchPlan = SearchPlan {
+    workers: 2,
+    seed: 7,
+    steps: 0,
+    slack: 0,
+};
+
+const START: Option<Best> = Some(Best { at: 0, total: 30 });
 
 #[test]
 fn no_steps_change_nothing(rt: HostRuntime) -> Result<(), Fail> {
-    let plan = SearchPlan {
-        workers: 2,
-        seed: 7,
-        steps: 0,
-        slack: 0,
-    };
-    let outcome = searched(&rt, rt.alloc(), &NoGate, 1024, plan)?;
-    check_nothing_changed(&rt, &outcome);
+    let outcome = searched(&rt, rt.alloc(), &NoGate, 1024, NO_STEPS)?;
+    check_nothing_changed(&rt, &outcome.reports, &outcome.board);
     Ok(())
 }
 
-fn check_nothing_changed(rt: &impl Abort, outcome: &Outcome) {
-    assert_eq!(rt; outcome.reports.len(), 2);
-    assert_eq!(rt; outcome.reports.at(1).made, 0);
-    assert_eq!(rt; outcome.board.version(), 0);
-    assert_eq!(rt; outcome.board.best(), Some(Best { at: 0, total: 30 }));
+fn check_nothing_changed(rt: &impl Abort, reports: &Reports, board: &Board) {
+    check_same(rt, &reports.len(), &2);
+    check_same(rt, &report(rt, reports, 1).made, &0);
+    check_same(rt, &(board.version(), board.best()), &(0, START));
 }
 
 #[test]
@@ -201,13 +244,15 @@ fn two_run<R: Threads + Wait + Sync + Abort>(
     requires { board.history ≡ [] }
 {
     match run(rt, alloc, league, board, plan(2)) {
-        Ok(outcome) => {
-            assert_eq!(rt; outcome.reports.len(), 2);
-            assert!(rt; 0 < outcome.board.version());
-            check_replay(rt, alloc, &outcome.board)
-        }
+        Ok(outcome) => check_two_changed(rt, alloc, &outcome),
         Err(refused) => Err(refused.why.into()),
     }
+}
+
+fn check_two_changed(rt: &impl Abort, alloc: Global, outcome: &Outcome) -> Result<(), Fail> {
+    check_same(rt, &outcome.reports.len(), &2);
+    check_holds(rt, 0 < outcome.board.version());
+    check_replay(rt, alloc, &outcome.board)
 }
 
 /// The board that comes back where there are none or too many workers.

@@ -1,6 +1,7 @@
 //! Runs of each number of workers, and with histories of each length.
 
 use crate::boards::check_replay;
+use crate::checks::{check_holds, check_holds_of, check_same};
 use crate::searches::searched;
 use search::{MAX_WORKERS, SearchPlan};
 use std::alloc::Global;
@@ -26,9 +27,9 @@ fn expect_workers<R: Threads + Wait + Sync + Abort>(
     workers: u32,
 ) -> Result<(), Fail> {
     let outcome = searched(rt, alloc, 4, 4096, plan(workers, 100))?;
-    assert_eq!(rt; outcome.reports.len(), workers as usize);
-    assert_eq!(rt; outcome.plan, plan(workers, 100));
-    assert!(rt; 0 < outcome.board.version());
+    check_same(rt, &outcome.reports.len(), &(workers as usize));
+    check_same(rt, &outcome.plan, &plan(workers, 100));
+    check_holds(rt, 0 < outcome.board.version());
     check_replay(rt, alloc, &outcome.board)
 }
 
@@ -40,17 +41,28 @@ fn a_run_of_each_number_of_workers(rt: HostRuntime) -> Result<(), Fail> {
     Ok(())
 }
 
+/// How long the history of a run is.
+fn length<R: Threads + Wait + Sync>(
+    rt: &R,
+    alloc: Global,
+    room: u32,
+    plan: SearchPlan,
+) -> Result<u64, Fail> {
+    let outcome = searched(rt, alloc, 4, room, plan)?;
+    Ok(outcome.board.version())
+}
+
 /// One worker's history with a step more is as long or longer by one.
 #[test]
 fn a_history_of_each_length_to_200_by_one_worker(rt: HostRuntime) -> Result<(), Fail> {
-    let mut length = 0;
+    let mut before = 0;
     for steps in 0..300 {
-        let outcome = searched(&rt, rt.alloc(), 4, 300, plan(1, steps))?;
-        let version = outcome.board.version();
-        assert!(rt; length <= version && version - length <= 1, "{steps} steps");
-        length = version;
+        let now = length(&rt, rt.alloc(), 300, plan(1, steps))?;
+        let is_next = before <= now && now - before <= 1;
+        check_holds_of(&rt, &("steps", steps), is_next);
+        before = now;
     }
-    assert!(rt; 200 <= length);
+    check_holds(&rt, 200 <= before);
     Ok(())
 }
 
@@ -58,8 +70,8 @@ fn a_history_of_each_length_to_200_by_one_worker(rt: HostRuntime) -> Result<(), 
 #[test]
 fn a_history_of_each_length_to_200_by_three_workers(rt: HostRuntime) -> Result<(), Fail> {
     for room in 0..=200 {
-        let outcome = searched(&rt, rt.alloc(), 4, room, plan(3, 2000))?;
-        assert_eq!(rt; outcome.board.version(), u64::from(room));
+        let length = length(&rt, rt.alloc(), room, plan(3, 2000))?;
+        check_same(&rt, &length, &u64::from(room));
     }
     Ok(())
 }

@@ -1,6 +1,7 @@
 //! What a worker asks of its board, step by step. The expected lines are those of `scripts/worker-steps`.
 
 use crate::boards::circle;
+use crate::checks::check_same;
 use crate::recorder::{Passed, Recorder};
 use fixture_board::{Board, Change};
 use fixtures::{Game, Schedule};
@@ -236,7 +237,7 @@ fn expect<R: Abort + Wait>(rt: &R, alloc: Global, scene: &Scene) -> Result<(), F
         refused,
     } = report;
     writeln!(text, "report {made} {accepted} {refused}")?;
-    assert_eq!(rt; text.as_str(), scene.lines);
+    check_same(rt, &text.as_str(), &scene.lines);
     Ok(())
 }
 

@@ -1,9 +1,11 @@
 //! What a gate is told of a run.
 
+use crate::checks::check_same;
 use crate::searches::searched_with;
 use search::{Gate, Progress, SearchPlan};
 use std::alloc::Global;
 use std::fmt::Write;
+use std::process::Abort;
 use std::sync::{Mutex, Wait};
 use std::test::Fail;
 use std::thread::Threads;
@@ -50,21 +52,29 @@ fn told<R: Threads + Wait + Sync>(rt: &R, alloc: Global, steps: u32) -> Result<S
     Ok(log.into_inner())
 }
 
+fn check_told<R: Threads + Wait + Sync + Abort>(
+    rt: &R,
+    alloc: Global,
+    steps: u32,
+    lines: &str,
+) -> Result<(), Fail> {
+    let told = told(rt, alloc, steps)?;
+    check_same(rt, &told.as_str(), &lines);
+    Ok(())
+}
+
 /// The versions and totals are those of `scripts/worker-steps asks 4 0 8 12300 10 20000`.
+const TOLD_THREE_TIMES: &str = "told 0 4096 856 Some(178)\n\
+    told 0 4096 1504 Some(170)\n\
+    told 0 4096 1693 Some(152)\n\
+    ended\n";
+
 #[test]
 fn gate_is_told_after_each_4096_steps(rt: HostRuntime) -> Result<(), Fail> {
-    assert_eq!(rt;
-        told(&rt, rt.alloc(), 12_300)?.as_str(),
-        "told 0 4096 856 Some(178)\n\
-        told 0 4096 1504 Some(170)\n\
-        told 0 4096 1693 Some(152)\n\
-        ended\n"
-    );
-    Ok(())
+    check_told(&rt, rt.alloc(), 12_300, TOLD_THREE_TIMES)
 }
 
 #[test]
 fn gate_is_told_the_end_alone_of_a_short_run(rt: HostRuntime) -> Result<(), Fail> {
-    assert_eq!(rt; told(&rt, rt.alloc(), 4095)?.as_str(), "ended\n");
-    Ok(())
+    check_told(&rt, rt.alloc(), 4095, "ended\n")
 }
