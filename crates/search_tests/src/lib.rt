@@ -18,6 +18,8 @@ mod phased;
 #[cfg(test)]
 mod recorder;
 #[cfg(test)]
+mod resumed;
+#[cfg(test)]
 mod runs;
 #[cfg(test)]
 mod searches;
