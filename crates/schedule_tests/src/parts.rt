@@ -132,7 +132,13 @@ fn check_parts(
 fn parts_of_last_two_rounds(rt: HostRuntime) -> Result<(), Fail> {
     let touched = last_two_rounds();
     check_parts(&rt, rt.alloc(), (Plan::Berger(4), 2), touched, (14, 14, 2))?;
-    check_parts(&rt, rt.alloc(), (Plan::Rounds(4, 5), 2), touched, (12, 12, 0))
+    check_parts(
+        &rt,
+        rt.alloc(),
+        (Plan::Rounds(4, 5), 2),
+        touched,
+        (12, 12, 0),
+    )
 }
 
 #[test]
