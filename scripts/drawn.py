@@ -26,7 +26,7 @@ def rule(draw, teams, name, edges=False):
     mode = lambda: draw.choice(["H", "A", "HA"])
     upto = lambda usual: number(draw, usual, edges)
     least = draw.randint(0, 2)
-    length = draw.choice([1, 2, rounds - 1, rounds, rounds + 1, MOST]) if edges and draw.randint(0, 2) == 0 else draw.randint(1, rounds)
+    length = draw.choice([1, 2, rounds - 1, rounds]) if edges and draw.randint(0, 2) == 0 else draw.randint(1, rounds)
     games = [draw.sample(range(1, teams + 1), 2) for _ in range(draw.randint(0 if edges else 1, 4))]
     opponents = {"teams2": a_set()} if name == "CA2" or draw.randint(0, 1) else {}
     members = {
@@ -34,7 +34,7 @@ def rule(draw, teams, name, edges=False):
         "CA2": lambda: {"teams1": a_set(), "mode": mode(), **opponents, "max": upto(3)},
         "CA3": lambda: {"teams1": a_set(), "mode": mode(), **opponents, "intp": length, "max": upto(3)},
         "CA4": lambda: {"teams1": a_set(), "mode": mode(), **opponents, "mode2": draw.choice(["GLOBAL", "EVERY"]), "max": upto(9)},
-        "GA1": lambda: {"games": games, "min": least, "max": least + upto(2)},
+        "GA1": lambda: {"games": games, "min": least, "max": min(MOST, least + upto(2))},
         "BR1": lambda: {"teams": a_set(), "mode": mode(), "intp": upto(3)},
         "BR2": lambda: {"teams": a_set(), "intp": upto(9)},
         "SE1": lambda: {"teams": a_set(), "min": upto(5)},
