@@ -2,7 +2,7 @@
 # What ./build, ./ttp, ./test-memory and the gate share. They set `top`, the repository's folder, and source this file.
 
 # What ./build takes where nothing was proved before, in minutes of processor time.
-build_minutes=20
+build_minutes=40
 # The program's folder. The file proved-sum in it says which program was proved, and of which sources.
 built=$top/crates/ttp/out
 
