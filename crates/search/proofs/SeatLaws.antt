@@ -9,7 +9,7 @@ use Rattle.fixture_board.specs.declared.reply.Reply.TheVariants.{Done, No}
 use Rattle.fixture_board.specs.Laws.{TellsOf}
 use Rattle.fixture_board.specs.Replies.{entry, next_of, reply_of}
 use Rattle.fixture_board.proofs.ForCallers.{tells_of_reply}
-use Rattle.shared_board.specs.declared.shared.Seen.{Seen}
+use Rattle.fixture_board.specs.declared.look.Seen.{Seen}
 use Rattle.shared_board.specs.Held.{times, under}
 use Rattle.shared_board.specs.Rule.{Knows}
 use Rattle.shared_board.specs.Seats.{SeatValue, Answered, Looked}

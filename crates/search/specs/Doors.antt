@@ -6,12 +6,13 @@ use Rattle.fixtures.specs.Games.{Games}
 use Rattle.fixture_board.specs.declared.ask.Ask.TheVariants.{Shift}
 use Rattle.fixture_board.specs.declared.ask.Proposal.{Proposal}
 use Rattle.fixture_board.specs.declared.change.Entry.{Entry}
+use Rattle.fixture_board.specs.declared.look.Seen.{Seen}
 use Rattle.fixture_board.specs.declared.reply.Reply.{Reply}
 use Rattle.fixture_board.specs.declared.reply.Reply.TheVariants.{Done, No}
 use Rattle.fixture_board.specs.History.{games_of, cost_at, IsLegal}
+use Rattle.fixture_board.specs.Looks.{copied}
 use Rattle.fixture_board.specs.Replies.{next_of, reply_of}
-use Rattle.shared_board.specs.declared.shared.Seen.{Seen}
-use Rattle.shared_board.specs.Seats.{SeatValue, copied}
+use Rattle.shared_board.specs.Seats.{SeatValue}
 use Rattle.shared_board.specs.Setting.{Setting}
 
 -- the second history begins with the first

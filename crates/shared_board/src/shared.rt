@@ -12,7 +12,7 @@ mod waits;
 
 use crate::view::{Order, View};
 use atomic_table::Table;
-use fixture_board::{Board, Cost, Reply};
+use fixture_board::{Board, Reply};
 use std::alloc::{AllocError, Global};
 use std::marker::Model;
 use std::snapshot::Snapshot;
@@ -110,13 +110,6 @@ impl Seat {
     {
         self.accepted
     }
-}
-
-/// What a look shows.
-#[derive(Clone, Copy, Debug, PartialEq, Eq)]
-pub struct Seen {
-    pub version: u64,
-    pub cost: Cost,
 }
 
 /// Why there is no further seat.

@@ -5,7 +5,7 @@ ghost use Rattle.std.specs.Prelude.{◌≡◌};
 use crate::Door;
 use fixture_board::{Proposal, Reply};
 use fixtures::Schedule;
-use shared_board::{Seat, Seen, Shared};
+use shared_board::{Seat, Shared};
 use std::sync::Wait;
 
 /// A door to a board that threads share, by any seat of it.

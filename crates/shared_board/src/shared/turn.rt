@@ -3,18 +3,19 @@
 ghost use Rattle.std.specs.Prelude.{◌≡◌, ℕ, ◌<◌, ◌≤◌, ◌^◌, ◌+◌, [], ◌∷◌, length, true, MatchBool};
 ghost use Rattle.fixture_board.specs.History.{IsLegal, games_of, cost_at};
 ghost use Rattle.fixture_board.specs.Laws.{least_of, as_number};
+ghost use Rattle.fixture_board.specs.Looks.{copied};
 ghost use Rattle.fixture_board.specs.Replies.{next_of};
 ghost use Rattle.shared_board.specs.Held.{times};
 ghost use Rattle.shared_board.specs.Stage.{away, holds, counts, owes, kept, owed, IsSettled};
 ghost use Rattle.shared_board.specs.Rule.{Added};
 ghost use Rattle.shared_board.specs.Plays.{Took, Counted, at_stage, saw, on_board, drawing};
-ghost use Rattle.shared_board.specs.Seats.{SeatValue, HasBoard, IsIdle, IsSeat, Answered, Absorbed, seat_value, copied};
+ghost use Rattle.shared_board.specs.Seats.{SeatValue, HasBoard, IsIdle, IsSeat, Answered, Absorbed, seat_value};
 ghost use Rattle.shared_board.specs.Ending.{IsSeatAfter, IsOfBoth, BroughtOut, HoldsBelow};
 ghost use Rattle.shared_board.specs.Judging.{IsJudged};
 
 use crate::plays::{Both, Commit, Count, Draw, Leave, Post, Quit, Take, Tell};
-use crate::shared::{BEST, FRONT, Judged, NUMBERS, Place, SLOT, Seen, Shared, TURN};
-use fixture_board::{Ask, Best, Board, Reply};
+use crate::shared::{BEST, FRONT, Judged, NUMBERS, Place, SLOT, Shared, TURN};
+use fixture_board::{Ask, Best, Board, Reply, Seen};
 use fixtures::Schedule;
 use std::hint::spin_loop;
 use std::sync::Wait;
@@ -141,16 +142,7 @@ impl Shared {
         ensures copy { copy.new ≡ copied copy.old (games_of place.old.me.0.setting.league (on_board place.old.me.1)) }
     {
         match place.slot_mut(&self.table.shared, SLOT) {
-            Some(board) => {
-                let shown = board.schedule();
-                if copy.teams() == shown.teams() {
-                    copy.copy_from(shown);
-                }
-                Seen {
-                    version: board.version(),
-                    cost: board.cost(),
-                }
-            }
+            Some(board) => board.look(copy),
             None => unreachable!(),
         }
     }
