@@ -36,7 +36,8 @@ impl Door for SeatDoor<'_> {
 
     ghost stays_same = { λ d. record { table = refl; number = refl; setting = refl; held = refl } };
 
-    ghost stays_then = { λ a b c p q. record { table = p.table ∙ q.table; number = p.number ∙ q.number; setting = p.setting ∙ q.setting; held = p.held ∙ q.held } };
+    ghost stays_then = { λ a b c p q. record
+        { table = p.table ∙ q.table; number = p.number ∙ q.number; setting = p.setting ∙ q.setting; held = p.held ∙ q.held } };
 
     ghost stays_caller = { λ a b p. p.number };
 
