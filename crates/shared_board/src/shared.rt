@@ -123,6 +123,7 @@ pub enum SplitFault {
 /// The board, once no thread shares it any more.
 #[derive(Drop)]
 pub struct Closed {
+    /// The board with all changes.
     pub board: Board,
     /// The seat held each number that was given out.
     pub whole: bool,

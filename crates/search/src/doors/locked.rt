@@ -10,6 +10,7 @@ use std::sync::{Mutex, Wait};
 /// and room are those of the board that is found.
 #[derive(Drop)]
 pub struct LockedDoor<'a> {
+    /// The board, whoever else may change it.
     pub board: &'a Mutex<Board>,
     /// The number of the caller.
     pub caller: u32,

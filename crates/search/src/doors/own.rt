@@ -8,6 +8,7 @@ use std::sync::Wait;
 /// A door to a board that nobody else changes.
 #[derive(Drop)]
 pub struct OwnDoor {
+    /// The board.
     pub board: Board,
     /// The number of the caller.
     pub caller: u32,

@@ -11,7 +11,9 @@ use std::sync::Wait;
 /// A door to a board that threads share, by any seat of it.
 #[derive(Drop)]
 pub struct SeatDoor<'a> {
+    /// The board that the seat is of.
     pub shared: &'a Shared,
+    /// The seat, which has one number or more.
     pub seat: Seat,
     pub ghost same_board: { seat.table ≡ shared.now },
 }
