@@ -3,7 +3,7 @@
 ghost use Rattle.std.specs.Prelude.{◌≡◌};
 
 use crate::Door;
-use fixture_board::{Proposal, Reply};
+use fixture_board::{Proposal, Reply, Seen};
 use fixtures::Schedule;
 use shared_board::{Seat, Shared};
 use std::sync::Wait;

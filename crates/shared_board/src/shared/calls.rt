@@ -5,7 +5,7 @@ ghost use Rattle.shared_board.specs.Seats.{Answered, Looked, glanced_at, lowest_
 
 use crate::plays::{Glance, Lower};
 use crate::shared::{BEST, FRONT, Seat, Shared};
-use fixture_board::{Ask, Proposal, Reply};
+use fixture_board::{Ask, Proposal, Reply, Seen};
 use fixtures::{Game, Schedule};
 use std::sync::Wait;
 
