@@ -1,4 +1,0 @@
-pub mod Runs
-pub mod PhaseText
-pub mod Outcome
-pub mod Kept

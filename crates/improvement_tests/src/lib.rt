@@ -1,5 +1,0 @@
-//! Tests of improvements by their public call: what no contract says.
-#![tactic(auto)]
-
-#[cfg(test)]
-mod texts;
