@@ -3,6 +3,7 @@ use Rattle.std.proofs.Common.{◌≡◌, ◌≤◌, ℕ, List, Option, Some, Ok,
 use Rattle.std.specs.Io.KnownBytes.{Consumes, IsAtEnd}
 use Rattle.streams.specs.Limits.{input_limit}
 use Rattle.streams.specs.declared.tally.Tally.{Tally}
+use Rattle.advice.specs.Remarks.{remarks_on}
 use Rattle.fixtures.specs.Games.{Games}
 use Rattle.league.specs.League.{LeagueData, league_of, teams}
 use Rattle.texts.specs.Input.{lines_after, text_before}
@@ -18,7 +19,7 @@ pub answered_report : {R W : Type 0} (left : R → Option (List ℕ)) (pulls : R
     (format : Format) (league : LeagueData) (lines : List (List ℕ)) (games : Option Games) (told : Option Verdict) (bytes : List ℕ)
     → Consumes (left old) (left new) bytes → IsAtEnd (left new) → length bytes ≤ input_limit → league_of (text_before (codes "sheet") bytes) ≡ Ok league
     → lines_after (codes "sheet") bytes ≡ Some lines → IsVerdict (teams league) lines games → IsToldOf league games told
-    → IsAnswered left pulls held pushes (AnswersReport format told) old new (Ok (report_in format league lines games))
+    → IsAnswered left pulls held pushes (AnswersReport format told) old new (Ok (report_in format league lines games (remarks_on (text_before (codes "sheet") bytes))))
 answered_report left pulls held pushes old new format league lines games told bytes taken ended within reading after given is = record {
   bytes = bytes;
   taken = taken;

@@ -7,7 +7,7 @@ use Rattle.streams.specs.Reading.{StopsPast, StopsWithin}
 use Rattle.streams.specs.Sending.{AppendsFront}
 use Rattle.streams.specs.Tally.{FailsWriting}
 use Rattle.commands.specs.declared.fault.ProgramFault.{ProgramFault}
-use Rattle.commands.specs.declared.fault.ProgramFault.TheVariants.{Read, TooLong, League, NoSheet, Room, Workers, Spawn, Receipts, Write, Memory}
+use Rattle.commands.specs.declared.fault.ProgramFault.TheVariants.{Read, TooLong, League, LeagueAt, NoSheet, Room, Workers, Spawn, Receipts, Write, Memory}
 
 -- A command answers an input with the text that it writes, or with a fault that lies in the input.
 abbrev pub Answers : Type 1
@@ -32,6 +32,7 @@ module _ {R W : Type 0} (left : R → Option (List ℕ)) (pulls : R → Tally) (
   EndsBy old new before after (Err Read) = StopsWithin left pulls input_limit read_limit old new × (after ≡ before)
   EndsBy old new before after (Err TooLong) = StopsPast left pulls input_limit old new × (after ≡ before)
   EndsBy old new before after (Err (League fault)) = IsAnswered old new (Err (League fault)) × (after ≡ before)
+  EndsBy old new before after (Err (LeagueAt fault hint)) = IsAnswered old new (Err (LeagueAt fault hint)) × (after ≡ before)
   EndsBy old new before after (Err NoSheet) = IsAnswered old new (Err NoSheet) × (after ≡ before)
   EndsBy old new before after (Err Room) = IsAnswered old new (Err Room) × (after ≡ before)
   EndsBy old new before after (Err Workers) = IsAnswered old new (Err Workers) × (after ≡ before)

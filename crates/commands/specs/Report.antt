@@ -1,6 +1,10 @@
 -- What `ttp report` answers to an input.
 use Rattle.std.specs.Prelude.{◌≡◌, ℕ, Bool, true, false, List, Option, Some, None, Result, Ok, Err, codes}
 use Rattle.fixtures.specs.Games.{Games}
+use Rattle.advice.specs.Hints.{IsHint}
+use Rattle.advice.specs.Remarks.{remarks_on}
+use Rattle.advice.specs.declared.hint.Hint.{Hint}
+use Rattle.league.specs.declared.fault.LeagueFault.{LeagueFault}
 use Rattle.league.specs.League.{LeagueData, league_of, teams}
 use Rattle.texts.specs.Input.{lines_after, text_before}
 use Rattle.reports.specs.Given.{IsVerdict}
@@ -8,7 +12,7 @@ use Rattle.reports.specs.Report.{is_feasible}
 use Rattle.report_formats.specs.declared.format.Format.{Format}
 use Rattle.report_formats.specs.Format.{report_in}
 use Rattle.commands.specs.declared.fault.ProgramFault.{ProgramFault}
-use Rattle.commands.specs.declared.fault.ProgramFault.TheVariants.{League, NoSheet}
+use Rattle.commands.specs.declared.fault.ProgramFault.TheVariants.{League, LeagueAt, NoSheet, Memory}
 use Rattle.commands.specs.declared.judging.Verdict.{Verdict}
 use Rattle.commands.specs.declared.judging.Verdict.TheVariants.{Feasible, Infeasible}
 
@@ -21,21 +25,35 @@ abbrev pub IsToldOf : LeagueData → Option Games → Option Verdict → Type 0
 IsToldOf league games None = Unit {0}
 IsToldOf league games (Some verdict) = verdict ≡ verdict_of (is_feasible league games)
 
--- the report, in the format, of the double round robin that the lines give for the league, or the text of their faults, and
--- the verdict on them
-pub record IsReport (format : Format) (league : LeagueData) (lines : List (List ℕ)) (told : Option Verdict) (text : List ℕ) : Type 0 where
+-- the report, in the format, of the double round robin that the lines give for the league of the text, or the text of their
+-- faults, with remarks on the members that no format knows; and the verdict on the games
+pub record IsReport (format : Format) (league : LeagueData) (bytes : List ℕ) (lines : List (List ℕ)) (told : Option Verdict) (text : List ℕ) : Type 0 where
   pub games : Option Games
   pub given : IsVerdict (teams league) lines games
-  pub text_is : text ≡ report_in format league lines games
+  pub text_is : text ≡ report_in format league lines games (remarks_on bytes)
   pub verdict : IsToldOf league games told
 
+-- a league's text has this fault, with the hint on it
+pub record IsRefused (bytes : List ℕ) (fault : LeagueFault) (hint : Option Hint) : Type 0 where
+  pub fault_is : league_of bytes ≡ Err fault
+  pub hint_is : IsHint bytes fault hint
+
+-- a fault that a text has, and the hint where there is one, unless memory ran out
+abbrev pub IsRefusal : List ℕ → ProgramFault → Type 0
+IsRefusal bytes (League fault) = IsRefused bytes fault None
+IsRefusal bytes (LeagueAt fault hint) = IsRefused bytes fault (Some hint)
+IsRefusal bytes Memory = Unit {0}
+IsRefusal bytes fault = ⊥
+
 -- the report of the league before the first line that is `sheet` and of the lines after it, or the first fault of the league's
--- text, or that there is no such line
+-- text with its hint, or that there is no such line
 abbrev pub AnswersReport : Format → Option Verdict → List ℕ → Result (List ℕ) ProgramFault → Type 0
 AnswersReport format told input (Ok text) =
     (league : LeagueData) × (league_of (text_before (codes "sheet") input) ≡ Ok league)
-    × (lines : List (List ℕ)) × (lines_after (codes "sheet") input ≡ Some lines) × IsReport format league lines told text
-AnswersReport format told input (Err (League fault)) = league_of (text_before (codes "sheet") input) ≡ Err fault
+    × (lines : List (List ℕ)) × (lines_after (codes "sheet") input ≡ Some lines)
+    × IsReport format league (text_before (codes "sheet") input) lines told text
+AnswersReport format told input (Err (League fault)) = IsRefused (text_before (codes "sheet") input) fault None
+AnswersReport format told input (Err (LeagueAt fault hint)) = IsRefused (text_before (codes "sheet") input) fault (Some hint)
 AnswersReport format told input (Err NoSheet) =
     (league : LeagueData) × (league_of (text_before (codes "sheet") input) ≡ Ok league) × (lines_after (codes "sheet") input ≡ None)
 AnswersReport format told input (Err _) = ⊥

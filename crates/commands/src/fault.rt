@@ -4,6 +4,7 @@ ghost use Rattle.std.specs.Prelude.{◌≡◌};
 ghost use Rattle.commands.specs.declared.fault.ProgramFault.TheVariants.{Write, Memory};
 ghost use Rattle.commands.specs.Fault.{of_board, of_league, of_reading, of_run};
 
+use advice::Hint;
 use fixture_board::BoardFault;
 use league::LeagueFault;
 use search::RunFault;
@@ -23,6 +24,9 @@ pub enum ProgramFault {
     /// The input is no league.
     #[error("{0}")]
     League(LeagueFault),
+    /// The input is no league, and the hint tells where. It is a second line.
+    #[error("{0}\nttp: {1}")]
+    LeagueAt(LeagueFault, Hint),
     /// The input of a report has no line `sheet`.
     #[error("input has no sheet")]
     NoSheet,

@@ -1,11 +1,13 @@
 //! The command `report`.
 
-ghost use Rattle.std.specs.Prelude.{◌≡◌};
+ghost use Rattle.std.specs.Prelude.{◌≡◌, ◌≢◌, Err};
+ghost use Rattle.league.specs.League.{league_of};
 ghost use Rattle.commands.specs.Outcome.{value_of, without_value, Ends};
-ghost use Rattle.commands.specs.Report.{verdict_of, AnswersReport};
+ghost use Rattle.commands.specs.Report.{verdict_of, AnswersReport, IsRefusal};
 
 use crate::fault::ProgramFault;
-use league::read_league;
+use advice::{hint_on, remarks_on};
+use league::{LeagueFault, read_league};
 use report_formats::{Format, prepare, write_prepared};
 use reports::judge;
 use std::alloc::Global;
@@ -34,7 +36,8 @@ impl Verdict {
 }
 
 /// Reads a league, a line `sheet` and a schedule to the end of the source, and writes the report: the games and what they
-/// cost in the format where they are a double round robin of the league's teams, and else what is wrong with them, as text.
+/// cost in the format where they are a double round robin of the league's teams, and else what is wrong with them, as text. Behind
+/// a text stands a remark on each member of the league that no format knows. A league that is refused comes with a hint.
 /// Nothing is written before all other faults are past, and no memory is taken from then on.
 ///
 /// The outcome is that of [`report_from`], where what the source became is some later state.
@@ -62,13 +65,28 @@ pub fn report_from<R: Source, W: Sink>(
 {
     let input = read_all(alloc, source)?;
     let (text, sheet) = split_at_line(&input, b"sheet");
-    let league = read_league(alloc, text)?;
+    let league = match read_league(alloc, text) {
+        Ok(league) => league,
+        Err(fault) => return Err(refused(alloc, text, fault)),
+    };
     let Some(sheet) = sheet else {
         return Err(ProgramFault::NoSheet);
     };
     let judged = judge(alloc, &league, sheet)?;
     let verdict = Verdict::of(judged.is_feasible(&league));
-    let prepared = prepare(alloc, format, &league, &judged)?;
+    let prepared = prepare(alloc, format, &league, &judged, remarks_on(alloc, text)?)?;
     write_prepared(&league, sheet, &judged, &prepared, sink)?;
     Ok(verdict)
+}
+
+/// The fault of a league's text, with a hint on where it lies if there is one.
+fn refused(alloc: Global, text: &[u8], fault: LeagueFault) -> ProgramFault
+    requires { fault ≢ LeagueFault.Memory → league_of text.now ≡ Err fault }
+    ensures { IsRefusal text.now result }
+{
+    match hint_on(alloc, text, fault) {
+        Ok(Some(hint)) if fault != LeagueFault::Memory => ProgramFault::LeagueAt(fault, hint),
+        Ok(_) => ProgramFault::from(fault),
+        Err(_) => ProgramFault::Memory,
+    }
 }

@@ -1,10 +1,11 @@
 -- The report in a format.
-use Rattle.std.specs.Prelude.{ℕ, List, Option, Some, None, option_and_then}
+use Rattle.std.specs.Prelude.{◌≡◌, ℕ, List, ◌++◌, Option, Some, None, option_and_then, option_map}
 use Rattle.std.specs.Option.{unwrap_or}
 use Rattle.fixtures.specs.Games.{Games}
 use Rattle.league.specs.League.{LeagueData}
 use Rattle.reports.specs.Report.{report_text}
 use Rattle.report_formats.specs.declared.format.Format.{Format}
+use Rattle.report_formats.specs.declared.format.Prepared.{Prepared}
 use Rattle.report_formats.specs.declared.format.Format.TheVariants.{Text, Csv, Html}
 use Rattle.report_formats.specs.Page.{page_text}
 use Rattle.report_formats.specs.Table.{table_text}
@@ -15,6 +16,17 @@ prepared_of Text l g = None
 prepared_of Csv l g = Some (table_text l g)
 prepared_of Html l g = Some (page_text l g)
 
--- the report of the double round robin that the lines give, in the format, or else the faults of the text
-abbrev pub report_in : Format → LeagueData → List (List ℕ) → Option Games → List ℕ
-report_in format l lines games = unwrap_or (option_and_then (prepared_of format l) games) (report_text l lines games)
+-- the report of the double round robin that the lines give, in the format, or else the text of their faults; behind a text
+-- stand the remarks
+abbrev pub report_in : Format → LeagueData → List (List ℕ) → Option Games → List ℕ → List ℕ
+report_in format l lines games remarks =
+    unwrap_or (option_and_then (prepared_of format l) games) (report_text l lines games ++ remarks)
+
+-- this is what was prepared
+pub record IsPrepared (format : Format) (l : LeagueData) (games : Option Games) (remarks : List ℕ) (p : Prepared) : Type 0 where
+  pub whole_is : option_map (λ text. text.items) p.whole ≡ option_and_then (prepared_of format l) games
+  pub remarks_are : p.remarks.items ≡ remarks
+
+-- what was prepared, or the text and the remarks behind it
+abbrev pub text_with : Prepared → List ℕ → List ℕ
+text_with p text = unwrap_or (option_map (λ whole. whole.items) p.whole) (text ++ p.remarks.items)

@@ -1,7 +1,6 @@
 //! The formats of a report.
 
-ghost use Rattle.std.specs.Prelude.{◌≡◌, IfOk, IfSome, OnOk, OnErr, option_and_then, option_map};
-ghost use Rattle.std.specs.Option.{unwrap_or};
+ghost use Rattle.std.specs.Prelude.{◌≡◌, IfOk, IfSome, OnOk, OnErr, option_map};
 ghost use Rattle.std.specs.Io.KnownBytes.{Appends};
 ghost use Rattle.std.specs.Str.Lines.{lines};
 ghost use Rattle.league.specs.League.{teams};
@@ -9,7 +8,7 @@ ghost use Rattle.streams.specs.Limits.{write_limit};
 ghost use Rattle.streams.specs.Sending.{AppendsFront};
 ghost use Rattle.streams.specs.Tally.{FailsWriting};
 ghost use Rattle.reports.specs.Report.{report_text, IsJudgedBy};
-ghost use Rattle.report_formats.specs.Format.{prepared_of};
+ghost use Rattle.report_formats.specs.Format.{prepared_of, text_with, IsPrepared};
 
 use crate::page::page;
 use crate::table::table;
@@ -30,22 +29,32 @@ pub enum Format {
     Html,
 }
 
+/// What a report takes memory for.
+#[derive(Drop)]
+pub struct Prepared {
+    // the report, unless it is the text that `write_report` writes as it goes
+    whole: Option<Vec<u8>>,
+    // what stands behind that text
+    remarks: Vec<u8>,
+}
+
 /// Makes the report in the format, unless it is the text that [`write_report`] writes as it goes: in the format of text,
-/// and where the games are no double round robin. Takes memory for the whole report.
+/// and where the games are no double round robin. The remarks stand behind that text alone. Takes memory for the whole report.
 pub fn prepare(
     alloc: Global,
     format: Format,
     league: &League,
     judged: &Judged,
-) -> Result<Option<Vec<u8>>, AllocError>
+    remarks: Vec<u8>,
+) -> Result<Prepared, AllocError>
     requires { IfSome judged.now.schedule (λ s. s.teams ≡ teams league.now) }
-    ensures { IfOk result (λ prepared. option_map (λ text. text.items) prepared
-        ≡ option_and_then (prepared_of format league.now) judged.now.schedule) }
+    ensures { IfOk result (IsPrepared format league.now judged.now.schedule remarks.items) }
 {
-    match judged.schedule() {
-        Some(schedule) => prepare_schedule(alloc, format, league, schedule),
-        None => Ok(None),
-    }
+    let whole = match judged.schedule() {
+        Some(schedule) => prepare_schedule(alloc, format, league, schedule)?,
+        None => None,
+    };
+    Ok(Prepared { whole, remarks })
 }
 
 fn prepare_schedule(
@@ -64,24 +73,24 @@ fn prepare_schedule(
     }
 }
 
-/// Writes what was prepared, or else the report of what was judged as text, where this is the text that it was read from.
-/// Takes no memory. After a fault a front of the report went out.
+/// Writes what was prepared, or else the report of what was judged as text, where this is the text that it was read from, and
+/// the remarks. Takes no memory. After a fault a front of it went out.
 pub fn write_prepared<W: Sink>(
     league: &League,
     text: &[u8],
     judged: &Judged,
-    prepared: &Option<Vec<u8>>,
+    prepared: &Prepared,
     sink: &mut W,
 ) -> Result<(), WriteFault>
     requires { IsJudgedBy league.now (lines text.now) judged.now }
     ensures ok { OnOk result (Appends (W.held sink.old) (W.held sink.new)
-        (unwrap_or (option_map (λ text. text.items) prepared.now) (report_text league.now (lines text.now) judged.now.schedule))) }
+        (text_with prepared.now (report_text league.now (lines text.now) judged.now.schedule))) }
     ensures front { OnErr result (AppendsFront (W.held sink.old) (W.held sink.new)
-        (unwrap_or (option_map (λ text. text.items) prepared.now) (report_text league.now (lines text.now) judged.now.schedule))) }
+        (text_with prepared.now (report_text league.now (lines text.now) judged.now.schedule))) }
     ensures cause { OnErr result (FailsWriting write_limit (W.tally sink.old) (W.tally sink.new)) }
 {
-    match prepared {
+    match &prepared.whole {
         Some(bytes) => write_all(sink, bytes),
-        None => write_report(league, text, judged, sink),
+        None => write_report(league, text, judged, &prepared.remarks, sink),
     }
 }

@@ -11,4 +11,4 @@ mod parts;
 mod style;
 mod table;
 
-pub use format::{Format, prepare, write_prepared};
+pub use format::{Format, Prepared, prepare, write_prepared};

@@ -20,24 +20,40 @@ use league::League;
 use streams::{BufferedSink, Sink, WriteFault};
 use texts::write_sheet;
 
-/// Writes the report of what was judged, where this is the text that it was read from. Takes no memory. After a fault a
-/// front of the report went out.
+/// Writes the report of what was judged, where this is the text that it was read from, and behind it the remarks. Takes no
+/// memory. After a fault a front of both went out.
 pub fn write_report<W: Sink>(
     league: &League,
     text: &[u8],
     judged: &Judged,
+    remarks: &[u8],
     sink: &mut W,
 ) -> Result<(), WriteFault>
     requires { IsJudgedBy league.now (lines text.now) judged.now }
     ensures ok { OnOk result (Appends (W.held sink.old) (W.held sink.new)
-        (report_text league.now (lines text.now) judged.now.schedule)) }
+        (report_text league.now (lines text.now) judged.now.schedule ++ remarks.now)) }
     ensures front { OnErr result (AppendsFront (W.held sink.old) (W.held sink.new)
-        (report_text league.now (lines text.now) judged.now.schedule)) }
+        (report_text league.now (lines text.now) judged.now.schedule ++ remarks.now)) }
     ensures cause { OnErr result (FailsWriting write_limit (W.tally sink.old) (W.tally sink.new)) }
 {
     let mut out = BufferedSink::new(sink);
-    write_judged(&mut out, league, text, judged)?;
+    write_remarked(&mut out, league, text, judged, remarks)?;
     out.flush()
+}
+
+fn write_remarked<W: Sink>(
+    out: &mut BufferedSink<'_, W>,
+    league: &League,
+    text: &[u8],
+    judged: &Judged,
+    remarks: &[u8],
+) -> Result<(), WriteFault>
+    requires { IsJudgedBy league.now (lines text.now) judged.now }
+    ensures { Writes W.held W.tally out.old out.new result
+        (report_text league.now (lines text.now) judged.now.schedule ++ remarks.now) }
+{
+    write_judged(out, league, text, judged)?;
+    out.write(remarks)
 }
 
 fn write_judged<W: Sink>(

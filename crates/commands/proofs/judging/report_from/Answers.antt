@@ -19,7 +19,7 @@ returns-in_err-write_prepared g c =
         answered_report g.R.Source.left g.R.Source.tally g.W.Sink.held g.W.Sink.tally _ _ c.args.format c.in_ok-league.league (lines c.in-Some.sheet.now) c.in_ok-judged.judged.schedule None c.in_ok-input.input.items
             c.in_ok-input.ensures.taken c.in_ok-input.ensures.end (rw text_len at c.in_ok-input.ensures.within)
             (rw (c.split_at_line.ensures.before, c.deref.ensures.value) at c.in_ok-league.ensures.exact) (sym after) c.in_ok-judged.ensures.verdict tt,
-        rw (c.in_ok-prepared.ensures) at c.in_err-write_prepared.ensures.front,
+        rw (c.in_ok-prepared.ensures.whole_is, c.in_ok-prepared.ensures.remarks_are, c.in_ok-remarks_on.ensures, c.split_at_line.ensures.before, c.deref.ensures.value) at c.in_err-write_prepared.ensures.front,
         c.in_err-write_prepared.ensures.cause,
       );
       failed_read = λ rose. let read = c.in_ok-input.ensures.failed rose in cc;
@@ -37,7 +37,7 @@ returns g c =
             c.in_ok-input.ensures.taken c.in_ok-input.ensures.end (rw text_len at c.in_ok-input.ensures.within)
             (rw (c.split_at_line.ensures.before, c.deref.ensures.value) at c.in_ok-league.ensures.exact) (sym after) c.in_ok-judged.ensures.verdict
             (rw c.is_feasible.ensures at c.of-verdict.ensures),
-        rw (c.in_ok-prepared.ensures) at c.in_ok-write_prepared.ensures.ok,
+        rw (c.in_ok-prepared.ensures.whole_is, c.in_ok-prepared.ensures.remarks_are, c.in_ok-remarks_on.ensures, c.split_at_line.ensures.before, c.deref.ensures.value) at c.in_ok-write_prepared.ensures.ok,
       );
       failed_read = λ rose. let read = c.in_ok-input.ensures.failed rose in cc;
       reads = c.in_ok-input.ensures.calls;

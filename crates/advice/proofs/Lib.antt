@@ -1,0 +1,4 @@
+mod Added
+mod Firsts
+mod Items
+mod Texts

@@ -1,0 +1,9 @@
+-- No number so far has the fault.
+use Rattle.std.proofs.Common.{◌≡◌, None}
+use Rattle.serde_json.specs.View.{view}
+use Rattle.advice.specs.Distances.{entry_hint}
+use Rattle.advice.specs.Places.{first_below}
+use Rattle.advice.proofs.distances.row_hint.Given as goal
+
+abbrev pub invariant-loop-column : goal.invariant-loop-column
+invariant-loop-column l = first_below l.column (entry_hint l.fault (view l.table) l.row) ≡ None

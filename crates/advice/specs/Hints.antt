@@ -1,0 +1,57 @@
+-- Where a league's text has a fault.
+use Rattle.std.specs.Prelude.{◌≡◌, ℕ, ◌&&◌, List, codes, nat_le, Option, Some, None, option_map, option_and_then, IfSome}
+use Rattle.serde_json.specs.Data.{Data}
+use Rattle.serde_json.specs.Find.{get, at}
+use Rattle.league.specs.declared.fault.Field.{Field}
+use Rattle.league.specs.declared.fault.Field.TheVariants.{Distances}
+use Rattle.league.specs.declared.fault.LeagueFault.{LeagueFault}
+use Rattle.league.specs.declared.fault.LeagueFault.TheVariants.{WrongKind, DistanceShape, DistanceRange, Diagonal, Asymmetric, RuleClass, RuleValue}
+use Rattle.league.specs.Json.{json_of, only_if}
+use Rattle.league.specs.Limits.{max_teams}
+use Rattle.advice.specs.declared.hint.Hint.{Hint}
+use Rattle.advice.specs.declared.hint.Hint.TheVariants.{Text}
+use Rattle.advice.specs.Distances.{distances_hint}
+use Rattle.advice.specs.Places.{item_count}
+use Rattle.advice.specs.Rules.{class_hint, rule_hint}
+
+-- how many teams there are
+abbrev pub team_count : Data → Option ℕ
+team_count d = option_map item_count (get (codes "teams") d)
+
+-- the rule at an index
+abbrev pub rule_at : ℕ → Data → Option Data
+rule_at i d = option_and_then (at i) (get (codes "rules") d)
+
+abbrev pub table_hint_of : LeagueFault → Data → Option Hint
+table_hint_of fault d =
+    option_and_then (λ n. option_and_then (distances_hint fault n) (get (codes "distances") d)) (team_count d)
+
+-- a number of teams that a league may have, but for 0 at most
+abbrev pub within_most : ℕ → Option ℕ
+within_most n = only_if (nat_le 1 n && nat_le n max_teams) n
+
+abbrev pub rule_hint_of : ℕ → Data → Option Hint
+rule_hint_of i d =
+    option_and_then (λ rule. option_and_then (λ n. rule_hint i n rule) (option_and_then within_most (team_count d))) (rule_at i d)
+
+abbrev pub hint_of : LeagueFault → Data → Option Hint
+hint_of (WrongKind Distances) d = table_hint_of (WrongKind Distances) d
+hint_of DistanceShape d = table_hint_of DistanceShape d
+hint_of DistanceRange d = table_hint_of DistanceRange d
+hint_of Diagonal d = table_hint_of Diagonal d
+hint_of Asymmetric d = table_hint_of Asymmetric d
+hint_of (RuleClass i) d = option_map (class_hint i) (rule_at i d)
+hint_of (RuleValue i) d = rule_hint_of i d
+hint_of fault d = None
+
+-- the bytes are no JSON, and the hint is some line and column of theirs: `serde_json` tells which, and no clause of it says
+abbrev pub IsNoJson : List ℕ → Hint → Type 0
+IsNoJson bytes hint = (json_of bytes ≡ None) × (line column : ℕ) × (hint ≡ Text line column)
+
+abbrev pub IsHintOn : List ℕ → Option Data → LeagueFault → Option Hint → Type 0
+IsHintOn bytes (Some d) fault hint = hint ≡ hint_of fault d
+IsHintOn bytes None fault hint = IfSome hint (IsNoJson bytes)
+
+-- the hint on a text with this fault
+abbrev pub IsHint : List ℕ → LeagueFault → Option Hint → Type 0
+IsHint bytes fault hint = IsHintOn bytes (json_of bytes) fault hint

@@ -1,0 +1,7 @@
+pub mod Places
+pub mod Lines
+pub mod Distances
+pub mod Needs
+pub mod Rules
+pub mod Hints
+pub mod Remarks

@@ -1,0 +1,61 @@
+-- What the classes of rules ask of a rule's members, as tests by the words that read them.
+use Rattle.std.specs.Prelude.{ℕ, ◌||◌, List, codes, Bool, true, false, nat_le, Option, Some, None, is_some, option_and_then}
+use Rattle.std.specs.Str.{bytes_eq}
+use Rattle.serde_json.specs.Data.{Data}
+use Rattle.serde_json.specs.Find.{get}
+use Rattle.league.specs.Json.{number_within}
+use Rattle.league.specs.RuleMembers.{text_member, teams_member, opponents_member, slots_member, count_member, window_member}
+use Rattle.league.specs.RuleMembers.{one_side_member, any_side_member, each_member, games_member, weight_of}
+use Rattle.advice.specs.declared.hint.RuleMember.{RuleMember}
+use Rattle.advice.specs.declared.hint.RuleMember.TheVariants as member
+use Rattle.advice.specs.declared.needs.Need.{Need}
+use Rattle.advice.specs.declared.needs.Need.TheVariants as need
+
+abbrev pub member_of : Need → RuleMember
+member_of need.Kind = member.Kind
+member_of need.Weight = member.Weight
+member_of need.Teams = member.Teams
+member_of need.Teams1 = member.Teams1
+member_of need.Opponents = member.Teams2
+member_of need.Slots = member.Slots
+member_of need.HomeOrAway = member.Mode
+member_of need.Side = member.Mode
+member_of need.SlotChoice = member.Mode2
+member_of need.Games = member.Games
+member_of need.Window = member.Intp
+member_of need.Most = member.Intp
+member_of need.Min = member.Min
+member_of need.Max = member.Max
+member_of need.MaxFromMin = member.Max
+
+-- a kind that there is
+abbrev pub is_kind : Option (List ℕ) → Bool
+is_kind None = false
+is_kind (Some kind) = bytes_eq kind (codes "hard") || bytes_eq kind (codes "soft")
+
+abbrev pub number_member : List ℕ → ℕ → ℕ → Data → Option ℕ
+number_member name low high d = option_and_then (number_within low high) (get name d)
+
+-- a least and a most number, where both are there, are in order
+abbrev pub are_in_order : Option ℕ → Option ℕ → Bool
+are_in_order (Some min) (Some max) = nat_le min max
+are_in_order (Some min) None = true
+are_in_order None max = true
+
+-- whether a rule of n teams meets a need
+abbrev pub is_met : ℕ → Data → Need → Bool
+is_met n d need.Kind = is_kind (text_member (codes "kind") d)
+is_met n d need.Weight = is_some (weight_of d)
+is_met n d need.Teams = is_some (teams_member n (codes "teams") d)
+is_met n d need.Teams1 = is_some (teams_member n (codes "teams1") d)
+is_met n d need.Opponents = is_some (opponents_member n d)
+is_met n d need.Slots = is_some (slots_member n d)
+is_met n d need.HomeOrAway = is_some (one_side_member d)
+is_met n d need.Side = is_some (any_side_member d)
+is_met n d need.SlotChoice = is_some (each_member d)
+is_met n d need.Games = is_some (games_member n d)
+is_met n d need.Window = is_some (window_member n d)
+is_met n d need.Most = is_some (count_member (codes "intp") d)
+is_met n d need.Min = is_some (count_member (codes "min") d)
+is_met n d need.Max = is_some (count_member (codes "max") d)
+is_met n d need.MaxFromMin = are_in_order (count_member (codes "min") d) (count_member (codes "max") d)

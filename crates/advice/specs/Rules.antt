@@ -1,0 +1,52 @@
+-- Which member of a rule is wrong.
+use Rattle.std.specs.Prelude.{ℕ, ◌+◌, List, [], ◌∷◌, codes, not, Bool, Option, Some, None, is_some, option_map, option_and_then, if◌then◌else◌}
+use Rattle.std.specs.Str.{bytes_eq}
+use Rattle.serde_json.specs.Data.{Data}
+use Rattle.serde_json.specs.Find.{get}
+use Rattle.league.specs.RuleMembers.{text_member}
+use Rattle.advice.specs.declared.hint.Hint.{Hint}
+use Rattle.advice.specs.declared.hint.Hint.TheVariants as hint
+use Rattle.advice.specs.declared.hint.RuleMember.{RuleMember}
+use Rattle.advice.specs.declared.hint.RuleMember.TheVariants as member
+use Rattle.advice.specs.declared.needs.Need.{Need}
+use Rattle.advice.specs.declared.needs.Need.TheVariants as need
+use Rattle.advice.specs.Lines.{rule_member_name}
+use Rattle.advice.specs.Needs.{is_met, member_of}
+use Rattle.advice.specs.Places.{or_else}
+
+-- the first of the needs that a rule of n teams doesn't meet
+abbrev pub first_unmet : ℕ → Data → List Need → Option Need
+first_unmet n d [] = None
+first_unmet n d (x ∷ xs) = if is_met n d x then first_unmet n d xs else Some x
+
+-- what the class of this name asks for, besides kind and weight
+abbrev pub needs_of : List ℕ → Option (List Need)
+needs_of name =
+    if bytes_eq name (codes "CA1") then Some (need.Teams ∷ need.HomeOrAway ∷ need.Slots ∷ need.Max ∷ []) else
+    (if bytes_eq name (codes "CA2") then Some (need.Teams1 ∷ need.Side ∷ need.Opponents ∷ need.Slots ∷ need.Max ∷ []) else
+    (if bytes_eq name (codes "CA3") then Some (need.Teams1 ∷ need.Side ∷ need.Opponents ∷ need.Window ∷ need.Max ∷ []) else
+    (if bytes_eq name (codes "CA4") then Some (need.Teams1 ∷ need.Side ∷ need.Opponents ∷ need.Slots ∷ need.SlotChoice ∷ need.Max ∷ []) else
+    (if bytes_eq name (codes "GA1") then Some (need.Games ∷ need.Slots ∷ need.Min ∷ need.Max ∷ need.MaxFromMin ∷ []) else
+    (if bytes_eq name (codes "BR1") then Some (need.Teams ∷ need.Side ∷ need.Slots ∷ need.Most ∷ []) else
+    (if bytes_eq name (codes "BR2") then Some (need.Teams ∷ need.Slots ∷ need.Most ∷ []) else
+    (if bytes_eq name (codes "SE1") then Some (need.Teams ∷ need.Min ∷ []) else
+    (if bytes_eq name (codes "FA2") then Some (need.Teams ∷ need.Slots ∷ need.Most ∷ []) else None))))))))
+
+-- the first need that isn't met: of kind and weight, and then of what the class asks for
+abbrev pub unmet_of : ℕ → Data → List Need → Option Need
+unmet_of n d needs = or_else (first_unmet n d (need.Kind ∷ need.Weight ∷ [])) (first_unmet n d needs)
+
+-- of a rule whose class some format knows
+abbrev pub unmet : ℕ → Data → Option Need
+unmet n d = option_and_then (unmet_of n d) (option_and_then needs_of (text_member (codes "class") d))
+
+abbrev pub member_hint : ℕ → Data → RuleMember → Hint
+member_hint i d member = hint.Rule (i + 1) member (not (is_some (get (rule_member_name member) d)))
+
+-- the rule at an index has no class that is known
+abbrev pub class_hint : ℕ → Data → Hint
+class_hint i d = member_hint i d member.Class
+
+-- the rule at an index has a wrong value
+abbrev pub rule_hint : ℕ → ℕ → Data → Option Hint
+rule_hint i n d = option_map (λ x. member_hint i d (member_of x)) (unmet n d)

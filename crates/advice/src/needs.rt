@@ -1,0 +1,195 @@
+//! What the classes of rules ask of a rule's members.
+
+ghost use Rattle.std.specs.Prelude.{◌≡◌, ◌≤◌, codes, is_some};
+ghost use Rattle.serde_json.specs.Find.{get};
+ghost use Rattle.serde_json.specs.View.{view};
+ghost use Rattle.league.specs.Limits.{max_teams, max_count};
+ghost use Rattle.league.specs.RuleMembers.{text_member, teams_member, set_or_all, count_member, one_side_member, any_side_member, each_member, games_member, weight_of};
+ghost use Rattle.advice.specs.Needs.{member_of, is_kind, number_member, are_in_order, is_met};
+
+use crate::forms::{is_game_array, is_number_set, number_within, text_member};
+use crate::hint::RuleMember;
+use league::limits::{MAX_COUNT, MAX_WEIGHT};
+use serde_json::Value;
+
+/// What a class asks of a member.
+#[derive(Clone, Copy)]
+pub(crate) enum Need {
+    /// `kind` is `"hard"` or `"soft"`.
+    Kind,
+    /// A soft rule has a `weight`.
+    Weight,
+    /// `teams` are numbers of teams.
+    Teams,
+    /// `teams1` are.
+    Teams1,
+    /// `teams2` are, if they are there.
+    Opponents,
+    /// `slots` are numbers of rounds, if they are there.
+    Slots,
+    /// `mode` is `"H"` or `"A"`.
+    HomeOrAway,
+    /// `mode` is `"H"`, `"A"` or `"HA"`.
+    Side,
+    /// `mode2` is `"EVERY"` or `"GLOBAL"`.
+    SlotChoice,
+    /// `games` are pairs of teams.
+    Games,
+    /// `intp` is a number of rounds.
+    Window,
+    /// `intp` is a count.
+    Most,
+    /// `min` is a count.
+    Min,
+    /// `max` is a count.
+    Max,
+    /// `max` isn't below `min`.
+    MaxFromMin,
+}
+
+impl Need {
+    /// The member that it is about.
+    pub(crate) fn member(self) -> RuleMember
+        ensures { result ≡ member_of self }
+    {
+        match self {
+            Need::Kind => RuleMember::Kind,
+            Need::Weight => RuleMember::Weight,
+            Need::Teams => RuleMember::Teams,
+            Need::Teams1 => RuleMember::Teams1,
+            Need::Opponents => RuleMember::Teams2,
+            Need::Slots => RuleMember::Slots,
+            Need::HomeOrAway | Need::Side => RuleMember::Mode,
+            Need::SlotChoice => RuleMember::Mode2,
+            Need::Games => RuleMember::Games,
+            Need::Window | Need::Most => RuleMember::Intp,
+            Need::Min => RuleMember::Min,
+            Need::Max | Need::MaxFromMin => RuleMember::Max,
+        }
+    }
+
+    /// Whether a rule of a league of so many teams meets it.
+    pub(crate) fn is_met(self, rule: &Value, teams: u8) -> bool
+        requires least { 1 ≤ teams }
+        requires most { teams ≤ max_teams }
+        ensures { result ≡ is_met teams (view rule.now) self }
+    {
+        let most = u64::from(teams);
+        let rounds = 2 * (most - 1);
+        match self {
+            Need::Kind => has_kind(rule),
+            Need::Weight => has_weight(rule),
+            Need::Teams => has_teams(rule, "teams", most),
+            Need::Teams1 => has_teams(rule, "teams1", most),
+            Need::Opponents => has_set_or_none(rule, "teams2", most),
+            Need::Slots => has_set_or_none(rule, "slots", rounds),
+            Need::HomeOrAway => has_home_or_away(rule),
+            Need::Side => has_side(rule),
+            Need::SlotChoice => has_slot_choice(rule),
+            Need::Games => has_games(rule, most),
+            Need::Window => has_number(rule, "intp", 1, rounds),
+            Need::Most => has_number(rule, "intp", 0, MAX_COUNT.into()),
+            Need::Min => has_number(rule, "min", 0, MAX_COUNT.into()),
+            Need::Max => has_number(rule, "max", 0, MAX_COUNT.into()),
+            Need::MaxFromMin => has_max_from_min(rule),
+        }
+    }
+}
+
+fn has_kind(rule: &Value) -> bool
+    ensures { result ≡ is_kind (text_member (codes "kind") (view rule.now)) }
+{
+    match text_member(rule, "kind") {
+        Some("hard") | Some("soft") => true,
+        _ => false,
+    }
+}
+
+/// Whether the rule is hard, or soft with a weight.
+fn has_weight(rule: &Value) -> bool
+    ensures { result ≡ is_some (weight_of (view rule.now)) }
+{
+    match text_member(rule, "kind") {
+        Some("hard") => true,
+        Some("soft") => has_number(rule, "weight", 1, MAX_WEIGHT.into()),
+        _ => false,
+    }
+}
+
+fn has_home_or_away(rule: &Value) -> bool
+    ensures { result ≡ is_some (one_side_member (view rule.now)) }
+{
+    match text_member(rule, "mode") {
+        Some("H") | Some("A") => true,
+        _ => false,
+    }
+}
+
+fn has_side(rule: &Value) -> bool
+    ensures { result ≡ is_some (any_side_member (view rule.now)) }
+{
+    match text_member(rule, "mode") {
+        Some("H") | Some("A") | Some("HA") => true,
+        _ => false,
+    }
+}
+
+fn has_slot_choice(rule: &Value) -> bool
+    ensures { result ≡ is_some (each_member (view rule.now)) }
+{
+    match text_member(rule, "mode2") {
+        Some("EVERY") | Some("GLOBAL") => true,
+        _ => false,
+    }
+}
+
+fn has_teams(rule: &Value, name: &str, teams: u64) -> bool
+    ensures { result ≡ is_some (teams_member teams name.now (view rule.now)) }
+{
+    match rule.get(name) {
+        Some(member) => is_number_set(member, teams),
+        None => false,
+    }
+}
+
+fn has_set_or_none(rule: &Value, name: &str, most: u64) -> bool
+    ensures { result ≡ is_some (set_or_all most (get name.now (view rule.now))) }
+{
+    match rule.get(name) {
+        Some(member) => is_number_set(member, most),
+        None => true,
+    }
+}
+
+fn has_games(rule: &Value, teams: u64) -> bool
+    ensures { result ≡ is_some (games_member teams (view rule.now)) }
+{
+    match rule.get("games") {
+        Some(member) => is_game_array(member, teams),
+        None => false,
+    }
+}
+
+fn has_number(rule: &Value, name: &str, low: u64, high: u64) -> bool
+    ensures { result ≡ is_some (number_member name.now low high (view rule.now)) }
+{
+    number_member(rule, name, low, high).is_some()
+}
+
+/// Whether `max` isn't below `min`, or one of the two is no count.
+fn has_max_from_min(rule: &Value) -> bool
+    ensures { result ≡ are_in_order (count_member (codes "min") (view rule.now)) (count_member (codes "max") (view rule.now)) }
+{
+    let min = number_member(rule, "min", 0, MAX_COUNT.into());
+    let max = number_member(rule, "max", 0, MAX_COUNT.into());
+    match (min, max) {
+        (Some(min), Some(max)) => min <= max,
+        _ => true,
+    }
+}
+
+fn number_member(rule: &Value, name: &str, low: u64, high: u64) -> Option<u64>
+    ensures { result ≡ number_member name.now low high (view rule.now) }
+{
+    number_within(rule.get(name)?, low, high)
+}

@@ -1,0 +1,107 @@
+//! Which member of a rule is wrong.
+
+ghost use Rattle.std.specs.Prelude.{◌≡◌, ◌≤◌, option_map};
+ghost use Rattle.serde_json.specs.View.{view};
+ghost use Rattle.league.specs.Limits.{max_teams};
+ghost use Rattle.advice.specs.Rules.{first_unmet, needs_of, unmet, member_hint, class_hint, rule_hint};
+
+use crate::forms::text_member;
+use crate::hint::{Hint, RuleMember};
+use crate::needs::Need;
+use serde_json::Value;
+
+/// Where the rule at an index lacks a class that is known.
+pub(crate) fn class_hint(rule: &Value, index: u8) -> Hint
+    ensures { result ≡ class_hint index (view rule.now) }
+{
+    member_hint(rule, index, RuleMember::Class)
+}
+
+/// Where the rule at an index, of a league of so many teams, has a wrong value.
+pub(crate) fn rule_hint(rule: &Value, teams: u8, index: u8) -> Option<Hint>
+    requires least { 1 ≤ teams }
+    requires most { teams ≤ max_teams }
+    ensures { result ≡ rule_hint index teams (view rule.now) }
+{
+    let need = unmet(rule, teams)?;
+    Some(member_hint(rule, index, need.member()))
+}
+
+fn member_hint(rule: &Value, index: u8, member: RuleMember) -> Hint
+    ensures { result ≡ member_hint index (view rule.now) member }
+{
+    Hint::Rule {
+        rule: u16::from(index) + 1,
+        member,
+        absent: rule.get(member.name()).is_none(),
+    }
+}
+
+/// The first need of the rule that isn't met, if some format knows its class: of its kind and weight, and then what the class asks for.
+fn unmet(rule: &Value, teams: u8) -> Option<Need>
+    requires least { 1 ≤ teams }
+    requires most { teams ≤ max_teams }
+    ensures { result ≡ unmet teams (view rule.now) }
+{
+    let needs = needs_of(text_member(rule, "class")?)?;
+    match first_unmet(rule, teams, &[Need::Kind, Need::Weight]) {
+        Some(need) => Some(need),
+        None => first_unmet(rule, teams, needs),
+    }
+}
+
+/// What a class asks for, besides kind and weight.
+fn needs_of(class: &str) -> Option<&'static [Need]>
+    ensures { option_map (λ needs. needs.now) result ≡ needs_of class.now }
+{
+    match class {
+        "CA1" => Some(&[Need::Teams, Need::HomeOrAway, Need::Slots, Need::Max]),
+        "CA2" => Some(&[
+            Need::Teams1,
+            Need::Side,
+            Need::Opponents,
+            Need::Slots,
+            Need::Max,
+        ]),
+        "CA3" => Some(&[
+            Need::Teams1,
+            Need::Side,
+            Need::Opponents,
+            Need::Window,
+            Need::Max,
+        ]),
+        "CA4" => Some(&[
+            Need::Teams1,
+            Need::Side,
+            Need::Opponents,
+            Need::Slots,
+            Need::SlotChoice,
+            Need::Max,
+        ]),
+        "GA1" => Some(&[
+            Need::Games,
+            Need::Slots,
+            Need::Min,
+            Need::Max,
+            Need::MaxFromMin,
+        ]),
+        "BR1" => Some(&[Need::Teams, Need::Side, Need::Slots, Need::Most]),
+        "BR2" | "FA2" => Some(&[Need::Teams, Need::Slots, Need::Most]),
+        "SE1" => Some(&[Need::Teams, Need::Min]),
+        _ => None,
+    }
+}
+
+/// The first of the needs that the rule doesn't meet.
+fn first_unmet(rule: &Value, teams: u8, needs: &[Need]) -> Option<Need>
+    requires least { 1 ≤ teams }
+    requires most { teams ≤ max_teams }
+    ensures { result ≡ first_unmet teams (view rule.now) needs.now }
+{
+    for need in needs {
+        if !need.is_met(rule, teams) {
+            return Some(*need);
+        }
+    }
+    None
+}
