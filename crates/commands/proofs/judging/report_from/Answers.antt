@@ -16,9 +16,9 @@ returns-in_err-write_prepared g c =
     Write _ c.from_residual-in_err-write_prepared.ensures.1 (record {
       ending = (
         _,
-        answered_report g.R.Source.left g.R.Source.tally g.W.Sink.held g.W.Sink.tally _ _ c.args.format c.in_ok-league.league (lines c.in-Some.sheet.now) c.in_ok-judged.judged.schedule None c.in_ok-input.input.items
+        answered_report g.R.Source.left g.R.Source.tally g.W.Sink.held g.W.Sink.tally _ _ c.args.format c.in-Ok.league (lines c.in-Some.sheet.now) c.in_ok-judged.judged.schedule None c.in_ok-input.input.items
             c.in_ok-input.ensures.taken c.in_ok-input.ensures.end (rw text_len at c.in_ok-input.ensures.within)
-            (rw (c.split_at_line.ensures.before, c.deref.ensures.value) at c.in_ok-league.ensures.exact) (sym after) c.in_ok-judged.ensures.verdict tt,
+            (rw (c.split_at_line.ensures.before, c.deref.ensures.value) at c.in-Ok.ensures.exact) (sym after) c.in_ok-judged.ensures.verdict tt,
         rw (c.in_ok-prepared.ensures.whole_is, c.in_ok-prepared.ensures.remarks_are, c.in_ok-remarks_on.ensures, c.split_at_line.ensures.before, c.deref.ensures.value) at c.in_err-write_prepared.ensures.front,
         c.in_err-write_prepared.ensures.cause,
       );
@@ -33,9 +33,9 @@ returns g c =
     record {
       ending = (
         _,
-        answered_report g.R.Source.left g.R.Source.tally g.W.Sink.held g.W.Sink.tally _ _ c.args.format c.in_ok-league.league (lines c.in-Some.sheet.now) c.in_ok-judged.judged.schedule (Some c.of-verdict.result) c.in_ok-input.input.items
+        answered_report g.R.Source.left g.R.Source.tally g.W.Sink.held g.W.Sink.tally _ _ c.args.format c.in-Ok.league (lines c.in-Some.sheet.now) c.in_ok-judged.judged.schedule (Some c.of-verdict.result) c.in_ok-input.input.items
             c.in_ok-input.ensures.taken c.in_ok-input.ensures.end (rw text_len at c.in_ok-input.ensures.within)
-            (rw (c.split_at_line.ensures.before, c.deref.ensures.value) at c.in_ok-league.ensures.exact) (sym after) c.in_ok-judged.ensures.verdict
+            (rw (c.split_at_line.ensures.before, c.deref.ensures.value) at c.in-Ok.ensures.exact) (sym after) c.in_ok-judged.ensures.verdict
             (rw c.is_feasible.ensures at c.of-verdict.ensures),
         rw (c.in_ok-prepared.ensures.whole_is, c.in_ok-prepared.ensures.remarks_are, c.in_ok-remarks_on.ensures, c.split_at_line.ensures.before, c.deref.ensures.value) at c.in_ok-write_prepared.ensures.ok,
       );
