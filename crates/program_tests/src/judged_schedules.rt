@@ -223,6 +223,6 @@ fn league_without_a_sheet_has_no_report(rt: HostRuntime) {
         &rt,
         rt.alloc(),
         "sheet\n",
-        ProgramFault::League(league::LeagueFault::NotJson),
+        ProgramFault::LeagueAt(league::LeagueFault::NotJson, advice::Hint::Text { line: 1, column: 0 }),
     );
 }
