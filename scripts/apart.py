@@ -305,8 +305,28 @@ def runs(team, row, at_most):
         first += length
 
 
+KNOWN = set("format teams distances at_most hard_weight rules start phased".split())
+KNOWN_IN_RULE = set("class kind weight teams teams1 teams2 slots mode mode2 max min intp games".split())
+
+
+def remarks(league):
+    """A line for each member that no format knows."""
+    owners = [("the league", league, KNOWN)]
+    owners += [(f"rule {i}", rule, KNOWN_IN_RULE) for i, rule in enumerate(league.get("rules", []), 1)]
+    for owner, members, known in owners:
+        for name in sorted(members.keys() - known, key=lambda name: name.encode()):
+            shown_name = "".join("?" if ord(c) < 32 or ord(c) == 127 else c for c in name)
+            yield f"remark: {owner} has a member {shown_name}, which is not read"
+
+
 def report(text, lines):
     """The exit status and the lines of the report of a league's text, which has to be one, and the lines after `sheet`."""
+    status, said = judged(text, lines)
+    return status, [*said, *remarks(json.loads(text))]
+
+
+def judged(text, lines):
+    """The same without the remarks."""
     league = json.loads(text)
     teams = len(league["teams"])
     faults, games = schedule_faults(teams, lines)

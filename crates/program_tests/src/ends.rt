@@ -6,6 +6,7 @@ ghost use Rattle.std.specs.Prelude.{None};
 use crate::checks::check_same_of;
 use crate::samples::{FIND, PLAY, REPORT, START, TABLE};
 use crate::told::{Answer, Case, Command};
+use advice::Hint;
 use commands::{ProgramFault, find_from, play_from, report_from, start_from};
 use league::LeagueFault;
 use std::alloc::{AllocError, Global};
@@ -261,14 +262,27 @@ fn each_command_leaves_a_front_where_a_write_takes_nothing(rt: HostRuntime) -> R
     Ok(())
 }
 
-/// What no command takes for an input, and why.
-const REFUSED: [(&[u8], ProgramFault); 2] = [
-    (b"", ProgramFault::League(LeagueFault::NotJson)),
+/// What no command takes for a league, why, and where the fault lies.
+const REFUSED: [(&[u8], LeagueFault, Option<Hint>); 2] = [
+    (
+        b"",
+        LeagueFault::NotJson,
+        Some(Hint::Text { line: 1, column: 0 }),
+    ),
     (
         br#"{"format":1,"teams":["A","B","C"],"distances":[]}"#,
-        ProgramFault::League(LeagueFault::TeamCount),
+        LeagueFault::TeamCount,
+        None,
     ),
 ];
+
+/// What a command answers to a league with this fault. Only a report tells where it lies.
+fn refusal(command: Command, fault: LeagueFault, hint: Option<Hint>) -> ProgramFault {
+    match (command, hint) {
+        (Command::Report(_), Some(hint)) => ProgramFault::LeagueAt(fault, hint),
+        _ => ProgramFault::League(fault),
+    }
+}
 
 fn check_no_write<T: Threads + Wait + Sync + Abort>(
     rt: &T,
@@ -289,8 +303,8 @@ fn check_no_writes<T: Threads + Wait + Sync + Abort>(
     too_long: &[u8],
 ) -> Result<(), Fail> {
     check_no_write(rt, alloc, command, (too_long, ProgramFault::TooLong))?;
-    for refused in REFUSED {
-        check_no_write(rt, alloc, command, refused)?;
+    for (input, fault, hint) in REFUSED {
+        check_no_write(rt, alloc, command, (input, refusal(command, fault, hint)))?;
     }
     Ok(())
 }

@@ -5,7 +5,8 @@ use crate::circle::{CIRCLE, SHEET};
 use crate::samples::{COST, JUDGED, REPORT};
 use crate::told::Text::Whole;
 use crate::told::{Case, Command, NOTHING, TEXT_REPORT, Text, check_case, check_cases};
-use commands::ProgramFault::{League, NoSheet};
+use advice::Hint;
+use commands::ProgramFault::{LeagueAt, NoSheet};
 use commands::{Format, Verdict};
 use league::LeagueFault::NotJson;
 use std::test::Fail;
@@ -158,7 +159,7 @@ const CASES: &[Case<'_>] = &[
     (
         Command::Report(Format::Text),
         &["sheet\n"],
-        Err(League(NotJson)),
+        Err(LeagueAt(NotJson, Hint::Text { line: 1, column: 0 })),
         NOTHING,
     ),
 ];

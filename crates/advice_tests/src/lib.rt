@@ -1,0 +1,7 @@
+//! Tests of the advice on a league's text, by itself and in a report.
+#![tactic(auto)]
+
+#[cfg(test)]
+mod hints;
+#[cfg(test)]
+mod remarks;
