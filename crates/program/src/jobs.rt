@@ -9,7 +9,7 @@ ghost use Rattle.program.specs.Program.{is_report, told_in, EndsJob};
 
 use command_line::Job;
 use commands::{
-    ImprovePlan, ProgramFault, ProgressLine, SearchPlan, Sink, Source, Verdict, find, find_with,
+    ImprovePlan, MIN_EFFORT, ProgramFault, ProgressLine, SearchPlan, Sink, Source, Verdict, find, find_with,
     improve, improve_with, play, report, start,
 };
 use std::alloc::Global;
@@ -94,7 +94,7 @@ fn improved<
     sink: &mut W,
     plan: ImprovePlan,
 ) -> Result<(), ProgramFault>
-    requires effort { 1280 ≤ plan.effort }
+    requires effort { MIN_EFFORT ≤ plan.effort }
     ensures { (after : R)
         × EndsImprove R.left R.tally W.held W.tally plan source after sink.old sink.new result }
 {
