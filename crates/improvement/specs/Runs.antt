@@ -98,11 +98,18 @@ leads_by None None fewer = fewer
 unfoldable pub leads : PhaseOutcome → PhaseOutcome → Bool
 leads a b = leads_by a.best b.best (nat_lt a.hard b.hard)
 
--- the better of a history and that of one more run
+-- whether an outcome is better than the one that leads, or is the first
+abbrev pub is_behind : Option PhaseOutcome → PhaseOutcome → Bool
+is_behind None outcome = true
+is_behind (Some leading) outcome = leads outcome leading
+
+-- the second history where its outcome is better than that of the one that leads
+abbrev pub ahead : LeagueData → Option (List Entry) → List Entry → List Entry
+ahead league leading h =
+    if is_behind (option_map (outcome_of league) leading) (outcome_of league h) then h else unwrap_or leading []
+
 abbrev pub lead_after : LeagueData → Option (List Entry) → PhaseRun → Option (List Entry)
-lead_after league None run = Some run.history
-lead_after league (Some h) run =
-    Some (if leads (outcome_of league run.history) (outcome_of league h) then run.history else h)
+lead_after league leading run = Some (ahead league leading run.history)
 
 -- the history of the first run that no other is better than
 unfoldable pub lead_of : LeagueData → List PhaseRun → Option (List Entry)

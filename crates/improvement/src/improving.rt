@@ -1,15 +1,17 @@
 //! The improvement of a league's schedule.
 
-ghost use Rattle.std.specs.Prelude.{◌≡◌, ◌≤◌};
+ghost use Rattle.std.specs.Prelude.{◌≤◌};
+ghost use Rattle.improvement.specs.Kept.{EndsBy, HasRunAll, HasWritten};
 ghost use Rattle.improvement.specs.Outcome.{Improves};
+ghost use Rattle.improvement.specs.Runs.{IsWorkers};
 
-use crate::course::Course;
-use crate::lead::lead_board;
+use crate::chains::Chains;
+use crate::lead::Lead;
 use crate::phase_text::write_phase;
 use crate::plan::{ImproveFault, ImprovePlan};
 use crate::setting::Setting;
 use league::League;
-use phases::MIN_EFFORT;
+use phases::{MIN_EFFORT, Policy};
 use search::{Gate, MAX_WORKERS};
 use std::alloc::Global;
 use std::sync::Wait;
@@ -40,36 +42,47 @@ pub fn improve<T: Threads + Wait + Sync, G: Gate + Sync, W: Sink>(
         league: &league,
         plan,
     };
-    let mut out = BufferedSink::new(sink);
-    let course = run_all(&setting, &mut out)?;
-    write_end(&setting, &mut out, &course)
+    run_and_write(&setting, &mut BufferedSink::new(sink))
 }
 
-/// Runs all phases, and writes what is to be written of each when it has ended.
-fn run_all<T: Threads + Wait + Sync, G: Gate + Sync, W: Sink>(
+/// Runs all phases, and writes what they come to, each as it has ended and then all together.
+fn run_and_write<T: Threads + Wait + Sync, G: Gate + Sync, W: Sink>(
     setting: &Setting<'_, T, G>,
     out: &mut BufferedSink<'_, W>,
-) -> Result<Course, ImproveFault> {
-    let mut course = Course::new(setting.alloc, setting.league, setting.plan)?;
-    while let Some(phase) = course.policy.next() {
-        let ended = course.chains.run(setting, phase)?;
-        write_phase(out, setting.plan.workers, course.least(), &ended)?;
-        course.keep(setting.alloc, ended)?;
-    }
-    Ok(course)
-}
-
-/// Writes the history that all phases together came to, the sheet of its best schedule, and its best version.
-fn write_end<T, G, W: Sink>(
-    setting: &Setting<'_, T, G>,
-    out: &mut BufferedSink<'_, W>,
-    course: &Course,
-) -> Result<(), ImproveFault> {
-    let Some(lead) = &course.lead else {
-        return Ok(());
-    };
-    let board = lead_board(setting, lead)?;
+) -> Result<(), ImproveFault>
+    requires workers { IsWorkers setting.now.plan }
+    requires effort { MIN_EFFORT ≤ setting.now.plan.effort }
+    ensures { EndsBy W.held W.tally setting.now.league.now setting.now.plan out.old out.new
+        (HasWritten W.held W.tally setting.now.league.now setting.now.plan out.old out.new) result }
+{
+    let lead = run_all(setting, out)?;
+    let board = lead.board(setting)?;
     write_found(out, &board)?;
     out.flush()?;
     Ok(())
+}
+
+/// Runs all phases, and writes what each comes to as it has ended.
+fn run_all<T: Threads + Wait + Sync, G: Gate + Sync, W: Sink>(
+    setting: &Setting<'_, T, G>,
+    out: &mut BufferedSink<'_, W>,
+) -> Result<Lead, ImproveFault>
+    requires workers { IsWorkers setting.now.plan }
+    requires effort { MIN_EFFORT ≤ setting.now.plan.effort }
+    ensures { EndsBy W.held W.tally setting.now.league.now setting.now.plan out.old out.new
+        (HasRunAll W.held W.tally setting.now.league.now setting.now.plan out.old out.new) result }
+{
+    let Setting { alloc, plan, .. } = *setting;
+    let mut policy = Policy::new(setting.league, plan.seed, plan.effort);
+    let mut chains = Chains::new(alloc)?;
+    let mut lead = Lead::none(alloc);
+    while let Some(phase) = policy.next() {
+        let ended = chains.run(setting, phase)?;
+        write_phase(out, plan.workers, lead.least(), &ended)?;
+        let outcome = ended.outcome();
+        policy.tell(outcome);
+        lead.meet(alloc, &ended.board, outcome)?;
+        chains.keep(phase.chain, ended.board);
+    }
+    Ok(lead)
 }

@@ -1,13 +1,15 @@
 //! The best of the histories that the phases ended with.
 
-ghost use Rattle.std.specs.Prelude.{◌≡◌, ◌≤◌, [], Some, length, nat_lt, take, IfOk, IfErr};
-ghost use Rattle.fixture_board.specs.History.{IsLegal};
+ghost use Rattle.std.specs.Prelude.{◌≡◌, ◌≤◌, ℕ, List, [], Option, Some, None, length, take, IfOk, IfErr, OnOk};
+ghost use Rattle.league.specs.League.{LeagueData};
+ghost use Rattle.fixture_board.specs.declared.change.Entry.{Entry};
 ghost use Rattle.fixture_board.specs.Record.{book};
 ghost use Rattle.fixture_board.specs.Replay.{changes_of};
 ghost use Rattle.fixture_board.specs.Replies.{ask_of, played_from};
 ghost use Rattle.fixture_board.specs.Rewound.{rewound};
-ghost use Rattle.improvement.specs.Runs.{leads, leads_by, outcome_of, room_of};
-ghost use Rattle.improvement.specs.Kept.{IsLead};
+ghost use Rattle.shared_board.specs.Held.{AreOf};
+ghost use Rattle.improvement.specs.Runs.{ahead, is_behind, leads, outcome_of, room_of};
+ghost use Rattle.improvement.specs.Kept.{IsLead, best_of_outcome};
 
 use crate::plan::ImproveFault;
 use crate::setting::Setting;
@@ -15,31 +17,79 @@ use fixture_board::{Ask, Board, Change, Proposal};
 use phases::PhaseOutcome;
 use std::alloc::{AllocError, Global};
 
-/// The history that leads.
+/// The history that leads, where a phase has ended.
 #[derive(Drop)]
 pub(crate) struct Lead {
-    pub(crate) outcome: PhaseOutcome,
-    /// Up to the best version, where there is one.
-    pub(crate) changes: Vec<Change>,
+    outcome: Option<PhaseOutcome>,
+    /// Up to the best version, if there is one.
+    changes: Vec<Change>,
 }
 
 impl Lead {
-    /// The lead of a board with this outcome.
-    pub(crate) fn of(
+    /// Before the first phase.
+    pub(crate) fn none(alloc: Global) -> Lead
+        ensures { (league : LeagueData) (room : ℕ) → IsLead league room None result }
+    {
+        Lead {
+            outcome: None,
+            changes: Vec::new(alloc),
+        }
+    }
+
+    /// The least total of all phases.
+    pub(crate) fn least(&self) -> Option<u64>
+        ensures { result ≡ best_of_outcome self.now.outcome }
+    {
+        match self.outcome {
+            Some(outcome) => outcome.best,
+            None => None,
+        }
+    }
+
+    /// Has the history of a board lead, if its outcome is better.
+    pub(crate) fn meet(
+        &mut self,
         alloc: Global,
         board: &Board,
         outcome: PhaseOutcome,
-    ) -> Result<Lead, AllocError>
-        requires { outcome ≡ outcome_of board.now.league board.now.history }
-        ensures { IfOk result (IsLead board.now.league board.now.history) }
+    ) -> Result<(), AllocError>
+        requires outcome { outcome ≡ outcome_of board.now.league board.now.history }
+        requires of { AreOf 0 board.now.history }
+        ensures { (leading : Option (List Entry)) → IsLead board.now.league board.now.room leading self.old →
+            OnOk result (IsLead board.now.league board.now.room
+            (Some (ahead board.now.league leading board.now.history)) self.new) }
     {
-        let changes = first_changes(alloc, board, final_version(board))?;
-        Ok(Lead { outcome, changes })
+        if self.is_behind(outcome) {
+            self.changes = first_changes(alloc, board, final_version(board))?;
+            self.outcome = Some(outcome);
+        }
+        Ok(())
+    }
+
+    /// Whether the outcome is better.
+    fn is_behind(&self, outcome: PhaseOutcome) -> bool
+        ensures { result ≡ is_behind self.now.outcome outcome }
+    {
+        match self.outcome {
+            Some(leading) => leads(outcome, leading),
+            None => true,
+        }
+    }
+
+    /// A board with this history, all of caller 0.
+    pub(crate) fn board<T, G>(&self, setting: &Setting<'_, T, G>) -> Result<Board, ImproveFault>
+        ensures board { IfOk result (λ b. b ≡ book setting.now.league.now (room_of setting.now.plan.effort)
+            (played_from setting.now.league.now (room_of setting.now.plan.effort) [] self.now.changes.items)) }
+        ensures refused { IfErr result (λ e. e ≡ ImproveFault.Memory) }
+    {
+        let mut board = setting.new_board()?;
+        replay(&mut board, &self.changes);
+        Ok(board)
     }
 }
 
 /// Whether the first outcome is better.
-pub(crate) fn leads(a: PhaseOutcome, b: PhaseOutcome) -> bool
+fn leads(a: PhaseOutcome, b: PhaseOutcome) -> bool
     ensures { result ≡ leads a b }
 {
     match (a.best, b.best) {
@@ -71,20 +121,6 @@ fn first_changes(alloc: Global, board: &Board, count: u64) -> Result<Vec<Change>
         changes.push_reserved(board.entry(i).change);
     }
     Ok(changes)
-}
-
-/// A board with the lead's history, of caller 0.
-pub(crate) fn lead_board<T, G>(
-    setting: &Setting<'_, T, G>,
-    lead: &Lead,
-) -> Result<Board, ImproveFault>
-    ensures board { IfOk result (λ b. b ≡ book setting.now.league.now (room_of setting.now.plan.effort)
-        (played_from setting.now.league.now (room_of setting.now.plan.effort) [] lead.now.changes.items)) }
-    ensures refused { IfErr result (λ e. e ≡ ImproveFault.Memory) }
-{
-    let mut board = setting.new_board()?;
-    replay(&mut board, &lead.changes);
-    Ok(board)
 }
 
 /// Asks for the changes one by one, as caller 0.

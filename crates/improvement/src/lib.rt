@@ -1,11 +1,10 @@
 //! An improvement: the phases of the policy, run one after another on up to eight chains of schedules, each better schedule
 //! written as soon as it is known.
 //!
-//! Teams, rounds, chains and workers are numbered from 0 in calls, phases from 1.
+//! Teams, rounds and chains are numbered from 0 in calls, phases from 1.
 #![tactic(auto)]
 
 mod chains;
-mod course;
 mod improving;
 mod lead;
 mod phase_run;
