@@ -1,8 +1,7 @@
 //! What boards answer and show, in few words.
 
-use fixture_board::{Best, Board, Cost, Reply, Why};
+use fixture_board::{Best, Board, Cost, Reply, Seen, Why};
 use fixtures::Schedule;
-use shared_board::Seen;
 use std::process::Abort;
 use tours::travel_of;
 

@@ -2,8 +2,7 @@
 
 use crate::answers::{done, no, seen};
 use crate::questions::{at, game, homes, pin_from_0, unpin_from_0};
-use fixture_board::{Ask, Best, BoardFault, Change, Cost, Entry, Proposal, Reply, Why};
-use shared_board::Seen;
+use fixture_board::{Ask, Best, BoardFault, Change, Cost, Entry, Proposal, Reply, Seen, Why};
 use std::fmt::Debug;
 use std::process::Abort;
 

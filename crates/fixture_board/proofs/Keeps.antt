@@ -54,7 +54,8 @@ IsLeader-other league q p g best_g at true at_is g_is best_is =
     (ap (λ (n : ℕ). Some (record { at = n; total = total_of (cost_at league p) })) at_is, g_is)
 IsLeader-other league q p g best_g at false at_is g_is best_is = (refl, best_is)
 
-pub IsLeader-more : (league : LeagueData) (found : Option (List Entry)) (p : List Entry) (best : Option Best) (g best_g : Games) (cost : Cost) (at : ℕ) →
+pub IsLeader-more : (league : LeagueData) (found : Option (List Entry)) (p : List Entry) (best : Option Best) (g best_g : Games)
+    (cost : Cost) (at : ℕ) →
     IsLeader league found best best_g → cost ≡ cost_at league p → at ≡ length p → g ≡ games_of league p →
     IsLeader league (better league found p) (led_by best cost at) (if leads best cost then g else best_g)
 IsLeader-more league None p best g best_g cost at leader cost_is at_is g_is =
@@ -101,7 +102,8 @@ IsKept-more {league} {k} e changes g pins cost kept under may changes_are games_
       pins_are = pins_are;
       cost_is = cost_here;
       small = rw cost_is (score_below league g kept.league_is same);
-      leader = subst (λ found. IsLeader league found (led_by k.best cost (length k.history + 1)) (if leads k.best cost then g else k.best_games))
+      leader = subst (λ found. IsLeader league found (led_by k.best cost (length k.history + 1))
+          (if leads k.best cost then g else k.best_games))
           (sym (best_prefix-more league k.history e))
           (IsLeader-more league (best_prefix league k.history) h k.best g k.best_games cost (length k.history + 1) kept.leader cost_here
           (sym (length-more k.history e)) games_are);
@@ -164,7 +166,8 @@ IsGranted-pin {league} {k} version game kept granted =
     (can_make league k.room k.history (ask.Pin version game) kept.within granted).may in
     let range : is_in_range k.games game ≡ true = subst (λ x. is_in_range x game ≡ true) (sym kept.games_are) fits.0 in
     let there : is_there k.games game ≡ true = subst (λ x. is_there x game ≡ true) (sym kept.games_are) fits.1 in
-    IsGranted-pins (ask.Pin version game) (slice_set k.pins (game.home * 40 + game.away) game.round) kept granted (λ changes. refl) (λ g. refl)
+    IsGranted-pins (ask.Pin version game) (slice_set k.pins (game.home * 40 + game.away) game.round) kept granted (λ changes. refl)
+    (λ g. refl)
     (length-set k.pins (game.home * 40 + game.away) game.round)
     (ArePinsAt-pin k.games (pins_of k.history) k.pins game (IsSound-kept kept).0.most kept.pins_length range there kept.pins_are)
 

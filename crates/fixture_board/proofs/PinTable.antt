@@ -277,7 +277,8 @@ pub place_of-pinned : (pinned : Bool) (round place : ℕ) → place ≡ (if pinn
 place_of-pinned true round place is pin = (refl, is)
 place_of-pinned false round place is pin = absurd (pin is)
 
-pub moves_pin-none : (g other : Games) (pins : List Game) (table : List ℕ) → IsDoubleRoundRobin g → AllStand g pins → ArePinsAt g pins table →
+pub moves_pin-none : (g other : Games) (pins : List Game) (table : List ℕ) → IsDoubleRoundRobin g → AllStand g pins →
+    ArePinsAt g pins table →
     ((h a : ℕ) → IsPair g.teams h a → pin_at table h a ≢ 255 → round_of other h a ≡ pin_at table h a) → moves_pin other pins ≡ false
 moves_pin-none g other pins table robin all are none =
     moves_pin-kept g other pins all
@@ -308,7 +309,8 @@ none_pinned (round ∷ table) (suc i) within none =
     none_pinned table i (omega arith)
     (none_pinned-if round (count_by (λ x. not (x == 255)) table) (sym (sum_by-cons (λ x. cond (not (x == 255)) 1 0) round table) ∙ none)).1
 
-pub moves_pin-unpinned : (g other : Games) (pins : List Game) (table : List ℕ) → IsDoubleRoundRobin g → AllStand g pins → ArePinsAt g pins table →
+pub moves_pin-unpinned : (g other : Games) (pins : List Game) (table : List ℕ) → IsDoubleRoundRobin g → AllStand g pins →
+    ArePinsAt g pins table →
     length table ≡ 1600 → count_by (λ round. not (round == 255)) table ≡ 0 → moves_pin other pins ≡ false
 moves_pin-unpinned g other pins table robin all are size none =
     moves_pin-none g other pins table robin all are

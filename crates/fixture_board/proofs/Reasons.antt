@@ -100,7 +100,8 @@ pub pin_told : {league : LeagueData} {k : Kept} {answer : Result Bool Why} {has 
     refusal league k.room k.history (ask.Pin version game) ≡ (if has then Some why.AlreadyPinned else None)
 pin_told {league} {k} version game kept told is has_is =
     pin_rows version game kept ∙
-    went_on (game_rows (length k.history) k.room version k.games game) ((has_game (pins_of k.history) game, why.AlreadyPinned) ∷ []) told is ∙
+    went_on (game_rows (length k.history) k.room version k.games game)
+    ((has_game (pins_of k.history) game, why.AlreadyPinned) ∷ []) told is ∙
     ap (λ (b : Bool). if b then Some why.AlreadyPinned else None) (sym has_is)
 
 unpin_rows : {league : LeagueData} {k : Kept} (version : ℕ) (game : Game) → IsKept league k →
@@ -116,7 +117,8 @@ pub unpin_stopped : {league : LeagueData} {k : Kept} {answer : Result Bool Why} 
     answer ≡ Err reason → refusal league k.room k.history (ask.Unpin version game) ≡ Some reason
 unpin_stopped {league} {k} version game kept told is =
     unpin_rows version game kept ∙
-    stopped (game_rows (length k.history) k.room version k.games game) ((not (has_game (pins_of k.history) game), why.NotPinned) ∷ []) told is
+    stopped (game_rows (length k.history) k.room version k.games game)
+    ((not (has_game (pins_of k.history) game), why.NotPinned) ∷ []) told is
 
 pub unpin_told : {league : LeagueData} {k : Kept} {answer : Result Bool Why} {has : Bool} (version : ℕ) (game : Game) →
     IsKept league k → result_err answer ≡ first_of (game_rows (length k.history) k.room version k.games game) →
@@ -124,7 +126,8 @@ pub unpin_told : {league : LeagueData} {k : Kept} {answer : Result Bool Why} {ha
     refusal league k.room k.history (ask.Unpin version game) ≡ (if not has then Some why.NotPinned else None)
 unpin_told {league} {k} version game kept told is has_is =
     unpin_rows version game kept ∙
-    went_on (game_rows (length k.history) k.room version k.games game) ((not (has_game (pins_of k.history) game), why.NotPinned) ∷ []) told is ∙
+    went_on (game_rows (length k.history) k.room version k.games game)
+    ((not (has_game (pins_of k.history) game), why.NotPinned) ∷ []) told is ∙
     ap (λ (b : Bool). if not b then Some why.NotPinned else None) (sym has_is)
 
 undo_rows : {league : LeagueData} {k : Kept} (version : ℕ) → IsKept league k →
@@ -166,7 +169,8 @@ shift_rows : {league : LeagueData} {k : Kept} (p : Proposal) → IsKept league k
     first_of (move_rows (length k.history) k.room p.version k.games p.mv ++ rows_after league k p)
 unfolding refusal cost_at
 shift_rows {league} {k} p kept =
-    ap (λ g. first_of (move_rows (length k.history) k.room p.version g p.mv ++ rows_after league (record k { games = g; cost = cost_of league (games_of league k.history) }) p))
+    ap (λ g. first_of (move_rows (length k.history) k.room p.version g p.mv ++
+    rows_after league (record k { games = g; cost = cost_of league (games_of league k.history) }) p))
     (sym kept.games_are) ∙
     ap (λ c. first_of (move_rows (length k.history) k.room p.version k.games p.mv ++ rows_after league (record k { cost = c }) p))
     (sym kept.cost_is)
@@ -198,7 +202,8 @@ pub shift_judged : {league : LeagueData} {k : Kept} {tested : Result (Unit {0}) 
     g1 ≡ k.games → g2 ≡ moved g1 p.mv → cost ≡ cost_of league g2 → before ≡ score_of league k.cost → after ≡ score_of league cost →
     result_err judged ≡ first_of (score_rows (length k.history) p before after) →
     refusal league k.room k.history (ask.Shift p) ≡ result_err judged
-shift_judged {league} {k} p g1 g2 cost before after moves judged kept told is moves_is stay tried_is moved_is cost_is before_is after_is judged_is =
+shift_judged {league} {k} p g1 g2 cost before after moves judged kept told is moves_is stay tried_is moved_is cost_is before_is after_is
+    judged_is =
     let games : g2 ≡ moved k.games p.mv = moved_is ∙ ap (λ x. moved x p.mv) tried_is in
     let last : after ≡ score_of league (cost_of league (moved k.games p.mv)) =
     after_is ∙ ap (score_of league) cost_is ∙ ap (λ x. score_of league (cost_of league x)) games in

@@ -13,7 +13,8 @@ use Rattle.fixture_board.specs.declared.cost.Cost.{Cost}
 use Rattle.fixture_board.specs.declared.change.Change.{Change}
 use Rattle.fixture_board.specs.declared.change.Change.TheVariants.{Shift, Pin, Unpin, Undo}
 use Rattle.fixture_board.specs.declared.change.Entry.{Entry}
-use Rattle.fixture_board.specs.History.{effect, effective, effective_after, shifted, games_after, games_of, pinned, pins_after, pins_of, AllStand}
+use Rattle.fixture_board.specs.History.{effect, effective, effective_after, shifted, games_after, games_of, pinned}
+use Rattle.fixture_board.specs.History.{pins_after, pins_of, AllStand}
 use Rattle.fixture_board.specs.History.{Fits, legal_after, IsLegal, cost_at, best_prefix, best_at, as_best, best_of}
 use Rattle.fixture_board.specs.History.{IsBestPrefix, IsBestOf}
 use Rattle.fixture_board.specs.Kept.{IsLeader, Kept, IsKept}

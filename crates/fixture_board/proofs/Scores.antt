@@ -157,7 +157,8 @@ deviation_of l g rule same forty is =
     omega (arith, deviation_below g rule.body forty own.body)
 
 -- hard limits count by the league's weight
-hard_le : (l : LeagueData) (g : Games) → IsLeague l → g.teams ≡ teams l → g.teams ≤ 40 → (cost_of l g).hard ≤ max_rules * deviation_limit + 127960
+hard_le : (l : LeagueData) (g : Games) → IsLeague l → g.teams ≡ teams l → g.teams ≤ 40 →
+    (cost_of l g).hard ≤ max_rules * deviation_limit + 127960
 unfolding cost_of
 hard_le l g is same forty =
     omega (
@@ -169,7 +170,8 @@ hard_le l g is same forty =
           (λ rule for. omega (arith, hard_share_le rule.weight (deviation g rule.body), deviation_of l g rule same forty for)),
     )
 
-soft_le : (l : LeagueData) (g : Games) → IsLeague l → g.teams ≡ teams l → g.teams ≤ 40 → (cost_of l g).soft ≤ max_rules * (max_weight * deviation_limit)
+soft_le : (l : LeagueData) (g : Games) → IsLeague l → g.teams ≡ teams l → g.teams ≤ 40 →
+    (cost_of l g).soft ≤ max_rules * (max_weight * deviation_limit)
 unfolding cost_of
 soft_le l g is same forty =
     omega (

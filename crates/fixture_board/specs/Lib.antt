@@ -10,5 +10,6 @@ pub mod Replay
 pub mod PinPlaces
 pub mod Retraced
 pub mod Kept
+pub mod Looks
 pub mod Laws
 pub mod Lines

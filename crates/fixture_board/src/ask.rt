@@ -9,6 +9,7 @@ use moves::Move;
 pub struct Proposal {
     /// The version that the move was found for. Where it is old, the move is judged anew and the claim ignored.
     pub version: u64,
+    /// The move that is to be made.
     pub mv: Move,
     /// The score after the move as the caller counts it, where it tells one.
     pub claim: Option<u64>,

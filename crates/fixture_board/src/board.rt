@@ -37,7 +37,9 @@ pub enum BoardFault {
 /// Why there is no board, and the league that was meant for it.
 #[derive(Debug, Drop)]
 pub struct NewRefused {
+    /// What stands in the way.
     pub why: BoardFault,
+    /// The league as it was given.
     pub league: League,
 }
 

@@ -63,6 +63,8 @@ fn from_one(number: u8) -> u16
 /// A granted change and who asked for it.
 #[derive(Clone, Copy, Debug, PartialEq, Eq)]
 pub struct Entry {
+    /// The number of the caller who made it.
     pub caller: u32,
+    /// What was changed.
     pub change: Change,
 }

@@ -48,5 +48,6 @@ impl Cost {
 pub struct Best {
     /// The first version that has it.
     pub at: u64,
+    /// Its travel and soft penalties.
     pub total: u64,
 }

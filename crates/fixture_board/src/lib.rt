@@ -12,6 +12,7 @@ mod cost;
 mod counting;
 mod kept_cost;
 mod laws;
+mod look;
 mod made_within;
 mod penalties;
 mod pins;
@@ -31,5 +32,6 @@ pub use laws::{
     empty_history_is_legal, legal_history_is_sound, next_history_is_legal, replay,
     rewinding_keeps_the_best, weight_is_for_scores_alone,
 };
+pub use look::Seen;
 pub use made_within::make_within;
 pub use reply::{Reply, Why};

@@ -28,6 +28,7 @@ pub struct Phase {
     pub number: u32,
     /// The chain that it goes on with, from 0 to 7.
     pub chain: u32,
+    /// Where on that chain it begins.
     pub start: PhaseStart,
     /// The hard weight, in units of distance: from 1 to 1,000,000.
     pub weight: u32,

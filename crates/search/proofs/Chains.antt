@@ -1,5 +1,6 @@
 -- The seats of a run: numbers that rise.
-use Rattle.std.proofs.Common.{◌≡◌, ℕ, ◌+◌, ◌<◌, List, [], ◌∷◌, ◌++◌, length, map, get_or, sym, ap, ◌∙◌, subst, arith, length-append, append_assoc}
+use Rattle.std.proofs.Common.{◌≡◌, ℕ, ◌+◌, ◌<◌, List, [], ◌∷◌, ◌++◌, length, map, get_or, sym, ap, ◌∙◌, subst, arith}
+use Rattle.std.proofs.Common.{length-append, append_assoc}
 use Rattle.std.specs.List.{All}
 use Rattle.std.specs.List.Sorted.{IsStrictlyIncreasing}
 use Rattle.std.proofs.Math.Seq.{get_or-append_seam}
@@ -56,17 +57,20 @@ fresh_next table a b fresh new = record {
 
 -- and the old one stays so
 fresh_still : (table : BoardId) (a b : SeatValue) → IsFresh table a → IsNew a b → IsFresh table (given_at a (b.number + 1))
-fresh_still table a b fresh new = record { table_is = fresh.table_is; held = fresh.held; given = omega (arith, fresh.given, new.later); few = fresh.few }
+fresh_still table a b fresh new =
+    record { table_is = fresh.table_is; held = fresh.held; given = omega (arith, fresh.given, new.later); few = fresh.few }
 
 -- the first of what is left comes to the end of what is done
-pub numbers_more : (done done' left left' all : List ℕ) (n m : ℕ) → done' ≡ done ++ n ∷ [] → left ≡ m ∷ left' → n ≡ m → done ++ left ≡ all → done' ++ left' ≡ all
+pub numbers_more : (done done' left left' all : List ℕ) (n m : ℕ) → done' ≡ done ++ n ∷ [] → left ≡ m ∷ left' → n ≡ m → done ++
+    left ≡ all → done' ++ left' ≡ all
 numbers_more done done' left left' all n m one_more one_less same is =
     ap (λ (ns : List ℕ). ns ++ left') one_more ∙ append_assoc done (n ∷ []) left' ∙ ap (λ (k : ℕ). done ++ (k ∷ left')) same ∙
     ap (λ (ns : List ℕ). done ++ ns) (sym one_less) ∙ is
 
 -- one more job gets the seat, and the run the one that was split from it
 pub chain_more : (table : BoardId) (setting : Setting) (start : List Entry) (jobs jobs' : List Job) (job : Job) (a b own : SeatValue) →
-    IsChain table setting start jobs a → IsNew a b → own ≡ b → jobs' ≡ jobs ++ job ∷ [] → job.seat ≡ given_at a (b.number + 1) → IsChain table setting start jobs' own
+    IsChain table setting start jobs a → IsNew a b → own ≡ b → jobs' ≡ jobs ++ job ∷ [] → job.seat ≡ given_at a (b.number + 1) →
+    IsChain table setting start jobs' own
 chain_more table setting start jobs jobs' job a b own was new own_is items given =
     let fresh = was.fresh in
     let later = new.later in

@@ -1,5 +1,6 @@
 -- What a run comes to, where its board is whole.
-use Rattle.std.proofs.Common.{◌≡◌, ℕ, ◌≤◌, Bool, true, List, [], ◌++◌, Vec, Result, Ok, Err, length, map, sym, ap, ◌∙◌, subst, arith, length-append}
+use Rattle.std.proofs.Common.{◌≡◌, ℕ, ◌≤◌, Bool, true, List, [], ◌++◌, Vec, Result, Ok, Err, length, map, sym, ap, ◌∙◌}
+use Rattle.std.proofs.Common.{subst, arith, length-append}
 use Rattle.std.specs.List.{All}
 use Rattle.std.specs.List.Sorted.{IsStrictlyIncreasing}
 use Rattle.std.specs.Result.{IfOk}
@@ -27,23 +28,31 @@ use Rattle.search.specs.Reports.{IsReport}
 
 -- what the run's seat had seen is no longer than the history of a whole board
 pub begins_whole : (start : List Entry) (numbers : List ℕ) (reports : List Report) (seat : SeatValue) (closed : Closed) (before : ℕ) →
-    AreCredited start numbers reports seat.seen → ClosedBy seat closed → before ≡ length start → closed.whole ≡ true → before ≤ length closed.board.history
+    AreCredited start numbers reports seat.seen → ClosedBy seat closed → before ≡ length start → closed.whole ≡ true →
+    before ≤ length closed.board.history
 begins_whole start numbers reports seat closed before credited is_closed long whole =
-    let history : closed.board.history ≡ start ++ credited.after = ap (λ (b : Book). b.history) is_closed.board ∙ (is_closed.whole whole).0 ∙ credited.begins in
+    let history : closed.board.history ≡ start ++ credited.after = ap (λ (b : Book). b.history) is_closed.board ∙
+    (is_closed.whole whole).0 ∙ credited.begins in
     omega (arith, ap length history, length-append start credited.after, long)
 
 -- where all threads were started and the board is whole, it goes on from what the run's seat had seen
-pub resumed_of : {G : Type 0} (heard : ℕ → ℕ → Reply → Type 0) (gate : G) (plan : SearchPlan) (table : BoardId) (all : Bool) (jobs : Vec Job Global) (handles : Vec (PromisedHandle Ended (Given G)) Global)
+pub resumed_of : {G : Type 0} (heard : ℕ → ℕ → Reply → Type 0) (gate : G) (plan : SearchPlan) (table : BoardId) (all : Bool)
+    (jobs : Vec Job Global) (handles : Vec (PromisedHandle Ended (Given G)) Global)
     (reports : List Report) (was seat : SeatValue) (closed : Closed) (before : ℕ) (r : Result Outcome RunRefused) →
     All (IsOfWorker heard plan.steps) reports →
     AreStarted gate plan.steps table jobs all handles → all ≡ true → IsStrictlyIncreasing (map job_number jobs.items) →
-    AreCredited was.seen (map handle_number handles.items) reports seat.seen → ClosedBy seat closed → seat.setting ≡ was.setting → before ≡ length was.seen →
+    AreCredited was.seen (map handle_number handles.items) reports seat.seen → ClosedBy seat closed → seat.setting ≡ was.setting →
+    before ≡ length was.seen →
     IfOk r (IsConcluded plan before closed reports) → IfOk r (IsResumed plan (board_at was.setting was.seen))
-resumed_of heard gate plan table all jobs handles reports was seat closed before (Err e) each started is_all rising credited is_closed setting long end = tt
-resumed_of heard gate plan table all jobs handles reports was seat closed before (Ok o) each started is_all rising credited is_closed setting long end =
+resumed_of heard gate plan table all jobs handles reports was seat closed before
+    (Err e) each started is_all rising credited is_closed setting long end = tt
+resumed_of heard gate plan table all jobs handles reports was seat closed before
+    (Ok o) each started is_all rising credited is_closed setting long end =
     let after = credited.after in
-    let board : o.board ≡ board_at was.setting is_closed.history = end.board_is ∙ is_closed.board ∙ ap (λ (s : Setting). board_at s is_closed.history) setting in
-    let history : o.board.history ≡ was.seen ++ after = ap (λ (b : Book). b.history) (end.board_is ∙ is_closed.board) ∙ (is_closed.whole end.whole).0 ∙ credited.begins in
+    let board : o.board ≡ board_at was.setting is_closed.history = end.board_is ∙ is_closed.board ∙
+    ap (λ (s : Setting). board_at s is_closed.history) setting in
+    let history : o.board.history ≡ was.seen ++ after = ap (λ (b : Book). b.history) (end.board_is ∙ is_closed.board) ∙
+    (is_closed.whole end.whole).0 ∙ credited.begins in
     let closed_is : closed.board.history ≡ was.seen ++ after = ap (λ (b : Book). b.history) (sym end.board_is) ∙ history in
     let Legal : Book → Type 0 = λ b. IsLegal b.league b.room b.history in
     let Each : List Report → Type 0 = λ rs. All (IsReport plan.steps) rs in
@@ -56,7 +65,8 @@ resumed_of heard gate plan table all jobs handles reports was seat closed before
       room = ap (λ (b : Book). b.room) board;
       legal = subst Legal (sym end.board_is) end.legal;
       many = end.many;
-      each = subst Each (sym end.reports_are) (All-weaker (IsOfWorker heard plan.steps) (IsReport plan.steps) (λ r h. h.report_is) reports each);
+      each = subst Each (sym end.reports_are)
+          (All-weaker (IsOfWorker heard plan.steps) (IsReport plan.steps) (λ r h. h.report_is) reports each);
       added = subst Added (sym end.reports_are) (record {
         after = after;
         begins = history;
@@ -70,7 +80,8 @@ resumed_of heard gate plan table all jobs handles reports was seat closed before
     }
 
 -- a run that goes on from no entry
-pub outcome_of : (plan : SearchPlan) (was : Book) (r : Result Outcome RunRefused) → was.history ≡ [] → IfOk r (IsResumed plan was) → IfOk r (IsOutcome plan was)
+pub outcome_of : (plan : SearchPlan) (was : Book) (r : Result Outcome RunRefused) → was.history ≡ [] → IfOk r (IsResumed plan was) →
+    IfOk r (IsOutcome plan was)
 outcome_of plan was (Err e) none resumed = tt
 outcome_of plan was (Ok o) none resumed =
     let added = resumed.added in

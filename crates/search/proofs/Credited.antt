@@ -29,7 +29,8 @@ pub record IsGathered {G : Type 0} (heard : ℕ → ℕ → Reply → Type 0) (s
   pub credits : AreCredited was.seen (map handle_number done) reports seat.seen
 
 -- entries under none of the numbers change none of their counts
-unmoved : (ns : List ℕ) (seen after : List Entry) → under ns after ≡ 0 → map (λ n. made_by n (seen ++ after)) ns ≡ map (λ n. made_by n seen) ns
+unmoved : (ns : List ℕ) (seen after : List Entry) → under ns after ≡ 0 →
+    map (λ n. made_by n (seen ++ after)) ns ≡ map (λ n. made_by n seen) ns
 unmoved [] seen after none = refl
 unmoved (n ∷ ns) seen after none =
     let both = under_both (n ∷ []) ns after in
@@ -45,7 +46,8 @@ record IsJoined (start after : List Entry) (other b : SeatValue) (ns : List ℕ)
   earlier : map (λ m. made_by m more) ns ≡ map (λ m. made_by m after) ns
   own : made_by n b.seen ≡ made_by n other.seen
 
-counts_joined : (start after : List Entry) (a other b : SeatValue) (own ns : List ℕ) (n : ℕ) → a.seen ≡ start ++ after → Absorbed a other b → a.held ≡ own ++ ns → other.held ≡ n ∷ [] →
+counts_joined : (start after : List Entry) (a other b : SeatValue) (own ns : List ℕ) (n : ℕ) → a.seen ≡ start ++ after →
+    Absorbed a other b → a.held ≡ own ++ ns → other.held ≡ n ∷ [] →
     IsJoined start after other b ns n
 counts_joined start after a other b own ns n begins joined mine theirs =
     elim joined.kept [
@@ -74,9 +76,12 @@ counts_joined start after a other b own ns n begins joined mine theirs =
     ]
 
 -- one more thread's seat is taken in
-pub gathered_more : {G : Type 0} (hears : G → ℕ → ℕ → Reply → Type 0) (gate : G) (steps : ℕ) (table : BoardId) (was a other b : SeatValue) (done : List (PromisedHandle Ended (Given G))) (h : PromisedHandle Ended (Given G)) (reports reports' : List Report) (report : Report) →
+pub gathered_more : {G : Type 0} (hears : G → ℕ → ℕ → Reply → Type 0) (gate : G) (steps : ℕ) (table : BoardId)
+    (was a other b : SeatValue) (done : List (PromisedHandle Ended (Given G))) (h : PromisedHandle Ended (Given G))
+    (reports reports' : List Report) (report : Report) →
     IsGathered (hears gate) steps table was a done reports → IsHandle gate steps table h → HandleSaw was.seen h →
-    IsBack (hears h.promise.gate.value) h.promise.steps h.promise.seat.value report other → Absorbed a other b → reports' ≡ reports ++ report ∷ [] →
+    IsBack (hears h.promise.gate.value) h.promise.steps h.promise.seat.value report other → Absorbed a other b → reports' ≡ reports ++
+    report ∷ [] →
     IsGathered (hears gate) steps table was b (done ++ h ∷ []) reports'
 gathered_more {G} hears gate steps table was a other b done h reports reports' report so given saw back joined items =
     let start = was.seen in
@@ -92,11 +97,13 @@ gathered_more {G} hears gate steps table was a other b done h reports reports' r
     let first : under h.promise.seat.value.held h.promise.seat.value.seen ≡ made_by n start =
     ap (λ (hs : List ℕ). under hs h.promise.seat.value.seen) fresh.held ∙ ap (made_by n) saw in
     let told = back.counted in
-    let split : made_by n b.seen ≡ made_by n start + made_by n joint.more = ap (made_by n) joint.seen ∙ under_append (n ∷ []) start joint.more in
+    let split : made_by n b.seen ≡ made_by n start + made_by n joint.more = ap (made_by n) joint.seen ∙
+    under_append (n ∷ []) start joint.more in
     let same = joint.own in
     let new : of n ≡ report.accepted = omega arith in
     let front : map of (numbers ++ n ∷ []) ≡ map of numbers ++ (of n ∷ []) = map-append of numbers (n ∷ []) in
-    let back_is : map accepted_of reports' ≡ map accepted_of reports ++ (report.accepted ∷ []) = ap (map accepted_of) items ∙ map-append accepted_of reports (report ∷ []) in
+    let back_is : map accepted_of reports' ≡ map accepted_of reports ++ (report.accepted ∷ []) = ap (map accepted_of) items ∙
+    map-append accepted_of reports (report ∷ []) in
     let ends : map of numbers ++ (of n ∷ []) ≡ map accepted_of reports ++ (report.accepted ∷ []) = cc in
     let IsAfter : ℕ → Type 0 = λ k. IsOfWorker (hears gate) k report in
     let IsThrough : G → Type 0 = λ g. IsOfWorker (hears g) h.promise.steps report in
@@ -104,8 +111,10 @@ gathered_more {G} hears gate steps table was a other b done h reports reports' r
       table_is = ap (λ (s : SeatValue). s.table) joined.now ∙ so.table_is;
       setting = ap (λ (s : SeatValue). s.setting) joined.now ∙ so.setting;
       held = ap (λ (s : SeatValue). s.held) joined.now ∙ ap (λ (hs : List ℕ). hs ++ other.held) so.held ∙
-          append_assoc was.held numbers other.held ∙ ap (λ (hs : List ℕ). was.held ++ (numbers ++ hs)) theirs ∙ ap (λ (hs : List ℕ). was.held ++ hs) (sym longer);
+          append_assoc was.held numbers other.held ∙ ap (λ (hs : List ℕ). was.held ++ (numbers ++ hs)) theirs ∙
+          ap (λ (hs : List ℕ). was.held ++ hs) (sym longer);
       each = All-same (IsOfWorker (hears gate) steps) reports' (reports ++ report ∷ []) items
-          (All-push (IsOfWorker (hears gate) steps) reports report so.each (subst IsAfter given.0 (subst IsThrough given.2 back.report_is)));
+          (All-push (IsOfWorker (hears gate) steps) reports report so.each
+          (subst IsAfter given.0 (subst IsThrough given.2 back.report_is)));
       credits = record { after = joint.more; begins = joint.seen; each = ap (map of) longer ∙ front ∙ ends ∙ sym back_is };
     }

@@ -9,7 +9,7 @@ use Rattle.fixture_board.specs.declared.reply.Reply.TheVariants.{Done, No}
 use Rattle.fixture_board.specs.Laws.{TellsOf}
 use Rattle.fixture_board.specs.Replies.{entry, next_of, reply_of}
 use Rattle.fixture_board.proofs.ForCallers.{tells_of_reply}
-use Rattle.shared_board.specs.declared.shared.Seen.{Seen}
+use Rattle.fixture_board.specs.declared.look.Seen.{Seen}
 use Rattle.shared_board.specs.Held.{times, under}
 use Rattle.shared_board.specs.Rule.{Knows}
 use Rattle.shared_board.specs.Seats.{SeatValue, Answered, Looked}
@@ -22,19 +22,22 @@ under_known held seen h k =
     omega (arith, ap (under held) k.begins, under_append held seen k.after, k.none_after)
 
 -- a look counts nothing
-pub looked_counted : (a b : SeatValue) (old new : Games) (shown : Seen) → Looked a b old new shown → under b.held b.seen ≡ under a.held a.seen
+pub looked_counted : (a b : SeatValue) (old new : Games) (shown : Seen) → Looked a b old new shown →
+    under b.held b.seen ≡ under a.held a.seen
 looked_counted a b old new shown l =
     ap (λ (s : SeatValue). under s.held s.seen) l.now ∙ under_known a.held a.seen l.history l.met.knows
 
 -- the granted entry is counted once, where its number is held once
-told_counted : (held : List ℕ) (league : LeagueData) (h : List Entry) (e : Entry) (next : List Entry) (reply : Reply) → times e.caller held ≡ 1 → TellsOf league h e next reply → under held next ≡ under held h + done_count reply
+told_counted : (held : List ℕ) (league : LeagueData) (h : List Entry) (e : Entry) (next : List Entry) (reply : Reply) →
+    times e.caller held ≡ 1 → TellsOf league h e next reply → under held next ≡ under held h + done_count reply
 told_counted held league h e next (Done at cost) once told =
     let p = told.0 in omega (arith, ap (under held) p, under_append held h (e ∷ []))
 told_counted held league h e next (No at why) once told =
     let p = told.0 in omega (arith, ap (under held) p)
 
 -- a proposal counts once where it is granted
-pub answered_counted : (a b : SeatValue) (ask : Ask) (reply : Reply) → Answered a b ask reply → under b.held b.seen ≡ under a.held a.seen + done_count reply
+pub answered_counted : (a b : SeatValue) (ask : Ask) (reply : Reply) → Answered a b ask reply →
+    under b.held b.seen ≡ under a.held a.seen + done_count reply
 answered_counted a b ask reply l =
     let league = a.setting.league in
     let next = next_of league a.setting.room l.history a.number ask in

@@ -57,13 +57,15 @@ abbrev pub handle_number : {G : Type 0} → PromisedHandle Ended (Given G) → �
 handle_number h = h.promise.seat.value.number
 
 -- jobs by fresh seats, and room for their threads
-pub record CanStart {G : Type 0} (table : BoardId) (jobs : Vec Job Global) (handles : Vec (PromisedHandle Ended (Given G)) Global) : Type 0 where
+pub record CanStart {G : Type 0} (table : BoardId) (jobs : Vec Job Global)
+    (handles : Vec (PromisedHandle Ended (Given G)) Global) : Type 0 where
   pub jobs_are : All (IsJob table) jobs.items
   pub no_handle : handles.items ≡ []
   pub room : vec_len jobs ≤ vec_capacity handles
 
 -- threads for the first of the jobs, or for all of them
-pub record AreStarted {G : Type 0} (gate : G) (steps : ℕ) (table : BoardId) (jobs : Vec Job Global) (all : Bool) (handles : Vec (PromisedHandle Ended (Given G)) Global) : Type 0 where
+pub record AreStarted {G : Type 0} (gate : G) (steps : ℕ) (table : BoardId) (jobs : Vec Job Global) (all : Bool)
+    (handles : Vec (PromisedHandle Ended (Given G)) Global) : Type 0 where
   pub handles_are : All (IsHandle gate steps table) handles.items
   pub few : vec_len handles ≤ vec_len jobs
   pub saw : (start : List Entry) → All (JobSaw start) jobs.items → All (HandleSaw start) handles.items

@@ -6,12 +6,13 @@ use Rattle.fixtures.specs.Games.{Games}
 use Rattle.fixture_board.specs.declared.ask.Ask.TheVariants.{Shift}
 use Rattle.fixture_board.specs.declared.ask.Proposal.{Proposal}
 use Rattle.fixture_board.specs.declared.change.Entry.{Entry}
+use Rattle.fixture_board.specs.declared.look.Seen.{Seen}
 use Rattle.fixture_board.specs.declared.reply.Reply.{Reply}
 use Rattle.fixture_board.specs.declared.reply.Reply.TheVariants.{Done, No}
 use Rattle.fixture_board.specs.History.{games_of, cost_at, IsLegal}
+use Rattle.fixture_board.specs.Looks.{copied}
 use Rattle.fixture_board.specs.Replies.{next_of, reply_of}
-use Rattle.shared_board.specs.declared.shared.Seen.{Seen}
-use Rattle.shared_board.specs.Seats.{SeatValue, copied}
+use Rattle.shared_board.specs.Seats.{SeatValue}
 use Rattle.shared_board.specs.Setting.{Setting}
 
 -- the second history begins with the first
@@ -25,13 +26,15 @@ done_count (Done at cost) = 1
 done_count (No at why) = 0
 
 -- a board that the door may have, at a legal history that begins with what was seen
-pub record IsFound (may_have : LeagueData → ℕ → Type 0) (before : List Entry) (league : LeagueData) (room : ℕ) (history : List Entry) : Type 0 where
+pub record IsFound (may_have : LeagueData → ℕ → Type 0) (before : List Entry) (league : LeagueData) (room : ℕ)
+    (history : List Entry) : Type 0 where
   pub has : may_have league room
   pub legal : IsLegal league room history
   pub begins : Begins before history
 
 -- The answer to a proposal is that of the board that was found. What is seen after begins the history after the call.
-pub record Replies (may_have : LeagueData → ℕ → Type 0) (caller : ℕ) (before : List Entry) (proposal : Proposal) (reply : Reply) (after : List Entry) : Type 0 where
+pub record Replies (may_have : LeagueData → ℕ → Type 0) (caller : ℕ) (before : List Entry) (proposal : Proposal) (reply : Reply)
+    (after : List Entry) : Type 0 where
   pub league : LeagueData
   pub room : ℕ
   pub history : List Entry
@@ -40,7 +43,8 @@ pub record Replies (may_have : LeagueData → ℕ → Type 0) (caller : ℕ) (be
   pub seen : Begins after (next_of league room history caller (Shift proposal))
 
 -- A look shows the board that was found: its version, its cost and its games. What is seen after begins its history.
-pub record Shows (may_have : LeagueData → ℕ → Type 0) (before : List Entry) (copy : Games) (shown : Seen) (new : Games) (after : List Entry) : Type 0 where
+pub record Shows (may_have : LeagueData → ℕ → Type 0) (before : List Entry) (copy : Games) (shown : Seen) (new : Games)
+    (after : List Entry) : Type 0 where
   pub league : LeagueData
   pub room : ℕ
   pub history : List Entry

@@ -7,14 +7,12 @@ ghost use Rattle.fixture_board.specs.declared.change.Entry.{Entry};
 mod locked;
 mod own;
 mod seated;
-mod shown;
 
-use fixture_board::{Proposal, Reply};
+use fixture_board::{Proposal, Reply, Seen};
 use fixtures::Schedule;
 pub use locked::LockedDoor;
 pub use own::OwnDoor;
 pub use seated::SeatDoor;
-use shared_board::Seen;
 use std::sync::Wait;
 
 /// A way to a board that others may change too.

@@ -45,6 +45,7 @@ pub struct SearchPlan {
 /// What a run is to do that goes on from a board's history.
 #[derive(Clone, Copy, Debug, PartialEq, Eq)]
 pub struct PhasePlan {
+    /// What each worker is to do. The slack is that of its first step.
     pub search: SearchPlan,
     /// How the slack goes on from each worker's first step.
     pub course: SlackCourse,
@@ -114,7 +115,9 @@ pub enum RunFault {
 /// board itself got no memory.
 #[derive(Drop)]
 pub struct RunRefused {
+    /// What stood in the way.
     pub why: RunFault,
+    /// The board, if there is one.
     pub board: Option<Board>,
 }
 

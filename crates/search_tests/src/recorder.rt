@@ -3,10 +3,9 @@
 ghost use Rattle.std.specs.Prelude.{◌≡◌};
 
 use crate::boards::at_any_cost;
-use fixture_board::{Board, Change, Proposal, Reply};
+use fixture_board::{Board, Change, Proposal, Reply, Seen};
 use fixtures::Schedule;
 use search::{Door, Gate, LockedDoor};
-use shared_board::Seen;
 use std::fmt::Write;
 use std::sync::{Mutex, Wait};
 

@@ -23,14 +23,16 @@ use Rattle.shared_board.proofs.Views.{fits_at, fits_more}
 use Rattle.shared_board.proofs.Steps.{held_once, knows_all_numbers}
 use Rattle.shared_board.proofs.Turns.{held_alone}
 
-holder_upto : (posted history : List Entry) (numbers : ℕ) (held : List ℕ) (given : ℕ) (t : Stage) → IsHolder posted history numbers held given t → upto t posted history ≡ history
+holder_upto : (posted history : List Entry) (numbers : ℕ) (held : List ℕ) (given : ℕ) (t : Stage) →
+    IsHolder posted history numbers held given t → upto t posted history ≡ history
 holder_upto posted history numbers held given away holder = absurd holder
 holder_upto posted history numbers held given (holds h) holder = holder.1
 holder_upto posted history numbers held given (counts h) holder = holder.1
 holder_upto posted history numbers held given (owes before h) holder = refl
 
 -- all is posted, or all but one entry of the holder's
-holder_posted : (posted history : List Entry) (numbers : ℕ) (held : List ℕ) (given : ℕ) (t : Stage) → IsHolder posted history numbers held given t → (posted ≡ history) ⊎ Added held posted history
+holder_posted : (posted history : List Entry) (numbers : ℕ) (held : List ℕ) (given : ℕ) (t : Stage) →
+    IsHolder posted history numbers held given t → (posted ≡ history) ⊎ Added held posted history
 holder_posted posted history numbers held given away holder = absurd holder
 holder_posted posted history numbers held given (holds h) holder = inl holder.1
 holder_posted posted history numbers held given (counts h) holder = inl holder.1
@@ -40,8 +42,10 @@ holder_in_turn : (s : Table) (setting : Setting) (posted history : List Entry) (
     → IsExact s setting posted → ((j : ℕ) (v : View) → j ≢ seat → IsThere s j v → Lowest setting v.seen posted v.lowest)
     → IsHolder posted history numbers held given t → IsInTurn s setting history seat held t
 holder_in_turn s setting posted history numbers seat held given away word others holder = absurd holder
-holder_in_turn s setting posted history numbers seat held given (holds h) word others holder = (holder.0, word ∙ ap (least_of setting.league) holder.1)
-holder_in_turn s setting posted history numbers seat held given (counts h) word others holder = (holder.0, word ∙ ap (least_of setting.league) holder.1)
+holder_in_turn s setting posted history numbers seat held given (holds h) word others holder =
+    (holder.0, word ∙ ap (least_of setting.league) holder.1)
+holder_in_turn s setting posted history numbers seat held given (counts h) word others holder =
+    (holder.0, word ∙ ap (least_of setting.league) holder.1)
 holder_in_turn s setting posted history numbers seat held given (owes before h) word others holder =
     let P : List Entry → Type 0 = λ l. IsBehind s setting seat held l history in
     (holder.0, subst P (sym holder.1) (record { added = holder.2; word = word; others = others }))
@@ -52,14 +56,16 @@ fits_history s r j v there =
     let f = r.seats j v there.0 there.1 in
     let F : List Entry → Type 0 = λ l. Fits r.setting l (length r.history) r.numbers v in
     elim r.turns [
-      | inl free ↦ subst F free.all_posted (fits_at r.setting r.posted r.history r.posted (length r.history) r.numbers v away (free.all_away j v there.0) refl f)
+      | inl free ↦ subst F free.all_posted
+          (fits_at r.setting r.posted r.history r.posted (length r.history) r.numbers v away (free.all_away j v there.0) refl f)
       | inr held ↦ dite (ℕ_discrete j held.seat)
           (λ e.
           let same : held.view ≡ v = some-injective held.view v (sym held.there ∙ (ap (get_elem? s.views) (sym e) ∙ there.0)) in
           let H : View → Type 0 = λ u. IsHolder r.posted r.history r.numbers u.held u.given u.stage in
           subst F (holder_upto r.posted r.history r.numbers v.held v.given v.stage (subst H same held.holder)) f)
           (λ ne.
-          let g = fits_at r.setting r.posted r.history r.posted (length r.history) r.numbers v away (held.others_away j v ne there.0) refl f in
+          let g = fits_at r.setting r.posted r.history r.posted (length r.history) r.numbers v away
+          (held.others_away j v ne there.0) refl f in
           elim (holder_posted r.posted r.history r.numbers held.view.held held.view.given held.view.stage held.holder) [
             | inl same ↦ subst F same g
             | inr added ↦ subst F (sym added.one_more)
@@ -72,7 +78,12 @@ home_free : (s : Table) (r : Ruled s) → turn_word s ≡ 0 → IsHome s r.setti
 home_free s r e =
     let found : turn_word s ≡ r.turn = ap (λ (l : List ℕ). slice_index l 0) r.words in
     elim r.turns [
-      | inl free ↦ (ap (λ (l : List (maybe.Option (Option Book))). get_elem? l 0) (r.homes ∙ ap (λ (h : maybe.Option (Option Book)). h ∷ []) free.home_is), ap (λ (l : List ℕ). slice_index l 3) r.words ∙ ap (least_of r.setting.league) free.all_posted)
+      | inl free ↦ (
+        ap (λ (l : List (maybe.Option (Option Book))). get_elem? l 0)
+            (r.homes ∙ ap (λ (h : maybe.Option (Option Book)). h ∷ []) free.home_is),
+        ap (λ (l : List ℕ). slice_index l 3) r.words ∙
+            ap (least_of r.setting.league) free.all_posted,
+      )
       | inr held ↦ let one = held.turn_is in absurd (omega arith)
     ]
 
@@ -85,8 +96,10 @@ one_holds s r e =
         seat = held.seat;
         view = held.view;
         there = (held.there, held.live);
-        in_turn = holder_in_turn s r.setting r.posted r.history r.numbers held.seat held.view.held held.view.given held.view.stage (ap (λ (l : List ℕ). slice_index l 3) r.words)
-            (λ j v ne there. (fits_at r.setting r.posted r.history r.posted (length r.history) r.numbers v away (held.others_away j v ne there.0) refl (r.seats j v there.0 there.1)).lowest)
+        in_turn = holder_in_turn s r.setting r.posted r.history r.numbers held.seat held.view.held held.view.given held.view.stage
+            (ap (λ (l : List ℕ). slice_index l 3) r.words)
+            (λ j v ne there. (fits_at r.setting r.posted r.history r.posted (length r.history) r.numbers v away
+            (held.others_away j v ne there.0) refl (r.seats j v there.0 there.1)).lowest)
             held.holder;
         no_other = λ j v ne there. held.others_away j v ne there.0;
       }
@@ -117,7 +130,8 @@ between s r =
       held_once = λ j v x there. (let a = held_once s r j v x there.0 in let b = once_most x r.numbers in omega arith);
       held_below = λ j v x there own. (let less = held_below x r.numbers (times x v.held) own (held_once s r j v x there.0) in omega arith);
       held_apart = λ i j u v x ne at there own. held_alone s r i j u v x (λ e. ne (sym e)) at.0 there.0 own;
-      all_given = λ j v there some_given each. knows_all_numbers s r j v there.0 (fits_history s r j v there).given some_given each ∙ sym count_is;
+      all_given = λ j v there some_given each. knows_all_numbers s r j v there.0 (fits_history s r j v there).given some_given each ∙
+          sym count_is;
       turn = turn_is s r;
       free = home_free s r;
       taken = one_holds s r;

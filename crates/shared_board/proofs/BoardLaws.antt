@@ -15,19 +15,23 @@ use Rattle.fixture_board.specs.Laws.{least_of, as_number, TellsOf}
 use Rattle.fixture_board.specs.Replies.{entry, next_if, next_of, refusal, reply_of}
 use Rattle.fixture_board.proofs.ForCallers.{is_legal_next, tells_of_reply, least_of_falls}
 
-pub legal_next : (league : LeagueData) (room : ℕ) (h : List Entry) (caller : ℕ) (ask : Ask) → IsLegal league room h → IsLegal league room (next_of league room h caller ask)
+pub legal_next : (league : LeagueData) (room : ℕ) (h : List Entry) (caller : ℕ) (ask : Ask) → IsLegal league room h →
+    IsLegal league room (next_of league room h caller ask)
 legal_next league room h caller ask legal = is_legal_next league room h caller ask legal
 
-are_of_if : (why : Option Why) (n : ℕ) (h : List Entry) (change : Change) → AreOf n h → AreOf n (next_if why h (record { caller = n; change = change }))
+are_of_if : (why : Option Why) (n : ℕ) (h : List Entry) (change : Change) → AreOf n h →
+    AreOf n (next_if why h (record { caller = n; change = change }))
 are_of_if None n h change own = own_append n h (record { caller = n; change = change } ∷ []) own (refl, tt)
 are_of_if (Some why) n h change own = own
 
 -- a call under the number of all entries leaves them so
-pub are_of_next : (league : LeagueData) (room : ℕ) (h : List Entry) (caller : ℕ) (ask : Ask) → AreOf caller h → AreOf caller (next_of league room h caller ask)
+pub are_of_next : (league : LeagueData) (room : ℕ) (h : List Entry) (caller : ℕ) (ask : Ask) → AreOf caller h →
+    AreOf caller (next_of league room h caller ask)
 unfolding next_of
 are_of_next league room h caller ask own = are_of_if (refusal league room h ask) caller h (entry caller ask).change own
 
-pub reply_tells : (league : LeagueData) (room : ℕ) (h : List Entry) (caller : ℕ) (ask : Ask) → TellsOf league h (entry caller ask) (next_of league room h caller ask) (reply_of league room h ask)
+pub reply_tells : (league : LeagueData) (room : ℕ) (h : List Entry) (caller : ℕ) (ask : Ask) →
+    TellsOf league h (entry caller ask) (next_of league room h caller ask) (reply_of league room h ask)
 reply_tells league room h caller ask = tells_of_reply league room h caller ask
 
 -- the best total, as a number
@@ -41,7 +45,8 @@ least_falls league h e limits = least_of_falls league h e limits
 
 -- nor with more
 pub least_falls_on : (league : LeagueData) (h more : List Entry) → IsLeague league → least_of league (h ++ more) ≤ least_of league h
-least_falls_on league h [] limits = let same : h ++ [] ≡ h = append-nil h in let P : List Entry → Type 0 = λ l. least_of league l ≤ least_of league h in subst P (sym same) (omega arith)
+least_falls_on league h [] limits = let same : h ++ [] ≡ h = append-nil h in let P : List Entry → Type 0 =
+    λ l. least_of league l ≤ least_of league h in subst P (sym same) (omega arith)
 least_falls_on league h (e ∷ more) limits =
     let one = least_falls league h e limits in
     let rest = least_falls_on league (h ++ e ∷ []) more limits in

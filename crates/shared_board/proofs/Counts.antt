@@ -1,5 +1,6 @@
 -- Numbers that are held, counted, and entries under them.
-use Rattle.std.proofs.Common.{◌≡◌, ◌≢◌, ℕ, zero, suc, ◌+◌, ◌<◌, ◌≤◌, ◌==◌, cond, List, [], ◌∷◌, ◌++◌, length, set, refl, ap, sym, ◌∙◌, lt_of_not-le, arith}
+use Rattle.std.proofs.Common.{◌≡◌, ◌≢◌, ℕ, zero, suc, ◌+◌, ◌<◌, ◌≤◌, ◌==◌, cond, List, [], ◌∷◌, ◌++◌, length, set, refl}
+use Rattle.std.proofs.Common.{ap, sym, ◌∙◌, lt_of_not-le, arith}
 use Rattle.std.proofs.lemmas.Bool.Decides.{nat_tests}
 use mathlib.Core.Option.{some, some-injective, some-ne-none}
 use mathlib.Core.Logic.{dite}
@@ -36,7 +37,8 @@ under_none held n [] below none = refl
 under_none held n (e ∷ es) below none = omega (arith, none e.caller below.0, under_none held n es below.1 none)
 
 -- each entry is under numbers that are all of the callers'
-pub under_all : (held : List ℕ) (n : ℕ) (es : List Entry) → callers_below n es → ((x : ℕ) → x < n → times x held ≡ 1) → under held es ≡ length es
+pub under_all : (held : List ℕ) (n : ℕ) (es : List Entry) → callers_below n es → ((x : ℕ) → x < n → times x held ≡ 1) →
+    under held es ≡ length es
 under_all held n [] below all = refl
 under_all held n (e ∷ es) below all = omega (arith, all e.caller below.0, under_all held n es below.1 all)
 
@@ -83,7 +85,8 @@ once_more x n m le = grind (arith, nat_tests)
 
 -- what is counted of a number below n, and of no other
 pub once_within : (x n k : ℕ) → k ≤ 1 → (n ≤ x → k ≡ 0) → k ≤ once_below x n
-once_within x n k most none = elim (dec_le n x) [ yes le ↦ omega (arith, none le) | no more ↦ omega (arith, most, once_all x n (omega arith)) ]
+once_within x n k most none = elim
+    (dec_le n x) [ yes le ↦ omega (arith, none le) | no more ↦ omega (arith, most, once_all x n (omega arith)) ]
 
 -- a number that is held is below the count of those given out
 pub held_below : (x n k : ℕ) → 0 < k → k ≤ once_below x n → x < n
@@ -189,10 +192,12 @@ held_most n held most =
     omega arith
 
 equal_alike : (a b c : ℕ) → (a ≡ b → a ≡ c) → (a ≡ c → a ≡ b) → (a == b) ≡ (a == c)
-equal_alike a b c f g = dite (ℕ_discrete a b) (λ e. ap (λ (n : ℕ). a == n) (sym e ∙ f e)) (λ ne. let other : a ≢ c = λ e. ne (g e) in grind (arith, nat_tests))
+equal_alike a b c f g = dite (ℕ_discrete a b) (λ e. ap (λ (n : ℕ). a == n) (sym e ∙ f e))
+    (λ ne. let other : a ≢ c = λ e. ne (g e) in grind (arith, nat_tests))
 
 -- where who holds each number that it knows of knows of all, it holds as many as there are just where it holds as many as it knows of
-pub all_alike : (given n : ℕ) (held : List ℕ) → given ≤ n → ((x : ℕ) → times x held ≤ once_below x given) → (HoldsEach given held → given ≡ n) → (length held == n) ≡ (length held == given)
+pub all_alike : (given n : ℕ) (held : List ℕ) → given ≤ n → ((x : ℕ) → times x held ≤ once_below x given) →
+    (HoldsEach given held → given ≡ n) → (length held == n) ≡ (length held == given)
 all_alike given n held le own all =
     let most = held_most given held own in
     equal_alike (length held) n given (λ e. omega arith)

@@ -1,5 +1,6 @@
 -- Whole calls, over plain values.
-use Rattle.std.proofs.Common.{◌≡◌, ℕ, ◌+◌, ◌<◌, ◌≤◌, max, inl, inr, ◌⊎◌, Option, Some, None, List, [], ◌∷◌, ◌++◌, length, refl, ap, sym, ◌∙◌, subst, arith, length-append}
+use Rattle.std.proofs.Common.{◌≡◌, ℕ, ◌+◌, ◌<◌, ◌≤◌, max, inl, inr, ◌⊎◌, Option, Some, None, List, [], ◌∷◌, ◌++◌}
+use Rattle.std.proofs.Common.{length, refl, ap, sym, ◌∙◌, subst, arith, length-append}
 use Rattle.std.proofs.lemmas.List.{append-nil}
 use Rattle.std.proofs.lemmas.Bool.Decides.{nat_tests}
 use native.Mathlib.Decide.{dec_le}
@@ -19,12 +20,15 @@ use Rattle.shared_board.specs.Setting.{Setting, board_at}
 use Rattle.shared_board.specs.Stage.{away, holds, kept}
 use Rattle.shared_board.specs.Held.{times, once_below, under, HoldsEach, callers_below}
 use Rattle.shared_board.specs.Rule.{Knows}
-use Rattle.shared_board.specs.Plays.{Place, Meets, Took, Counted, Parted, counting, drawing, newcomer, joined, longer, saw, at_stage, on_board}
+use Rattle.shared_board.specs.Plays.{Place, Meets, Took, Counted, Parted, counting, drawing, newcomer, joined, longer}
+use Rattle.shared_board.specs.Plays.{saw, at_stage, on_board}
 use Rattle.shared_board.specs.Seats.{BoardId, SeatValue, seat_value, IsIdle, IsSeat, IsConsistent, Met, Answered, IsNew, Absorbed}
 use Rattle.shared_board.specs.Ending.{IsSeatAfter, IsOfBoth, BroughtOut, HoldsBelow}
 use Rattle.shared_board.specs.Judging.{IsJudged}
 use Rattle.shared_board.proofs.BoardLaws.{reply_tells}
-use Rattle.shared_board.proofs.Counts.{times_append, times_own, times_one, times_self, once_within, all_alike, under_append, under_both, under_most, under_none, under_all, callers_front, once_most, once_none, all_held, held_most}
+use Rattle.shared_board.proofs.Counts.{times_append, times_own, times_one, times_self, once_within, all_alike}
+use Rattle.shared_board.proofs.Counts.{under_append, under_both, under_most, under_none, under_all, callers_front}
+use Rattle.shared_board.proofs.Counts.{once_most, once_none, all_held, held_most}
 use Rattle.shared_board.proofs.Seating.{longer_cases, begins_longer}
 
 -- what the answer of the board tells
@@ -35,12 +39,14 @@ tells s h number ask j r judged is =
     subst P (sym judged.reply ∙ is) (reply_tells s.league s.room h number ask)
 
 -- what it granted is one entry more
-pub done_adds : (s : Setting) (h : List Entry) (number : ℕ) (ask : Ask) (j : Judged) (at : ℕ) (cost : Cost) → IsJudged s h number ask j → j.reply ≡ Done at cost
+pub done_adds : (s : Setting) (h : List Entry) (number : ℕ) (ask : Ask) (j : Judged) (at : ℕ) (cost : Cost) → IsJudged s h number ask j →
+    j.reply ≡ Done at cost
     → next_of s.league s.room h number ask ≡ h ++ entry number ask ∷ []
 done_adds s h number ask j at cost judged is = (tells s h number ask j (Done at cost) judged is).0
 
 -- and what it refused is none
-pub no_stays : (s : Setting) (h : List Entry) (number : ℕ) (ask : Ask) (j : Judged) (at : ℕ) (why : Why) → IsJudged s h number ask j → j.reply ≡ No at why
+pub no_stays : (s : Setting) (h : List Entry) (number : ℕ) (ask : Ask) (j : Judged) (at : ℕ) (why : Why) → IsJudged s h number ask j →
+    j.reply ≡ No at why
     → next_of s.league s.room h number ask ≡ h
 no_stays s h number ask j at why judged is = (tells s h number ask j (No at why) judged is).0
 
@@ -50,10 +56,12 @@ accepted_same v h met =
     let k = met.knows in ap (under v.held) k.begins ∙ (let a = under_append v.held v.seen k.after in let b = k.none_after in omega arith)
 
 -- and one more after a change of its own
-pub accepted_more : (v : View) (h g : List Entry) (number : ℕ) (ask : Ask) → 0 < times number v.held → Meets v h → g ≡ h ++ entry number ask ∷ []
+pub accepted_more : (v : View) (h g : List Entry) (number : ℕ) (ask : Ask) → 0 < times number v.held → Meets v h → g ≡ h ++
+    entry number ask ∷ []
     → under v.held g ≡ under v.held v.seen + 1
 accepted_more v h g number ask own met is =
-    let a = ap (under v.held) is in let b = under_append v.held h (entry number ask ∷ []) in let c = accepted_same v h met in let d = met.single number in omega arith
+    let a = ap (under v.held) is in let b = under_append v.held h (entry number ask ∷ []) in let c = accepted_same v h met in let d =
+    met.single number in omega arith
 
 -- the fields of a seat that has seen a history
 pub seat_saw : (me n : Place) (number held seen accepted : ℕ) (g : List Entry) (version more : ℕ) → IsSeat me number held seen accepted
@@ -71,15 +79,18 @@ seat_saw me n number held seen accepted g version more seat is long entries =
       ahead = omega arith;
     })
 
-pub consistent_of : (table : BoardId) (me : Place) (number held seen accepted : ℕ) → IsSeat me number held seen accepted → IsConsistent (seat_value table number me.0)
-consistent_of table me number held seen accepted seat = record { own = omega (arith, seat.own, seat.single number); single = seat.single; below = seat.below; ahead = seat.ahead }
+pub consistent_of : (table : BoardId) (me : Place) (number held seen accepted : ℕ) → IsSeat me number held seen accepted →
+    IsConsistent (seat_value table number me.0)
+consistent_of table me number held seen accepted seat =
+    record { own = omega (arith, seat.own, seat.single number); single = seat.single; below = seat.below; ahead = seat.ahead }
 
 pub met_of : (table : BoardId) (number : ℕ) (v : View) (h : List Entry) → Meets v h → Met (seat_value table number v) h
 met_of table number v h met = record { legal = met.legal; knows = met.knows; glanced = met.glanced; lowest = met.lowest }
 
 -- a seat knows at least of its own number
 pub some_given : (me : Place) (number held seen accepted : ℕ) → IsSeat me number held seen accepted → 0 < me.0.given
-some_given me number held seen accepted seat = elim (dec_le 1 me.0.given) [ yes le ↦ omega arith | no more ↦ absurd (omega (arith, seat.own, seat.below number (omega arith))) ]
+some_given me number held seen accepted seat =
+    elim (dec_le 1 me.0.given) [ yes le ↦ omega arith | no more ↦ absurd (omega (arith, seat.own, seat.below number (omega arith))) ]
 
 -- a turn in which the board was asked, as its steps tell it: before, under the turn, after the board answered, and after
 pub record Asked (me taken told done : Place) (number : ℕ) (ask : Ask) (j : Judged) : Type 0 where
@@ -88,7 +99,8 @@ pub record Asked (me taken told done : Place) (number : ℕ) (ask : Ask) (j : Ju
   pub judged : IsJudged taken.0.setting (on_board taken.1) number ask j
   pub left : done ≡ (saw told.0 (next_of told.0.setting.league told.0.setting.room (kept told.0.stage) number ask) away, [])
 
-asked_judged : (me taken told done : Place) (number : ℕ) (ask : Ask) (j : Judged) (a : Asked me taken told done number ask j) → IsJudged me.0.setting a.took.0 number ask j
+asked_judged : (me taken told done : Place) (number : ℕ) (ask : Ask) (j : Judged) (a : Asked me taken told done number ask j) →
+    IsJudged me.0.setting a.took.0 number ask j
 asked_judged me taken told done number ask j a =
     let P : Place → Type 0 = λ m. IsJudged m.0.setting (on_board m.1) number ask j in subst P a.took.2 a.judged
 
@@ -98,7 +110,8 @@ asked_left me taken told done number ask j a =
     let f : View → Place = λ v. (saw v (next_of v.setting.league v.setting.room (kept v.stage) number ask) away, []) in
     a.left ∙ ap f (a.same ∙ ap (λ (m : Place). m.0) a.took.2)
 
-pub seat_after : (me taken told done : Place) (number held seen accepted : ℕ) (ask : Ask) (j : Judged) (r : Reply) → IsSeat me number held seen accepted
+pub seat_after : (me taken told done : Place) (number held seen accepted : ℕ) (ask : Ask) (j : Judged) (r : Reply) →
+    IsSeat me number held seen accepted
     → Asked me taken told done number ask j → j.reply ≡ r → IsSeatAfter done number held accepted r
 seat_after me taken told done number held seen accepted ask j (Done at cost) seat a is =
     let s = me.0.setting in let h = a.took.0 in let judged = asked_judged me taken told done number ask j a in
@@ -117,7 +130,8 @@ seat_after me taken told done number held seen accepted ask j (No at why) seat a
     seat_saw me done number held seen accepted g at accepted seat (asked_left me taken told done number ask j a) t.1
     (seat.entries ∙ (sym (accepted_same me.0 h a.took.1) ∙ ap (under me.0.held) (sym t.0)))
 
-pub answered : (table : BoardId) (me taken told done : Place) (number held seen accepted : ℕ) (ask : Ask) (j : Judged) → Asked me taken told done number ask j
+pub answered : (table : BoardId) (me taken told done : Place) (number held seen accepted : ℕ) (ask : Ask) (j : Judged) →
+    Asked me taken told done number ask j
     → IsSeat me number held seen accepted → Answered (seat_value table number me.0) (seat_value table number done.0) ask j.reply
 answered table me taken told done number held seen accepted ask j a seat =
     let h = a.took.0 in let judged = asked_judged me taken told done number ask j a in
@@ -142,11 +156,13 @@ saw_left me taken read done a =
 pub saw_board : (me taken read done : Place) (a : Saw me taken read done) → on_board taken.1 ≡ a.took.0
 saw_board me taken read done a = ap (λ (m : Place). on_board m.1) a.took.2
 
-pub seat_looked : (me taken read done : Place) (number held seen accepted version : ℕ) → IsSeat me number held seen accepted → Saw me taken read done → version ≡ length (on_board taken.1)
+pub seat_looked : (me taken read done : Place) (number held seen accepted version : ℕ) → IsSeat me number held seen accepted →
+    Saw me taken read done → version ≡ length (on_board taken.1)
     → IsSeat done number held version accepted
 seat_looked me taken read done number held seen accepted version seat a long =
     let h = a.took.0 in
-    seat_saw me done number held seen accepted h version accepted seat (saw_left me taken read done a) (long ∙ ap length (saw_board me taken read done a))
+    seat_saw me done number held seen accepted h version accepted seat (saw_left me taken read done a)
+    (long ∙ ap length (saw_board me taken read done a))
     (seat.entries ∙ sym (accepted_same me.0 h a.took.1))
 
 new_below : (r x : ℕ) → r + 1 ≤ x → times x (r ∷ []) ≡ 0
@@ -157,12 +173,19 @@ nothing_after a [] e = append-nil a
 nothing_after a (x ∷ b) e = absurd (omega arith)
 
 -- of two histories that one begins, the longer is known to the seat that saw less
-knows_less : (held : List ℕ) (less more h : List Entry) (other : List ℕ) → length less ≤ length more → Knows held less h → Knows other more h → Knows held less more
+knows_less : (held : List ℕ) (less more h : List Entry) (other : List ℕ) → length less ≤ length more → Knows held less h →
+    Knows other more h → Knows held less more
 knows_less held less more h other le k l =
     let b = begins_longer less more k.after l.after (sym k.begins ∙ l.begins) le in
-    record { after = b.0; begins = b.1; none_after = (let u = under_append held b.0 l.after in let w = ap (under held) b.2 in let z = k.none_after in omega arith) }
+    record {
+      after = b.0;
+      begins = b.1;
+      none_after =
+          (let u = under_append held b.0 l.after in let w = ap (under held) b.2 in let z = k.none_after in omega arith);
+    }
 
-seen_by : (held : List ℕ) (less more h : List Entry) (other : List ℕ) → length less ≤ length more → Knows held less h → Knows other more h → under held more ≡ under held less
+seen_by : (held : List ℕ) (less more h : List Entry) (other : List ℕ) → length less ≤ length more → Knows held less h →
+    Knows other more h → under held more ≡ under held less
 seen_by held less more h other le k l =
     let n = knows_less held less more h other le k l in
     ap (under held) n.begins ∙ (let u = under_append held less n.after in let z = n.none_after in omega arith)
@@ -181,14 +204,16 @@ drawn_view v r = record v { held = r ∷ v.held; given = r + 1; stage = away }
 
 pub drawn_away : (me taken counted : Place) (r : ℕ) (a : Read me taken counted r) → at_stage (drawing counted.0) away ≡ drawn_view me.0 r
 drawn_away me taken counted r a =
-    ap (λ (m : Place). at_stage (drawing m.0) away) a.count.now ∙ ap (λ (v : View). at_stage (drawing (counting v r)) away) (read_taken me taken counted r a)
+    ap (λ (m : Place). at_stage (drawing m.0) away) a.count.now ∙
+    ap (λ (v : View). at_stage (drawing (counting v r)) away) (read_taken me taken counted r a)
 
 read_later : (me taken counted : Place) (r : ℕ) → Read me taken counted r → me.0.given ≤ r
 read_later me taken counted r a =
     let P : View → Type 0 = λ v. v.given ≤ r in subst P (read_taken me taken counted r a) a.count.grown
 
 -- its own number is its own still
-pub read_own : (me taken counted : Place) (r number : ℕ) → Read me taken counted r → 0 < times number me.0.held → 0 < times number counted.0.held
+pub read_own : (me taken counted : Place) (r number : ℕ) → Read me taken counted r → 0 < times number me.0.held →
+    0 < times number counted.0.held
 read_own me taken counted r number a own =
     let P : Place → Type 0 = λ m. 0 < times number m.0.held in
     let Q : View → Type 0 = λ v. 0 < times number v.held in
@@ -207,10 +232,13 @@ read_none me taken counted r a =
 abbrev new_view : View → ℕ → View
 new_view v r = record v { held = r ∷ []; parts = []; given = r + 1; stage = away }
 
-new_is : (me taken counted drawn new : Place) (r : ℕ) → Read me taken counted r → drawn ≡ (at_stage (drawing counted.0) away, []) → new ≡ (newcomer drawn.0, []) → new ≡ (new_view me.0 r, [])
-new_is me taken counted drawn new r a is given_is = given_is ∙ ap (λ (v : View). (newcomer v, [])) (ap (λ (m : Place). m.0) is ∙ drawn_away me taken counted r a)
+new_is : (me taken counted drawn new : Place) (r : ℕ) → Read me taken counted r → drawn ≡ (at_stage (drawing counted.0) away, []) →
+    new ≡ (newcomer drawn.0, []) → new ≡ (new_view me.0 r, [])
+new_is me taken counted drawn new r a is given_is = given_is ∙
+    ap (λ (v : View). (newcomer v, [])) (ap (λ (m : Place). m.0) is ∙ drawn_away me taken counted r a)
 
-pub new_seat : (me taken counted drawn new : Place) (r number held seen accepted : ℕ) → IsSeat me number held seen accepted → Read me taken counted r
+pub new_seat : (me taken counted drawn new : Place) (r number held seen accepted : ℕ) → IsSeat me number held seen accepted →
+    Read me taken counted r
     → drawn ≡ (at_stage (drawing counted.0) away, []) → new ≡ (newcomer drawn.0, []) → IsSeat new r 1 seen 0
 new_seat me taken counted drawn new r number held seen accepted seat a is given_is =
     let P : Place → Type 0 = λ m. IsSeat m r 1 seen 0 in
@@ -225,10 +253,13 @@ new_seat me taken counted drawn new r number held seen accepted seat a is given_
       ahead = seat.ahead;
     })
 
-pub is_new : (table after : BoardId) (me taken counted drawn new : Place) (r number held seen accepted : ℕ) → after ≡ table → r < 64 → IsSeat me number held seen accepted → Read me taken counted r
-    → drawn ≡ (at_stage (drawing counted.0) away, []) → new ≡ (newcomer drawn.0, []) → IsNew (seat_value table number me.0) (seat_value after r new.0)
+pub is_new : (table after : BoardId) (me taken counted drawn new : Place) (r number held seen accepted : ℕ) → after ≡ table → r < 64 →
+    IsSeat me number held seen accepted → Read me taken counted r
+    → drawn ≡ (at_stage (drawing counted.0) away, []) → new ≡ (newcomer drawn.0, []) →
+    IsNew (seat_value table number me.0) (seat_value after r new.0)
 is_new table after me taken counted drawn new r number held seen accepted same few seat a is given_is = record {
-  now = ap (λ (t : BoardId). seat_value t r new.0) same ∙ ap (λ (m : Place). seat_value table r m.0) (new_is me taken counted drawn new r a is given_is);
+  now = ap (λ (t : BoardId). seat_value t r new.0) same ∙
+      ap (λ (m : Place). seat_value table r m.0) (new_is me taken counted drawn new r a is given_is);
   few = few;
   later = read_later me taken counted r a;
   own = seat.below r (read_later me taken counted r a);
@@ -261,7 +292,8 @@ held_fits : (v w : View) → Both v w → length v.held + length w.held ≤ 64
 held_fits v w b = omega (arith, held_most 64 (v.held ++ w.held) b.single, length-append v.held w.held)
 
 longer_length : (a b : List Entry) → length (longer a b) ≡ max (length a) (length b)
-longer_length a b = let P : List Entry → Type 0 = λ l. length l ≡ max (length a) (length b) in longer_cases P a b (λ less. omega arith) (λ le. omega arith)
+longer_length a b = let P : List Entry → Type 0 = λ l. length l ≡ max (length a) (length b) in
+    longer_cases P a b (λ less. omega arith) (λ le. omega arith)
 
 pub of_both : (me other done : Place) → IsIdle me → done ≡ (joined me.0 other.0, me.1) → Parted done → IsOfBoth me other done
 of_both me other done idle is told =
@@ -278,10 +310,12 @@ of_both me other done idle is told =
       entries = entries_both v w both;
       most = under_most (v.held ++ w.held) (longer v.seen w.seen) (λ x. let a = both.single x in let c = once_most x 64 in omega arith);
       ahead = λ mine theirs. omega (arith, longer_length v.seen w.seen);
-      below = λ mine theirs x le. (let c = mine x (omega arith) in let d = theirs x (omega arith) in omega (arith, times_append x v.held w.held));
+      below = λ mine theirs x le. (let c = mine x (omega arith) in let d = theirs x (omega arith) in
+          omega (arith, times_append x v.held w.held));
     })
 
-pub absorbed : (table table' after : BoardId) (me other done : Place) (number number' : ℕ) (a o : SeatValue) → after ≡ table → done ≡ (joined me.0 other.0, me.1) → Parted done
+pub absorbed : (table table' after : BoardId) (me other done : Place) (number number' : ℕ) (a o : SeatValue) → after ≡ table →
+    done ≡ (joined me.0 other.0, me.1) → Parted done
     → seat_value table number me.0 ≡ a → seat_value table' number' other.0 ≡ o → Absorbed a o (seat_value after number done.0)
 absorbed table table' after me other done number number' a o same is told first second =
     let v = me.0 in let w = other.0 in
@@ -302,7 +336,8 @@ absorbed table table' after me other done number number' a o same is told first 
     subst A first (subst O second (subst B result made))
 
 -- where a seat holds each number, the history that it met is what it had seen
-pub whole_seen : (v : View) (h : List Entry) (r : ℕ) → Meets v h → callers_below r h → ((x : ℕ) → times x v.held ≤ once_below x r) → length v.held ≡ r
+pub whole_seen : (v : View) (h : List Entry) (r : ℕ) → Meets v h → callers_below r h → ((x : ℕ) → times x v.held ≤ once_below x r) →
+    length v.held ≡ r
     → (h ≡ v.seen) × (under v.held v.seen ≡ length h)
 whole_seen v h r met below own all =
     let k = met.knows in
@@ -321,11 +356,14 @@ abbrev in_hand : Book → List (ℕ × Option Book) → Book
 in_hand none_there [] = none_there
 in_hand none_there (x ∷ xs) = board_or none_there x.1
 
-pub has_board : (me taken counted : Place) (r : ℕ) (t : Took me taken) → Counted taken r counted → me.1 ≡ [] → counted.1 ≡ (0, Some (board_at me.0.setting t.0)) ∷ []
+pub has_board : (me taken counted : Place) (r : ℕ) (t : Took me taken) → Counted taken r counted → me.1 ≡ [] →
+    counted.1 ≡ (0, Some (board_at me.0.setting t.0)) ∷ []
 has_board me taken counted r t count nothing =
-    ap (λ (m : Place). m.1) count.now ∙ (ap (λ (m : Place). m.1) t.2 ∙ ap (λ (l : List (ℕ × Option Book)). (0, Some (board_at me.0.setting t.0)) ∷ l) nothing)
+    ap (λ (m : Place). m.1) count.now ∙
+    (ap (λ (m : Place). m.1) t.2 ∙ ap (λ (l : List (ℕ × Option Book)). (0, Some (board_at me.0.setting t.0)) ∷ l) nothing)
 
-pub brought_out : (me taken counted : Place) (r : ℕ) (b : Book) → me.1 ≡ [] → 0 < me.0.given → HoldsBelow me → Took me taken → Counted taken r counted → counted.1 ≡ (0, Some b) ∷ rest counted.1
+pub brought_out : (me taken counted : Place) (r : ℕ) (b : Book) → me.1 ≡ [] → 0 < me.0.given → HoldsBelow me → Took me taken →
+    Counted taken r counted → counted.1 ≡ (0, Some b) ∷ rest counted.1
     → BroughtOut me b r
 brought_out me taken counted r b nothing some_given below t count found =
     let h = t.0 in
@@ -337,7 +375,8 @@ brought_out me taken counted r b nothing some_given below t count found =
       history = h;
       met = t.1;
       board_is = ap (in_hand b) (sym found ∙ c);
-      all = all_alike me.0.given r me.0.held (read_later me taken counted r (record { took = t; count = count })) (λ x. once_within x me.0.given (times x me.0.held) (t.1.single x) (below x))
+      all = all_alike me.0.given r me.0.held (read_later me taken counted r (record { took = t; count = count }))
+          (λ x. once_within x me.0.given (times x me.0.held) (t.1.single x) (below x))
           (subst A t.2 count.all some_given);
       whole = λ all. whole_seen me.0 h r t.1 (subst K t.2 count.callers) (subst O t.2 count.own) all;
     }

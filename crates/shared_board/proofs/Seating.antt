@@ -1,5 +1,7 @@
 -- Each step outside a turn keeps the rule, and so do seats that come and go.
-use Rattle.std.proofs.Common.{◌≡◌, ℕ, ◌+◌, ◌<◌, ◌≤◌, min, max, nat_lt, if◌then◌else◌, Bool, true, false, List, [], ◌∷◌, ◌++◌, length, slice_index, set, refl, ap, sym, ◌∙◌, subst, ◌⊎◌, inl, inr, ⊎_elim, arith, length-append}
+use Rattle.std.proofs.Common.{◌≡◌, ℕ, ◌+◌, ◌<◌, ◌≤◌, min, max, nat_lt, if◌then◌else◌, Bool, true, false, List, [], ◌∷◌}
+use Rattle.std.proofs.Common.{◌++◌, length, slice_index, set, refl, ap, sym, ◌∙◌, subst, ◌⊎◌, inl, inr, ⊎_elim, arith}
+use Rattle.std.proofs.Common.{length-append}
 use Rattle.std.proofs.lemmas.Bool.Decides.{nat_tests}
 use Rattle.std.proofs.lemmas.List.{append-nil}
 use mathlib.Core.Option.{none, some}
@@ -23,10 +25,13 @@ use Rattle.shared_board.proofs.Views.{either_read, fits_at, fits_fewer, fits_fro
 use Rattle.shared_board.proofs.Steps.{with_views, aside, splits_off, held_once}
 
 -- the view of a seat that is away
-pub fits_away : (s : Table) (r : Ruled s) (id : ℕ) (v : View) → get_elem? s.views id ≡ some v → v.live ≡ true → v.stage ≡ away → Fits r.setting r.posted (length r.history) r.numbers v
-fits_away s r id v at live e = fits_at r.setting r.posted r.history r.posted (length r.history) r.numbers v away e refl (r.seats id v at live)
+pub fits_away : (s : Table) (r : Ruled s) (id : ℕ) (v : View) → get_elem? s.views id ≡ some v → v.live ≡ true → v.stage ≡ away →
+    Fits r.setting r.posted (length r.history) r.numbers v
+fits_away s r id v at live e = fits_at r.setting r.posted r.history r.posted (length r.history) r.numbers v away e refl
+    (r.seats id v at live)
 
-pub glance_keeps : (slots id : ℕ) (m : Place) → m.0.live ≡ true → m.0.stage ≡ away → Allows Ruled slots id m 1 (λ n. n) (glanced (step slots 1 0 0 none) m)
+pub glance_keeps : (slots id : ℕ) (m : Place) → m.0.live ≡ true → m.0.stage ≡ away →
+    Allows Ruled slots id m 1 (λ n. n) (glanced (step slots 1 0 0 none) m)
 glance_keeps slots id m live e s r sized at fits =
     let v = m.0 in
     let n : ℕ = slice_index s.words 1 in
@@ -37,7 +42,15 @@ glance_keeps slots id m live e s r sized at fits =
       keeps,
       tt,
       aside s r id v w (set s.words 1 n) at live e e (λ x. omega arith) (omega arith)
-          (λ f. record { setting_is = f.setting_is; knows = f.knows; glanced = omega arith; lowest = f.lowest; given = f.given; parts = f.parts })
+          (λ f. record {
+            setting_is = f.setting_is;
+            knows = f.knows;
+            glanced = omega arith;
+            lowest = f.lowest;
+            given = f.given;
+            parts =
+                f.parts;
+          })
           (ap (λ (l : List ℕ). set l 1 (slice_index l 1)) r.words ∙ sym r.words),
       (omega arith, refl),
     )
@@ -56,27 +69,39 @@ lowest_falls s seen h low limits l =
     let falls = least_falls_on s.league (seen ++ l.more) l.rest limits in
     let same : least_of s.league h ≡ least_of s.league ((seen ++ l.more) ++ l.rest) = ap (least_of s.league) l.point in
     let is = l.least in
-    let a : ℕ = least_of s.league h in let b : ℕ = least_of s.league ((seen ++ l.more) ++ l.rest) in let c : ℕ = least_of s.league (seen ++ l.more) in
+    let a : ℕ = least_of s.league h in let b : ℕ = least_of s.league ((seen ++ l.more) ++ l.rest) in let c : ℕ =
+    least_of s.league (seen ++ l.more) in
     let p : a ≡ b = same in let q : b ≤ c = falls in let t : low ≡ c = is in omega arith
 
-pub lower_keeps : (slots id : ℕ) (m : Place) → m.0.live ≡ true → m.0.stage ≡ away → Allows Ruled slots id m 3 (λ n. n) (lowered (step slots 3 0 0 none) m)
+pub lower_keeps : (slots id : ℕ) (m : Place) → m.0.live ≡ true → m.0.stage ≡ away →
+    Allows Ruled slots id m 3 (λ n. n) (lowered (step slots 3 0 0 none) m)
 lower_keeps slots id m live e s r sized at fits =
     let v = m.0 in
     let n : ℕ = slice_index s.words 3 in
     let found : n ≡ least_of r.setting.league r.posted = ap (λ (l : List ℕ). slice_index l 3) r.words in
     let w : View = record v { lowest = n } in
     let P : ℕ → Type 0 = λ k. Lowest r.setting v.seen r.posted k in
-    let falls : least_of r.setting.league r.posted ≤ v.lowest = lowest_falls r.setting v.seen r.posted v.lowest r.limits (fits_away s r id v at live e).lowest in (
+    let falls : least_of r.setting.league r.posted ≤ v.lowest =
+    lowest_falls r.setting v.seen r.posted v.lowest r.limits (fits_away s r id v at live e).lowest in (
       w,
       keeps,
       tt,
       aside s r id v w (set s.words 3 n) at live e e (λ x. omega arith) (omega arith)
-          (λ f. record { setting_is = f.setting_is; knows = f.knows; glanced = f.glanced; lowest = subst P (sym found) (lowest_now r.setting v.seen r.posted v.held f.knows); given = f.given; parts = f.parts })
+          (λ f. record {
+            setting_is = f.setting_is;
+            knows = f.knows;
+            glanced = f.glanced;
+            lowest =
+                subst P (sym found) (lowest_now r.setting v.seen r.posted v.held f.knows);
+            given = f.given;
+            parts = f.parts;
+          })
           (ap (λ (l : List ℕ). set l 3 (slice_index l 3)) r.words ∙ sym r.words),
       (omega (arith, falls), refl),
     )
 
-pub tell_keeps : (slots id : ℕ) (m : Place) → m.0.live ≡ true → m.0.stage ≡ away → Allows Ruled slots id m 0 (λ n. n) (parted (step slots 0 0 0 none) m)
+pub tell_keeps : (slots id : ℕ) (m : Place) → m.0.live ≡ true → m.0.stage ≡ away →
+    Allows Ruled slots id m 0 (λ n. n) (parted (step slots 0 0 0 none) m)
 tell_keeps slots id m live e s r sized at fits =
     let v = m.0 in (
       v,
@@ -99,14 +124,16 @@ both_parts x [] = refl
 both_parts x (n ∷ held) = omega arith
 
 pub split_keeps : (id : ℕ) (v : View) → v.live ≡ true → v.stage ≡ away → Splits Ruled id v (drawer v) (newcomer v)
-split_keeps id v live e s r at = splits_off s r id v (drawer v) (newcomer v) at live e e e (λ x. both_parts x v.held) (omega arith) (omega arith)
+split_keeps id v live e s r at =
+    splits_off s r id v (drawer v) (newcomer v) at live e e e (λ x. both_parts x v.held) (omega arith) (omega arith)
     (λ f. (
       fits_fewer r.setting r.posted (length r.history) r.numbers v (drawn_before v.held) (λ x. omega (arith, both_parts x v.held)) f,
       fits_fewer r.setting r.posted (length r.history) r.numbers v (last_drawn v.held) (λ x. omega (arith, both_parts x v.held)) f,
     ))
 
 -- of two beginnings of one list the shorter begins the longer
-pub begins_longer : {A : Type 0} (xs ys a b : List A) → xs ++ a ≡ ys ++ b → length xs ≤ length ys → (c : List A) × (ys ≡ xs ++ c) × (a ≡ c ++ b)
+pub begins_longer : {A : Type 0} (xs ys a b : List A) → xs ++ a ≡ ys ++ b → length xs ≤ length ys → (c : List A) × (ys ≡ xs ++ c) ×
+    (a ≡ c ++ b)
 begins_longer [] ys a b e le = (ys, refl, e)
 begins_longer (x ∷ xs) [] a b e le = absurd (omega arith)
 begins_longer (x ∷ xs) (y ∷ ys) a b e le =
@@ -116,26 +143,43 @@ begins_longer (x ∷ xs) (y ∷ ys) a b e le =
     (rest.0, cc (heads, rest.1), rest.2)
 
 -- the seat that saw more knows for both
-pub knows_both : (held other : List ℕ) (less more h : List Entry) → length less ≤ length more → Knows held less h → Knows other more h → Knows (held ++ other) more h
+pub knows_both : (held other : List ℕ) (less more h : List Entry) → length less ≤ length more → Knows held less h → Knows other more h →
+    Knows (held ++ other) more h
 knows_both held other less more h le k l =
     let b = begins_longer less more k.after l.after (sym k.begins ∙ l.begins) le in
     record {
       after = l.after;
       begins = l.begins;
-      none_after = omega (arith, under_both held other l.after, under_append held b.0 l.after, ap (under held) b.2, k.none_after, l.none_after);
+      none_after = omega (
+        arith,
+        under_both held other l.after,
+        under_append held b.0 l.after,
+        ap (under held) b.2,
+        k.none_after,
+        l.none_after,
+      );
     }
 
 -- the same, with the numbers the other way round
-pub knows_both_back : (held other : List ℕ) (less more h : List Entry) → length less ≤ length more → Knows held less h → Knows other more h → Knows (other ++ held) more h
+pub knows_both_back : (held other : List ℕ) (less more h : List Entry) → length less ≤ length more → Knows held less h →
+    Knows other more h → Knows (other ++ held) more h
 knows_both_back held other less more h le k l =
     let b = begins_longer less more k.after l.after (sym k.begins ∙ l.begins) le in
     record {
       after = l.after;
       begins = l.begins;
-      none_after = omega (arith, under_both other held l.after, under_append held b.0 l.after, ap (under held) b.2, k.none_after, l.none_after);
+      none_after = omega (
+        arith,
+        under_both other held l.after,
+        under_append held b.0 l.after,
+        ap (under held) b.2,
+        k.none_after,
+        l.none_after,
+      );
     }
 
-pick : (P : List Entry → Type 0) (a b : List Entry) (t : Bool) → nat_lt (length a) (length b) ≡ t → (length a < length b → P b) → (length b ≤ length a → P a) → P (if t then b else a)
+pick : (P : List Entry → Type 0) (a b : List Entry) (t : Bool) → nat_lt (length a) (length b) ≡ t → (length a < length b → P b) →
+    (length b ≤ length a → P a) → P (if t then b else a)
 pick P a b true e f g = f (grind (arith, nat_tests))
 pick P a b false e f g = g (grind (arith, nat_tests))
 
@@ -143,7 +187,8 @@ pub longer_cases : (P : List Entry → Type 0) (a b : List Entry) → (length a 
 longer_cases P a b f g = pick P a b (nat_lt (length a) (length b)) refl f g
 
 -- a best total at a point of the history is at one no earlier than what was seen, if it is long enough
-lowest_from : (s : Setting) (seen after h point rest : List Entry) (low : ℕ) → h ≡ seen ++ after → h ≡ point ++ rest → length seen ≤ length point → low ≡ least_of s.league point → Lowest s seen h low
+lowest_from : (s : Setting) (seen after h point rest : List Entry) (low : ℕ) → h ≡ seen ++ after → h ≡ point ++ rest →
+    length seen ≤ length point → low ≡ least_of s.league point → Lowest s seen h low
 lowest_from s seen after h point rest low e d le is =
     let b = begins_longer seen point after rest (sym e ∙ d) le in
     record { more = b.0; rest = rest; point = d ∙ ap (λ l. l ++ rest) b.1; least = is ∙ ap (least_of s.league) b.1 }
@@ -152,7 +197,8 @@ le_or_le : (a b : ℕ) → (a ≤ b) ⊎ (b ≤ a)
 le_or_le a b = elim (dec_le a b) [ yes le ↦ inl le | no more ↦ inr (omega arith) ]
 
 -- the lesser of two totals is at the later point
-pub lowest_both : (s : Setting) (v w seen after h : List Entry) (low other : ℕ) → IsLeague s.league → h ≡ seen ++ after → length seen ≤ max (length v) (length w)
+pub lowest_both : (s : Setting) (v w seen after h : List Entry) (low other : ℕ) → IsLeague s.league → h ≡ seen ++ after →
+    length seen ≤ max (length v) (length w)
     → Lowest s v h low → Lowest s w h other → Lowest s seen h (min low other)
 lowest_both s v w seen after h low other limits e le k l =
     let p = v ++ k.more in let q = w ++ l.more in
@@ -177,7 +223,8 @@ lowest_both s v w seen after h low other limits e le k l =
     lowest_from s seen after h p k.rest (min low other) e k.point (omega arith) is)
     (le_or_le (length p) (length q))
 
-pub fits_joined : (s : Setting) (h : List Entry) (long numbers : ℕ) (v w : View) → IsLeague s.league → Fits s h long numbers v → Fits s h long numbers w → Fits s h long numbers (joined v w)
+pub fits_joined : (s : Setting) (h : List Entry) (long numbers : ℕ) (v w : View) → IsLeague s.league → Fits s h long numbers v →
+    Fits s h long numbers w → Fits s h long numbers (joined v w)
 fits_joined s h long numbers v w limits f g =
     let K : List Entry → Type 0 = λ l. Knows (v.held ++ w.held) l h in
     let L : List Entry → Type 0 = λ l. Lowest s l h (min v.lowest w.lowest) in
@@ -189,8 +236,10 @@ fits_joined s h long numbers v w limits f g =
           (λ less. knows_both_back w.held v.held w.seen v.seen h less g.knows f.knows);
       glanced = omega arith;
       lowest = longer_cases L v.seen w.seen
-          (λ less. lowest_both s v.seen w.seen w.seen g.knows.after h v.lowest w.lowest limits g.knows.begins (omega arith) f.lowest g.lowest)
-          (λ less. lowest_both s v.seen w.seen v.seen f.knows.after h v.lowest w.lowest limits f.knows.begins (omega arith) f.lowest g.lowest);
+          (λ less. lowest_both s v.seen w.seen w.seen g.knows.after h v.lowest w.lowest limits g.knows.begins
+          (omega arith) f.lowest g.lowest)
+          (λ less. lowest_both s v.seen w.seen v.seen f.knows.after h v.lowest w.lowest limits f.knows.begins
+          (omega arith) f.lowest g.lowest);
       given = omega arith;
       parts = (
         (λ x. omega (arith, times_append x v.held w.held)),
@@ -199,13 +248,15 @@ fits_joined s h long numbers v w limits f g =
       );
     }
 
-pub join_keeps : (id : ℕ) (v : View) (other : ℕ) (w : View) → v.live ≡ true → v.stage ≡ away → w.live ≡ true → w.stage ≡ away → Joins Ruled id v other w (joined v w) spent_view
+pub join_keeps : (id : ℕ) (v : View) (other : ℕ) (w : View) → v.live ≡ true → v.stage ≡ away → w.live ≡ true → w.stage ≡ away →
+    Joins Ruled id v other w (joined v w) spent_view
 join_keeps id v other w live e live' e' s r at ne at' =
     let both = joined v w in
     let views = set s.views id both in
     let there : get_elem? s.views other ≡ some w = sym (set_else s.views id other both ne) ∙ at' in
     let F : View → Type 0 = λ u. Fits r.setting (upto u.stage r.posted r.history) (length r.history) r.numbers u in
-    let f = fits_joined r.setting r.posted (length r.history) r.numbers v w r.limits (fits_away s r id v at live e) (fits_away s r other w there live' e') in
+    let f = fits_joined r.setting r.posted (length r.history) r.numbers v w r.limits (fits_away s r id v at live e)
+    (fits_away s r other w there live' e') in
     let g : F both = fits_from r.setting r.posted r.history r.posted (length r.history) r.numbers both away e refl f in
     with_views s r s.words (set views other spent_view) refl
     (λ x.
@@ -226,10 +277,12 @@ join_keeps id v other w live e live' e' s r at ne at' =
           (λ t. ⊎_elim
           (λ q.
           let own_both : 0 < times d.by both.held = subst H (sym q.1) own in
-          subst G q.1 (either_read (times d.by v.held) (times d.by w.held) v.given w.given n (omega (arith, times_append d.by v.held w.held)) (d.read id v at) (d.read other w there)))
+          subst G q.1 (either_read (times d.by v.held) (times d.by w.held) v.given w.given n
+          (omega (arith, times_append d.by v.held w.held)) (d.read id v at) (d.read other w there)))
           (λ q. d.read j u q.1 own) (at_set s.views id j both u t.1))
           (at_set views other j spent_view u at'');
     })
-    (each_set F F views other spent_view (each_set F F s.views id both r.seats (λ j u ne' at'' h. h) (λ _. g)) (λ j u ne' at'' h. h) (λ is. absurd cc))
+    (each_set F F views other spent_view (each_set F F s.views id both r.seats (λ j u ne' at'' h. h) (λ _. g)) (λ j u ne' at'' h. h)
+    (λ is. absurd cc))
     (turns_aside r.setting r.posted r.history r.turn r.numbers r.home views other w spent_view at' e' refl
     (turns_aside r.setting r.posted r.history r.turn r.numbers r.home s.views id v both at e e r.turns))

@@ -1,5 +1,6 @@
 -- What a step of one seat leaves of the rule.
-use Rattle.std.proofs.Common.{◌≡◌, ◌≢◌, ℕ, ◌+◌, ◌<◌, ◌≤◌, Option, Some, List, [], ◌∷◌, ◌++◌, length, set, refl, ap, sym, ◌∙◌, subst, ◌⊎◌, inl, inr, ⊎_elim, arith, true}
+use Rattle.std.proofs.Common.{◌≡◌, ◌≢◌, ℕ, ◌+◌, ◌<◌, ◌≤◌, Option, Some, List, [], ◌∷◌, ◌++◌, length, set, refl, ap, sym}
+use Rattle.std.proofs.Common.{◌∙◌, subst, ◌⊎◌, inl, inr, ⊎_elim, arith, true}
 use mathlib.Core.Option.{none, some}
 use mathlib.Core.Option as maybe
 use native.Mathlib.Decide.{dec_le}
@@ -17,7 +18,8 @@ use Rattle.shared_board.specs.Held.{times, once_below, total, HoldsEach, callers
 use Rattle.shared_board.specs.Rule.{Fits, upto, IsHolder, IsFree, IsHeld, IsDrawn, Ruled}
 use Rattle.shared_board.specs.Between.{Table}
 use Rattle.shared_board.proofs.Counts.{total_append, total_set, total_at}
-use Rattle.shared_board.proofs.Views.{Owned, OthersAway, fits_at, fits_from, each_set, away_set, away_else, there_set, read_set, once_set, turns_aside}
+use Rattle.shared_board.proofs.Views.{Owned, OthersAway, fits_at, fits_from, each_set, away_set, away_else, there_set}
+use Rattle.shared_board.proofs.Views.{read_set, once_set, turns_aside}
 
 -- what the rule is made of, but for the words and who holds the turn
 pub record Made (setting : Setting) (posted history : List Entry) (numbers : ℕ) (views : List View) : Type 0 where
@@ -26,10 +28,12 @@ pub record Made (setting : Setting) (posted history : List Entry) (numbers : ℕ
   pub few : numbers ≤ 64
   pub once : (x : ℕ) → total (λ (v : View). times x v.held) views ≤ once_below x numbers
   pub drawn : (n : ℕ) → 0 < n → n < numbers → IsDrawn n views
-  pub seats : (j : ℕ) (v : View) → get_elem? views j ≡ some v → v.live ≡ true → Fits setting (upto v.stage posted history) (length history) numbers v
+  pub seats : (j : ℕ) (v : View) → get_elem? views j ≡ some v → v.live ≡ true →
+      Fits setting (upto v.stage posted history) (length history) numbers v
 
 -- the rule of these parts
-ruled_of : (setting : Setting) (posted history : List Entry) (turn numbers : ℕ) (home : maybe.Option (Option Book)) (s : Table) → IsLeague setting.league → Made setting posted history numbers s.views
+ruled_of : (setting : Setting) (posted history : List Entry) (turn numbers : ℕ) (home : maybe.Option (Option Book)) (s : Table) →
+    IsLeague setting.league → Made setting posted history numbers s.views
     → s.words ≡ turn ∷ length history ∷ numbers ∷ least_of setting.league posted ∷ [] → s.homes ≡ home ∷ []
     → IsFree setting posted history turn home s.views ⊎ IsHeld posted history numbers turn home s.views → Ruled s
 ruled_of setting posted history turn numbers home s limits made words homes turns = record {
@@ -55,7 +59,8 @@ ruled_of setting posted history turn numbers home s limits made words homes turn
 pub with_views : (s : Table) (r : Ruled s) (words : List ℕ) (views : List View) → words ≡ s.words
     → ((x : ℕ) → total (λ (v : View). times x v.held) views ≤ once_below x r.numbers)
     → ((n : ℕ) → 0 < n → n < r.numbers → IsDrawn n views)
-    → ((j : ℕ) (v : View) → get_elem? views j ≡ some v → v.live ≡ true → Fits r.setting (upto v.stage r.posted r.history) (length r.history) r.numbers v)
+    → ((j : ℕ) (v : View) → get_elem? views j ≡ some v → v.live ≡ true →
+    Fits r.setting (upto v.stage r.posted r.history) (length r.history) r.numbers v)
     → IsFree r.setting r.posted r.history r.turn r.home views ⊎ IsHeld r.posted r.history r.numbers r.turn r.home views
     → Ruled (record { words = words; homes = s.homes; views = views })
 with_views s r words views same once drawn seats turns =
@@ -63,21 +68,24 @@ with_views s r words views same once drawn seats turns =
     (record { legal = r.legal; callers = r.callers; few = r.few; once = once; drawn = drawn; seats = seats }) (same ∙ r.words) r.homes turns
 
 -- what was drawn stays so, where a seat holds no more numbers, and has read no less
-pub drawn_still : (s : Table) (r : Ruled s) (id : ℕ) (v w : View) → get_elem? s.views id ≡ some v → ((x : ℕ) → times x w.held ≤ times x v.held) → v.given ≤ w.given
+pub drawn_still : (s : Table) (r : Ruled s) (id : ℕ) (v w : View) → get_elem? s.views id ≡ some v →
+    ((x : ℕ) → times x w.held ≤ times x v.held) → v.given ≤ w.given
     → (n : ℕ) → 0 < n → n < r.numbers → IsDrawn n (set s.views id w)
 drawn_still s r id v w at fewer later n some_below less =
     let d = r.drawn n some_below less in
     record { by = d.by; lower = d.lower; read = read_set d.by n s.views id v w at (λ own. omega (arith, fewer d.by)) later d.read }
 
 -- a seat that is away stays away, and may know more
-pub aside : (s : Table) (r : Ruled s) (id : ℕ) (v w : View) (words : List ℕ) → get_elem? s.views id ≡ some v → v.live ≡ true → v.stage ≡ away → w.stage ≡ away
+pub aside : (s : Table) (r : Ruled s) (id : ℕ) (v w : View) (words : List ℕ) → get_elem? s.views id ≡ some v → v.live ≡ true →
+    v.stage ≡ away → w.stage ≡ away
     → ((x : ℕ) → times x w.held ≤ times x v.held) → v.given ≤ w.given
     → (Fits r.setting r.posted (length r.history) r.numbers v → Fits r.setting r.posted (length r.history) r.numbers w)
     → words ≡ s.words → Ruled (record { words = words; homes = s.homes; views = set s.views id w })
 aside s r id v w words at live e d fewer later learns same =
     let G : View → Type 0 = λ u. Fits r.setting (upto u.stage r.posted r.history) (length r.history) r.numbers u in
     let f : G v = r.seats id v at live in
-    let g : G w = fits_from r.setting r.posted r.history r.posted (length r.history) r.numbers w away d refl (learns (fits_at r.setting r.posted r.history r.posted (length r.history) r.numbers v away e refl f)) in
+    let g : G w = fits_from r.setting r.posted r.history r.posted (length r.history) r.numbers w away d refl
+    (learns (fits_at r.setting r.posted r.history r.posted (length r.history) r.numbers v away e refl f)) in
     with_views s r words (set s.views id w) same
     (once_set s.views id v w r.numbers r.numbers at r.once (λ x. let a = fewer x in omega arith))
     (drawn_still s r id v w at fewer later)
@@ -85,7 +93,8 @@ aside s r id v w words at live e d fewer later learns same =
     (turns_aside r.setting r.posted r.history r.turn r.numbers r.home s.views id v w at e d r.turns)
 
 -- who holds the turn stays, where a seat comes that is away
-turns_longer : (s : Setting) (posted history : List Entry) (turn numbers : ℕ) (home : maybe.Option (Option Book)) (views : List View) (w : View) → w.stage ≡ away
+turns_longer : (s : Setting) (posted history : List Entry) (turn numbers : ℕ) (home : maybe.Option (Option Book)) (views : List View)
+    (w : View) → w.stage ≡ away
     → IsFree s posted history turn home views ⊎ IsHeld posted history numbers turn home views
     → IsFree s posted history turn home (views ++ w ∷ []) ⊎ IsHeld posted history numbers turn home (views ++ w ∷ [])
 turns_longer s posted history turn numbers home views w d (inl free) = inl (record {
@@ -102,13 +111,16 @@ turns_longer s posted history turn numbers home views w d (inr held) = inr (reco
   there = at_longer views (w ∷ []) held.seat held.view held.there;
   live = held.live;
   holder = held.holder;
-  others_away = λ j u other at. ⊎_elim (λ at'. held.others_away j u other at') (λ e. ap (λ (k : View). k.stage) (sym e) ∙ d) (at_snoc views w u j at);
+  others_away = λ j u other at. ⊎_elim (λ at'. held.others_away j u other at') (λ e. ap (λ (k : View). k.stage) (sym e) ∙ d)
+      (at_snoc views w u j at);
 })
 
 -- a seat that is away gives some of its numbers to a new one
-pub splits_off : (s : Table) (r : Ruled s) (id : ℕ) (v left right : View) → get_elem? s.views id ≡ some v → v.live ≡ true → v.stage ≡ away → left.stage ≡ away → right.stage ≡ away
+pub splits_off : (s : Table) (r : Ruled s) (id : ℕ) (v left right : View) → get_elem? s.views id ≡ some v → v.live ≡ true →
+    v.stage ≡ away → left.stage ≡ away → right.stage ≡ away
     → ((x : ℕ) → times x left.held + times x right.held ≡ times x v.held) → v.given ≤ left.given → v.given ≤ right.given
-    → (Fits r.setting r.posted (length r.history) r.numbers v → Fits r.setting r.posted (length r.history) r.numbers left × Fits r.setting r.posted (length r.history) r.numbers right)
+    → (Fits r.setting r.posted (length r.history) r.numbers v → Fits r.setting r.posted (length r.history) r.numbers left ×
+    Fits r.setting r.posted (length r.history) r.numbers right)
     → Ruled (record { words = s.words; homes = s.homes; views = set s.views id left ++ right ∷ [] })
 splits_off s r id v left right at live e d d' both later later' learns =
     let views = set s.views id left in
@@ -136,7 +148,8 @@ splits_off s r id v left right at live e d d' both later later' learns =
     (λ j u at' live'. ⊎_elim
     (λ at''. each_set G G s.views id left r.seats (λ j u ne at' h. h) (λ _. mine) j u at'' live')
     (λ q. subst G q new) (at_snoc views right u j at'))
-    (turns_longer r.setting r.posted r.history r.turn r.numbers r.home views right d' (turns_aside r.setting r.posted r.history r.turn r.numbers r.home s.views id v left at e d r.turns))
+    (turns_longer r.setting r.posted r.history r.turn r.numbers r.home views right d'
+    (turns_aside r.setting r.posted r.history r.turn r.numbers r.home s.views id v left at e d r.turns))
 
 -- the holder of the turn made it so: the others stand to what is posted as they did
 pub record Does (s : Table) (r : Ruled s) (id : ℕ) (v w : View) (posted history : List Entry) (numbers : ℕ) : Type 0 where
@@ -145,10 +158,12 @@ pub record Does (s : Table) (r : Ruled s) (id : ℕ) (v w : View) (posted histor
   pub few : numbers ≤ 64
   pub grown : (x : ℕ) → times x w.held + once_below x r.numbers ≤ times x v.held + once_below x numbers
   pub drawn : (n : ℕ) → 0 < n → n < numbers → IsDrawn n (set s.views id w)
-  pub others : (j : ℕ) (u : View) → j ≢ id → get_elem? s.views j ≡ some u → Fits r.setting r.posted (length r.history) r.numbers u → Fits r.setting posted (length history) numbers u
+  pub others : (j : ℕ) (u : View) → j ≢ id → get_elem? s.views j ≡ some u → Fits r.setting r.posted (length r.history) r.numbers u →
+      Fits r.setting posted (length history) numbers u
   pub mine : Fits r.setting (upto w.stage posted history) (length history) numbers w
 
-pub makes : (s : Table) (r : Ruled s) (id : ℕ) (v w : View) (posted history : List Entry) (numbers : ℕ) → get_elem? s.views id ≡ some v → OthersAway s.views id
+pub makes : (s : Table) (r : Ruled s) (id : ℕ) (v w : View) (posted history : List Entry) (numbers : ℕ) → get_elem? s.views id ≡ some v →
+    OthersAway s.views id
     → Does s r id v w posted history numbers → Made r.setting posted history numbers (set s.views id w)
 makes s r id v w posted history numbers at others does =
     let F : View → Type 0 = λ u. Fits r.setting (upto u.stage r.posted r.history) (length r.history) r.numbers u in
@@ -168,7 +183,8 @@ makes s r id v w posted history numbers at others does =
     }
 
 -- where the history and the numbers stay
-does_same : (s : Table) (r : Ruled s) (id : ℕ) (v w : View) → get_elem? s.views id ≡ some v → ((x : ℕ) → times x w.held ≤ times x v.held) → v.given ≤ w.given
+does_same : (s : Table) (r : Ruled s) (id : ℕ) (v w : View) → get_elem? s.views id ≡ some v →
+    ((x : ℕ) → times x w.held ≤ times x v.held) → v.given ≤ w.given
     → Fits r.setting (upto w.stage r.posted r.history) (length r.history) r.numbers w → Does s r id v w r.posted r.history r.numbers
 does_same s r id v w at fewer later f = record {
   legal = r.legal;
@@ -181,8 +197,10 @@ does_same s r id v w at fewer later f = record {
 }
 
 -- the seat holds the turn with its new view
-held_by : (posted history : List Entry) (numbers turn : ℕ) (home : maybe.Option (Option Book)) (views : List View) (id : ℕ) (v w : View) → get_elem? views id ≡ some v → OthersAway views id
-    → turn ≡ 1 → home ≡ none → w.live ≡ true → IsHolder posted history numbers w.held w.given w.stage → IsHeld posted history numbers turn home (set views id w)
+held_by : (posted history : List Entry) (numbers turn : ℕ) (home : maybe.Option (Option Book)) (views : List View) (id : ℕ) (v w : View) →
+    get_elem? views id ≡ some v → OthersAway views id
+    → turn ≡ 1 → home ≡ none → w.live ≡ true → IsHolder posted history numbers w.held w.given w.stage →
+    IsHeld posted history numbers turn home (set views id w)
 held_by posted history numbers turn home views id v w at others turn_is home_is live holder = record {
   turn_is = turn_is;
   home_is = home_is;
@@ -195,7 +213,8 @@ held_by posted history numbers turn home views id v w at others turn_is home_is 
 }
 
 -- the holder changes what it knows and keeps the turn
-pub holds_on : (s : Table) (r : Ruled s) (id : ℕ) (v w : View) (posted history : List Entry) (numbers : ℕ) (words : List ℕ) → get_elem? s.views id ≡ some v → w.live ≡ true
+pub holds_on : (s : Table) (r : Ruled s) (id : ℕ) (v w : View) (posted history : List Entry) (numbers : ℕ) (words : List ℕ) →
+    get_elem? s.views id ≡ some v → w.live ≡ true
     → Owned r.posted r.history r.numbers r.turn r.home s.views id v
     → Does s r id v w posted history numbers
     → words ≡ r.turn ∷ length history ∷ numbers ∷ least_of r.setting.league posted ∷ []
@@ -207,7 +226,8 @@ holds_on s r id v w posted history numbers words at live o does same holder =
     (inr (held_by posted history numbers r.turn r.home s.views id v w at o.others_away o.turn_is o.home_is live holder))
 
 -- the holder gives the turn and the board back
-pub gives_back : (s : Table) (r : Ruled s) (id : ℕ) (v w : View) (words : List ℕ) (homes : List (maybe.Option (Option Book))) → get_elem? s.views id ≡ some v
+pub gives_back : (s : Table) (r : Ruled s) (id : ℕ) (v w : View) (words : List ℕ) (homes : List (maybe.Option (Option Book))) →
+    get_elem? s.views id ≡ some v
     → Owned r.posted r.history r.numbers r.turn r.home s.views id v
     → r.posted ≡ r.history
     → ((x : ℕ) → times x w.held ≤ times x v.held) → v.given ≤ w.given
@@ -216,8 +236,10 @@ pub gives_back : (s : Table) (r : Ruled s) (id : ℕ) (v w : View) (words : List
     → homes ≡ some (Some (board_at r.setting r.history)) ∷ []
     → Ruled (record { words = words; homes = homes; views = set s.views id w })
 gives_back s r id v w words homes at o all_posted fewer later d f same back =
-    let does = does_same s r id v w at fewer later (fits_from r.setting r.posted r.history r.posted (length r.history) r.numbers w away d refl f) in
-    ruled_of r.setting r.posted r.history 0 r.numbers (some (Some (board_at r.setting r.history))) (record { words = words; homes = homes; views = set s.views id w }) r.limits
+    let does = does_same s r id v w at fewer later
+    (fits_from r.setting r.posted r.history r.posted (length r.history) r.numbers w away d refl f) in
+    ruled_of r.setting r.posted r.history 0 r.numbers (some (Some (board_at r.setting r.history)))
+    (record { words = words; homes = homes; views = set s.views id w }) r.limits
     (makes s r id v w r.posted r.history r.numbers at o.others_away does) same back
     (inl (record {
       turn_is = refl;
@@ -227,7 +249,8 @@ gives_back s r id v w words homes at o all_posted fewer later d f same back =
     }))
 
 -- the turn is taken, and the board with it
-pub takes_hold : (s : Table) (r : Ruled s) (id : ℕ) (v w : View) (words : List ℕ) (homes : List (maybe.Option (Option Book))) → get_elem? s.views id ≡ some v → w.live ≡ true
+pub takes_hold : (s : Table) (r : Ruled s) (id : ℕ) (v w : View) (words : List ℕ) (homes : List (maybe.Option (Option Book))) →
+    get_elem? s.views id ≡ some v → w.live ≡ true
     → IsFree r.setting r.posted r.history r.turn r.home s.views
     → ((x : ℕ) → times x w.held ≤ times x v.held) → v.given ≤ w.given
     → Fits r.setting (upto w.stage r.posted r.history) (length r.history) r.numbers w
@@ -242,11 +265,13 @@ takes_hold s r id v w words homes at live free fewer later f holder same out =
     (inr (held_by r.posted r.history r.numbers 1 none s.views id v w at others refl refl live holder))
 
 -- no number is held twice, and none that isn't given out
-pub held_once : (s : Table) (r : Ruled s) (j : ℕ) (v : View) (x : ℕ) → get_elem? s.views j ≡ some v → times x v.held ≤ once_below x r.numbers
+pub held_once : (s : Table) (r : Ruled s) (j : ℕ) (v : View) (x : ℕ) → get_elem? s.views j ≡ some v →
+    times x v.held ≤ once_below x r.numbers
 held_once s r j v x at = let a = total_at (λ (u : View). times x u.held) s.views j v at in let b = r.once x in omega arith
 
 -- who holds each number that it knows of knows of all
-pub knows_all_numbers : (s : Table) (r : Ruled s) (j : ℕ) (v : View) → get_elem? s.views j ≡ some v → v.given ≤ r.numbers → 0 < v.given → HoldsEach v.given v.held → v.given ≡ r.numbers
+pub knows_all_numbers : (s : Table) (r : Ruled s) (j : ℕ) (v : View) → get_elem? s.views j ≡ some v → v.given ≤ r.numbers → 0 < v.given →
+    HoldsEach v.given v.held → v.given ≡ r.numbers
 knows_all_numbers s r j v at most some_given each = elim (dec_le r.numbers v.given) [
   | yes le ↦ omega arith
   | no more ↦ let d = r.drawn v.given some_given (omega arith) in let later = d.read j v at (each d.by d.lower) in absurd (omega arith)

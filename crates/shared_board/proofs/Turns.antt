@@ -1,5 +1,7 @@
 -- Each step of a turn keeps the rule.
-use Rattle.std.proofs.Common.{◌≡◌, ◌≢◌, ℕ, zero, suc, ◌+◌, ◌<◌, ◌≤◌, min, Option, Some, List, [], ◌∷◌, ◌++◌, length, slice_index, set, refl, ap, sym, ◌∙◌, subst, inl, inr, ⊎_elim, arith, true, length-append, ◌==◌, cond}
+use Rattle.std.proofs.Common.{◌≡◌, ◌≢◌, ℕ, zero, suc, ◌+◌, ◌<◌, ◌≤◌, min, Option, Some, List, [], ◌∷◌, ◌++◌, length}
+use Rattle.std.proofs.Common.{slice_index, set, refl, ap, sym, ◌∙◌, subst, inl, inr, ⊎_elim, arith, true, length-append}
+use Rattle.std.proofs.Common.{◌==◌, cond}
 use Rattle.std.proofs.lemmas.Bool.Decides.{nat_tests}
 use mathlib.Core.Option.{none, some, some-injective, some-ne-none}
 use mathlib.Core.Option as maybe
@@ -19,12 +21,15 @@ use Rattle.shared_board.specs.Setting.{Setting, board_at}
 use Rattle.shared_board.specs.Stage.{Stage, away, holds, counts, owes, kept, owed, IsSettled}
 use Rattle.shared_board.specs.Held.{times, once_below, AreOf, callers_below}
 use Rattle.shared_board.specs.Rule.{Knows, Lowest, Fits, upto, Added, IsHolder, IsDrawn, Ruled, first_view}
-use Rattle.shared_board.specs.Plays.{Place, Meets, took, committed, posted, left, quit, counted, drawn, drawing, counting, at_stage, saw, on_board}
+use Rattle.shared_board.specs.Plays.{Place, Meets, took, committed, posted, left, quit, counted, drawn, drawing}
+use Rattle.shared_board.specs.Plays.{counting, at_stage, saw, on_board}
 use Rattle.shared_board.specs.Between.{Table}
 use Rattle.shared_board.specs.Seats.{HasBoard}
 use Rattle.shared_board.proofs.BoardLaws.{least_falls}
-use Rattle.shared_board.proofs.Counts.{under_both, under_none, callers_own, callers_append, callers_after, callers_more, once_most, once_next, times_own, held_below, total_two}
-use Rattle.shared_board.proofs.Views.{owned, settled_not_away, settled_knows, settled_upto, fits_at, fits_stage, fits_longer, fits_more, fits_saw, knows_all, lowest_all, parts_held, read_set}
+use Rattle.shared_board.proofs.Counts.{under_both, under_none, callers_own, callers_append, callers_after, callers_more}
+use Rattle.shared_board.proofs.Counts.{once_most, once_next, times_own, held_below, total_two}
+use Rattle.shared_board.proofs.Views.{owned, settled_not_away, settled_knows, settled_upto, fits_at, fits_stage}
+use Rattle.shared_board.proofs.Views.{fits_longer, fits_more, fits_saw, knows_all, lowest_all, parts_held, read_set}
 use Rattle.shared_board.proofs.Steps.{aside, drawn_still, holds_on, gives_back, takes_hold, held_once, knows_all_numbers}
 
 -- what was met under the turn
@@ -56,7 +61,8 @@ take_keeps slots id m live e s r sized at fits =
           let w = at_stage v (holds r.history) in
           let b = board_at v.setting r.history in
           let setting_is : v.setting ≡ r.setting = f.setting_is in
-          let at_home : s.homes ≡ some (Some b) ∷ [] = r.homes ∙ (ap (λ h. h ∷ []) free.home_is ∙ ap (λ (t : Setting). some (Some (board_at t r.history)) ∷ []) (sym setting_is)) in
+          let at_home : s.homes ≡ some (Some b) ∷ [] = r.homes ∙
+          (ap (λ h. h ∷ []) free.home_is ∙ ap (λ (t : Setting). some (Some (board_at t r.history)) ∷ []) (sym setting_is)) in
           let new : either (r.turn == 0) 1 r.turn ≡ 1 = ap (λ (n : ℕ). either (n == 0) 1 n) free.turn_is in
           let words : Words s.words ≡ 1 ∷ length r.history ∷ r.numbers ∷ least_of r.setting.league r.posted ∷ [] =
           ap Words r.words ∙ ap (λ (n : ℕ). n ∷ length r.history ∷ r.numbers ∷ least_of r.setting.league r.posted ∷ []) new in (
@@ -71,7 +77,8 @@ take_keeps slots id m live e s r sized at fits =
       | inr held ↦
           let new : either (r.turn == 0) 1 r.turn ≡ r.turn = ap (λ (n : ℕ). either (n == 0) 1 n) held.turn_is ∙ sym held.turn_is in
           let words : Words s.words ≡ s.words =
-          ap Words r.words ∙ (ap (λ (n : ℕ). n ∷ length r.history ∷ r.numbers ∷ least_of r.setting.league r.posted ∷ []) new ∙ sym r.words) in (
+          ap Words r.words ∙ (ap (λ (n : ℕ). n ∷ length r.history ∷ r.numbers ∷ least_of r.setting.league r.posted ∷ []) new ∙
+          sym r.words) in (
             v,
             keeps,
             tt,
@@ -81,15 +88,18 @@ take_keeps slots id m live e s r sized at fits =
     ]
 
 -- what the entry that was added says of the numbers
-pub added_below : (s : Table) (r : Ruled s) (id : ℕ) (v : View) (before after : List Entry) → get_elem? s.views id ≡ some v → before ≡ r.history → Added v.held before after
+pub added_below : (s : Table) (r : Ruled s) (id : ℕ) (v : View) (before after : List Entry) → get_elem? s.views id ≡ some v →
+    before ≡ r.history → Added v.held before after
     → callers_below r.numbers after
 added_below s r id v before after at same added =
     let caller = added.entry.caller in
     let less : caller < r.numbers = held_below caller r.numbers (times caller v.held) added.own (held_once s r id v caller at) in
     let P : List Entry → Type 0 = λ l. callers_below r.numbers l in
-    subst P (sym (added.one_more ∙ ap (λ l. l ++ added.entry ∷ []) same)) (callers_append r.numbers r.history (added.entry ∷ []) r.callers (less, tt))
+    subst P (sym (added.one_more ∙ ap (λ l. l ++ added.entry ∷ []) same))
+    (callers_append r.numbers r.history (added.entry ∷ []) r.callers (less, tt))
 
-pub commit_keeps : (slots id : ℕ) (m : Place) (version : ℕ) → m.0.live ≡ true → IsSettled m.0.stage → Added m.0.held (kept m.0.stage) (on_board m.1)
+pub commit_keeps : (slots id : ℕ) (m : Place) (version : ℕ) → m.0.live ≡ true → IsSettled m.0.stage →
+    Added m.0.held (kept m.0.stage) (on_board m.1)
     → IsLegal m.0.setting.league m.0.setting.room (on_board m.1) → version ≡ length (on_board m.1)
     → Allows Ruled slots id m 1 (λ _. version) (λ _. committed (step slots 1 version 0 none) m version)
 commit_keeps slots id m version live settled added legal long s r sized at fits =
@@ -98,7 +108,8 @@ commit_keeps slots id m version live settled added legal long s r sized at fits 
     let o = owned r.setting r.posted r.history r.turn r.numbers r.home s.views id v r.turns at (settled_not_away v.stage settled) in
     let k = settled_knows r.posted r.history r.numbers v.held v.given v.stage settled o.holder in
     let f = r.seats id v at live in
-    let grows : length g ≡ length r.history + 1 = omega (arith, ap length added.one_more, length-append before (added.entry ∷ []), ap length k.0) in
+    let grows : length g ≡ length r.history + 1 =
+    omega (arith, ap length added.one_more, length-append before (added.entry ∷ []), ap length k.0) in
     let P : Setting → Type 0 = λ t. IsLegal t.league t.room g in
     let Q : List Entry → Type 0 = λ l. Added v.held l g in (
       w,
@@ -111,34 +122,44 @@ commit_keeps slots id m version live settled added legal long s r sized at fits 
             few = r.few;
             grown = λ x. omega arith;
             drawn = drawn_still s r id v w at (λ x. omega arith) (omega arith);
-            others = λ j u ne at' h. fits_longer r.setting r.posted (length r.history) (length g) r.numbers r.numbers u (omega arith) (omega arith) h;
+            others = λ j u ne at' h. fits_longer r.setting r.posted (length r.history) (length g) r.numbers r.numbers u (omega arith)
+                (omega arith) h;
             mine = fits_saw r.setting g r.numbers v (owes before g) f.setting_is f.given;
           })
-          (ap (λ (l : List ℕ). set l 1 version) r.words ∙ ap (λ (n : ℕ). r.turn ∷ n ∷ r.numbers ∷ least_of r.setting.league r.posted ∷ []) long)
+          (ap (λ (l : List ℕ). set l 1 version) r.words ∙
+          ap (λ (n : ℕ). r.turn ∷ n ∷ r.numbers ∷ least_of r.setting.league r.posted ∷ []) long)
           (refl, k.0 ∙ sym k.1, subst Q (k.0 ∙ sym k.1) added),
       refl,
     )
 
 -- a number of one seat is no other's
-pub held_alone : (s : Table) (r : Ruled s) (id j : ℕ) (v u : View) (x : ℕ) → j ≢ id → get_elem? s.views id ≡ some v → get_elem? s.views j ≡ some u → 0 < times x v.held → times x u.held ≡ 0
+pub held_alone : (s : Table) (r : Ruled s) (id j : ℕ) (v u : View) (x : ℕ) → j ≢ id → get_elem? s.views id ≡ some v →
+    get_elem? s.views j ≡ some u → 0 < times x v.held → times x u.held ≡ 0
 held_alone s r id j v u x ne at at' own =
-    let a = total_two (λ (t : View). times x t.held) s.views j id u v ne at' at in let b = r.once x in let c = once_most x r.numbers in omega arith
+    let a = total_two (λ (t : View). times x t.held) s.views j id u v ne at' at in let b = r.once x in let c = once_most x r.numbers in
+    omega arith
 
-pub post_keeps : (slots id : ℕ) (m : Place) (least : ℕ) → m.0.live ≡ true → m.0.stage ≡ owes (owed m.0.stage) (kept m.0.stage) → least ≡ least_of m.0.setting.league (kept m.0.stage)
+pub post_keeps : (slots id : ℕ) (m : Place) (least : ℕ) → m.0.live ≡ true → m.0.stage ≡ owes (owed m.0.stage) (kept m.0.stage) →
+    least ≡ least_of m.0.setting.league (kept m.0.stage)
     → Allows Ruled slots id m 3 (λ n. min n least) (posted (step slots 3 least 0 none) m)
 post_keeps slots id m least live e is s r sized at fits =
     let v = m.0 in let h = kept v.stage in let before = owed v.stage in
     let w = at_stage v (holds h) in
-    let o = owned r.setting r.posted r.history r.turn r.numbers r.home s.views id v r.turns at (λ q. let q' : owes before h ≡ away = sym e ∙ q in cc) in
+    let o = owned r.setting r.posted r.history r.turn r.numbers r.home s.views id v r.turns at
+    (λ q. let q' : owes before h ≡ away = sym e ∙ q in cc) in
     let P : Stage → Type 0 = λ t. IsHolder r.posted r.history r.numbers v.held v.given t in
     let holder : (h ≡ r.history) × (before ≡ r.posted) × Added v.held r.posted r.history = subst P e o.holder in
     let added = holder.2 in let x = added.entry in
     let f = fits_at r.setting r.posted r.history r.history (length r.history) r.numbers v (owes before h) e refl (r.seats id v at live) in
-    let falls : least_of r.setting.league (r.posted ++ x ∷ []) ≤ least_of r.setting.league r.posted = least_falls r.setting.league r.posted x r.limits in
-    let now : least_of r.setting.league (r.posted ++ x ∷ []) ≡ least_of r.setting.league r.history = ap (least_of r.setting.league) (sym added.one_more) in
-    let told : least ≡ least_of r.setting.league r.history = is ∙ (ap (λ (t : Setting). least_of t.league h) f.setting_is ∙ ap (least_of r.setting.league) holder.0) in
+    let falls : least_of r.setting.league (r.posted ++ x ∷ []) ≤ least_of r.setting.league r.posted =
+    least_falls r.setting.league r.posted x r.limits in
+    let now : least_of r.setting.league (r.posted ++ x ∷ []) ≡ least_of r.setting.league r.history =
+    ap (least_of r.setting.league) (sym added.one_more) in
+    let told : least ≡ least_of r.setting.league r.history = is ∙
+    (ap (λ (t : Setting). least_of t.league h) f.setting_is ∙ ap (least_of r.setting.league) holder.0) in
     let lower : min (least_of r.setting.league r.posted) least ≡ least_of r.setting.league r.history =
-    (let a : ℕ = least_of r.setting.league r.posted in let b : ℕ = least_of r.setting.league r.history in let c : ℕ = least_of r.setting.league (r.posted ++ x ∷ []) in omega arith) in
+    (let a : ℕ = least_of r.setting.league r.posted in let b : ℕ = least_of r.setting.league r.history in let c : ℕ =
+    least_of r.setting.league (r.posted ++ x ∷ []) in omega arith) in
     let Words : List ℕ → List ℕ = λ l. set l 3 (min (slice_index l 3) least) in (
       w,
       keeps,
@@ -152,7 +173,8 @@ post_keeps slots id m least live e is s r sized at fits =
             drawn = drawn_still s r id v w at (λ y. omega arith) (omega arith);
             others = λ j u ne at' g.
                 let F : List Entry → Type 0 = λ l. Fits r.setting l (length r.history) r.numbers u in
-                subst F (sym added.one_more) (fits_more r.setting r.posted (length r.history) r.numbers u x (held_alone s r id j v u x.caller ne at at' added.own) g);
+                subst F (sym added.one_more) (fits_more r.setting r.posted (length r.history) r.numbers u x
+                (held_alone s r id j v u x.caller ne at at' added.own) g);
             mine = fits_stage r.setting r.history (length r.history) r.numbers v (holds h) f;
           })
           (ap Words r.words ∙ ap (λ (n : ℕ). r.turn ∷ length r.history ∷ r.numbers ∷ n ∷ []) lower)
@@ -161,12 +183,14 @@ post_keeps slots id m least live e is s r sized at fits =
     )
 
 -- the board comes home
-pub home_again : (s : Table) (r : Ruled s) (v : View) (c : List (ℕ × Option Book)) (h : List Entry) → v.setting ≡ r.setting → h ≡ r.history → c ≡ (0, Some (board_at v.setting h)) ∷ []
+pub home_again : (s : Table) (r : Ruled s) (v : View) (c : List (ℕ × Option Book)) (h : List Entry) → v.setting ≡ r.setting →
+    h ≡ r.history → c ≡ (0, Some (board_at v.setting h)) ∷ []
     → put_back s.homes c ≡ some (Some (board_at r.setting r.history)) ∷ []
 home_again s r v c h setting_is same has =
     ap (put_back s.homes) has
     ∙ (ap (λ (l : List (maybe.Option (Option Book))). set l 0 (some (Some (board_at v.setting h)))) r.homes
-    ∙ (ap (λ (t : Setting). some (Some (board_at t h)) ∷ []) setting_is ∙ ap (λ (l : List Entry). some (Some (board_at r.setting l)) ∷ []) same))
+    ∙ (ap (λ (t : Setting). some (Some (board_at t h)) ∷ []) setting_is ∙
+    ap (λ (l : List Entry). some (Some (board_at r.setting l)) ∷ []) same))
 
 pub leave_keeps : (slots id : ℕ) (m : Place) → m.0.live ≡ true → IsSettled m.0.stage → HasBoard m (kept m.0.stage)
     → Allows Ruled slots id m 0 (λ _. 0) (λ _. left (step slots 0 0 0 none) m 0)
@@ -231,7 +255,14 @@ count_keeps slots id m live settled s r sized at fits =
             grown = λ x. omega arith;
             drawn = drawn_still s r id v w at (λ x. omega arith) (omega arith);
             others = λ j u ne at' g. g;
-            mine = record { setting_is = f.setting_is; knows = f.knows; glanced = f.glanced; lowest = f.lowest; given = omega arith; parts = f.parts };
+            mine = record {
+              setting_is = f.setting_is;
+              knows = f.knows;
+              glanced = f.glanced;
+              lowest = f.lowest;
+              given = omega arith;
+              parts = f.parts;
+            };
           })
           (ap (λ (l : List ℕ). set l 2 (slice_index l 2)) r.words)
           (k.0, k.1, found),
@@ -246,7 +277,8 @@ count_keeps slots id m live settled s r sized at fits =
     )
 
 -- the number that is drawn is known to its seat, and what was drawn stays so
-drawn_next : (s : Table) (r : Ruled s) (id : ℕ) (v : View) (own : ℕ) → get_elem? s.views id ≡ some v → 0 < times own v.held → v.given ≡ r.numbers
+drawn_next : (s : Table) (r : Ruled s) (id : ℕ) (v : View) (own : ℕ) → get_elem? s.views id ≡ some v → 0 < times own v.held →
+    v.given ≡ r.numbers
     → (n : ℕ) → 0 < n → n < r.numbers + 1 → IsDrawn n (set s.views id (drawing v))
 drawn_next s r id v own at holds_own count_is n some_below less = dite (ℕ_discrete n r.numbers)
     (λ e. record {
@@ -254,7 +286,8 @@ drawn_next s r id v own at holds_own count_is n some_below less = dite (ℕ_disc
       lower = omega (arith, held_below own r.numbers (times own v.held) holds_own (held_once s r id v own at));
       read = λ j u at' mine.
           let G : View → Type 0 = λ k. n < k.given in
-          ⊎_elim (λ t. subst G t.1 (omega arith)) (λ t. absurd (omega (arith, held_alone s r id j v u own t.0 at t.1 holds_own))) (at_set s.views id j (drawing v) u at');
+          ⊎_elim (λ t. subst G t.1 (omega arith)) (λ t. absurd (omega (arith, held_alone s r id j v u own t.0 at t.1 holds_own)))
+          (at_set s.views id j (drawing v) u at');
     })
     (λ ne.
     let d = r.drawn n some_below (omega arith) in let lower = d.lower in
@@ -264,12 +297,14 @@ drawn_next s r id v own at holds_own count_is n some_below less = dite (ℕ_disc
       read = read_set d.by n s.views id v (drawing v) at (λ h. omega (arith, times_own v.given d.by (omega arith))) (omega arith) d.read;
     })
 
-pub draw_keeps : (slots id : ℕ) (m : Place) (next own : ℕ) → m.0.live ≡ true → m.0.stage ≡ counts (kept m.0.stage) → 0 < times own m.0.held → next ≡ m.0.given + 1 → next ≤ 64
+pub draw_keeps : (slots id : ℕ) (m : Place) (next own : ℕ) → m.0.live ≡ true → m.0.stage ≡ counts (kept m.0.stage) →
+    0 < times own m.0.held → next ≡ m.0.given + 1 → next ≤ 64
     → Allows Ruled slots id m 2 (λ _. next) (λ _. drawn (step slots 2 next 0 none) m next)
 draw_keeps slots id m next own live e holds_own is few s r sized at fits =
     let v = m.0 in let h = kept v.stage in
     let w = drawing v in
-    let o = owned r.setting r.posted r.history r.turn r.numbers r.home s.views id v r.turns at (λ q. let q' : counts h ≡ away = sym e ∙ q in cc) in
+    let o = owned r.setting r.posted r.history r.turn r.numbers r.home s.views id v r.turns at
+    (λ q. let q' : counts h ≡ away = sym e ∙ q in cc) in
     let P : Stage → Type 0 = λ t. IsHolder r.posted r.history r.numbers v.held v.given t in
     let holder : (h ≡ r.history) × (r.posted ≡ r.history) × (v.given ≡ r.numbers) = subst P e o.holder in
     let count_is : v.given ≡ r.numbers = holder.2 in
@@ -288,17 +323,24 @@ draw_keeps slots id m next own live e holds_own is few s r sized at fits =
             few = few;
             grown = λ x.
                 let N : ℕ → ℕ → Type 0 = λ b c. cond {A = ℕ} (b == x) 1 0 + once_below x b ≡ once_below x c in
-                let step_up : cond {A = ℕ} (v.given == x) 1 0 + once_below x v.given ≡ once_below x next = once_next x v.given ∙ ap (once_below x) (sym is) in
+                let step_up : cond {A = ℕ} (v.given == x) 1 0 + once_below x v.given ≡ once_below x next = once_next x v.given ∙
+                ap (once_below x) (sym is) in
                 let same : once_below x v.given ≡ once_below x r.numbers = ap (once_below x) count_is in
                 omega arith;
             drawn = λ n some_below less. drawn_next s r id v own at holds_own count_is n some_below (omega arith);
-            others = λ j u ne at' g. fits_longer r.setting r.posted (length r.history) (length r.history) r.numbers next u (omega arith) (omega arith) g;
+            others = λ j u ne at' g. fits_longer r.setting r.posted (length r.history) (length r.history) r.numbers next u (omega arith)
+                (omega arith) g;
             mine = record {
               setting_is = f.setting_is;
               knows = record {
                 after = after;
                 begins = f.knows.begins;
-                none_after = omega (arith, under_both (v.given ∷ []) v.held after, under_none (v.given ∷ []) r.numbers after below mine, f.knows.none_after);
+                none_after = omega (
+                  arith,
+                  under_both (v.given ∷ []) v.held after,
+                  under_none (v.given ∷ []) r.numbers after below mine,
+                  f.knows.none_after,
+                );
               };
               glanced = f.glanced;
               lowest = f.lowest;
@@ -329,7 +371,8 @@ first_fits b = record {
 }
 
 -- a board whose entries are all of caller 0, and its first seat
-pub opens : (b : Book) (long best : ℕ) → AreOf 0 b.history → IsLegal b.league b.room b.history → IsLeague b.league → long ≡ length b.history → best ≡ least_of b.league b.history
+pub opens : (b : Book) (long best : ℕ) → AreOf 0 b.history → IsLegal b.league b.room b.history → IsLeague b.league →
+    long ≡ length b.history → best ≡ least_of b.league b.history
     → Ruled (opening (0 ∷ long ∷ 1 ∷ best ∷ []) (Some b ∷ []) (first_view b))
 opens b long best own legal limits long_is best_is =
     let setting : Setting = record { league = b.league; room = b.room } in
@@ -350,7 +393,8 @@ opens b long best own legal limits long_is best_is =
       few = omega arith;
       once = λ x. opens_once x;
       drawn = λ n some_below less. absurd (omega arith);
-      seats = λ j u at live. (let F : View → Type 0 = λ t. Fits setting (upto t.stage h h) (length h) 1 t in subst F (only_one v j u at) (first_fits b));
+      seats = λ j u at live. (let F : View → Type 0 = λ t. Fits setting (upto t.stage h h) (length h) 1 t in
+          subst F (only_one v j u at) (first_fits b));
       turns = inl (record {
         turn_is = refl;
         home_is = refl;

@@ -1,5 +1,6 @@
 -- The parts of the rule: what a view has to do with the history, and who holds the turn.
-use Rattle.std.proofs.Common.{◌≡◌, ◌≢◌, ℕ, zero, suc, ◌+◌, ◌<◌, ◌≤◌, max, Option, List, [], ◌∷◌, ◌++◌, length, set, refl, ap, sym, ◌∙◌, subst, ◌⊎◌, inl, inr, ⊎_elim, append_assoc, arith, true}
+use Rattle.std.proofs.Common.{◌≡◌, ◌≢◌, ℕ, zero, suc, ◌+◌, ◌<◌, ◌≤◌, max, Option, List, [], ◌∷◌, ◌++◌, length, set}
+use Rattle.std.proofs.Common.{refl, ap, sym, ◌∙◌, subst, ◌⊎◌, inl, inr, ⊎_elim, append_assoc, arith, true}
 use Rattle.std.proofs.lemmas.List.{append-nil}
 use mathlib.Core.Option.{none, some, some-injective}
 use mathlib.Core.Option as maybe
@@ -23,7 +24,8 @@ pub knows_all : (held : List ℕ) (h : List Entry) → Knows held h h
 knows_all held h = record { after = []; begins = sym (append-nil h); none_after = refl }
 
 -- one entry more, under no number that is held
-pub knows_more : (held : List ℕ) (seen h : List Entry) (e : Entry) → times e.caller held ≡ 0 → Knows held seen h → Knows held seen (h ++ e ∷ [])
+pub knows_more : (held : List ℕ) (seen h : List Entry) (e : Entry) → times e.caller held ≡ 0 → Knows held seen h →
+    Knows held seen (h ++ e ∷ [])
 knows_more held seen h e apart k = record {
   after = k.after ++ e ∷ [];
   begins = ap (λ l. l ++ e ∷ []) k.begins ∙ append_assoc seen k.after (e ∷ []);
@@ -46,22 +48,28 @@ lowest_more s seen h low e l = record {
   least = l.least;
 }
 
-pub parts_more : (held : List ℕ) (h : List Entry) (e : Entry) (parts : List Part) → times e.caller held ≡ 0 → EachPart held h parts → EachPart held (h ++ e ∷ []) parts
+pub parts_more : (held : List ℕ) (h : List Entry) (e : Entry) (parts : List Part) → times e.caller held ≡ 0 → EachPart held h parts →
+    EachPart held (h ++ e ∷ []) parts
 parts_more held h e [] apart each = tt
 parts_more held h e (p ∷ ps) apart each =
     let less = each.0 e.caller in
     (each.0, knows_more p.held p.seen h e (omega arith) each.1, parts_more held h e ps apart each.2)
 
 -- more numbers are held
-pub parts_held : (held more : List ℕ) (h : List Entry) (parts : List Part) → ((x : ℕ) → times x held ≤ times x more) → EachPart held h parts → EachPart more h parts
+pub parts_held : (held more : List ℕ) (h : List Entry) (parts : List Part) → ((x : ℕ) → times x held ≤ times x more) →
+    EachPart held h parts → EachPart more h parts
 parts_held held more h [] le each = tt
-parts_held held more h (p ∷ ps) le each = ((λ x. let a = each.0 x in let b = le x in omega arith), each.1, parts_held held more h ps le each.2)
+parts_held held more h (p ∷ ps) le each =
+    ((λ x. let a = each.0 x in let b = le x in omega arith), each.1, parts_held held more h ps le each.2)
 
-pub fits_stage : (s : Setting) (h : List Entry) (long numbers : ℕ) (v : View) (t : Stage) → Fits s h long numbers v → Fits s h long numbers (at_stage v t)
-fits_stage s h long numbers v t f = record { setting_is = f.setting_is; knows = f.knows; glanced = f.glanced; lowest = f.lowest; given = f.given; parts = f.parts }
+pub fits_stage : (s : Setting) (h : List Entry) (long numbers : ℕ) (v : View) (t : Stage) → Fits s h long numbers v →
+    Fits s h long numbers (at_stage v t)
+fits_stage s h long numbers v t f =
+    record { setting_is = f.setting_is; knows = f.knows; glanced = f.glanced; lowest = f.lowest; given = f.given; parts = f.parts }
 
 -- the counts that all may read have grown
-pub fits_longer : (s : Setting) (h : List Entry) (long more numbers given : ℕ) (v : View) → long ≤ more → numbers ≤ given → Fits s h long numbers v → Fits s h more given v
+pub fits_longer : (s : Setting) (h : List Entry) (long more numbers given : ℕ) (v : View) → long ≤ more → numbers ≤ given →
+    Fits s h long numbers v → Fits s h more given v
 fits_longer s h long more numbers given v le le' f = record {
   setting_is = f.setting_is;
   knows = f.knows;
@@ -72,7 +80,8 @@ fits_longer s h long more numbers given v le le' f = record {
 }
 
 -- one entry more, under no number that the seat holds
-pub fits_more : (s : Setting) (h : List Entry) (long numbers : ℕ) (v : View) (e : Entry) → times e.caller v.held ≡ 0 → Fits s h long numbers v → Fits s (h ++ e ∷ []) long numbers v
+pub fits_more : (s : Setting) (h : List Entry) (long numbers : ℕ) (v : View) (e : Entry) → times e.caller v.held ≡ 0 →
+    Fits s h long numbers v → Fits s (h ++ e ∷ []) long numbers v
 fits_more s h long numbers v e apart f = record {
   setting_is = f.setting_is;
   knows = knows_more v.held v.seen h e apart f.knows;
@@ -83,7 +92,8 @@ fits_more s h long numbers v e apart f = record {
 }
 
 -- the history was seen
-pub fits_saw : (s : Setting) (h : List Entry) (numbers : ℕ) (v : View) (t : Stage) → v.setting ≡ s → v.given ≤ numbers → Fits s h (length h) numbers (saw v h t)
+pub fits_saw : (s : Setting) (h : List Entry) (numbers : ℕ) (v : View) (t : Stage) → v.setting ≡ s → v.given ≤ numbers →
+    Fits s h (length h) numbers (saw v h t)
 fits_saw s h numbers v t e given = record {
   setting_is = e;
   knows = knows_all v.held h;
@@ -100,7 +110,8 @@ settled_not_away (counts h) settled = λ e. cc
 settled_not_away (owes before h) settled = absurd settled
 
 -- the holder who owes nothing knows the history, all of which is posted
-pub settled_knows : (posted history : List Entry) (numbers : ℕ) (held : List ℕ) (given : ℕ) (t : Stage) → IsSettled t → IsHolder posted history numbers held given t
+pub settled_knows : (posted history : List Entry) (numbers : ℕ) (held : List ℕ) (given : ℕ) (t : Stage) → IsSettled t →
+    IsHolder posted history numbers held given t
     → (kept t ≡ history) × (posted ≡ history)
 settled_knows posted history numbers held given away settled holder = absurd settled
 settled_knows posted history numbers held given (holds h) settled holder = (holder.0, holder.1)
@@ -114,12 +125,14 @@ settled_upto posted history (counts h) settled = refl
 settled_upto posted history (owes before h) settled = absurd settled
 
 -- the view of a seat whose stage is known
-pub fits_at : (s : Setting) (posted history h : List Entry) (long numbers : ℕ) (v : View) (t : Stage) → v.stage ≡ t → upto t posted history ≡ h
+pub fits_at : (s : Setting) (posted history h : List Entry) (long numbers : ℕ) (v : View) (t : Stage) → v.stage ≡ t →
+    upto t posted history ≡ h
     → Fits s (upto v.stage posted history) long numbers v → Fits s h long numbers v
 fits_at s posted history h long numbers v t e d f =
     let P : List Entry → Type 0 = λ l. Fits s l long numbers v in subst P (ap (λ u. upto u posted history) e ∙ d) f
 
-pub fits_from : (s : Setting) (posted history h : List Entry) (long numbers : ℕ) (v : View) (t : Stage) → v.stage ≡ t → upto t posted history ≡ h
+pub fits_from : (s : Setting) (posted history h : List Entry) (long numbers : ℕ) (v : View) (t : Stage) → v.stage ≡ t →
+    upto t posted history ≡ h
     → Fits s h long numbers v → Fits s (upto v.stage posted history) long numbers v
 fits_from s posted history h long numbers v t e d f =
     let P : List Entry → Type 0 = λ l. Fits s l long numbers v in subst P (sym (ap (λ u. upto u posted history) e ∙ d)) f
@@ -131,13 +144,15 @@ pub each_set : (F G : View → Type 0) (views : List View) (id : ℕ) (w : View)
     → (w.live ≡ true → G w)
     → (j : ℕ) (v : View) → get_elem? (set views id w) j ≡ some v → v.live ≡ true → G v
 each_set F G views id w each others mine j v at live =
-    ⊎_elim (λ t. subst G t.1 (mine (ap (λ (u : View). u.live) t.1 ∙ live))) (λ t. others j v t.0 t.1 (each j v t.1 live)) (at_set views id j w v at)
+    ⊎_elim (λ t. subst G t.1 (mine (ap (λ (u : View). u.live) t.1 ∙ live))) (λ t. others j v t.0 t.1 (each j v t.1 live))
+    (at_set views id j w v at)
 
 -- all are away but one
 abbrev pub OthersAway : List View → ℕ → Type 0
 OthersAway views id = (j : ℕ) (v : View) → j ≢ id → get_elem? views j ≡ some v → v.stage ≡ away
 
-pub away_set : (views : List View) (id : ℕ) (w : View) → OthersAway views id → w.stage ≡ away → (j : ℕ) (v : View) → get_elem? (set views id w) j ≡ some v → v.stage ≡ away
+pub away_set : (views : List View) (id : ℕ) (w : View) → OthersAway views id → w.stage ≡ away → (j : ℕ) (v : View) →
+    get_elem? (set views id w) j ≡ some v → v.stage ≡ away
 away_set views id w others mine j v at =
     ⊎_elim (λ t. ap (λ (u : View). u.stage) (sym t.1) ∙ mine) (λ t. others j v t.0 t.1) (at_set views id j w v at)
 
@@ -150,23 +165,31 @@ there_set (x ∷ views) zero v w at = refl
 there_set (x ∷ views) (suc id) v w at = there_set views id v w at
 
 -- what was read stays so, where a seat's view changes that gets no such number, and has read no less
-pub read_set : (by n : ℕ) (views : List View) (id : ℕ) (v w : View) → get_elem? views id ≡ some v → (0 < times by w.held → 0 < times by v.held) → v.given ≤ w.given
+pub read_set : (by n : ℕ) (views : List View) (id : ℕ) (v w : View) → get_elem? views id ≡ some v →
+    (0 < times by w.held → 0 < times by v.held) → v.given ≤ w.given
     → AllRead by n views → AllRead by n (set views id w)
 read_set by n views id v w at fewer later read j u at' own =
     let H : View → Type 0 = λ k. 0 < times by k.held in
     let G : View → Type 0 = λ k. n < k.given in
-    ⊎_elim (λ t. subst G t.1 (omega (arith, read id v at (fewer (subst H (sym t.1) own))))) (λ t. read j u t.1 own) (at_set views id j w u at')
+    ⊎_elim (λ t. subst G t.1 (omega (arith, read id v at (fewer (subst H (sym t.1) own))))) (λ t. read j u t.1 own)
+    (at_set views id j w u at')
 
 -- one of two has the number, and has read that the other is given out
 pub either_read : (a b g k n : ℕ) → 0 < a + b → (0 < a → n < g) → (0 < b → n < k) → n < max g k
 either_read a b g k n some_held f h = dite (ℕ_discrete a 0) (λ e. omega (arith, h (omega arith))) (λ ne. omega (arith, f (omega arith)))
 
 -- fewer numbers are held
-pub fits_fewer : (s : Setting) (h : List Entry) (long numbers : ℕ) (v : View) (held : List ℕ) → ((x : ℕ) → times x held ≤ times x v.held) → Fits s h long numbers v
+pub fits_fewer : (s : Setting) (h : List Entry) (long numbers : ℕ) (v : View) (held : List ℕ) →
+    ((x : ℕ) → times x held ≤ times x v.held) → Fits s h long numbers v
     → Fits s h long numbers (record v { held = held; parts = [] })
 fits_fewer s h long numbers v held fewer f = record {
   setting_is = f.setting_is;
-  knows = record { after = f.knows.after; begins = f.knows.begins; none_after = (let a = f.knows.none_after in omega (arith, under_fewer held v.held f.knows.after fewer)) };
+  knows = record {
+    after = f.knows.after;
+    begins = f.knows.begins;
+    none_after =
+        (let a = f.knows.none_after in omega (arith, under_fewer held v.held f.knows.after fewer));
+  };
   glanced = f.glanced;
   lowest = f.lowest;
   given = f.given;
@@ -181,13 +204,15 @@ once_set views id v w numbers more at once grown x =
     let a = total_set (λ (u : View). times x u.held) views id v w at in let b = once x in let c = grown x in omega arith
 
 -- what the rule says where the seat holds the turn
-pub record Owned (posted history : List Entry) (numbers turn : ℕ) (home : maybe.Option (Option Book)) (views : List View) (id : ℕ) (v : View) : Type 0 where
+pub record Owned (posted history : List Entry) (numbers turn : ℕ) (home : maybe.Option (Option Book)) (views : List View) (id : ℕ)
+    (v : View) : Type 0 where
   pub turn_is : turn ≡ 1
   pub home_is : home ≡ none
   pub holder : IsHolder posted history numbers v.held v.given v.stage
   pub others_away : OthersAway views id
 
-pub owned : (s : Setting) (posted history : List Entry) (turn numbers : ℕ) (home : maybe.Option (Option Book)) (views : List View) (id : ℕ) (v : View)
+pub owned : (s : Setting) (posted history : List Entry) (turn numbers : ℕ) (home : maybe.Option (Option Book)) (views : List View)
+    (id : ℕ) (v : View)
     → IsFree s posted history turn home views ⊎ IsHeld posted history numbers turn home views → get_elem? views id ≡ some v → v.stage ≢ away
     → Owned posted history numbers turn home views id v
 owned s posted history turn numbers home views id v (inl free) at ne = absurd (ne (free.all_away id v at))
@@ -195,11 +220,18 @@ owned s posted history turn numbers home views id v (inr held) at ne = dite (ℕ
     (λ e.
     let same : v ≡ held.view = some-injective v held.view (sym at ∙ (ap (get_elem? views) e ∙ held.there)) in
     let P : View → Type 0 = λ u. IsHolder posted history numbers u.held u.given u.stage in
-    record { turn_is = held.turn_is; home_is = held.home_is; holder = subst P (sym same) held.holder; others_away = λ j u other at'. held.others_away j u (λ q. other (q ∙ sym e)) at' })
+    record {
+      turn_is = held.turn_is;
+      home_is = held.home_is;
+      holder = subst P (sym same) held.holder;
+      others_away =
+          λ j u other at'. held.others_away j u (λ q. other (q ∙ sym e)) at';
+    })
     (λ other. absurd (ne (held.others_away id v other at)))
 
 -- a seat that is away isn't the holder
-pub not_holder : (posted history : List Entry) (numbers turn : ℕ) (home : maybe.Option (Option Book)) (views : List View) (id : ℕ) (v : View)
+pub not_holder : (posted history : List Entry) (numbers turn : ℕ) (home : maybe.Option (Option Book)) (views : List View) (id : ℕ)
+    (v : View)
     (held : IsHeld posted history numbers turn home views) → get_elem? views id ≡ some v → v.stage ≡ away → held.seat ≢ id
 not_holder posted history numbers turn home views id v held at e same =
     let view_is : held.view ≡ v = some-injective held.view v (sym held.there ∙ (ap (get_elem? views) same ∙ at)) in
@@ -207,12 +239,19 @@ not_holder posted history numbers turn home views id v held at e same =
     subst P (ap (λ (u : View). u.stage) view_is ∙ e) held.holder
 
 -- who holds the turn stays, where a seat that is away changes and stays away
-pub turns_aside : (s : Setting) (posted history : List Entry) (turn numbers : ℕ) (home : maybe.Option (Option Book)) (views : List View) (id : ℕ) (v w : View)
+pub turns_aside : (s : Setting) (posted history : List Entry) (turn numbers : ℕ) (home : maybe.Option (Option Book)) (views : List View)
+    (id : ℕ) (v w : View)
     → get_elem? views id ≡ some v → v.stage ≡ away → w.stage ≡ away
     → IsFree s posted history turn home views ⊎ IsHeld posted history numbers turn home views
     → IsFree s posted history turn home (set views id w) ⊎ IsHeld posted history numbers turn home (set views id w)
 turns_aside s posted history turn numbers home views id v w at e d (inl free) =
-    inl (record { turn_is = free.turn_is; home_is = free.home_is; all_posted = free.all_posted; all_away = away_set views id w (λ j u ne. free.all_away j u) d })
+    inl (record {
+      turn_is = free.turn_is;
+      home_is = free.home_is;
+      all_posted = free.all_posted;
+      all_away =
+          away_set views id w (λ j u ne. free.all_away j u) d;
+    })
 turns_aside s posted history turn numbers home views id v w at e d (inr held) =
     let ne = not_holder posted history numbers turn home views id v held at e in
     inr (record {
@@ -223,5 +262,6 @@ turns_aside s posted history turn numbers home views id v w at e d (inr held) =
       there = set_else views id held.seat w ne ∙ held.there;
       live = held.live;
       holder = held.holder;
-      others_away = λ j u other at'. ⊎_elim (λ t. ap (λ (x : View). x.stage) (sym t.1) ∙ d) (λ t. held.others_away j u other t.1) (at_set views id j w u at');
+      others_away = λ j u other at'. ⊎_elim (λ t. ap (λ (x : View). x.stage) (sym t.1) ∙ d) (λ t. held.others_away j u other t.1)
+          (at_set views id j w u at');
     })

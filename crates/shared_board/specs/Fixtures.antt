@@ -4,7 +4,8 @@ use Rattle.fixtures.specs.Games.{IsDoubleRoundRobin}
 use Rattle.fixtures.specs.Start.{start_of}
 use Rattle.fixture_board.specs.declared.change.Entry.{Entry}
 use Rattle.fixture_board.specs.Costs.{cost_of}
-use Rattle.fixture_board.specs.History.{IsLegal, AllStand, IsBestOf, games_of, games_after, effective, pins_of, cost_at, best_of, best_prefix, as_best}
+use Rattle.fixture_board.specs.History.{IsLegal, AllStand, IsBestOf, games_of, games_after, effective, pins_of, cost_at}
+use Rattle.fixture_board.specs.History.{best_of, best_prefix, as_best}
 use Rattle.fixture_board.specs.Laws.{least_of}
 use Rattle.shared_board.specs.Setting.{Setting}
 use Rattle.shared_board.specs.Between.{Table, IsHome, front_word, best_word}

@@ -91,7 +91,8 @@ IsHolder posted history numbers held given (counts h) = (h ≡ history) × (post
 IsHolder posted history numbers held given (owes before h) = (h ≡ history) × (before ≡ posted) × Added held posted history
 
 -- no seat holds the turn, and the board is at home
-pub record IsFree (setting : Setting) (posted history : List Entry) (turn : ℕ) (home : maybe.Option (Option Book)) (views : List View) : Type 0 where
+pub record IsFree (setting : Setting) (posted history : List Entry) (turn : ℕ) (home : maybe.Option (Option Book))
+    (views : List View) : Type 0 where
   pub turn_is : turn ≡ 0
   pub home_is : home ≡ some (Some (board_at setting history))
   pub all_posted : posted ≡ history

@@ -1,15 +1,17 @@
 -- What a caller sees of a seat, and what each call does to it.
-use Rattle.std.specs.Prelude.{Bool, Option, None, if◌then◌else◌, ◌==◌, Some, ◌⊎◌, ◌+◌, min, max, ◌≡◌, ℕ, ◌<◌, ◌≤◌, List, [], ◌∷◌, ◌++◌, length, true}
+use Rattle.std.specs.Prelude.{Bool, Option, None, if◌then◌else◌, ◌==◌, Some, ◌⊎◌, ◌+◌, min, max, ◌≡◌, ℕ, ◌<◌, ◌≤◌, List}
+use Rattle.std.specs.Prelude.{[], ◌∷◌, ◌++◌, length, true}
 use Rattle.atomic_table.specs.Seated.{TableId}
 use Rattle.fixtures.specs.Games.{Games}
 use Rattle.fixture_board.specs.declared.ask.Ask.{Ask}
 use Rattle.fixture_board.specs.declared.change.Entry.{Entry}
+use Rattle.fixture_board.specs.declared.look.Seen.{Seen}
 use Rattle.fixture_board.specs.declared.reply.Reply.{Reply}
 use Rattle.fixture_board.specs.History.{IsLegal, games_of, cost_at}
 use Rattle.fixture_board.specs.Laws.{least_of}
+use Rattle.fixture_board.specs.Looks.{copied}
 use Rattle.fixture_board.specs.Replies.{next_of, reply_of}
 use Rattle.shared_board.specs.declared.view.View.{View}
-use Rattle.shared_board.specs.declared.shared.Seen.{Seen}
 use Rattle.shared_board.specs.declared.shared.Closed.{Closed}
 use Rattle.shared_board.specs.Setting.{Setting, board_at}
 use Rattle.shared_board.specs.Stage.{away}
@@ -105,10 +107,6 @@ first_seat table setting = record {
   lowest = least_of setting.league [];
   given = 1;
 }
-
--- the schedule, where the copy is for as many teams
-abbrev pub copied : Games → Games → Games
-copied old shown = if old.teams == shown.teams then shown else old
 
 pub record Looked (a b : SeatValue) (old new : Games) (seen : Seen) : Type 0 where
   pub history : List Entry

@@ -11,4 +11,4 @@ mod shared;
 mod view;
 
 pub use law::{between_steps, fixtures_while_free};
-pub use shared::{Closed, Seat, Seen, Shared, SplitFault};
+pub use shared::{Closed, Seat, Shared, SplitFault};

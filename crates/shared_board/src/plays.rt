@@ -1,6 +1,7 @@
 //! The names of the steps, and what each tells.
 
-ghost use Rattle.shared_board.specs.Plays.{took, committed, posted, left, quit, counted, drawn, glanced, lowered, drawer, newcomer, joined, parted};
+ghost use Rattle.shared_board.specs.Plays.{took, committed, posted, left, quit, counted, drawn, glanced, lowered};
+ghost use Rattle.shared_board.specs.Plays.{drawer, newcomer, joined, parted};
 
 use crate::view::View;
 use atomic_table::{Join, Play, Split};

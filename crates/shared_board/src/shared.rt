@@ -12,7 +12,7 @@ mod waits;
 
 use crate::view::{Order, View};
 use atomic_table::Table;
-use fixture_board::{Board, Cost, Reply};
+use fixture_board::{Board, Reply};
 use std::alloc::{AllocError, Global};
 use std::marker::Model;
 use std::snapshot::Snapshot;
@@ -112,13 +112,6 @@ impl Seat {
     }
 }
 
-/// What a look shows.
-#[derive(Clone, Copy, Debug, PartialEq, Eq)]
-pub struct Seen {
-    pub version: u64,
-    pub cost: Cost,
-}
-
 /// Why there is no further seat.
 #[derive(Clone, Copy, Debug, PartialEq, Eq, Error)]
 pub enum SplitFault {
@@ -130,6 +123,7 @@ pub enum SplitFault {
 /// The board, once no thread shares it any more.
 #[derive(Drop)]
 pub struct Closed {
+    /// The board with all changes.
     pub board: Board,
     /// The seat held each number that was given out.
     pub whole: bool,

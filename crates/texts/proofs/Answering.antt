@@ -27,7 +27,8 @@ module _ {S : Type 0} {held : S → Option (List ℕ)} {tally : S → Tally} (le
   pub one_answered : {a b c : BufferedSink S} (rest line next : List ℕ) (h : List Entry) (slack number : ℕ)
       → IsAnsweredTo held tally a b league room script rest h slack number → TakesLine rest line next
       → Adds held tally b c (answer_to league room h slack number (line_of line))
-      → IsAnsweredTo held tally a c league room script next (history_after league room h slack (line_of line)) (slack_after league room slack (line_of line)) (number + 1)
+      → IsAnsweredTo held tally a c league room script next (history_after league room h slack (line_of line))
+      (slack_after league room slack (line_of line)) (number + 1)
   one_answered rest line next h slack number so_far takes added = record {
     written = one_added _ _ _ (rw takes.lines_are at so_far.written) added;
     history_is = rw takes.lines_are at so_far.history_is;

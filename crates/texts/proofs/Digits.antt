@@ -1,5 +1,6 @@
 -- Numbers that are read digit by digit.
-use Rattle.std.proofs.Common.{◌≡◌, zero, suc, None, ℕ, ◌+◌, ◌-◌, ◌*◌, ◌<◌, ◌≤◌, ◌^◌, Bool, true, false, ◌&&◌, List, [], ◌∷◌, length, take, get_or, refl, ap, arith}
+use Rattle.std.proofs.Common.{◌≡◌, zero, suc, None, ℕ, ◌+◌, ◌-◌, ◌*◌, ◌<◌, ◌≤◌, ◌^◌, Bool, true, false, ◌&&◌, List, []}
+use Rattle.std.proofs.Common.{◌∷◌, length, take, get_or, refl, ap, arith}
 use Rattle.std.specs.Prelude.{◌==◌, nat_lt}
 use Rattle.std.specs.List.{list_all}
 use Rattle.std.specs.Char.{is_ascii_digit, digit_value}
@@ -17,7 +18,11 @@ same_all (b ∷ bs) = ap (λ t. is_ascii_digit b && t) (same_all bs)
 -- a text of at most 20 digits is below this, and so is each front of it
 pub few_digits : (bs : List ℕ) (i : ℕ) → all_ascii_digits bs ≡ true → length bs ≤ 20 → digits_value 10 (take i bs) < 10 ^ 20
 few_digits bs i digits few =
-    omega (arith, digits_value-take-le 10 bs i (omega arith), digits_value_short (numerals_by_value _ tells_all_ascii_digits) bs 20 digits few)
+    omega (
+      arith,
+      digits_value-take-le 10 bs i (omega arith),
+      digits_value_short (numerals_by_value _ tells_all_ascii_digits) bs 20 digits few,
+    )
 
 both_true : (a b : Bool) → (a && b) ≡ true → (a ≡ true) × (b ≡ true)
 both_true true b e = (refl, e)
@@ -55,7 +60,8 @@ none_other word empty short other =
     let over : nat_lt 20 (length word) ≡ false = grind (arith, nat_tests) in
     rw (empty, over, other) refl
 
-pub some_number : (word : List ℕ) (value : ℕ) → (length word == 0) ≡ false → length word ≤ 20 → all_ascii_digits word ≡ true → value ≡ digits_value 10 word
+pub some_number : (word : List ℕ) (value : ℕ) → (length word == 0) ≡ false → length word ≤ 20 → all_ascii_digits word ≡ true →
+    value ≡ digits_value 10 word
     → fitting value ≡ number_of word
 some_number word value empty short digits is =
     let over : nat_lt 20 (length word) ≡ false = grind (arith, nat_tests) in

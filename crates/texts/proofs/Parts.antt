@@ -1,5 +1,6 @@
 -- Texts that are written a piece at a time, by what is left of them.
-use Rattle.std.proofs.Common.{◌≡◌, ℕ, ◌+◌, ◌<◌, add-one, List, [], ◌∷◌, ◌++◌, length, get_or, drop, Option, Result, OnErr, refl, sym, subst, ◌∙◌, append_assoc, append-nil, drop-cons}
+use Rattle.std.proofs.Common.{◌≡◌, ℕ, ◌+◌, ◌<◌, add-one, List, [], ◌∷◌, ◌++◌, length, get_or, drop, Option, Result}
+use Rattle.std.proofs.Common.{OnErr, refl, sym, subst, ◌∙◌, append_assoc, append-nil, drop-cons}
 use Rattle.streams.specs.declared.tally.Tally.{Tally}
 use Rattle.streams.specs.declared.buffered.BufferedSink.{BufferedSink}
 use Rattle.streams.specs.Sending.{AppendsFront}
@@ -11,7 +12,8 @@ use Rattle.texts.specs.PlayText.{change_line, change_lines}
 use Rattle.texts.specs.declared.pieces.Piece.{Piece}
 
 -- of the text all but what is left was added
-pub record AddsAllBut {S : Type 0} (held : S → Option (List ℕ)) (tally : S → Tally) (old new : BufferedSink S) (text left : List ℕ) : Type 0 where
+pub record AddsAllBut {S : Type 0} (held : S → Option (List ℕ)) (tally : S → Tally) (old new : BufferedSink S)
+    (text left : List ℕ) : Type 0 where
   pub done : List ℕ
   pub parts : text ≡ done ++ left
   pub added : Adds held tally old new done
@@ -20,7 +22,8 @@ module _ {S : Type 0} {held : S → Option (List ℕ)} {tally : S → Tally} whe
   pub none_added : (a : BufferedSink S) (text : List ℕ) → AddsAllBut held tally a a text text
   none_added a text = record { done = []; parts = refl; added = Adds-nothing a }
 
-  pub one_added : {a b c : BufferedSink S} (text piece left : List ℕ) → AddsAllBut held tally a b text (piece ++ left) → Adds held tally b c piece
+  pub one_added : {a b c : BufferedSink S} (text piece left : List ℕ) → AddsAllBut held tally a b text (piece ++ left) →
+      Adds held tally b c piece
       → AddsAllBut held tally a c text left
   one_added text piece left so_far next = record {
     done = so_far.done ++ piece;
@@ -29,7 +32,8 @@ module _ {S : Type 0} {held : S → Option (List ℕ)} {tally : S → Tally} whe
   }
 
   -- a write failed in the next piece
-  pub one_stopped : {a b c : BufferedSink S} (text piece left : List ℕ) → AddsAllBut held tally a b text (piece ++ left) → Stops held tally b c piece
+  pub one_stopped : {a b c : BufferedSink S} (text piece left : List ℕ) → AddsAllBut held tally a b text (piece ++ left) →
+      Stops held tally b c piece
       → Stops held tally a c text
   one_stopped text piece left so_far next =
       let parts : text ≡ (so_far.done ++ piece) ++ left = so_far.parts ∙ sym (append_assoc so_far.done piece left) in
@@ -41,7 +45,8 @@ module _ {S : Type 0} {held : S → Option (List ℕ)} {tally : S → Tally} whe
       rw parts so_far.added
 
 -- the lines of a history from an entry on
-pub lines_from : (h : List Entry) (i : ℕ) (e : Entry) → i < length h → e ≡ get_or h i e → change_lines (drop i h) ≡ change_line e.change ++ change_lines (drop (i + 1) h)
+pub lines_from : (h : List Entry) (i : ℕ) (e : Entry) → i < length h → e ≡ get_or h i e → change_lines (drop i h) ≡ change_line e.change ++
+    change_lines (drop (i + 1) h)
 lines_from h i e within is =
     let here : drop i h ≡ get_or h i e ∷ drop (i + 1) h = rw (add-one, drop-cons h i e) refl in
     rw here (rw (← is) refl)

@@ -1,5 +1,6 @@
 -- The history that a script leads to, given as a script itself, leads to the same history.
-use Rattle.std.proofs.Common.{◌≡◌, ℕ, ◌<◌, ◌≤◌, nat_lt, not, ◌&&◌, ◌==◌, Bool, true, false, List, [], ◌∷◌, ◌++◌, length, Option, Some, None, Ok, is_ok, true≢false, refl, sym, ap, ◌∙◌, arith}
+use Rattle.std.proofs.Common.{◌≡◌, ℕ, ◌<◌, ◌≤◌, nat_lt, not, ◌&&◌, ◌==◌, Bool, true, false, List, [], ◌∷◌, ◌++◌, length}
+use Rattle.std.proofs.Common.{Option, Some, None, Ok, is_ok, true≢false, refl, sym, ap, ◌∙◌, arith}
 use Rattle.std.specs.Str.Lines.{lines}
 use Rattle.std.proofs.lemmas.Bool.{and_parts, ltb-true}
 use Rattle.league.specs.League.{LeagueData, IsLeague}
@@ -16,7 +17,8 @@ use Rattle.fixture_board.specs.declared.reply.Why.{Why}
 use Rattle.fixture_board.specs.History.{best_of, effective, games_of, is_in_range, pins_of, legal_after, IsLegal, May}
 use Rattle.fixture_board.specs.Replay.{changes_of, under_caller_0}
 use Rattle.fixture_board.specs.Replies.{ask_of, ask_with, entry, greatest, next_if, next_of, refusal, played_from as changes_played}
-use Rattle.fixture_board.proofs.ForCallers.{FitFrom, all_stand_fit, fit_from_more, games_of_teams, is_legal_next, is_legal_none, is_scored_league, pinned_stands, replayed}
+use Rattle.fixture_board.proofs.ForCallers.{FitFrom, all_stand_fit, fit_from_more, games_of_teams, is_legal_next}
+use Rattle.fixture_board.proofs.ForCallers.{is_legal_none, is_scored_league, pinned_stands, replayed}
 use Rattle.texts.specs.Command.{line_of}
 use Rattle.texts.specs.PlayText.{IsPlayedAgain, change_lines, history_after, played, played_from, slack_after}
 use Rattle.texts.specs.SearchText.{PlaysBack}
@@ -58,13 +60,17 @@ IsSmallGame-in_range g game few in_range =
     let round : Bool = nat_lt game.round (round_count g.teams) in
     let all = and_parts (round && nat_lt game.home g.teams && nat_lt game.away g.teams) (not (game.home == game.away)) in_range in
     let three = and_parts (round && nat_lt game.home g.teams) (nat_lt game.away g.teams) all.0 in
-    let two = and_parts round (nat_lt game.home g.teams) three.0 in
-    (omega (arith, ltb-true game.round (round_count g.teams) two.0), omega (arith, ltb-true game.home g.teams two.1), omega (arith, ltb-true game.away g.teams three.1))
+    let two = and_parts round (nat_lt game.home g.teams) three.0 in (
+      omega (arith, ltb-true game.round (round_count g.teams) two.0),
+      omega (arith, ltb-true game.home g.teams two.1),
+      omega (arith, ltb-true game.away g.teams three.1),
+    )
 
 few_teams : (league : LeagueData) (h : List Entry) → IsLeague league → (games_of league h).teams ≤ 40
 few_teams league h is = omega (arith, games_of_teams league h, is.table.most)
 
-IsSmall-may : (league : LeagueData) (h : List Entry) (c : Change) → IsLeague league → FitFrom league (effective h) → May league h c → IsSmall c
+IsSmall-may : (league : LeagueData) (h : List Entry) (c : Change) → IsLeague league → FitFrom league (effective h) → May league h c →
+    IsSmall c
 IsSmall-may league h (change.Shift mv) is all may =
     IsSmallMove-in_range (games_of league h) mv (few_teams league h is) (in_range_of (games_of league h) mv may.0)
 IsSmall-may league h (change.Pin game) is all may = IsSmallGame-in_range (games_of league h) game (few_teams league h is) may.0
@@ -87,7 +93,8 @@ AreSmall-legal league room h is legal = AreSmall-after league room [] h is tt le
 
 -- ---- what a script leads to is legal, and all of caller 0
 
-under-more : (h : List Entry) (c : Change) → under_caller_0 (h ++ record { caller = 0; change = c } ∷ []) ≡ under_caller_0 h ++ record { caller = 0; change = c } ∷ []
+under-more : (h : List Entry) (c : Change) → under_caller_0 (h ++ record { caller = 0; change = c } ∷ []) ≡ under_caller_0 h ++
+    record { caller = 0; change = c } ∷ []
 under-more [] c = refl
 under-more (e ∷ h) c = ap (λ rest. record { caller = 0; change = e.change } ∷ rest) (under-more h c)
 
@@ -106,7 +113,8 @@ record IsPlayed (league : LeagueData) (room : ℕ) (h : List Entry) : Type 0 whe
   legal : IsLegal league room h
   same : under_caller_0 h ≡ h
 
-IsPlayed-line : (league : LeagueData) (room : ℕ) (h : List Entry) (slack : ℕ) (l : ScriptLine) → IsPlayed league room h → IsPlayed league room (history_after league room h slack l)
+IsPlayed-line : (league : LeagueData) (room : ℕ) (h : List Entry) (slack : ℕ) (l : ScriptLine) → IsPlayed league room h →
+    IsPlayed league room (history_after league room h slack l)
 IsPlayed-line league room h slack line.Skip is = is
 IsPlayed-line league room h slack (line.Slack given) is = is
 IsPlayed-line league room h slack (line.Asks c) is = record {
@@ -115,7 +123,8 @@ IsPlayed-line league room h slack (line.Asks c) is = record {
 }
 IsPlayed-line league room h slack line.Bad is = is
 
-IsPlayed-from : (league : LeagueData) (room : ℕ) (h : List Entry) (slack : ℕ) (script : List (List ℕ)) → IsPlayed league room h → IsPlayed league room (played_from league room h slack script)
+IsPlayed-from : (league : LeagueData) (room : ℕ) (h : List Entry) (slack : ℕ) (script : List (List ℕ)) → IsPlayed league room h →
+    IsPlayed league room (played_from league room h slack script)
 IsPlayed-from league room h slack [] is = is
 IsPlayed-from league room h slack (l ∷ script) is =
     IsPlayed-from league room (history_after league room h slack (line_of l)) (slack_after league room slack (line_of l)) script

@@ -1,5 +1,7 @@
 -- How a text is cut into lines, and a line into words.
-use Rattle.std.proofs.Common.{◌≡◌, inl, inr, ℕ, suc, ◌+◌, ◌-◌, ◌<◌, ◌≤◌, add-one, Bool, true, false, cond, not, ltb, eqb, List, [], ◌∷◌, ◌++◌, length, take, drop, get_or, Option, Some, None, refl, ◌∙◌, sym, ap, arith, append_assoc, append-nil, drop-cons, length-drop, length-append, filter}
+use Rattle.std.proofs.Common.{◌≡◌, inl, inr, ℕ, suc, ◌+◌, ◌-◌, ◌<◌, ◌≤◌, add-one, Bool, true, false, cond, not, ltb}
+use Rattle.std.proofs.Common.{eqb, List, [], ◌∷◌, ◌++◌, length, take, drop, get_or, Option, Some, None, refl, ◌∙◌, sym}
+use Rattle.std.proofs.Common.{ap, arith, append_assoc, append-nil, drop-cons, length-drop, length-append, filter}
 use Rattle.std.proofs.Math.Nat.{eq-or-lt_of_le}
 use Rattle.std.proofs.Math.Seq.{take-append_seam}
 use Rattle.std.specs.List.{slice_split, position_or_len}
@@ -33,11 +35,13 @@ one_part : (p : ℕ → Bool) (bs : List ℕ) → position_or_len p bs ≡ lengt
 one_part p bs e = slice_split_none p bs (All-from_get_or (λ b. p b ≡ false) bs 0 (λ i within. fails_before_first p bs i 0 (omega arith)))
 
 -- what stands before the first that passes is the first part
-more_parts : (p : ℕ → Bool) (bs : List ℕ) (n : ℕ) → n ≡ position_or_len p bs → n < length bs → slice_split p bs ≡ take n bs ∷ slice_split p (drop (n + 1) bs)
+more_parts : (p : ℕ → Bool) (bs : List ℕ) (n : ℕ) → n ≡ position_or_len p bs → n < length bs →
+    slice_split p bs ≡ take n bs ∷ slice_split p (drop (n + 1) bs)
 more_parts p bs n is within = rw is (slice_split_first p bs 0 (omega arith))
 
 -- the list in three: before the first that passes, that one, and after it
-three_parts : (p : ℕ → Bool) (bs : List ℕ) (n : ℕ) → n ≡ position_or_len p bs → n < length bs → bs ≡ take n bs ++ (get_or bs n 0 ∷ drop (n + 1) bs)
+three_parts : (p : ℕ → Bool) (bs : List ℕ) (n : ℕ) → n ≡ position_or_len p bs → n < length bs → bs ≡ take n bs ++
+    (get_or bs n 0 ∷ drop (n + 1) bs)
 three_parts p bs n is within = rw (← is) at (split_at_first p bs 0 (omega arith))
 
 not-true : (b : Bool) → not b ≡ false → b ≡ true
@@ -64,7 +68,8 @@ none_left (b ∷ bs) letters = refl
 -- ---- lines
 
 -- the first line ends at a line end
-pub takes_ended_line : (bs : List ℕ) (n : ℕ) → n ≡ position_or_len is_line_end bs → n < length bs → TakesLine bs (strip_carriage_return (take n bs)) (drop (n + 1) bs)
+pub takes_ended_line : (bs : List ℕ) (n : ℕ) → n ≡ position_or_len is_line_end bs → n < length bs →
+    TakesLine bs (strip_carriage_return (take n bs)) (drop (n + 1) bs)
 unfolding text_before lines_after
 takes_ended_line bs n is within =
     let first = more_parts is_line_end bs n is within in
@@ -111,7 +116,8 @@ blanks_dropped (b ∷ bs) = elim (cases_Bool (is_blank b)) [
 ]
 
 -- after them a word begins
-pub word_begins : (bs : List ℕ) (text : List ℕ) → text ≡ drop (position_or_len (λ b. not (is_blank b)) bs) bs → 0 < length text → 0 < position_or_len is_blank text
+pub word_begins : (bs : List ℕ) (text : List ℕ) → text ≡ drop (position_or_len (λ b. not (is_blank b)) bs) bs → 0 < length text →
+    0 < position_or_len is_blank text
 word_begins [] text e some = let none : text ≡ [] = e in absurd (omega (arith, ap length none))
 word_begins (b ∷ bs) text e some = elim (cases_Bool (is_blank b)) [
   | inl blank ↦ word_begins bs text (rw (blank, drop_one_more _ b bs) at e) some
@@ -157,12 +163,14 @@ front_of input front rest n e is =
     rw (n_is, e) (take-append_seam front rest)
 
 -- one more line that is another
-pub reads_on : (word input rest line next : List ℕ) (start : ℕ) → 0 < length word → IsReadTo word input rest start → TakesLine rest line next
+pub reads_on : (word input rest line next : List ℕ) (start : ℕ) → 0 < length word → IsReadTo word input rest start →
+    TakesLine rest line next
     → bytes_eq line word ≡ false → IsReadTo word input next (length input - length next)
 reads_on word input rest line next start letters so_far takes other =
     let shorter = takes.shorter in
     let start_is : (length input - length next) + length next ≡ length input = omega (arith, so_far.start_is, takes.shorter) in
-    let whole : input ≡ (take start input ++ takes.taken) ++ next = so_far.parts ∙ ap (λ l. take start input ++ l) takes.parts ∙ sym (append_assoc (take start input) takes.taken next) in
+    let whole : input ≡ (take start input ++ takes.taken) ++ next = so_far.parts ∙ ap (λ l. take start input ++ l) takes.parts ∙
+    sym (append_assoc (take start input) takes.taken next) in
     let front : take (length input - length next) input ≡ take start input ++ takes.taken = front_of input _ next _ whole start_is in
     let before : text_before word rest ≡ takes.taken ++ text_before word next = rw other at (takes.before word) in
     let after : lines_after word rest ≡ lines_after word next = rw other at (takes.after word letters) in

@@ -1,5 +1,6 @@
 -- The line that is written for a change, without its end: it is read as that change.
-use Rattle.std.proofs.Common.{◌≡◌, ℕ, ◌+◌, ◌-◌, ◌<◌, ◌≤◌, false, cond, List, [], ◌∷◌, ◌++◌, length, take, Some, codes, decimal, refl, ap, ◌∙◌, arith, append_assoc}
+use Rattle.std.proofs.Common.{◌≡◌, ℕ, ◌+◌, ◌-◌, ◌<◌, ◌≤◌, false, cond, List, [], ◌∷◌, ◌++◌, length, take, Some, codes}
+use Rattle.std.proofs.Common.{decimal, refl, ap, ◌∙◌, arith, append_assoc}
 use Rattle.std.specs.Prelude.{◌==◌, slice_index}
 use Rattle.std.specs.Str.Lines.{lines, strip_carriage_return}
 use Rattle.std.proofs.lemmas.Bool.{ne_eqb}
@@ -18,7 +19,9 @@ use Rattle.texts.specs.PlayText.{change_line, change_lines}
 use Rattle.texts.specs.declared.script_line.ScriptLine.TheVariants.{Asks}
 use Rattle.texts.specs.declared.script_line.Keyword.TheVariants as key
 use Rattle.texts.proofs.Splitting.{parts_of}
-use Rattle.texts.proofs.WrittenWords.{AllFrom, AllFrom-plain, AllFrom-with_two, AllFrom-with_three, IsPlain, IsPlain-decimal, IsPlain-tested, number_of-decimal, place_of-more, with_two, with_three, words_with_two, words_with_three}
+use Rattle.texts.proofs.WrittenWords.{AllFrom, AllFrom-plain, AllFrom-with_two, AllFrom-with_three, IsPlain}
+use Rattle.texts.proofs.WrittenWords.{IsPlain-decimal, IsPlain-tested, number_of-decimal, place_of-more, with_two}
+use Rattle.texts.proofs.WrittenWords.{with_three, words_with_two, words_with_three}
 
 -- teams and rounds that can be numbered from 1 within a byte
 
@@ -63,7 +66,8 @@ bare_line change.Undo = codes "undo"
 two_ended : (word a b : List ℕ) → (word ++ a) ++ ((codes " " ++ b) ++ codes "\n") ≡ (word ++ (a ++ 32 ∷ b)) ++ 10 ∷ []
 two_ended word a b = simp append_assoc
 
-three_ended : (word a b c : List ℕ) → ((word ++ a) ++ (codes " " ++ b)) ++ ((codes " " ++ c) ++ codes "\n") ≡ (word ++ (a ++ 32 ∷ (b ++ 32 ∷ c))) ++ 10 ∷ []
+three_ended : (word a b c : List ℕ) → ((word ++ a) ++ (codes " " ++ b)) ++
+    ((codes " " ++ c) ++ codes "\n") ≡ (word ++ (a ++ 32 ∷ (b ++ 32 ∷ c))) ++ 10 ∷ []
 three_ended word a b c = simp append_assoc
 
 move_ended : (mv : Move) → change_line (change.Shift mv) ≡ bare_move mv ++ 10 ∷ []
@@ -85,11 +89,13 @@ plain_place : (n : ℕ) → n < 255 → IsPlain (decimal (n + 1))
 plain_place n small = IsPlain-decimal (n + 1) (omega arith)
 
 two_high : (word : List ℕ) (a b : ℕ) → IsPlain word → a < 255 → b < 255 → AllFrom 32 (bare_two word a b)
-two_high word a b plain small_a small_b = AllFrom-with_two word (decimal (a + 1)) (decimal (b + 1)) plain (plain_place a small_a) (plain_place b small_b)
+two_high word a b plain small_a small_b =
+    AllFrom-with_two word (decimal (a + 1)) (decimal (b + 1)) plain (plain_place a small_a) (plain_place b small_b)
 
 three_high : (word : List ℕ) (a b c : ℕ) → IsPlain word → a < 255 → b < 255 → c < 255 → AllFrom 32 (bare_three word a b c)
 three_high word a b c plain small_a small_b small_c =
-    AllFrom-with_three word (decimal (a + 1)) (decimal (b + 1)) (decimal (c + 1)) plain (plain_place a small_a) (plain_place b small_b) (plain_place c small_c)
+    AllFrom-with_three word (decimal (a + 1)) (decimal (b + 1)) (decimal (c + 1)) plain (plain_place a small_a) (plain_place b small_b)
+    (plain_place c small_c)
 
 -- each keyword is one word
 
@@ -144,7 +150,8 @@ no_line_end b high = ne_eqb b 10 (λ is. omega arith)
 
 first_line : (line rest : List ℕ) → AllFrom 32 line → lines (line ++ 10 ∷ rest) ≡ line ∷ lines rest
 first_line line rest high =
-    let first = slice_split_at is_line_end line 10 rest (All-weaker (λ b. 32 ≤ b) (λ b. is_line_end b ≡ false) no_line_end line high) refl in
+    let first = slice_split_at is_line_end line 10 rest
+    (All-weaker (λ b. 32 ≤ b) (λ b. is_line_end b ≡ false) no_line_end line high) refl in
     let next = parts_of is_line_end rest in
     let split : lines (line ++ 10 ∷ rest) ≡ strip_carriage_return line ∷ lines rest = rw (first, next.2) refl in
     split ∙ ap (λ l. l ∷ lines rest) (kept_whole line high)
@@ -170,15 +177,18 @@ lines-change_lines (e ∷ h) small =
 
 -- the keyword takes what two numbers make of it
 abbrev ReadsTwo : List ℕ → (ℕ → ℕ → Change) → Type 0
-ReadsTwo word f = (arguments : List (List ℕ)) (x y : ℕ) → numbers_of arguments ≡ Some (x ∷ y ∷ []) → line_of_words (word ∷ arguments) ≡ Asks (f (place_of x) (place_of y))
+ReadsTwo word f = (arguments : List (List ℕ)) (x y : ℕ) → numbers_of arguments ≡ Some (x ∷ y ∷ []) →
+    line_of_words (word ∷ arguments) ≡ Asks (f (place_of x) (place_of y))
 
 abbrev ReadsThree : List ℕ → (ℕ → ℕ → ℕ → Change) → Type 0
-ReadsThree word f = (arguments : List (List ℕ)) (x y z : ℕ) → numbers_of arguments ≡ Some (x ∷ y ∷ z ∷ []) → line_of_words (word ∷ arguments) ≡ Asks (f (place_of x) (place_of y) (place_of z))
+ReadsThree word f = (arguments : List (List ℕ)) (x y z : ℕ) → numbers_of arguments ≡ Some (x ∷ y ∷ z ∷ []) →
+    line_of_words (word ∷ arguments) ≡ Asks (f (place_of x) (place_of y) (place_of z))
 
 place_read : (n : ℕ) → n < 255 → number_of (decimal (n + 1)) ≡ Some (n + 1)
 place_read n small = number_of-decimal (n + 1) (omega arith)
 
-two_read : (word : List ℕ) (f : ℕ → ℕ → Change) (a b : ℕ) → IsPlain word → ReadsTwo word f → (a < 255) × (b < 255) → line_of (bare_two word a b) ≡ Asks (f a b)
+two_read : (word : List ℕ) (f : ℕ → ℕ → Change) (a b : ℕ) → IsPlain word → ReadsTwo word f → (a < 255) × (b < 255) →
+    line_of (bare_two word a b) ≡ Asks (f a b)
 two_read word f a b plain reads small =
     let numbers : numbers_of (decimal (a + 1) ∷ decimal (b + 1) ∷ []) ≡ Some ((a + 1) ∷ (b + 1) ∷ []) =
     rw (place_read a small.0, place_read b small.1) refl in
@@ -192,20 +202,26 @@ three_read : (word : List ℕ) (f : ℕ → ℕ → ℕ → Change) (a b c : ℕ
 three_read word f a b c plain reads small =
     let numbers : numbers_of (decimal (a + 1) ∷ decimal (b + 1) ∷ decimal (c + 1) ∷ []) ≡ Some ((a + 1) ∷ (b + 1) ∷ (c + 1) ∷ []) =
     rw (place_read a small.0, place_read b small.1, place_read c small.2) refl in
-    ap line_of_words (words_with_three word (decimal (a + 1)) (decimal (b + 1)) (decimal (c + 1)) plain (plain_place a small.0) (plain_place b small.1) (plain_place c small.2)) ∙
+    ap line_of_words (words_with_three word (decimal (a + 1)) (decimal (b + 1)) (decimal (c + 1)) plain (plain_place a small.0)
+    (plain_place b small.1) (plain_place c small.2)) ∙
     reads (decimal (a + 1) ∷ decimal (b + 1) ∷ decimal (c + 1) ∷ []) (a + 1) (b + 1) (c + 1) numbers ∙
     ap (λ x. Asks (f x (place_of (b + 1)) (place_of (c + 1)))) (place_of-more a small.0) ∙
     ap (λ y. Asks (f a y (place_of (c + 1)))) (place_of-more b small.1) ∙
     ap (λ z. Asks (f a b z)) (place_of-more c small.2)
 
 move_read : (mv : Move) → IsSmallMove mv → line_of (bare_move mv) ≡ Asks (change.Shift mv)
-move_read (Homes i j) small = two_read (codes "homes") (λ a b. change.Shift (Homes a b)) i j homes (λ arguments x y is. ap (command_with key.Homes) is) small
-move_read (Rounds k l) small = two_read (codes "rounds") (λ a b. change.Shift (Rounds a b)) k l rounds (λ arguments x y is. ap (command_with key.Rounds) is) small
-move_read (Teams i j) small = two_read (codes "teams") (λ a b. change.Shift (Teams a b)) i j teams (λ arguments x y is. ap (command_with key.Teams) is) small
+move_read (Homes i j) small = two_read (codes "homes") (λ a b. change.Shift (Homes a b)) i j homes
+    (λ arguments x y is. ap (command_with key.Homes) is) small
+move_read (Rounds k l) small = two_read (codes "rounds") (λ a b. change.Shift (Rounds a b)) k l rounds
+    (λ arguments x y is. ap (command_with key.Rounds) is) small
+move_read (Teams i j) small = two_read (codes "teams") (λ a b. change.Shift (Teams a b)) i j teams
+    (λ arguments x y is. ap (command_with key.Teams) is) small
 move_read (PartRounds i k l) small =
-    three_read (codes "part-rounds") (λ a b c. change.Shift (PartRounds a b c)) i k l part_rounds (λ arguments x y z is. ap (command_with key.PartRounds) is) small
+    three_read (codes "part-rounds") (λ a b c. change.Shift (PartRounds a b c)) i k l part_rounds
+    (λ arguments x y z is. ap (command_with key.PartRounds) is) small
 move_read (PartTeams i j k) small =
-    three_read (codes "part-teams") (λ a b c. change.Shift (PartTeams a b c)) i j k part_teams (λ arguments x y z is. ap (command_with key.PartTeams) is) small
+    three_read (codes "part-teams") (λ a b c. change.Shift (PartTeams a b c)) i j k part_teams
+    (λ arguments x y z is. ap (command_with key.PartTeams) is) small
 
 abbrev game_at : ℕ → ℕ → ℕ → Game
 game_at r h a = record { round = r; home = h; away = a }
@@ -213,7 +229,9 @@ game_at r h a = record { round = r; home = h; away = a }
 pub line_read : (c : Change) → IsSmall c → line_of (bare_line c) ≡ Asks c
 line_read (change.Shift mv) small = move_read mv small
 line_read (change.Pin game) small =
-    three_read (codes "pin") (λ r h a. change.Pin (game_at r h a)) game.round game.home game.away pin (λ arguments x y z is. ap (command_with key.Pin) is) small
+    three_read (codes "pin") (λ r h a. change.Pin (game_at r h a)) game.round game.home game.away pin
+    (λ arguments x y z is. ap (command_with key.Pin) is) small
 line_read (change.Unpin game) small =
-    three_read (codes "unpin") (λ r h a. change.Unpin (game_at r h a)) game.round game.home game.away unpin (λ arguments x y z is. ap (command_with key.Unpin) is) small
+    three_read (codes "unpin") (λ r h a. change.Unpin (game_at r h a)) game.round game.home game.away unpin
+    (λ arguments x y z is. ap (command_with key.Unpin) is) small
 line_read change.Undo small = refl

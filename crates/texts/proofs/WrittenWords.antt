@@ -1,5 +1,6 @@
 -- Numbers and words that are written in a line, and read again.
-use Rattle.std.proofs.Common.{◌≡◌, ℕ, ◌+◌, ◌-◌, ◌^◌, ◌<◌, ◌≤◌, nat_le, true, false, List, [], ◌∷◌, ◌++◌, length, Some, decimal, refl, sym, ap, ◌∙◌, arith, filter}
+use Rattle.std.proofs.Common.{◌≡◌, ℕ, ◌+◌, ◌-◌, ◌^◌, ◌<◌, ◌≤◌, nat_le, true, false, List, [], ◌∷◌, ◌++◌, length, Some}
+use Rattle.std.proofs.Common.{decimal, refl, sym, ap, ◌∙◌, arith, filter}
 use Rattle.std.specs.Prelude.{◌==◌, nat_lt}
 use Rattle.std.specs.List.{All, list_all, slice_split, AllByRecursion as ByRecursion}
 use Rattle.std.specs.Str.{all_ascii_digits}
@@ -31,7 +32,8 @@ number_of-decimal n small =
     let some : 0 < length (decimal n) = decimal_nonempty n fits in
     let short : length (decimal n) ≤ 3 = length-decimal-le 3 n (omega arith) (omega arith) fits in
     let value : n ≡ digits_value 10 (decimal n) = sym (digits_value-decimal all_digits n fits) in
-    sym (some_number (decimal n) n (ne_eqb (length (decimal n)) 0 (λ none. omega arith)) (omega arith) (digits_decimal all_digits n fits) value) ∙
+    sym (some_number (decimal n) n (ne_eqb (length (decimal n)) 0 (λ none. omega arith)) (omega arith)
+    (digits_decimal all_digits n fits) value) ∙
     fitting_small n small
 
 -- a place is written one higher
@@ -107,7 +109,8 @@ pub words_with_two : (word a b : List ℕ) → IsPlain word → IsPlain a → Is
 words_with_two word a b plain plain_a plain_b =
     word_then word (a ++ 32 ∷ b) plain ∙ ap (λ ws. word ∷ ws) (word_then a b plain_a ∙ ap (λ ws. a ∷ ws) (last_word b plain_b))
 
-pub words_with_three : (word a b c : List ℕ) → IsPlain word → IsPlain a → IsPlain b → IsPlain c → words_of (with_three word a b c) ≡ word ∷ a ∷ b ∷ c ∷ []
+pub words_with_three : (word a b c : List ℕ) → IsPlain word → IsPlain a → IsPlain b → IsPlain c →
+    words_of (with_three word a b c) ≡ word ∷ a ∷ b ∷ c ∷ []
 words_with_three word a b c plain plain_a plain_b plain_c =
     word_then word (with_two a b c) plain ∙ ap (λ ws. word ∷ ws) (words_with_two a b c plain_a plain_b plain_c)
 
@@ -124,4 +127,5 @@ pub AllFrom-with_two : (word a b : List ℕ) → IsPlain word → IsPlain a → 
 AllFrom-with_two word a b plain plain_a plain_b = with_space word (a ++ 32 ∷ b) plain (with_space a b plain_a (AllFrom-plain b plain_b))
 
 pub AllFrom-with_three : (word a b c : List ℕ) → IsPlain word → IsPlain a → IsPlain b → IsPlain c → AllFrom 32 (with_three word a b c)
-AllFrom-with_three word a b c plain plain_a plain_b plain_c = with_space word (with_two a b c) plain (AllFrom-with_two a b c plain_a plain_b plain_c)
+AllFrom-with_three word a b c plain plain_a plain_b plain_c =
+    with_space word (with_two a b c) plain (AllFrom-with_two a b c plain_a plain_b plain_c)

@@ -9,7 +9,8 @@ fitting n = if nat_lt n (2 ^ 64) then Some n else None
 
 -- 1 to 20 digits, of a value that is a `u64`
 abbrev pub number_of : List ℕ → Option ℕ
-number_of word = if (length word == 0) || nat_lt 20 (length word) || not (all_ascii_digits word) then None else fitting (digits_value 10 word)
+number_of word = if (length word == 0) || nat_lt 20 (length word) || not (all_ascii_digits word) then None else fitting
+    (digits_value 10 word)
 
 -- a team or round as it is handed on: from 0, or 255 where it can't be one
 abbrev pub place_of : ℕ → ℕ

@@ -113,7 +113,8 @@ module _ (league : LeagueData) (room : ℕ) where
   abbrev pub answers_from : List Entry → ℕ → ℕ → List (List ℕ) → List ℕ
   answers_from h slack number [] = []
   answers_from h slack number (l ∷ ls) =
-      answer_to h slack number (line_of l) ++ answers_from (history_after h slack (line_of l)) (slack_after slack (line_of l)) (number + 1) ls
+      answer_to h slack number (line_of l) ++
+      answers_from (history_after h slack (line_of l)) (slack_after slack (line_of l)) (number + 1) ls
 
   -- the history after the lines
   abbrev pub played_from : List Entry → ℕ → List (List ℕ) → List Entry

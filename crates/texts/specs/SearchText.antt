@@ -16,7 +16,8 @@ plan_line workers steps seed = counted (codes "workers ") workers ++ counted (co
 -- how many proposals a worker made, and how many of them were accepted and refused
 abbrev pub worker_line : ℕ → ℕ → ℕ → ℕ → List ℕ
 worker_line number made accepted refused =
-    counted (codes "worker ") number ++ counted (codes " made ") made ++ counted (codes " accepted ") accepted ++ numbered (codes " refused ") refused
+    counted (codes "worker ") number ++ counted (codes " made ") made ++ counted (codes " accepted ") accepted ++
+    numbered (codes " refused ") refused
 
 -- what takes away a terminal's line: a carriage return, and the sequence that erases to the end of the line
 abbrev pub clear_line : List ℕ

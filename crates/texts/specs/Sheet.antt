@@ -19,7 +19,8 @@ abbrev pub pattern_of : Games → ℕ → List ℕ
 pattern_of g team = pieces_below (letter_of g team) (round_count g.teams)
 
 abbrev pub team_line : Games → LeagueData → ℕ → List ℕ
-team_line g league team = codes "team " ++ decimal (team + 1) ++ codes " " ++ pattern_of g team ++ codes " " ++ name_of league team ++ codes "\n"
+team_line g league team = codes "team " ++ decimal (team + 1) ++ codes " " ++ pattern_of g team ++ codes " " ++ name_of league team ++
+    codes "\n"
 
 -- a game, after a space
 abbrev pub pairing_of : ℕ → ℕ → List ℕ

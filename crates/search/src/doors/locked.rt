@@ -1,10 +1,8 @@
 //! A door to a board under a lock.
 
-use super::shown::show;
 use crate::Door;
-use fixture_board::{Board, Proposal, Reply};
+use fixture_board::{Board, Proposal, Reply, Seen};
 use fixtures::Schedule;
-use shared_board::Seen;
 use std::sync::{Mutex, Wait};
 
 /// A door to a board under a lock. Between two calls whoever takes the lock may put another board there, of another league
@@ -12,6 +10,7 @@ use std::sync::{Mutex, Wait};
 /// and room are those of the board that is found.
 #[derive(Drop)]
 pub struct LockedDoor<'a> {
+    /// The board, whoever else may change it.
     pub board: &'a Mutex<Board>,
     /// The number of the caller.
     pub caller: u32,
@@ -42,8 +41,7 @@ impl Door for LockedDoor<'_> {
     ghost stays_boards = { λ a b p league room. (λ h. h, λ h. h) };
 
     fn look<R: Wait>(&mut self, rt: &R, copy: &mut Schedule) -> Seen {
-        let board = self.board.lock(rt);
-        show(&board, copy)
+        self.board.lock(rt).look(copy)
     }
 
     fn propose<R: Wait>(&mut self, rt: &R, proposal: Proposal) -> Reply {

@@ -1,15 +1,14 @@
 //! A door to a board of its own.
 
-use super::shown::show;
 use crate::Door;
-use fixture_board::{Board, Proposal, Reply};
+use fixture_board::{Board, Proposal, Reply, Seen};
 use fixtures::Schedule;
-use shared_board::Seen;
 use std::sync::Wait;
 
 /// A door to a board that nobody else changes.
 #[derive(Drop)]
 pub struct OwnDoor {
+    /// The board.
     pub board: Board,
     /// The number of the caller.
     pub caller: u32,
@@ -24,7 +23,7 @@ impl Door for OwnDoor {
     ghost use Rattle.fixture_board.specs.History.{IsLegal, cost_at, games_of};
     ghost use Rattle.fixture_board.specs.Record.{book};
     ghost use Rattle.fixture_board.specs.Replies.{next_of, reply_of};
-    ghost use Rattle.shared_board.specs.Seats.{copied};
+    ghost use Rattle.fixture_board.specs.Looks.{copied};
     ghost use Rattle.search.specs.Doors.{done_count};
 
     ghost stays = { λ d e. (d.caller ≡ e.caller) × (d.board.league ≡ e.board.league) × (d.board.room ≡ e.board.room) };
@@ -52,7 +51,7 @@ impl Door for OwnDoor {
         ensures same { self.new ≡ self.old }
         ensures legal { IsLegal self.old.board.league self.old.board.room self.old.board.history }
     {
-        show(&self.board, copy)
+        self.board.look(copy)
     }
 
     fn propose<R: Wait>(&mut self, _rt: &R, proposal: Proposal) -> Reply

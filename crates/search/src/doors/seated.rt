@@ -3,15 +3,17 @@
 ghost use Rattle.std.specs.Prelude.{◌≡◌};
 
 use crate::Door;
-use fixture_board::{Proposal, Reply};
+use fixture_board::{Proposal, Reply, Seen};
 use fixtures::Schedule;
-use shared_board::{Seat, Seen, Shared};
+use shared_board::{Seat, Shared};
 use std::sync::Wait;
 
 /// A door to a board that threads share, by any seat of it.
 #[derive(Drop)]
 pub struct SeatDoor<'a> {
+    /// The board that the seat is of.
     pub shared: &'a Shared,
+    /// The seat, which has one number or more.
     pub seat: Seat,
     pub ghost same_board: { seat.table ≡ shared.now },
 }
@@ -36,7 +38,8 @@ impl Door for SeatDoor<'_> {
 
     ghost stays_same = { λ d. record { table = refl; number = refl; setting = refl; held = refl } };
 
-    ghost stays_then = { λ a b c p q. record { table = p.table ∙ q.table; number = p.number ∙ q.number; setting = p.setting ∙ q.setting; held = p.held ∙ q.held } };
+    ghost stays_then = { λ a b c p q. record
+        { table = p.table ∙ q.table; number = p.number ∙ q.number; setting = p.setting ∙ q.setting; held = p.held ∙ q.held } };
 
     ghost stays_caller = { λ a b p. p.number };
 

@@ -2,7 +2,8 @@
 
 ghost use Rattle.std.specs.Prelude.{◌≡◌, ◌+◌, ◌≤◌, [], length, map, All, IfOk, IfSome, vec_len, vec_capacity};
 ghost use Rattle.std.specs.List.Sorted.{IsStrictlyIncreasing};
-ghost use Rattle.search.specs.Crews.{AreCredited, AreStarted, CanStart, HandleSaw, IsBack, IsFresh, IsHandle, IsJob, JobSaw, handle_number, job_number};
+ghost use Rattle.search.specs.Crews.{AreCredited, AreStarted, CanStart, HandleSaw, IsBack, IsFresh, IsHandle, IsJob};
+ghost use Rattle.search.specs.Crews.{JobSaw, handle_number, job_number};
 ghost use Rattle.search.specs.Outcomes.{accepted_in};
 ghost use Rattle.search.specs.Heard.{IsOfWorker};
 

@@ -4,8 +4,8 @@ ghost use Rattle.std.specs.Prelude.{◌≡◌, ◌<◌, ◌≤◌, ◌^◌, ◌-
 ghost use Rattle.shared_board.specs.Seats.{Answered, Looked, glanced_at, lowest_at, word_of_total};
 
 use crate::plays::{Glance, Lower};
-use crate::shared::{BEST, FRONT, Seat, Seen, Shared};
-use fixture_board::{Ask, Proposal, Reply};
+use crate::shared::{BEST, FRONT, Seat, Shared};
+use fixture_board::{Ask, Proposal, Reply, Seen};
 use fixtures::{Game, Schedule};
 use std::sync::Wait;
 

@@ -12,7 +12,8 @@ impl Shared {
     /// of the new one's number.
     pub fn split<R: Wait>(&self, rt: &R, seat: &mut Seat) -> Result<Seat, SplitFault>
         requires { seat.old.table ≡ self.now }
-        ensures { MatchResult result (λ s. (seat.new ≡ given_at seat.old (s.number + 1)) × IsNew seat.old s) (λ _. seat.new ≡ given_at seat.old 64) }
+        ensures { MatchResult result (λ s. (seat.new ≡ given_at seat.old (s.number + 1)) × IsNew seat.old s)
+            (λ _. seat.new ≡ given_at seat.old 64) }
     {
         self.take(rt, &mut seat.place);
         let number = self.count(&mut seat.place);

@@ -3,18 +3,19 @@
 ghost use Rattle.std.specs.Prelude.{◌≡◌, ℕ, ◌<◌, ◌≤◌, ◌^◌, ◌+◌, [], ◌∷◌, length, true, MatchBool};
 ghost use Rattle.fixture_board.specs.History.{IsLegal, games_of, cost_at};
 ghost use Rattle.fixture_board.specs.Laws.{least_of, as_number};
+ghost use Rattle.fixture_board.specs.Looks.{copied};
 ghost use Rattle.fixture_board.specs.Replies.{next_of};
 ghost use Rattle.shared_board.specs.Held.{times};
 ghost use Rattle.shared_board.specs.Stage.{away, holds, counts, owes, kept, owed, IsSettled};
 ghost use Rattle.shared_board.specs.Rule.{Added};
 ghost use Rattle.shared_board.specs.Plays.{Took, Counted, at_stage, saw, on_board, drawing};
-ghost use Rattle.shared_board.specs.Seats.{SeatValue, HasBoard, IsIdle, IsSeat, Answered, Absorbed, seat_value, copied};
+ghost use Rattle.shared_board.specs.Seats.{SeatValue, HasBoard, IsIdle, IsSeat, Answered, Absorbed, seat_value};
 ghost use Rattle.shared_board.specs.Ending.{IsSeatAfter, IsOfBoth, BroughtOut, HoldsBelow};
 ghost use Rattle.shared_board.specs.Judging.{IsJudged};
 
 use crate::plays::{Both, Commit, Count, Draw, Leave, Post, Quit, Take, Tell};
-use crate::shared::{BEST, FRONT, Judged, NUMBERS, Place, SLOT, Seen, Shared, TURN};
-use fixture_board::{Ask, Best, Board, Reply};
+use crate::shared::{BEST, FRONT, Judged, NUMBERS, Place, SLOT, Shared, TURN};
+use fixture_board::{Ask, Best, Board, Reply, Seen};
 use fixtures::Schedule;
 use std::hint::spin_loop;
 use std::sync::Wait;
@@ -51,8 +52,11 @@ impl Shared {
         requires idle { IsIdle place.old.me }
         requires own { 0 < times number place.old.me.0.held }
         ensures same { place.new.table_id ≡ place.old.table_id }
-        ensures seat { (held seen accepted : ℕ) → IsSeat place.old.me number held seen accepted → IsSeatAfter place.new.me number held accepted result }
-        ensures answered { (held seen accepted : ℕ) → IsSeat place.old.me number held seen accepted → Answered (seat_value place.old.table_id number place.old.me.0) (seat_value place.old.table_id number place.new.me.0) ask result }
+        ensures seat { (held seen accepted : ℕ) → IsSeat place.old.me number held seen accepted →
+            IsSeatAfter place.new.me number held accepted result }
+        ensures answered { (held seen accepted : ℕ) → IsSeat place.old.me number held seen accepted →
+            Answered (seat_value place.old.table_id number place.old.me.0)
+            (seat_value place.old.table_id number place.new.me.0) ask result }
     {
         self.take(rt, place);
         let judged = self.judge(place, number, ask);
@@ -81,7 +85,8 @@ impl Shared {
         requires idle { IsIdle place.old.me × IsIdle other.me }
         ensures same { place.new.table_id ≡ place.old.table_id }
         ensures both { IsOfBoth place.old.me other.me place.new.me }
-        ensures absorbed { (number theirs : ℕ) (a o : SeatValue) → seat_value place.old.table_id number place.old.me.0 ≡ a → seat_value other.table_id theirs other.me.0 ≡ o → Absorbed a o (seat_value place.new.table_id number place.new.me.0) }
+        ensures absorbed { (number theirs : ℕ) (a o : SeatValue) → seat_value place.old.table_id number place.old.me.0 ≡ a →
+            seat_value other.table_id theirs other.me.0 ≡ o → Absorbed a o (seat_value place.new.table_id number place.new.me.0) }
     {
         self.table.shared.join_seat::<Both>(place, other);
         self.table.shared.load::<Tell>(place, TURN);
@@ -114,7 +119,8 @@ impl Shared {
         requires table { place.old.table_id ≡ self.now }
         requires board { HasBoard place.old.me (on_board place.old.me.1) }
         ensures same { (place.new.table_id ≡ place.old.table_id) × (place.new.me.0 ≡ place.old.me.0) }
-        ensures board { HasBoard place.new.me (next_of place.old.me.0.setting.league place.old.me.0.setting.room (on_board place.old.me.1) number ask) }
+        ensures board { HasBoard place.new.me
+            (next_of place.old.me.0.setting.league place.old.me.0.setting.room (on_board place.old.me.1) number ask) }
         ensures judged { IsJudged place.old.me.0.setting (on_board place.old.me.1) number ask result }
         ensures small { result.version < 2 ^ 64 }
     {
@@ -141,16 +147,7 @@ impl Shared {
         ensures copy { copy.new ≡ copied copy.old (games_of place.old.me.0.setting.league (on_board place.old.me.1)) }
     {
         match place.slot_mut(&self.table.shared, SLOT) {
-            Some(board) => {
-                let shown = board.schedule();
-                if copy.teams() == shown.teams() {
-                    copy.copy_from(shown);
-                }
-                Seen {
-                    version: board.version(),
-                    cost: board.cost(),
-                }
-            }
+            Some(board) => board.look(copy),
             None => unreachable!(),
         }
     }
@@ -163,7 +160,8 @@ impl Shared {
         requires legal { IsLegal place.old.me.0.setting.league place.old.me.0.setting.room (on_board place.old.me.1) }
         requires version { version ≡ length (on_board place.old.me.1) }
         ensures same { place.new.table_id ≡ place.old.table_id }
-        ensures done { let g = on_board place.old.me.1 in place.new.me ≡ (saw place.old.me.0 g (owes (kept place.old.me.0.stage) g), place.old.me.1) }
+        ensures done { let g = on_board place.old.me.1 in
+            place.new.me ≡ (saw place.old.me.0 g (owes (kept place.old.me.0.stage) g), place.old.me.1) }
     {
         self.table.shared.store::<Commit>(place, FRONT, version);
     }
@@ -171,7 +169,8 @@ impl Shared {
     /// Writes the best total after a commit.
     pub(crate) fn post(&self, place: &mut Place, least: u64)
         requires table { place.old.table_id ≡ self.now }
-        requires turn { (place.old.me.0.live ≡ true) × (place.old.me.0.stage ≡ owes (owed place.old.me.0.stage) (kept place.old.me.0.stage)) }
+        requires turn { (place.old.me.0.live ≡ true) ×
+            (place.old.me.0.stage ≡ owes (owed place.old.me.0.stage) (kept place.old.me.0.stage)) }
         requires least { least ≡ least_of place.old.me.0.setting.league (kept place.old.me.0.stage) }
         ensures same { place.new.table_id ≡ place.old.table_id }
         ensures done { place.new.me ≡ (at_stage place.old.me.0 (holds (kept place.old.me.0.stage)), place.old.me.1) }
@@ -228,10 +227,15 @@ impl Shared {
         requires table { place.old.table_id ≡ self.now }
         requires turn { (place.old.me.0.live ≡ true) × IsSettled place.old.me.0.stage × (0 < times _number place.old.me.0.held) }
         requires legal { IsLegal place.old.me.0.setting.league place.old.me.0.setting.room (kept place.old.me.0.stage) }
-        requires board { HasBoard place.old.me (next_of place.old.me.0.setting.league place.old.me.0.setting.room (kept place.old.me.0.stage) _number _ask) }
+        requires board { HasBoard place.old.me
+            (next_of place.old.me.0.setting.league place.old.me.0.setting.room (kept place.old.me.0.stage) _number _ask) }
         requires judged { IsJudged place.old.me.0.setting (kept place.old.me.0.stage) _number _ask judged.now }
         ensures same { place.new.table_id ≡ place.old.table_id }
-        ensures done { place.new.me ≡ (saw place.old.me.0 (next_of place.old.me.0.setting.league place.old.me.0.setting.room (kept place.old.me.0.stage) _number _ask) away, []) }
+        ensures done { place.new.me ≡ (
+          saw place.old.me.0
+              (next_of place.old.me.0.setting.league place.old.me.0.setting.room (kept place.old.me.0.stage) _number _ask) away,
+          [],
+        ) }
     {
         match judged.reply {
             Reply::Done { .. } => {

@@ -6,6 +6,7 @@ ghost use Rattle.std.specs.Thread.{IsSync};
 use crate::shared::{Seat, Shared};
 use fixture_board::Board;
 use league::circular;
+use std::alloc::Global;
 use std::io;
 use std::sync::Wait;
 use std::test::Fail;
@@ -48,12 +49,13 @@ fn hold<R: Wait + Clock>(
     Ok(taken.duration_since(start))
 }
 
-/// One seat holds the turn for a fifth of a second, and another one comes while it does. How long that one waits.
+/// One seat holds the turn for so many milliseconds, and another one comes while it does. How long that one waits.
 fn waited<R: Threads + Wait + Clock + Sync>(
     rt: &R,
     shared: &Shared,
     first: Seat,
     second: Seat,
+    held: u64,
 ) -> io::Result<Duration>
     requires first { first.table ≡ shared.now }
     requires second { second.table ≡ shared.now }
@@ -62,7 +64,7 @@ fn waited<R: Threads + Wait + Clock + Sync>(
         rt,
         move || -> io::Result<Duration>
             requires { IsSync R.row × (first.table ≡ shared.now) }
-        { hold(rt, shared, first, 0, 200) },
+        { hold(rt, shared, first, 0, held) },
         move || -> io::Result<Duration>
             requires { IsSync R.row × (second.table ≡ shared.now) }
         { hold(rt, shared, second, 50, 0) },
@@ -70,13 +72,30 @@ fn waited<R: Threads + Wait + Clock + Sync>(
     waited
 }
 
+/// How long a seat waits for a turn that is held for so many milliseconds.
+fn waited_on_a_new_board<R: Threads + Wait + Clock + Sync>(
+    rt: &R,
+    alloc: Global,
+    held: u64,
+) -> Result<Duration, Fail> {
+    let board = Board::new(alloc, circular(alloc, 4)?, 8)?;
+    let (shared, mut first) = Shared::new(alloc, board)?;
+    let second = shared.split(rt, &mut first)?;
+    Ok(waited(rt, &shared, first, second, held)?)
+}
+
 /// A seat whose nap were a second, or had no end, fails this.
 #[test]
 fn a_turn_that_is_left_is_taken_within_a_second(rt: HostRuntime) -> Result<(), Fail> {
-    let board = Board::new(rt.alloc(), circular(rt.alloc(), 4)?, 8)?;
-    let (shared, mut first) = Shared::new(rt.alloc(), board)?;
-    let second = shared.split(&rt, &mut first)?;
-    let waited = waited(&rt, &shared, first, second)?;
+    let waited = waited_on_a_new_board(&rt, rt.alloc(), 200)?;
     assert!(rt; waited < Duration::from_millis(1_000));
+    Ok(())
+}
+
+/// `scripts/check-wait` runs this, and tells by the processor time whether the seat that waits sleeps or spins.
+#[test]
+fn a_seat_waits_a_second(rt: HostRuntime) -> Result<(), Fail> {
+    let waited = waited_on_a_new_board(&rt, rt.alloc(), 1_200)?;
+    assert!(rt; Duration::from_millis(500) < waited);
     Ok(())
 }

@@ -27,7 +27,12 @@ returns-then-score-most-clause-value c =
     let some : c.args.rest.hard + c.runs_share.result ≤
     c.args.rest.hard + games_share c.args.league.now c.args.scope.now c.args.schedule.now =
     omega (arith, c.runs_share.ensures.value) in
-    omega (arith, games_score _ _ _ _ c.teams.ensures.limits c.requires.same_size c.requires.whole _ some, c.score.ensures, c.if-score-most.true)
+    omega (
+      arith,
+      games_score _ _ _ _ c.teams.ensures.limits c.requires.same_size c.requires.whole _ some,
+      c.score.ensures,
+      c.if-score-most.true,
+    )
 
 pub overflow_add-least : goal.overflow_add-least
 overflow_add-least c =
@@ -70,14 +75,22 @@ overflow_add-cost c =
     let all : c.args.rest.hard + c.runs_share.result + c.meetings_share.result ≡
     c.args.rest.hard + games_share c.args.league.now c.args.scope.now c.args.schedule.now =
     omega (arith, c.runs_share.ensures.value, c.meetings_share.ensures.value) in
-    omega (arith, (both_small _ _ _ _ c.teams.ensures.limits c.requires.same_size c.requires.whole _ _ all c.shares_of_rules-rules.ensures.hard c.shares_of_rules-rules.ensures.soft).hard)
+    omega (
+      arith,
+      (both_small _ _ _ _ c.teams.ensures.limits c.requires.same_size c.requires.whole _ _ all
+          c.shares_of_rules-rules.ensures.hard c.shares_of_rules-rules.ensures.soft).hard,
+    )
 
 pub overflow_add-cost-2 : goal.overflow_add-cost-2
 overflow_add-cost-2 c =
     let all : c.args.rest.hard + c.runs_share.result + c.meetings_share.result ≡
     c.args.rest.hard + games_share c.args.league.now c.args.scope.now c.args.schedule.now =
     omega (arith, c.runs_share.ensures.value, c.meetings_share.ensures.value) in
-    omega (arith, (both_small _ _ _ _ c.teams.ensures.limits c.requires.same_size c.requires.whole _ _ all c.shares_of_rules-rules.ensures.hard c.shares_of_rules-rules.ensures.soft).soft)
+    omega (
+      arith,
+      (both_small _ _ _ _ c.teams.ensures.limits c.requires.same_size c.requires.whole _ _ all
+          c.shares_of_rules-rules.ensures.hard c.shares_of_rules-rules.ensures.soft).soft,
+    )
 
 pub score-requires-3 : goal.score-requires-3
 score-requires-3 c =
@@ -86,7 +99,9 @@ score-requires-3 c =
     omega (arith, c.runs_share.ensures.value, c.meetings_share.ensures.value) in
     omega (
       arith,
-      ap (score_of c.args.league.now) (both_counted _ _ _ _ c.teams.ensures.limits c.requires.same_size c.requires.whole _ _ all c.shares_of_rules-rules.ensures.hard c.shares_of_rules-rules.ensures.soft),
+      ap (score_of c.args.league.now)
+          (both_counted _ _ _ _ c.teams.ensures.limits c.requires.same_size c.requires.whole _ _ all
+          c.shares_of_rules-rules.ensures.hard c.shares_of_rules-rules.ensures.soft),
       score_after_whole c.args.league.now c.args.schedule.now c.teams.ensures.limits c.requires.same_size,
     )
 
@@ -97,7 +112,9 @@ returns-then-score-most-3-clause-value c =
     omega (arith, c.runs_share.ensures.value, c.meetings_share.ensures.value) in
     omega (
       arith,
-      ap (score_of c.args.league.now) (both_counted _ _ _ _ c.teams.ensures.limits c.requires.same_size c.requires.whole _ _ all c.shares_of_rules-rules.ensures.hard c.shares_of_rules-rules.ensures.soft),
+      ap (score_of c.args.league.now)
+          (both_counted _ _ _ _ c.teams.ensures.limits c.requires.same_size c.requires.whole _ _ all
+          c.shares_of_rules-rules.ensures.hard c.shares_of_rules-rules.ensures.soft),
       c.score-3.ensures,
       c.if-score-most-3.true,
     )
@@ -106,8 +123,11 @@ pub returns-clause-value : goal.returns-clause-value
 returns-clause-value c =
     let all : c.args.rest.hard + c.runs_share.result + c.meetings_share.result ≡
     c.args.rest.hard + games_share c.args.league.now c.args.scope.now c.args.schedule.now =
-    omega (arith, c.runs_share.ensures.value, c.meetings_share.ensures.value) in
-    (both_counted _ _ _ _ c.teams.ensures.limits c.requires.same_size c.requires.whole _ _ all c.shares_of_rules-rules.ensures.hard c.shares_of_rules-rules.ensures.soft, omega (arith, c.score-3.ensures, c.if-score-most-3.false))
+    omega (arith, c.runs_share.ensures.value, c.meetings_share.ensures.value) in (
+      both_counted _ _ _ _ c.teams.ensures.limits c.requires.same_size c.requires.whole _ _ all c.shares_of_rules-rules.ensures.hard
+          c.shares_of_rules-rules.ensures.soft,
+      omega (arith, c.score-3.ensures, c.if-score-most-3.false),
+    )
 
 pub returns-clause-small : goal.returns-clause-small
 returns-clause-small c =
@@ -116,6 +136,8 @@ returns-clause-small c =
     omega (arith, c.runs_share.ensures.value, c.meetings_share.ensures.value) in
     omega (
       arith,
-      ap (score_of c.args.league.now) (both_counted _ _ _ _ c.teams.ensures.limits c.requires.same_size c.requires.whole _ _ all c.shares_of_rules-rules.ensures.hard c.shares_of_rules-rules.ensures.soft),
+      ap (score_of c.args.league.now)
+          (both_counted _ _ _ _ c.teams.ensures.limits c.requires.same_size c.requires.whole _ _ all
+          c.shares_of_rules-rules.ensures.hard c.shares_of_rules-rules.ensures.soft),
       score_after_whole c.args.league.now c.args.schedule.now c.teams.ensures.limits c.requires.same_size,
     )

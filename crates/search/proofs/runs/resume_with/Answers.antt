@@ -15,5 +15,13 @@ search-requires-clause-seat g c = λ _ _.
       table_is = ap (λ (s : SeatValue). s.table) c.in-Ok.ensures;
       held = search rules;
       given = search rules;
-      few = omega (arith, seat, own, c.version-version.ensures.length, c.version-version.ensures.within, c.room-room.ensures, c.room-room.type_inv);
+      few = omega (
+        arith,
+        seat,
+        own,
+        c.version-version.ensures.length,
+        c.version-version.ensures.within,
+        c.room-room.ensures,
+        c.room-room.type_inv,
+      );
     }

@@ -25,7 +25,8 @@ conclude-requires-clause-many g c =
 
 pub conclude-requires-clause-begins : goal.conclude-requires-clause-begins
 conclude-requires-clause-begins g c =
-    begins_whole _ _ _ _ _ c.seen-before.result c.gather-reports.ensures.credits c.close-closed.ensures (c.seen-before.ensures ∙ ap length (sym c.seat_all.ensures.seen))
+    begins_whole _ _ _ _ _ c.seen-before.result c.gather-reports.ensures.credits c.close-closed.ensures
+    (c.seen-before.ensures ∙ ap length (sym c.seat_all.ensures.seen))
 
 pub gather-reports-requires-clause-saw : goal.gather-reports-requires-clause-saw
 gather-reports-requires-clause-saw g c =
@@ -35,8 +36,10 @@ gather-reports-requires-clause-saw g c =
 pub returns-clause-done : goal.returns-clause-done
 returns-clause-done g c =
     let reports = c.gather-reports.result.items in
-    let P : List Entry → Type 0 = λ h. AreCredited h (map handle_number c.launch-all.result.1.items) reports c.gather-reports.new.seat.seen in
-    resumed_of _ c.args.gate.now c.args.phase.search c.args.shared c.launch-all.result.0 _ _ reports c.args.seat c.gather-reports.new.seat c.close-closed.result c.seen-before.result _
+    let P : List Entry → Type 0 = λ h. AreCredited h
+    (map handle_number c.launch-all.result.1.items) reports c.gather-reports.new.seat.seen in
+    resumed_of _ c.args.gate.now c.args.phase.search c.args.shared c.launch-all.result.0 _ _ reports c.args.seat
+    c.gather-reports.new.seat c.close-closed.result c.seen-before.result _
     c.gather-reports.ensures.each c.launch-all.ensures (search rules) c.in-Ok.ensures.rising
     (subst P c.seat_all.ensures.seen c.gather-reports.ensures.credits) c.close-closed.ensures
     (c.gather-reports.ensures.setting ∙ c.seat_all.ensures.setting) c.seen-before.ensures c.conclude.ensures.done

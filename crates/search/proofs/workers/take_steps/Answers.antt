@@ -22,11 +22,13 @@ loop-s-preserved g c =
       few = omega (arith, counts.few, was.few);
       same_size = search rules;
       known = search rules;
-      heard = heard_next _ c.loop-s.report c.with-report.result c.step-told.result c.with-report.ensures was.heard c.step-told.ensures.heard;
+      heard = heard_next _ c.loop-s.report c.with-report.result c.step-told.result c.with-report.ensures was.heard
+          c.step-told.ensures.heard;
       counted = omega (arith, counts.accepted, was.counted, c.step-told.ensures.counted);
       stays = search rules;
     }
 
 pub returns-in-Full-clause-heard : goal.returns-in-Full-clause-heard
 returns-in-Full-clause-heard g c =
-    heard_next _ c.loop-s.report c.with-report.result c.step-told.result c.with-report.ensures c.loop-s.invariant.heard c.step-told.ensures.heard
+    heard_next _ c.loop-s.report c.with-report.result c.step-told.result c.with-report.ensures c.loop-s.invariant.heard
+    c.step-told.ensures.heard

@@ -18,7 +18,8 @@ loop-line-preserved g c =
     let added = rw (i.same_league, i.same_room, c.parse_line.ensures) at e.writes.ok in
     record {
       answered = rw (e.board, e.slack, i.same_league, i.same_room, c.parse_line.ensures)
-          (one_answered _ _ _ c.loop-line.rest.now c.in-Some.line.now c.next_line.new.text.now c.loop-line.board.history c.loop-line.slack c.loop-line.number
+          (one_answered _ _ _ c.loop-line.rest.now c.in-Some.line.now c.next_line.new.text.now c.loop-line.board.history
+          c.loop-line.slack c.loop-line.number
           i.answered (c.in-Some.ensures).some added);
       same_league = ap (λ (b : Book). b.league) e.board ∙ i.same_league;
       same_room = ap (λ (b : Book). b.room) e.board ∙ i.same_room;
@@ -29,5 +30,6 @@ returns-in_err-write_answer-clause-writes g c =
     let i = c.loop-line.invariant in
     let stops = rw (i.same_league, i.same_room, c.parse_line.ensures) at c.in_err-write_answer.ensures.writes.err in
     Stops-writes c.from_residual.ensures.0
-    (one_failed _ _ _ c.loop-line.rest.now c.in-Some.line.now c.next_line.new.text.now c.loop-line.board.history c.loop-line.slack c.loop-line.number
+    (one_failed _ _ _ c.loop-line.rest.now c.in-Some.line.now c.next_line.new.text.now c.loop-line.board.history c.loop-line.slack
+    c.loop-line.number
     i.answered (c.in-Some.ensures).some stops)

@@ -3,7 +3,8 @@ use Rattle.streams.proofs.Pieces.{Adds-writes, Stops-more, Stops-writes}
 use Rattle.texts.proofs.answers.write_done.Goals as goal
 
 pub returns-in_err-write_counted : goal.returns-in_err-write_counted
-returns-in_err-write_counted g c = Stops-writes c.from_residual.ensures.0 (Stops-more (costs_of c.args.cost) c.in_err-write_counted.ensures.err)
+returns-in_err-write_counted g c =
+    Stops-writes c.from_residual.ensures.0 (Stops-more (costs_of c.args.cost) c.in_err-write_counted.ensures.err)
 
 pub returns : goal.returns
 returns g c = Adds-writes c.in_ok-write_counted.ensures.ok c.write_costs.ensures

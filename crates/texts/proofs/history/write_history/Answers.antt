@@ -5,12 +5,19 @@ use Rattle.texts.proofs.history.write_history.Goals as goal
 
 pub returns-in_err-write_numbered : goal.returns-in_err-write_numbered
 unfolding history_text
-returns-in_err-write_numbered g c = Stops-writes c.from_residual.ensures.0 (Stops-more (codes "end\n") (Stops-more (change_lines c.args.board.now.history) (rw c.version.ensures.length at c.in_err-write_numbered.ensures.err)))
+returns-in_err-write_numbered g c =
+    Stops-writes c.from_residual.ensures.0
+    (Stops-more (codes "end\n") (Stops-more (change_lines c.args.board.now.history)
+    (rw c.version.ensures.length at c.in_err-write_numbered.ensures.err)))
 
 pub returns-in_err-write_changes : goal.returns-in_err-write_changes
 unfolding history_text
-returns-in_err-write_changes g c = Stops-writes c.from_residual-in_err-write_changes.ensures.0 (Stops-more (codes "end\n") (Adds-stops (rw c.version.ensures.length at c.in_ok-write_numbered.ensures.ok) c.in_err-write_changes.ensures.err))
+returns-in_err-write_changes g c =
+    Stops-writes c.from_residual-in_err-write_changes.ensures.0
+    (Stops-more (codes "end\n") (Adds-stops
+    (rw c.version.ensures.length at c.in_ok-write_numbered.ensures.ok) c.in_err-write_changes.ensures.err))
 
 pub returns : goal.returns
 unfolding history_text
-returns g c = Adds-writes (Adds-then (rw c.version.ensures.length at c.in_ok-write_numbered.ensures.ok) c.in_ok-write_changes.ensures.ok) c.write.ensures.writes
+returns g c = Adds-writes (Adds-then
+    (rw c.version.ensures.length at c.in_ok-write_numbered.ensures.ok) c.in_ok-write_changes.ensures.ok) c.write.ensures.writes

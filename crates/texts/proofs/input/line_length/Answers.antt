@@ -8,4 +8,6 @@ use Rattle.texts.proofs.input.line_length.Goals as goal
 pub returns : goal.returns
 returns c =
     let xs = c.args.text.now in
-    c.unwrap_or.ensures ∙ place_or_length is_line_end xs _ (position_from_yields_List is_line_end _ _ _ c.position.ensures.ran (YieldsList-from_slice xs cc) (λ x b q k. search (rules, tests)))
+    c.unwrap_or.ensures ∙ place_or_length is_line_end xs _
+    (position_from_yields_List is_line_end _ _ _ c.position.ensures.ran (YieldsList-from_slice xs cc)
+    (λ x b q k. search (rules, tests)))

@@ -22,4 +22,5 @@ pub returns-clause-some : goal.returns-clause-some
 returns-clause-some c =
     let text = c.args.text.now.now in
     let within : c.line_length-length.result < length text = omega (arith, prefix_len-le-length (λ b. not (is_line_end b)) text) in
-    rw (c.rest_from-2.ensures, c.without_carriage_return.ensures) (takes_ended_line text c.line_length-length.result c.line_length-length.ensures within)
+    rw (c.rest_from-2.ensures, c.without_carriage_return.ensures)
+    (takes_ended_line text c.line_length-length.result c.line_length-length.ensures within)

@@ -8,4 +8,5 @@ use Rattle.texts.proofs.numerals.are_digits.Goals as goal
 pub returns : goal.returns
 returns c =
     let xs = c.args.word.now in
-    all_from_yields_List is_ascii_digit _ _ _ c.all.ensures.ran (YieldsList-from_slice xs cc) (λ x b q k. search (rules, tests)) ∙ same_all xs
+    all_from_yields_List is_ascii_digit _ _ _ c.all.ensures.ran (YieldsList-from_slice xs cc) (λ x b q k. search (rules, tests)) ∙
+    same_all xs

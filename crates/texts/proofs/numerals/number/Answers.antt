@@ -4,7 +4,9 @@ use Rattle.std.specs.Str.{all_ascii_digits}
 use Rattle.std.specs.Str.Parse.{digits_value}
 use Rattle.texts.proofs.Digits.{few_digits, digit_at, from_zero, one_digit_more, none_long, none_other, some_number}
 use Rattle.texts.proofs.numerals.number.Goals as goal
-use Rattle.texts.proofs.numerals.number.Goals.{then-is_empty-via-then-is_empty, then-is_empty-via-else-is_empty+then-word-gt-MAX_DIGITS, then-is_empty-via-else-is_empty+else-word-gt-MAX_DIGITS+then-not-are_digits}
+use Rattle.texts.proofs.numerals.number.Goals.{then-is_empty-via-then-is_empty}
+use Rattle.texts.proofs.numerals.number.Goals.{then-is_empty-via-else-is_empty+then-word-gt-MAX_DIGITS}
+use Rattle.texts.proofs.numerals.number.Goals.{then-is_empty-via-else-is_empty+else-word-gt-MAX_DIGITS+then-not-are_digits}
 
 pub returns-then-is_empty : goal.returns-then-is_empty
 returns-then-is_empty c =
@@ -13,16 +15,19 @@ returns-then-is_empty c =
       | then-is_empty-via-then-is_empty w ↦ rw (sym c.is_empty.ensures ∙ w.if-is_empty.true) refl
       | then-is_empty-via-else-is_empty+then-word-gt-MAX_DIGITS w ↦ sym (none_long word w.if-word-gt-MAX_DIGITS.true)
       | then-is_empty-via-else-is_empty+else-word-gt-MAX_DIGITS+then-not-are_digits w ↦
-          sym (none_other word (sym c.is_empty.ensures ∙ w.if-is_empty.false) w.if-word-gt-MAX_DIGITS.false (sym w.are_digits.ensures ∙ w.if-not-are_digits.true))
+          sym (none_other word (sym c.is_empty.ensures ∙ w.if-is_empty.false) w.if-word-gt-MAX_DIGITS.false
+          (sym w.are_digits.ensures ∙ w.if-not-are_digits.true))
     ]
 
 pub overflow_sub-digit : goal.overflow_sub-digit
 overflow_sub-digit c =
-    from_zero _ (digit_at c.args.word.now c.loop-digit.digit-index (sym c.are_digits.ensures ∙ c.if-not-are_digits.false) c.loop-digit-test.true)
+    from_zero _ (digit_at c.args.word.now c.loop-digit.digit-index
+    (sym c.are_digits.ensures ∙ c.if-not-are_digits.false) c.loop-digit-test.true)
 
 pub overflow_mul-value : goal.overflow_mul-value
 overflow_mul-value c =
-    let bound = few_digits c.args.word.now c.loop-digit.digit-index (sym c.are_digits.ensures ∙ c.if-not-are_digits.false) c.if-word-gt-MAX_DIGITS.false in
+    let bound = few_digits c.args.word.now c.loop-digit.digit-index
+    (sym c.are_digits.ensures ∙ c.if-not-are_digits.false) c.if-word-gt-MAX_DIGITS.false in
     let value : c.loop-digit.value ≡ digits_value 10 (take c.loop-digit.digit-index c.args.word.now) = c.loop-digit.invariant in
     let below : c.loop-digit.value < 100000000000000000000 = rw value bound in
     omega arith
@@ -47,6 +52,8 @@ pub returns : goal.returns
 returns c =
     let word = c.args.word.now in
     let digits : all_ascii_digits word ≡ true = sym c.are_digits.ensures ∙ c.if-not-are_digits.false in
-    let value : c.loop-digit.value ≡ digits_value 10 word = c.loop-digit.invariant ∙ ap (digits_value 10) (take_all c.loop-digit.digit-index word (omega arith)) in
-    let number = some_number word c.loop-digit.value (sym c.is_empty.ensures ∙ c.if-is_empty.false) c.if-word-gt-MAX_DIGITS.false digits value in
+    let value : c.loop-digit.value ≡ digits_value 10 word = c.loop-digit.invariant ∙
+    ap (digits_value 10) (take_all c.loop-digit.digit-index word (omega arith)) in
+    let number = some_number word c.loop-digit.value
+    (sym c.is_empty.ensures ∙ c.if-is_empty.false) c.if-word-gt-MAX_DIGITS.false digits value in
     c.fitting.ensures ∙ number

@@ -6,10 +6,12 @@ use Rattle.texts.proofs.pieces.write_pieces.Goals as goal
 
 pub loop-piece-preserved : goal.loop-piece-preserved
 loop-piece-preserved g c =
-    let next = pieces_from c.args.pieces.now c.loop-piece.piece-index (Text (record { ref_ptr = (0, 0); now = [] })) c.loop-piece-test.true in
+    let next = pieces_from c.args.pieces.now c.loop-piece.piece-index
+    (Text (record { ref_ptr = (0, 0); now = [] })) c.loop-piece-test.true in
     one_added _ _ _ (rw next at c.loop-piece.invariant) c.in_ok-write_piece.ensures.ok
 
 pub returns-in_err-write_piece : goal.returns-in_err-write_piece
 returns-in_err-write_piece g c =
-    let next = pieces_from c.args.pieces.now c.loop-piece.piece-index (Text (record { ref_ptr = (0, 0); now = [] })) c.loop-piece-test.true in
+    let next = pieces_from c.args.pieces.now c.loop-piece.piece-index
+    (Text (record { ref_ptr = (0, 0); now = [] })) c.loop-piece-test.true in
     Stops-writes c.from_residual.ensures.0 (one_stopped _ _ _ (rw next at c.loop-piece.invariant) c.in_err-write_piece.ensures.err)

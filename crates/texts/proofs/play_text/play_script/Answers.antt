@@ -6,11 +6,14 @@ use Rattle.texts.proofs.play_text.play_script.Goals as goal
 
 pub returns-in_err-write_play-clause-front : goal.returns-in_err-write_play-clause-front
 returns-in_err-write_play-clause-front g c =
-    front_at g.W.Sink.held _ _ _ _ _ (Stops-delivers c.new-out.ensures c.from_residual.ensures.0 c.in_err-write_play.ensures.writes.err).prefix (grind arith)
+    front_at g.W.Sink.held _ _ _ _ _
+    (Stops-delivers c.new-out.ensures c.from_residual.ensures.0 c.in_err-write_play.ensures.writes.err).prefix (grind arith)
 
 pub returns-clause-front : goal.returns-clause-front
 returns-clause-front g c =
-    front_at g.W.Sink.held _ _ _ _ _ (Adds-delivers c.new-out.ensures c.in_ok-write_play.ensures.writes.ok c.flush.ensures.writes c.flush.ensures.waiting).prefix (grind arith)
+    front_at g.W.Sink.held _ _ _ _ _
+    (Adds-delivers c.new-out.ensures c.in_ok-write_play.ensures.writes.ok c.flush.ensures.writes c.flush.ensures.waiting).prefix
+    (grind arith)
 
 pub returns-in_err-write_play-clause-ok : goal.returns-in_err-write_play-clause-ok
 returns-in_err-write_play-clause-ok g c = search rules

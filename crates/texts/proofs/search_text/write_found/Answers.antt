@@ -6,11 +6,17 @@ use Rattle.texts.proofs.search_text.write_found.Goals as goal
 
 pub returns-in_err-write_history : goal.returns-in_err-write_history
 unfolding found_text
-returns-in_err-write_history g c = Stops-writes c.from_residual.ensures.0 (Stops-more (best_line (best_of c.args.board.now.league c.args.board.now.history)) (Stops-more (best_sheet c.args.board.now.league c.args.board.now.history) c.in_err-write_history.ensures.err))
+returns-in_err-write_history g c =
+    Stops-writes c.from_residual.ensures.0
+    (Stops-more (best_line (best_of c.args.board.now.league c.args.board.now.history))
+    (Stops-more (best_sheet c.args.board.now.league c.args.board.now.history) c.in_err-write_history.ensures.err))
 
 pub returns-in_err-write_best_sheet : goal.returns-in_err-write_best_sheet
 unfolding found_text
-returns-in_err-write_best_sheet g c = Stops-writes c.from_residual-in_err-write_best_sheet.ensures.0 (Stops-more (best_line (best_of c.args.board.now.league c.args.board.now.history)) (Adds-stops c.in_ok-write_history.ensures.ok c.in_err-write_best_sheet.ensures.err))
+returns-in_err-write_best_sheet g c =
+    Stops-writes c.from_residual-in_err-write_best_sheet.ensures.0
+    (Stops-more (best_line (best_of c.args.board.now.league c.args.board.now.history))
+    (Adds-stops c.in_ok-write_history.ensures.ok c.in_err-write_best_sheet.ensures.err))
 
 pub returns : goal.returns
 unfolding found_text

@@ -4,13 +4,26 @@ use Rattle.streams.proofs.Pieces.{Adds-stops, Adds-then, Adds-writes, Stops-more
 use Rattle.texts.proofs.search_text.write_worker.Goals as goal
 
 pub returns-in_err-write_counted : goal.returns-in_err-write_counted
-returns-in_err-write_counted g c = Stops-writes c.from_residual.ensures.0 (Stops-more (numbered (codes " refused ") c.args.refused) (Stops-more (counted (codes " accepted ") c.args.accepted) (Stops-more (counted (codes " made ") c.args.made) c.in_err-write_counted.ensures.err)))
+returns-in_err-write_counted g c =
+    Stops-writes c.from_residual.ensures.0
+    (Stops-more (numbered (codes " refused ") c.args.refused)
+    (Stops-more (counted (codes " accepted ") c.args.accepted)
+    (Stops-more (counted (codes " made ") c.args.made) c.in_err-write_counted.ensures.err)))
 
 pub returns-in_err-write_counted-2 : goal.returns-in_err-write_counted-2
-returns-in_err-write_counted-2 g c = Stops-writes c.from_residual-in_err-write_counted-2.ensures.0 (Stops-more (numbered (codes " refused ") c.args.refused) (Stops-more (counted (codes " accepted ") c.args.accepted) (Adds-stops c.in_ok-write_counted.ensures.ok c.in_err-write_counted-2.ensures.err)))
+returns-in_err-write_counted-2 g c =
+    Stops-writes c.from_residual-in_err-write_counted-2.ensures.0
+    (Stops-more (numbered (codes " refused ") c.args.refused)
+    (Stops-more (counted (codes " accepted ") c.args.accepted)
+    (Adds-stops c.in_ok-write_counted.ensures.ok c.in_err-write_counted-2.ensures.err)))
 
 pub returns-in_err-write_counted-3 : goal.returns-in_err-write_counted-3
-returns-in_err-write_counted-3 g c = Stops-writes c.from_residual-in_err-write_counted-3.ensures.0 (Stops-more (numbered (codes " refused ") c.args.refused) (Adds-stops (Adds-then c.in_ok-write_counted.ensures.ok c.in_ok-write_counted-2.ensures.ok) c.in_err-write_counted-3.ensures.err))
+returns-in_err-write_counted-3 g c =
+    Stops-writes c.from_residual-in_err-write_counted-3.ensures.0
+    (Stops-more (numbered (codes " refused ") c.args.refused)
+    (Adds-stops (Adds-then c.in_ok-write_counted.ensures.ok c.in_ok-write_counted-2.ensures.ok) c.in_err-write_counted-3.ensures.err))
 
 pub returns : goal.returns
-returns g c = Adds-writes (Adds-then (Adds-then c.in_ok-write_counted.ensures.ok c.in_ok-write_counted-2.ensures.ok) c.in_ok-write_counted-3.ensures.ok) c.write_numbered.ensures
+returns g c = Adds-writes (Adds-then
+    (Adds-then c.in_ok-write_counted.ensures.ok c.in_ok-write_counted-2.ensures.ok) c.in_ok-write_counted-3.ensures.ok)
+    c.write_numbered.ensures

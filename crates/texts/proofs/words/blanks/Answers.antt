@@ -8,4 +8,6 @@ use Rattle.texts.proofs.words.blanks.Goals as goal
 pub returns : goal.returns
 returns c =
     let xs = c.args.line.now in
-    c.unwrap_or.ensures ∙ place_or_length (λ b. not (is_blank b)) xs _ (position_from_yields_List (λ b. not (is_blank b)) _ _ _ c.position.ensures.ran (YieldsList-from_slice xs cc) (λ x b q k. search (rules, tests)))
+    c.unwrap_or.ensures ∙ place_or_length (λ b. not (is_blank b)) xs _
+    (position_from_yields_List (λ b. not (is_blank b)) _ _ _ c.position.ensures.ran (YieldsList-from_slice xs cc)
+    (λ x b q k. search (rules, tests)))

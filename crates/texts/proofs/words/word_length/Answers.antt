@@ -8,4 +8,5 @@ use Rattle.texts.proofs.words.word_length.Goals as goal
 pub returns : goal.returns
 returns c =
     let xs = c.args.text.now in
-    c.unwrap_or.ensures ∙ place_or_length is_blank xs _ (position_from_yields_List is_blank _ _ _ c.position.ensures.ran (YieldsList-from_slice xs cc) (λ x b q k. search (rules, tests)))
+    c.unwrap_or.ensures ∙ place_or_length is_blank xs _
+    (position_from_yields_List is_blank _ _ _ c.position.ensures.ran (YieldsList-from_slice xs cc) (λ x b q k. search (rules, tests)))

@@ -9,7 +9,8 @@ use Rattle.fixture_board.proofs.state.State.shift.Goals as goal
 
 pub returns-in_err-check_move-clause-step : goal.returns-in_err-check_move-clause-step
 returns-in_err-check_move-clause-step c =
-    IsStep-stopped _ _ _ _ c.from_residual.ensures.1 (shift_stopped c.args.proposal c.requires.kept c.check_move.ensures c.in_err-check_move.was)
+    IsStep-stopped _ _ _ _ c.from_residual.ensures.1
+    (shift_stopped c.args.proposal c.requires.kept c.check_move.ensures c.in_err-check_move.was)
 
 pub returns-then-would_be_moved-clause-step : goal.returns-then-would_be_moved-clause-step
 returns-then-would_be_moved-clause-step c =

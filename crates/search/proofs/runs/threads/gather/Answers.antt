@@ -30,7 +30,8 @@ loop-handle-preserved g c =
       all = append_assoc c.loop-handle.yielded (handle ∷ []) _ ∙ rw (← steps) was.all;
       count = omega (arith, gone, pushed.len, was.count);
       room = omega (arith, pushed.capacity, was.room);
-      gathered = gathered_more g.G.HearingGate.heard c.args.gate.now c.args.steps c.args.shared.now c.args.seat.now c.loop-handle.seat c.join-ended.result.seat c.absorb.new.seat
+      gathered = gathered_more g.G.HearingGate.heard c.args.gate.now c.args.steps c.args.shared.now c.args.seat.now c.loop-handle.seat
+          c.join-ended.result.seat c.absorb.new.seat
           c.loop-handle.yielded handle c.loop-handle.reports.items c.push_reserved.new.self.items c.join-ended.result.report
           was.gathered given saw c.join-ended.ensures c.absorb.ensures pushed.items;
     }

@@ -25,11 +25,14 @@ loop-job-preserved g c =
       saw = λ start saw. All-same (HandleSaw start) c.push_reserved.new.self.items (old ++ handle ∷ []) pushed.items
           (All-push (HandleSaw start) old handle (was.saw start saw)
           (ap (λ (s : SeatValue). s.seen) given
-          ∙ All-head (JobSaw start) c.in-Some.job rest (All-same (JobSaw start) (c.in-Some.job ∷ rest) left (sym steps) (was.left_saw start saw))));
+          ∙ All-head (JobSaw start) c.in-Some.job rest
+          (All-same (JobSaw start) (c.in-Some.job ∷ rest) left (sym steps) (was.left_saw start saw))));
       jobs = All-rest (IsJob c.args.shared.now) c.in-Some.job rest (into_iter_items c.loop-job.job-iterator) steps was.jobs;
       left = omega (arith, was.left, gone, short);
-      handles = All-same (IsHandle c.args.gate.now c.args.phase.search.steps c.args.shared.now) c.push_reserved.new.self.items (old ++ handle ∷ []) pushed.items
-          (All-push (IsHandle c.args.gate.now c.args.phase.search.steps c.args.shared.now) old handle was.handles c.in-Some-start.ensures.handle);
+      handles = All-same (IsHandle c.args.gate.now c.args.phase.search.steps c.args.shared.now) c.push_reserved.new.self.items
+          (old ++ handle ∷ []) pushed.items
+          (All-push (IsHandle c.args.gate.now c.args.phase.search.steps c.args.shared.now) old handle was.handles
+          c.in-Some-start.ensures.handle);
       count = omega (arith, gone, pushed.len, was.count);
       room = omega (arith, pushed.capacity, was.room);
       numbers = numbers_more (map handle_number old) (map handle_number c.push_reserved.new.self.items)

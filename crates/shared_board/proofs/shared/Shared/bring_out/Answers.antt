@@ -11,4 +11,5 @@ exchange-requires g c =
     (search rules, (b, has ∙ ap (λ l. (0, b) ∷ rest l) (sym has)))
 
 pub returns : goal.returns
-returns g c = brought_out _ _ _ _ _ c.requires.idle.no_slot c.requires.below.0 c.requires.below.1 c.take.ensures.took c.count-numbers.ensures.counted c.in-Some.ensures.2
+returns g c = brought_out _ _ _ _ _ c.requires.idle.no_slot c.requires.below.0 c.requires.below.1 c.take.ensures.took
+    c.count-numbers.ensures.counted c.in-Some.ensures.2

@@ -14,11 +14,15 @@ new-requires c =
     let b : Book = c.args.board in
     let best : c.number_of-best.result ≡ least_of b.league b.history =
     c.number_of-best.ensures ∙ (ap as_number c.best.ensures.value ∙ number_of_best b.league b.history) in
-    let items : c.push_reserved.new.self.items ≡ Some b ∷ [] = c.push_reserved.ensures.items ∙ ap (λ (l : List (Option Book)). l ++ Some b ∷ []) c.in_ok-slots.ensures.items in
+    let items : c.push_reserved.new.self.items ≡ Some b ∷ [] = c.push_reserved.ensures.items ∙
+    ap (λ (l : List (Option Book)). l ++ Some b ∷ []) c.in_ok-slots.ensures.items in
     let key : c.of-key.result.value ≡ b = c.of-key.ensures in
-    let P : Book → List (Option Book) → Type 0 = λ k l. Ruled (opening (0 ∷ c.version-version.result ∷ 1 ∷ c.number_of-best.result ∷ []) l (first_view k)) in
+    let P : Book → List (Option Book) → Type 0 =
+    λ k l. Ruled (opening (0 ∷ c.version-version.result ∷ 1 ∷ c.number_of-best.result ∷ []) l (first_view k)) in
     let Q : Book → Type 0 = λ k. P k c.push_reserved.new.self.items in
-    subst Q (sym key) (subst (P b) (sym items) (opens b c.version-version.result c.number_of-best.result c.requires c.best.ensures.legal c.best.ensures.limits c.version-version.ensures.length best))
+    subst Q (sym key) (subst (P b) (sym items)
+    (opens b c.version-version.result c.number_of-best.result c.requires c.best.ensures.legal c.best.ensures.limits
+    c.version-version.ensures.length best))
 
 pub invariant_of-seat : goal.invariant_of-seat
 invariant_of-seat c =
