@@ -1,0 +1,54 @@
+-- The total of the history that leads.
+use Rattle.std.proofs.Common.{◌≡◌, ℕ, ◌<◌, ◌≤◌, Bool, true, false, cond, nat_lt, min, List, [], ◌∷◌, map, fold, Option, Some, None, if◌then◌else◌, refl, sym, ◌∙◌, ap, arith}
+use Rattle.std.proofs.lemmas.Bool.Decides.{nat_tests}
+use Rattle.std.proofs.lemmas.List.Folds.{fold-map, fold_along}
+use Rattle.std.specs.Option.{option_map, unwrap_or}
+use Rattle.league.specs.League.{LeagueData}
+use Rattle.fixture_board.specs.declared.change.Entry.{Entry}
+use Rattle.phases.specs.declared.chain.PhaseOutcome.{PhaseOutcome}
+use Rattle.phases.specs.Chains.{lesser}
+use Rattle.phases.specs.Laws.{least_told, lesser_told}
+use Rattle.improvement.specs.Runs.{PhaseRun, ahead, is_behind, lead_after, lead_of, leads, leads_by, outcome_in, outcome_of, outcomes_of}
+use Rattle.improvement.specs.Kept.{best_of_outcome}
+
+lesser_number : (x y : ℕ) → (if nat_lt x y then Some x else Some y) ≡ Some (min y x)
+lesser_number x y = grind (arith, nat_tests)
+
+by_best : (x y : Option ℕ) (fewer : Bool) → (if leads_by x y fewer then x else y) ≡ lesser y x
+by_best (Some x) (Some y) fewer = lesser_number x y
+by_best (Some x) None fewer = refl
+by_best None (Some y) fewer = refl
+by_best None None true = refl
+by_best None None false = refl
+
+leads_best : (a b : PhaseOutcome) → (if leads a b then a.best else b.best) ≡ lesser b.best a.best
+unfolding leads
+leads_best a b = by_best a.best b.best (nat_lt a.hard b.hard)
+
+-- of two histories, the one that is chosen has the best of its outcome
+chosen : (league : LeagueData) (c : Bool) (h l : List Entry) →
+    (outcome_of league (if c then h else l)).best ≡ (if c then (outcome_of league h).best else (outcome_of league l).best)
+chosen league true h l = refl
+chosen league false h l = refl
+
+ahead_best : (league : LeagueData) (leading : Option (List Entry)) (h : List Entry) →
+    (outcome_of league (ahead league leading h)).best ≡
+    lesser (best_of_outcome (option_map (outcome_of league) leading)) (outcome_of league h).best
+ahead_best league None h = refl
+ahead_best league (Some l) h =
+    chosen league (leads (outcome_of league h) (outcome_of league l)) h l ∙ leads_best (outcome_of league h) (outcome_of league l)
+
+abbrev leading_best : LeagueData → Option (List Entry) → Option ℕ
+leading_best league leading = best_of_outcome (option_map (outcome_of league) leading)
+
+-- it is the least of all totals that were told
+pub least_leads : (league : LeagueData) (runs : List PhaseRun) →
+    best_of_outcome (option_map (outcome_of league) (lead_of league runs)) ≡ least_told (outcomes_of league runs)
+unfolding lead_of
+least_leads league runs =
+    fold_along (lead_after league) (λ (least : Option ℕ) (run : PhaseRun). lesser_told least (outcome_in league run))
+    (λ (leading : Option (List Entry)) (least : Option ℕ). leading_best league leading ≡ least)
+    (λ leading least run same. ahead_best league leading run.history ∙
+    ap (λ (l : Option ℕ). lesser l (outcome_in league run).best) same)
+    None None runs refl ∙
+    sym (fold-map lesser_told (outcome_in league) None runs)
