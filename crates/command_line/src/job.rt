@@ -26,7 +26,9 @@ pub enum Job {
     /// Write the sheet of the Berger start of the league on standard input.
     Start,
     /// Play the script on standard input, on a board with room for so many changes.
-    Play { room: u32 },
+    Play {
+        room: u32,
+    },
     /// Look in phases for cheaper schedules of the league on standard input. The effort is in steps of all workers together.
     Improve {
         workers: u32,
@@ -34,7 +36,10 @@ pub enum Job {
         effort: u32,
     },
     /// Search for a cheaper schedule of the league on standard input, on a board with room for so many changes.
-    Find { room: u32, plan: SearchPlan },
+    Find {
+        room: u32,
+        plan: SearchPlan,
+    },
     /// Report, in the format, on the schedule that stands behind the league on standard input.
     Report(Format),
 }

@@ -9,8 +9,8 @@ ghost use Rattle.program.specs.Program.{is_report, told_in, EndsJob};
 
 use command_line::Job;
 use commands::{
-    ImprovePlan, MIN_EFFORT, ProgramFault, ProgressLine, SearchPlan, Sink, Source, Verdict, find, find_with,
-    improve, improve_with, play, report, start,
+    ImprovePlan, MIN_EFFORT, ProgramFault, ProgressLine, SearchPlan, Sink, Source, Verdict, find,
+    find_with, improve, improve_with, play, report, start,
 };
 use std::alloc::Global;
 use std::io::Write;
@@ -81,12 +81,7 @@ fn with_verdict(outcome: Result<Verdict, ProgramFault>) -> Result<Option<Verdict
 }
 
 /// Improves, and shows how far it is where there is a terminal.
-fn improved<
-    T: Threads + Wait + Clock + Sync,
-    E: Write + Send + Drop,
-    R: Source + Drop,
-    W: Sink,
->(
+fn improved<T: Threads + Wait + Clock + Sync, E: Write + Send + Drop, R: Source + Drop, W: Sink>(
     rt: &T,
     alloc: Global,
     terminal: Option<E>,
