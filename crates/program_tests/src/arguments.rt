@@ -1,15 +1,18 @@
 //! The command line: jobs, mistakes with their statuses, and want of memory: `rt try --test --fail-alloc N` refuses the Nth allocation of each test. A test `.._tells_refused_memory` passes at every N;
 //! `.._with_ample_memory` fails while N is among its allocations.
 
-use super::distinct::are_distinct;
-use clap::error::ErrorKind;
+use crate::checks::{check_holds, check_same, check_same_of};
+use crate::distinct::are_distinct;
+use clap::error::ErrorKind::{
+    self, ArgumentConflict, DisplayHelp, DisplayVersion, InvalidSubcommand, InvalidValue, MissingSubcommand, OutOfMemory, UnknownArgument, ValueValidation,
+};
 use command_line::{Format, Job, SearchPlan, args};
 use std::alloc::{AllocError, Global};
 use std::process::Abort;
 use std::test::Fail;
 
 /// Owned words, as the system gives them.
-pub(super) fn words(alloc: Global, given: &[&str]) -> Result<Vec<String>, AllocError> {
+pub(crate) fn words(alloc: Global, given: &[&str]) -> Result<Vec<String>, AllocError> {
     let mut words = Vec::new(alloc);
     for word in given {
         words.push(String::from_str(alloc, word)?)?;
@@ -17,30 +20,23 @@ pub(super) fn words(alloc: Global, given: &[&str]) -> Result<Vec<String>, AllocE
     Ok(words)
 }
 
-fn check_job(rt: &impl Abort, alloc: Global, given: &[&str], job: Job) -> Result<(), Fail> {
+/// A job, or the kind of what is told in its place and the exit status.
+type Answer = Result<Job, (ErrorKind, i32)>;
+
+fn answer(alloc: Global, given: &[&str]) -> Result<Answer, AllocError> {
     let words = words(alloc, given)?;
-    let found = args(alloc, &words)?;
-    assert_eq!(rt; found, job, "{given:?}");
-    Ok(())
+    match args(alloc, &words) {
+        Ok(job) => Ok(Ok(job)),
+        Err(error) => Ok(Err((error.kind(), error.exit_code()))),
+    }
 }
 
-#[test]
-fn command_line_asks_for_the_start(rt: HostRuntime) -> Result<(), Fail> {
-    check_job(&rt, rt.alloc(), &["ttp", "start"], Job::Start)
-}
+/// Words, and how they are answered.
+type Row<'a> = (&'a [&'a str], Answer);
 
-/// Words of a play, and its room.
-const PLAYS: &[(&[&str], u32)] = &[
-    (&["ttp", "play"], 1024),
-    (&["ttp", "play", "--room", "0"], 0),
-    (&["ttp", "play", "--room", "7"], 7),
-    (&["ttp", "play", "--room=1048576"], 1_048_576),
-];
-
-#[test]
-fn command_line_asks_for_a_play_with_room(rt: HostRuntime) -> Result<(), Fail> {
-    for (given, room) in PLAYS {
-        check_job(&rt, rt.alloc(), given, Job::Play { room: *room })?;
+fn check_answers(rt: &impl Abort, alloc: Global, rows: &[Row<'_>]) -> Result<(), Fail> {
+    for (given, wanted) in rows {
+        check_same_of(rt, given, &answer(alloc, given)?, wanted);
     }
     Ok(())
 }
@@ -53,41 +49,39 @@ const PLAIN: SearchPlan = SearchPlan {
     slack: 0,
 };
 
-/// The words of a search, its room and its plan.
-type Search<'a> = (&'a [&'a str], u32, SearchPlan);
+const fn search(room: u32, workers: u32, seed: u64, steps: u32, slack: u64) -> Answer {
+    let plan = SearchPlan {
+        workers,
+        seed,
+        steps,
+        slack,
+    };
+    Ok(Job::Find { room, plan })
+}
 
-const SEARCHES: &[Search<'_>] = &[
-    (&["ttp", "search"], 1024, PLAIN),
-    (&["ttp", "search", "--room", "0"], 0, PLAIN),
+const fn play(room: u32) -> Answer {
+    Ok(Job::Play { room })
+}
+
+const JOBS: &[Row<'_>] = &[
+    (&["ttp", "start"], Ok(Job::Start)),
+    (&["ttp", "play"], play(1024)),
+    (&["ttp", "play", "--room", "0"], play(0)),
+    (&["ttp", "play", "--room", "7"], play(7)),
+    (&["ttp", "play", "--room=1048576"], play(1_048_576)),
+    (&["ttp", "search"], search(1024, 2, 1, 1000, 0)),
+    (&["ttp", "search", "--room", "0"], search(0, 2, 1, 1000, 0)),
     (
         &["ttp", "search", "--workers", "1", "--steps=0"],
-        1024,
-        SearchPlan {
-            workers: 1,
-            seed: 1,
-            steps: 0,
-            slack: 0,
-        },
+        search(1024, 1, 1, 0, 0),
     ),
     (
         &["ttp", "search", "--seed", "0"],
-        1024,
-        SearchPlan {
-            workers: 2,
-            seed: 0,
-            steps: 1000,
-            slack: 0,
-        },
+        search(1024, 2, 0, 1000, 0),
     ),
     (
         &["ttp", "search", "--slack", "7", "--seed", "8"],
-        1024,
-        SearchPlan {
-            workers: 2,
-            seed: 8,
-            steps: 1000,
-            slack: 7,
-        },
+        search(1024, 2, 8, 1000, 7),
     ),
     (
         &[
@@ -99,227 +93,125 @@ const SEARCHES: &[Search<'_>] = &[
             "--workers=16",
             "--room=1048576",
         ],
-        1_048_576,
-        SearchPlan {
-            workers: 16,
-            seed: 18_446_744_073_709_551_615,
-            steps: 1_000_000,
-            slack: 18_446_744_073_709_551_615,
-        },
+        search(1_048_576, 16, u64::MAX, 1_000_000, u64::MAX),
+    ),
+    (&["ttp", "report"], Ok(Job::Report(Format::Text))),
+    (
+        &["ttp", "report", "--format", "text"],
+        Ok(Job::Report(Format::Text)),
+    ),
+    (
+        &["ttp", "report", "--format", "csv"],
+        Ok(Job::Report(Format::Csv)),
+    ),
+    (
+        &["ttp", "report", "--format=html"],
+        Ok(Job::Report(Format::Html)),
     ),
 ];
 
 #[test]
-fn command_line_asks_for_a_search(rt: HostRuntime) -> Result<(), Fail> {
-    for (given, room, plan) in SEARCHES {
-        let (room, plan) = (*room, *plan);
-        check_job(&rt, rt.alloc(), given, Job::Find { room, plan })?;
-    }
-    Ok(())
+fn command_lines_ask_for_jobs(rt: HostRuntime) -> Result<(), Fail> {
+    check_answers(&rt, rt.alloc(), JOBS)
 }
 
-/// Words of a report, and its format.
-const REPORTS: &[(&[&str], Format)] = &[
-    (&["ttp", "report"], Format::Text),
-    (&["ttp", "report", "--format", "text"], Format::Text),
-    (&["ttp", "report", "--format", "csv"], Format::Csv),
-    (&["ttp", "report", "--format=html"], Format::Html),
-];
-
-#[test]
-fn command_line_asks_for_a_report_in_a_format(rt: HostRuntime) -> Result<(), Fail> {
-    for (given, format) in REPORTS {
-        check_job(&rt, rt.alloc(), given, Job::Report(*format))?;
-    }
-    Ok(())
-}
-
-fn search(plan: SearchPlan) -> Job {
-    Job::Find { room: 8, plan }
-}
-
-#[test]
-fn jobs_differ_in_each_number(rt: HostRuntime) {
-    let jobs = [
-        search(PLAIN),
-        Job::Start,
-        Job::Play { room: 8 },
-        Job::Play { room: 9 },
-        Job::Find {
-            room: 9,
-            plan: PLAIN,
-        },
-        search(SearchPlan {
-            workers: 3,
-            ..PLAIN
-        }),
-        search(SearchPlan { seed: 2, ..PLAIN }),
-        search(SearchPlan {
-            steps: 1001,
-            ..PLAIN
-        }),
-        search(SearchPlan { slack: 1, ..PLAIN }),
-        Job::Report(Format::Text),
-        Job::Report(Format::Csv),
-        Job::Report(Format::Html),
-    ];
-    assert!(rt; are_distinct(&jobs));
-}
-
-/// Words that name no job, with the kind of what is told and the exit status.
-const ENDS: &[(&[&str], ErrorKind, i32)] = &[
-    (&["ttp"], ErrorKind::MissingSubcommand, 2),
-    (&["ttp", "stop"], ErrorKind::InvalidSubcommand, 2),
-    (&["ttp", "start", "now"], ErrorKind::UnknownArgument, 2),
-    (
-        &["ttp", "start", "--room", "3"],
-        ErrorKind::UnknownArgument,
-        2,
-    ),
-    (
-        &["ttp", "play", "--room", "1048577"],
-        ErrorKind::ValueValidation,
-        2,
-    ),
-    (
-        &["ttp", "play", "--room", "many"],
-        ErrorKind::ValueValidation,
-        2,
-    ),
-    (&["ttp", "play", "--room"], ErrorKind::InvalidValue, 2),
-    (
-        &["ttp", "search", "--workers", "0"],
-        ErrorKind::ValueValidation,
-        2,
-    ),
-    (
-        &["ttp", "search", "--workers", "17"],
-        ErrorKind::ValueValidation,
-        2,
-    ),
-    (
-        &["ttp", "search", "--steps", "1000001"],
-        ErrorKind::ValueValidation,
-        2,
-    ),
-    (
-        &["ttp", "search", "--room", "1048577"],
-        ErrorKind::ValueValidation,
-        2,
-    ),
-    (
-        &["ttp", "search", "--seed", "18446744073709551616"],
-        ErrorKind::ValueValidation,
-        2,
-    ),
-    (
-        &["ttp", "search", "--slack=-1"],
-        ErrorKind::ValueValidation,
-        2,
-    ),
-    (
-        &["ttp", "report", "--format", "pdf"],
-        ErrorKind::InvalidValue,
-        2,
-    ),
-    (
-        &["ttp", "report", "--format=CSV"],
-        ErrorKind::InvalidValue,
-        2,
-    ),
-    (&["ttp", "report", "--format="], ErrorKind::InvalidValue, 2),
-    (&["ttp", "report", "--format"], ErrorKind::InvalidValue, 2),
-    (
-        &["ttp", "report", "--format=csv", "--format=csv"],
-        ErrorKind::ArgumentConflict,
-        2,
-    ),
-    (
-        &["ttp", "start", "--format", "csv"],
-        ErrorKind::UnknownArgument,
-        2,
-    ),
-    (&["ttp", "--help"], ErrorKind::DisplayHelp, 0),
-    (&["ttp", "play", "--help"], ErrorKind::DisplayHelp, 0),
-    (&["ttp", "search", "--help"], ErrorKind::DisplayHelp, 0),
-    (&["ttp", "start", "--help"], ErrorKind::DisplayHelp, 0),
-    (&["ttp", "--version"], ErrorKind::DisplayVersion, 0),
-    (&["ttp", "-V"], ErrorKind::DisplayVersion, 0),
+/// Words that name no job.
+const ENDS: &[Row<'_>] = &[
+    (&["ttp"], Err((MissingSubcommand, 2))),
+    (&["ttp", "stop"], Err((InvalidSubcommand, 2))),
+    (&["ttp", "start", "now"], Err((UnknownArgument, 2))),
+    (&["ttp", "start", "--room", "3"], Err((UnknownArgument, 2))),
+    (&["ttp", "play", "--room", "1048577"], Err((ValueValidation, 2))),
+    (&["ttp", "play", "--room", "many"], Err((ValueValidation, 2))),
+    (&["ttp", "play", "--room"], Err((InvalidValue, 2))),
+    (&["ttp", "search", "--workers", "0"], Err((ValueValidation, 2))),
+    (&["ttp", "search", "--workers", "17"], Err((ValueValidation, 2))),
+    (&["ttp", "search", "--steps", "1000001"], Err((ValueValidation, 2))),
+    (&["ttp", "search", "--room", "1048577"], Err((ValueValidation, 2))),
+    (&["ttp", "search", "--seed", "18446744073709551616"], Err((ValueValidation, 2))),
+    (&["ttp", "search", "--slack=-1"], Err((ValueValidation, 2))),
+    (&["ttp", "report", "--format", "pdf"], Err((InvalidValue, 2))),
+    (&["ttp", "report", "--format=CSV"], Err((InvalidValue, 2))),
+    (&["ttp", "report", "--format="], Err((InvalidValue, 2))),
+    (&["ttp", "report", "--format"], Err((InvalidValue, 2))),
+    (&["ttp", "report", "--format=csv", "--format=csv"], Err((ArgumentConflict, 2))),
+    (&["ttp", "start", "--format", "csv"], Err((UnknownArgument, 2))),
+    (&["ttp", "--help"], Err((DisplayHelp, 0))),
+    (&["ttp", "play", "--help"], Err((DisplayHelp, 0))),
+    (&["ttp", "search", "--help"], Err((DisplayHelp, 0))),
+    (&["ttp", "start", "--help"], Err((DisplayHelp, 0))),
+    (&["ttp", "--version"], Err((DisplayVersion, 0))),
+    (&["ttp", "-V"], Err((DisplayVersion, 0))),
     // the version is the program's, and no command tells it
-    (
-        &["ttp", "start", "--version"],
-        ErrorKind::UnknownArgument,
-        2,
-    ),
-    (&["ttp", "play", "--version"], ErrorKind::UnknownArgument, 2),
-    (&["ttp", "search", "-V"], ErrorKind::UnknownArgument, 2),
+    (&["ttp", "start", "--version"], Err((UnknownArgument, 2))),
+    (&["ttp", "play", "--version"], Err((UnknownArgument, 2))),
+    (&["ttp", "search", "-V"], Err((UnknownArgument, 2))),
 ];
-
-fn check_end(
-    rt: &impl Abort,
-    alloc: Global,
-    given: &[&str],
-    kind: ErrorKind,
-    status: i32,
-) -> Result<(), Fail> {
-    let words = words(alloc, given)?;
-    let error = args(alloc, &words).err().ok_or("the words pass")?;
-    let told = (error.kind(), error.exit_code());
-    assert_eq!(rt; told, (kind, status), "{given:?}");
-    Ok(())
-}
 
 #[test]
 fn wrong_command_lines_end_with_two_and_help_and_version_with_zero(
     rt: HostRuntime,
 ) -> Result<(), Fail> {
-    for (given, kind, status) in ENDS {
-        check_end(&rt, rt.alloc(), given, *kind, *status)?;
-    }
-    Ok(())
+    check_answers(&rt, rt.alloc(), ENDS)
 }
 
-/// What a command line is answered: a job, a mistake of the kind, or that there is no memory.
-fn check_answer(
-    rt: &impl Abort,
-    alloc: Global,
-    is_ample: bool,
-    given: &[&str],
-    wanted: Result<Job, ErrorKind>,
-) {
-    let Ok(words) = words(alloc, given) else {
-        assert!(rt; !is_ample);
-        return;
-    };
-    match args(alloc, &words).map_err(|error| error.kind()) {
-        Err(ErrorKind::OutOfMemory) => assert!(rt; !is_ample),
-        answer => assert_eq!(rt; answer, wanted, "{given:?}"),
-    }
+const fn search_of(plan: SearchPlan) -> Job {
+    Job::Find { room: 8, plan }
+}
+
+/// Jobs that differ in one number each.
+const DISTINCT: [Job; 12] = [
+    search_of(PLAIN),
+    Job::Start,
+    Job::Play { room: 8 },
+    Job::Play { room: 9 },
+    Job::Find {
+        room: 9,
+        plan: PLAIN,
+    },
+    search_of(SearchPlan {
+        workers: 3,
+        ..PLAIN
+    }),
+    search_of(SearchPlan { seed: 2, ..PLAIN }),
+    search_of(SearchPlan {
+        steps: 1001,
+        ..PLAIN
+    }),
+    search_of(SearchPlan { slack: 1, ..PLAIN }),
+    Job::Report(Format::Text),
+    Job::Report(Format::Csv),
+    Job::Report(Format::Html),
+];
+
+#[test]
+fn jobs_differ_in_each_number(rt: HostRuntime) {
+    check_same(&rt, &are_distinct(&DISTINCT), &true);
 }
 
 /// A command line of each kind.
+const OF_EACH_KIND: &[Row<'_>] = &[
+    (&["ttp", "start"], Ok(Job::Start)),
+    (
+        &["ttp", "search", "--workers=16", "--slack", "7"],
+        search(1024, 16, 1, 1000, 7),
+    ),
+    (&["ttp", "play", "--room=x"], Err((ValueValidation, 2))),
+    (
+        &["ttp", "report", "--format=html"],
+        Ok(Job::Report(Format::Html)),
+    ),
+    (&["ttp", "report", "--format=pdf"], Err((InvalidValue, 2))),
+];
+
+/// Each is answered, or there is no memory.
 fn check_memory(rt: &impl Abort, alloc: Global, is_ample: bool) {
-    check_answer(rt, alloc, is_ample, &["ttp", "start"], Ok(Job::Start));
-    let plan = SearchPlan {
-        workers: 16,
-        slack: 7,
-        ..PLAIN
-    };
-    let search = Job::Find { room: 1024, plan };
-    let words = ["ttp", "search", "--workers=16", "--slack", "7"];
-    check_answer(rt, alloc, is_ample, &words, Ok(search));
-    let mistake = Err(ErrorKind::ValueValidation);
-    check_answer(rt, alloc, is_ample, &["ttp", "play", "--room=x"], mistake);
-    let words = ["ttp", "report", "--format=html"];
-    check_answer(rt, alloc, is_ample, &words, Ok(Job::Report(Format::Html)));
-    let wrong = Err(ErrorKind::InvalidValue);
-    check_answer(
-        rt,
-        alloc,
-        is_ample,
-        &["ttp", "report", "--format=pdf"],
-        wrong,
-    );
+    for (given, wanted) in OF_EACH_KIND {
+        match answer(alloc, given) {
+            Err(_) | Ok(Err((OutOfMemory, _))) => check_holds(rt, given, !is_ample),
+            Ok(found) => check_same_of(rt, given, &found, wanted),
+        }
+    }
 }
 
 #[test]

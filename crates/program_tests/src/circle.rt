@@ -1,10 +1,10 @@
 //! A league that several tests share, and the sheet of its start.
 
 /// Four teams in a circle.
-pub(super) const CIRCLE: &str =
+pub(crate) const CIRCLE: &str =
     r#"{"format":1,"teams":["T1","T2","T3","T4"],"distances":[[0,1,2,1],[1,0,1,2],[2,1,0,1],[1,2,1,0]]}"#;
 
-pub(super) const SHEET: &str = "league 4 teams 6 rounds\n\
+pub(crate) const SHEET: &str = "league 4 teams 6 rounds\n\
     team 1 HHAAAH T1\n\
     team 2 HAHAHA T2\n\
     team 3 AAHHHA T3\n\
@@ -15,15 +15,3 @@ pub(super) const SHEET: &str = "league 4 teams 6 rounds\n\
     round 4: 3-2 4-1\n\
     round 5: 2-1 3-4\n\
     round 6: 1-3 4-2\n";
-
-/// Whether a text is these parts, one after another.
-pub(super) fn is_made_of(text: &[u8], parts: &[&str]) -> bool {
-    let mut rest = text;
-    for part in parts {
-        let Some(after) = rest.strip_prefix(part.as_bytes()) else {
-            return false;
-        };
-        rest = after;
-    }
-    rest.is_empty()
-}

@@ -1,6 +1,8 @@
 //! What the help, the version and mistakes say.
 
-use super::arguments::words;
+use crate::arguments::words;
+use crate::checks::check_same_of;
+use crate::told::missing;
 use command_line::args;
 use std::alloc::Global;
 use std::process::Abort;
@@ -9,8 +11,10 @@ use std::test::Fail;
 /// The text that these words are answered with.
 fn told(alloc: Global, given: &[&str]) -> Result<String, Fail> {
     let words = words(alloc, given)?;
-    let error = args(alloc, &words).err().ok_or("the words pass")?;
-    Ok(format!(in alloc; "{error}")?)
+    match args(alloc, &words) {
+        Ok(_) => Err(Fail::new("the words pass")),
+        Err(error) => Ok(format!(in alloc; "{error}")?),
+    }
 }
 
 /// Words, and parts of the text that they are answered with.
@@ -90,65 +94,44 @@ const HELP: &[(&[&str], &[&str])] = &[
             "ttp search --workers 4 --steps 200000 --slack 8 --room 1048576 < leagues/circular-10.json\n",
         ],
     ),
+    // the program is called ttp whatever it was run as
+    (&["/tmp/program", "--help"], &["Usage: ttp <COMMAND>\n"]),
+    (
+        &["/tmp/program", "play", "--help"],
+        &["Usage: ttp play [OPTIONS]\n"],
+    ),
+    (&["program", "start", "now"], &["Usage: ttp start\n"]),
 ];
-
-fn check_parts(rt: &impl Abort, alloc: Global, given: &[&str], parts: &[&str]) -> Result<(), Fail> {
-    let text = told(alloc, given)?;
-    for part in parts {
-        assert!(rt; text.contains(*part), "{part} in {text}");
-    }
-    Ok(())
-}
-
-/// What a wrong format is told.
-const WRONG_FORMAT: &str = "error: invalid value 'pdf' for '--format <FORMAT>'\n  \
-    [possible values: text, csv, html]\n\nUsage: ttp report [OPTIONS]\n\n\
-    For more information, try '--help'.\n";
-
-#[test]
-fn wrong_format_is_told_which_there_are(rt: HostRuntime) -> Result<(), Fail> {
-    let text = told(rt.alloc(), &["ttp", "report", "--format", "pdf"])?;
-    assert_eq!(rt; text.as_str(), WRONG_FORMAT);
-    Ok(())
-}
 
 #[test]
 fn help_tells_what_is_read_and_written(rt: HostRuntime) -> Result<(), Fail> {
     for (given, parts) in HELP {
-        check_parts(&rt, rt.alloc(), given, parts)?;
-    }
-    Ok(())
-}
-
-const VERSIONS: &[&[&str]] = &[
-    &["ttp", "--version"],
-    &["ttp", "-V"],
-    &["/tmp/program", "--version"],
-];
-
-#[test]
-fn version_is_a_line_of_its_own(rt: HostRuntime) -> Result<(), Fail> {
-    for given in VERSIONS {
         let text = told(rt.alloc(), given)?;
-        assert_eq!(rt; text.as_str(), "ttp 0.1.0\n", "{given:?}");
+        check_same_of(&rt, &text, &missing(text.as_str(), parts), &None);
     }
     Ok(())
 }
 
-/// Words, and a part of the text that they are answered with.
-const USAGES: &[(&[&str], &str)] = &[
-    (&["/tmp/program", "--help"], "Usage: ttp <COMMAND>\n"),
+/// Words, and the text that they are answered with.
+const TEXTS: &[(&[&str], &str)] = &[
+    // the version is a line of its own
+    (&["ttp", "--version"], "ttp 0.1.0\n"),
+    (&["ttp", "-V"], "ttp 0.1.0\n"),
+    (&["/tmp/program", "--version"], "ttp 0.1.0\n"),
+    // a wrong format is told which there are
     (
-        &["/tmp/program", "play", "--help"],
-        "Usage: ttp play [OPTIONS]\n",
+        &["ttp", "report", "--format", "pdf"],
+        "error: invalid value 'pdf' for '--format <FORMAT>'\n  \
+        [possible values: text, csv, html]\n\nUsage: ttp report [OPTIONS]\n\n\
+        For more information, try '--help'.\n",
     ),
-    (&["program", "start", "now"], "Usage: ttp start\n"),
 ];
 
 #[test]
-fn texts_call_the_program_ttp_whatever_it_was_run_as(rt: HostRuntime) -> Result<(), Fail> {
-    for (given, part) in USAGES {
-        check_parts(&rt, rt.alloc(), given, &[part])?;
+fn versions_and_mistakes_have_their_texts(rt: HostRuntime) -> Result<(), Fail> {
+    for (given, wanted) in TEXTS {
+        let text = told(rt.alloc(), given)?;
+        check_same_of(&rt, given, &text.as_str(), wanted);
     }
     Ok(())
 }

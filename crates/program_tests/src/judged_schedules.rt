@@ -1,65 +1,26 @@
 //! Reports: what known schedules cost, a line for each kind of fault, and inputs that have no report. The expected lines are those of
 //! scripts/apart.py, which shares no code with the crates.
 
-use super::circle::{CIRCLE, SHEET, is_made_of};
-use commands::{Format, ProgramFault, Verdict, report};
-use std::alloc::Global;
-use std::process::Abort;
+use crate::circle::{CIRCLE, SHEET};
+use crate::samples::{COST, JUDGED, REPORT};
+use crate::told::{Case, Command, Text, check_case, check_cases, refused, reported};
+use commands::ProgramFault::{League, NoSheet};
+use commands::{Format, Verdict};
+use league::LeagueFault::NotJson;
 use std::test::Fail;
-use streams::{MemorySink, MemorySource};
 
-/// The report of a league and a schedule is made of these parts and has this verdict.
-fn check_report(
-    rt: &impl Abort,
-    alloc: Global,
-    league: &str,
-    schedule: &str,
-    parts: &[&str],
-    verdict: Verdict,
-) -> Result<(), Fail> {
-    let input = format!(in alloc; "{league}\nsheet\n{schedule}")?;
-    let mut room = [0; 2000];
-    let mut sink = MemorySink::new(&mut room);
-    let source = MemorySource::new(input.as_bytes());
-    let told = report(alloc, source, &mut sink, Format::Text)?;
-    assert_eq!(rt; told, verdict);
-    assert!(rt; is_made_of(sink.held(), parts));
-    Ok(())
+const fn feasible<'a>(input: &'a [&'a str], parts: &'a [&'a str]) -> Case<'a> {
+    reported(Format::Text, input, Verdict::Feasible, Text::Whole(parts))
 }
 
-pub(super) const COST_OF_START: &str = "travel 30 hard 0 soft 0\n\
-    tour 1 travel 6\n\
-    tour 2 travel 8\n\
-    tour 3 travel 8\n\
-    tour 4 travel 8\n\
-    total 30\n";
-
-#[test]
-fn report_of_a_start_is_its_sheet_and_cost(rt: HostRuntime) -> Result<(), Fail> {
-    check_report(
-        &rt,
-        rt.alloc(),
-        CIRCLE,
-        SHEET,
-        &[SHEET, COST_OF_START],
-        Verdict::Feasible,
-    )
+const fn infeasible<'a>(input: &'a [&'a str], parts: &'a [&'a str]) -> Case<'a> {
+    reported(Format::Text, input, Verdict::Infeasible, Text::Whole(parts))
 }
 
-#[test]
-fn lines_in_any_order_with_blanks_and_line_ends_are_read(rt: HostRuntime) -> Result<(), Fail> {
-    let schedule =
-        "round 6: 4-2\r\nround\t6:  1-3 \r\nrounds 1 2\nround 5: 2-1 3-4\nround 4: 3-2 4-1\n\
-        round 3: 2-4 3-1\nround 2: 1-2 4-3\nround 1:\nround 01: 1-4 2-3";
-    check_report(
-        &rt,
-        rt.alloc(),
-        CIRCLE,
-        schedule,
-        &[SHEET, COST_OF_START],
-        Verdict::Feasible,
-    )
-}
+/// The lines of the start in another order, with other blanks and line ends.
+const REORDERED: &str =
+    "round 6: 4-2\r\nround\t6:  1-3 \r\nrounds 1 2\nround 5: 2-1 3-4\nround 4: 3-2 4-1\n\
+    round 3: 2-4 3-1\nround 2: 1-2 4-3\nround 1:\nround 01: 1-4 2-3";
 
 /// Homes of teams 1 and 2 exchanged, and then rounds 1 and 3.
 const REPEATING: &str = "league 4 teams 6 rounds\n\
@@ -82,19 +43,6 @@ const COST_OF_REPEATING: &str = "travel 28 hard 2 soft 0\n\
     repeat 2-3 rounds 3 4\n\
     repeat 1-4 rounds 3 4\n\
     infeasible\n";
-
-#[test]
-fn report_names_the_repeats(rt: HostRuntime) -> Result<(), Fail> {
-    let parts = &[REPEATING, COST_OF_REPEATING];
-    check_report(
-        &rt,
-        rt.alloc(),
-        CIRCLE,
-        REPEATING,
-        parts,
-        Verdict::Infeasible,
-    )
-}
 
 /// A phased league with one round in a row.
 const PHASED: &str = r#"{"format":2,"teams":["T1","T2","T3","T4"],"phased":true,"at_most":1,
@@ -132,12 +80,6 @@ const COST_OF_HALVED: &str = "travel 26 hard 14 soft 0\n\
     half 2-4 rounds 4 6\n\
     infeasible\n";
 
-#[test]
-fn report_names_runs_and_halves(rt: HostRuntime) -> Result<(), Fail> {
-    let parts = &[HALVED, COST_OF_HALVED];
-    check_report(&rt, rt.alloc(), PHASED, HALVED, parts, Verdict::Infeasible)
-}
-
 /// A league with a rule of each kind of weight.
 const RULED: &str = r#"{"format":1,"teams":["T1","T2","T3","T4"],
     "distances":[[0,1,2,1],[1,0,1,2],[2,1,0,1],[1,2,1,0]],"rules":[
@@ -153,14 +95,8 @@ const COST_UNDER_RULES: &str = "travel 30 hard 2 soft 10\n\
     rule 2 BR1 hard deviation 2\n\
     infeasible\n";
 
-#[test]
-fn report_names_the_rules(rt: HostRuntime) -> Result<(), Fail> {
-    let parts = &[SHEET, COST_UNDER_RULES];
-    check_report(&rt, rt.alloc(), RULED, SHEET, parts, Verdict::Infeasible)
-}
-
 /// The start with a bad line, three games that are none, and a game that stands in another's place.
-pub(super) const DAMAGED: &str = "round 1: 1-4 2-3 3-3\n\
+pub(crate) const DAMAGED: &str = "round 1: 1-4 2-3 3-3\n\
     round 2: 1-2 4-3\n\
     round 3: 2-4 3-1\n\
     round x: 1-2\n\
@@ -170,7 +106,7 @@ pub(super) const DAMAGED: &str = "round 1: 1-4 2-3 3-3\n\
     round 18446744073709551615: 5-1\n\
     round 0: 1-2\n";
 
-pub(super) const FAULTS: &str = "bad line 4\n\
+pub(crate) const FAULTS: &str = "bad line 4\n\
     game 3-3 of round 1 is none\n\
     game 5-1 of round 18446744073709551615 is none\n\
     game 1-2 of round 0 is none\n\
@@ -180,49 +116,36 @@ pub(super) const FAULTS: &str = "bad line 4\n\
     game 4-2 is missing\n\
     no double round robin\n";
 
+/// A bad line behind the lines of the start, and what it is told.
+const AFTER_A_BAD_LINE: Case<'_> = infeasible(
+    &[CIRCLE, JUDGED, SHEET, "round 18446744073709551616: 1-2\n"],
+    &["bad line 12\n", "no double round robin\n"],
+);
+
+const CASES: &[Case<'_>] = &[
+    feasible(&[CIRCLE, JUDGED, REORDERED], &[SHEET, COST]),
+    infeasible(
+        &[CIRCLE, JUDGED, REPEATING],
+        &[REPEATING, COST_OF_REPEATING],
+    ),
+    infeasible(&[PHASED, JUDGED, HALVED], &[HALVED, COST_OF_HALVED]),
+    infeasible(&[RULED, JUDGED, SHEET], &[SHEET, COST_UNDER_RULES]),
+    infeasible(&[CIRCLE, JUDGED, DAMAGED], &[FAULTS]),
+    AFTER_A_BAD_LINE,
+    refused(Command::Report(Format::Text), &[CIRCLE], NoSheet),
+    refused(
+        Command::Report(Format::Text),
+        &["sheet\n"],
+        League(NotJson),
+    ),
+];
+
 #[test]
-fn report_names_each_fault(rt: HostRuntime) -> Result<(), Fail> {
-    check_report(
-        &rt,
-        rt.alloc(),
-        CIRCLE,
-        DAMAGED,
-        &[FAULTS],
-        Verdict::Infeasible,
-    )
+fn report_of_a_start_is_its_sheet_and_cost(rt: HostRuntime) -> Result<(), Fail> {
+    check_case(&rt, rt.alloc(), &REPORT)
 }
 
 #[test]
-fn bad_line_beside_all_games_is_a_fault(rt: HostRuntime) -> Result<(), Fail> {
-    let schedule = format!(in rt.alloc(); "{SHEET}round 18446744073709551616: 1-2\n")?;
-    let parts = &["bad line 12\n", "no double round robin\n"];
-    check_report(
-        &rt,
-        rt.alloc(),
-        CIRCLE,
-        schedule.as_str(),
-        parts,
-        Verdict::Infeasible,
-    )
-}
-
-/// An input that has no report is answered by the fault, and the sink is left alone.
-fn check_fault(rt: &impl Abort, alloc: Global, input: &str, fault: ProgramFault) {
-    let mut room = [0; 100];
-    let mut sink = MemorySink::new(&mut room);
-    let source = MemorySource::new(input.as_bytes());
-    let answer = report(alloc, source, &mut sink, Format::Text);
-    assert_eq!(rt; answer, Err(fault), "{input}");
-    assert_eq!(rt; sink.tally().calls, 0);
-}
-
-#[test]
-fn league_without_a_sheet_has_no_report(rt: HostRuntime) {
-    check_fault(&rt, rt.alloc(), CIRCLE, ProgramFault::NoSheet);
-    check_fault(
-        &rt,
-        rt.alloc(),
-        "sheet\n",
-        ProgramFault::League(league::LeagueFault::NotJson),
-    );
+fn reports_name_what_costs_and_what_is_wrong(rt: HostRuntime) -> Result<(), Fail> {
+    check_cases(&rt, rt.alloc(), CASES)
 }

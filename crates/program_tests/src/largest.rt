@@ -1,15 +1,16 @@
 //! The largest league that can be read: 40 teams, the greatest distances and names, and 256 rules of the greatest
 //! deviation and weight. The numbers are those that `scripts/play-apart` prints, which shares no code with the crates.
 
-use super::closings::closing;
-use super::plays::text;
-use commands::{SearchPlan, find, start};
+use crate::checks::{check_holds, check_same};
+use crate::closings::{closing, script};
+use crate::samples::SCRIPT;
+use crate::told::{Case, Command, PLAY_OF_1024, Text, check_case, told};
+use commands::SearchPlan;
 use std::alloc::{AllocError, Global};
 use std::process::Abort;
 use std::sync::Wait;
 use std::test::Fail;
 use std::thread::Threads;
-use streams::{MemorySink, MemorySource};
 
 const NAME: &str = "\"0123456789012345678901234567890123456789\"";
 
@@ -49,8 +50,8 @@ fn largest(alloc: Global, kind: &str, at_most: u8) -> Result<String, AllocError>
     )
 }
 
-const SCRIPT: &[u8] =
-    b"rounds 1 78\nhomes 1 40\nteams 1 40\npart-rounds 3 5 9\npart-teams 1 2 3\nundo\nslack 0\n\
+const LINES: &str =
+    "rounds 1 78\nhomes 1 40\nteams 1 40\npart-rounds 3 5 9\npart-teams 1 2 3\nundo\nslack 0\n\
     rounds 40 41\n";
 
 const SOFT: &str = "start travel 3063000000 hard 0 soft 1989212160000000\n\
@@ -75,105 +76,118 @@ const HARD: &str = "start travel 3063000000 hard 1989212274 soft 0\n\
     no 5 worse\n\
     history 5\n";
 
-fn check_played(
-    rt: &impl Abort,
-    alloc: Global,
-    league: &str,
-    begins: &str,
-    ends: &str,
-) -> Result<(), Fail> {
-    let played = text(alloc, league, SCRIPT, 1024)?;
-    let played = str::from_utf8(&played)?;
-    assert!(rt; played.starts_with(begins), "{played}");
-    assert!(rt; played.ends_with(ends), "{played}");
-    Ok(())
-}
+/// Where the rules are soft, and where they are hard: how many rounds in a row are allowed, how the play text of the script begins and
+/// ends, and a part of the text of a search.
+const LEAGUES: [(&str, u8, &str, &str, &str); 2] = [
+    (
+        "soft",
+        78,
+        SOFT,
+        "best 1989215223000000 at 0\n",
+        "\nbest 19892",
+    ),
+    ("hard", 1, HARD, "best none\n", "\nbest none\n"),
+];
 
 #[test]
 fn the_largest_leagues_have_exact_costs(rt: HostRuntime) -> Result<(), Fail> {
-    let soft = largest(rt.alloc(), "soft", 78)?;
-    check_played(
-        &rt,
-        rt.alloc(),
-        soft.as_str(),
-        SOFT,
-        "best 1989215223000000 at 0\n",
-    )?;
-    let hard = largest(rt.alloc(), "hard", 1)?;
-    check_played(&rt, rt.alloc(), hard.as_str(), HARD, "best none\n")
+    for (kind, at_most, begins, ends, _) in LEAGUES {
+        let league = largest(rt.alloc(), kind, at_most)?;
+        let case = Case {
+            command: PLAY_OF_1024,
+            input: &[league.as_str(), SCRIPT, LINES],
+            answer: Ok(None),
+            text: Text::Excerpt {
+                begins,
+                within: &[],
+                ends,
+            },
+        };
+        check_case(&rt, rt.alloc(), &case)?;
+    }
+    Ok(())
 }
 
 /// Lines of its sheet.
-const LINES: [&str; 3] = [
+const SHEET: Text<'_> = Text::Excerpt {
+    begins: "league 40 teams 78 rounds\n",
+    within: &[
     "team 40 AHAHAHAHAHAHAHAHAHAHAHAHAHAHAHAHAHAHAHAHAHAHAHAHAHAHAHAHAHAHAHAHAHAHAHAHAHAHAH \
     0123456789012345678901234567890123456789\n",
     "\nround 1: 1-40 2-39 3-38 4-37 5-36 6-35 7-34 8-33 9-32 10-31 11-30 12-29 13-28 14-27 15-26 16-25 17-24 18-23 \
     19-22 20-21\n",
     "\nround 78: 1-39 2-38 3-37 4-36 5-35 6-34 7-33 8-32 9-31 10-30 11-29 12-28 13-27 14-26 15-25 16-24 17-23 18-22 \
     19-21 40-20\n",
-];
+    ],
+    ends: "",
+};
 
 #[test]
 fn the_largest_league_has_a_start(rt: HostRuntime) -> Result<(), Fail> {
     let league = largest(rt.alloc(), "hard", 1)?;
-    let mut room = vec![in rt.alloc(); 0; 20_000]?;
-    let mut sink = MemorySink::new(&mut room);
-    start(rt.alloc(), MemorySource::new(league.as_bytes()), &mut sink)?;
-    let sheet = str::from_utf8(sink.held())?;
-    assert!(rt; sheet.starts_with("league 40 teams 78 rounds\n"), "{sheet}");
-    for line in LINES {
-        assert!(rt; sheet.contains(line), "{line}{sheet}");
-    }
-    Ok(())
+    let case = Case {
+        command: Command::Start,
+        input: &[league.as_str()],
+        answer: Ok(None),
+        text: SHEET,
+    };
+    check_case(&rt, rt.alloc(), &case)
 }
 
-/// The text of a search of six steps by one worker.
-fn searched<R: Threads + Wait + Sync>(
-    rt: &R,
-    alloc: Global,
-    league: &str,
-) -> Result<Vec<u8>, Fail> {
-    let plan = SearchPlan {
+/// A search of six steps by one worker.
+const SIX_STEPS: Command = Command::Find {
+    room: 64,
+    plan: SearchPlan {
         workers: 1,
         seed: 1,
         steps: 6,
         slack: u64::MAX,
+    },
+};
+
+/// The history, played as a script, leads to the same history.
+fn check_played_again<T: Threads + Wait + Sync + Abort>(
+    rt: &T,
+    alloc: Global,
+    league: &str,
+    history: &str,
+) -> Result<(), Fail> {
+    let input = [league, SCRIPT, script(history)].concat(alloc)?;
+    let played = told(rt, alloc, Command::Play { room: 64 }, input.as_bytes())?;
+    let Some((again, _)) = closing(&played.text) else {
+        return Err(Fail::new("no history"));
     };
-    let mut memory = vec![in alloc; 0; 20_000]?;
-    let mut sink = MemorySink::new(&mut memory);
-    let source = MemorySource::new(league.as_bytes());
-    find(rt, alloc, source, &mut sink, 64, plan)?;
-    Ok(Vec::from_slice(alloc, sink.held())?)
+    check_same(rt, &again, &history);
+    Ok(())
 }
 
 /// A worker's claims are the board's scores, so that each of its proposals is accepted, and is again when its history is
 /// played.
-fn check_search<R: Threads + Wait + Sync + Abort>(
-    rt: &R,
+fn check_search<T: Threads + Wait + Sync + Abort>(
+    rt: &T,
     alloc: Global,
     league: &str,
     best: &str,
 ) -> Result<(), Fail> {
-    let found = searched(rt, alloc, league)?;
-    let told = str::from_utf8(&found)?;
-    assert!(rt; told.contains(" refused 0\n"), "{told}");
-    assert!(rt; told.contains(best), "{told}");
-    let (_, history) = closing(&found).ok_or("a history")?;
-    assert!(rt; !history.is_empty(), "{told}");
-    let played = text(alloc, league, history, 64)?;
-    let (_, again) = closing(&played).ok_or("a history")?;
-    assert_eq!(rt; again, history);
+    let found = told(rt, alloc, SIX_STEPS, league.as_bytes())?;
+    let text = Text::Excerpt {
+        begins: "",
+        within: &[" refused 0\n", best],
+        ends: "",
+    };
+    check_holds(rt, &best, text.is_told(&found.text));
+    let Some((history, _)) = closing(&found.text) else {
+        return Err(Fail::new("no history"));
+    };
+    check_holds(rt, &history, history != "0");
+    check_played_again(rt, alloc, league, history)
+}
+
+#[test]
+fn the_largest_leagues_are_searched(rt: HostRuntime) -> Result<(), Fail> {
+    for (kind, at_most, _, _, best) in LEAGUES {
+        let league = largest(rt.alloc(), kind, at_most)?;
+        check_search(&rt, rt.alloc(), league.as_str(), best)?;
+    }
     Ok(())
-}
-
-#[test]
-fn the_largest_league_of_soft_rules_is_searched(rt: HostRuntime) -> Result<(), Fail> {
-    let league = largest(rt.alloc(), "soft", 78)?;
-    check_search(&rt, rt.alloc(), league.as_str(), "\nbest 19892")
-}
-
-#[test]
-fn the_largest_league_of_hard_rules_is_searched(rt: HostRuntime) -> Result<(), Fail> {
-    let league = largest(rt.alloc(), "hard", 1)?;
-    check_search(&rt, rt.alloc(), league.as_str(), "\nbest none\n")
 }

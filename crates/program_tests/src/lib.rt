@@ -4,6 +4,8 @@
 #[cfg(test)]
 mod arguments;
 #[cfg(test)]
+mod checks;
+#[cfg(test)]
 mod circle;
 #[cfg(test)]
 mod closings;
@@ -26,6 +28,8 @@ mod plays;
 #[cfg(test)]
 mod progress_lines;
 #[cfg(test)]
+mod samples;
+#[cfg(test)]
 mod script_lines;
 #[cfg(test)]
 mod searches;
@@ -35,5 +39,7 @@ mod second_format;
 mod session;
 #[cfg(test)]
 mod starts;
+#[cfg(test)]
+mod told;
 #[cfg(test)]
 mod worked;

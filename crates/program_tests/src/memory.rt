@@ -3,90 +3,92 @@
 //! `rt try --test --fail-alloc N` refuses the Nth allocation of each test. A test
 //! `.._tells_refused_memory` passes at every N; `.._with_ample_memory` fails while N is among its allocations.
 
-use super::ends::Command;
-use commands::{Format, ProgramFault};
-use std::alloc::Global;
+use crate::checks::check_holds;
+use crate::samples::{FIND, PAGE, PLAY, START, TABLE};
+use crate::told::{Case, Told, check_case, told};
+use commands::ProgramFault;
+use std::alloc::{AllocError, Global};
 use std::process::Abort;
 use std::sync::Wait;
 use std::test::Fail;
 use std::thread::Threads;
-use streams::{MemorySink, MemorySource};
 
-fn check_with_ample_memory<T: Threads + Wait + Sync + Abort>(
+/// What the case's command tells of its input.
+fn told_of<T: Threads + Wait + Sync>(
     rt: &T,
     alloc: Global,
-    command: Command,
-) -> Result<(), Fail> {
-    let (input, text) = (command.input(alloc)?, command.text(alloc)?);
-    let mut room = [0; 1000];
-    let mut sink = MemorySink::new(&mut room);
-    command.run(rt, alloc, &mut MemorySource::new(&input), &mut sink)?;
-    assert_eq!(rt; sink.held(), text.as_slice());
-    Ok(())
+    case: &Case<'_>,
+) -> Result<Told, AllocError> {
+    let input = case.input.concat(alloc)?;
+    told(rt, alloc, case.command, input.as_bytes())
 }
 
 /// The command writes its text, or answers one of the faults and writes nothing.
 fn check_refused<T: Threads + Wait + Sync + Abort>(
     rt: &T,
     alloc: Global,
-    command: Command,
+    case: &Case<'_>,
     faults: &[ProgramFault],
 ) {
-    let (Ok(input), Ok(text)) = (command.input(alloc), command.text(alloc)) else {
+    // the test's own memory was refused
+    let Ok(told) = told_of(rt, alloc, case) else {
         return;
     };
-    let mut room = [0; 1000];
-    let mut sink = MemorySink::new(&mut room);
-    match command.run(rt, alloc, &mut MemorySource::new(&input), &mut sink) {
-        Ok(()) => assert_eq!(rt; sink.held(), text.as_slice()),
-        Err(fault) => {
-            assert!(rt; faults.contains(&fault), "{fault}");
-            assert_eq!(rt; sink.tally().calls, 0);
-        }
-    }
+    let is_right = match told.answer {
+        Ok(_) => case.text.is_told(&told.text),
+        Err(fault) => faults.contains(&fault) && told.calls == 0,
+    };
+    check_holds(rt, &told.answer, is_right);
 }
 
 #[test]
 fn start_succeeds_with_ample_memory(rt: HostRuntime) -> Result<(), Fail> {
-    check_with_ample_memory(&rt, rt.alloc(), Command::Start)
+    check_case(&rt, rt.alloc(), &START)
 }
 
 #[test]
 fn start_tells_refused_memory(rt: HostRuntime) {
-    check_refused(&rt, rt.alloc(), Command::Start, &[ProgramFault::Memory]);
+    check_refused(&rt, rt.alloc(), &START, &[ProgramFault::Memory]);
 }
 
 #[test]
 fn play_succeeds_with_ample_memory(rt: HostRuntime) -> Result<(), Fail> {
-    check_with_ample_memory(&rt, rt.alloc(), Command::Play)
+    check_case(&rt, rt.alloc(), &PLAY)
 }
 
 #[test]
 fn play_tells_refused_memory(rt: HostRuntime) {
-    check_refused(&rt, rt.alloc(), Command::Play, &[ProgramFault::Memory]);
+    check_refused(&rt, rt.alloc(), &PLAY, &[ProgramFault::Memory]);
 }
-
-/// The games of four teams as CSV.
-const TABLE: Command = Command::Report(Format::Csv);
 
 #[test]
 fn table_succeeds_with_ample_memory(rt: HostRuntime) -> Result<(), Fail> {
-    check_with_ample_memory(&rt, rt.alloc(), TABLE)
+    check_case(&rt, rt.alloc(), &TABLE)
 }
 
 #[test]
 fn table_tells_refused_memory(rt: HostRuntime) {
-    check_refused(&rt, rt.alloc(), TABLE, &[ProgramFault::Memory]);
+    check_refused(&rt, rt.alloc(), &TABLE, &[ProgramFault::Memory]);
+}
+
+#[test]
+fn page_with_ample_memory(rt: HostRuntime) -> Result<(), Fail> {
+    check_case(&rt, rt.alloc(), &PAGE)
+}
+
+#[test]
+fn page_tells_refused_memory(rt: HostRuntime) {
+    check_refused(&rt, rt.alloc(), &PAGE, &[ProgramFault::Memory]);
 }
 
 #[test]
 fn find_succeeds_with_ample_memory(rt: HostRuntime) -> Result<(), Fail> {
-    check_with_ample_memory(&rt, rt.alloc(), Command::Find)
+    check_case(&rt, rt.alloc(), &FIND)
 }
 
 /// Where the memory of a thread itself is refused, the answer is Spawn.
 #[test]
 fn find_tells_refused_memory(rt: HostRuntime) {
     let faults = [ProgramFault::Memory, ProgramFault::Spawn];
-    check_refused(&rt, rt.alloc(), Command::Find, &faults);
+    check_refused(&rt, rt.alloc(), &FIND, &faults);
 }

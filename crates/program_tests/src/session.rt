@@ -1,8 +1,7 @@
 //! The README's worked session: `scripts/check-readme` holds the README to these two texts.
 
-use commands::play;
+use crate::told::{Case, PLAY_OF_1024, check_case, written};
 use std::test::Fail;
-use streams::{MemorySink, MemorySource};
 
 const INPUT: &str = r#"{
   "format": 1,
@@ -49,16 +48,9 @@ round 6: 2-1 3-4
 best 26 at 2
 "#;
 
+const SESSION: Case<'_> = written(PLAY_OF_1024, &[INPUT], &[OUTPUT]);
+
 #[test]
 fn readme_session_prints_what_it_says(rt: HostRuntime) -> Result<(), Fail> {
-    let mut room = [0; 2000];
-    let mut sink = MemorySink::new(&mut room);
-    play(
-        rt.alloc(),
-        MemorySource::new(INPUT.as_bytes()),
-        &mut sink,
-        1024,
-    )?;
-    assert_eq!(rt; str::from_utf8(sink.held())?, OUTPUT);
-    Ok(())
+    check_case(&rt, rt.alloc(), &SESSION)
 }

@@ -1,122 +1,137 @@
 //! The start of a league: a known sheet, faults on known leagues, and the faults' texts.
 
-use super::circle::{CIRCLE, SHEET};
-use commands::{ProgramFault, start};
-use league::{Field, LeagueFault};
+use crate::checks::check_same;
+use crate::circle::SHEET;
+use crate::distinct::are_distinct;
+use crate::samples::START;
+use crate::told::{Case, Command, check_cases, refused, told, written};
+use commands::ProgramFault::{self, League};
+use league::Field;
+use league::LeagueFault::{
+    Asymmetric, Diagonal, DistanceShape, MissingField, NotJson, RuleClass, TeamCount, WrongKind,
+};
 use std::alloc::Global;
 use std::process::Abort;
 use std::test::Fail;
-use streams::{MemorySink, MemorySource};
 
-#[test]
-fn start_writes_the_sheet_of_a_circle(rt: HostRuntime) -> Result<(), Fail> {
-    let mut room = [0; 1000];
-    let mut sink = MemorySink::new(&mut room);
-    start(rt.alloc(), MemorySource::new(CIRCLE.as_bytes()), &mut sink)?;
-    assert_eq!(rt; sink.held(), SHEET.as_bytes());
-    Ok(())
-}
-
-#[test]
-fn start_reads_distances_up_to_the_limit(rt: HostRuntime) -> Result<(), Fail> {
-    let far = r#"{"format":1,"teams":["T1","T2","T3","T4"],"distances":[[0,1000000,1000000,1000000],
-        [1000000,0,1000000,1000000],[1000000,1000000,0,1000000],[1000000,1000000,1000000,0]]}"#;
-    let mut room = [0; 1000];
-    let mut sink = MemorySink::new(&mut room);
-    start(rt.alloc(), MemorySource::new(far.as_bytes()), &mut sink)?;
-    assert_eq!(rt; sink.held(), SHEET.as_bytes());
-    Ok(())
-}
-
-/// `start` answers a league's text with the fault, and leaves the sink alone.
-fn check_fault(rt: &impl Abort, alloc: Global, league: &str, fault: LeagueFault) {
-    let mut room = [0; 1000];
-    let mut sink = MemorySink::new(&mut room);
-    let answer = start(alloc, MemorySource::new(league.as_bytes()), &mut sink);
-    assert_eq!(rt; answer, Err(ProgramFault::League(fault)), "{league}");
-    assert_eq!(rt; sink.tally().calls, 0);
-}
-
-const FAULTY_LEAGUES: &[(&str, LeagueFault)] = &[
-    (
-        r#"{"format":1,"teams":["A","B","C"],"distances":[[0,1,1],[1,0,1],[1,1,0]]}"#,
-        LeagueFault::TeamCount,
+const CASES: &[Case<'_>] = &[
+    START,
+    // distances up to the limit
+    written(
+        Command::Start,
+        &[
+            r#"{"format":1,"teams":["T1","T2","T3","T4"],"distances":[[0,1000000,1000000,1000000],
+            [1000000,0,1000000,1000000],[1000000,1000000,0,1000000],[1000000,1000000,1000000,0]]}"#,
+        ],
+        &[SHEET],
     ),
-    ("", LeagueFault::NotJson),
-    (
-        r#"{"format":1,"teams":["T1","T2","T3","T4"],"distanc"#,
-        LeagueFault::NotJson,
+    // the first fault of a league
+    fault(
+        &[r#"{"format":1,"teams":["A","B","C"],"distances":[[0,1,1],[1,0,1],[1,1,0]]}"#],
+        League(TeamCount),
     ),
-    (
-        r#"{"format":1,"distances":[[0,1,2,1],[1,0,1,2],[2,1,0,1],[1,2,1,0]]}"#,
-        LeagueFault::MissingField(Field::Teams),
+    fault(&[""], League(NotJson)),
+    fault(
+        &[r#"{"format":1,"teams":["T1","T2","T3","T4"],"distanc"#],
+        League(NotJson),
     ),
-    (
-        r#"{"format":1,"teams":["T1","T2","T3","T4"],"distances":[[0,1,2,1],[1,0,1,2],[2,1,0,1]]}"#,
-        LeagueFault::DistanceShape,
+    fault(
+        &[r#"{"format":1,"distances":[[0,1,2,1],[1,0,1,2],[2,1,0,1],[1,2,1,0]]}"#],
+        League(MissingField(Field::Teams)),
     ),
-    (
-        r#"{"format":1,"teams":["T1","T2","T3","T4"],"distances":[[0,1,2,1],[1,1,1,2],[2,1,0,1],[1,2,1,0]]}"#,
-        LeagueFault::Diagonal,
+    fault(
+        &[
+            r#"{"format":1,"teams":["T1","T2","T3","T4"],"distances":[[0,1,2,1],[1,0,1,2],[2,1,0,1]]}"#,
+        ],
+        League(DistanceShape),
     ),
-    (
-        r#"{"format":1,"teams":["T1","T2","T3","T4"],"distances":[[0,2,2,1],[1,0,1,2],[2,1,0,1],[1,2,1,0]]}"#,
-        LeagueFault::Asymmetric,
+    fault(
+        &[
+            r#"{"format":1,"teams":["T1","T2","T3","T4"],"distances":[[0,1,2,1],[1,1,1,2],[2,1,0,1],[1,2,1,0]]}"#,
+        ],
+        League(Diagonal),
     ),
-    (
-        r#"{"format":3,"teams":["T1","T2","T3","T4"],"distances":[[0,1,2,1],[1,0,1,2],[2,1,0,1],[1,2,1,0]]}"#,
-        LeagueFault::WrongKind(Field::Format),
+    fault(
+        &[
+            r#"{"format":1,"teams":["T1","T2","T3","T4"],"distances":[[0,2,2,1],[1,0,1,2],[2,1,0,1],[1,2,1,0]]}"#,
+        ],
+        League(Asymmetric),
     ),
-    ("[]", LeagueFault::WrongKind(Field::Whole)),
+    fault(
+        &[
+            r#"{"format":3,"teams":["T1","T2","T3","T4"],"distances":[[0,1,2,1],[1,0,1,2],[2,1,0,1],[1,2,1,0]]}"#,
+        ],
+        League(WrongKind(Field::Format)),
+    ),
+    fault(&["[]"], League(WrongKind(Field::Whole))),
 ];
 
+const fn fault<'a>(league: &'a [&'a str], fault: ProgramFault) -> Case<'a> {
+    refused(Command::Start, league, fault)
+}
+
 #[test]
-fn start_names_the_first_fault_of_a_league(rt: HostRuntime) {
-    for (league, fault) in FAULTY_LEAGUES {
-        check_fault(&rt, rt.alloc(), league, *fault);
-    }
+fn start_writes_a_sheet_or_names_the_first_fault(rt: HostRuntime) -> Result<(), Fail> {
+    check_cases(&rt, rt.alloc(), CASES)
 }
 
 /// One byte more is too long.
 #[test]
 fn start_reads_a_text_up_to_the_limit(rt: HostRuntime) -> Result<(), Fail> {
     let blanks = vec![in rt.alloc(); b' '; 4_194_304]?;
-    check_fault(
+    let told = told(&rt, rt.alloc(), Command::Start, &blanks)?;
+    check_same(
         &rt,
-        rt.alloc(),
-        str::from_utf8(&blanks)?,
-        LeagueFault::NotJson,
+        &(told.answer, told.calls),
+        &(Err(League(NotJson)), 0),
     );
     Ok(())
 }
 
-const FAULTS: &[(ProgramFault, &str)] = &[
-    (ProgramFault::Read, "input cannot be read"),
-    (ProgramFault::TooLong, "input is over 4194304 bytes"),
-    (
-        ProgramFault::League(LeagueFault::NotJson),
-        "league is not JSON",
-    ),
-    (
-        ProgramFault::League(LeagueFault::WrongKind(Field::Whole)),
-        "league is no object",
-    ),
-    (ProgramFault::Room, "room is over 1048576"),
-    (ProgramFault::Workers, "workers must be 1 to 16"),
-    (ProgramFault::Spawn, "a worker cannot be started"),
-    (ProgramFault::Receipts, "receipts do not add up"),
-    (ProgramFault::Write, "output cannot be written"),
-    (ProgramFault::Memory, "out of memory"),
+const FAULTS: [ProgramFault; 14] = [
+    ProgramFault::Read,
+    ProgramFault::TooLong,
+    League(NotJson),
+    League(WrongKind(Field::Whole)),
+    League(WrongKind(Field::Start)),
+    League(WrongKind(Field::Phased)),
+    League(WrongKind(Field::Format)),
+    League(RuleClass(0)),
+    ProgramFault::Room,
+    ProgramFault::Workers,
+    ProgramFault::Spawn,
+    ProgramFault::Receipts,
+    ProgramFault::Write,
+    ProgramFault::Memory,
+];
+
+/// The text of each of them.
+const TEXTS: [&str; 14] = [
+    "input cannot be read",
+    "input is over 4194304 bytes",
+    "league is not JSON",
+    "league is no object",
+    "league member start is wrong",
+    "league member phased is wrong",
+    "league member format is wrong",
+    "rule 1 has no known class",
+    "room is over 1048576",
+    "workers must be 1 to 16",
+    "a worker cannot be started",
+    "receipts do not add up",
+    "output cannot be written",
+    "out of memory",
 ];
 
 fn check_text(rt: &impl Abort, alloc: Global, fault: ProgramFault, text: &str) -> Result<(), Fail> {
-    assert_eq!(rt; format!(in alloc; "{fault}")?.as_str(), text);
+    let told = format!(in alloc; "{fault}")?;
+    check_same(rt, &told.as_str(), &text);
     Ok(())
 }
 
 #[test]
 fn faults_have_their_texts(rt: HostRuntime) -> Result<(), Fail> {
-    for (fault, text) in FAULTS {
+    for (fault, text) in FAULTS.iter().zip(TEXTS) {
         check_text(&rt, rt.alloc(), *fault, text)?;
     }
     Ok(())
@@ -125,9 +140,5 @@ fn faults_have_their_texts(rt: HostRuntime) -> Result<(), Fail> {
 // tests compare faults by `==`, so it has to see the variant and the league's own fault
 #[test]
 fn faults_differ(rt: HostRuntime) {
-    for (i, (one, _)) in FAULTS.iter().enumerate() {
-        for (j, (other, _)) in FAULTS.iter().enumerate() {
-            assert_eq!(rt; one == other, i == j, "{one} {other}");
-        }
-    }
+    check_same(&rt, &are_distinct(&FAULTS), &true);
 }
