@@ -1,6 +1,6 @@
 pub mod Callers
 pub mod Rewinds
+pub mod Boards
 pub mod Runs
 pub mod Leads
 pub mod Texts
-pub mod UnderWay

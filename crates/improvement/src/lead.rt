@@ -3,6 +3,7 @@
 ghost use Rattle.std.specs.Prelude.{◌≡◌, ◌≤◌, ℕ, List, [], Option, Some, None, length, take, IfOk, IfErr, OnOk};
 ghost use Rattle.league.specs.League.{LeagueData};
 ghost use Rattle.fixture_board.specs.declared.change.Entry.{Entry};
+ghost use Rattle.fixture_board.specs.History.{IsLegal};
 ghost use Rattle.fixture_board.specs.Record.{book};
 ghost use Rattle.fixture_board.specs.Replay.{changes_of};
 ghost use Rattle.fixture_board.specs.Replies.{ask_of, played_from};
@@ -59,10 +60,11 @@ impl Lead {
             OnOk result (IsLead board.now.league board.now.room
             (Some (ahead board.now.league leading board.now.history)) self.new) }
     {
-        if self.is_behind(outcome) {
-            self.changes = first_changes(alloc, board, final_version(board))?;
-            self.outcome = Some(outcome);
+        if !self.is_behind(outcome) {
+            return Ok(());
         }
+        self.changes = first_changes(alloc, board, final_version(board))?;
+        self.outcome = Some(outcome);
         Ok(())
     }
 
@@ -89,6 +91,7 @@ impl Lead {
 }
 
 /// Whether the first outcome is better.
+#[tactic(auto, unfolding(crate::specs::Runs::leads))]
 fn leads(a: PhaseOutcome, b: PhaseOutcome) -> bool
     ensures { result ≡ leads a b }
 {
@@ -104,6 +107,7 @@ fn leads(a: PhaseOutcome, b: PhaseOutcome) -> bool
 fn final_version(board: &Board) -> u64
     ensures history { take result board.now.history ≡ rewound board.now.league board.now.history }
     ensures most { result ≤ length board.now.history }
+    ensures legal { IsLegal board.now.league board.now.room board.now.history }
 {
     match board.best() {
         Some(best) => best.at,

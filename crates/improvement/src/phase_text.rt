@@ -4,10 +4,9 @@ ghost use Rattle.std.specs.Prelude.{◌≡◌, ◌≤◌, [], OnOk};
 ghost use Rattle.league.specs.League.{teams};
 ghost use Rattle.fixture_board.specs.History.{best_prefix};
 ghost use Rattle.streams.specs.Writing.{Writes, waiting_in};
-ghost use Rattle.texts.specs.PlayText.{numbered};
-ghost use Rattle.texts.specs.SearchText.{best_sheet, games_at_best, least_text};
+ghost use Rattle.texts.specs.SearchText.{games_at_best};
 ghost use Rattle.improvement.specs.Kept.{run_of};
-ghost use Rattle.improvement.specs.PhaseText.{is_below, phase_line, phase_text, solution_text};
+ghost use Rattle.improvement.specs.PhaseText.{best_text, is_below, least_words, phase_text, phase_words, solution_text};
 
 use crate::phase_run::{EndedPhase, steps_each};
 use fixture_board::Board;
@@ -38,7 +37,10 @@ fn write_line<W: Sink>(
     out: &mut BufferedSink<'_, W>,
     workers: u32,
     ended: &EndedPhase,
-) -> Result<(), WriteFault> {
+) -> Result<(), WriteFault>
+    requires { 1 ≤ workers }
+    ensures { Writes W.held W.tally out.old out.new result (phase_words workers (run_of ended.now)) }
+{
     let phase = ended.phase;
     let steps = u64::from(workers) * u64::from(steps_each(phase.steps, workers));
     write_pieces(
@@ -96,7 +98,10 @@ fn write_best<W: Sink>(
     out: &mut BufferedSink<'_, W>,
     board: &Board,
     total: u64,
-) -> Result<(), WriteFault> {
+) -> Result<(), WriteFault>
+    ensures { Writes W.held W.tally out.old out.new result
+        (best_text board.now.league board.now.history total) }
+{
     write_sheet(out, best_or_present(board), board.league())?;
     write_pieces(
         out,

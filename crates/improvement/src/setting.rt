@@ -36,6 +36,7 @@ impl<T, G> Setting<'_, T, G> {
 }
 
 /// The room of a board on which all phases together have so many steps. Far fewer of them than a 64th are accepted.
+#[tactic(auto, unfolding(crate::specs::Runs::room_of))]
 fn room_of(effort: u32) -> u32
     ensures value { result ≡ room_of effort }
     ensures most { result ≤ max_room }
