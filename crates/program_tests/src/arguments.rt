@@ -4,7 +4,8 @@
 use crate::checks::{check_holds, check_same, check_same_of};
 use crate::distinct::are_distinct;
 use clap::error::ErrorKind::{
-    self, ArgumentConflict, DisplayHelp, DisplayVersion, InvalidSubcommand, InvalidValue, MissingSubcommand, OutOfMemory, UnknownArgument, ValueValidation,
+    self, ArgumentConflict, DisplayHelp, DisplayVersion, InvalidSubcommand, InvalidValue,
+    MissingSubcommand, OutOfMemory, UnknownArgument, ValueValidation,
 };
 use command_line::{Format, Job, SearchPlan, args};
 use std::alloc::{AllocError, Global};
@@ -49,39 +50,74 @@ const PLAIN: SearchPlan = SearchPlan {
     slack: 0,
 };
 
-const fn search(room: u32, workers: u32, seed: u64, steps: u32, slack: u64) -> Answer {
-    let plan = SearchPlan {
-        workers,
-        seed,
-        steps,
-        slack,
-    };
-    Ok(Job::Find { room, plan })
-}
-
-const fn play(room: u32) -> Answer {
-    Ok(Job::Play { room })
-}
-
 const JOBS: &[Row<'_>] = &[
     (&["ttp", "start"], Ok(Job::Start)),
-    (&["ttp", "play"], play(1024)),
-    (&["ttp", "play", "--room", "0"], play(0)),
-    (&["ttp", "play", "--room", "7"], play(7)),
-    (&["ttp", "play", "--room=1048576"], play(1_048_576)),
-    (&["ttp", "search"], search(1024, 2, 1, 1000, 0)),
-    (&["ttp", "search", "--room", "0"], search(0, 2, 1, 1000, 0)),
+    (&["ttp", "play"], Ok(Job::Play { room: 1024 })),
+    (&["ttp", "play", "--room", "0"], Ok(Job::Play { room: 0 })),
+    (&["ttp", "play", "--room", "7"], Ok(Job::Play { room: 7 })),
+    (
+        &["ttp", "play", "--room=1048576"],
+        Ok(Job::Play { room: 1_048_576 }),
+    ),
+    (
+        &["ttp", "search"],
+        Ok(Job::Find {
+            room: 1024,
+            plan: SearchPlan {
+                workers: 2,
+                seed: 1,
+                steps: 1000,
+                slack: 0,
+            },
+        }),
+    ),
+    (
+        &["ttp", "search", "--room", "0"],
+        Ok(Job::Find {
+            room: 0,
+            plan: SearchPlan {
+                workers: 2,
+                seed: 1,
+                steps: 1000,
+                slack: 0,
+            },
+        }),
+    ),
     (
         &["ttp", "search", "--workers", "1", "--steps=0"],
-        search(1024, 1, 1, 0, 0),
+        Ok(Job::Find {
+            room: 1024,
+            plan: SearchPlan {
+                workers: 1,
+                seed: 1,
+                steps: 0,
+                slack: 0,
+            },
+        }),
     ),
     (
         &["ttp", "search", "--seed", "0"],
-        search(1024, 2, 0, 1000, 0),
+        Ok(Job::Find {
+            room: 1024,
+            plan: SearchPlan {
+                workers: 2,
+                seed: 0,
+                steps: 1000,
+                slack: 0,
+            },
+        }),
     ),
     (
         &["ttp", "search", "--slack", "7", "--seed", "8"],
-        search(1024, 2, 8, 1000, 7),
+        Ok(Job::Find {
+            room: 1024,
+            plan: SearchPlan {
+                workers: 2,
+                seed: 8,
+                steps: 1000,
+                slack: 7,
+            },
+        }),
     ),
     (
         &[
@@ -93,7 +129,15 @@ const JOBS: &[Row<'_>] = &[
             "--workers=16",
             "--room=1048576",
         ],
-        search(1_048_576, 16, u64::MAX, 1_000_000, u64::MAX),
+        Ok(Job::Find {
+            room: 1_048_576,
+            plan: SearchPlan {
+                workers: 16,
+                seed: u64::MAX,
+                steps: 1_000_000,
+                slack: u64::MAX,
+            },
+        }),
     ),
     (&["ttp", "report"], Ok(Job::Report(Format::Text))),
     (
@@ -121,21 +165,51 @@ const ENDS: &[Row<'_>] = &[
     (&["ttp", "stop"], Err((InvalidSubcommand, 2))),
     (&["ttp", "start", "now"], Err((UnknownArgument, 2))),
     (&["ttp", "start", "--room", "3"], Err((UnknownArgument, 2))),
-    (&["ttp", "play", "--room", "1048577"], Err((ValueValidation, 2))),
-    (&["ttp", "play", "--room", "many"], Err((ValueValidation, 2))),
+    (
+        &["ttp", "play", "--room", "1048577"],
+        Err((ValueValidation, 2)),
+    ),
+    (
+        &["ttp", "play", "--room", "many"],
+        Err((ValueValidation, 2)),
+    ),
     (&["ttp", "play", "--room"], Err((InvalidValue, 2))),
-    (&["ttp", "search", "--workers", "0"], Err((ValueValidation, 2))),
-    (&["ttp", "search", "--workers", "17"], Err((ValueValidation, 2))),
-    (&["ttp", "search", "--steps", "1000001"], Err((ValueValidation, 2))),
-    (&["ttp", "search", "--room", "1048577"], Err((ValueValidation, 2))),
-    (&["ttp", "search", "--seed", "18446744073709551616"], Err((ValueValidation, 2))),
+    (
+        &["ttp", "search", "--workers", "0"],
+        Err((ValueValidation, 2)),
+    ),
+    (
+        &["ttp", "search", "--workers", "17"],
+        Err((ValueValidation, 2)),
+    ),
+    (
+        &["ttp", "search", "--steps", "1000001"],
+        Err((ValueValidation, 2)),
+    ),
+    (
+        &["ttp", "search", "--room", "1048577"],
+        Err((ValueValidation, 2)),
+    ),
+    (
+        &["ttp", "search", "--seed", "18446744073709551616"],
+        Err((ValueValidation, 2)),
+    ),
     (&["ttp", "search", "--slack=-1"], Err((ValueValidation, 2))),
-    (&["ttp", "report", "--format", "pdf"], Err((InvalidValue, 2))),
+    (
+        &["ttp", "report", "--format", "pdf"],
+        Err((InvalidValue, 2)),
+    ),
     (&["ttp", "report", "--format=CSV"], Err((InvalidValue, 2))),
     (&["ttp", "report", "--format="], Err((InvalidValue, 2))),
     (&["ttp", "report", "--format"], Err((InvalidValue, 2))),
-    (&["ttp", "report", "--format=csv", "--format=csv"], Err((ArgumentConflict, 2))),
-    (&["ttp", "start", "--format", "csv"], Err((UnknownArgument, 2))),
+    (
+        &["ttp", "report", "--format=csv", "--format=csv"],
+        Err((ArgumentConflict, 2)),
+    ),
+    (
+        &["ttp", "start", "--format", "csv"],
+        Err((UnknownArgument, 2)),
+    ),
     (&["ttp", "--help"], Err((DisplayHelp, 0))),
     (&["ttp", "play", "--help"], Err((DisplayHelp, 0))),
     (&["ttp", "search", "--help"], Err((DisplayHelp, 0))),
@@ -155,13 +229,12 @@ fn wrong_command_lines_end_with_two_and_help_and_version_with_zero(
     check_answers(&rt, rt.alloc(), ENDS)
 }
 
-const fn search_of(plan: SearchPlan) -> Job {
-    Job::Find { room: 8, plan }
-}
-
 /// Jobs that differ in one number each.
 const DISTINCT: [Job; 12] = [
-    search_of(PLAIN),
+    Job::Find {
+        room: 8,
+        plan: PLAIN,
+    },
     Job::Start,
     Job::Play { room: 8 },
     Job::Play { room: 9 },
@@ -169,16 +242,28 @@ const DISTINCT: [Job; 12] = [
         room: 9,
         plan: PLAIN,
     },
-    search_of(SearchPlan {
-        workers: 3,
-        ..PLAIN
-    }),
-    search_of(SearchPlan { seed: 2, ..PLAIN }),
-    search_of(SearchPlan {
-        steps: 1001,
-        ..PLAIN
-    }),
-    search_of(SearchPlan { slack: 1, ..PLAIN }),
+    Job::Find {
+        room: 8,
+        plan: SearchPlan {
+            workers: 3,
+            ..PLAIN
+        },
+    },
+    Job::Find {
+        room: 8,
+        plan: SearchPlan { seed: 2, ..PLAIN },
+    },
+    Job::Find {
+        room: 8,
+        plan: SearchPlan {
+            steps: 1001,
+            ..PLAIN
+        },
+    },
+    Job::Find {
+        room: 8,
+        plan: SearchPlan { slack: 1, ..PLAIN },
+    },
     Job::Report(Format::Text),
     Job::Report(Format::Csv),
     Job::Report(Format::Html),
@@ -194,7 +279,15 @@ const OF_EACH_KIND: &[Row<'_>] = &[
     (&["ttp", "start"], Ok(Job::Start)),
     (
         &["ttp", "search", "--workers=16", "--slack", "7"],
-        search(1024, 16, 1, 1000, 7),
+        Ok(Job::Find {
+            room: 1024,
+            plan: SearchPlan {
+                workers: 16,
+                seed: 1,
+                steps: 1000,
+                slack: 7,
+            },
+        }),
     ),
     (&["ttp", "play", "--room=x"], Err((ValueValidation, 2))),
     (

@@ -89,14 +89,14 @@ fn check_single_bytes<T: Threads + Wait + Sync + Abort>(
     case: &Case<'_>,
     (before_reads, before_writes): (usize, usize),
 ) -> Result<(), Fail> {
-    let input = case.input.concat(alloc)?;
-    let text = case.text.parts().concat(alloc)?;
+    let (command, input, answer, text) = *case;
+    let (input, text) = (input.concat(alloc)?, text.parts().concat(alloc)?);
     let reads = bytes_after(alloc, input.len(), before_reads)?;
     let writes = bytes_after(alloc, text.len(), before_writes)?;
-    let ended = ended(rt, alloc, case.command, (input.as_bytes(), &reads), &writes)?;
+    let ended = run_by(rt, alloc, command, (input.as_bytes(), &reads), &writes)?;
     let found = (ended.answer, ended.writes, ended.text.as_slice());
-    let wanted = (case.answer, writes.len() as u64, text.as_bytes());
-    check_same_of(rt, &case.command, &found, &wanted);
+    let wanted = (answer, writes.len() as u64, text.as_bytes());
+    check_same_of(rt, &command, &found, &wanted);
     Ok(())
 }
 
@@ -129,7 +129,7 @@ fn check_failed_read<T: Threads + Wait + Sync + Abort>(
 ) -> Result<(), Fail> {
     let mut steps = bytes_after(alloc, read, 0)?;
     steps.push(Step::Failed)?;
-    let ended = ended(rt, alloc, command, (input, &steps), &[])?;
+    let ended = run_by(rt, alloc, command, (input, &steps), &[])?;
     let found = (ended.answer, ended.reads, ended.writes);
     let wanted = (Err(ProgramFault::Read), steps.len() as u64, 0);
     check_same_of(rt, &(command, read), &found, &wanted);
@@ -141,10 +141,11 @@ fn check_failed_reads<T: Threads + Wait + Sync + Abort>(
     alloc: Global,
     case: &Case<'_>,
 ) -> Result<(), Fail> {
-    let input = case.input.concat(alloc)?;
+    let (command, input, _, _) = *case;
+    let input = input.concat(alloc)?;
     // the last of them finds the end
     for read in 0..=input.len() {
-        check_failed_read(rt, alloc, case.command, input.as_bytes(), read)?;
+        check_failed_read(rt, alloc, command, input.as_bytes(), read)?;
     }
     Ok(())
 }
@@ -188,8 +189,8 @@ fn check_interrupted<T: Threads + Wait + Sync + Abort>(rt: &T, alloc: Global, co
 
 #[test]
 fn each_command_gives_up_on_reads_that_are_all_interrupted(rt: HostRuntime) {
-    for case in &SAMPLES {
-        check_interrupted(&rt, rt.alloc(), case.command);
+    for (command, ..) in &SAMPLES {
+        check_interrupted(&rt, rt.alloc(), *command);
     }
 }
 
@@ -203,7 +204,7 @@ fn check_front<T: Threads + Wait + Sync + Abort>(
 ) -> Result<(), Fail> {
     let mut steps = bytes_after(alloc, front.len(), 0)?;
     steps.extend_from_slice(last)?;
-    let ended = ended(rt, alloc, command, (input, &[]), &steps)?;
+    let ended = run_by(rt, alloc, command, (input, &[]), &steps)?;
     let found = (ended.answer, ended.writes, ended.text.as_slice());
     let wanted = (Err(ProgramFault::Write), steps.len() as u64, front);
     check_same_of(rt, &command, &found, &wanted);
@@ -216,9 +217,9 @@ fn check_failed_writes<T: Threads + Wait + Sync + Abort>(
     alloc: Global,
     case: &Case<'_>,
 ) -> Result<(), Fail> {
-    let input = case.input.concat(alloc)?;
-    let text = case.text.parts().concat(alloc)?;
-    let told = (case.command, input.as_bytes());
+    let (command, input, _, text) = *case;
+    let (input, text) = (input.concat(alloc)?, text.parts().concat(alloc)?);
+    let told = (command, input.as_bytes());
     for length in 0..text.len() {
         let front = &text.as_bytes()[..length];
         check_front(rt, alloc, told, front, &[Step::Failed])?;
@@ -240,9 +241,9 @@ fn check_stuck_writes<T: Threads + Wait + Sync + Abort>(
     alloc: Global,
     case: &Case<'_>,
 ) -> Result<(), Fail> {
-    let input = case.input.concat(alloc)?;
-    let text = case.text.parts().concat(alloc)?;
-    let told = (case.command, input.as_bytes());
+    let (command, input, _, text) = *case;
+    let (input, text) = (input.concat(alloc)?, text.parts().concat(alloc)?);
+    let told = (command, input.as_bytes());
     let last = text.len().saturating_sub(1);
     for length in [0, 1, last / 2, last] {
         let front = text.as_bytes().get(..length).ok_or("a longer text")?;
@@ -275,7 +276,7 @@ fn check_no_write<T: Threads + Wait + Sync + Abort>(
     command: Command,
     (input, fault): (&[u8], ProgramFault),
 ) -> Result<(), Fail> {
-    let ended = ended(rt, alloc, command, (input, &[]), &[])?;
+    let ended = run_by(rt, alloc, command, (input, &[]), &[])?;
     let found = (ended.answer, ended.writes);
     check_same_of(rt, &command, &found, &(Err(fault), 0));
     Ok(())
@@ -297,8 +298,8 @@ fn check_no_writes<T: Threads + Wait + Sync + Abort>(
 #[test]
 fn no_command_writes_before_a_fault_of_its_input(rt: HostRuntime) -> Result<(), Fail> {
     let blanks = vec![in rt.alloc(); b' '; 4_194_305]?;
-    for case in &SAMPLES {
-        check_no_writes(&rt, rt.alloc(), case.command, &blanks)?;
+    for (command, ..) in &SAMPLES {
+        check_no_writes(&rt, rt.alloc(), *command, &blanks)?;
     }
     Ok(())
 }

@@ -4,7 +4,8 @@ use crate::checks::{check_holds, check_same};
 use crate::circle::{CIRCLE, SHEET};
 use crate::judged_schedules::{DAMAGED, FAULTS};
 use crate::samples::{JUDGED, PAGE, TABLE};
-use crate::told::{Case, Command, Text, check_cases, reported, told};
+use crate::told::Text::{Excerpt, Whole};
+use crate::told::{Case, Command, Text, check_cases, tell};
 use commands::{Format, ProgramFault, Verdict, report};
 use csv::{ByteRecord, ReaderBuilder};
 use std::alloc::Global;
@@ -16,16 +17,31 @@ use std::thread::Threads;
 use streams::{MemorySink, MemorySource, RehearsedSink, Step};
 
 /// The faults of a damaged schedule, as text whatever the format.
-const FAULTS_ALONE: Text<'_> = Text::Whole(&[FAULTS]);
+const FAULTS_ALONE: Text<'_> = Whole(&[FAULTS]);
 
 const DAMAGE: &[&str] = &[CIRCLE, JUDGED, DAMAGED];
 
 const CASES: &[Case<'_>] = &[
     TABLE,
     PAGE,
-    reported(Format::Text, DAMAGE, Verdict::Infeasible, FAULTS_ALONE),
-    reported(Format::Csv, DAMAGE, Verdict::Infeasible, FAULTS_ALONE),
-    reported(Format::Html, DAMAGE, Verdict::Infeasible, FAULTS_ALONE),
+    (
+        Command::Report(Format::Text),
+        DAMAGE,
+        Ok(Some(Verdict::Infeasible)),
+        FAULTS_ALONE,
+    ),
+    (
+        Command::Report(Format::Csv),
+        DAMAGE,
+        Ok(Some(Verdict::Infeasible)),
+        FAULTS_ALONE,
+    ),
+    (
+        Command::Report(Format::Html),
+        DAMAGE,
+        Ok(Some(Verdict::Infeasible)),
+        FAULTS_ALONE,
+    ),
 ];
 
 #[test]
@@ -69,7 +85,7 @@ fn marked<T: Threads + Wait + Sync + Abort>(
     format: Format,
 ) -> Result<Vec<u8>, Fail> {
     let input = [MARKED, JUDGED, SHEET].concat(alloc)?;
-    let told = told(rt, alloc, Command::Report(format), input.as_bytes())?;
+    let told = tell(rt, alloc, Command::Report(format), input.as_bytes())?;
     check_same(rt, &told.answer, &Ok(Some(Verdict::Feasible)));
     Ok(told.text)
 }
@@ -98,16 +114,16 @@ fn table_with_any_names_is_read_back(rt: HostRuntime) -> Result<(), Fail> {
 }
 
 /// Parts of a page with those names, and what none has.
-const ESCAPED: Text<'_> = Text::Excerpt {
-    begins: "",
-    within: &[
+const ESCAPED: Text<'_> = Excerpt(
+    "",
+    &[
         "<th>1 a, b</th>",
         "<th>2 say &quot;c&quot;</th>",
         "<th>3 &lt;script&gt;d&lt;/script&gt;</th>",
         "<th>4 &quot;&#39; onload=&#39;&amp;lt;</th>",
     ],
-    ends: "",
-};
+    "",
+);
 
 const BREAKING_OUT: [&str; 4] = ["<script", "' onload", "\"c", "4 &lt;"];
 
@@ -144,8 +160,9 @@ fn check_front(
 
 #[test]
 fn page_leaves_a_front_wherever_a_write_fails(rt: HostRuntime) -> Result<(), Fail> {
-    let input = PAGE.input.concat(rt.alloc())?;
-    let page = told(&rt, rt.alloc(), PAGE.command, input.as_bytes())?;
+    let (command, parts, _, _) = PAGE;
+    let input = parts.concat(rt.alloc())?;
+    let page = tell(&rt, rt.alloc(), command, input.as_bytes())?;
     for length in (1..page.text.len()).step_by(100) {
         check_front(&rt, rt.alloc(), input.as_str(), &page.text, length)?;
     }

@@ -3,19 +3,12 @@
 
 use crate::circle::{CIRCLE, SHEET};
 use crate::samples::{COST, JUDGED, REPORT};
-use crate::told::{Case, Command, Text, check_case, check_cases, refused, reported};
+use crate::told::Text::Whole;
+use crate::told::{Case, Command, NOTHING, TEXT_REPORT, Text, check_case, check_cases};
 use commands::ProgramFault::{League, NoSheet};
 use commands::{Format, Verdict};
 use league::LeagueFault::NotJson;
 use std::test::Fail;
-
-const fn feasible<'a>(input: &'a [&'a str], parts: &'a [&'a str]) -> Case<'a> {
-    reported(Format::Text, input, Verdict::Feasible, Text::Whole(parts))
-}
-
-const fn infeasible<'a>(input: &'a [&'a str], parts: &'a [&'a str]) -> Case<'a> {
-    reported(Format::Text, input, Verdict::Infeasible, Text::Whole(parts))
-}
 
 /// The lines of the start in another order, with other blanks and line ends.
 const REORDERED: &str =
@@ -117,26 +110,56 @@ pub(crate) const FAULTS: &str = "bad line 4\n\
     no double round robin\n";
 
 /// A bad line behind the lines of the start, and what it is told.
-const AFTER_A_BAD_LINE: Case<'_> = infeasible(
+const AFTER_A_BAD_LINE: Case<'_> = (
+    TEXT_REPORT,
     &[CIRCLE, JUDGED, SHEET, "round 18446744073709551616: 1-2\n"],
-    &["bad line 12\n", "no double round robin\n"],
+    Ok(Some(Verdict::Infeasible)),
+    Whole(&["bad line 12\n", "no double round robin\n"]),
 );
 
 const CASES: &[Case<'_>] = &[
-    feasible(&[CIRCLE, JUDGED, REORDERED], &[SHEET, COST]),
-    infeasible(
-        &[CIRCLE, JUDGED, REPEATING],
-        &[REPEATING, COST_OF_REPEATING],
+    (
+        TEXT_REPORT,
+        &[CIRCLE, JUDGED, REORDERED],
+        Ok(Some(Verdict::Feasible)),
+        Whole(&[SHEET, COST]),
     ),
-    infeasible(&[PHASED, JUDGED, HALVED], &[HALVED, COST_OF_HALVED]),
-    infeasible(&[RULED, JUDGED, SHEET], &[SHEET, COST_UNDER_RULES]),
-    infeasible(&[CIRCLE, JUDGED, DAMAGED], &[FAULTS]),
+    (
+        TEXT_REPORT,
+        &[CIRCLE, JUDGED, REPEATING],
+        Ok(Some(Verdict::Infeasible)),
+        Whole(&[REPEATING, COST_OF_REPEATING]),
+    ),
+    (
+        TEXT_REPORT,
+        &[PHASED, JUDGED, HALVED],
+        Ok(Some(Verdict::Infeasible)),
+        Whole(&[HALVED, COST_OF_HALVED]),
+    ),
+    (
+        TEXT_REPORT,
+        &[RULED, JUDGED, SHEET],
+        Ok(Some(Verdict::Infeasible)),
+        Whole(&[SHEET, COST_UNDER_RULES]),
+    ),
+    (
+        TEXT_REPORT,
+        &[CIRCLE, JUDGED, DAMAGED],
+        Ok(Some(Verdict::Infeasible)),
+        Whole(&[FAULTS]),
+    ),
     AFTER_A_BAD_LINE,
-    refused(Command::Report(Format::Text), &[CIRCLE], NoSheet),
-    refused(
+    (
+        Command::Report(Format::Text),
+        &[CIRCLE],
+        Err(NoSheet),
+        NOTHING,
+    ),
+    (
         Command::Report(Format::Text),
         &["sheet\n"],
-        League(NotJson),
+        Err(League(NotJson)),
+        NOTHING,
     ),
 ];
 

@@ -4,7 +4,8 @@
 use crate::checks::{check_holds, check_same};
 use crate::closings::{closing, script};
 use crate::samples::SCRIPT;
-use crate::told::{Case, Command, PLAY_OF_1024, Text, check_case, told};
+use crate::told::Text::Excerpt;
+use crate::told::{Command, PLAY_OF_1024, Text, WRITTEN, check_case, tell};
 use commands::SearchPlan;
 use std::alloc::{AllocError, Global};
 use std::process::Abort;
@@ -93,44 +94,33 @@ const LEAGUES: [(&str, u8, &str, &str, &str); 2] = [
 fn the_largest_leagues_have_exact_costs(rt: HostRuntime) -> Result<(), Fail> {
     for (kind, at_most, begins, ends, _) in LEAGUES {
         let league = largest(rt.alloc(), kind, at_most)?;
-        let case = Case {
-            command: PLAY_OF_1024,
-            input: &[league.as_str(), SCRIPT, LINES],
-            answer: Ok(None),
-            text: Text::Excerpt {
-                begins,
-                within: &[],
-                ends,
-            },
-        };
+        let input = [league.as_str(), SCRIPT, LINES];
+        let text = Excerpt(begins, &[], ends);
+        let case = (PLAY_OF_1024, input.as_slice(), WRITTEN, text);
         check_case(&rt, rt.alloc(), &case)?;
     }
     Ok(())
 }
 
 /// Lines of its sheet.
-const SHEET: Text<'_> = Text::Excerpt {
-    begins: "league 40 teams 78 rounds\n",
-    within: &[
-    "team 40 AHAHAHAHAHAHAHAHAHAHAHAHAHAHAHAHAHAHAHAHAHAHAHAHAHAHAHAHAHAHAHAHAHAHAHAHAHAHAH \
+const SHEET: Text<'_> = Excerpt(
+    "league 40 teams 78 rounds\n",
+    &[
+        "team 40 AHAHAHAHAHAHAHAHAHAHAHAHAHAHAHAHAHAHAHAHAHAHAHAHAHAHAHAHAHAHAHAHAHAHAHAHAHAHAH \
     0123456789012345678901234567890123456789\n",
-    "\nround 1: 1-40 2-39 3-38 4-37 5-36 6-35 7-34 8-33 9-32 10-31 11-30 12-29 13-28 14-27 15-26 16-25 17-24 18-23 \
+        "\nround 1: 1-40 2-39 3-38 4-37 5-36 6-35 7-34 8-33 9-32 10-31 11-30 12-29 13-28 14-27 15-26 16-25 17-24 18-23 \
     19-22 20-21\n",
-    "\nround 78: 1-39 2-38 3-37 4-36 5-35 6-34 7-33 8-32 9-31 10-30 11-29 12-28 13-27 14-26 15-25 16-24 17-23 18-22 \
+        "\nround 78: 1-39 2-38 3-37 4-36 5-35 6-34 7-33 8-32 9-31 10-30 11-29 12-28 13-27 14-26 15-25 16-24 17-23 18-22 \
     19-21 40-20\n",
     ],
-    ends: "",
-};
+    "",
+);
 
 #[test]
 fn the_largest_league_has_a_start(rt: HostRuntime) -> Result<(), Fail> {
     let league = largest(rt.alloc(), "hard", 1)?;
-    let case = Case {
-        command: Command::Start,
-        input: &[league.as_str()],
-        answer: Ok(None),
-        text: SHEET,
-    };
+    let input = [league.as_str()];
+    let case = (Command::Start, input.as_slice(), WRITTEN, SHEET);
     check_case(&rt, rt.alloc(), &case)
 }
 
@@ -153,7 +143,7 @@ fn check_played_again<T: Threads + Wait + Sync + Abort>(
     history: &str,
 ) -> Result<(), Fail> {
     let input = [league, SCRIPT, script(history)].concat(alloc)?;
-    let played = told(rt, alloc, Command::Play { room: 64 }, input.as_bytes())?;
+    let played = tell(rt, alloc, Command::Play { room: 64 }, input.as_bytes())?;
     let Some((again, _)) = closing(&played.text) else {
         return Err(Fail::new("no history"));
     };
@@ -169,12 +159,8 @@ fn check_search<T: Threads + Wait + Sync + Abort>(
     league: &str,
     best: &str,
 ) -> Result<(), Fail> {
-    let found = told(rt, alloc, SIX_STEPS, league.as_bytes())?;
-    let text = Text::Excerpt {
-        begins: "",
-        within: &[" refused 0\n", best],
-        ends: "",
-    };
+    let found = tell(rt, alloc, SIX_STEPS, league.as_bytes())?;
+    let text = Excerpt("", &[" refused 0\n", best], "");
     check_holds(rt, &best, text.is_told(&found.text));
     let Some((history, _)) = closing(&found.text) else {
         return Err(Fail::new("no history"));

@@ -5,7 +5,7 @@
 
 use crate::checks::check_holds;
 use crate::samples::{FIND, PAGE, PLAY, START, TABLE};
-use crate::told::{Case, Told, check_case, told};
+use crate::told::{Case, Told, check_case, tell};
 use commands::ProgramFault;
 use std::alloc::{AllocError, Global};
 use std::process::Abort;
@@ -19,8 +19,9 @@ fn told_of<T: Threads + Wait + Sync>(
     alloc: Global,
     case: &Case<'_>,
 ) -> Result<Told, AllocError> {
-    let input = case.input.concat(alloc)?;
-    told(rt, alloc, case.command, input.as_bytes())
+    let (command, input, _, _) = *case;
+    let input = input.concat(alloc)?;
+    tell(rt, alloc, command, input.as_bytes())
 }
 
 /// The command writes its text, or answers one of the faults and writes nothing.
@@ -34,8 +35,9 @@ fn check_refused<T: Threads + Wait + Sync + Abort>(
     let Ok(told) = told_of(rt, alloc, case) else {
         return;
     };
+    let (_, _, _, text) = *case;
     let is_right = match told.answer {
-        Ok(_) => case.text.is_told(&told.text),
+        Ok(_) => text.is_told(&told.text),
         Err(fault) => faults.contains(&fault) && told.calls == 0,
     };
     check_holds(rt, &told.answer, is_right);

@@ -3,7 +3,8 @@
 use crate::checks::check_same;
 use crate::circle::CIRCLE;
 use crate::samples::{self, SCRIPT};
-use crate::told::{Case, Command, PLAY_OF_1024, Text, check_cases, played, refused, told};
+use crate::told::Text::Excerpt;
+use crate::told::{Case, Command, NOTHING, PLAY_OF_1024, Text, WRITTEN, check_cases, tell};
 use commands::ProgramFault;
 use league::LeagueFault;
 use std::test::Fail;
@@ -15,28 +16,87 @@ const TOO_MUCH: Command = Command::Play { room: 1_048_577 };
 /// The answers where no line follows the line `script`, and where one exchanges homes.
 const NO_LINES: &str = "start travel 30 hard 0 soft 0\nhistory 0\n";
 
-const ONE_LINE: &str =
-    "start travel 30 hard 0 soft 0\ndone 1 travel 26 hard 0 soft 0\nhistory 1\n";
+const ONE_LINE: &str = "start travel 30 hard 0 soft 0\ndone 1 travel 26 hard 0 soft 0\nhistory 1\n";
 
 const CASES: &[Case<'_>] = &[
     samples::PLAY,
     // the first fault
-    refused(TOO_MUCH, &[""], NO_JSON),
-    refused(TOO_MUCH, &[CIRCLE], ProgramFault::Room),
+    (TOO_MUCH, &[""], Err(NO_JSON), NOTHING),
+    (TOO_MUCH, &[CIRCLE], Err(ProgramFault::Room), NOTHING),
     // the line `script` ends in a carriage return and a line feed, in a line feed, or with the input
-    played(&[CIRCLE, "\nscript\nhomes 1 2\n"], ONE_LINE, &[], ""),
-    played(&[CIRCLE, "\nscript\r\nhomes 1 2\r\n"], ONE_LINE, &[], ""),
-    played(&[CIRCLE, "\r\nscript\r\nhomes 1 2"], ONE_LINE, &[], ""),
-    played(&[CIRCLE, "\nscript"], NO_LINES, &[], ""),
-    played(&[CIRCLE, "\nscript\r\n"], NO_LINES, &[], ""),
+    (
+        PLAY_OF_1024,
+        &[CIRCLE, "\nscript\nhomes 1 2\n"],
+        WRITTEN,
+        Excerpt(ONE_LINE, &[], ""),
+    ),
+    (
+        PLAY_OF_1024,
+        &[CIRCLE, "\nscript\r\nhomes 1 2\r\n"],
+        WRITTEN,
+        Excerpt(ONE_LINE, &[], ""),
+    ),
+    (
+        PLAY_OF_1024,
+        &[CIRCLE, "\r\nscript\r\nhomes 1 2"],
+        WRITTEN,
+        Excerpt(ONE_LINE, &[], ""),
+    ),
+    (
+        PLAY_OF_1024,
+        &[CIRCLE, "\nscript"],
+        WRITTEN,
+        Excerpt(NO_LINES, &[], ""),
+    ),
+    (
+        PLAY_OF_1024,
+        &[CIRCLE, "\nscript\r\n"],
+        WRITTEN,
+        Excerpt(NO_LINES, &[], ""),
+    ),
     // none of these is the line `script`, so that it belongs to the league's text
-    refused(PLAY_OF_1024, &[CIRCLE, "\nscript \nundo\n"], NO_JSON),
-    refused(PLAY_OF_1024, &[CIRCLE, "\n script\nundo\n"], NO_JSON),
-    refused(PLAY_OF_1024, &[CIRCLE, "\nscript\t\nundo\n"], NO_JSON),
-    refused(PLAY_OF_1024, &[CIRCLE, "\nScript\nundo\n"], NO_JSON),
-    refused(PLAY_OF_1024, &[CIRCLE, "\nscripts\nundo\n"], NO_JSON),
-    refused(PLAY_OF_1024, &[CIRCLE, "\nscript\r\r\nundo\n"], NO_JSON),
-    refused(PLAY_OF_1024, &[CIRCLE, "\nscript\0\nundo\n"], NO_JSON),
+    (
+        PLAY_OF_1024,
+        &[CIRCLE, "\nscript \nundo\n"],
+        Err(NO_JSON),
+        NOTHING,
+    ),
+    (
+        PLAY_OF_1024,
+        &[CIRCLE, "\n script\nundo\n"],
+        Err(NO_JSON),
+        NOTHING,
+    ),
+    (
+        PLAY_OF_1024,
+        &[CIRCLE, "\nscript\t\nundo\n"],
+        Err(NO_JSON),
+        NOTHING,
+    ),
+    (
+        PLAY_OF_1024,
+        &[CIRCLE, "\nScript\nundo\n"],
+        Err(NO_JSON),
+        NOTHING,
+    ),
+    (
+        PLAY_OF_1024,
+        &[CIRCLE, "\nscripts\nundo\n"],
+        Err(NO_JSON),
+        NOTHING,
+    ),
+    (
+        PLAY_OF_1024,
+        &[CIRCLE, "\nscript\r\r\nundo\n"],
+        Err(NO_JSON),
+        NOTHING,
+    ),
+    (
+        PLAY_OF_1024,
+        &[CIRCLE, "\nscript\0\nundo\n"],
+        Err(NO_JSON),
+        NOTHING,
+    ),
 ];
 
 #[test]
@@ -48,18 +108,18 @@ const HOSTILE: &[u8] =
     b"homes 1 0\nhomes 1 256\npin 0 1 4\npin 1 1 1\nhomes 1 18446744073709551616\n  homes 1 2 \t\r\n\
     HOMES 1 2\n\xff\nscript\n";
 
-const TOLD_OF_HOSTILE: Text<'_> = Text::Excerpt {
-    begins: "start travel 30 hard 0 soft 0\nno 0 bad move\nno 0 bad move\nno 0 bad game\nno 0 bad game\n\
+const TOLD_OF_HOSTILE: Text<'_> = Excerpt(
+    "start travel 30 hard 0 soft 0\nno 0 bad move\nno 0 bad move\nno 0 bad game\nno 0 bad game\n\
         bad line 5\ndone 1 travel 26 hard 0 soft 0\nbad line 7\nbad line 8\nbad line 9\n\
         history 1\nhomes 1 2\nend\n",
-    within: &[],
-    ends: "best 26 at 1\n",
-};
+    &[],
+    "best 26 at 1\n",
+);
 
 #[test]
 fn hostile_lines_are_told_and_change_nothing(rt: HostRuntime) -> Result<(), Fail> {
     let parts = [CIRCLE.as_bytes(), SCRIPT.as_bytes(), HOSTILE];
-    let told = told(&rt, rt.alloc(), PLAY_OF_1024, &parts.concat(rt.alloc())?)?;
+    let told = tell(&rt, rt.alloc(), PLAY_OF_1024, &parts.concat(rt.alloc())?)?;
     check_same(&rt, &TOLD_OF_HOSTILE.is_told(&told.text), &true);
     Ok(())
 }

@@ -2,7 +2,7 @@
 
 use crate::checks::{check_same, check_same_of};
 use crate::circle::CIRCLE;
-use crate::told::{Command, told};
+use crate::told::{Command, tell};
 use commands::{ProgramFault, ProgressLine, SearchPlan, find_with};
 use search::{Gate, Progress};
 use std::alloc::{AllocError, Global};
@@ -196,11 +196,7 @@ fn check_showing<R: Wait + Abort>(rt: &R, showing: &Showing<'_>) {
     let mut memory = MemorySink::new(&mut room);
     let mut terminal = RehearsedSink::new(&mut memory, showing.writes);
     let clock = Ticks::new(showing.step);
-    tell_all(
-        rt,
-        &ProgressLine::new(&clock, &mut terminal, PLAN),
-        showing,
-    );
+    tell_all(rt, &ProgressLine::new(&clock, &mut terminal, PLAN), showing);
     let is_quiet = terminal.tally().calls == 0;
     let found = (memory.held(), is_quiet);
     let wanted = (showing.shown.as_bytes(), showing.shown.is_empty());
@@ -245,7 +241,7 @@ fn found<T: Threads + Wait + Sync>(rt: &T, alloc: Global) -> Result<Vec<u8>, All
         room: ROOM,
         plan: PLAN_OF_ONE,
     };
-    Ok(told(rt, alloc, command, CIRCLE.as_bytes())?.text)
+    Ok(tell(rt, alloc, command, CIRCLE.as_bytes())?.text)
 }
 
 /// The versions and totals are those of `PAUSE=1 scripts/worker-steps asks 1 0 4 4 4 100000`.

@@ -1,7 +1,8 @@
 //! A case of each command, whose text is known, and the parts that other tests share.
 
 use crate::circle::{CIRCLE, SHEET};
-use crate::told::{Case, Command, Text, reported, written};
+use crate::told::Text::{Excerpt, Whole};
+use crate::told::{Case, Command, Text, WRITTEN};
 use commands::{Format, SearchPlan, Verdict};
 
 /// The line between a league and a script.
@@ -10,13 +11,14 @@ pub(crate) const SCRIPT: &str = "\nscript\n";
 /// The line between a league and a schedule.
 pub(crate) const JUDGED: &str = "\nsheet\n";
 
-pub(crate) const START: Case<'_> = written(Command::Start, &[CIRCLE], &[SHEET]);
+pub(crate) const START: Case<'_> = (Command::Start, &[CIRCLE], WRITTEN, Whole(&[SHEET]));
 
 /// A change that is undone.
-pub(crate) const PLAY: Case<'_> = written(
+pub(crate) const PLAY: Case<'_> = (
     Command::Play { room: 8 },
     &[CIRCLE, SCRIPT, "homes 1 2\nundo\n"],
-    &[
+    WRITTEN,
+    Whole(&[
         "start travel 30 hard 0 soft 0\n\
         done 1 travel 26 hard 0 soft 0\n\
         done 2 travel 30 hard 0 soft 0\n\
@@ -26,7 +28,7 @@ pub(crate) const PLAY: Case<'_> = written(
         end\n",
         SHEET,
         "best 26 at 1\n",
-    ],
+    ]),
 );
 
 pub(crate) const NO_STEPS: SearchPlan = SearchPlan {
@@ -37,13 +39,14 @@ pub(crate) const NO_STEPS: SearchPlan = SearchPlan {
 };
 
 /// A search without a step.
-pub(crate) const FIND: Case<'_> = written(
+pub(crate) const FIND: Case<'_> = (
     Command::Find {
         room: 8,
         plan: NO_STEPS,
     },
     &[CIRCLE],
-    &[
+    WRITTEN,
+    Whole(&[
         "workers 2 steps 0 seed 7\n\
         worker 1 made 0 accepted 0 refused 0\n\
         worker 2 made 0 accepted 0 refused 0\n\
@@ -51,7 +54,7 @@ pub(crate) const FIND: Case<'_> = written(
         end\n",
         SHEET,
         "best 30 at 0\n",
-    ],
+    ]),
 );
 
 /// The start's cost. The figures are those of scripts/apart.py, which shares no code with the crates.
@@ -63,12 +66,20 @@ pub(crate) const COST: &str = "travel 30 hard 0 soft 0\n\
     total 30\n";
 
 /// The start judged.
-pub(crate) const REPORT: Case<'_> = judged(Format::Text, Text::Whole(&[SHEET, COST]));
+pub(crate) const REPORT: Case<'_> = (
+    Command::Report(Format::Text),
+    &[CIRCLE, JUDGED, SHEET],
+    Ok(Some(Verdict::Feasible)),
+    Whole(&[SHEET, COST]),
+);
 
 /// The games of the start as CSV.
-pub(crate) const TABLE: Case<'_> = judged(
-    Format::Csv,
-    Text::Whole(&["round,home,home name,away,away name\n\
+pub(crate) const TABLE: Case<'_> = (
+    Command::Report(Format::Csv),
+    &[CIRCLE, JUDGED, SHEET],
+    Ok(Some(Verdict::Feasible)),
+    Whole(&[
+        "round,home,home name,away,away name\n\
         1,1,T1,4,T4\n\
         1,2,T2,3,T3\n\
         2,1,T1,2,T2\n\
@@ -80,15 +91,18 @@ pub(crate) const TABLE: Case<'_> = judged(
         5,2,T2,1,T1\n\
         5,3,T3,4,T4\n\
         6,1,T1,3,T3\n\
-        6,4,T4,2,T2\n"]),
+        6,4,T4,2,T2\n",
+    ]),
 );
 
 /// The page of the start: its figures, its first row, and the bar of its first team.
-pub(crate) const PAGE: Case<'_> = judged(
-    Format::Html,
-    Text::Excerpt {
-        begins: "<!DOCTYPE html>",
-        within: &[
+pub(crate) const PAGE: Case<'_> = (
+    Command::Report(Format::Html),
+    &[CIRCLE, JUDGED, SHEET],
+    Ok(Some(Verdict::Feasible)),
+    Excerpt(
+        "<!DOCTYPE html>",
+        &[
             "<h1>4 teams, 6 rounds</h1>",
             "<li>travel <b>30</b></li><li>hard <b>0</b></li><li>soft <b>0</b></li><li>total <b>30</b></li>",
             "<th>1</th><th>2</th><th>3</th><th>4</th><th>5</th><th>6</th>",
@@ -96,11 +110,6 @@ pub(crate) const PAGE: Case<'_> = judged(
             <td class=''>@2</td><td class='h'>3</td>",
             "<th>1 T1</th><td>6</td>",
         ],
-        ends: "</body></html>\n",
-    },
+        "</body></html>\n",
+    ),
 );
-
-/// The start judged in a format.
-const fn judged(format: Format, text: Text<'_>) -> Case<'_> {
-    reported(format, &[CIRCLE, JUDGED, SHEET], Verdict::Feasible, text)
-}

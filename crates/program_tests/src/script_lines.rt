@@ -7,15 +7,6 @@ use fixtures::Game;
 use moves::Move;
 use texts::{ScriptLine, next_line, parse_line, split_input};
 
-/// The move that a line asks for.
-const fn shift(mv: Move) -> ScriptLine {
-    ScriptLine::Asks(Change::Shift(mv))
-}
-
-const fn homes(i: u8, j: u8) -> ScriptLine {
-    shift(Move::Homes { i, j })
-}
-
 const GAME: Game = Game {
     round: 0,
     home: 0,
@@ -30,17 +21,29 @@ const LINES: &[(&[u8], ScriptLine)] = &[
     (b"# homes 1 2", ScriptLine::Skip),
     (b"#", ScriptLine::Skip),
     // moves
-    (b"homes 1 2", homes(0, 1)),
-    (b"\thomes  1\t2 ", homes(0, 1)),
-    (b"rounds 2 40", shift(Move::Rounds { k: 1, l: 39 })),
-    (b"teams 3 1", shift(Move::Teams { i: 2, j: 0 })),
+    (
+        b"homes 1 2",
+        ScriptLine::Asks(Change::Shift(Move::Homes { i: 0, j: 1 })),
+    ),
+    (
+        b"\thomes  1\t2 ",
+        ScriptLine::Asks(Change::Shift(Move::Homes { i: 0, j: 1 })),
+    ),
+    (
+        b"rounds 2 40",
+        ScriptLine::Asks(Change::Shift(Move::Rounds { k: 1, l: 39 })),
+    ),
+    (
+        b"teams 3 1",
+        ScriptLine::Asks(Change::Shift(Move::Teams { i: 2, j: 0 })),
+    ),
     (
         b"part-rounds 1 2 3",
-        shift(Move::PartRounds { i: 0, k: 1, l: 2 }),
+        ScriptLine::Asks(Change::Shift(Move::PartRounds { i: 0, k: 1, l: 2 })),
     ),
     (
         b"part-teams 1 2 3",
-        shift(Move::PartTeams { i: 0, j: 1, k: 2 }),
+        ScriptLine::Asks(Change::Shift(Move::PartTeams { i: 0, j: 1, k: 2 })),
     ),
     // pins and undos
     (b"pin 1 1 4", ScriptLine::Asks(Change::Pin(GAME))),
@@ -54,10 +57,22 @@ const LINES: &[(&[u8], ScriptLine)] = &[
     ),
     (b"slack 00000000000000000007", ScriptLine::Slack(7)),
     // numbers that are no place are handed on as 255
-    (b"homes 1 0", homes(0, 255)),
-    (b"homes 1 256", homes(0, 255)),
-    (b"homes 1 255", homes(0, 254)),
-    (b"homes 1 18446744073709551615", homes(0, 255)),
+    (
+        b"homes 1 0",
+        ScriptLine::Asks(Change::Shift(Move::Homes { i: 0, j: 255 })),
+    ),
+    (
+        b"homes 1 256",
+        ScriptLine::Asks(Change::Shift(Move::Homes { i: 0, j: 255 })),
+    ),
+    (
+        b"homes 1 255",
+        ScriptLine::Asks(Change::Shift(Move::Homes { i: 0, j: 254 })),
+    ),
+    (
+        b"homes 1 18446744073709551615",
+        ScriptLine::Asks(Change::Shift(Move::Homes { i: 0, j: 255 })),
+    ),
     // bad lines
     (b"homes 1 18446744073709551616", ScriptLine::Bad),
     (b"homes 1 99999999999999999999", ScriptLine::Bad),
@@ -89,7 +104,7 @@ const DISTINCT: [ScriptLine; 6] = [
     ScriptLine::Slack(0),
     ScriptLine::Slack(1),
     ScriptLine::Asks(Change::Undo),
-    homes(0, 1),
+    ScriptLine::Asks(Change::Shift(Move::Homes { i: 0, j: 1 })),
     ScriptLine::Bad,
 ];
 

@@ -4,7 +4,7 @@ use crate::checks::{check_holds, check_same, check_same_of};
 use crate::circle::CIRCLE;
 use crate::closings::{closing, script};
 use crate::samples::{FIND, NO_STEPS, SCRIPT};
-use crate::told::{Case, Command, check_cases, refused, told};
+use crate::told::{Case, Command, NOTHING, check_cases, tell};
 use commands::{ProgramFault, SearchPlan, find};
 use league::LeagueFault;
 use std::alloc::{AllocError, Global};
@@ -20,28 +20,60 @@ fn search_without_steps_writes_the_start(rt: HostRuntime) -> Result<(), Fail> {
     let mut sink = MemorySink::new(&mut room);
     let source = MemorySource::new(CIRCLE.as_bytes());
     find(&rt, rt.alloc(), source, &mut sink, 1024, NO_STEPS)?;
-    check_same(&rt, &FIND.text.is_told(sink.held()), &true);
+    let (_, _, _, text) = FIND;
+    check_same(&rt, &text.is_told(sink.held()), &true);
     Ok(())
-}
-
-/// A search without a step by so many workers.
-const fn by(workers: u32, room: u32) -> Command {
-    let plan = SearchPlan {
-        workers,
-        ..NO_STEPS
-    };
-    Command::Find { room, plan }
 }
 
 /// The first fault is answered.
 const FAULTS: &[Case<'_>] = &[
-    refused(by(0, 1_048_577), &[CIRCLE], ProgramFault::Room),
-    refused(by(0, 1024), &[CIRCLE], ProgramFault::Workers),
-    refused(by(17, 1024), &[CIRCLE], ProgramFault::Workers),
-    refused(
-        by(0, 1024),
+    (
+        Command::Find {
+            room: 1_048_577,
+            plan: SearchPlan {
+                workers: 0,
+                ..NO_STEPS
+            },
+        },
+        &[CIRCLE],
+        Err(ProgramFault::Room),
+        NOTHING,
+    ),
+    (
+        Command::Find {
+            room: 1024,
+            plan: SearchPlan {
+                workers: 0,
+                ..NO_STEPS
+            },
+        },
+        &[CIRCLE],
+        Err(ProgramFault::Workers),
+        NOTHING,
+    ),
+    (
+        Command::Find {
+            room: 1024,
+            plan: SearchPlan {
+                workers: 17,
+                ..NO_STEPS
+            },
+        },
+        &[CIRCLE],
+        Err(ProgramFault::Workers),
+        NOTHING,
+    ),
+    (
+        Command::Find {
+            room: 1024,
+            plan: SearchPlan {
+                workers: 0,
+                ..NO_STEPS
+            },
+        },
         &[""],
-        ProgramFault::League(LeagueFault::NotJson),
+        Err(ProgramFault::League(LeagueFault::NotJson)),
+        NOTHING,
     ),
 ];
 
@@ -63,7 +95,7 @@ fn searched<T: Threads + Wait + Sync>(
         slack: 30,
     };
     let command = Command::Find { room: 2048, plan };
-    Ok(told(rt, alloc, command, CIRCLE.as_bytes())?.text)
+    Ok(tell(rt, alloc, command, CIRCLE.as_bytes())?.text)
 }
 
 /// The history of a text and its last line, which is the best version.
@@ -81,7 +113,7 @@ fn played<T: Threads + Wait + Sync>(
 ) -> Result<Vec<u8>, AllocError> {
     let input = [CIRCLE, SCRIPT, script(history)].concat(alloc)?;
     let command = Command::Play { room: 2048 };
-    Ok(told(rt, alloc, command, input.as_bytes())?.text)
+    Ok(tell(rt, alloc, command, input.as_bytes())?.text)
 }
 
 /// The search's history isn't empty, and leads to the same history and best when it is played as a script. The best costs
@@ -98,7 +130,12 @@ fn check_played_again<T: Threads + Wait + Sync + Abort>(
     check_holds(rt, &history, history != "0");
     check_holds(rt, &best, best.starts_with("2"));
     let again = played(rt, alloc, history)?;
-    check_same_of(rt, &workers, &history_and_best(&again), &Some((history, best)));
+    check_same_of(
+        rt,
+        &workers,
+        &history_and_best(&again),
+        &Some((history, best)),
+    );
     Ok(())
 }
 

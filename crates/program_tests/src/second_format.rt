@@ -2,18 +2,22 @@
 
 use crate::circle::SHEET;
 use crate::samples::SCRIPT;
-use crate::told::{Case, Command, check_cases, played, refused, written};
+use crate::told::Text::{Excerpt, Whole};
+use crate::told::{Case, Command, NOTHING, PLAY_OF_1024, WRITTEN, check_cases};
 use commands::ProgramFault::League;
 use league::Field;
 use league::LeagueFault::{RuleClass, WrongKind};
 use std::test::Fail;
 
 /// Four teams in a circle in each format, up to the members that are told besides, and the end of the text.
-const FIRST: &str = r#"{"format":1,"teams":["T1","T2","T3","T4"],"distances":[[0,1,2,1],[1,0,1,2],[2,1,0,1],[1,2,1,0]]"#;
+const FIRST: &str =
+    r#"{"format":1,"teams":["T1","T2","T3","T4"],"distances":[[0,1,2,1],[1,0,1,2],[2,1,0,1],[1,2,1,0]]"#;
 
-const SECOND: &str = r#"{"format":2,"teams":["T1","T2","T3","T4"],"distances":[[0,1,2,1],[1,0,1,2],[2,1,0,1],[1,2,1,0]]"#;
+const SECOND: &str =
+    r#"{"format":2,"teams":["T1","T2","T3","T4"],"distances":[[0,1,2,1],[1,0,1,2],[2,1,0,1],[1,2,1,0]]"#;
 
-const THIRD: &str = r#"{"format":3,"teams":["T1","T2","T3","T4"],"distances":[[0,1,2,1],[1,0,1,2],[2,1,0,1],[1,2,1,0]]"#;
+const THIRD: &str =
+    r#"{"format":3,"teams":["T1","T2","T3","T4"],"distances":[[0,1,2,1],[1,0,1,2],[2,1,0,1],[1,2,1,0]]"#;
 
 const END: &str = "}";
 
@@ -43,17 +47,33 @@ const FIDE_SHEET: &str = "league 4 teams 6 rounds\n\
     round 5: 2-1 3-4\n\
     round 6: 1-3 4-2\n";
 
-const fn start<'a>(league: &'a [&'a str], sheet: &'a [&'a str]) -> Case<'a> {
-    written(Command::Start, league, sheet)
-}
-
 const STARTS: &[Case<'_>] = &[
-    start(&[FIRST, END], &[SHEET]),
-    start(&[FIRST, FIDE, END], &[SHEET]),
-    start(&[SECOND, END], &[SHEET]),
-    start(&[SECOND, r#","start":"plain""#, END], &[SHEET]),
-    start(&[SECOND, FIDE, END], &[FIDE_SHEET]),
-    start(&[SECOND, FIDE_AND_PHASED, END], &[FIDE_SHEET]),
+    (Command::Start, &[FIRST, END], WRITTEN, Whole(&[SHEET])),
+    (
+        Command::Start,
+        &[FIRST, FIDE, END],
+        WRITTEN,
+        Whole(&[SHEET]),
+    ),
+    (Command::Start, &[SECOND, END], WRITTEN, Whole(&[SHEET])),
+    (
+        Command::Start,
+        &[SECOND, r#","start":"plain""#, END],
+        WRITTEN,
+        Whole(&[SHEET]),
+    ),
+    (
+        Command::Start,
+        &[SECOND, FIDE, END],
+        WRITTEN,
+        Whole(&[FIDE_SHEET]),
+    ),
+    (
+        Command::Start,
+        &[SECOND, FIDE_AND_PHASED, END],
+        WRITTEN,
+        Whole(&[FIDE_SHEET]),
+    ),
 ];
 
 #[test]
@@ -62,25 +82,29 @@ fn starts_stand_in_the_order_asked_for(rt: HostRuntime) -> Result<(), Fail> {
 }
 
 const REFUSED: &[Case<'_>] = &[
-    refused(
+    (
         Command::Start,
         &[SECOND, r#","start":"FIDE""#, END],
-        League(WrongKind(Field::Start)),
+        Err(League(WrongKind(Field::Start))),
+        NOTHING,
     ),
-    refused(
+    (
         Command::Start,
         &[SECOND, r#","phased":1"#, END],
-        League(WrongKind(Field::Phased)),
+        Err(League(WrongKind(Field::Phased))),
+        NOTHING,
     ),
-    refused(
+    (
         Command::Start,
         &[THIRD, END],
-        League(WrongKind(Field::Format)),
+        Err(League(WrongKind(Field::Format))),
+        NOTHING,
     ),
-    refused(
+    (
         Command::Start,
         &[FIRST, IN_STEP, END],
-        League(RuleClass(0)),
+        Err(League(RuleClass(0))),
+        NOTHING,
     ),
 ];
 
@@ -92,83 +116,137 @@ fn leagues_are_refused_with_their_faults(rt: HostRuntime) -> Result<(), Fail> {
 /// Scripts on leagues of format 2, with the lines before the history and the last line.
 const PLAYS: &[Case<'_>] = &[
     // the order of the start
-    played(
+    (
+        PLAY_OF_1024,
         &[SECOND, FIDE, END, SCRIPT],
-        "start travel 30 hard 0 soft 0\nhistory ",
-        &[],
-        "best 30 at 0\n",
+        WRITTEN,
+        Excerpt(
+            "start travel 30 hard 0 soft 0\nhistory ",
+            &[],
+            "best 30 at 0\n",
+        ),
     ),
-    played(
+    (
+        PLAY_OF_1024,
         &[SECOND, FIDE_TWO_IN_A_ROW, END, SCRIPT],
-        "start travel 30 hard 0 soft 0\nhistory ",
-        &[],
-        "best 30 at 0\n",
+        WRITTEN,
+        Excerpt(
+            "start travel 30 hard 0 soft 0\nhistory ",
+            &[],
+            "best 30 at 0\n",
+        ),
     ),
-    played(
+    (
+        PLAY_OF_1024,
         &[SECOND, r#","at_most":2"#, END, SCRIPT],
-        "start travel 30 hard 2 soft 0\nhistory ",
-        &[],
-        "best none\n",
+        WRITTEN,
+        Excerpt(
+            "start travel 30 hard 2 soft 0\nhistory ",
+            &[],
+            "best none\n",
+        ),
     ),
-    played(
+    (
+        PLAY_OF_1024,
         &[SECOND, FIDE, END, SCRIPT, "rounds 2 3"],
-        "start travel 30 hard 0 soft 0\ndone 1 travel 30 hard 0 soft 0\nhistory ",
-        &[],
-        "best 30 at 0\n",
+        WRITTEN,
+        Excerpt(
+            "start travel 30 hard 0 soft 0\ndone 1 travel 30 hard 0 soft 0\nhistory ",
+            &[],
+            "best 30 at 0\n",
+        ),
     ),
     // how far home games may be apart
-    played(
+    (
+        PLAY_OF_1024,
         &[SECOND, IN_STEP, END, SCRIPT, "homes 1 2"],
-        "start travel 30 hard 0 soft 10\ndone 1 travel 26 hard 0 soft 30\nhistory ",
-        &[],
-        "best 40 at 0\n",
+        WRITTEN,
+        Excerpt(
+            "start travel 30 hard 0 soft 10\ndone 1 travel 26 hard 0 soft 30\nhistory ",
+            &[],
+            "best 40 at 0\n",
+        ),
     ),
-    played(
+    (
+        PLAY_OF_1024,
         &[SECOND, FIDE_IN_STEP, END, SCRIPT],
-        "start travel 30 hard 1 soft 0\nhistory ",
-        &[],
-        "best none\n",
+        WRITTEN,
+        Excerpt(
+            "start travel 30 hard 1 soft 0\nhistory ",
+            &[],
+            "best none\n",
+        ),
     ),
     // phases
-    played(
+    (
+        PLAY_OF_1024,
         &[SECOND, END, SCRIPT, "rounds 3 4"],
-        "start travel 30 hard 0 soft 0\ndone 1 travel 26 hard 0 soft 0\nhistory ",
-        &[],
-        "best 26 at 1\n",
+        WRITTEN,
+        Excerpt(
+            "start travel 30 hard 0 soft 0\ndone 1 travel 26 hard 0 soft 0\nhistory ",
+            &[],
+            "best 26 at 1\n",
+        ),
     ),
-    played(
+    (
+        PLAY_OF_1024,
         &[SECOND, PHASED, END, SCRIPT, "rounds 3 4\nundo"],
-        "start travel 30 hard 0 soft 0\ndone 1 travel 26 hard 4 soft 0\ndone 2 travel 30 hard 0 soft 0\nhistory ",
-        &[],
-        "best 30 at 0\n",
+        WRITTEN,
+        Excerpt(
+            "start travel 30 hard 0 soft 0\ndone 1 travel 26 hard 4 soft 0\ndone 2 travel 30 hard 0 soft 0\nhistory ",
+            &[],
+            "best 30 at 0\n",
+        ),
     ),
-    played(
+    (
+        PLAY_OF_1024,
         &[SECOND, PHASED, END, SCRIPT, "slack 0\nrounds 3 4"],
-        "start travel 30 hard 0 soft 0\nslack 0\nno 0 worse\nhistory ",
-        &[],
-        "best 30 at 0\n",
+        WRITTEN,
+        Excerpt(
+            "start travel 30 hard 0 soft 0\nslack 0\nno 0 worse\nhistory ",
+            &[],
+            "best 30 at 0\n",
+        ),
     ),
-    played(
+    (
+        PLAY_OF_1024,
         &[SECOND, PHASED, END, SCRIPT, "rounds 1 2"],
-        "start travel 30 hard 0 soft 0\ndone 1 travel 28 hard 0 soft 0\nhistory ",
-        &[],
-        "best 28 at 1\n",
+        WRITTEN,
+        Excerpt(
+            "start travel 30 hard 0 soft 0\ndone 1 travel 28 hard 0 soft 0\nhistory ",
+            &[],
+            "best 28 at 1\n",
+        ),
     ),
-    played(
+    (
+        PLAY_OF_1024,
         &[SECOND, FIDE_AND_PHASED, END, SCRIPT],
-        "start travel 30 hard 0 soft 0\nhistory ",
-        &[],
-        "best 30 at 0\n",
+        WRITTEN,
+        Excerpt(
+            "start travel 30 hard 0 soft 0\nhistory ",
+            &[],
+            "best 30 at 0\n",
+        ),
     ),
     // FIDE's order with its rounds 2 and 3 exchanged is the plain start
-    played(&[SECOND, FIDE, END, SCRIPT, "rounds 2 3"], "", &[SHEET], ""),
+    (
+        PLAY_OF_1024,
+        &[SECOND, FIDE, END, SCRIPT, "rounds 2 3"],
+        WRITTEN,
+        Excerpt("", &[SHEET], ""),
+    ),
     // the first format ignores both members
-    played(&[FIRST, FIDE_AND_PHASED, END, SCRIPT], "", &[SHEET], ""),
-    played(
+    (
+        PLAY_OF_1024,
+        &[FIRST, FIDE_AND_PHASED, END, SCRIPT],
+        WRITTEN,
+        Excerpt("", &[SHEET], ""),
+    ),
+    (
+        PLAY_OF_1024,
         &[FIRST, PHASED, END, SCRIPT, "rounds 3 4"],
-        "",
-        &[],
-        "best 26 at 1\n",
+        WRITTEN,
+        Excerpt("", &[], "best 26 at 1\n"),
     ),
 ];
 

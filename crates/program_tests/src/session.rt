@@ -1,6 +1,7 @@
 //! The README's worked session: `scripts/check-readme` holds the README to these two texts.
 
-use crate::told::{Case, PLAY_OF_1024, check_case, written};
+use crate::told::Text::Whole;
+use crate::told::{Case, PLAY_OF_1024, WRITTEN, check_case};
 use std::test::Fail;
 
 const INPUT: &str = r#"{
@@ -48,7 +49,7 @@ round 6: 2-1 3-4
 best 26 at 2
 "#;
 
-const SESSION: Case<'_> = written(PLAY_OF_1024, &[INPUT], &[OUTPUT]);
+const SESSION: Case<'_> = (PLAY_OF_1024, &[INPUT], WRITTEN, Whole(&[OUTPUT]));
 
 #[test]
 fn readme_session_prints_what_it_says(rt: HostRuntime) -> Result<(), Fail> {

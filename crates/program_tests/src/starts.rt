@@ -4,7 +4,8 @@ use crate::checks::check_same;
 use crate::circle::SHEET;
 use crate::distinct::are_distinct;
 use crate::samples::START;
-use crate::told::{Case, Command, check_cases, refused, told, written};
+use crate::told::Text::Whole;
+use crate::told::{Case, Command, NOTHING, WRITTEN, check_cases, tell};
 use commands::ProgramFault::{self, League};
 use league::Field;
 use league::LeagueFault::{
@@ -17,58 +18,74 @@ use std::test::Fail;
 const CASES: &[Case<'_>] = &[
     START,
     // distances up to the limit
-    written(
+    (
         Command::Start,
         &[
             r#"{"format":1,"teams":["T1","T2","T3","T4"],"distances":[[0,1000000,1000000,1000000],
             [1000000,0,1000000,1000000],[1000000,1000000,0,1000000],[1000000,1000000,1000000,0]]}"#,
         ],
-        &[SHEET],
+        WRITTEN,
+        Whole(&[SHEET]),
     ),
     // the first fault of a league
-    fault(
+    (
+        Command::Start,
         &[r#"{"format":1,"teams":["A","B","C"],"distances":[[0,1,1],[1,0,1],[1,1,0]]}"#],
-        League(TeamCount),
+        Err(League(TeamCount)),
+        NOTHING,
     ),
-    fault(&[""], League(NotJson)),
-    fault(
+    (Command::Start, &[""], Err(League(NotJson)), NOTHING),
+    (
+        Command::Start,
         &[r#"{"format":1,"teams":["T1","T2","T3","T4"],"distanc"#],
-        League(NotJson),
+        Err(League(NotJson)),
+        NOTHING,
     ),
-    fault(
+    (
+        Command::Start,
         &[r#"{"format":1,"distances":[[0,1,2,1],[1,0,1,2],[2,1,0,1],[1,2,1,0]]}"#],
-        League(MissingField(Field::Teams)),
+        Err(League(MissingField(Field::Teams))),
+        NOTHING,
     ),
-    fault(
+    (
+        Command::Start,
         &[
             r#"{"format":1,"teams":["T1","T2","T3","T4"],"distances":[[0,1,2,1],[1,0,1,2],[2,1,0,1]]}"#,
         ],
-        League(DistanceShape),
+        Err(League(DistanceShape)),
+        NOTHING,
     ),
-    fault(
+    (
+        Command::Start,
         &[
             r#"{"format":1,"teams":["T1","T2","T3","T4"],"distances":[[0,1,2,1],[1,1,1,2],[2,1,0,1],[1,2,1,0]]}"#,
         ],
-        League(Diagonal),
+        Err(League(Diagonal)),
+        NOTHING,
     ),
-    fault(
+    (
+        Command::Start,
         &[
             r#"{"format":1,"teams":["T1","T2","T3","T4"],"distances":[[0,2,2,1],[1,0,1,2],[2,1,0,1],[1,2,1,0]]}"#,
         ],
-        League(Asymmetric),
+        Err(League(Asymmetric)),
+        NOTHING,
     ),
-    fault(
+    (
+        Command::Start,
         &[
             r#"{"format":3,"teams":["T1","T2","T3","T4"],"distances":[[0,1,2,1],[1,0,1,2],[2,1,0,1],[1,2,1,0]]}"#,
         ],
-        League(WrongKind(Field::Format)),
+        Err(League(WrongKind(Field::Format))),
+        NOTHING,
     ),
-    fault(&["[]"], League(WrongKind(Field::Whole))),
+    (
+        Command::Start,
+        &["[]"],
+        Err(League(WrongKind(Field::Whole))),
+        NOTHING,
+    ),
 ];
-
-const fn fault<'a>(league: &'a [&'a str], fault: ProgramFault) -> Case<'a> {
-    refused(Command::Start, league, fault)
-}
 
 #[test]
 fn start_writes_a_sheet_or_names_the_first_fault(rt: HostRuntime) -> Result<(), Fail> {
@@ -79,12 +96,8 @@ fn start_writes_a_sheet_or_names_the_first_fault(rt: HostRuntime) -> Result<(), 
 #[test]
 fn start_reads_a_text_up_to_the_limit(rt: HostRuntime) -> Result<(), Fail> {
     let blanks = vec![in rt.alloc(); b' '; 4_194_304]?;
-    let told = told(&rt, rt.alloc(), Command::Start, &blanks)?;
-    check_same(
-        &rt,
-        &(told.answer, told.calls),
-        &(Err(League(NotJson)), 0),
-    );
+    let told = tell(&rt, rt.alloc(), Command::Start, &blanks)?;
+    check_same(&rt, &(told.answer, told.calls), &(Err(League(NotJson)), 0));
     Ok(())
 }
 

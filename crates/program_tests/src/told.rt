@@ -18,11 +18,17 @@ pub(crate) enum Command {
     Report(Format),
 }
 
+/// A report in the form of text.
+pub(crate) const TEXT_REPORT: Command = Command::Report(Format::Text);
+
 /// A play with the room that it has by default.
 pub(crate) const PLAY_OF_1024: Command = Command::Play { room: 1024 };
 
 /// What a command answers. A report has a verdict.
 pub(crate) type Answer = Result<Option<Verdict>, ProgramFault>;
+
+/// The answer of a command that isn't a report, and wrote its text.
+pub(crate) const WRITTEN: Answer = Ok(None);
 
 impl Command {
     fn run<T: Threads + Wait + Sync, W: Sink>(
@@ -75,13 +81,12 @@ pub(crate) fn told<T: Threads + Wait + Sync>(
 pub(crate) enum Text<'a> {
     /// These parts, one after another.
     Whole(&'a [&'a str]),
-    /// A text that begins and ends so, and has these parts somewhere.
-    Excerpt {
-        begins: &'a str,
-        within: &'a [&'a str],
-        ends: &'a str,
-    },
+    /// A text that begins with the first, has the parts somewhere, and ends with the last.
+    Excerpt(&'a str, &'a [&'a str], &'a str),
 }
+
+/// No text.
+pub(crate) const NOTHING: Text<'_> = Text::Whole(&[]);
 
 impl<'a> Text<'a> {
     pub(crate) fn is_told(self, text: &[u8]) -> bool {
@@ -90,11 +95,9 @@ impl<'a> Text<'a> {
         };
         match self {
             Text::Whole(parts) => is_made_of(text, parts),
-            Text::Excerpt {
-                begins,
-                within,
-                ends,
-            } => text.starts_with(begins) && missing(text, within).is_none() && text.ends_with(ends),
+            Text::Excerpt(first, parts, last) => {
+                text.starts_with(first) && missing(text, parts).is_none() && text.ends_with(last)
+            }
         }
     }
 
@@ -102,7 +105,7 @@ impl<'a> Text<'a> {
     pub(crate) fn parts(self) -> &'a [&'a str] {
         match self {
             Text::Whole(parts) => parts,
-            Text::Excerpt { .. } => &[],
+            Text::Excerpt(..) => &[],
         }
     }
 }
@@ -130,89 +133,22 @@ pub(crate) fn missing<'a>(text: &str, parts: &[&'a str]) -> Option<&'a str> {
 }
 
 /// A command, its input in parts, what it answers, and what it writes.
-#[derive(Clone, Copy, Debug)]
-pub(crate) struct Case<'a> {
-    pub(crate) command: Command,
-    pub(crate) input: &'a [&'a str],
-    pub(crate) answer: Answer,
-    pub(crate) text: Text<'a>,
-}
-
-/// A case of a command that writes all of a text.
-pub(crate) const fn written<'a>(
-    command: Command,
-    input: &'a [&'a str],
-    parts: &'a [&'a str],
-) -> Case<'a> {
-    Case {
-        command,
-        input,
-        answer: Ok(None),
-        text: Text::Whole(parts),
-    }
-}
-
-/// A case of a report in a format, with its verdict.
-pub(crate) const fn reported<'a>(
-    format: Format,
-    input: &'a [&'a str],
-    verdict: Verdict,
-    text: Text<'a>,
-) -> Case<'a> {
-    Case {
-        command: Command::Report(format),
-        input,
-        answer: Ok(Some(verdict)),
-        text,
-    }
-}
-
-/// A case of a command that answers a fault and writes nothing.
-pub(crate) const fn refused<'a>(
-    command: Command,
-    input: &'a [&'a str],
-    fault: ProgramFault,
-) -> Case<'a> {
-    Case {
-        command,
-        input,
-        answer: Err(fault),
-        text: Text::Whole(&[]),
-    }
-}
-
-/// A case of a play, of which the text is known in part.
-pub(crate) const fn played<'a>(
-    input: &'a [&'a str],
-    begins: &'a str,
-    within: &'a [&'a str],
-    ends: &'a str,
-) -> Case<'a> {
-    Case {
-        command: PLAY_OF_1024,
-        input,
-        answer: Ok(None),
-        text: Text::Excerpt {
-            begins,
-            within,
-            ends,
-        },
-    }
-}
+pub(crate) type Case<'a> = (Command, &'a [&'a str], Answer, Text<'a>);
 
 pub(crate) fn check_case<T: Threads + Wait + Sync + Abort>(
     rt: &T,
     alloc: Global,
     case: &Case<'_>,
 ) -> Result<(), Fail> {
-    let input = case.input.concat(alloc)?;
-    let told = told(rt, alloc, case.command, input.as_bytes())?;
-    let is_told = case.text.is_told(&told.text);
+    let (command, input, answer, text) = *case;
+    let bytes = input.concat(alloc)?;
+    let told = tell(rt, alloc, command, bytes.as_bytes())?;
+    let is_told = text.is_told(&told.text);
     // a sink that took nothing was never called
     let is_quiet = told.text.is_empty();
     let found = (told.answer, is_told, told.calls == 0);
-    let about = (case, str::from_utf8(&told.text));
-    check_same_of(rt, &about, &found, &(case.answer, true, is_quiet));
+    let about = (command, input, str::from_utf8(&told.text));
+    check_same_of(rt, &about, &found, &(answer, true, is_quiet));
     Ok(())
 }
 

@@ -5,7 +5,8 @@ use crate::checks::check_same_of;
 use crate::circle::{CIRCLE, SHEET};
 use crate::closings::{closing, script};
 use crate::samples::SCRIPT;
-use crate::told::{Case, Command, Told, check_cases, played, told};
+use crate::told::Text::Excerpt;
+use crate::told::{Case, Command, PLAY_OF_1024, Told, WRITTEN, check_cases, tell};
 use std::alloc::{AllocError, Global};
 use std::process::Abort;
 use std::sync::Wait;
@@ -37,69 +38,257 @@ const TEN: &str =
     [4,3,2,1,0,1,2,3,4,5],[5,4,3,2,1,0,1,2,3,4],[4,5,4,3,2,1,0,1,2,3],[3,4,5,4,3,2,1,0,1,2],
     [2,3,4,5,4,3,2,1,0,1],[1,2,3,4,5,4,3,2,1,0]]}"#;
 
-/// A play on a board with so little room.
-const fn full<'a>(
-    room: u32,
-    input: &'a [&'a str],
-    begins: &'a str,
-    within: &'a [&'a str],
-    ends: &'a str,
-) -> Case<'a> {
-    Case {
-        command: Command::Play { room },
-        ..played(input, begins, within, ends)
-    }
-}
-
 /// Leagues, each with a script of moves.
 const MOVES: &[Case<'_>] = &[
-    played(&[CIRCLE, SCRIPT, "homes 1 2\n"], "start travel 30 hard 0 soft 0\ndone 1 travel 26 hard 0 soft 0\nhistory 1\nhomes 1 2\nend\n", &["round 2: 2-1 4-3\n", "round 5: 1-2 3-4\n"], "best 26 at 1\n"),
-    played(&[CIRCLE, SCRIPT, "slack 0\nrounds 2 4\n"], "start travel 30 hard 0 soft 0\nslack 0\nno 0 worse\nhistory 0\nend\n", &[SHEET], "best 30 at 0\n"),
-    played(&[CIRCLE, SCRIPT, "rounds 2 4\n"], "start travel 30 hard 0 soft 0\ndone 1 travel 30 hard 4 soft 0\nhistory 1\n", &["round 2: 3-2 4-1\n", "round 4: 1-2 4-3\n"], "best 30 at 0\n"),
-    played(&[CIRCLE, SCRIPT, "rounds 1 3\n"], "start travel 30 hard 0 soft 0\ndone 1 travel 32 hard 2 soft 0\n", &["round 1: 2-4 3-1\n", "round 3: 1-4 2-3\n"], "best 30 at 0\n"),
-    played(&[CIRCLE, SCRIPT, "teams 1 2\n"], "start travel 30 hard 0 soft 0\ndone 1 travel 26 hard 0 soft 0\n", &[
-            "round 1: 1-3 2-4\nround 2: 1-2 4-3\nround 3: 1-4 3-2\nround 4: 3-1 4-2\nround 5: 2-1 3-4\nround 6: 2-3 4-1\n",
-        ], "best 26 at 1\n"),
-    played(&[CIRCLE, SCRIPT, "part-rounds 1 1 4\n"], "start travel 30 hard 0 soft 0\ndone 1 travel 30 hard 0 soft 0\n", &["round 1: 2-3 4-1\n", "round 4: 1-4 3-2\n"], "best 30 at 0\n"),
-    played(&[CIRCLE, SCRIPT, "part-teams 1 3 1\npart-teams 1 3 3\n"], "start travel 30 hard 0 soft 0\ndone 1 travel 28 hard 4 soft 0\nno 1 meet\n", &["history 1\npart-teams 1 3 1\nend\n"], "best 30 at 0\n"),
-    played(&[CIRCLE, SCRIPT, "part-teams 1 3 3\n"], "start travel 30 hard 0 soft 0\nno 0 meet\nhistory 0\nend\n", &[SHEET], "best 30 at 0\n"),
-    played(&[CIRCLE, SCRIPT, "rounds 5 6\n"], "start travel 30 hard 0 soft 0\ndone 1 travel 28 hard 0 soft 0\n", &["round 5: 1-3 4-2\n", "round 6: 2-1 3-4\n"], "best 28 at 1\n"),
-    played(&[CIRCLE, SCRIPT, "homes 1 2\nteams 1 2\n"], "start travel 30 hard 0 soft 0\ndone 1 travel 26 hard 0 soft 0\ndone 2 travel 26 hard 0 soft 0\n", &["history 2\nhomes 1 2\nteams 1 2\nend\n"], "best 26 at 1\n"),
-    played(&[SIX, SCRIPT, "part-teams 1 4 1"], "start travel 102 hard 0 soft 0\ndone 1 travel 96 hard 2 soft 0\n", &[
+    (
+        PLAY_OF_1024,
+        &[CIRCLE, SCRIPT, "homes 1 2\n"],
+        WRITTEN,
+        Excerpt(
+            "start travel 30 hard 0 soft 0\ndone 1 travel 26 hard 0 soft 0\nhistory 1\nhomes 1 2\nend\n",
+            &["round 2: 2-1 4-3\n", "round 5: 1-2 3-4\n"],
+            "best 26 at 1\n",
+        ),
+    ),
+    (
+        PLAY_OF_1024,
+        &[CIRCLE, SCRIPT, "slack 0\nrounds 2 4\n"],
+        WRITTEN,
+        Excerpt(
+            "start travel 30 hard 0 soft 0\nslack 0\nno 0 worse\nhistory 0\nend\n",
+            &[SHEET],
+            "best 30 at 0\n",
+        ),
+    ),
+    (
+        PLAY_OF_1024,
+        &[CIRCLE, SCRIPT, "rounds 2 4\n"],
+        WRITTEN,
+        Excerpt(
+            "start travel 30 hard 0 soft 0\ndone 1 travel 30 hard 4 soft 0\nhistory 1\n",
+            &["round 2: 3-2 4-1\n", "round 4: 1-2 4-3\n"],
+            "best 30 at 0\n",
+        ),
+    ),
+    (
+        PLAY_OF_1024,
+        &[CIRCLE, SCRIPT, "rounds 1 3\n"],
+        WRITTEN,
+        Excerpt(
+            "start travel 30 hard 0 soft 0\ndone 1 travel 32 hard 2 soft 0\n",
+            &["round 1: 2-4 3-1\n", "round 3: 1-4 2-3\n"],
+            "best 30 at 0\n",
+        ),
+    ),
+    (
+        PLAY_OF_1024,
+        &[CIRCLE, SCRIPT, "teams 1 2\n"],
+        WRITTEN,
+        Excerpt(
+            "start travel 30 hard 0 soft 0\ndone 1 travel 26 hard 0 soft 0\n",
+            &[
+                "round 1: 1-3 2-4\nround 2: 1-2 4-3\nround 3: 1-4 3-2\nround 4: 3-1 4-2\nround 5: 2-1 3-4\nround 6: 2-3 4-1\n",
+            ],
+            "best 26 at 1\n",
+        ),
+    ),
+    (
+        PLAY_OF_1024,
+        &[CIRCLE, SCRIPT, "part-rounds 1 1 4\n"],
+        WRITTEN,
+        Excerpt(
+            "start travel 30 hard 0 soft 0\ndone 1 travel 30 hard 0 soft 0\n",
+            &["round 1: 2-3 4-1\n", "round 4: 1-4 3-2\n"],
+            "best 30 at 0\n",
+        ),
+    ),
+    (
+        PLAY_OF_1024,
+        &[CIRCLE, SCRIPT, "part-teams 1 3 1\npart-teams 1 3 3\n"],
+        WRITTEN,
+        Excerpt(
+            "start travel 30 hard 0 soft 0\ndone 1 travel 28 hard 4 soft 0\nno 1 meet\n",
+            &["history 1\npart-teams 1 3 1\nend\n"],
+            "best 30 at 0\n",
+        ),
+    ),
+    (
+        PLAY_OF_1024,
+        &[CIRCLE, SCRIPT, "part-teams 1 3 3\n"],
+        WRITTEN,
+        Excerpt(
+            "start travel 30 hard 0 soft 0\nno 0 meet\nhistory 0\nend\n",
+            &[SHEET],
+            "best 30 at 0\n",
+        ),
+    ),
+    (
+        PLAY_OF_1024,
+        &[CIRCLE, SCRIPT, "rounds 5 6\n"],
+        WRITTEN,
+        Excerpt(
+            "start travel 30 hard 0 soft 0\ndone 1 travel 28 hard 0 soft 0\n",
+            &["round 5: 1-3 4-2\n", "round 6: 2-1 3-4\n"],
+            "best 28 at 1\n",
+        ),
+    ),
+    (
+        PLAY_OF_1024,
+        &[CIRCLE, SCRIPT, "homes 1 2\nteams 1 2\n"],
+        WRITTEN,
+        Excerpt(
+            "start travel 30 hard 0 soft 0\ndone 1 travel 26 hard 0 soft 0\ndone 2 travel 26 hard 0 soft 0\n",
+            &["history 2\nhomes 1 2\nteams 1 2\nend\n"],
+            "best 26 at 1\n",
+        ),
+    ),
+    (
+        PLAY_OF_1024,
+        &[SIX, SCRIPT, "part-teams 1 4 1"],
+        WRITTEN,
+        Excerpt(
+            "start travel 102 hard 0 soft 0\ndone 1 travel 96 hard 2 soft 0\n",
+            &[
                 "round 1: 2-5 3-1 4-6\n",
                 "round 3: 1-5 2-6 3-4\n",
                 "round 7: 1-6 2-4 3-5\n",
                 "round 10: 2-1 4-5 6-3\n",
                 "history 1\npart-teams 1 4 1\nend\n",
-            ], "best 102 at 0\n"),
-    played(&[TEN, SCRIPT, "part-rounds 1 1 4"], "start travel 480 hard 0 soft 0\ndone 1 travel 470 hard 0 soft 0\n", &[
+            ],
+            "best 102 at 0\n",
+        ),
+    ),
+    (
+        PLAY_OF_1024,
+        &[TEN, SCRIPT, "part-rounds 1 1 4"],
+        WRITTEN,
+        Excerpt(
+            "start travel 480 hard 0 soft 0\ndone 1 travel 470 hard 0 soft 0\n",
+            &[
                 "round 1: 1-4 2-9 3-8 5-6 10-7\n",
                 "round 4: 1-10 2-3 4-7 8-6 9-5\n",
                 "history 1\npart-rounds 1 1 4\nend\n",
-            ], "best 470 at 1\n"),
+            ],
+            "best 470 at 1\n",
+        ),
+    ),
 ];
 
 /// Pins, undos, limits, rules and full boards.
 const BOARDS: &[Case<'_>] = &[
-    played(&[CIRCLE, SCRIPT, "pin 1 1 4\nrounds 1 2\nteams 1 2\nhomes 2 3\npin 1 1 4\nunpin 1 4 1\nunpin 4 4 1\n"], "start travel 30 hard 0 soft 0\ndone 1 travel 30 hard 0 soft 0\nno 1 pinned\nno 1 pinned\n\
-        done 2 travel 30 hard 0 soft 0\nno 2 already pinned\nno 2 not there\nno 2 not pinned\n", &[
-            "history 2\npin 1 1 4\nhomes 2 3\nend\n",
-            "round 1: 1-4 3-2\n",
-        ], "best 30 at 0\n"),
-    played(&[CIRCLE, SCRIPT, "pin 1 1 4\nundo\nrounds 1 2\n"], "start travel 30 hard 0 soft 0\ndone 1 travel 30 hard 0 soft 0\n\
-        done 2 travel 30 hard 0 soft 0\ndone 3 travel 28 hard 0 soft 0\n", &[
-            "history 3\npin 1 1 4\nundo\nrounds 1 2\nend\n",
-            "round 1: 1-2 4-3\n",
-        ], "best 28 at 3\n"),
-    played(&[CIRCLE, SCRIPT, "homes 1 2\nundo\nteams 1 2\n"], "start travel 30 hard 0 soft 0\ndone 1 travel 26 hard 0 soft 0\n\
-        done 2 travel 30 hard 0 soft 0\ndone 3 travel 26 hard 0 soft 0\n", &["history 3\nhomes 1 2\nundo\nteams 1 2\nend\n"], "best 26 at 1\n"),
-    played(&[CIRCLE, SCRIPT, "\n# note\nhomes 1\nhomes 1 1\nundo"], "start travel 30 hard 0 soft 0\nbad line 3\nno 0 bad move\nno 0 nothing to undo\nhistory 0\nend\n", &[SHEET], "best 30 at 0\n"),
-    played(&[AT_MOST_TWO, SCRIPT, "rounds 5 6\nundo\n"], "start travel 30 hard 2 soft 0\ndone 1 travel 28 hard 0 soft 0\ndone 2 travel 30 hard 2 soft 0\n", &[SHEET], "best 28 at 1\n"),
-    played(&[AT_MOST_TWO, SCRIPT, ""], "start travel 30 hard 2 soft 0\nhistory 0\nend\n", &[SHEET], "best none\n"),
-    played(&[SOFT_RULES, SCRIPT, "homes 1 2\n"], "start travel 30 hard 0 soft 60\ndone 1 travel 26 hard 0 soft 110\n", &["history 1\nhomes 1 2\nend\n"], "best 90 at 0\n"),
-    full(0, &[FAR, SCRIPT, "homes 1 2\n"], "start travel 21000000 hard 0 soft 0\nno 0 full\nhistory 0\nend\n", &[SHEET], "best 21000000 at 0\n"),
-    full(0, &[CIRCLE, SCRIPT, "homes 1 2\n"], "start travel 30 hard 0 soft 0\nno 0 full\nhistory 0\nend\n", &[SHEET], "best 30 at 0\n"),
-    full(1, &[CIRCLE, SCRIPT, "homes 1 2\nhomes 1 2\nundo\n"], "start travel 30 hard 0 soft 0\ndone 1 travel 26 hard 0 soft 0\nno 1 full\nno 1 full\n", &["history 1\nhomes 1 2\nend\n"], "best 26 at 1\n"),
+    (
+        PLAY_OF_1024,
+        &[
+            CIRCLE,
+            SCRIPT,
+            "pin 1 1 4\nrounds 1 2\nteams 1 2\nhomes 2 3\npin 1 1 4\nunpin 1 4 1\nunpin 4 4 1\n",
+        ],
+        WRITTEN,
+        Excerpt(
+            "start travel 30 hard 0 soft 0\ndone 1 travel 30 hard 0 soft 0\nno 1 pinned\nno 1 pinned\n\
+        done 2 travel 30 hard 0 soft 0\nno 2 already pinned\nno 2 not there\nno 2 not pinned\n",
+            &[
+                "history 2\npin 1 1 4\nhomes 2 3\nend\n",
+                "round 1: 1-4 3-2\n",
+            ],
+            "best 30 at 0\n",
+        ),
+    ),
+    (
+        PLAY_OF_1024,
+        &[CIRCLE, SCRIPT, "pin 1 1 4\nundo\nrounds 1 2\n"],
+        WRITTEN,
+        Excerpt(
+            "start travel 30 hard 0 soft 0\ndone 1 travel 30 hard 0 soft 0\n\
+        done 2 travel 30 hard 0 soft 0\ndone 3 travel 28 hard 0 soft 0\n",
+            &[
+                "history 3\npin 1 1 4\nundo\nrounds 1 2\nend\n",
+                "round 1: 1-2 4-3\n",
+            ],
+            "best 28 at 3\n",
+        ),
+    ),
+    (
+        PLAY_OF_1024,
+        &[CIRCLE, SCRIPT, "homes 1 2\nundo\nteams 1 2\n"],
+        WRITTEN,
+        Excerpt(
+            "start travel 30 hard 0 soft 0\ndone 1 travel 26 hard 0 soft 0\n\
+        done 2 travel 30 hard 0 soft 0\ndone 3 travel 26 hard 0 soft 0\n",
+            &["history 3\nhomes 1 2\nundo\nteams 1 2\nend\n"],
+            "best 26 at 1\n",
+        ),
+    ),
+    (
+        PLAY_OF_1024,
+        &[CIRCLE, SCRIPT, "\n# note\nhomes 1\nhomes 1 1\nundo"],
+        WRITTEN,
+        Excerpt(
+            "start travel 30 hard 0 soft 0\nbad line 3\nno 0 bad move\nno 0 nothing to undo\nhistory 0\nend\n",
+            &[SHEET],
+            "best 30 at 0\n",
+        ),
+    ),
+    (
+        PLAY_OF_1024,
+        &[AT_MOST_TWO, SCRIPT, "rounds 5 6\nundo\n"],
+        WRITTEN,
+        Excerpt(
+            "start travel 30 hard 2 soft 0\ndone 1 travel 28 hard 0 soft 0\ndone 2 travel 30 hard 2 soft 0\n",
+            &[SHEET],
+            "best 28 at 1\n",
+        ),
+    ),
+    (
+        PLAY_OF_1024,
+        &[AT_MOST_TWO, SCRIPT, ""],
+        WRITTEN,
+        Excerpt(
+            "start travel 30 hard 2 soft 0\nhistory 0\nend\n",
+            &[SHEET],
+            "best none\n",
+        ),
+    ),
+    (
+        PLAY_OF_1024,
+        &[SOFT_RULES, SCRIPT, "homes 1 2\n"],
+        WRITTEN,
+        Excerpt(
+            "start travel 30 hard 0 soft 60\ndone 1 travel 26 hard 0 soft 110\n",
+            &["history 1\nhomes 1 2\nend\n"],
+            "best 90 at 0\n",
+        ),
+    ),
+    (
+        Command::Play { room: 0 },
+        &[FAR, SCRIPT, "homes 1 2\n"],
+        WRITTEN,
+        Excerpt(
+            "start travel 21000000 hard 0 soft 0\nno 0 full\nhistory 0\nend\n",
+            &[SHEET],
+            "best 21000000 at 0\n",
+        ),
+    ),
+    (
+        Command::Play { room: 0 },
+        &[CIRCLE, SCRIPT, "homes 1 2\n"],
+        WRITTEN,
+        Excerpt(
+            "start travel 30 hard 0 soft 0\nno 0 full\nhistory 0\nend\n",
+            &[SHEET],
+            "best 30 at 0\n",
+        ),
+    ),
+    (
+        Command::Play { room: 1 },
+        &[CIRCLE, SCRIPT, "homes 1 2\nhomes 1 2\nundo\n"],
+        WRITTEN,
+        Excerpt(
+            "start travel 30 hard 0 soft 0\ndone 1 travel 26 hard 0 soft 0\nno 1 full\nno 1 full\n",
+            &["history 1\nhomes 1 2\nend\n"],
+            "best 26 at 1\n",
+        ),
+    ),
 ];
 
 #[test]
@@ -119,13 +308,14 @@ fn replayed<T: Threads + Wait + Sync>(
     case: &Case<'_>,
     script: &str,
 ) -> Result<Told, AllocError> {
+    let (command, parts, _, _) = *case;
     let mut input = String::new(alloc);
     // the league stands before the script
-    for part in case.input.iter().take(2) {
+    for part in parts.iter().take(2) {
         input.push_str(part)?;
     }
     input.push_str(script)?;
-    told(rt, alloc, case.command, input.as_bytes())
+    tell(rt, alloc, command, input.as_bytes())
 }
 
 /// The script's history, played as a script, leads to the same end of the text.
@@ -134,13 +324,14 @@ fn check_played_again<T: Threads + Wait + Sync + Abort>(
     alloc: Global,
     case: &Case<'_>,
 ) -> Result<(), Fail> {
-    let input = case.input.concat(alloc)?;
-    let first = told(rt, alloc, case.command, input.as_bytes())?;
+    let (command, parts, _, _) = *case;
+    let input = parts.concat(alloc)?;
+    let first = tell(rt, alloc, command, input.as_bytes())?;
     let Some((history, board)) = closing(&first.text) else {
         return Err(Fail::new("no history"));
     };
     let again = replayed(rt, alloc, case, script(history))?;
-    check_same_of(rt, &case.input, &closing(&again.text), &Some((history, board)));
+    check_same_of(rt, &parts, &closing(&again.text), &Some((history, board)));
     Ok(())
 }
 
