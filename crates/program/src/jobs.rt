@@ -10,7 +10,7 @@ ghost use Rattle.program.specs.Program.{is_report, told_in, EndsJob};
 use command_line::Job;
 use commands::{
     ImprovePlan, MIN_EFFORT, ProgramFault, ProgressLine, SearchPlan, Sink, Source, Verdict, find,
-    find_with, improve, improve_with, play, report, start,
+    find_with, improve_with, play, report, start,
 };
 use std::alloc::Global;
 use std::io::Write;
@@ -51,7 +51,7 @@ pub(crate) fn perform<
                 seed,
                 effort,
             };
-            without_verdict(improved(rt, alloc, terminal, source, sink, plan))
+            without_verdict(improve(rt, alloc, terminal, source, sink, plan))
         }
         Job::Find { room, plan } => {
             without_verdict(search(rt, alloc, terminal, source, sink, room, plan))
@@ -81,7 +81,7 @@ fn with_verdict(outcome: Result<Verdict, ProgramFault>) -> Result<Option<Verdict
 }
 
 /// Improves, and shows how far it is where there is a terminal.
-fn improved<T: Threads + Wait + Clock + Sync, E: Write + Send + Drop, R: Source + Drop, W: Sink>(
+fn improve<T: Threads + Wait + Clock + Sync, E: Write + Send + Drop, R: Source + Drop, W: Sink>(
     rt: &T,
     alloc: Global,
     terminal: Option<E>,
@@ -99,7 +99,7 @@ fn improved<T: Threads + Wait + Clock + Sync, E: Write + Send + Drop, R: Source 
             let line = ProgressLine::over(rt, WriterSink::new(terminal), steps);
             improve_with(rt, alloc, &line, &mut source, sink, plan)
         }
-        None => improve(rt, alloc, source, sink, plan),
+        None => commands::improve(rt, alloc, source, sink, plan),
     }
 }
 

@@ -7,7 +7,7 @@ pub returns-in-Play-clause-ends : goal.returns-in-Play-clause-ends
 returns-in-Play-clause-ends g c = rw (c.in-Play.is, c.without_verdict-in-Play.ensures.outcome) c.play.ensures
 
 pub returns-in-Improve-clause-ends : goal.returns-in-Improve-clause-ends
-returns-in-Improve-clause-ends g c = rw (c.in-Improve.is, c.without_verdict-in-Improve.ensures.outcome) c.improved.ensures
+returns-in-Improve-clause-ends g c = rw (c.in-Improve.is, c.without_verdict-in-Improve.ensures.outcome) c.improve.ensures
 
 pub returns-in-Find-clause-ends : goal.returns-in-Find-clause-ends
 returns-in-Find-clause-ends g c = rw (c.in-Find.is, c.without_verdict-in-Find.ensures.outcome) c.search.ensures
