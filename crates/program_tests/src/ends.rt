@@ -45,7 +45,7 @@ struct Ended {
 }
 
 /// How a command ends that reads and writes by these steps.
-fn ended<T: Threads + Wait + Sync>(
+fn run_by<T: Threads + Wait + Sync>(
     rt: &T,
     alloc: Global,
     command: Command,

@@ -58,7 +58,7 @@ pub(crate) struct Told {
 }
 
 /// What the command tells of an input of at most 200,000 bytes of text.
-pub(crate) fn told<T: Threads + Wait + Sync>(
+pub(crate) fn tell<T: Threads + Wait + Sync>(
     rt: &T,
     alloc: Global,
     command: Command,
