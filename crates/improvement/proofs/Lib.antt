@@ -4,3 +4,4 @@ pub mod Boards
 pub mod Runs
 pub mod Leads
 pub mod Texts
+pub mod PhaseRuns
