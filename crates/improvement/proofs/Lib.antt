@@ -5,3 +5,4 @@ pub mod Runs
 pub mod Leads
 pub mod Texts
 pub mod PhaseRuns
+pub mod UnderWay

@@ -1,6 +1,7 @@
 //! One phase, run by the workers on its chain's board.
 
 ghost use Rattle.std.specs.Prelude.{◌≡◌, ◌+◌, ◌≤◌, length, IfOk, IfErr};
+ghost use Rattle.league.specs.League.{IsLeague};
 ghost use Rattle.league.specs.Limits.{max_weight};
 ghost use Rattle.league.specs.Reweighted.{reweighted};
 ghost use Rattle.fixture_board.specs.Credited.{credited};
@@ -32,7 +33,8 @@ pub(crate) struct EndedPhase {
 impl EndedPhase {
     /// What the policy is told of it.
     pub(crate) fn outcome(&self) -> PhaseOutcome
-        ensures { result ≡ outcome_of self.now.board.league self.now.board.history }
+        ensures value { result ≡ outcome_of self.now.board.league self.now.board.history }
+        ensures limits { IsLeague self.now.board.league }
     {
         let cost = self.board.cost();
         PhaseOutcome {
