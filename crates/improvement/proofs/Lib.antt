@@ -6,3 +6,4 @@ pub mod Leads
 pub mod Texts
 pub mod PhaseRuns
 pub mod UnderWay
+pub mod Endings
