@@ -4,3 +4,6 @@ pub mod Boards
 pub mod Runs
 pub mod Leads
 pub mod Texts
+pub mod PhaseRuns
+pub mod UnderWay
+pub mod Endings

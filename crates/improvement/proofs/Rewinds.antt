@@ -1,10 +1,13 @@
 -- A history that is taken back to its best version.
-use Rattle.std.proofs.Common.{◌≡◌, ℕ, ◌≤◌, List, [], ◌∷◌, length, take, Option, Some, None, refl, sym, ◌∙◌, ap, subst, take_all, arith}
+use Rattle.std.proofs.Common.{◌≡◌, ℕ, ◌+◌, ◌<◌, ◌≤◌, List, [], ◌∷◌, ◌++◌, length, get_or, take, Option, Some, None, refl, sym, ◌∙◌, ap, subst, take_all, arith}
+use Rattle.std.proofs.lemmas.List.{take_more}
 use Rattle.std.specs.Option.{unwrap_or}
 use Rattle.league.specs.League.{LeagueData}
+use Rattle.fixture_board.specs.declared.change.Change.{Change}
 use Rattle.fixture_board.specs.declared.change.Entry.{Entry}
 use Rattle.fixture_board.specs.declared.cost.Best.{Best}
 use Rattle.fixture_board.specs.History.{IsBestOf, IsBestPrefix, as_best, best_at, best_of, best_prefix}
+use Rattle.fixture_board.specs.Replay.{changes_of}
 use Rattle.fixture_board.specs.Rewound.{rewound}
 use Rattle.fixture_board.proofs.Least.{best_prefix-is_best}
 use Rattle.shared_board.specs.Held.{AreOf}
@@ -54,3 +57,14 @@ pub rewound_none : (league : LeagueData) (h : List Entry) → best_of league h �
 unfolding best_of
 rewound_none league h same =
     take_all (length h) h (omega arith) ∙ sym (without_best league h (best_prefix league h) same)
+
+-- one more entry
+
+changes_append : (h : List Entry) (e : Entry) → changes_of (h ++ e ∷ []) ≡ changes_of h ++ e.change ∷ []
+changes_append [] e = refl
+changes_append (x ∷ h) e = ap (λ (cs : List Change). x.change ∷ cs) (changes_append h e)
+
+pub changes_more : (h : List Entry) (i : ℕ) (e : Entry) → i < length h → e ≡ get_or h i e →
+    changes_of (take (i + 1) h) ≡ changes_of (take i h) ++ e.change ∷ []
+changes_more h i e under is =
+    ap changes_of (take_more h i e under ∙ ap (λ (x : Entry). take i h ++ x ∷ []) (sym is)) ∙ changes_append (take i h) e

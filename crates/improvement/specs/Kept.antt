@@ -1,6 +1,6 @@
 -- What an improvement keeps between its phases, and how its parts end.
 use Rattle.std.specs.Prelude.{◌≡◌, ℕ, ◌≤◌, List, [], ◌∷◌, ◌++◌, length, map, All, Option, Some, None, option_map, unwrap_or, Result, Ok, Err}
-use Rattle.league.specs.League.{LeagueData}
+use Rattle.league.specs.League.{IsLeague, LeagueData}
 use Rattle.fixture_board.specs.declared.change.Entry.{Entry}
 use Rattle.fixture_board.specs.History.{IsLegal}
 use Rattle.fixture_board.specs.Record.{Book}
@@ -85,6 +85,7 @@ pub record IsKeptAfter (league : LeagueData) (plan : ImprovePlan) (runs : List P
   pub chains_are : AreChains league (room_of plan.effort) chains
   pub histories : map history_in chains.boards.items ≡ histories_of runs
   pub lead_is : IsLead league (room_of plan.effort) (lead_of league runs) lead
+  pub limits : 1 ≤ length runs → IsLeague league
 
 -- For a buffer over a sink with these bytes held and these calls
 module _ {W : Type 0} (held : W → Option (List ℕ)) (pushes : W → Tally) (league : LeagueData) (plan : ImprovePlan) (old new : BufferedSink W) where
@@ -105,11 +106,18 @@ module _ {W : Type 0} (held : W → Option (List ℕ)) (pushes : W → Tally) (l
   EndsBy done (Err Write) = (text : List ℕ) × IsTextSoFar league plan text × Stops held pushes old new text
   EndsBy done (Err Memory) = StopsAfterPhases
 
+  -- some phases were run, and their texts sent
+  pub record IsUnderWay (policy : PolicyData) (chains : Chains) (lead : Lead) : Type 0 where
+    pub runs : List PhaseRun
+    pub kept : IsKeptAfter league plan runs policy chains lead
+    pub sends : Sends (phases_text league plan.workers runs)
+
   -- all phases were run, and their texts sent
   pub record HasRunAll (lead : Lead) : Type 0 where
     pub runs : List PhaseRun
     pub are : AreRuns league plan runs
     pub all : length runs ≡ phase_count
+    pub limits : IsLeague league
     pub lead_is : IsLead league (room_of plan.effort) (lead_of league runs) lead
     pub sends : Sends (phases_text league plan.workers runs)
 

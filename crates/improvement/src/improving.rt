@@ -1,6 +1,7 @@
 //! The improvement of a league's schedule.
 
-ghost use Rattle.std.specs.Prelude.{◌≤◌};
+ghost use Rattle.std.specs.Prelude.{◌≡◌, ◌≤◌, []};
+ghost use Rattle.streams.specs.Writing.{waiting_in};
 ghost use Rattle.improvement.specs.Kept.{EndsBy, HasRunAll, HasWritten};
 ghost use Rattle.improvement.specs.Outcome.{Improves};
 ghost use Rattle.improvement.specs.Runs.{IsWorkers};
@@ -52,6 +53,7 @@ fn run_and_write<T: Threads + Wait + Sync, G: Gate + Sync, W: Sink>(
 ) -> Result<(), ImproveFault>
     requires workers { IsWorkers setting.now.plan }
     requires effort { MIN_EFFORT ≤ setting.now.plan.effort }
+    requires none { waiting_in out.old ≡ [] }
     ensures { EndsBy W.held W.tally setting.now.league.now setting.now.plan out.old out.new
         (HasWritten W.held W.tally setting.now.league.now setting.now.plan out.old out.new) result }
 {
@@ -69,6 +71,7 @@ fn run_all<T: Threads + Wait + Sync, G: Gate + Sync, W: Sink>(
 ) -> Result<Lead, ImproveFault>
     requires workers { IsWorkers setting.now.plan }
     requires effort { MIN_EFFORT ≤ setting.now.plan.effort }
+    requires none { waiting_in out.old ≡ [] }
     ensures { EndsBy W.held W.tally setting.now.league.now setting.now.plan out.old out.new
         (HasRunAll W.held W.tally setting.now.league.now setting.now.plan out.old out.new) result }
 {

@@ -1,9 +1,11 @@
 //! One phase, run by the workers on its chain's board.
 
 ghost use Rattle.std.specs.Prelude.{◌≡◌, ◌+◌, ◌≤◌, length, IfOk, IfErr};
+ghost use Rattle.league.specs.League.{IsLeague};
 ghost use Rattle.league.specs.Limits.{max_weight};
 ghost use Rattle.league.specs.Reweighted.{reweighted};
 ghost use Rattle.fixture_board.specs.Credited.{credited};
+ghost use Rattle.fixture_board.specs.History.{IsLegal};
 ghost use Rattle.fixture_board.specs.Record.{book};
 ghost use Rattle.phases.specs.Policy.{IsInRange};
 ghost use Rattle.shared_board.specs.Held.{AreOf};
@@ -31,7 +33,8 @@ pub(crate) struct EndedPhase {
 impl EndedPhase {
     /// What the policy is told of it.
     pub(crate) fn outcome(&self) -> PhaseOutcome
-        ensures { result ≡ outcome_of self.now.board.league self.now.board.history }
+        ensures value { result ≡ outcome_of self.now.board.league self.now.board.history }
+        ensures limits { IsLeague self.now.board.league }
     {
         let cost = self.board.cost();
         PhaseOutcome {
@@ -52,7 +55,7 @@ pub(crate) fn run_phase<T: Threads + Wait + Sync, G: Gate + Sync>(
     requires league { board.league ≡ setting.now.league.now }
     requires of { AreOf 0 board.history }
     requires phase { IsInRange phase }
-    ensures done { IfOk result (HasRun board phase) }
+    ensures done { IfOk result (HasRun board.league board.room board.history phase) }
     ensures refused { IfErr result IsRunFault }
 {
     let before = board.version();
@@ -86,14 +89,15 @@ fn ended(weight: u32, before: u64, phase: Phase, outcome: Outcome) -> EndedPhase
     requires most { weight ≤ max_weight }
     requires before { before ≤ length outcome.board.history }
     ensures phase { result.phase ≡ phase }
-    ensures accepted { before + result.accepted ≡ length outcome.board.history }
+    ensures accepted { before + result.accepted ≡ length result.board.history }
     ensures board { result.board ≡ book (reweighted weight outcome.board.league) outcome.board.room
         (credited 0 outcome.board.history) }
+    ensures legal { IsLegal result.board.league result.board.room result.board.history }
 {
     let mut board = outcome.board;
-    let accepted = board.version() - before;
     board.set_hard_weight(weight);
     board.credit(0);
+    let accepted = board.version() - before;
     EndedPhase {
         phase,
         accepted,

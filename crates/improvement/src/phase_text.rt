@@ -61,10 +61,9 @@ fn write_line<W: Sink>(
 }
 
 /// Writes the end of a phase's line: the least total of its history.
-fn write_least<W: Sink>(
-    out: &mut BufferedSink<'_, W>,
-    least: Option<u64>,
-) -> Result<(), WriteFault> {
+fn write_least<W: Sink>(out: &mut BufferedSink<'_, W>, least: Option<u64>) -> Result<(), WriteFault>
+    ensures { Writes W.held W.tally out.old out.new result (least_words least) }
+{
     match least {
         None => out.write(b" best none\n"),
         Some(total) => write_pieces(

@@ -9,8 +9,9 @@ unfolding best_sheet
 returns-in_err-write_sheet g c =
     Stops-writes c.from_residual.ensures.0
     (Stops-more (concat (codes "best " ∷ decimal c.args.total ∷ codes "\n----------\n" ∷ []))
-    (rw c.best_or_present.ensures.games at c.in_err-write_sheet.ensures.err))
+    (rw (c.best_or_present.ensures.games, c.league.ensures) at c.in_err-write_sheet.ensures.err))
 
 pub returns : goal.returns
 unfolding best_sheet
-returns g c = Adds-writes (rw c.best_or_present.ensures.games at c.in_ok-write_sheet.ensures.ok) c.write_pieces.ensures
+returns g c =
+    Adds-writes (rw (c.best_or_present.ensures.games, c.league.ensures) at c.in_ok-write_sheet.ensures.ok) c.write_pieces.ensures
