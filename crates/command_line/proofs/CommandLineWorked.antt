@@ -4,7 +4,7 @@ use Rattle.clap.specs.Words.{Text, fault_of}
 use Rattle.clap.specs.declared.error.kind.ErrorKind.TheVariants.{ArgumentConflict, DisplayHelp, DisplayVersion, InvalidValue, MissingSubcommand, UnknownArgument, ValueValidation}
 use Rattle.clap.proofs.OnLiterals.{clap_on_literals}
 use Rattle.command_line.specs.CommandLine.{job_of_words, program, words_fault}
-use Rattle.command_line.specs.declared.job.Job.TheVariants.{Find, Play, Report, Start}
+use Rattle.command_line.specs.declared.job.Job.TheVariants.{Find, Improve, Play, Report, Start}
 use Rattle.report_formats.specs.declared.format.Format.TheVariants as formats
 
 abbrev ttp : List Text → List Text
@@ -69,6 +69,27 @@ room_is_given_once = refl
 no_command_is_no_job : job_of_words (ttp []) ≡ None
 unfolding clap_on_literals
 no_command_is_no_job = refl
+
+improve_has_its_defaults : job_of_words (ttp (codes "improve" ∷ [])) ≡ Some (Improve 2 1 10000000)
+unfolding clap_on_literals
+improve_has_its_defaults = refl
+
+improve_has_its_numbers : job_of_words (ttp (codes "improve" ∷ codes "--workers" ∷ codes "4" ∷ codes "--seed=7" ∷ codes "--effort" ∷ codes "1000" ∷ []))
+    ≡ Some (Improve 4 7 1000000000)
+unfolding clap_on_literals
+improve_has_its_numbers = refl
+
+some_effort_is_needed : fault_of program (ttp (codes "improve" ∷ codes "--effort=0" ∷ [])) ≡ ValueValidation ∷ []
+unfolding clap_on_literals
+some_effort_is_needed = refl
+
+effort_has_a_limit : fault_of program (ttp (codes "improve" ∷ codes "--effort=1001" ∷ [])) ≡ ValueValidation ∷ []
+unfolding clap_on_literals
+effort_has_a_limit = refl
+
+improve_takes_no_slack : fault_of program (ttp (codes "improve" ∷ codes "--slack" ∷ codes "1" ∷ [])) ≡ UnknownArgument ∷ []
+unfolding clap_on_literals
+improve_takes_no_slack = refl
 
 search_has_its_defaults : job_of_words (ttp (codes "search" ∷ [])) ≡ Some (Find 1024 (record { workers = 2; seed = 1; steps = 1000; slack = 0 }))
 unfolding clap_on_literals

@@ -15,7 +15,7 @@ use Rattle.clap.specs.Walk.{Held, Names, Outcome, Row, Rule, Step, Text, Waiting
 use Rattle.clap.specs.Walk.{done, waits, plain, refused, idle, option, positional, next, trailing, subcommand, value}
 use Rattle.clap.specs.declared.error.kind.ErrorKind.TheVariants.{DisplayHelp, InvalidSubcommand}
 use Rattle.clap.proofs.OnLiterals.{clap_on_literals}
-use Rattle.command_line.specs.CommandLine.{CommandForm, HasValues, NamesACommand, NamesOneOf, OptionForm, app_of_command, commands, format_option, play_command, program, report_command, room_option, search_command, start_command}
+use Rattle.command_line.specs.CommandLine.{CommandForm, HasValues, NamesACommand, NamesOneOf, OptionForm, app_of_command, commands, format_option, improve_command, play_command, program, report_command, room_option, search_command, start_command}
 use Rattle.command_line.proofs.Options.{both_pass, no_kind}
 use Rattle.command_line.proofs.OptionWords.{has_values}
 
@@ -130,8 +130,11 @@ commands_are_read = (
   (
     record { named = refl; has = has_values (room_option ∷ []) (record { first = refl; as_written = refl; default_fits = refl }, tt) (built_command play_command) },
     (
-      record { named = refl; has = has_values search_command.options (record { first = refl; as_written = refl; default_fits = refl }, (record { first = refl; as_written = refl; default_fits = refl }, (record { first = refl; as_written = refl; default_fits = refl }, (record { first = refl; as_written = refl; default_fits = refl }, (record { first = refl; as_written = refl; default_fits = refl }, tt))))) (built_command search_command) },
-      (record { named = refl; has = has_values (format_option ∷ []) (record { first = refl; as_written = refl; default_fits = refl }, tt) (built_command report_command) }, tt),
+      record { named = refl; has = has_values improve_command.options (record { first = refl; as_written = refl; default_fits = refl }, (record { first = refl; as_written = refl; default_fits = refl }, (record { first = refl; as_written = refl; default_fits = refl }, tt))) (built_command improve_command) },
+      (
+        record { named = refl; has = has_values search_command.options (record { first = refl; as_written = refl; default_fits = refl }, (record { first = refl; as_written = refl; default_fits = refl }, (record { first = refl; as_written = refl; default_fits = refl }, (record { first = refl; as_written = refl; default_fits = refl }, (record { first = refl; as_written = refl; default_fits = refl }, tt))))) (built_command search_command) },
+        (record { named = refl; has = has_values (format_option ∷ []) (record { first = refl; as_written = refl; default_fits = refl }, tt) (built_command report_command) }, tt),
+      ),
     ),
   ),
 )
@@ -200,9 +203,18 @@ names_a_command words e =
 pub search_values : (found : Text × List Row) → NamesOneOf commands found → found.0 ≡ codes "search" → HasValues found.1 search_command.options
 search_values found (inl of_start) is = absurd (true≢false (ap (λ t. bytes_eq t (codes "start")) (sym of_start.0 ∙ is)))
 search_values found (inr (inl of_play)) is = absurd (true≢false (ap (λ t. bytes_eq t (codes "play")) (sym of_play.0 ∙ is)))
-search_values found (inr (inr (inl of_search))) is = of_search.1
-search_values found (inr (inr (inr (inl of_report)))) is = absurd (true≢false (ap (λ t. bytes_eq t (codes "report")) (sym of_report.0 ∙ is)))
-search_values found (inr (inr (inr (inr none)))) is = absurd none
+search_values found (inr (inr (inl of_improve))) is = absurd (true≢false (ap (λ t. bytes_eq t (codes "improve")) (sym of_improve.0 ∙ is)))
+search_values found (inr (inr (inr (inl of_search)))) is = of_search.1
+search_values found (inr (inr (inr (inr (inl of_report))))) is = absurd (true≢false (ap (λ t. bytes_eq t (codes "report")) (sym of_report.0 ∙ is)))
+search_values found (inr (inr (inr (inr (inr none))))) is = absurd none
+
+pub improve_values : (found : Text × List Row) → NamesOneOf commands found → found.0 ≡ codes "improve" → HasValues found.1 improve_command.options
+improve_values found (inl of_start) is = absurd (true≢false (ap (λ t. bytes_eq t (codes "start")) (sym of_start.0 ∙ is)))
+improve_values found (inr (inl of_play)) is = absurd (true≢false (ap (λ t. bytes_eq t (codes "play")) (sym of_play.0 ∙ is)))
+improve_values found (inr (inr (inl of_improve))) is = of_improve.1
+improve_values found (inr (inr (inr (inl of_search)))) is = absurd (true≢false (ap (λ t. bytes_eq t (codes "search")) (sym of_search.0 ∙ is)))
+improve_values found (inr (inr (inr (inr (inl of_report))))) is = absurd (true≢false (ap (λ t. bytes_eq t (codes "report")) (sym of_report.0 ∙ is)))
+improve_values found (inr (inr (inr (inr (inr none))))) is = absurd none
 
 -- so the rows of the subcommand that a parse met, where it has this name, have the values of its options
 pub values_of_met : {Z : Type 0} (word : Text) (options : List OptionForm) → ((found : Text × List Row) → NamesOneOf commands found → found.0 ≡ word → HasValues found.1 options)

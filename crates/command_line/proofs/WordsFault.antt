@@ -18,3 +18,12 @@ pub taken : (kinds : Kinds) (found : Option Job) (job : Job) → kinds ≡ [] �
 taken [] (Some job) found none is = refl
 taken [] None job none is = cc
 taken (k ∷ ks) found job none is = absurd (no_kind _ _ none)
+
+-- words that clap takes and that name a format that there is not
+pub name_refused : (kinds : Kinds) (found : Option Job) (e : Error) → kinds ≡ [] → found ≡ None → HasKind (InvalidValue ∷ []) e
+    → HasKind (or_else kinds (if is_some found then [] else InvalidValue ∷ [])) e
+name_refused [] None e none is has = has
+name_refused [] (Some job) e none is has =
+    let no : ⊥ = cc in
+    absurd no
+name_refused (k ∷ ks) found e none is has = absurd (no_kind _ _ none)

@@ -1,5 +1,5 @@
 -- The program's command line, as clap reads it: commands, each with options.
-use Rattle.std.specs.Prelude.{◌≡◌, ◌≤◌, ◌^◌, ◌-◌, ℕ, Some, None, Option, List, [], ◌∷◌, codes, true, false, map, fold}
+use Rattle.std.specs.Prelude.{◌≡◌, ◌≤◌, ◌^◌, ◌-◌, ◌*◌, ℕ, Some, None, Option, List, [], ◌∷◌, codes, true, false, map, fold}
 use Rattle.std.specs.Prelude.{◌⊎◌, if◌then◌else◌, is_some, option_and_then, option_map}
 use Rattle.std.specs.Str.{bytes_eq}
 use Rattle.std.specs.Str.Parse.{digits_value, without_leading_plus}
@@ -12,7 +12,7 @@ use Rattle.clap.specs.declared.builder.value_parser.ValueParser.{ValueParser}
 use Rattle.clap.specs.declared.builder.value_parser.ValueParser.TheVariants as parsers
 use Rattle.clap.specs.declared.error.kind.ErrorKind.TheVariants.{InvalidValue}
 use Rattle.command_line.specs.declared.job.Job.{Job}
-use Rattle.command_line.specs.declared.job.Job.TheVariants.{Start, Play, Find, Report}
+use Rattle.command_line.specs.declared.job.Job.TheVariants.{Start, Play, Improve, Find, Report}
 use Rattle.command_line.specs.declared.number_args.NumberArg.{NumberArg}
 use Rattle.fixture_board.specs.History.{max_room}
 use Rattle.report_formats.specs.declared.format.Format.{Format}
@@ -46,6 +46,10 @@ workers_option = number_option (codes "workers") 1 16 (codes "2")
 abbrev pub seed_option : OptionForm
 seed_option = number_option (codes "seed") 0 (2 ^ 64 - 1) (codes "1")
 
+-- how many million moves the workers draw together
+abbrev pub effort_option : OptionForm
+effort_option = number_option (codes "effort") 1 1000 (codes "10")
+
 -- how many moves each worker draws
 abbrev pub steps_option : OptionForm
 steps_option = number_option (codes "steps") 0 1000000 (codes "1000")
@@ -68,6 +72,9 @@ start_command = record { name = codes "start"; options = [] }
 abbrev pub play_command : CommandForm
 play_command = record { name = codes "play"; options = room_option ∷ [] }
 
+abbrev pub improve_command : CommandForm
+improve_command = record { name = codes "improve"; options = workers_option ∷ seed_option ∷ effort_option ∷ [] }
+
 abbrev pub search_command : CommandForm
 search_command = record {
   name = codes "search";
@@ -78,7 +85,7 @@ abbrev pub report_command : CommandForm
 report_command = record { name = codes "report"; options = format_option ∷ [] }
 
 abbrev pub commands : List CommandForm
-commands = start_command ∷ play_command ∷ search_command ∷ report_command ∷ []
+commands = start_command ∷ play_command ∷ improve_command ∷ search_command ∷ report_command ∷ []
 
 -- an option and a command, as clap has them
 abbrev pub rule_of : OptionForm → Rule
@@ -105,6 +112,15 @@ program = program_of commands
 -- the number that stands after an option, or its default
 abbrev pub number_in : Text → List Row → Option ℕ
 number_in name rows = option_map (λ text. digits_value 10 (without_leading_plus text)) (one_of name rows)
+
+-- the improvement by these workers, with this seed and so many million steps
+abbrev pub improve_from : Option ℕ → Option ℕ → Option ℕ → Option Job
+improve_from (Some workers) (Some seed) (Some millions) = Some (Improve workers seed (millions * 1000000))
+improve_from _ _ _ = None
+
+-- the improvement that stands after the options
+abbrev pub improve_in : List Row → Option Job
+improve_in rows = improve_from (number_in (codes "workers") rows) (number_in (codes "seed") rows) (number_in (codes "effort") rows)
 
 -- the plan of these workers, seed, steps and slack
 abbrev pub plan_from : Option ℕ → Option ℕ → Option ℕ → Option ℕ → Option SearchPlan
@@ -136,8 +152,9 @@ format_in rows = option_and_then format_named (first_of (codes "format") rows)
 abbrev pub job_of_command : Text × List Row → Option Job
 job_of_command found = if bytes_eq found.0 (codes "start") then Some Start
     else (if bytes_eq found.0 (codes "play") then option_map Play (number_in (codes "room") found.1)
+    else (if bytes_eq found.0 (codes "improve") then improve_in found.1
     else (if bytes_eq found.0 (codes "search") then find_from (number_in (codes "room") found.1) (plan_in found.1)
-    else (if bytes_eq found.0 (codes "report") then option_map Report (format_in found.1) else None)))
+    else (if bytes_eq found.0 (codes "report") then option_map Report (format_in found.1) else None))))
 
 -- the job that the words name
 abbrev pub job_of_words : List Text → Option Job
@@ -153,10 +170,18 @@ pub record IsPlanInRange (plan : SearchPlan) : Type 0 where
   pub few : plan.workers ≤ 16
   pub steps : plan.steps ≤ 1000000
 
+-- 1 to 16 workers, and a million steps to a thousand million
+pub record IsImproveInRange (workers effort : ℕ) : Type 0 where
+  pub some : 1 ≤ workers
+  pub few : workers ≤ 16
+  pub least : 1000000 ≤ effort
+  pub most : effort ≤ 1000000000
+
 -- each number of the job is in its range
 abbrev pub IsInRange : Job → Type 0
 IsInRange Start = Unit {0}
 IsInRange (Play room) = room ≤ max_room
+IsInRange (Improve workers seed effort) = IsImproveInRange workers effort
 IsInRange (Find room plan) = (room ≤ max_room) × IsPlanInRange plan
 IsInRange (Report format) = Unit {0}
 

@@ -6,7 +6,7 @@ pub(crate) const VERSION: &str = "0.1.0";
 pub(crate) const PROGRAM_ABOUT: &str = "A fixture board for the Travelling Tournament Problem";
 
 pub(crate) const PROGRAM_EXAMPLE: &str = "Example:
-  ttp search --slack 8 < leagues/circular-4.json";
+  ttp improve < leagues/circular-4.json";
 
 pub(crate) const START_ABOUT: &str =
     "Reads a league from standard input and writes the sheet of its Berger start";
@@ -31,6 +31,17 @@ pub(crate) const PLAY_LINES: &str = "Script lines (docs/script.md), with teams a
 
 Example:
   (cat leagues/circular-4.json; echo script; echo 'homes 1 2'; echo undo) | ttp play --room 8";
+
+pub(crate) const IMPROVE_ABOUT: &str =
+    "Reads a league from standard input, searches in phases that it chooses by itself, and writes
+each better schedule as soon as it has it, then the history that leads to the best";
+
+pub(crate) const IMPROVE_EXAMPLE: &str =
+    "It needs no hard weight, slack or room. It can be ended at any time: what is written above a line
+`----------` is whole, and the last schedule there is the best so far (docs/improve.md).
+
+Example:
+  ttp improve --workers 4 --effort 100 < leagues/circular-10.json";
 
 pub(crate) const SEARCH_ABOUT: &str =
     "Reads a league from standard input, has workers search for a cheaper schedule on one board,
@@ -58,6 +69,8 @@ pub(crate) const FORMAT_HELP: &str =
 pub(crate) const WORKERS_HELP: &str = "How many workers search at once, 1 to 16";
 
 pub(crate) const SEED_HELP: &str = "What the workers' draws begin with, any number of 64 bits";
+
+pub(crate) const EFFORT_HELP: &str = "How many million moves the workers draw together, 1 to 1000";
 
 pub(crate) const STEPS_HELP: &str = "How many moves each worker draws, 0 to 1000000";
 

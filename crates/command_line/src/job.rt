@@ -2,19 +2,23 @@
 
 ghost use Rattle.std.specs.Prelude.{◌≡◌, [], ◌∷◌, Some, IfOk, IfSome, map, option_and_then, string_bytes};
 ghost use Rattle.clap.specs.Words.{app_of, found_of, rows_of, FailsBy, subcommand_rows_of};
-ghost use Rattle.command_line.specs.CommandLine.{app_of_command, job_of_command, job_of_words, play_command, plan_in, program, program_of};
-ghost use Rattle.command_line.specs.CommandLine.{search_command, start_command, words_fault, HasValues, IsInRange, IsPlanInRange, NamesACommand};
+ghost use Rattle.command_line.specs.CommandLine.{app_of_command, improve_command, improve_in, job_of_command, job_of_words, play_command};
+ghost use Rattle.command_line.specs.CommandLine.{plan_in, program, program_of, search_command, start_command, words_fault};
+ghost use Rattle.command_line.specs.CommandLine.{HasValues, IsInRange, IsPlanInRange, NamesACommand};
 
 use crate::help::{
-    PLAY_ABOUT, PLAY_LINES, PROGRAM_ABOUT, PROGRAM_EXAMPLE, SEARCH_ABOUT, SEARCH_EXAMPLE,
-    START_ABOUT, START_EXAMPLE, VERSION,
+    IMPROVE_ABOUT, IMPROVE_EXAMPLE, PLAY_ABOUT, PLAY_LINES, PROGRAM_ABOUT, PROGRAM_EXAMPLE,
+    SEARCH_ABOUT, SEARCH_EXAMPLE, START_ABOUT, START_EXAMPLE, VERSION,
 };
-use crate::number_args::{ROOM, SEED, SLACK, STEPS, WORKERS};
+use crate::number_args::{EFFORT, ROOM, SEED, SLACK, STEPS, WORKERS};
 use crate::report_args::{format_of, report_command, wrong_format};
 use clap::{ArgMatches, Command, Error};
 use report_formats::Format;
 use search::SearchPlan;
 use std::alloc::{AllocError, Global};
+
+/// How many steps one unit of `--effort` stands for.
+const STEPS_OF_EFFORT: u32 = 1_000_000;
 
 /// What the program is asked to do.
 #[derive(Clone, Copy, Debug, PartialEq, Eq)]
@@ -22,9 +26,20 @@ pub enum Job {
     /// Write the sheet of the Berger start of the league on standard input.
     Start,
     /// Play the script on standard input, on a board with room for so many changes.
-    Play { room: u32 },
+    Play {
+        room: u32,
+    },
+    /// Look in phases for cheaper schedules of the league on standard input. The effort is in steps of all workers together.
+    Improve {
+        workers: u32,
+        seed: u64,
+        effort: u32,
+    },
     /// Search for a cheaper schedule of the league on standard input, on a board with room for so many changes.
-    Find { room: u32, plan: SearchPlan },
+    Find {
+        room: u32,
+        plan: SearchPlan,
+    },
     /// Report, in the format, on the schedule that stands behind the league on standard input.
     Report(Format),
 }
@@ -60,6 +75,7 @@ fn job_of(matches: &ArgMatches) -> Option<Job>
         Some(("play", values)) => Some(Job::Play {
             room: ROOM.number(values) as u32,
         }),
+        Some(("improve", values)) => Some(improve_of(values)),
         Some(("search", values)) => Some(Job::Find {
             room: ROOM.number(values) as u32,
             plan: plan_of(values),
@@ -70,6 +86,18 @@ fn job_of(matches: &ArgMatches) -> Option<Job>
         },
         // a command is required, and `help` is answered as an error
         _ => unreachable!(),
+    }
+}
+
+fn improve_of(values: &ArgMatches) -> Job
+    requires { HasValues (rows_of (found_of values.now)) improve_command.options }
+    ensures job { improve_in (rows_of (found_of values.now)) ≡ Some result }
+    ensures in_range { IsInRange result }
+{
+    Job::Improve {
+        workers: WORKERS.number(values) as u32,
+        seed: SEED.number(values),
+        effort: EFFORT.number(values) as u32 * STEPS_OF_EFFORT,
     }
 }
 
@@ -97,11 +125,20 @@ fn command<'a>(alloc: Global) -> Result<Command<'a>, AllocError>
 
 /// The program's command line without `report`.
 fn with_search<'a>(alloc: Global) -> Result<Command<'a>, AllocError>
-    ensures { IfOk result (λ c. app_of c ≡ program_of (start_command ∷ play_command ∷ search_command ∷ [])) }
+    ensures { IfOk result (λ c. app_of c ≡ program_of (start_command ∷ play_command ∷ improve_command ∷ search_command ∷ [])) }
 {
     let search = search_command(alloc)?;
+    let with_improve = with_improve(alloc)?;
+    with_improve.subcommand(search)
+}
+
+/// The program's command line with `start`, `play` and `improve`.
+fn with_improve<'a>(alloc: Global) -> Result<Command<'a>, AllocError>
+    ensures { IfOk result (λ c. app_of c ≡ program_of (start_command ∷ play_command ∷ improve_command ∷ [])) }
+{
+    let improve = improve_command(alloc)?;
     let with_play = with_play(alloc)?;
-    with_play.subcommand(search)
+    with_play.subcommand(improve)
 }
 
 /// The program's command line with `start` and `play`.
@@ -135,6 +172,17 @@ fn play_command<'a>(alloc: Global) -> Result<Command<'a>, AllocError>
         .about(PLAY_ABOUT)
         .after_help(PLAY_LINES)
         .arg(ROOM.arg(alloc))
+}
+
+fn improve_command<'a>(alloc: Global) -> Result<Command<'a>, AllocError>
+    ensures { IfOk result (λ c. app_of c ≡ app_of_command improve_command) }
+{
+    Command::new(alloc, "improve")
+        .about(IMPROVE_ABOUT)
+        .after_help(IMPROVE_EXAMPLE)
+        .arg(WORKERS.arg(alloc))?
+        .arg(SEED.arg(alloc))?
+        .arg(EFFORT.arg(alloc))
 }
 
 fn search_command<'a>(alloc: Global) -> Result<Command<'a>, AllocError>

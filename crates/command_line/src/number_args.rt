@@ -4,7 +4,7 @@ ghost use Rattle.std.specs.Prelude.{◌≡◌, ◌≤◌, Some, false};
 ghost use Rattle.clap.specs.Words.{found_of, rows_of, rule_of as rule_of_arg};
 ghost use Rattle.command_line.specs.CommandLine.{HasValue, form_of, number_in, rule_of};
 
-use crate::help::{ROOM_HELP, SEED_HELP, SLACK_HELP, STEPS_HELP, WORKERS_HELP};
+use crate::help::{EFFORT_HELP, ROOM_HELP, SEED_HELP, SLACK_HELP, STEPS_HELP, WORKERS_HELP};
 use clap::builder::ValueParser;
 use clap::{Arg, ArgMatches};
 use fixture_board::MAX_ROOM;
@@ -13,6 +13,9 @@ use std::alloc::Global;
 
 /// The most steps of each worker.
 const MAX_STEPS: u64 = 1_000_000;
+
+/// The most millions of steps of an improvement.
+const MAX_EFFORT: u64 = 1000;
 
 /// An option: the range of its number, and what stands for it where it isn't given.
 #[derive(Clone, Copy)]
@@ -50,6 +53,15 @@ pub(crate) const SEED: NumberArg = NumberArg {
     most: u64::MAX,
     default: "1",
     help: SEED_HELP,
+};
+
+pub(crate) const EFFORT: NumberArg = NumberArg {
+    name: "effort",
+    value_name: "E",
+    least: 1,
+    most: MAX_EFFORT,
+    default: "10",
+    help: EFFORT_HELP,
 };
 
 pub(crate) const STEPS: NumberArg = NumberArg {

@@ -1,3 +1,4 @@
 pub mod Endings
 pub mod Reporting
 pub mod Reports
+pub mod Improved

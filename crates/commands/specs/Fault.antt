@@ -7,8 +7,10 @@ use Rattle.fixture_board.specs.declared.board.BoardFault.{BoardFault}
 use Rattle.fixture_board.specs.declared.board.BoardFault.TheVariants as board
 use Rattle.search.specs.declared.runs.RunFault.{RunFault}
 use Rattle.search.specs.declared.runs.RunFault.TheVariants as run
+use Rattle.improvement.specs.declared.plan.ImproveFault.{ImproveFault}
+use Rattle.improvement.specs.declared.plan.ImproveFault.TheVariants as improve
 use Rattle.commands.specs.declared.fault.ProgramFault.{ProgramFault}
-use Rattle.commands.specs.declared.fault.ProgramFault.TheVariants.{Read, TooLong, League, Room, Workers, Spawn, Receipts, Memory}
+use Rattle.commands.specs.declared.fault.ProgramFault.TheVariants.{Read, TooLong, League, Room, Workers, Spawn, Receipts, Write, Memory}
 
 abbrev pub of_reading : ReadFault → ProgramFault
 of_reading read.Read = Read
@@ -29,3 +31,10 @@ of_run run.Workers = Workers
 of_run run.Spawn = Spawn
 of_run run.Receipts = Receipts
 of_run run.Memory = Memory
+
+abbrev pub of_improve : ImproveFault → ProgramFault
+of_improve improve.Workers = Workers
+of_improve improve.Spawn = Spawn
+of_improve improve.Receipts = Receipts
+of_improve improve.Write = Write
+of_improve improve.Memory = Memory

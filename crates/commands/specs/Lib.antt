@@ -3,5 +3,6 @@ pub mod Outcome
 pub mod Start
 pub mod Play
 pub mod Find
+pub mod Improve
 pub mod Progress
 pub mod Report

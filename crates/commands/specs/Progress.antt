@@ -1,5 +1,5 @@
--- The line that tells on a terminal how far a search is.
-use Rattle.std.specs.Prelude.{ℕ, ◌+◌, ◌-◌, ◌*◌, ◌/◌, ◌^◌, min, max, nat_le, nat_lt, if◌then◌else◌, Bool, true, false, List, [], Option, Some, None}
+-- The line that tells on a terminal how far the workers of a search, or of one run after another, are.
+use Rattle.std.specs.Prelude.{ℕ, ◌+◌, ◌-◌, ◌*◌, ◌/◌, ◌^◌, ◌||◌, min, max, nat_le, nat_lt, if◌then◌else◌, Bool, true, false, List, [], Option, Some, None}
 use Rattle.std.specs.Time.{instant_nanos}
 use Rattle.std.specs.declared.time.Instant.{Instant}
 use Rattle.search.specs.declared.gates.Progress.{Progress}
@@ -24,15 +24,15 @@ reached_with r p = record {
 abbrev pub millis : Instant → Instant → ℕ
 millis before now = (instant_nanos now - instant_nanos before) / 1_000_000
 
--- a quarter of a second has passed since a line was written or first asked for
-abbrev pub is_due : Option Instant → Instant → Bool
-is_due None now = false
-is_due (Some last) now = nat_le 250 (millis last now)
+-- a line was taken away, or a quarter of a second has passed since it was written or first asked for
+abbrev pub is_due : Bool → Option Instant → Instant → Bool
+is_due taken None now = false
+is_due taken (Some last) now = taken || nat_le 250 (millis last now)
 
 -- when a line was last written or first asked for, after one more time
-abbrev pub last_after : Option Instant → Instant → Option Instant
-last_after None now = Some now
-last_after (Some last) now = if is_due (Some last) now then Some now else Some last
+abbrev pub last_after : Bool → Option Instant → Instant → Option Instant
+last_after taken None now = Some now
+last_after taken (Some last) now = if is_due taken (Some last) now then Some now else Some last
 
 -- the time that was noted, or this one where there was none
 abbrev pub first : Option Instant → Instant → Option Instant

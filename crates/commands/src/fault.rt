@@ -2,10 +2,11 @@
 
 ghost use Rattle.std.specs.Prelude.{◌≡◌};
 ghost use Rattle.commands.specs.declared.fault.ProgramFault.TheVariants.{Write, Memory};
-ghost use Rattle.commands.specs.Fault.{of_board, of_league, of_reading, of_run};
+ghost use Rattle.commands.specs.Fault.{of_board, of_improve, of_league, of_reading, of_run};
 
 use advice::Hint;
 use fixture_board::BoardFault;
+use improvement::ImproveFault;
 use league::LeagueFault;
 use search::RunFault;
 use std::alloc::AllocError;
@@ -93,6 +94,20 @@ impl From<RunFault> for ProgramFault {
             RunFault::Spawn => ProgramFault::Spawn,
             RunFault::Receipts => ProgramFault::Receipts,
             RunFault::Memory => ProgramFault::Memory,
+        }
+    }
+}
+
+impl From<ImproveFault> for ProgramFault {
+    ghost from_gives = { λ fault gives. gives ≡ of_improve fault };
+
+    fn from(fault: ImproveFault) -> ProgramFault {
+        match fault {
+            ImproveFault::Workers => ProgramFault::Workers,
+            ImproveFault::Spawn => ProgramFault::Spawn,
+            ImproveFault::Receipts => ProgramFault::Receipts,
+            ImproveFault::Write => ProgramFault::Write,
+            ImproveFault::Memory => ProgramFault::Memory,
         }
     }
 }

@@ -3,6 +3,7 @@
 
 mod fault;
 mod finding;
+mod improving;
 mod judging;
 mod playing;
 mod progress;
@@ -11,7 +12,10 @@ mod starting;
 
 pub use fault::ProgramFault;
 pub use finding::{find, find_from, find_with};
+pub use improvement::ImprovePlan;
+pub use improving::{improve, improve_from, improve_with};
 pub use judging::{Verdict, report, report_from};
+pub use phases::MIN_EFFORT;
 pub use playing::{play, play_from};
 pub use progress::ProgressLine;
 pub use report_formats::Format;

@@ -1,6 +1,6 @@
 //! The line that tells on a terminal how far a search is.
 
-ghost use Rattle.std.specs.Prelude.{◌≡◌, OnOk, OnErr, Some, true, false};
+ghost use Rattle.std.specs.Prelude.{◌≡◌, ◌||◌, OnOk, OnErr, Some, true, false};
 ghost use Rattle.std.specs.Io.KnownBytes.{Appends};
 ghost use Rattle.streams.specs.Sending.{AppendsFront};
 ghost use Rattle.texts.specs.SearchText.{progress_line};
@@ -27,7 +27,7 @@ const MOST_STEPS: u32 = 4096;
 
 /// Writes on a terminal how many steps the workers took, the latest version that one of them has, and the least total that
 /// they told of. The line is written a few times a second, each over the one before, and taken away when the workers have
-/// ended. No worker waits for the terminal but the one that writes.
+/// ended. Where another run comes after that one, its first telling writes the line again. No worker waits for the terminal but the one that writes.
 #[derive(Drop)]
 pub struct ProgressLine<'a, C, W> {
     clock: &'a C,
@@ -40,6 +40,12 @@ pub struct ProgressLine<'a, C, W> {
 impl<'a, C: Clock, W: Sink> ProgressLine<'a, C, W> {
     /// A line of a search by this plan, which isn't written yet.
     pub fn new(clock: &'a C, terminal: W, plan: SearchPlan) -> Self {
+        let steps = u64::from(plan.workers) * u64::from(plan.steps);
+        ProgressLine::over(clock, terminal, steps)
+    }
+
+    /// A line of runs, one after another, whose workers take so many steps in all. It isn't written yet.
+    pub fn over(clock: &'a C, terminal: W, steps: u64) -> Self {
         let reached = Reached {
             steps: 0,
             version: 0,
@@ -47,11 +53,12 @@ impl<'a, C: Clock, W: Sink> ProgressLine<'a, C, W> {
         };
         let line = Line {
             terminal,
-            all: u64::from(plan.workers) * u64::from(plan.steps),
+            all: steps,
             last: None,
             told: None,
             pause: 1,
             shown: false,
+            taken: false,
         };
         ProgressLine {
             clock,
@@ -134,6 +141,8 @@ struct Line<W> {
     /// After how many steps a worker tells.
     pause: u32,
     shown: bool,
+    /// Whether it was taken away since it was last written.
+    taken: bool,
 }
 
 impl<W: Sink> Line<W> {
@@ -160,13 +169,14 @@ impl<W: Sink> Line<W> {
         self.told = Some(now);
     }
 
-    /// Whether the line is to be written now. Notes the time if it is, or if this is asked for the first time.
+    /// Whether the line is to be written now: if it was taken away, or stood long enough. Notes the time if it is, or if this is asked
+    /// for the first time.
     fn is_due(&mut self, now: Instant) -> bool
-        ensures due { result ≡ is_due self.old.last now }
-        ensures last { self.new ≡ record self.old { last = last_after self.old.last now } }
+        ensures due { result ≡ is_due self.old.taken self.old.last now }
+        ensures last { self.new ≡ record self.old { last = last_after self.old.taken self.old.last now } }
     {
         let due = match self.last {
-            Some(last) => PAUSE <= now.duration_since(last).as_millis(),
+            Some(last) => self.taken || PAUSE <= now.duration_since(last).as_millis(),
             None => false,
         };
         if due || self.last.is_none() {
@@ -182,8 +192,10 @@ impl<W: Sink> Line<W> {
         ensures front { OnErr result (AppendsFront (W.held self.old.terminal) (W.held self.new.terminal)
             (progress_line reached.steps self.old.all reached.version reached.least)) }
         ensures shown { self.new.shown ≡ true }
+        ensures taken { self.new.taken ≡ false }
     {
         self.shown = true;
+        self.taken = false;
         let mut out = BufferedSink::new(&mut self.terminal);
         write_progress(
             &mut out,
@@ -202,11 +214,13 @@ impl<W: Sink> Line<W> {
         ensures front { OnErr result (AppendsFront (W.held self.old.terminal) (W.held self.new.terminal)
             (line_to_clear self.old.shown)) }
         ensures shown { self.new.shown ≡ false }
+        ensures taken { self.new.taken ≡ (self.old.shown || self.old.taken) }
     {
         if !self.shown {
             return Ok(());
         }
         self.shown = false;
+        self.taken = true;
         let mut out = BufferedSink::new(&mut self.terminal);
         write_clear(&mut out)?;
         out.flush()

@@ -18,6 +18,8 @@ mod formatted_reports;
 #[cfg(test)]
 mod help_texts;
 #[cfg(test)]
+mod improvements;
+#[cfg(test)]
 mod judged_schedules;
 #[cfg(test)]
 mod largest;

@@ -34,3 +34,12 @@ returns-clause-ok g c = grind (arith, common_steps)
 
 pub returns-clause-shown : goal.returns-clause-shown
 returns-clause-shown g c = search rules
+
+pub returns-then-not-self-clause-taken : goal.returns-then-not-self-clause-taken
+returns-then-not-self-clause-taken g c = search rules
+
+pub returns-in_err-write_clear-clause-taken : goal.returns-in_err-write_clear-clause-taken
+returns-in_err-write_clear-clause-taken g c = search rules
+
+pub returns-clause-taken : goal.returns-clause-taken
+returns-clause-taken g c = search rules

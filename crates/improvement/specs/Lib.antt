@@ -1,0 +1,4 @@
+pub mod Runs
+pub mod PhaseText
+pub mod Outcome
+pub mod Kept

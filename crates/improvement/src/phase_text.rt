@@ -1,0 +1,135 @@
+//! What is written when a phase has ended.
+
+ghost use Rattle.std.specs.Prelude.{◌≡◌, ◌≤◌, [], OnOk};
+ghost use Rattle.league.specs.League.{teams};
+ghost use Rattle.fixture_board.specs.History.{best_prefix};
+ghost use Rattle.streams.specs.Writing.{Writes, waiting_in};
+ghost use Rattle.texts.specs.SearchText.{games_at_best};
+ghost use Rattle.improvement.specs.Kept.{run_of};
+ghost use Rattle.improvement.specs.PhaseText.{best_text, is_below, least_words, phase_text, phase_words, solution_text};
+
+use crate::phase_run::{EndedPhase, steps_each};
+use fixture_board::Board;
+use fixtures::Schedule;
+use streams::{BufferedSink, Sink, WriteFault};
+use texts::{Piece, write_pieces, write_sheet};
+
+/// Writes a phase's line, and its solution where that is better than the least total before. Nothing waits then.
+pub(crate) fn write_phase<W: Sink>(
+    out: &mut BufferedSink<'_, W>,
+    workers: u32,
+    least: Option<u64>,
+    ended: &EndedPhase,
+) -> Result<(), WriteFault>
+    requires { 1 ≤ workers }
+    ensures writes { Writes W.held W.tally out.old out.new result
+        (phase_text ended.now.board.league workers least (run_of ended.now)) }
+    ensures sent { OnOk result (waiting_in out.new ≡ []) }
+{
+    write_line(out, workers, ended)?;
+    write_least(out, ended.outcome().best)?;
+    write_solution(out, least, &ended.board)?;
+    out.flush()
+}
+
+/// Writes what a phase was, and how many entries came in it.
+fn write_line<W: Sink>(
+    out: &mut BufferedSink<'_, W>,
+    workers: u32,
+    ended: &EndedPhase,
+) -> Result<(), WriteFault>
+    requires { 1 ≤ workers }
+    ensures { Writes W.held W.tally out.old out.new result (phase_words workers (run_of ended.now)) }
+{
+    let phase = ended.phase;
+    let steps = u64::from(workers) * u64::from(steps_each(phase.steps, workers));
+    write_pieces(
+        out,
+        &[
+            Piece::Text(b"phase "),
+            Piece::Number(u64::from(phase.number)),
+            Piece::Text(b" weight "),
+            Piece::Number(u64::from(phase.weight)),
+            Piece::Text(b" slack "),
+            Piece::Number(u64::from(phase.slack)),
+            Piece::Text(b" steps "),
+            Piece::Number(steps),
+            Piece::Text(b" accepted "),
+            Piece::Number(ended.accepted),
+        ],
+    )
+}
+
+/// Writes the end of a phase's line: the least total of its history.
+fn write_least<W: Sink>(out: &mut BufferedSink<'_, W>, least: Option<u64>) -> Result<(), WriteFault>
+    ensures { Writes W.held W.tally out.old out.new result (least_words least) }
+{
+    match least {
+        None => out.write(b" best none\n"),
+        Some(total) => write_pieces(
+            out,
+            &[
+                Piece::Text(b" best "),
+                Piece::Number(total),
+                Piece::Text(b"\n"),
+            ],
+        ),
+    }
+}
+
+/// Writes the sheet of a board's best schedule and its total, where that is below the least total before.
+fn write_solution<W: Sink>(
+    out: &mut BufferedSink<'_, W>,
+    least: Option<u64>,
+    board: &Board,
+) -> Result<(), WriteFault>
+    ensures { Writes W.held W.tally out.old out.new result
+        (solution_text board.now.league least board.now.history) }
+{
+    match board.best() {
+        Some(best) if is_below(best.total, least) => write_best(out, board, best.total),
+        _ => Ok(()),
+    }
+}
+
+/// Writes the sheet of a board's best schedule, and this total.
+fn write_best<W: Sink>(
+    out: &mut BufferedSink<'_, W>,
+    board: &Board,
+    total: u64,
+) -> Result<(), WriteFault>
+    ensures { Writes W.held W.tally out.old out.new result
+        (best_text board.now.league board.now.history total) }
+{
+    write_sheet(out, best_or_present(board), board.league())?;
+    write_pieces(
+        out,
+        &[
+            Piece::Text(b"best "),
+            Piece::Number(total),
+            Piece::Text(b"\n----------\n"),
+        ],
+    )
+}
+
+/// The board's best schedule, or the present one if none was feasible.
+fn best_or_present(board: &Board) -> &Schedule
+    ensures games { result.now ≡ games_at_best board.now.league board.now.history
+        (best_prefix board.now.league board.now.history) }
+    ensures size { result.now.teams ≡ teams board.now.league }
+{
+    match board.best_schedule() {
+        Some(schedule) => schedule,
+        None => board.schedule(),
+    }
+}
+
+/// Whether the total is below the least before, or is the first.
+fn is_below(total: u64, least: Option<u64>) -> bool
+    ensures { result ≡ is_below total least }
+{
+    match least {
+        None => true,
+        Some(least) => total < least,
+    }
+}

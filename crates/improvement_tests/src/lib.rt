@@ -1,0 +1,5 @@
+//! Tests of improvements by their public call: what no contract says.
+#![tactic(auto)]
+
+#[cfg(test)]
+mod texts;
