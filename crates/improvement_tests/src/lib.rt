@@ -1,5 +1,5 @@
-//! Tests of improvements by their public call: what no contract says.
+//! Tests of improvements by their public call.
 #![tactic(auto)]
 
 #[cfg(test)]
-mod improvements;
+mod circles;
