@@ -1,5 +1,7 @@
 //! The command `improve`: its words, its faults, its text, and its line on a terminal.
 
+ghost use Rattle.std.specs.Prelude.{◌≡◌};
+
 use crate::arguments::words;
 use crate::checks::{check_holds, check_same, check_same_of};
 use crate::circle::CIRCLE;
@@ -98,7 +100,9 @@ const FAULTS: [(&str, u32, ProgramFault); 4] = [
 ];
 
 /// The least that all phases together may do.
-fn by(workers: u32) -> ImprovePlan {
+fn by(workers: u32) -> ImprovePlan
+    ensures { result.effort ≡ 1280 }
+{
     ImprovePlan {
         workers,
         seed: 1,

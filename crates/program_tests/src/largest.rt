@@ -90,14 +90,31 @@ const LEAGUES: [(&str, u8, &str, &str, &str); 2] = [
     ("hard", 1, HARD, "best none\n", "\nbest none\n"),
 ];
 
+/// The script's play text begins and ends so.
+fn check_costs<T: Threads + Wait + Sync + Abort>(
+    rt: &T,
+    alloc: Global,
+    league: &str,
+    begins: &str,
+    ends: &str,
+) -> Result<(), Fail> {
+    let input = [league, SCRIPT, LINES].concat(alloc)?;
+    let played = tell(rt, alloc, PLAY_OF_1024, input.as_bytes())?;
+    check_same(rt, &played.answer, &WRITTEN);
+    check_holds(
+        rt,
+        &begins,
+        played.text.as_slice().starts_with(begins.as_bytes()),
+    );
+    check_holds(rt, &ends, played.text.as_slice().ends_with(ends.as_bytes()));
+    Ok(())
+}
+
 #[test]
 fn the_largest_leagues_have_exact_costs(rt: HostRuntime) -> Result<(), Fail> {
     for (kind, at_most, begins, ends, _) in LEAGUES {
         let league = largest(rt.alloc(), kind, at_most)?;
-        let input = [league.as_str(), SCRIPT, LINES];
-        let text = Excerpt(begins, &[], ends);
-        let case = (PLAY_OF_1024, input.as_slice(), WRITTEN, text);
-        check_case(&rt, rt.alloc(), &case)?;
+        check_costs(&rt, rt.alloc(), league.as_str(), begins, ends)?;
     }
     Ok(())
 }
