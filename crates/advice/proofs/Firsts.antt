@@ -14,7 +14,8 @@ unfolding first_below
 first_below_more n f none = rw (← suc-eq-add-one n, none) refl
 
 -- none so far, and this one here
-pub first_below_found : {A : Type 0} (n k : ℕ) (f : ℕ → Option A) (x : A) → k < n → first_below k f ≡ None → f k ≡ Some x → first_below n f ≡ Some x
+pub first_below_found : {A : Type 0} (n k : ℕ) (f : ℕ → Option A) (x : A) → k < n → first_below k f ≡ None → f k ≡ Some x →
+    first_below n f ≡ Some x
 unfolding first_below
 first_below_found zero k f x below none here = absurd (omega arith)
 first_below_found (suc n) k f x below none here = elim (cases_eq k n) [

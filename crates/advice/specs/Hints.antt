@@ -5,7 +5,8 @@ use Rattle.serde_json.specs.Find.{get, at}
 use Rattle.league.specs.declared.fault.Field.{Field}
 use Rattle.league.specs.declared.fault.Field.TheVariants.{Distances}
 use Rattle.league.specs.declared.fault.LeagueFault.{LeagueFault}
-use Rattle.league.specs.declared.fault.LeagueFault.TheVariants.{WrongKind, DistanceShape, DistanceRange, Diagonal, Asymmetric, RuleClass, RuleValue}
+use Rattle.league.specs.declared.fault.LeagueFault.TheVariants.{WrongKind, DistanceShape, DistanceRange, Diagonal}
+use Rattle.league.specs.declared.fault.LeagueFault.TheVariants.{Asymmetric, RuleClass, RuleValue}
 use Rattle.league.specs.Json.{json_of, only_if}
 use Rattle.league.specs.Limits.{max_teams}
 use Rattle.advice.specs.declared.hint.Hint.{Hint}

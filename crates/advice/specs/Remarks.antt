@@ -1,5 +1,6 @@
 -- Remarks on the members of a league's text that no format knows.
-use Rattle.std.specs.Prelude.{ℕ, ◌+◌, ◌||◌, List, [], ◌∷◌, ◌++◌, map, codes, decimal, Bool, Option, Some, None, option_and_then, if◌then◌else◌}
+use Rattle.std.specs.Prelude.{ℕ, ◌+◌, ◌||◌, List, [], ◌∷◌, ◌++◌, map, codes, decimal, Bool, Option, Some, None}
+use Rattle.std.specs.Prelude.{option_and_then, if◌then◌else◌}
 use Rattle.std.specs.List.{concat, list_any}
 use Rattle.std.specs.Str.{bytes_eq}
 use Rattle.serde_json.specs.Data.{Data, Items, no_items, item, Members, no_members, member}
@@ -13,10 +14,12 @@ abbrev pub is_one_of : List (List ℕ) → List ℕ → Bool
 is_one_of names name = list_any (bytes_eq name) names
 
 abbrev pub is_league_member : List ℕ → Bool
-is_league_member = is_one_of (codes "format" ∷ codes "teams" ∷ codes "distances" ∷ codes "at_most" ∷ codes "hard_weight" ∷ codes "rules" ∷ codes "start" ∷ codes "phased" ∷ [])
+is_league_member = is_one_of (codes "format" ∷ codes "teams" ∷ codes "distances" ∷ codes "at_most" ∷ codes "hard_weight" ∷ codes "rules"
+    ∷ codes "start" ∷ codes "phased" ∷ [])
 
 abbrev pub is_rule_member : List ℕ → Bool
-is_rule_member = is_one_of (codes "class" ∷ codes "kind" ∷ codes "weight" ∷ codes "teams" ∷ codes "teams1" ∷ codes "teams2" ∷ codes "slots" ∷ codes "mode" ∷ codes "mode2" ∷ codes "max" ∷ codes "min" ∷ codes "intp" ∷ codes "games" ∷ [])
+is_rule_member = is_one_of (codes "class" ∷ codes "kind" ∷ codes "weight" ∷ codes "teams" ∷ codes "teams1" ∷ codes "teams2" ∷ codes
+    "slots" ∷ codes "mode" ∷ codes "mode2" ∷ codes "max" ∷ codes "min" ∷ codes "intp" ∷ codes "games" ∷ [])
 
 -- some format knows the member
 abbrev pub knows : Owner → List ℕ → Bool

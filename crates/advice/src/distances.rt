@@ -2,7 +2,8 @@
 
 ghost use Rattle.std.specs.Prelude.{◌≡◌, ◌+◌, ◌^◌, ◌<◌};
 ghost use Rattle.serde_json.specs.View.{view};
-ghost use Rattle.advice.specs.Distances.{entry, distance, columns, is_wrong_row, is_wrong_entry, row_hint, table_hint, shape_hint, distances_hint};
+ghost use Rattle.advice.specs.Distances.{entry, distance, columns, is_wrong_row, is_wrong_entry, row_hint, table_hint};
+ghost use Rattle.advice.specs.Distances.{shape_hint, distances_hint};
 
 use crate::forms::item_count;
 use crate::hint::Hint;

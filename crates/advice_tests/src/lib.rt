@@ -4,4 +4,6 @@
 #[cfg(test)]
 mod hints;
 #[cfg(test)]
+mod memory;
+#[cfg(test)]
 mod remarks;

@@ -1,6 +1,6 @@
 //! What was measured, as lines: what it came to on standard output, and how fast it was on standard error.
 
-ghost use Rattle.std.specs.Prelude.{◌≡◌, ◌<◌, [], IfOk};
+ghost use Rattle.std.specs.Prelude.{◌≡◌, ◌*◌, ◌^◌, ◌<◌, [], IfOk};
 
 use crate::kind::Kind;
 use crate::measure::{Count, measure};
@@ -10,7 +10,7 @@ use crate::turns::{Turn, Work, take_turns};
 use fixture_board::{Board, MAX_ROOM};
 use league::{League, circular};
 use search::Report;
-use shared_board::{Seat, Shared};
+use shared_board::Shared;
 use std::alloc::Global;
 use std::io;
 use std::rt::Runtime;
@@ -32,28 +32,50 @@ fn report_kind<R: Runtime + AllocGlobal>(
     kind: Kind,
     count: u32,
 ) -> io::Result<()> {
-    let league = league_of(rt.alloc(), teams)?;
-    let mut schedule = fixtures::start(rt.alloc(), &league)?;
-    let start = Instant::now(rt)?;
-    let Count { made, refused } = measure(&mut schedule, kind, count);
-    let each = nanoseconds_each(rt, start, made)?;
+    let (Count { made, refused }, each) = time_moves(rt, teams, kind, count)?;
     println!(rt; "{teams} teams {kind}: made {made} refused {refused}")?;
     eprintln!(rt; "{teams} teams {kind}: {each} ns each")
 }
 
-/// Tries of drawn moves.
-pub fn report_tries<R: Runtime + AllocGlobal>(rt: &R, teams: u8, count: u32) -> io::Result<()> {
+/// What became of the moves, and the nanoseconds of each.
+fn time_moves<R: Runtime + AllocGlobal>(
+    rt: &R,
+    teams: u8,
+    kind: Kind,
+    count: u32,
+) -> io::Result<(Count, u128)> {
     let league = league_of(rt.alloc(), teams)?;
     let mut schedule = fixtures::start(rt.alloc(), &league)?;
     let start = Instant::now(rt)?;
+    let counted = measure(&mut schedule, kind, count);
+    let each = nanoseconds_each(rt, start, counted.made)?;
+    Ok((counted, each))
+}
+
+/// Tries of drawn moves.
+pub fn report_tries<R: Runtime + AllocGlobal>(rt: &R, teams: u8, count: u32) -> io::Result<()> {
+    let (tries, each) = time_tries(rt, teams, count)?;
     let Tries {
         kept,
         withdrawn,
         refused,
-    } = try_moves(&mut schedule, &league, count);
-    let each = nanoseconds_each(rt, start, count)?;
+    } = tries;
     println!(rt; "{teams} teams tries: kept {kept} withdrawn {withdrawn} refused {refused}")?;
     eprintln!(rt; "{teams} teams tries: {each} ns each")
+}
+
+/// What became of the tries, and the nanoseconds of each.
+fn time_tries<R: Runtime + AllocGlobal>(
+    rt: &R,
+    teams: u8,
+    count: u32,
+) -> io::Result<(Tries, u128)> {
+    let league = league_of(rt.alloc(), teams)?;
+    let mut schedule = fixtures::start(rt.alloc(), &league)?;
+    let start = Instant::now(rt)?;
+    let tries = try_moves(&mut schedule, &league, count);
+    let each = nanoseconds_each(rt, start, count)?;
+    Ok((tries, each))
 }
 
 /// Steps of a worker that has the board for itself, and of one that has the only seat of a shared board.
@@ -62,22 +84,42 @@ pub fn report_steps<R: Runtime + AllocGlobal + Wait>(
     teams: u8,
     count: u32,
 ) -> io::Result<()> {
-    let league = league_of(rt.alloc(), teams)?;
-    let mut copy = fixtures::start(rt.alloc(), &league)?;
-
-    let board = board_of(rt.alloc(), teams, count)?;
-    let start = Instant::now(rt)?;
-    let Report { made, accepted, .. } = own_steps(rt, &league, board, &mut copy, count);
-    let each = nanoseconds_each(rt, start, count)?;
+    let (Report { made, accepted, .. }, each) = time_own_steps(rt, teams, count)?;
     println!(rt; "{teams} teams own board: proposed {made} accepted {accepted}")?;
     eprintln!(rt; "{teams} teams own board: {each} ns each")?;
-
-    let (shared, seat) = Shared::new(rt.alloc(), board_of(rt.alloc(), teams, count)?)?;
-    let start = Instant::now(rt)?;
-    let Report { made, accepted, .. } = seat_steps(rt, &league, &shared, seat, &mut copy, count);
-    let each = nanoseconds_each(rt, start, count)?;
+    let (Report { made, accepted, .. }, each) = time_seat_steps(rt, teams, count)?;
     println!(rt; "{teams} teams shared board: proposed {made} accepted {accepted}")?;
     eprintln!(rt; "{teams} teams shared board: {each} ns each")
+}
+
+/// What a worker with a board of its own reports, and the nanoseconds of a step.
+fn time_own_steps<R: Runtime + AllocGlobal + Wait>(
+    rt: &R,
+    teams: u8,
+    count: u32,
+) -> io::Result<(Report, u128)> {
+    let league = league_of(rt.alloc(), teams)?;
+    let mut copy = fixtures::start(rt.alloc(), &league)?;
+    let board = board_of(rt.alloc(), teams, count)?;
+    let start = Instant::now(rt)?;
+    let report = own_steps(rt, &league, board, &mut copy, count);
+    let each = nanoseconds_each(rt, start, count)?;
+    Ok((report, each))
+}
+
+/// What a worker with the only seat reports, and the nanoseconds of a step.
+fn time_seat_steps<R: Runtime + AllocGlobal + Wait>(
+    rt: &R,
+    teams: u8,
+    count: u32,
+) -> io::Result<(Report, u128)> {
+    let league = league_of(rt.alloc(), teams)?;
+    let mut copy = fixtures::start(rt.alloc(), &league)?;
+    let (shared, seat) = Shared::new(rt.alloc(), board_of(rt.alloc(), teams, count)?)?;
+    let start = Instant::now(rt)?;
+    let report = seat_steps(rt, &league, &shared, seat, &mut copy, count);
+    let each = nanoseconds_each(rt, start, count)?;
+    Ok((report, each))
 }
 
 /// Turns of 1 to 16 threads on one shared board.
@@ -102,23 +144,36 @@ fn report_threads<R: Runtime + AllocGlobal + Threads + Wait + Sync>(
 ) -> io::Result<()>
     requires { 0 < threads }
 {
-    let board = board_of(rt.alloc(), teams, count)?;
+    let turns = count / threads;
+    let each = time_turns(rt, teams, threads, Work { turn, turns })?;
+    println!(rt; "{teams} teams {turn}: {threads} threads, {turns} turns each")?;
+    eprintln!(rt; "{teams} teams {turn}, {threads} threads: {each} ns each")
+}
+
+/// The nanoseconds of a turn of so many threads. Their changes have to be those of the board.
+fn time_turns<R: Runtime + AllocGlobal + Threads + Wait + Sync>(
+    rt: &R,
+    teams: u8,
+    threads: u32,
+    work: Work,
+) -> io::Result<u128>
+    requires threads { 0 < threads }
+    requires turns { work.turns * threads < 2 ^ 32 }
+{
+    let board = board_of(rt.alloc(), teams, work.turns * threads)?;
     let copy = board.schedule().duplicate(rt.alloc())?;
     let (shared, seat) = Shared::new(rt.alloc(), board)?;
-    let turns = count / threads;
-    let work = Work { turn, turns };
     let start = Instant::now(rt)?;
     let Some(seat) = take_turns(rt, rt.alloc(), &shared, seat, copy, threads, work) else {
         return Err(io::Error::from(io::ErrorKind::OutOfMemory));
     };
-    let each = nanoseconds_each(rt, start, turns * threads)?;
+    let each = nanoseconds_each(rt, start, work.turns * threads)?;
     let (held, accepted) = (seat.held(), seat.accepted());
     let closed = shared.close(rt, seat);
     if !closed.whole || held != threads || accepted != closed.board.version() {
         return Err(io::Error::from(io::ErrorKind::InvalidData));
     }
-    println!(rt; "{teams} teams {turn}: {threads} threads, {turns} turns each")?;
-    eprintln!(rt; "{teams} teams {turn}, {threads} threads: {each} ns each")
+    Ok(each)
 }
 
 fn league_of(alloc: Global, teams: u8) -> io::Result<League> {

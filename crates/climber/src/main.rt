@@ -40,16 +40,28 @@ fn main(rt: HostRuntime) -> ExitCode {
 }
 
 fn run<R: Runtime + AllocGlobal + Threads + Wait + Sync>(rt: &R) -> io::Result<()> {
+    climb_alone(rt)?;
+    let replays = climb_in_two(rt)?;
+    println!(rt; "two threads: history replays {replays}")
+}
+
+/// Prints what a climber finds alone.
+fn climb_alone<R: Runtime + AllocGlobal>(rt: &R) -> io::Result<()> {
     let mut board = board_of(rt.alloc())?;
     climb(&mut board, &mut generator(0), STEPS);
-    if print(rt, &board).is_err() {
-        return Err(io::Error::from(io::ErrorKind::WriteZero));
+    match print(rt, &board) {
+        Ok(()) => Ok(()),
+        Err(_) => Err(io::Error::from(io::ErrorKind::WriteZero)),
     }
-    let Some(shared) = climb_together(rt, rt.alloc(), board_of(rt.alloc())?, STEPS) else {
+}
+
+/// Whether the history that two climbers made replays on a board of one thread.
+fn climb_in_two<R: Runtime + AllocGlobal + Threads + Wait + Sync>(rt: &R) -> io::Result<bool> {
+    let board = board_of(rt.alloc())?;
+    let Some(shared) = climb_together(rt, rt.alloc(), board, STEPS) else {
         return Err(io::Error::from(io::ErrorKind::OutOfMemory));
     };
-    let replays = replays(board_of(rt.alloc())?, &shared);
-    println!(rt; "two threads: history replays {replays}")
+    Ok(replays(board_of(rt.alloc())?, &shared))
 }
 
 /// A board for the circle, with room for each change of two climbers.

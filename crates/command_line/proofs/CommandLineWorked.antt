@@ -1,7 +1,9 @@
 -- What the definition of the command line answers at words that are written out.
 use Rattle.std.proofs.Common.{◌≡◌, List, [], ◌∷◌, None, Some, codes, refl}
 use Rattle.clap.specs.Words.{Text, fault_of}
-use Rattle.clap.specs.declared.error.kind.ErrorKind.TheVariants.{ArgumentConflict, DisplayHelp, DisplayVersion, InvalidValue, MissingSubcommand, UnknownArgument, ValueValidation}
+use Rattle.clap.specs.declared.error.kind.ErrorKind.TheVariants.{ArgumentConflict, DisplayHelp, DisplayVersion}
+use Rattle.clap.specs.declared.error.kind.ErrorKind.TheVariants.{InvalidValue, MissingSubcommand, UnknownArgument}
+use Rattle.clap.specs.declared.error.kind.ErrorKind.TheVariants.{ValueValidation}
 use Rattle.clap.proofs.OnLiterals.{clap_on_literals}
 use Rattle.command_line.specs.CommandLine.{job_of_words, program, words_fault}
 use Rattle.command_line.specs.declared.job.Job.TheVariants.{Find, Improve, Play, Report, Start}
@@ -74,7 +76,8 @@ improve_has_its_defaults : job_of_words (ttp (codes "improve" ∷ [])) ≡ Some 
 unfolding clap_on_literals
 improve_has_its_defaults = refl
 
-improve_has_its_numbers : job_of_words (ttp (codes "improve" ∷ codes "--workers" ∷ codes "4" ∷ codes "--seed=7" ∷ codes "--effort" ∷ codes "1000" ∷ []))
+improve_has_its_numbers : job_of_words
+    (ttp (codes "improve" ∷ codes "--workers" ∷ codes "4" ∷ codes "--seed=7" ∷ codes "--effort" ∷ codes "1000" ∷ []))
     ≡ Some (Improve 4 7 1000000000)
 unfolding clap_on_literals
 improve_has_its_numbers = refl
@@ -91,11 +94,13 @@ improve_takes_no_slack : fault_of program (ttp (codes "improve" ∷ codes "--sla
 unfolding clap_on_literals
 improve_takes_no_slack = refl
 
-search_has_its_defaults : job_of_words (ttp (codes "search" ∷ [])) ≡ Some (Find 1024 (record { workers = 2; seed = 1; steps = 1000; slack = 0 }))
+search_has_its_defaults : job_of_words (ttp (codes "search" ∷ []))
+    ≡ Some (Find 1024 (record { workers = 2; seed = 1; steps = 1000; slack = 0 }))
 unfolding clap_on_literals
 search_has_its_defaults = refl
 
-search_has_its_numbers : job_of_words (ttp (codes "search" ∷ codes "--workers" ∷ codes "4" ∷ codes "--slack=7" ∷ codes "--room" ∷ codes "8" ∷ []))
+search_has_its_numbers : job_of_words
+    (ttp (codes "search" ∷ codes "--workers" ∷ codes "4" ∷ codes "--slack=7" ∷ codes "--room" ∷ codes "8" ∷ []))
     ≡ Some (Find 8 (record { workers = 4; seed = 1; steps = 1000; slack = 7 }))
 unfolding clap_on_literals
 search_has_its_numbers = refl

@@ -1,5 +1,6 @@
 -- Where the words are no fault, they name a command, and each of its options has a value.
-use Rattle.std.proofs.Common.{◌≡◌, ◌∙◌, ap, ◌&&◌, ◌||◌, cond, ℕ, Bool, true, false, List, [], ◌∷◌, Option, Some, None, is_some, refl, sym, subst, codes, inl, inr, option_map, true≢false, map, ◌++◌}
+use Rattle.std.proofs.Common.{◌≡◌, ◌∙◌, ap, ◌&&◌, ◌||◌, cond, ℕ, Bool, true, false, List, [], ◌∷◌, Option, Some, None}
+use Rattle.std.proofs.Common.{is_some, refl, sym, subst, codes, inl, inr, option_map, true≢false, map, ◌++◌}
 use Rattle.std.specs.Prelude.{Box, find, fold}
 use Rattle.std.specs.Box.{box_value}
 use Rattle.std.specs.Option.{option_map_or}
@@ -7,15 +8,22 @@ use Rattle.std.specs.Str.{bytes_eq}
 use Rattle.std.proofs.lemmas.Slice.Eq.{bytes_eq-Decides}
 use Rattle.clap.specs.Lexer.{long_of, short_of}
 use Rattle.clap.specs.Kinds.{or_else}
-use Rattle.clap.specs.Faults.{check_fault, defaults_fault, entered_fault, fault_of, level_fault, other_fault, settle_fault, step_fault, turn_fault, walk_fault, word_fault}
-use Rattle.clap.specs.Simple.{Shape, argument_words, built, built_leaf, entered, help_shape, inherited, label_of, names_of, rows_at, subcommand_of, subcommand_rows}
+use Rattle.clap.specs.Faults.{check_fault, defaults_fault, entered_fault, fault_of, level_fault, other_fault}
+use Rattle.clap.specs.Faults.{settle_fault, step_fault, turn_fault, walk_fault, word_fault}
+use Rattle.clap.specs.Simple.{Shape, argument_words, built, built_leaf, entered, help_shape, inherited, label_of}
+use Rattle.clap.specs.Simple.{names_of, rows_at, subcommand_of, subcommand_rows}
 use Rattle.clap.specs.declared.parser.matches.ArgMatches.TheViews.{out-SubCommand}
 use Rattle.clap.specs.declared.parser.matches.SubCommand.{SubCommand}
-use Rattle.clap.specs.Walk.{Held, Names, Outcome, Row, Rule, Step, Text, Waiting, Walk, after_flag, after_step, answers_to, arg_by_index, finished, long_or_other, nothing_held, plain_word, settled, short_or_plain, subcommand_met, subcommand_or_other, to_positional, walk, walk_from, walked, walked_from, word_met}
+use Rattle.clap.specs.Walk.{Held, Names, Outcome, Row, Rule, Step, Text, Waiting, Walk, after_flag, after_step}
+use Rattle.clap.specs.Walk.{answers_to, arg_by_index, finished, long_or_other, nothing_held, plain_word, settled}
+use Rattle.clap.specs.Walk.{short_or_plain, subcommand_met, subcommand_or_other, to_positional, walk, walk_from, walked}
+use Rattle.clap.specs.Walk.{walked_from, word_met}
 use Rattle.clap.specs.Walk.{done, waits, plain, refused, idle, option, positional, next, trailing, subcommand, value}
 use Rattle.clap.specs.declared.error.kind.ErrorKind.TheVariants.{DisplayHelp, InvalidSubcommand}
 use Rattle.clap.proofs.OnLiterals.{clap_on_literals}
-use Rattle.command_line.specs.CommandLine.{CommandForm, HasValues, NamesACommand, NamesOneOf, OptionForm, app_of_command, commands, format_option, improve_command, play_command, program, report_command, room_option, search_command, start_command}
+use Rattle.command_line.specs.CommandLine.{CommandForm, HasValues, NamesACommand, NamesOneOf, OptionForm}
+use Rattle.command_line.specs.CommandLine.{app_of_command, commands, format_option, improve_command, play_command}
+use Rattle.command_line.specs.CommandLine.{program, report_command, room_option, search_command, start_command}
 use Rattle.command_line.proofs.Options.{both_pass, no_kind}
 use Rattle.command_line.proofs.OptionWords.{has_values}
 
@@ -82,7 +90,8 @@ module _ (word : Text) where
   word_step true waiting position h e = tt
   word_step false waiting position h e = named_step waiting position (subcommand_met names waiting word) h e
 
-  after_word : (w : Walk) (h : Held) (step : Step) → w.stopped ≡ None → IsNoHelpStep step → IsNotHelp (after_step top.rules word w h step).stopped
+  after_word : (w : Walk) (h : Held) (step : Step) → w.stopped ≡ None → IsNoHelpStep step →
+      IsNotHelp (after_step top.rules word w h step).stopped
   after_word w h (subcommand name) none ok = ok
   after_word w h (next waiting) none ok = subst IsNotHelp (sym none) tt
   after_word w h (trailing position) none ok = subst IsNotHelp (sym none) tt
@@ -98,14 +107,16 @@ module _ (word : Text) where
     where
       go : (o : Option (Text × List Text)) → w.stopped ≡ o
           → (let met = word_met top.rules names w.is_trailing w.waiting w.position word w.held in
-          cond (is_some o) [] (or_else (word_fault top names w.is_trailing w.waiting word w.held) (step_fault top w.position met.0 met.1)) ≡ [])
+          cond (is_some o) [] (or_else (word_fault top names w.is_trailing w.waiting word w.held) (step_fault top w.position met.0 met.1))
+          ≡ [])
           → IsNotHelp o → IsNotHelp (walked_from top.rules names o w word).stopped
       go (Some p) is e ok = ok
       go None is e ok =
           let parts = both_pass (word_fault top names w.is_trailing w.waiting word w.held) _ e in
           after_word w _ _ is (word_step w.is_trailing w.waiting w.position w.held parts.0)
 
-walk_on : (w : Walk) (words : List Text) → walk_fault top names w words ≡ [] → IsNotHelp w.stopped → IsNotHelp (fold (walked top.rules names) w words).stopped
+walk_on : (w : Walk) (words : List Text) → walk_fault top names w words ≡ [] → IsNotHelp w.stopped →
+    IsNotHelp (fold (walked top.rules names) w words).stopped
 unfolding walk_fault
 walk_on w [] e ok = ok
 walk_on w (x ∷ xs) e ok =
@@ -117,7 +128,8 @@ walk_on w (x ∷ xs) e ok =
 -- a command keeps its name, and where its words are no fault each option has a value
 record IsRead (c : CommandForm) : Type 0 where
   named : (built_command c).name ≡ c.name
-  has : (words : List Text) → level_fault (built_command c) [] nothing_held words false [] ≡ [] → HasValues (rows_at (built_command c) words).1 c.options
+  has : (words : List Text) → level_fault (built_command c) [] nothing_held words false [] ≡ [] →
+      HasValues (rows_at (built_command c) words).1 c.options
 
 abbrev AreRead : List CommandForm → Type 0
 AreRead [] = Unit {0}
@@ -128,12 +140,47 @@ unfolding clap_on_literals
 commands_are_read = (
   record { named = refl; has = has_values [] tt (built_command start_command) },
   (
-    record { named = refl; has = has_values (room_option ∷ []) (record { first = refl; as_written = refl; default_fits = refl }, tt) (built_command play_command) },
+    record {
+      named = refl;
+      has = has_values (room_option ∷ []) (record { first = refl; as_written = refl; default_fits = refl }, tt)
+          (built_command play_command);
+    },
     (
-      record { named = refl; has = has_values improve_command.options (record { first = refl; as_written = refl; default_fits = refl }, (record { first = refl; as_written = refl; default_fits = refl }, (record { first = refl; as_written = refl; default_fits = refl }, tt))) (built_command improve_command) },
+      record {
+        named = refl;
+        has = has_values improve_command.options (
+          record { first = refl; as_written = refl; default_fits = refl },
+          (
+            record { first = refl; as_written = refl; default_fits = refl },
+            (record { first = refl; as_written = refl; default_fits = refl }, tt),
+          ),
+        ) (built_command improve_command);
+      },
       (
-        record { named = refl; has = has_values search_command.options (record { first = refl; as_written = refl; default_fits = refl }, (record { first = refl; as_written = refl; default_fits = refl }, (record { first = refl; as_written = refl; default_fits = refl }, (record { first = refl; as_written = refl; default_fits = refl }, (record { first = refl; as_written = refl; default_fits = refl }, tt))))) (built_command search_command) },
-        (record { named = refl; has = has_values (format_option ∷ []) (record { first = refl; as_written = refl; default_fits = refl }, tt) (built_command report_command) }, tt),
+        record {
+          named = refl;
+          has = has_values search_command.options (
+            record { first = refl; as_written = refl; default_fits = refl },
+            (
+              record { first = refl; as_written = refl; default_fits = refl },
+              (
+                record { first = refl; as_written = refl; default_fits = refl },
+                (
+                  record { first = refl; as_written = refl; default_fits = refl },
+                  (record { first = refl; as_written = refl; default_fits = refl }, tt),
+                ),
+              ),
+            ),
+          ) (built_command search_command);
+        },
+        (
+          record {
+            named = refl;
+            has = has_values (format_option ∷ [])
+                (record { first = refl; as_written = refl; default_fits = refl }, tt) (built_command report_command);
+          },
+          tt,
+        ),
       ),
     ),
   ),
@@ -197,29 +244,37 @@ names_a_command words e =
     let below = both_pass (entered_fault (built program) end.stopped) _ met.1 in
     let rest = both_pass (settle_fault top.rules false end.held) _ below.1 in
     let last = both_pass (defaults_fault (settled top.rules end.held).rows top.rules) _ rest.1 in
-    entered_is end.stopped (finished top.rules end.held) (walk_on (walk_from nothing_held) (argument_words program words) met.0 tt) below.0 last.1
+    entered_is end.stopped (finished top.rules end.held)
+    (walk_on (walk_from nothing_held) (argument_words program words) met.0 tt) below.0 last.1
 
 -- a command that is named and has this name has the values of its options
-pub search_values : (found : Text × List Row) → NamesOneOf commands found → found.0 ≡ codes "search" → HasValues found.1 search_command.options
+pub search_values : (found : Text × List Row) → NamesOneOf commands found → found.0 ≡ codes "search" →
+    HasValues found.1 search_command.options
 search_values found (inl of_start) is = absurd (true≢false (ap (λ t. bytes_eq t (codes "start")) (sym of_start.0 ∙ is)))
 search_values found (inr (inl of_play)) is = absurd (true≢false (ap (λ t. bytes_eq t (codes "play")) (sym of_play.0 ∙ is)))
 search_values found (inr (inr (inl of_improve))) is = absurd (true≢false (ap (λ t. bytes_eq t (codes "improve")) (sym of_improve.0 ∙ is)))
 search_values found (inr (inr (inr (inl of_search)))) is = of_search.1
-search_values found (inr (inr (inr (inr (inl of_report))))) is = absurd (true≢false (ap (λ t. bytes_eq t (codes "report")) (sym of_report.0 ∙ is)))
+search_values found (inr (inr (inr (inr (inl of_report))))) is =
+    absurd (true≢false (ap (λ t. bytes_eq t (codes "report")) (sym of_report.0 ∙ is)))
 search_values found (inr (inr (inr (inr (inr none))))) is = absurd none
 
-pub improve_values : (found : Text × List Row) → NamesOneOf commands found → found.0 ≡ codes "improve" → HasValues found.1 improve_command.options
+pub improve_values : (found : Text × List Row) → NamesOneOf commands found → found.0 ≡ codes "improve" →
+    HasValues found.1 improve_command.options
 improve_values found (inl of_start) is = absurd (true≢false (ap (λ t. bytes_eq t (codes "start")) (sym of_start.0 ∙ is)))
 improve_values found (inr (inl of_play)) is = absurd (true≢false (ap (λ t. bytes_eq t (codes "play")) (sym of_play.0 ∙ is)))
 improve_values found (inr (inr (inl of_improve))) is = of_improve.1
-improve_values found (inr (inr (inr (inl of_search)))) is = absurd (true≢false (ap (λ t. bytes_eq t (codes "search")) (sym of_search.0 ∙ is)))
-improve_values found (inr (inr (inr (inr (inl of_report))))) is = absurd (true≢false (ap (λ t. bytes_eq t (codes "report")) (sym of_report.0 ∙ is)))
+improve_values found (inr (inr (inr (inl of_search)))) is =
+    absurd (true≢false (ap (λ t. bytes_eq t (codes "search")) (sym of_search.0 ∙ is)))
+improve_values found (inr (inr (inr (inr (inl of_report))))) is =
+    absurd (true≢false (ap (λ t. bytes_eq t (codes "report")) (sym of_report.0 ∙ is)))
 improve_values found (inr (inr (inr (inr (inr none))))) is = absurd none
 
 -- so the rows of the subcommand that a parse met, where it has this name, have the values of its options
-pub values_of_met : {Z : Type 0} (word : Text) (options : List OptionForm) → ((found : Text × List Row) → NamesOneOf commands found → found.0 ≡ word → HasValues found.1 options)
+pub values_of_met : {Z : Type 0} (word : Text) (options : List OptionForm) →
+    ((found : Text × List Row) → NamesOneOf commands found → found.0 ≡ word → HasValues found.1 options)
     → (met : Option (Box SubCommand Z)) (name : Text) (rows : List Row) → NamesACommand (subcommand_rows met)
-    → Some name ≡ option_map (λ b. (out-SubCommand (box_value b)).name.now) met → Some rows ≡ option_map (λ found. found.1) (subcommand_rows met)
+    → Some name ≡ option_map (λ b. (out-SubCommand (box_value b)).name.now) met →
+    Some rows ≡ option_map (λ found. found.1) (subcommand_rows met)
     → name ≡ word → HasValues rows options
 values_of_met word options values None name rows named is_name are_rows is = absurd named
 values_of_met word options values (Some b) name rows named is_name are_rows is =

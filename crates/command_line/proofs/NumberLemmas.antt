@@ -14,7 +14,8 @@ use Rattle.command_line.specs.declared.number_args.NumberArg.{NumberArg}
 abbrev Reads : Text → Result ℕ ParseIntError → Type 0
 Reads t r = ParsesUnsigned 64 10 t r × ExplainsUnsignedError 10 t r × HasUnsignedDigitsIfOk t r
 
-module _ (o : NumberArg) (f : Found) (r : Option ℕ) (has : HasValue (rows_of f) (form_of o)) (value : (t : Text) → one_text f o.name.now ≡ Some t → ReadsOne Reads t r) where
+module _ (o : NumberArg) (f : Found) (r : Option ℕ) (has : HasValue (rows_of f) (form_of o))
+    (value : (t : Text) → one_text f o.name.now ≡ Some t → ReadsOne Reads t r) where
   read : ReadsOne Reads has.0 r
   read = value has.0 (one_text-rows f o.name.now ∙ has.1)
 

@@ -1,19 +1,29 @@
 -- Where the words of a command are no fault, each of its options has a value that clap takes.
-use Rattle.std.proofs.Common.{◌≡◌, ◌&&◌, not, cond, ℕ, zero, suc, Bool, true, false, List, [], ◌∷◌, Option, Some, None, is_some, refl, sym, subst, drop, length}
+use Rattle.std.proofs.Common.{◌≡◌, ◌&&◌, not, cond, ℕ, zero, suc, Bool, true, false, List, [], ◌∷◌, Option, Some, None}
+use Rattle.std.proofs.Common.{is_some, refl, sym, subst, drop, length}
 use Rattle.std.specs.Prelude.{encode_utf8, find, fold, slice_get}
 use Rattle.std.specs.Option.{option_map_or}
 use Rattle.std.specs.Str.{bytes_eq, chars}
 use Rattle.clap.specs.Lexer.{long_of, short_of}
 use Rattle.clap.specs.ValueTests.{accepts}
 use Rattle.clap.specs.Kinds.{or_else, range_kinds, value_kinds}
-use Rattle.clap.specs.Faults.{bundle_fault, bundle_step_fault, flag_word_fault, flags_fault, level_fault, long_fault, option_fault, other_fault, positional_fault, react_fault, repeat_fault, settle_fault, short_fault, step_fault, stray_fault, turn_fault, use_fault, values_fault, walk_fault, word_fault}
+use Rattle.clap.specs.Faults.{bundle_fault, bundle_step_fault, flag_word_fault, flags_fault, level_fault, long_fault}
+use Rattle.clap.specs.Faults.{option_fault, other_fault, positional_fault, react_fault, repeat_fault, settle_fault}
+use Rattle.clap.specs.Faults.{short_fault, step_fault, stray_fault, turn_fault, use_fault, values_fault, walk_fault}
+use Rattle.clap.specs.Faults.{word_fault}
 use Rattle.clap.specs.Simple.{Shape}
-use Rattle.clap.specs.Walk.{Held, Outcome, Row, Rule, Step, Text, Waiting, Walk, after_flag, after_step, arg_by_id, arg_by_index, arg_by_long, attached_value, bundle, bundle_met, bundle_step, has_long, has_short, long_met, long_or_other, nothing_held, option_met, option_word, plain_word, reading_by, rows_after, settled, settled_rows, short_met, short_or_plain, subcommand_met, subcommand_or_other, used, used_by_id, walk, walk_from, walked, walked_from, with_values, word_met}
+use Rattle.clap.specs.Walk.{Held, Outcome, Row, Rule, Step, Text, Waiting, Walk, after_flag, after_step, arg_by_id}
+use Rattle.clap.specs.Walk.{arg_by_index, arg_by_long, attached_value, bundle, bundle_met, bundle_step, has_long}
+use Rattle.clap.specs.Walk.{has_short, long_met, long_or_other, nothing_held, option_met, option_word, plain_word}
+use Rattle.clap.specs.Walk.{reading_by, rows_after, settled, settled_rows, short_met, short_or_plain, subcommand_met}
+use Rattle.clap.specs.Walk.{subcommand_or_other, used, used_by_id, walk, walk_from, walked, walked_from, with_values}
+use Rattle.clap.specs.Walk.{word_met}
 use Rattle.clap.specs.Walk.{done, waits, plain, refused, idle, option, positional, next, trailing, subcommand, value}
 use Rattle.clap.specs.declared.error.kind.ErrorKind.TheVariants.{UnknownArgument, InvalidSubcommand}
 use Rattle.clap.specs.declared.parser.matches.ValueSource.TheVariants.{CommandLine}
 use Rattle.command_line.specs.CommandLine.{HasValues, OptionForm}
-use Rattle.command_line.proofs.Options.{AreSound, IsFine as IsFineFor, IsSound, all_given, both_pass, help, no_kind, none_yet, option_rule, row_added, rules_of, without-none}
+use Rattle.command_line.proofs.Options.{AreSound, IsFine as IsFineFor, IsSound, all_given, both_pass, help, no_kind}
+use Rattle.command_line.proofs.Options.{none_yet, option_rule, row_added, rules_of, without-none}
 
 value_passes : (o : OptionForm) (t : Text) → value_kinds false o.parser t ≡ [] → accepts false o.parser t ≡ true
 value_passes o t e = go (accepts false o.parser t) refl
@@ -49,7 +59,8 @@ module _ (options : List OptionForm) (sound : AreSound options options) (base : 
   abbrev IsFine : List Row → Type 0
   IsFine = IsFineFor options
 
-  among : (os : List OptionForm) → AreSound options os → (K : Option Rule → Type 0) (p : Rule → Bool) → K None → ((o : OptionForm) → IsSound options o → K (Some (option_rule o))) → K (Some help)
+  among : (os : List OptionForm) → AreSound options os → (K : Option Rule → Type 0) (p : Rule → Bool) → K None →
+      ((o : OptionForm) → IsSound options o → K (Some (option_rule o))) → K (Some help)
       → K (find p (rules_of os))
   among [] s K p none at_option at_help = go (p help)
     where
@@ -62,12 +73,14 @@ module _ (options : List OptionForm) (sound : AreSound options options) (base : 
       go true rest = at_option o s.0
       go false rest = rest
 
-  is_a_rule : (K : Option Rule → Type 0) (p : Rule → Bool) → K None → ((o : OptionForm) → IsSound options o → K (Some (option_rule o))) → K (Some help) → K (find p rules)
+  is_a_rule : (K : Option Rule → Type 0) (p : Rule → Bool) → K None → ((o : OptionForm) → IsSound options o → K (Some (option_rule o))) →
+      K (Some help) → K (find p rules)
   is_a_rule = among options sound
 
   -- ---- one use of an argument
 
-  use_option : (o : OptionForm) (values : List Text) (rows : List Row) → IsSound options o → use_fault false (option_rule o) values rows ≡ [] → IsFine rows → IsFine (used (option_rule o) values rows)
+  use_option : (o : OptionForm) (values : List Text) (rows : List Row) → IsSound options o →
+      use_fault false (option_rule o) values rows ≡ [] → IsFine rows → IsFine (used (option_rule o) values rows)
   use_option o [] rows s e fine = absurd (no_kind _ _ e)
   use_option o (v ∷ vs) rows s e fine =
       let uses = both_pass (range_kinds 1 1 (length (v ∷ vs))) _ e in
@@ -80,16 +93,19 @@ module _ (options : List OptionForm) (sound : AreSound options options) (base : 
   settled_fine : (h : Held) → settle_fault rules false h ≡ [] → IsFine h.rows → IsFine (settled rules h).rows
   settled_fine h e fine = go h.pending e
     where
-      go : (p : Option (Text × List Text)) → option_map_or (λ p. option_map_or (λ a. use_fault false a p.1 h.rows) (arg_by_id rules p.0) []) p [] ≡ []
+      go : (p : Option (Text × List Text)) →
+          option_map_or (λ p. option_map_or (λ a. use_fault false a p.1 h.rows) (arg_by_id rules p.0) []) p [] ≡ []
           → IsFine (settled_rows rules p h.rows)
       go None e = fine
-      go (Some p) e = is_a_rule (λ o. option_map_or (λ a. use_fault false a p.1 h.rows) o [] ≡ [] → IsFine (used_by_id o p.1 h.rows)) (λ a. bytes_eq a.id p.0)
+      go (Some p) e = is_a_rule (λ o. option_map_or (λ a. use_fault false a p.1 h.rows) o [] ≡ [] → IsFine (used_by_id o p.1 h.rows))
+          (λ a. bytes_eq a.id p.0)
           (λ e. fine) (λ o s e. use_option o p.1 h.rows s e fine) (λ e. absurd (use_help p.1 h.rows e)) e
 
   reacted_help : (values : List Text) (h : Held) → react_fault rules false help values h ≡ [] → ⊥
   reacted_help values h e = use_help values (settled rules h).rows (both_pass _ _ e).1
 
-  option_fine : (o : OptionForm) → IsSound options o → (v : Option Text) (h : Held) → option_fault rules false (option_rule o) v h ≡ [] → IsFine h.rows → IsFine (option_met rules (option_rule o) v h).0.rows
+  option_fine : (o : OptionForm) → IsSound options o → (v : Option Text) (h : Held) → option_fault rules false (option_rule o) v h ≡ [] →
+      IsFine h.rows → IsFine (option_met rules (option_rule o) v h).0.rows
   option_fine o s None h e fine = settled_fine h e fine
   option_fine o s (Some v) h e fine =
       let parts = both_pass _ _ e in
@@ -99,18 +115,21 @@ module _ (options : List OptionForm) (sound : AreSound options options) (base : 
 
   long_fine : (name : Text) (v : Option Text) (h : Held) → long_fault rules false (arg_by_long rules name) v h ≡ [] → IsFine h.rows
       → IsFine (long_met rules (arg_by_long rules name) v h).0.rows
-  long_fine name v h e fine = is_a_rule (λ o. long_fault rules false o v h ≡ [] → IsFine (long_met rules o v h).0.rows) (λ a. not (is_some a.index) && has_long a name)
+  long_fine name v h e fine = is_a_rule (λ o. long_fault rules false o v h ≡ [] → IsFine (long_met rules o v h).0.rows)
+      (λ a. not (is_some a.index) && has_long a name)
       (λ e. absurd (no_kind _ _ e)) (λ o s e. option_fine o s v h e fine) (at_help v) e
     where
       at_help : (v : Option Text) → long_fault rules false (Some help) v h ≡ [] → IsFine (long_met rules (Some help) v h).0.rows
       at_help None e = absurd (reacted_help [] h e)
       at_help (Some v) e = absurd (no_kind _ _ e)
 
-  bundle_fine : (k : ℕ) (flags : Text) (skip : ℕ) (so_far : Outcome) (h : Held) → flags_fault rules false k flags skip h ≡ [] → IsFine h.rows
+  bundle_fine : (k : ℕ) (flags : Text) (skip : ℕ) (so_far : Outcome) (h : Held) → flags_fault rules false k flags skip h ≡ [] →
+      IsFine h.rows
       → IsFine (bundle_met rules k flags skip so_far h).0.rows
   unfolding flags_fault bundle_met
   bundle_fine zero flags skip so_far h e fine = fine
-  bundle_fine (suc k) flags skip so_far h e fine = step (slice_get (chars flags) 0) skip (λ rest skip e. bundle_fine k rest skip so_far h e fine) e
+  bundle_fine (suc k) flags skip so_far h e fine =
+      step (slice_get (chars flags) 0) skip (λ rest skip e. bundle_fine k rest skip so_far h e fine) e
     where
       step : (first : Option ℕ) (skip : ℕ)
           → ((rest : Text) (skip : ℕ) → flags_fault rules false k rest skip h ≡ [] → IsFine (bundle_met rules k rest skip so_far h).0.rows)
@@ -120,8 +139,10 @@ module _ (options : List OptionForm) (sound : AreSound options options) (base : 
       step (Some x) (suc skip) past e = past (drop (length (encode_utf8 x)) flags) skip e
       step (Some x) zero past e =
           let rest = drop (length (encode_utf8 x)) flags in
-          is_a_rule (λ o. short_fault rules false o rest h (flags_fault rules false k rest 0) ≡ [] → IsFine (short_met rules o rest h (bundle_met rules k rest 0 done)).0.rows) (λ a. not (is_some a.index) && has_short a x)
-          (λ e. absurd (no_kind _ _ e)) (λ o s e. option_fine o s (attached_value rest) h e fine) (λ e. absurd (reacted_help [] h (both_pass _ _ e).0)) e
+          is_a_rule (λ o. short_fault rules false o rest h (flags_fault rules false k rest 0) ≡ [] →
+          IsFine (short_met rules o rest h (bundle_met rules k rest 0 done)).0.rows) (λ a. not (is_some a.index) && has_short a x)
+          (λ e. absurd (no_kind _ _ e)) (λ o s e. option_fine o s (attached_value rest) h e fine)
+          (λ e. absurd (reacted_help [] h (both_pass _ _ e).0)) e
 
   -- the step leaves fine rows, and names no subcommand
   abbrev IsFineStep : Held → Step → Type 0
@@ -130,7 +151,8 @@ module _ (options : List OptionForm) (sound : AreSound options options) (base : 
   IsFineStep h (subcommand name) = ⊥
   IsFineStep h value = Unit {0}
 
-  plain_fine : (waiting : Waiting) (word : Text) (h : Held) → IsFine h.rows → IsFineStep (plain_word rules waiting word h).0 (plain_word rules waiting word h).1
+  plain_fine : (waiting : Waiting) (word : Text) (h : Held) → IsFine h.rows →
+      IsFineStep (plain_word rules waiting word h).0 (plain_word rules waiting word h).1
   plain_fine idle word h fine = tt
   plain_fine positional word h fine = tt
   plain_fine (option id) word h fine = go (arg_by_id rules id)
@@ -146,26 +168,32 @@ module _ (options : List OptionForm) (sound : AreSound options options) (base : 
   after_fine waiting word h plain fine = plain_fine waiting word h fine
   after_fine waiting word h refused fine = plain_fine waiting word h fine
 
-  flag_fine : (waiting : Waiting) (word : Text) (o : Option (Text × Option Text)) (h : Held) → flag_word_fault rules false o word h ≡ [] → IsFine h.rows
+  flag_fine : (waiting : Waiting) (word : Text) (o : Option (Text × Option Text)) (h : Held) →
+      flag_word_fault rules false o word h ≡ [] → IsFine h.rows
       → IsFineStep (long_or_other rules waiting word o h).0 (long_or_other rules waiting word o h).1
-  flag_fine waiting word (Some p) h e fine = after_fine waiting word (long_met rules (arg_by_long rules p.0) p.1 h).0 _ (long_fine p.0 p.1 h e fine)
+  flag_fine waiting word (Some p) h e fine =
+      after_fine waiting word (long_met rules (arg_by_long rules p.0) p.1 h).0 _ (long_fine p.0 p.1 h e fine)
   flag_fine waiting word None h e fine = go (short_of word) e
     where
       go : (o : Option Text) → option_map_or (λ flags. bundle_fault rules false flags h) o [] ≡ []
           → IsFineStep (short_or_plain rules waiting word o h).0 (short_or_plain rules waiting word o h).1
       go None e = plain_fine waiting word h fine
-      go (Some flags) e = after_fine waiting word (bundle rules flags h).0 _ (bundle_fine (length flags) flags h.skip plain (record h { skip = 0 }) e fine)
+      go (Some flags) e = after_fine waiting word (bundle rules flags h).0 _
+          (bundle_fine (length flags) flags h.skip plain (record h { skip = 0 }) e fine)
 
-  word_fine : (is_trailing : Bool) (waiting : Waiting) (position : ℕ) (word : Text) (h : Held) → word_fault leaf [] is_trailing waiting word h ≡ [] → IsFine h.rows
+  word_fine : (is_trailing : Bool) (waiting : Waiting) (position : ℕ) (word : Text) (h : Held) →
+      word_fault leaf [] is_trailing waiting word h ≡ [] → IsFine h.rows
       → IsFineStep (word_met rules [] is_trailing waiting position word h).0 (word_met rules [] is_trailing waiting position word h).1
   word_fine true waiting position word h e fine = tt
   word_fine false waiting position word h e fine =
       let none = none_met waiting word in
-      subst (λ o. IsFineStep (subcommand_or_other rules o waiting position word h).0 (subcommand_or_other rules o waiting position word h).1) (sym none)
+      subst (λ o. IsFineStep (subcommand_or_other rules o waiting position word h).0
+      (subcommand_or_other rules o waiting position word h).1) (sym none)
       (go (bytes_eq word (45 ∷ 45 ∷ [])) (subst (λ o. other_fault leaf o word h ≡ []) none e))
     where
       go : (b : Bool) → cond b [] (flag_word_fault rules false (long_of word) word h) ≡ []
-          → IsFineStep (cond b (h, trailing position) (long_or_other rules waiting word (long_of word) h)).0 (cond b (h, trailing position) (long_or_other rules waiting word (long_of word) h)).1
+          → IsFineStep (cond b (h, trailing position) (long_or_other rules waiting word (long_of word) h)).0
+          (cond b (h, trailing position) (long_or_other rules waiting word (long_of word) h)).1
       go true e = fine
       go false e = flag_fine waiting word (long_of word) h e fine
 
@@ -175,20 +203,23 @@ module _ (options : List OptionForm) (sound : AreSound options options) (base : 
   abbrev IsOnItsWay : Walk → Type 0
   IsOnItsWay w = (w.stopped ≡ None) × IsFine w.held.rows
 
-  step_fine : (w : Walk) (word : Text) (h : Held) (step : Step) → w.stopped ≡ None → IsFineStep h step → step_fault leaf w.position h step ≡ []
+  step_fine : (w : Walk) (word : Text) (h : Held) (step : Step) → w.stopped ≡ None → IsFineStep h step →
+      step_fault leaf w.position h step ≡ []
       → IsOnItsWay (after_step rules word w h step)
   step_fine w word h (next waiting) none fine e = (none, fine)
   step_fine w word h (trailing position) none fine e = (none, fine)
   step_fine w word h (subcommand name) none fine e = absurd fine
   step_fine w word h value none fine e =
-      absurd (stray base.is_leaf (subst (λ o. option_map_or (λ a. positional_fault rules false a h) o (stray_fault leaf) ≡ []) (no_position options w.position) e))
+      absurd (stray base.is_leaf (subst (λ o. option_map_or (λ a. positional_fault rules false a h) o (stray_fault leaf) ≡ [])
+      (no_position options w.position) e))
 
   walked_fine : (w : Walk) (word : Text) → turn_fault leaf [] w word ≡ [] → IsOnItsWay w → IsOnItsWay (walked rules [] w word)
   unfolding walked
   walked_fine w word e way =
       let met = word_met rules [] w.is_trailing w.waiting w.position word w.held in
       let turn = both_pass (word_fault leaf [] w.is_trailing w.waiting word w.held) (step_fault leaf w.position met.0 met.1)
-      (subst (λ o. cond (is_some o) [] (or_else (word_fault leaf [] w.is_trailing w.waiting word w.held) (step_fault leaf w.position met.0 met.1)) ≡ []) way.0 e) in
+      (subst (λ o. cond (is_some o) []
+      (or_else (word_fault leaf [] w.is_trailing w.waiting word w.held) (step_fault leaf w.position met.0 met.1)) ≡ []) way.0 e) in
       subst (λ o. IsOnItsWay (walked_from rules [] o w word)) (sym way.0)
       (step_fine w word met.0 met.1 way.0 (word_fine w.is_trailing w.waiting w.position word w.held turn.0 way.1) turn.1)
 
@@ -199,9 +230,11 @@ module _ (options : List OptionForm) (sound : AreSound options options) (base : 
       let parts = both_pass _ _ e in
       walk_fine (walked rules [] w x) xs parts.1 (walked_fine w x parts.0 way)
 
-  pub has_values : (words : List Text) → level_fault leaf [] nothing_held words false [] ≡ [] → HasValues (rows_after rules [] words) options
+  pub has_values : (words : List Text) → level_fault leaf [] nothing_held words false [] ≡ [] →
+      HasValues (rows_after rules [] words) options
   has_values words e =
       let end = (walk rules [] nothing_held words).held in
       let parts = both_pass (walk_fault leaf [] (walk_from nothing_held) words) _ e in
       let after = both_pass (settle_fault rules false end) _ parts.1 in
-      all_given options (settled rules end).rows sound (settled_fine end after.0 (walk_fine (walk_from nothing_held) words parts.0 (refl, tt)).1)
+      all_given options (settled rules end).rows sound
+      (settled_fine end after.0 (walk_fine (walk_from nothing_held) words parts.0 (refl, tt)).1)

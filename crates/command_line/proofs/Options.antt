@@ -1,5 +1,6 @@
 -- Lists of options as clap's arguments, and what the rows of an option are.
-use Rattle.std.proofs.Common.{◌≡◌, ◌||◌, cond, Bool, true, false, List, [], ◌∷◌, ◌++◌, Option, Some, None, refl, sym, subst, ap, true≢false, map, append-nil, ◌∙◌, option_and_then}
+use Rattle.std.proofs.Common.{◌≡◌, ◌||◌, cond, Bool, true, false, List, [], ◌∷◌, ◌++◌, Option, Some, None, refl, sym}
+use Rattle.std.proofs.Common.{subst, ap, true≢false, map, append-nil, ◌∙◌, option_and_then}
 use Rattle.std.specs.Prelude.{find, fold, ◌&&◌}
 use Rattle.std.specs.Str.{bytes_eq}
 use Rattle.std.proofs.lemmas.Slice.Eq.{bytes_eq-Decides}
@@ -54,7 +55,8 @@ FitsOption (Some o) r = (t : Text) × (row_text r ≡ Some t) × (accepts false 
 
 -- ---- rows
 
-at_row-none : (id : Text) (change : Row → List Row) (missing rows : List Row) → has_row id rows ≡ false → at_row id change missing rows ≡ rows ++ missing
+at_row-none : (id : Text) (change : Row → List Row) (missing rows : List Row) → has_row id rows ≡ false →
+    at_row id change missing rows ≡ rows ++ missing
 at_row-none id change missing [] e = refl
 at_row-none id change missing (r ∷ rs) e = go (bytes_eq r.id id) e (at_row-none id change missing rs)
   where
@@ -67,7 +69,8 @@ has_row-append : (name : Text) (rows more : List Row) → has_row name rows ≡ 
 has_row-append name [] more e = absurd (true≢false (sym e))
 has_row-append name (r ∷ rs) more e = go (bytes_eq r.id name) e (has_row-append name rs more)
   where
-    go : (b : Bool) → (b || has_row name rs) ≡ true → (has_row name rs ≡ true → has_row name (rs ++ more) ≡ true) → (b || has_row name (rs ++ more)) ≡ true
+    go : (b : Bool) → (b || has_row name rs) ≡ true → (has_row name rs ≡ true → has_row name (rs ++ more) ≡ true) →
+        (b || has_row name (rs ++ more)) ≡ true
     go true e rest = refl
     go false e rest = rest e
 
@@ -114,43 +117,53 @@ module _ (options : List OptionForm) where
   IsFine-last [] r fine fits = (fits, tt)
   IsFine-last (x ∷ xs) r fine fits = (fine.0, IsFine-last xs r fine.1 fits)
 
-  pub row_added : (o : OptionForm) (s : ValueSource) (t : Text) (ts : List Text) (rows : List Row) → IsSound options o → has_row o.name rows ≡ false
+  pub row_added : (o : OptionForm) (s : ValueSource) (t : Text) (ts : List Text) (rows : List Row) → IsSound options o →
+      has_row o.name rows ≡ false
       → accepts false o.parser t ≡ true → IsFine rows → IsFine (with_values o.name (reading_by (option_rule o)) s (t ∷ ts) rows)
   row_added o s t ts rows sound none fits fine =
       subst IsFine (sym (row_at_end o s t ts rows none))
-      (IsFine-last rows (row_of o s (t ∷ ts)) fine (subst (λ p. FitsOption p (row_of o s (t ∷ ts))) (sym sound.first) (t, ap (λ r. Some (read_as r t)) sound.as_written, fits)))
+      (IsFine-last rows (row_of o s (t ∷ ts)) fine
+      (subst (λ p. FitsOption p (row_of o s (t ∷ ts))) (sym sound.first) (t, ap (λ r. Some (read_as r t)) sound.as_written, fits)))
 
   -- ---- the defaults
 
   default_fine : (o : OptionForm) (rows : List Row) → IsSound options o → IsFine rows → IsFine (with_default rows (option_rule o))
   default_fine o rows sound fine = go (has_row o.name rows) refl
     where
-      go : (b : Bool) → has_row o.name rows ≡ b → IsFine (cond b rows (with_values o.name (reading_by (option_rule o)) DefaultValue (o.default ∷ []) rows))
+      go : (b : Bool) → has_row o.name rows ≡ b →
+          IsFine (cond b rows (with_values o.name (reading_by (option_rule o)) DefaultValue (o.default ∷ []) rows))
       go true is = fine
       go false is = row_added o DefaultValue o.default [] rows sound is sound.default_fits fine
 
   default_given : (o : OptionForm) (rows : List Row) → has_row o.name (with_default rows (option_rule o)) ≡ true
   default_given o rows = go (has_row o.name rows) refl
     where
-      go : (b : Bool) → has_row o.name rows ≡ b → has_row o.name (cond b rows (with_values o.name (reading_by (option_rule o)) DefaultValue (o.default ∷ []) rows)) ≡ true
+      go : (b : Bool) → has_row o.name rows ≡ b →
+          has_row o.name (cond b rows (with_values o.name (reading_by (option_rule o)) DefaultValue (o.default ∷ []) rows)) ≡ true
       go true is = is
-      go false is = subst (λ rs. has_row o.name rs ≡ true) (sym (row_at_end o DefaultValue o.default [] rows is)) (has_row-last o.name rows (row_of o DefaultValue (o.default ∷ [])) ((bytes_eq-Decides o.name o.name).1 refl))
+      go false is = subst (λ rs. has_row o.name rs ≡ true) (sym (row_at_end o DefaultValue o.default [] rows is))
+          (has_row-last o.name rows (row_of o DefaultValue (o.default ∷ [])) ((bytes_eq-Decides o.name o.name).1 refl))
 
-  default_kept : (name : Text) (o : OptionForm) (rows : List Row) → has_row name rows ≡ true → has_row name (with_default rows (option_rule o)) ≡ true
+  default_kept : (name : Text) (o : OptionForm) (rows : List Row) → has_row name rows ≡ true →
+      has_row name (with_default rows (option_rule o)) ≡ true
   default_kept name o rows e = go (has_row o.name rows) refl
     where
-      go : (b : Bool) → has_row o.name rows ≡ b → has_row name (cond b rows (with_values o.name (reading_by (option_rule o)) DefaultValue (o.default ∷ []) rows)) ≡ true
+      go : (b : Bool) → has_row o.name rows ≡ b →
+          has_row name (cond b rows (with_values o.name (reading_by (option_rule o)) DefaultValue (o.default ∷ []) rows)) ≡ true
       go true is = e
-      go false is = subst (λ rs. has_row name rs ≡ true) (sym (row_at_end o DefaultValue o.default [] rows is)) (has_row-append name rows (row_of o DefaultValue (o.default ∷ []) ∷ []) e)
+      go false is = subst (λ rs. has_row name rs ≡ true) (sym (row_at_end o DefaultValue o.default [] rows is))
+          (has_row-append name rows (row_of o DefaultValue (o.default ∷ []) ∷ []) e)
 
   help_adds_none : (rows : List Row) → with_default rows help ≡ rows
   help_adds_none rows = same_either_way (has_row help.id rows) rows
 
-  defaults_fine : (os : List OptionForm) (rows : List Row) → AreSound options os → IsFine rows → IsFine (fold with_default rows (rules_of os))
+  defaults_fine : (os : List OptionForm) (rows : List Row) → AreSound options os → IsFine rows →
+      IsFine (fold with_default rows (rules_of os))
   defaults_fine [] rows sound fine = subst IsFine (sym (help_adds_none rows)) fine
   defaults_fine (o ∷ os) rows sound fine = defaults_fine os (with_default rows (option_rule o)) sound.1 (default_fine o rows sound.0 fine)
 
-  defaults_kept : (name : Text) (os : List OptionForm) (rows : List Row) → has_row name rows ≡ true → has_row name (fold with_default rows (rules_of os)) ≡ true
+  defaults_kept : (name : Text) (os : List OptionForm) (rows : List Row) → has_row name rows ≡ true →
+      has_row name (fold with_default rows (rules_of os)) ≡ true
   defaults_kept name [] rows e = subst (λ rs. has_row name rs ≡ true) (sym (help_adds_none rows)) e
   defaults_kept name (o ∷ os) rows e = defaults_kept name os (with_default rows (option_rule o)) (default_kept name o rows e)
 
@@ -165,7 +178,8 @@ module _ (options : List OptionForm) where
   value_found o (r ∷ rs) sound fine e = go (bytes_eq r.id o.name) refl e (value_found o rs sound fine.1)
     where
       go : (b : Bool) → bytes_eq r.id o.name ≡ b → (b || has_row o.name rs) ≡ true → (has_row o.name rs ≡ true → HasValue rs o)
-          → (t : Text) × (option_and_then row_text (cond b (Some r) (find (λ x. bytes_eq x.id o.name) rs)) ≡ Some t) × (accepts false o.parser t ≡ true)
+          → (t : Text) × (option_and_then row_text (cond b (Some r) (find (λ x. bytes_eq x.id o.name) rs)) ≡ Some t)
+          × (accepts false o.parser t ≡ true)
       go true is e rest =
           let same = (bytes_eq-Decides r.id o.name).0 is in
           subst (λ p. FitsOption p r) (subst (λ n. option_of options n ≡ Some o) (sym same) sound.first) fine.0

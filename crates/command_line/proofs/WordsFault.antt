@@ -14,7 +14,8 @@ still_refused [] more e (inr none) = absurd none
 still_refused (k ∷ ks) more e has = has
 
 -- words that clap takes and that name a job
-pub taken : (kinds : Kinds) (found : Option Job) (job : Job) → kinds ≡ [] → found ≡ Some job → or_else kinds (if is_some found then [] else InvalidValue ∷ []) ≡ []
+pub taken : (kinds : Kinds) (found : Option Job) (job : Job) → kinds ≡ [] → found ≡ Some job →
+    or_else kinds (if is_some found then [] else InvalidValue ∷ []) ≡ []
 taken [] (Some job) found none is = refl
 taken [] None job none is = cc
 taken (k ∷ ks) found job none is = absurd (no_kind _ _ none)

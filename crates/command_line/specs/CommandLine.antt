@@ -131,7 +131,8 @@ plan_from _ _ _ _ = None
 -- the plan that stands after the options
 abbrev pub plan_in : List Row → Option SearchPlan
 plan_in rows =
-    plan_from (number_in (codes "workers") rows) (number_in (codes "seed") rows) (number_in (codes "steps") rows) (number_in (codes "slack") rows)
+    plan_from (number_in (codes "workers") rows) (number_in (codes "seed") rows) (number_in (codes "steps") rows)
+    (number_in (codes "slack") rows)
 
 -- the search of this room and plan
 abbrev pub find_from : Option ℕ → Option SearchPlan → Option Job

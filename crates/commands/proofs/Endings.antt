@@ -22,13 +22,16 @@ use Rattle.commands.specs.Find.{AnswersFind, search_text}
 use Rattle.commands.specs.Play.{AnswersPlay}
 
 -- what holds of an end by a fault holds of a result that is that fault
-pub at_fault : {T : Type 0} (P : Result T ProgramFault → Type 0) (fault : ProgramFault) (result : Result T ProgramFault) → IsErrAnd result (λ given. given ≡ fault) → P (Err fault) → P result
+pub at_fault : {T : Type 0} (P : Result T ProgramFault → Type 0) (fault : ProgramFault) (result : Result T ProgramFault) →
+    IsErrAnd result (λ given. given ≡ fault) → P (Err fault) → P result
 at_fault P fault (Ok done) is holds = absurd is
 at_fault P fault (Err given) is holds = subst (λ f. P (Err f)) (sym is) holds
 
 -- a league and a script that were read are answered by their play text
-pub answered_play : {R W : Type 0} (left : R → Option (List ℕ)) (pulls : R → Tally) (held : W → Option (List ℕ)) (pushes : W → Tally) (old new : R) (room : ℕ) (league : LeagueData) (bytes : List ℕ)
-    → Consumes (left old) (left new) bytes → IsAtEnd (left new) → length bytes ≤ input_limit → league_of (league_text bytes) ≡ Ok league → IsLeague league → room ≤ max_room
+pub answered_play : {R W : Type 0} (left : R → Option (List ℕ)) (pulls : R → Tally) (held : W → Option (List ℕ)) (pushes : W → Tally)
+    (old new : R) (room : ℕ) (league : LeagueData) (bytes : List ℕ)
+    → Consumes (left old) (left new) bytes → IsAtEnd (left new) → length bytes ≤ input_limit →
+    league_of (league_text bytes) ≡ Ok league → IsLeague league → room ≤ max_room
     → IsAnswered left pulls held pushes (AnswersPlay room) old new (Ok (play_text league room (script_lines bytes)))
 answered_play left pulls held pushes old new room league bytes taken ended within reading limits room_is = record {
   bytes = bytes;
@@ -39,8 +42,10 @@ answered_play left pulls held pushes old new room league bytes taken ended withi
 }
 
 -- a league that was read whole, with the room of a board, for a search
-module _ {R W : Type 0} (left : R → Option (List ℕ)) (pulls : R → Tally) (held : W → Option (List ℕ)) (pushes : W → Tally) (old new : R) (room : ℕ) (plan : SearchPlan) (league : LeagueData) (bytes : List ℕ)
-    (taken : Consumes (left old) (left new) bytes) (ended : IsAtEnd (left new)) (within : length bytes ≤ input_limit) (reading : league_of bytes ≡ Ok league) (room_is : room ≤ max_room) where
+module _ {R W : Type 0} (left : R → Option (List ℕ)) (pulls : R → Tally) (held : W → Option (List ℕ)) (pushes : W → Tally) (old new : R)
+    (room : ℕ) (plan : SearchPlan) (league : LeagueData) (bytes : List ℕ)
+    (taken : Consumes (left old) (left new) bytes) (ended : IsAtEnd (left new)) (within : length bytes ≤ input_limit)
+    (reading : league_of bytes ≡ Ok league) (room_is : room ≤ max_room) where
   -- it is answered by the search text of an outcome of its run
   pub answered_find : (outcome : Outcome) → IsLeague league → IsOutcome plan (book league room []) outcome
       → IsAnswered left pulls held pushes (AnswersFind room plan) old new (Ok (search_text outcome))

@@ -18,7 +18,8 @@ RefusesLeague input (Err (League fault)) = league_of input ≡ Err fault
 RefusesLeague input _ = ⊥
 
 -- For a source with these bytes left and these calls, a sink with these bytes held and these calls, and a plan.
-module _ {R W : Type 0} (left : R → Option (List ℕ)) (pulls : R → Tally) (held : W → Option (List ℕ)) (pushes : W → Tally) (plan : ImprovePlan) where
+module _ {R W : Type 0} (left : R → Option (List ℕ)) (pulls : R → Tally) (held : W → Option (List ℕ)) (pushes : W → Tally)
+    (plan : ImprovePlan) where
   -- the source was read to its end, no further than the limit, and it had this league
   pub record HadLeague (old new : R) (league : LeagueData) : Type 0 where
     pub bytes : List ℕ
@@ -29,7 +30,8 @@ module _ {R W : Type 0} (left : R → Option (List ℕ)) (pulls : R → Tally) (
 
   -- the improvement of the league that the source had ended so
   abbrev pub ImprovesIt : R → R → W → W → Result Unit ImproveFault → Type 0
-  ImprovesIt old new before after result = (league : LeagueData) × HadLeague old new league × Improves held pushes league plan before after result
+  ImprovesIt old new before after result = (league : LeagueData) × HadLeague old new league
+      × Improves held pushes league plan before after result
 
   -- Before a fault of reading or of the league nothing was written. Memory may be wanting while the league is read, or later
   abbrev pub EndsImproveBy : R → R → W → W → Result Unit ProgramFault → Type 0

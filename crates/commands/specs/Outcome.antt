@@ -7,14 +7,16 @@ use Rattle.streams.specs.Reading.{StopsPast, StopsWithin}
 use Rattle.streams.specs.Sending.{AppendsFront}
 use Rattle.streams.specs.Tally.{FailsWriting}
 use Rattle.commands.specs.declared.fault.ProgramFault.{ProgramFault}
-use Rattle.commands.specs.declared.fault.ProgramFault.TheVariants.{Read, TooLong, League, LeagueAt, NoSheet, Room, Workers, Spawn, Receipts, Write, Memory}
+use Rattle.commands.specs.declared.fault.ProgramFault.TheVariants.{Read, TooLong, League, LeagueAt, NoSheet, Room}
+use Rattle.commands.specs.declared.fault.ProgramFault.TheVariants.{Workers, Spawn, Receipts, Write, Memory}
 
 -- A command answers an input with the text that it writes, or with a fault that lies in the input.
 abbrev pub Answers : Type 1
 Answers = List ℕ → Result (List ℕ) ProgramFault → Type 0
 
 -- For a source with these bytes left and these calls, a sink with these bytes held and these calls, and a command.
-module _ {R W : Type 0} (left : R → Option (List ℕ)) (pulls : R → Tally) (held : W → Option (List ℕ)) (pushes : W → Tally) (answers : Answers) where
+module _ {R W : Type 0} (left : R → Option (List ℕ)) (pulls : R → Tally) (held : W → Option (List ℕ)) (pushes : W → Tally)
+    (answers : Answers) where
   -- the source was read to its end, no further than the limit, and this is the answer to what it had
   pub record IsAnswered (old new : R) (answer : Result (List ℕ) ProgramFault) : Type 0 where
     pub bytes : List ℕ
@@ -28,7 +30,8 @@ module _ {R W : Type 0} (left : R → Option (List ℕ)) (pulls : R → Tally) (
   EndsBy old new before after (Ok done) =
       (text : List ℕ) × IsAnswered old new (Ok text) × Appends (held before) (held after) text
   EndsBy old new before after (Err Write) =
-      (text : List ℕ) × IsAnswered old new (Ok text) × AppendsFront (held before) (held after) text × FailsWriting write_limit (pushes before) (pushes after)
+      (text : List ℕ) × IsAnswered old new (Ok text) × AppendsFront (held before) (held after) text
+      × FailsWriting write_limit (pushes before) (pushes after)
   EndsBy old new before after (Err Read) = StopsWithin left pulls input_limit read_limit old new × (after ≡ before)
   EndsBy old new before after (Err TooLong) = StopsPast left pulls input_limit old new × (after ≡ before)
   EndsBy old new before after (Err (League fault)) = IsAnswered old new (Err (League fault)) × (after ≡ before)

@@ -27,7 +27,8 @@ IsToldOf league games (Some verdict) = verdict ≡ verdict_of (is_feasible leagu
 
 -- the report, in the format, of the double round robin that the lines give for the league of the text, or the text of their
 -- faults, with remarks on the members that no format knows; and the verdict on the games
-pub record IsReport (format : Format) (league : LeagueData) (bytes : List ℕ) (lines : List (List ℕ)) (told : Option Verdict) (text : List ℕ) : Type 0 where
+pub record IsReport (format : Format) (league : LeagueData) (bytes : List ℕ) (lines : List (List ℕ)) (told : Option Verdict)
+    (text : List ℕ) : Type 0 where
   pub games : Option Games
   pub given : IsVerdict (teams league) lines games
   pub text_is : text ≡ report_in format league lines games (remarks_on bytes)

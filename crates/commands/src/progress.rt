@@ -27,7 +27,8 @@ const MOST_STEPS: u32 = 4096;
 
 /// Writes on a terminal how many steps the workers took, the latest version that one of them has, and the least total that
 /// they told of. The line is written a few times a second, each over the one before, and taken away when the workers have
-/// ended. Where another run comes after that one, its first telling writes the line again. No worker waits for the terminal but the one that writes.
+/// ended. If another run comes after that one, its first telling writes the line again. No worker waits for the terminal but the
+/// one that writes.
 #[derive(Drop)]
 pub struct ProgressLine<'a, C, W> {
     clock: &'a C,

@@ -1,6 +1,7 @@
 -- An exchange changes no more of the costs than their shares.
-use Rattle.std.proofs.Common.{◌≡◌, ℕ, ◌+◌, ◌-◌, ◌*◌, ◌<◌, ◌≤◌, Bool, true, false, if◌then◌else◌, length, slice_get, Option, Some, None}
-use Rattle.std.proofs.Common.{refl, sym, ◌∙◌, ap, subst, arith}
+use Rattle.std.proofs.Common.{◌≡◌, ℕ, ◌+◌, ◌*◌, ◌<◌, ◌≤◌, Bool, true, false, if◌then◌else◌, length, slice_get, Option, Some, None}
+use Rattle.std.proofs.Common.{refl, sym, ◌∙◌, ap, subst, arith, rules}
+use Rattle.std.specs.Option.{IsSome}
 use Rattle.std.proofs.Math.Nat.{mul-add, mul-le-mul_left}
 use Rattle.std.proofs.Math.Path.{fun_ext}
 use Rattle.std.proofs.lemmas.List.Elements.{All-from_recursion, All-get_or}
@@ -11,23 +12,23 @@ use Rattle.league.specs.Sets.{has}
 use Rattle.league.specs.declared.rule.Rule.{Rule}
 use Rattle.league.specs.declared.rule.Weight.{Weight}
 use Rattle.league.specs.declared.rule.Weight.TheVariants.{Hard, Soft}
-use Rattle.league.proofs.ForCallers.{sum_below_balance}
+use Rattle.league.specs.Sums.{sum_below}
+use Rattle.league.proofs.ForCallers.{sum_below_none, sum_below_balance}
 use Rattle.fixtures.specs.Changes.{DiffersOnlyAround, DiffersOnlyAt, box}
 use Rattle.fixtures.specs.Games.{Games, IsDoubleRoundRobin, is_home}
 use Rattle.fixtures.specs.TouchedCells.{TouchedCells}
 use Rattle.moves.specs.declared.exchanges.Exchange.{Exchange}
 use Rattle.moves.specs.Exchanges.{exchanged_by, main_cells}
-use Rattle.moves.proofs.ForCallers.{each_undone, each_around, each_sides, each_keeps_meetings}
-use Rattle.tours.specs.Repeats.{repeats}
+use Rattle.moves.proofs.ForCallers.{each_undone, each_around, each_sides}
+use Rattle.tours.specs.Runs.{runs_over}
 use Rattle.tours.specs.Phased.{unphased, unphased_part}
 use Rattle.tours.specs.Tours.{travel}
-use Rattle.tours.proofs.ForCallers.{runs_balance_sides, repeats_balance_around}
-use Rattle.tours.proofs.ForCallers.{repeats_of_same_pairs, unphased_balance_around}
+use Rattle.tours.proofs.ForCallers.{unphased_balance_around}
 use Rattle.robinx.proofs.ForCallers.{deviation_balance}
 use Rattle.fixture_board.specs.Costs.{hard_share, soft_share, share_of, sum_over_rules, where_phased, cost_of, score_of}
-use Rattle.fixture_board.specs.Costs.{score_limit}
-use Rattle.fixture_board.specs.CostShares.{games_share, repeats_share, rule_share, rules_share, penalties_share}
-use Rattle.fixture_board.specs.CostShares.{with_penalties, IsRest, IsScope, IsSmall}
+use Rattle.fixture_board.specs.Costs.{score_limit, IsCostWithin}
+use Rattle.fixture_board.specs.CostShares.{games_cost, rule_share, rules_share, penalties_share}
+use Rattle.fixture_board.specs.CostShares.{with_penalties, IsRest, IsScope, IsSmall, IsTold}
 use Rattle.fixture_board.specs.declared.scope.Scope.{Scope}
 use Rattle.fixture_board.specs.declared.cost.Cost.{Cost}
 use Rattle.fixture_board.specs.declared.penalties.Penalties.{Penalties}
@@ -51,16 +52,6 @@ sides g scope is =
 
 round_robin_after : (g : Games) (scope : Scope) → IsScope g scope → IsDoubleRoundRobin (exchanged_by g scope.exchange)
 round_robin_after g scope is = (each_undone g scope.exchange is.can_be_made).again.round_robin
-
--- repeats
-
-repeats_balances : (g : Games) (scope : Scope) → IsScope g scope → (same : Bool) → scope.same_meetings ≡ same →
-    repeats (exchanged_by g scope.exchange) + repeats_share same scope.main g ≡
-    repeats g + repeats_share same scope.main (exchanged_by g scope.exchange)
-repeats_balances g scope is true same =
-    let keeps = each_keeps_meetings g scope.exchange is.can_be_made (sym is.same_meetings ∙ same) in
-    ap (λ n. n + 0) (repeats_of_same_pairs g _ keeps.0 keeps.1 is.can_be_made.round_robin keeps.2)
-repeats_balances g scope is false _ = repeats_balance_around g _ _ _ (around g scope is)
 
 -- a count that is taken or not
 counted_balances : (taken : Bool) (new old before after : ℕ) → new + before ≡ old + after →
@@ -124,22 +115,18 @@ phases_balance l g scope are =
 
 -- all penalties
 
--- the penalties after are the known ones, with those that the exchange can change counted after it and not before it
+-- the cost after an exchange is the one before it, with its games after and not before, and with the penalties that the
+-- exchange can change counted after it and not before it
 record Balances (l : LeagueData) (g g' : Games) (scope : Scope) : Type 0 where
-  hard : (cost_of l g').hard + (penalties_share l scope g).hard ≡ (cost_of l g).hard + (penalties_share l scope g').hard
+  hard : (cost_of l g').hard + (penalties_share l scope g).hard + games_cost l g ≡
+      (cost_of l g).hard + (penalties_share l scope g').hard + games_cost l g'
   soft : (cost_of l g').soft + (penalties_share l scope g).soft ≡ (cost_of l g).soft + (penalties_share l scope g').soft
 
 penalties_balance : (l : LeagueData) (g : Games) (scope : Scope) → IsLeague l → teams l ≡ g.teams → IsScope g scope →
     Balances l g (exchanged_by g scope.exchange) scope
 unfolding cost_of penalties_share
 penalties_balance l g scope is same are = record {
-  hard = omega (
-    arith,
-    runs_balance_sides g (exchanged_by g scope.exchange) l.at_most (has scope.turning) (has scope.main.rounds) (sides g scope are),
-    repeats_balances g scope are scope.same_meetings refl,
-    rules_balance hard_share hard_even l g scope is same are,
-    phases_balance l g scope are,
-  );
+  hard = omega (arith, rules_balance hard_share hard_even l g scope is same are, phases_balance l g scope are);
   soft = rules_balance soft_share soft_even l g scope is same are;
 }
 
@@ -147,15 +134,42 @@ same_cost : (one other : Cost) → one.travel ≡ other.travel → one.hard ≡ 
 same_cost one other travel hard soft = rw (travel, hard, soft) refl
 
 -- the rest with the penalties after is the cost after
-pub whole_after : (l : LeagueData) (g g' : Games) (scope : Scope) (rest : Cost) → IsLeague l → teams l ≡ g.teams →
-    IsScope g scope → IsRest l g scope rest → g' ≡ exchanged_by g scope.exchange →
+pub whole_after : (l : LeagueData) (g g' : Games) (scope : Scope) (told rest : Cost) → IsLeague l → teams l ≡ g.teams →
+    IsScope g scope → IsTold l g scope.exchange told → IsRest l g scope told rest → g' ≡ exchanged_by g scope.exchange →
     with_penalties rest (penalties_share l scope g') ≡ cost_of l g'
-whole_after l g g' scope rest is same are left made =
+whole_after l g g' scope told rest is same are known left made =
     let balance : Balances l g g' scope = rw made (penalties_balance l g scope is same are) in
+    let of_told : told.hard + games_cost l g ≡ (cost_of l g).hard + games_cost l g' = rw made known.hard in
     same_cost (with_penalties rest (penalties_share l scope g')) (cost_of l g')
-    (left.travel_is ∙ ap (travel l) (sym made) ∙ sym (cost_travel l g'))
-    (omega (arith, left.hard, balance.hard))
-    (omega (arith, left.soft, balance.soft))
+    (left.travel_is ∙ known.travel_is ∙ ap (travel l) (sym made) ∙ sym (cost_travel l g'))
+    (omega (arith, left.hard, of_told, balance.hard))
+    (omega (arith, left.soft, known.soft, balance.soft))
+
+-- a told cost where no rule and no half is counted
+
+no_rules : (share : Weight → ℕ → ℕ) (l : LeagueData) (g : Games) → length l.rules ≡ 0 → sum_over_rules share l.rules g ≡ 0
+unfolding sum_over_rules
+no_rules share l g none = ap (λ n. sum_below n (λ i. share_of share g (slice_get l.rules i))) none ∙ sum_below_none _
+
+games_alone : (l : LeagueData) (g : Games) → length l.rules ≡ 0 → l.phased ≡ false → (cost_of l g).hard ≡ games_cost l g
+unfolding cost_of
+games_alone l g none whole =
+    omega (arith, no_rules hard_share l g none, ap (λ phased. if phased then unphased g else 0) whole)
+
+no_soft : (l : LeagueData) (g : Games) → length l.rules ≡ 0 → (cost_of l g).soft ≡ 0
+unfolding cost_of
+no_soft l g none = no_rules soft_share l g none
+
+pub told_whole : (l : LeagueData) (g : Games) (exchange : Exchange) (told : Cost) → IsTold l g exchange told → length l.rules ≡ 0 →
+    l.phased ≡ false → told ≡ cost_of l (exchanged_by g exchange)
+told_whole l g exchange told is none whole =
+    same_cost told (cost_of l (exchanged_by g exchange)) (is.travel_is ∙ sym (cost_travel l (exchanged_by g exchange)))
+    (omega (arith, is.hard, games_alone l g none whole, games_alone l (exchanged_by g exchange) none whole))
+    (is.soft ∙ no_soft l g none ∙ sym (no_soft l (exchanged_by g exchange) none))
+
+pub games_le : (l : LeagueData) (g : Games) → games_cost l g ≤ (cost_of l g).hard
+unfolding cost_of
+games_le l g = omega arith
 
 -- penalties only add to a score
 score_grows : (l : LeagueData) (cost : Cost) (penalties : Penalties) → score_of l cost ≤ score_of l (with_penalties cost penalties)
@@ -163,80 +177,48 @@ score_grows l cost penalties =
     let weighed : l.hard_weight * cost.hard ≤ l.hard_weight * (cost.hard + penalties.hard) = mul-le-mul_left l.hard_weight (omega arith) in
     omega (arith, weighed)
 
-pub score_after : (l : LeagueData) (g g' : Games) (exchange : Exchange) → IsLeague l → teams l ≡ g.teams → g' ≡ exchanged_by g exchange →
-    (cost : Cost) → cost ≡ cost_of l g' → score_of l cost < score_limit
-score_after l g g' exchange is same made cost cost_is =
-    rw cost_is (score_below l g' is (ap (λ (games : Games). games.teams) made ∙ exchanged-teams g exchange ∙ sym same))
+pub score_after : (l : LeagueData) (g : Games) (exchange : Exchange) → IsLeague l → teams l ≡ g.teams →
+    score_of l (cost_of l (exchanged_by g exchange)) < score_limit
+score_after l g exchange is same = score_below l (exchanged_by g exchange) is (exchanged-teams g exchange ∙ sym same)
 
-pub score_after_whole : (l : LeagueData) (g : Games) → IsLeague l → teams l ≡ g.teams → score_of l (cost_of l g) < score_limit
-score_after_whole l g is same = score_below l g is (sym same)
-
--- the score of the rest is no more than the score after
-pub rest_scores : (l : LeagueData) (g : Games) (exchange : Exchange) (scope : Scope) (rest : Cost) → IsLeague l → teams l ≡ g.teams →
-    IsScope g scope → scope.exchange ≡ exchange → IsRest l g scope rest → score_of l rest ≤ score_of l (cost_of l (exchanged_by g exchange))
-rest_scores l g exchange scope rest is same are of left =
-    subst (λ e. score_of l rest ≤ score_of l (cost_of l (exchanged_by g e))) of
-    (subst (λ cost. score_of l rest ≤ score_of l cost) (whole_after l g (exchanged_by g scope.exchange) scope rest is same are left refl)
-    (score_grows l rest (penalties_share l scope (exchanged_by g scope.exchange))))
-
--- nor is the travel
+-- the travel is no more than the score
 pub travel_scores : (l : LeagueData) (g : Games) → travel l g ≤ score_of l (cost_of l g)
 travel_scores l g = omega (arith, cost_travel l g)
 
--- on the schedule after, where all penalties that the exchange can change are counted
-module _ (l : LeagueData) (g : Games) (scope : Scope) (rest : Cost) (is : IsLeague l) (same : teams l ≡ g.teams)
-    (whole : with_penalties rest (penalties_share l scope g) ≡ cost_of l g) where
-  pub whole_is : (after : Penalties) → after ≡ penalties_share l scope g → with_penalties rest after ≡ cost_of l g
-  whole_is after counted = rw counted whole
+-- nor the travel with some of the runs
+pub least_scores : (l : LeagueData) (g : Games) (runs : ℕ) → runs ≤ runs_over g l.at_most →
+    score_of l (record { travel = travel l g; hard = runs; soft = 0 }) ≤ score_of l (cost_of l g)
+least_scores l g runs some =
+    let weighed : l.hard_weight * runs ≤ l.hard_weight * (cost_of l g).hard =
+    mul-le-mul_left l.hard_weight (omega (arith, some, games_le l g)) in
+    omega (arith, cost_travel l g, weighed)
 
-  pub whole_small : (after : Penalties) → after ≡ penalties_share l scope g → IsSmall (with_penalties rest after)
-  whole_small after counted = subst IsSmall (sym (whole_is after counted)) (cost_small l g is same)
+-- the told cost without the penalties of before, and with those of after
+module _ (l : LeagueData) (g : Games) (exchange : Exchange) (scope : Scope) (told rest : Cost) (is : IsLeague l) (same : teams l ≡ g.teams)
+    (are : IsScope g scope) (of : scope.exchange ≡ exchange) (known : IsTold l g exchange told) (left : IsRest l g scope told rest) where
+  known_scope : IsTold l g scope.exchange told
+  known_scope = subst (λ (e : Exchange). IsTold l g e told) (sym of) known
 
-  pub whole_scores : (after : Penalties) → after ≡ penalties_share l scope g → score_of l (with_penalties rest after) < score_limit
-  whole_scores after counted =
-      subst (λ cost. score_of l cost < score_limit) (sym (whole_is after counted)) (score_below l g is (sym same))
+  pub whole_cost : (g' : Games) (after : Penalties) → g' ≡ exchanged_by g exchange → after ≡ penalties_share l scope g' →
+      with_penalties rest after ≡ cost_of l (exchanged_by g exchange)
+  whole_cost g' after made counted =
+      ap (with_penalties rest) counted ∙
+      whole_after l g g' scope told rest is same are known_scope left (made ∙ ap (exchanged_by g) (sym of)) ∙ ap (cost_of l) made
 
-  -- the games first, and then the rules
-  pub both_counted : (hard : ℕ) (rules : Penalties) → hard ≡ rest.hard + games_share l scope g →
-      rules.hard ≡ rules_share hard_share l.rules scope.main scope.turning g →
-      rules.soft ≡ rules_share soft_share l.rules scope.main scope.turning g →
-      with_penalties (record rest { hard = hard }) rules ≡ cost_of l g
-  unfolding penalties_share
-  both_counted hard rules hard_is of_hard of_soft =
-      same_cost (with_penalties (record rest { hard = hard }) rules) (with_penalties rest (penalties_share l scope g))
-      refl (omega (arith, hard_is, of_hard)) (omega (arith, of_soft)) ∙
-      whole
+  pub whole_small : (g' : Games) (after : Penalties) → g' ≡ exchanged_by g exchange → after ≡ penalties_share l scope g' →
+      IsSmall (with_penalties rest after)
+  whole_small g' after made counted =
+      subst IsSmall (sym (whole_cost g' after made counted))
+      (cost_small l (exchanged_by g exchange) is (same ∙ sym (exchanged-teams g exchange)))
 
-  pub both_small : (hard : ℕ) (rules : Penalties) → hard ≡ rest.hard + games_share l scope g →
-      rules.hard ≡ rules_share hard_share l.rules scope.main scope.turning g →
-      rules.soft ≡ rules_share soft_share l.rules scope.main scope.turning g →
-      IsSmall (with_penalties (record rest { hard = hard }) rules)
-  both_small hard rules hard_is of_hard of_soft =
-      subst IsSmall (sym (both_counted hard rules hard_is of_hard of_soft)) (cost_small l g is same)
+  pub rest_scores : score_of l rest ≤ score_of l (cost_of l (exchanged_by g exchange))
+  rest_scores =
+      subst (λ cost. score_of l rest ≤ score_of l cost)
+      (whole_cost (exchanged_by g exchange) (penalties_share l scope (exchanged_by g exchange)) refl refl)
+      (score_grows l rest (penalties_share l scope (exchanged_by g exchange)))
 
-  -- with some of the games alone the cost is no greater
-  left_out : ℕ → Penalties
-  left_out hard = record {
-    hard = (rest.hard + games_share l scope g) - hard + rules_share hard_share l.rules scope.main scope.turning g;
-    soft = rules_share soft_share l.rules scope.main scope.turning g;
-  }
-
-  with_left_out : (hard : ℕ) → hard ≤ rest.hard + games_share l scope g →
-      with_penalties (record rest { hard = hard }) (left_out hard) ≡ cost_of l g
-  unfolding penalties_share left_out
-  with_left_out hard less =
-      same_cost (with_penalties (record rest { hard = hard }) (left_out hard))
-      (with_penalties rest (penalties_share l scope g)) refl (omega (arith, less)) refl ∙
-      whole
-
-  pub games_score : (hard : ℕ) → hard ≤ rest.hard + games_share l scope g →
-      score_of l (record rest { hard = hard }) ≤ score_of l (cost_of l g)
-  games_score hard less =
-      subst (λ cost. score_of l (record rest { hard = hard }) ≤ score_of l cost) (with_left_out hard less)
-      (score_grows l (record rest { hard = hard }) (left_out hard))
-
-  pub games_small : (hard : ℕ) → hard ≤ rest.hard + games_share l scope g → hard < score_limit
-  games_small hard less =
-      let small : IsSmall (with_penalties (record rest { hard = hard }) (left_out hard)) =
-      subst IsSmall (sym (with_left_out hard less)) (cost_small l g is same) in
-      omega (arith, small.hard)
+-- no score is above the greatest limit
+pub within_greatest : (l : LeagueData) (g : Games) (result : Option Cost) → IsCostWithin l 18446744073709551615 g result →
+    score_of l (cost_of l g) < score_limit → IsSome result
+within_greatest l g (Some cost) within below = search rules
+within_greatest l g None within below = absurd (omega (arith, within))

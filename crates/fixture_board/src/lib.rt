@@ -9,8 +9,8 @@ mod best;
 mod board;
 mod change;
 mod cost;
+mod counted;
 mod counting;
-mod kept_cost;
 mod laws;
 mod look;
 mod made_within;
@@ -20,18 +20,18 @@ mod reply;
 mod rule_costs;
 mod scope;
 mod state;
+mod told_cost;
 
 pub use ask::{Ask, Proposal};
 pub use board::{Board, BoardFault, MAX_ROOM, NewRefused};
 pub use change::{Change, Entry};
 pub use cost::{Best, Cost};
 pub use counting::cost_of;
-pub use kept_cost::make_at_cost;
 pub use laws::{
     answer_tells_history, best_is_least, best_never_rises, callers_are_names_alone,
     empty_history_is_legal, legal_history_is_sound, next_history_is_legal, replay,
     rewinding_keeps_the_best, weight_is_for_scores_alone,
 };
 pub use look::Seen;
-pub use made_within::make_within;
+pub use made_within::{make_at_cost, make_within};
 pub use reply::{Reply, Why};

@@ -1,22 +1,43 @@
-//! An exchange that is made where the score after is within a limit.
+//! An exchange that is made on a schedule of known cost: always, or where the score after is within a limit.
 
 ghost use Rattle.std.specs.Prelude.{◌≡◌, ◌<◌, IfSome, MatchOption};
 ghost use Rattle.league.specs.League.{teams};
 ghost use Rattle.moves.specs.Exchanges.{exchanged_by, IsExchange};
 ghost use Rattle.fixture_board.specs.Costs.{cost_of, score_of, score_limit, IsCostWithin};
-ghost use Rattle.fixture_board.specs.CostShares.{penalties_share, with_penalties};
+ghost use Rattle.fixture_board.specs.CostShares.{IsTold};
 
 use crate::cost::Cost;
-use crate::kept_cost::{meetings_share, rest_of, runs_share, travel_after};
-use crate::rule_costs::shares_of_rules;
+use crate::counted::{penalties, rest_of};
 use crate::scope::Scope;
+use crate::told_cost::{runs_of, told_cost, travel_after};
 use fixtures::Schedule;
 use league::League;
 use moves::Exchange;
 
+/// Makes an exchange on a schedule of known cost, and gives the cost after. Made once more, it gives the schedule back.
+/// Takes no memory.
+pub fn make_at_cost(
+    schedule: &mut Schedule,
+    league: &League,
+    exchange: &Exchange,
+    known: Cost,
+) -> Cost
+    requires same_size { teams league.now ≡ schedule.old.teams }
+    requires can_be_made { IsExchange schedule.old exchange.now }
+    requires known { known ≡ cost_of league.now schedule.old }
+    ensures made { schedule.new ≡ exchanged_by schedule.old exchange.now }
+    ensures again { IsExchange schedule.new exchange.now }
+    ensures back { exchanged_by schedule.new exchange.now ≡ schedule.old }
+    ensures value { result ≡ cost_of league.now schedule.new }
+    ensures small { score_of league.now result < score_limit }
+{
+    prove_eq!(league.teams(), schedule.teams());
+    make_within(schedule, league, exchange, known, u64::MAX).unwrap()
+}
+
 /// Makes an exchange as `make_at_cost` does where the score after is at most `most`, and gives the cost after. Else the
-/// schedule is left as it was, and what costs little to count is counted first: the travel and what the exchange leaves as
-/// it was, for which nothing is made, then runs, then repeats, and last the rules. Takes no memory.
+/// schedule is left as it was, and what costs little to count is counted first: travel, runs and repeats, for which nothing
+/// is made, and last the rules. Takes no memory.
 pub fn make_within(
     schedule: &mut Schedule,
     league: &League,
@@ -39,55 +60,61 @@ pub fn make_within(
     if travel > most {
         return None;
     }
-    let scope = Scope::of(exchange, schedule);
-    let rest = rest_of(schedule, league, &scope, known, travel);
-    if rest.score(league) > most {
-        return None;
-    }
-    exchange.make(schedule);
-    let cost = whole_within(schedule, league, &scope, rest, most);
-    if cost.is_none() {
-        exchange.make(schedule);
-    }
-    cost
-}
-
-/// The cost of the schedule after the exchange where its score is at most `most`, from what the exchange left as it was. The
-/// meetings are counted only where the runs leave room for them, and the rules only where both do.
-fn whole_within(
-    schedule: &Schedule,
-    league: &League,
-    scope: &Scope,
-    rest: Cost,
-    most: u64,
-) -> Option<Cost>
-    requires same_size { teams league.now ≡ schedule.now.teams }
-    requires whole { with_penalties rest (penalties_share league.now scope.now schedule.now) ≡ cost_of league.now schedule.now }
-    ensures value { IsCostWithin league.now most schedule.now result }
-    ensures small { IfSome result (λ cost. score_of league.now cost < score_limit) }
-{
-    prove_eq!(league.teams(), schedule.teams());
-    let runs = Cost {
-        hard: rest.hard + runs_share(schedule, league, scope),
-        ..rest
-    };
-    if runs.score(league) > most {
-        return None;
-    }
+    let runs = runs_of(schedule, league, exchange);
     let least = Cost {
-        hard: runs.hard + meetings_share(schedule, league, scope),
-        ..rest
+        travel,
+        hard: runs.after,
+        soft: 0,
     };
     if least.score(league) > most {
         return None;
     }
-    let rules = shares_of_rules(schedule, league, scope.main, scope.turning);
+    let told = told_cost(schedule, league, exchange, known, travel, runs);
+    if league.rule_count() > 0 || league.phased() {
+        return make_counted(schedule, league, exchange, known, told, most);
+    }
+    if told.score(league) > most {
+        return None;
+    }
+    exchange.make(schedule);
+    Some(told)
+}
+
+/// The same in a league with rules or halves, whose penalties are counted before the exchange and after it.
+fn make_counted(
+    schedule: &mut Schedule,
+    league: &League,
+    exchange: &Exchange,
+    known: Cost,
+    told: Cost,
+    most: u64,
+) -> Option<Cost>
+    requires same_size { teams league.now ≡ schedule.old.teams }
+    requires can_be_made { IsExchange schedule.old exchange.now }
+    requires known { known ≡ cost_of league.now schedule.old }
+    requires told { IsTold league.now schedule.old exchange.now told }
+    ensures value { IsCostWithin league.now most (exchanged_by schedule.old exchange.now) result }
+    ensures schedule { MatchOption result (schedule.new ≡ schedule.old)
+        (λ cost. schedule.new ≡ exchanged_by schedule.old exchange.now) }
+    ensures again { IsExchange schedule.new exchange.now }
+    ensures back { IfSome result (λ cost. exchanged_by schedule.new exchange.now ≡ schedule.old) }
+    ensures small { IfSome result (λ cost. score_of league.now cost < score_limit) }
+{
+    prove_eq!(league.teams(), schedule.teams());
+    let scope = Scope::of(exchange, schedule);
+    let rest = rest_of(schedule, league, &scope, known, told);
+    if rest.score(league) > most {
+        return None;
+    }
+    exchange.make(schedule);
+    let after = penalties(schedule, league, &scope);
     let cost = Cost {
-        travel: least.travel,
-        hard: least.hard + rules.hard,
-        soft: least.soft + rules.soft,
+        travel: rest.travel,
+        hard: rest.hard + after.hard,
+        soft: rest.soft + after.soft,
     };
     if cost.score(league) > most {
+        exchange.make(schedule);
         return None;
     }
     Some(cost)

@@ -1,4 +1,4 @@
-//! What an exchange can change of a cost.
+//! What an exchange can change of a cost that has to be counted.
 
 ghost use Rattle.std.specs.Prelude.{◌≡◌};
 ghost use Rattle.moves.specs.Exchanges.{IsExchange};
@@ -8,7 +8,7 @@ use fixtures::{Schedule, Touched};
 use league::TeamSet;
 use moves::Exchange;
 
-/// An exchange and what it can change of a cost, told once on the schedule before it.
+/// An exchange and what it can change of such a cost, told once on the schedule before it.
 #[derive(Clone, Copy)]
 pub(crate) struct Scope {
     pub(crate) exchange: Exchange,
@@ -16,8 +16,6 @@ pub(crate) struct Scope {
     pub(crate) main: Touched,
     /// The teams whose sides change.
     pub(crate) turning: TeamSet,
-    /// Whether the same pairs meet after it.
-    pub(crate) same_meetings: bool,
 }
 
 impl Scope {
@@ -31,7 +29,6 @@ impl Scope {
             exchange: *exchange,
             main: exchange.main(),
             turning: exchange.turning(schedule),
-            same_meetings: exchange.same_meetings(schedule),
         }
     }
 }

@@ -1,5 +1,5 @@
 -- The end of an improvement.
-use Rattle.std.proofs.Common.{◌≡◌, ℕ, ◌==◌, List, [], ◌++◌, length, Bool, if◌then◌else◌, Option, Result, Ok, Err, refl, sym, ◌∙◌, ap, subst, eq-eqb, append-nil}
+use Rattle.std.proofs.Common.{◌≡◌, ℕ, List, [], ◌++◌, length, Option, Result, Ok, Err, refl, sym, ◌∙◌, ap, subst, eq-eqb}
 use Rattle.std.proofs.lemmas.Bool.{cond-true}
 use Rattle.std.specs.Borrow.{MutBor}
 use Rattle.std.specs.Io.KnownBytes.{Appends}
@@ -9,7 +9,6 @@ use Rattle.fixture_board.specs.declared.change.Change.{Change}
 use Rattle.fixture_board.specs.declared.change.Entry.{Entry}
 use Rattle.fixture_board.specs.History.{IsLegal}
 use Rattle.fixture_board.specs.Record.{Book, book}
-use Rattle.fixture_board.specs.Replay.{changes_of}
 use Rattle.fixture_board.specs.Replies.{played_from}
 use Rattle.fixture_board.specs.Rewound.{rewound}
 use Rattle.fixture_board.proofs.ForCallers.{is_scored_league, replayed}
@@ -28,7 +27,7 @@ use Rattle.improvement.specs.declared.plan.ImproveFault.TheVariants.{Workers, Sp
 use Rattle.improvement.specs.declared.plan.ImprovePlan.{ImprovePlan}
 use Rattle.improvement.specs.Kept.{EndsBy, HasRunAll, HasWritten, IsLead, Sends, StopsAfterPhases}
 use Rattle.improvement.specs.Outcome.{Improves, StopsEarly}
-use Rattle.improvement.specs.PhaseText.{ending, improve_text, phases_text}
+use Rattle.improvement.specs.PhaseText.{improve_text, phases_text}
 use Rattle.improvement.specs.Runs.{IsWorkers, PhaseRun, final_of, lead_of, room_of}
 use Rattle.improvement.proofs.Callers.{credited_same}
 use Rattle.improvement.proofs.Rewinds.{rewound_of}

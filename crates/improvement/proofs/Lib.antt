@@ -7,3 +7,4 @@ pub mod Texts
 pub mod PhaseRuns
 pub mod UnderWay
 pub mod Endings
+pub mod Solutions

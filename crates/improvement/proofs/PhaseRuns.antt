@@ -1,5 +1,5 @@
 -- A phase that was run.
-use Rattle.std.proofs.Common.{◌≡◌, ℕ, ◌+◌, List, ◌++◌, length, refl, sym, ◌∙◌, ap, subst₂, length-append, arith}
+use Rattle.std.proofs.Common.{◌≡◌, ℕ, ◌+◌, List, ◌++◌, length, refl, ◌∙◌, ap, subst₂, length-append, arith}
 use Rattle.league.specs.League.{LeagueData}
 use Rattle.league.specs.Reweighted.{reweighted}
 use Rattle.fixture_board.specs.declared.change.Entry.{Entry}

@@ -6,7 +6,7 @@ use Rattle.league.specs.League.{LeagueData}
 use Rattle.fixture_board.specs.declared.change.Change.{Change}
 use Rattle.fixture_board.specs.declared.change.Entry.{Entry}
 use Rattle.fixture_board.specs.declared.cost.Best.{Best}
-use Rattle.fixture_board.specs.History.{IsBestOf, IsBestPrefix, as_best, best_at, best_of, best_prefix}
+use Rattle.fixture_board.specs.History.{IsBestOf, as_best, best_of, best_prefix}
 use Rattle.fixture_board.specs.Replay.{changes_of}
 use Rattle.fixture_board.specs.Rewound.{rewound}
 use Rattle.fixture_board.proofs.Least.{best_prefix-is_best}

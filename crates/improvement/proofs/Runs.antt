@@ -1,10 +1,8 @@
 -- One run more.
-use Rattle.std.proofs.Common.{◌≡◌, ℕ, List, [], ◌∷◌, ◌++◌, length, map, fold, Option, None, replicate, refl, sym, ◌∙◌, ap, subst, append_assoc, append-nil}
+use Rattle.std.proofs.Common.{◌≡◌, ℕ, List, [], ◌∷◌, ◌++◌, None, replicate, sym, ◌∙◌, ap, subst, append_assoc, append-nil}
 use Rattle.std.proofs.lemmas.List.{map-append}
 use Rattle.std.proofs.lemmas.List.Sums.{fold-append}
 use Rattle.league.specs.League.{LeagueData}
-use Rattle.fixture_board.specs.declared.change.Entry.{Entry}
-use Rattle.phases.specs.declared.chain.PhaseOutcome.{PhaseOutcome}
 use Rattle.phases.specs.Laws.{policy_of}
 use Rattle.phases.specs.Policy.{new_policy, policy_after}
 use Rattle.improvement.specs.declared.plan.ImprovePlan.{ImprovePlan}

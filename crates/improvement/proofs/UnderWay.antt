@@ -1,6 +1,6 @@
 -- An improvement between two phases.
-use Rattle.std.proofs.Common.{◌≡◌, ℕ, ◌+◌, ◌-◌, ◌<◌, ◌≤◌, nat_lt, Bool, true, false, if◌then◌else◌, List, [], ◌∷◌, ◌++◌, length, get_or, set, map, replicate, All}
-use Rattle.std.proofs.Common.{Option, Some, None, Result, Err, refl, sym, ◌∙◌, ap, subst, subst₂, append-nil, length-append, length-set, set-set, true≢false, arith}
+use Rattle.std.proofs.Common.{◌≡◌, ℕ, ◌+◌, ◌-◌, ◌<◌, nat_lt, Bool, true, false, List, [], ◌∷◌, ◌++◌, length, get_or, set, map, replicate, All}
+use Rattle.std.proofs.Common.{Option, Some, None, Err, refl, sym, ◌∙◌, ap, subst, subst₂, length-append, length-set, set-set, arith}
 use Rattle.std.proofs.lemmas.Bool.{cond-true, lt-ltb}
 use Rattle.std.proofs.lemmas.Bool.Decides.{nat_tests}
 use Rattle.std.proofs.lemmas.List.{map-set}
@@ -11,8 +11,7 @@ use Rattle.fixture_board.specs.declared.change.Entry.{Entry}
 use Rattle.fixture_board.specs.Record.{Book}
 use Rattle.phases.specs.declared.chain.PhaseOutcome.{PhaseOutcome}
 use Rattle.phases.specs.declared.policy.Phase.{Phase}
-use Rattle.phases.specs.Laws.{policy_of}
-use Rattle.phases.specs.Policy.{IsInRange, PolicyData, new_policy, next_phase, policy_after}
+use Rattle.phases.specs.Policy.{PolicyData, new_policy, next_phase, policy_after}
 use Rattle.phases.specs.Stages.{phase_count}
 use Rattle.streams.specs.declared.buffered.BufferedSink.{BufferedSink}
 use Rattle.streams.specs.declared.tally.Tally.{Tally}
@@ -25,10 +24,10 @@ use Rattle.streams.proofs.Pieces.{Adds-nothing, Adds-stops, Adds-then, Stops-mor
 use Rattle.phases.specs.Laws.{least_told}
 use Rattle.improvement.specs.declared.plan.ImproveFault.{ImproveFault}
 use Rattle.improvement.specs.declared.plan.ImproveFault.TheVariants.{Workers, Spawn, Receipts, Write, Memory}
-use Rattle.improvement.specs.Kept.{AreChains, EndsBy, HasRun, IsChainBoard, IsKeptAfter, IsLead, IsRunFault, IsSlot, IsUnderWay, Sends, StopsAfterPhases}
+use Rattle.improvement.specs.Kept.{EndsBy, HasRun, IsChainBoard, IsKeptAfter, IsLead, IsRunFault, IsSlot, IsUnderWay, Sends, StopsAfterPhases}
 use Rattle.improvement.specs.Kept.{best_of_outcome, history_in, run_of}
 use Rattle.improvement.specs.PhaseText.{ending, improve_text, phase_text, phases_text}
-use Rattle.improvement.specs.Runs.{AreRuns, IsRunAfter, PhaseRun, ahead, beginning, histories_after, histories_of, lead_after, lead_of, outcome_in, outcome_of, outcomes_of, room_of}
+use Rattle.improvement.specs.Runs.{AreRuns, IsRunAfter, PhaseRun, ahead, beginning, histories_of, lead_of, outcome_in, outcome_of, outcomes_of, room_of}
 use Rattle.improvement.proofs.Leads.{least_leads}
 use Rattle.improvement.proofs.Texts.{no_text, text_more}
 use Rattle.improvement.proofs.Runs.{histories_more, lead_more, no_runs, policy_more, runs_more}

@@ -1,13 +1,14 @@
 -- What an improvement writes.
-use Rattle.std.specs.Prelude.{◌≡◌, ℕ, ◌*◌, ◌==◌, nat_lt, if◌then◌else◌, Bool, true, List, [], ◌∷◌, ◌++◌, length, Option, Some, None, codes, decimal}
+use Rattle.std.specs.Prelude.{ℕ, ◌*◌, ◌==◌, if◌then◌else◌, List, [], ◌∷◌, ◌++◌, length, Option, Some, None, codes, decimal}
 use Rattle.std.specs.List.{concat}
 use Rattle.league.specs.League.{LeagueData}
 use Rattle.fixture_board.specs.declared.change.Entry.{Entry}
 use Rattle.phases.specs.Laws.{least_told}
 use Rattle.phases.specs.Stages.{phase_count}
-use Rattle.texts.specs.SearchText.{best_sheet, found_text}
-use Rattle.improvement.specs.declared.plan.ImprovePlan.{ImprovePlan}
+use Rattle.texts.specs.SearchText.{found_text}
+use Rattle.texts.specs.Sheet.{sheet_of}
 use Rattle.improvement.specs.Runs.{PhaseRun, final_of, least_in, outcomes_of, steps_each}
+use Rattle.improvement.specs.Solutions.{Solution, below, best_solution}
 
 -- what a phase was, and how many entries came in it. The steps are those of all workers
 abbrev pub phase_words : ℕ → PhaseRun → List ℕ
@@ -24,22 +25,18 @@ least_words (Some total) = concat (codes " best " ∷ decimal total ∷ codes "\
 abbrev pub phase_line : LeagueData → ℕ → PhaseRun → List ℕ
 phase_line league workers run = phase_words workers run ++ least_words (least_in league run.history)
 
--- whether the total is below the least before, or is the first
-abbrev pub is_below : ℕ → Option ℕ → Bool
-is_below total None = true
-is_below total (Some least) = nat_lt total least
+-- the sheet of a solution, its total and a line that ends it
+abbrev pub solution_lines : LeagueData → Solution → List ℕ
+solution_lines league s =
+    sheet_of s.games league ++ concat (codes "best " ∷ decimal s.total ∷ codes "\n----------\n" ∷ [])
 
--- the sheet of the best schedule of a history, and this total
-abbrev pub best_text : LeagueData → List Entry → ℕ → List ℕ
-best_text league h total = best_sheet league h ++ concat (codes "best " ∷ decimal total ∷ codes "\n----------\n" ∷ [])
+abbrev pub text_of : LeagueData → Option Solution → List ℕ
+text_of league None = []
+text_of league (Some s) = solution_lines league s
 
--- the same of its least total, where that is below the least before
-abbrev pub solution_by : LeagueData → Option ℕ → List Entry → Option ℕ → List ℕ
-solution_by league least h None = []
-solution_by league least h (Some total) = if is_below total least then best_text league h total else []
-
+-- the best schedule of a history, where its total is below the least before
 abbrev pub solution_text : LeagueData → Option ℕ → List Entry → List ℕ
-solution_text league least h = solution_by league least h (least_in league h)
+solution_text league least h = text_of league (below least (best_solution league h))
 
 -- what is written when a phase has ended, where this is the least total before
 unfoldable pub phase_text : LeagueData → ℕ → Option ℕ → PhaseRun → List ℕ

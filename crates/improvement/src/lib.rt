@@ -6,6 +6,7 @@
 
 mod chains;
 mod improving;
+mod laws;
 mod lead;
 mod phase_run;
 mod phase_text;
@@ -13,4 +14,5 @@ mod plan;
 mod setting;
 
 pub use improving::improve;
+pub use laws::{end_is_least, solutions_are_feasible, totals_fall};
 pub use plan::{ImproveFault, ImprovePlan};

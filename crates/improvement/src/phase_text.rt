@@ -6,7 +6,8 @@ ghost use Rattle.fixture_board.specs.History.{best_prefix};
 ghost use Rattle.streams.specs.Writing.{Writes, waiting_in};
 ghost use Rattle.texts.specs.SearchText.{games_at_best};
 ghost use Rattle.improvement.specs.Kept.{run_of};
-ghost use Rattle.improvement.specs.PhaseText.{best_text, is_below, least_words, phase_text, phase_words, solution_text};
+ghost use Rattle.improvement.specs.PhaseText.{least_words, phase_text, phase_words, solution_lines, solution_text};
+ghost use Rattle.improvement.specs.Solutions.{best_with, is_below};
 
 use crate::phase_run::{EndedPhase, steps_each};
 use fixture_board::Board;
@@ -99,7 +100,7 @@ fn write_best<W: Sink>(
     total: u64,
 ) -> Result<(), WriteFault>
     ensures { Writes W.held W.tally out.old out.new result
-        (best_text board.now.league board.now.history total) }
+        (solution_lines board.now.league (best_with board.now.league board.now.history total)) }
 {
     write_sheet(out, best_or_present(board), board.league())?;
     write_pieces(

@@ -3,3 +3,5 @@
 
 #[cfg(test)]
 mod circles;
+#[cfg(test)]
+mod ends;

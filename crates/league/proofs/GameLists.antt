@@ -73,4 +73,8 @@ numbers_below (game ∷ games) fits q any =
 
 pub length-le-IsGameList : (games : List Pairing) → IsGameList games → length games ≤ max_games
 length-le-IsGameList games h =
-    omega (arith, length-map games number, length-le_from_distinct_below (map number games) max_games (numbers_distinct games h.each_once h.fit) (numbers_below games h.fit))
+    omega (
+      arith,
+      length-map games number,
+      length-le_from_distinct_below (map number games) max_games (numbers_distinct games h.each_once h.fit) (numbers_below games h.fit),
+    )

@@ -23,7 +23,8 @@ columns layout n (a ∷ places) = (length-map-range_with_len (apart layout n a) 
 distance_of-made_rows : (layout : Layout) (n a b : ℕ) → a < n → b < n
     → distance_of (made_rows layout n) a b ≡ apart layout n a b
 distance_of-made_rows layout n a b a_below b_below =
-    rw (get_or-map-range_with_len (made_row layout n) 0 n a a [] a_below (zero-add a)) (get_or-map-range_with_len (apart layout n a) 0 n b b 0 b_below (zero-add b))
+    rw (get_or-map-range_with_len (made_row layout n) 0 n a a [] a_below (zero-add a))
+    (get_or-map-range_with_len (apart layout n a) 0 n b b 0 b_below (zero-add b))
 
 near : (layout : Layout) (n a b : ℕ) → n ≤ max_teams → apart layout n a b ≤ max_distance
 unfolding apart
@@ -42,14 +43,17 @@ symmetric Constant n a b = grind (arith, nat_tests)
 
 most_teams : (n : ℕ) → is_team_count n ≡ true → n ≤ max_teams
 most_teams n counted =
-    leb-true n max_teams (and_parts (nat_le min_teams n) (nat_le n max_teams) (and_parts (n % 2 == 0) (nat_le min_teams n && nat_le n max_teams) counted).1).1
+    leb-true n max_teams (and_parts (nat_le min_teams n) (nat_le n max_teams)
+    (and_parts (n % 2 == 0) (nat_le min_teams n && nat_le n max_teams) counted).1).1
 
 IsTable-made_rows : (layout : Layout) (n : ℕ) → is_team_count n ≡ true → IsTable n (made_rows layout n)
 IsTable-made_rows layout n counted =
-    IsTable-from_within n (made_rows layout n) counted (length-map-range_with_len (made_row layout n) 0 n) (columns layout n (range_with_len 0 n))
+    IsTable-from_within n (made_rows layout n) counted (length-map-range_with_len (made_row layout n) 0 n)
+    (columns layout n (range_with_len 0 n))
     (λ a b a_below b_below. rw (distance_of-made_rows layout n a b a_below b_below) (near layout n a b (most_teams n counted)))
     (λ a below. distance_of-made_rows layout n a a below below ∙ diagonal layout n a)
-    (λ a b a_below b_below. distance_of-made_rows layout n a b a_below b_below ∙ symmetric layout n a b ∙ sym (distance_of-made_rows layout n b a b_below a_below))
+    (λ a b a_below b_below. distance_of-made_rows layout n a b a_below b_below ∙ symmetric layout n a b
+    ∙ sym (distance_of-made_rows layout n b a b_below a_below))
 
 made_name_passes : (team : ℕ) → team < max_teams → is_team_name (made_name team) ≡ true
 unfolding digits

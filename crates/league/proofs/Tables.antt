@@ -7,7 +7,7 @@ use Rattle.std.specs.List.{list_all, AllByRecursion}
 use Rattle.league.specs.Checks.{distance_of, is_team_count, has_columns, is_square, is_in_range, has_zero_diagonal}
 use Rattle.league.specs.Checks.{is_mirrored_at, is_symmetric, IsTable}
 use Rattle.league.specs.Limits.{min_teams, max_teams, max_distance}
-use Rattle.league.proofs.Sums.{all_below_passes}
+use Rattle.sets.proofs.ForCallers.{all_below_passes}
 
 abbrev pub HasColumns : ℕ → List (List ℕ) → Type 0
 HasColumns n = AllByRecursion (λ row. length row ≡ n)
@@ -64,7 +64,8 @@ IsTable-from_within n table counted rows columns near diagonal symmetric =
       near = λ a b. within_or_past a b (λ x. x ≤ max_distance) (near a b) (λ past. rw past (omega arith));
       diagonal = λ a. within_or_past a a (λ x. x ≡ 0) (λ below _. diagonal a below) (λ past. past);
       symmetric = λ a b. within_or_past a b (λ x. x ≡ distance_of table b a) (symmetric a b)
-          (λ past. past ∙ sym (within_or_past b a (λ x. x ≡ 0) (λ b_below a_below. sym (symmetric a b a_below b_below) ∙ past) (λ zero. zero)));
+          (λ past. past ∙ sym (within_or_past b a (λ x. x ≡ 0) (λ b_below a_below. sym (symmetric a b a_below b_below) ∙ past)
+          (λ zero. zero)));
     }
   where
     within_or_past : (a b : ℕ) (P : ℕ → Type 0) → (a < n → b < n → P (distance_of table a b))
@@ -87,4 +88,5 @@ IsTable-from_tests n table counted square ranged zeroed mirrored =
     (λ a b _ _. near table a b ranged)
     (λ a below. eqb-true (distance_of table a a) 0 (all_below_passes n (λ k. distance_of table k k == 0) zeroed a below))
     (λ a b a_below b_below. eqb-true (distance_of table a b) (distance_of table b a)
-    (all_below_passes n (λ k. distance_of table a k == distance_of table k a) (all_below_passes n (is_mirrored_at table n) mirrored a a_below) b b_below))
+    (all_below_passes n (λ k. distance_of table a k == distance_of table k a)
+    (all_below_passes n (is_mirrored_at table n) mirrored a a_below) b b_below))

@@ -50,7 +50,8 @@ pub league_of-four : league_of (four_teams circle []) ≡ circular_of 4
 unfolding league_on_literals
 league_of-four = refl
 
-pub league_of-far : league_of (four_teams (codes "[[0,1000000,0,0],[1000000,0,0,0],[0,0,0,0],[0,0,0,0]]") (codes ",\"at_most\":78,\"hard_weight\":1000000")) ≡ Ok (league_data four_names
+pub league_of-far : league_of (four_teams (codes "[[0,1000000,0,0],[1000000,0,0,0],[0,0,0,0],[0,0,0,0]]")
+    (codes ",\"at_most\":78,\"hard_weight\":1000000")) ≡ Ok (league_data four_names
     ((0 ∷ 1000000 ∷ 0 ∷ 0 ∷ []) ∷ (1000000 ∷ 0 ∷ 0 ∷ 0 ∷ []) ∷ (0 ∷ 0 ∷ 0 ∷ 0 ∷ []) ∷ (0 ∷ 0 ∷ 0 ∷ 0 ∷ []) ∷ []) 78 1000000 [] false false)
 unfolding league_on_literals
 league_of-far = refl
@@ -79,7 +80,8 @@ pub league_of-no_teams : league_of (codes "{\"format\":1,\"distances\":[]}") ≡
 unfolding league_on_literals
 league_of-no_teams = refl
 
-pub league_of-three_teams : league_of (codes "{\"format\":1,\"teams\":[\"A\",\"B\",\"C\"],\"distances\":[[0,1,1],[1,0,1],[1,1,0]]}") ≡ Err TeamCount
+pub league_of-three_teams : league_of (codes "{\"format\":1,\"teams\":[\"A\",\"B\",\"C\"],\"distances\":[[0,1,1],[1,0,1],[1,1,0]]}")
+    ≡ Err TeamCount
 unfolding league_on_literals
 league_of-three_teams = refl
 
@@ -117,29 +119,38 @@ with_rules rules = four_teams circle (codes ",\"rules\":[" ++ rules ++ codes "]"
 
 abbrev circle_with : List Rule → LeagueData
 circle_with rules =
-    league_data four_names ((0 ∷ 1 ∷ 2 ∷ 1 ∷ []) ∷ (1 ∷ 0 ∷ 1 ∷ 2 ∷ []) ∷ (2 ∷ 1 ∷ 0 ∷ 1 ∷ []) ∷ (1 ∷ 2 ∷ 1 ∷ 0 ∷ []) ∷ []) 3 100 rules false false
+    league_data four_names ((0 ∷ 1 ∷ 2 ∷ 1 ∷ []) ∷ (1 ∷ 0 ∷ 1 ∷ 2 ∷ []) ∷ (2 ∷ 1 ∷ 0 ∷ 1 ∷ []) ∷ (1 ∷ 2 ∷ 1 ∷ 0 ∷ []) ∷ []) 3 100 rules
+    false false
 
 -- team 4 away in rounds 1, 3 and 5: as sets 2^3, and 2^0 + 2^2 + 2^4
-pub league_of-CA1 : league_of (with_rules (codes "{\"class\":\"CA1\",\"kind\":\"hard\",\"teams\":[4],\"mode\":\"A\",\"slots\":[1,3,5,3],\"max\":1}"))
+pub league_of-CA1 : league_of (with_rules
+    (codes "{\"class\":\"CA1\",\"kind\":\"hard\",\"teams\":[4],\"mode\":\"A\",\"slots\":[1,3,5,3],\"max\":1}"))
     ≡ Ok (circle_with (record { weight = Hard; body = Ca1 8 Away 21 1 } ∷ []))
 unfolding league_on_literals
 league_of-CA1 = refl
 
 -- all rounds where no slots are given, and a game given twice once
-pub league_of-GA1 : league_of (with_rules (codes "{\"class\":\"GA1\",\"kind\":\"soft\",\"weight\":10,\"games\":[[1,2],[2,1],[1,2]],\"min\":1,\"max\":1}"))
-    ≡ Ok (circle_with (record { weight = Soft 10; body = Ga1 (record { home = 0; away = 1 } ∷ record { home = 1; away = 0 } ∷ []) 63 1 1 } ∷ []))
+pub league_of-GA1 : league_of (with_rules
+    (codes "{\"class\":\"GA1\",\"kind\":\"soft\",\"weight\":10,\"games\":[[1,2],[2,1],[1,2]],\"min\":1,\"max\":1}"))
+    ≡ Ok (circle_with (record {
+      weight = Soft 10;
+      body = Ga1 (record { home = 0; away = 1 } ∷ record { home = 1; away = 0 } ∷ []) 63 1 1;
+    } ∷ []))
 unfolding league_on_literals
 league_of-GA1 = refl
 
-pub league_of-too_many_breaks : league_of (with_rules (codes "{\"class\":\"BR2\",\"kind\":\"hard\",\"teams\":[1,2],\"intp\":10001}")) ≡ Err (RuleValue 0)
+pub league_of-too_many_breaks : league_of (with_rules (codes "{\"class\":\"BR2\",\"kind\":\"hard\",\"teams\":[1,2],\"intp\":10001}"))
+    ≡ Err (RuleValue 0)
 unfolding league_on_literals
 league_of-too_many_breaks = refl
 
-pub league_of-second_class : league_of (with_rules (codes "{\"class\":\"SE1\",\"kind\":\"hard\",\"teams\":[1,4],\"min\":3},{\"class\":\"XX1\"}")) ≡ Err (RuleClass 1)
+pub league_of-second_class : league_of
+    (with_rules (codes "{\"class\":\"SE1\",\"kind\":\"hard\",\"teams\":[1,4],\"min\":3},{\"class\":\"XX1\"}")) ≡ Err (RuleClass 1)
 unfolding league_on_literals
 league_of-second_class = refl
 
-pub league_of-FA2 : league_of (with_rules (codes "{\"class\":\"FA2\",\"kind\":\"hard\",\"teams\":[1],\"slots\":[1],\"intp\":1}")) ≡ Err (RuleClass 0)
+pub league_of-FA2 : league_of (with_rules (codes "{\"class\":\"FA2\",\"kind\":\"hard\",\"teams\":[1],\"slots\":[1],\"intp\":1}"))
+    ≡ Err (RuleClass 0)
 unfolding league_on_literals
 league_of-FA2 = refl
 
@@ -184,7 +195,8 @@ unfolding league_on_literals
 league_of-phased_number = refl
 
 -- teams 1 to 4 after each of rounds 1 to 6
-pub league_of-second_FA2 : league_of (second_format (codes ",\"rules\":[{\"class\":\"FA2\",\"kind\":\"hard\",\"teams\":[1,2,3,4],\"intp\":1}]"))
+pub league_of-second_FA2 : league_of
+    (second_format (codes ",\"rules\":[{\"class\":\"FA2\",\"kind\":\"hard\",\"teams\":[1,2,3,4],\"intp\":1}]"))
     ≡ Ok (circle_in_order (record { weight = Hard; body = Fa2 15 63 1 } ∷ []) false false)
 unfolding league_on_literals
 league_of-second_FA2 = refl

@@ -7,7 +7,7 @@ use Rattle.league.specs.declared.fault.LeagueFault.TheVariants.{TeamCount, Dista
 use Rattle.league.specs.declared.fault.LeagueFault.TheVariants.{Asymmetric, TooManyRules}
 use Rattle.league.specs.Reading.{◌>>=◌, unless}
 use Rattle.league.specs.Limits.{min_teams, max_teams, max_distance, max_rules}
-use Rattle.league.specs.Sums.{all_below}
+use Rattle.sets.specs.Sums.{all_below}
 
 -- the number at column b of row a, or 0 beyond the table
 abbrev pub distance_of : List (List ℕ) → ℕ → ℕ → ℕ

@@ -1,3 +1,5 @@
+pub use Rattle.sets.specs.Sums
+pub use Rattle.sets.specs.Sets
 pub mod Json
 pub mod Reading
 pub mod Views
@@ -6,8 +8,6 @@ pub mod LeagueMembers
 pub mod Messages
 pub mod Limits
 pub mod Checks
-pub mod Sums
-pub mod Sets
 pub mod Games
 pub mod RuleLimits
 pub mod RuleMembers

@@ -1,5 +1,7 @@
 -- How large leagues, their seasons and their rules may be.
 use Rattle.std.specs.Prelude.{ℕ, ◌-◌, ◌*◌}
+-- the most teams, and the rounds of so many
+pub use Rattle.sets.specs.Limits.{max_teams, max_rounds}
 
 -- of a league's text
 abbrev pub max_format : ℕ
@@ -8,9 +10,6 @@ max_format = 2
 abbrev pub min_teams : ℕ
 min_teams = 4
 
-abbrev pub max_teams : ℕ
-max_teams = 40
-
 -- the bytes of a team's name
 abbrev pub max_name : ℕ
 max_name = 40
@@ -18,10 +17,6 @@ max_name = 40
 -- how many rounds n teams play: each meets each other twice
 abbrev pub round_count : ℕ → ℕ
 round_count n = 2 * (n - 1)
-
--- the rounds of the most teams
-abbrev pub max_rounds : ℕ
-max_rounds = 78
 
 -- no list has more games, each once, of the most teams
 abbrev pub max_games : ℕ

@@ -8,7 +8,7 @@ use Rattle.league.specs.declared.rule.Side.TheVariants.{Any}
 use Rattle.league.specs.declared.rule.Weight.{Weight}
 use Rattle.league.specs.declared.rule.Weight.TheVariants.{Hard, Soft}
 use Rattle.league.specs.Limits.{round_count, max_games, max_weight, max_count}
-use Rattle.league.specs.Sets.{IsBelow}
+use Rattle.sets.specs.Sets.{IsBelow}
 use Rattle.league.specs.Games.{IsGameFor}
 
 abbrev pub IsCount : ℕ → Type 0

@@ -10,7 +10,7 @@ use Rattle.league.specs.declared.rule.Side.TheVariants.{Home, Away, Any}
 use Rattle.league.specs.declared.rule.Weight.{Weight}
 use Rattle.league.specs.declared.rule.Weight.TheVariants.{Hard, Soft}
 use Rattle.league.specs.Json.{only_if, number_within, array_of}
-use Rattle.league.specs.Sets.{with_number, all_numbers}
+use Rattle.sets.specs.Sets.{with_number, all_numbers}
 use Rattle.league.specs.Games.{with_games}
 use Rattle.league.specs.Limits.{round_count, max_weight, max_count}
 
@@ -77,7 +77,8 @@ abbrev pub game_of_items : ℕ → Items → Option Pairing
 game_of_items n no_items = None
 game_of_items n (item home no_items) = None
 game_of_items n (item home (item away no_items)) =
-    option_and_then (λ h. option_and_then (λ a. only_if (not (h == a)) (record { home = h - 1; away = a - 1 })) (number_within 1 n away)) (number_within 1 n home)
+    option_and_then (λ h. option_and_then (λ a. only_if (not (h == a)) (record { home = h - 1; away = a - 1 })) (number_within 1 n away))
+    (number_within 1 n home)
 game_of_items n (item home (item away (item more items))) = None
 
 abbrev pub game_of : ℕ → Data → Option Pairing

@@ -2,7 +2,8 @@
 
 ghost use Rattle.std.specs.Prelude.{◌≡◌, ◌<◌, ◌≤◌, [], length, slice_index_or, nat_le, OnOk, IsTrue};
 ghost use Rattle.std.specs.List.{list_all};
-ghost use Rattle.league.specs.Checks.{distance_of, is_team_count, is_square, is_in_range, has_zero_diagonal, is_mirrored_at, is_symmetric, checked, IsTable};
+ghost use Rattle.league.specs.Checks.{distance_of, is_team_count, is_square, is_in_range, has_zero_diagonal};
+ghost use Rattle.league.specs.Checks.{is_mirrored_at, is_symmetric, checked, IsTable};
 ghost use Rattle.league.specs.Limits.{max_distance, max_rules};
 ghost use Rattle.league.specs.Views.{rows};
 
@@ -56,7 +57,7 @@ fn is_in_range(table: &[Vec<u64>]) -> bool
     true
 }
 
-#[tactic(auto, using(crate::proofs::Sums::each_below), unfolding(crate::specs::Checks::has_zero_diagonal))]
+#[tactic(auto, using(sets::proofs::ForCallers::each_below), unfolding(crate::specs::Checks::has_zero_diagonal))]
 fn has_zero_diagonal(n: usize, table: &[Vec<u64>]) -> bool
     requires { IsTrue (is_square n (rows table.now)) }
     ensures { result ≡ has_zero_diagonal n (rows table.now) }
@@ -69,7 +70,7 @@ fn has_zero_diagonal(n: usize, table: &[Vec<u64>]) -> bool
     true
 }
 
-#[tactic(auto, using(crate::proofs::Sums::each_below), unfolding(crate::specs::Checks::is_mirrored_at))]
+#[tactic(auto, using(sets::proofs::ForCallers::each_below), unfolding(crate::specs::Checks::is_mirrored_at))]
 fn is_mirrored_at(n: usize, table: &[Vec<u64>], a: usize) -> bool
     requires square { IsTrue (is_square n (rows table.now)) }
     requires row { a < n }
@@ -83,7 +84,7 @@ fn is_mirrored_at(n: usize, table: &[Vec<u64>], a: usize) -> bool
     true
 }
 
-#[tactic(auto, using(crate::proofs::Sums::each_below), unfolding(crate::specs::Checks::is_symmetric))]
+#[tactic(auto, using(sets::proofs::ForCallers::each_below), unfolding(crate::specs::Checks::is_symmetric))]
 fn is_symmetric(n: usize, table: &[Vec<u64>]) -> bool
     requires { IsTrue (is_square n (rows table.now)) }
     ensures { result ≡ is_symmetric n (rows table.now) }

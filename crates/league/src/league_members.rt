@@ -6,7 +6,8 @@ ghost use Rattle.std.specs.List.{list_all};
 ghost use Rattle.serde_json.specs.View.{view, items_view};
 ghost use Rattle.league.specs.Limits.{max_rounds, max_weight};
 ghost use Rattle.league.specs.Reading.{Gives, seen};
-ghost use Rattle.league.specs.LeagueMembers.{is_team_name, format_of, teams_of, distances_of, at_most_of, hard_weight_of, rules_of, order_named, start_order, fide_of, phased_of};
+ghost use Rattle.league.specs.LeagueMembers.{is_team_name, format_of, teams_of, distances_of, at_most_of};
+ghost use Rattle.league.specs.LeagueMembers.{hard_weight_of, rules_of, order_named, start_order, fide_of, phased_of};
 ghost use Rattle.league.specs.Views.{texts, rows};
 
 use crate::fault::{Field, LeagueFault};

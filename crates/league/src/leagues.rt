@@ -35,9 +35,11 @@ impl Model for League {
 
     ghost Value = { LeagueData };
 
-    ghost view = { λ l. league_of_numbers (texts l.names.items) l.distances.items l.terms.at_most l.terms.hard_weight l.rules.items l.terms.fide l.terms.phased };
+    ghost view = { λ l. league_of_numbers (texts l.names.items) l.distances.items l.terms.at_most l.terms.hard_weight l.rules.items
+        l.terms.fide l.terms.phased };
 
-    ghost invariant = { λ l. IsLeague (league_of_numbers (texts l.names.items) l.distances.items l.terms.at_most l.terms.hard_weight l.rules.items l.terms.fide l.terms.phased) };
+    ghost invariant = { λ l. IsLeague (league_of_numbers (texts l.names.items) l.distances.items l.terms.at_most l.terms.hard_weight
+        l.rules.items l.terms.fide l.terms.phased) };
 }
 
 impl League {
@@ -52,8 +54,10 @@ impl League {
         rules: Vec<Rule>,
         terms: Terms,
     ) -> Result<League, AllocError>
-        requires { IsLeague (league_data (texts names.items) (rows distances.now) terms.at_most terms.hard_weight rules.items terms.fide terms.phased) }
-        ensures { IfOk result (λ l. l ≡ league_data (texts names.items) (rows distances.now) terms.at_most terms.hard_weight rules.items terms.fide terms.phased) }
+        requires { IsLeague (league_data (texts names.items)
+            (rows distances.now) terms.at_most terms.hard_weight rules.items terms.fide terms.phased) }
+        ensures { IfOk result (λ l. l ≡ league_data (texts names.items)
+            (rows distances.now) terms.at_most terms.hard_weight rules.items terms.fide terms.phased) }
     {
         let distances = one_after_another(alloc, names.len(), distances)?;
         Ok(League {

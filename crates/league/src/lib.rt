@@ -13,7 +13,6 @@ mod reader;
 mod rule;
 mod rule_classes;
 mod rule_members;
-mod sets;
 
 pub use fault::{Field, LeagueFault};
 pub use leagues::League;

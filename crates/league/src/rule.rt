@@ -5,7 +5,7 @@ ghost use Rattle.std.specs.Prelude.{◌≡◌, ◌<◌, ◌≤◌, ◌↔◌, []
 ghost use Rattle.league.specs.Games.{IsGameFor, IsGameList, with_game};
 ghost use Rattle.league.specs.Limits.{max_teams, max_games};
 
-use crate::sets::{SlotSet, TeamSet};
+use sets::{SlotSet, TeamSet};
 use std::alloc::{AllocError, Global};
 use std::marker::Model;
 

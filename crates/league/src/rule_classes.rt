@@ -6,7 +6,8 @@ ghost use Rattle.serde_json.specs.View.{view, items_view};
 ghost use Rattle.league.specs.Limits.{max_teams, max_rules};
 ghost use Rattle.league.specs.Reading.{Gives};
 ghost use Rattle.league.specs.RuleLimits.{IsBodyFor, IsRuleFor};
-ghost use Rattle.league.specs.RuleClasses.{class_of, ca1_of, ca2_of, ca3_of, ca4_of, ga1_of, br1_of, br2_of, se1_of, fa2_of, body_of, rule_of_class};
+ghost use Rattle.league.specs.RuleClasses.{class_of, ca1_of, ca2_of, ca3_of, ca4_of, ga1_of, br1_of, br2_of, se1_of};
+ghost use Rattle.league.specs.RuleClasses.{fa2_of, body_of, rule_of_class};
 ghost use Rattle.league.specs.League.{rule_of, rules_from};
 
 use crate::fault::LeagueFault;

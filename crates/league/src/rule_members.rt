@@ -8,14 +8,16 @@ ghost use Rattle.league.specs.declared.rule.Side.TheVariants.{Any};
 ghost use Rattle.league.specs.Games.{IsGameFor};
 ghost use Rattle.league.specs.Limits.{round_count, max_teams, max_rounds, max_games};
 ghost use Rattle.league.specs.RuleLimits.{IsCount, IsWeight};
-ghost use Rattle.league.specs.RuleMembers.{text_member, number_set, teams_member, opponents_member, slots_member, count_member, window_member, one_side, one_side_member, any_side_member, each_member, game_of, games_member, soft_weight, weight_of};
-ghost use Rattle.league.specs.Sets.{IsBelow};
+ghost use Rattle.league.specs.RuleMembers.{text_member, number_set, teams_member, opponents_member, slots_member};
+ghost use Rattle.league.specs.RuleMembers.{count_member, window_member, one_side, one_side_member, any_side_member};
+ghost use Rattle.league.specs.RuleMembers.{each_member, game_of, games_member, soft_weight, weight_of};
+ghost use Rattle.sets.specs.Sets.{IsBelow};
 
 use crate::forms::number_within;
 use crate::limits::{MAX_COUNT, MAX_WEIGHT};
 use crate::rule::{GameList, Pairing, Side, Weight};
-use crate::sets::{SlotSet, TeamSet};
 use serde_json::Value;
+use sets::{SlotSet, TeamSet};
 use std::alloc::{AllocError, Global};
 
 /// A member that is a string.

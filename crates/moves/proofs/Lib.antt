@@ -1,18 +1,6 @@
-pub mod Checked
+pub mod chain
+pub mod exchange_laws
+pub mod move_laws
 pub mod Sets
-pub mod TouchedTeams
-pub mod WholeMoves
-pub mod PartMoves
-pub mod MovesAsExchanges
-pub mod Around
-pub mod KeptMeetings
-pub mod DiffersThere
-pub mod EachExchange
-pub mod EachMove
-pub mod Added
-pub mod TeamChain
-pub mod RoundChain
-pub mod MetIn
-pub mod ChangedGames
 pub mod ForCallers
 mod Worked

@@ -1,10 +1,11 @@
 -- Sets of numbers by the tests that their members pass.
-use Rattle.std.proofs.Common.{◌≡◌, ◌≢◌, ℕ, zero, suc, ◌<◌, ◌≤◌, ◌⊎◌, inl, inr, Bool, true, false, ◌&&◌, ◌||◌, cond, eqb, ltb, refl, sym, ◌∙◌, ap, arith}
+use Rattle.std.proofs.Common.{◌≡◌, ◌≢◌, ℕ, zero, suc, ◌<◌, ◌≤◌, ◌⊎◌, inl, inr, Bool, true, false, ◌&&◌, ◌||◌, cond, eqb}
+use Rattle.std.proofs.Common.{ltb, refl, sym, ◌∙◌, ap, arith}
 use Rattle.std.proofs.lemmas.Bool.{cases_eq, cases_lt, and_from, and_right, or_left, eqb-true, eqb-false, eq-eqb, ne_eqb, lt-ltb, le-ltb}
 use Rattle.std.proofs.lemmas.Nat.Bits.{same_from_bits, bit_at-lt}
 use Rattle.std.specs.Int.{bit_at}
 use Rattle.league.specs.Sets.{has, with_number}
-use Rattle.league.proofs.Bits.{has_with_number}
+use Rattle.league.proofs.ForCallers.{has_with_number}
 use Rattle.league.proofs.ForCallers.{has_empty}
 use Rattle.moves.specs.Exchanges.{both, set_where}
 

@@ -1,7 +1,8 @@
 //! The laws of the moves and of the exchanges that they are. The functions do nothing: what is known is in their
 //! contracts, each of which speaks of all double round robins and all moves or exchanges that can be made there.
 
-ghost use Rattle.moves.specs.Laws.{OfEachMove, IsItsOwnInverse, StaysDoubleRoundRobin, DiffersWhereTouched, DiffersInEachTouched, IsItsExchange};
+ghost use Rattle.moves.specs.Laws.{OfEachMove, IsItsOwnInverse, StaysDoubleRoundRobin, DiffersWhereTouched};
+ghost use Rattle.moves.specs.Laws.{DiffersInEachTouched, IsItsExchange};
 ghost use Rattle.moves.specs.Laws.{OfEachExchange, IsUndoneByItself, DiffersAroundMain, SidesDifferAtTurning, KeepsMeetings};
 
 /// Each move is its own inverse: it can be made on the schedule that it gives, and gives the first one back. The

@@ -14,7 +14,8 @@ use Rattle.phases.specs.Laws.{policy_of, least_told, lesser_told, least_best, Is
 use Rattle.phases.specs.Stages.{chain_count, place_of}
 use Rattle.phases.proofs.Levels.{chains_most, chains_fall, place_in_level, place_rises}
 use Rattle.phases.proofs.Levels.{place_in_bout, chains_in_bout, level_ends}
-use Rattle.phases.proofs.Order.{length_put, in_order_put, in_order_take, least_put_last, least_same_front, least_set, least_of_front, least_of_one}
+use Rattle.phases.proofs.Order.{length_put, in_order_put, in_order_take, least_put_last, least_same_front, least_set}
+use Rattle.phases.proofs.Order.{least_of_front, least_of_one}
 
 -- the first of the chains, with the one at the place put into those before it
 record IsSettled (cs : List Chain) (place n : ℕ) : Type 0 where

@@ -3,7 +3,7 @@ use Rattle.std.proofs.Common.{◌≡◌, ℕ, zero, suc, ◌+◌, ◌-◌, ◌�
 use Rattle.std.proofs.Math.Numerals.{suc-eq-add-one}
 use Rattle.std.proofs.Math.Nat.{mul-add}
 use Rattle.league.specs.Sums.{sum_below}
-use Rattle.league.proofs.Sums.{sum_below_none, sum_below_more}
+use Rattle.league.proofs.ForCallers.{sum_below_none, sum_below_more}
 use Rattle.phases.specs.Stages.{parts_of, share_of, cut, steps_of}
 use Rattle.phases.proofs.Levels.{parts_none, parts_more}
 

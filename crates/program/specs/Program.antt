@@ -29,7 +29,8 @@ module _ {R W : Type 0} (left : R → Option (List ℕ)) (pulls : R → Tally) (
   abbrev pub EndsJob : Job → Option Verdict → R → R → W → W → Result Unit ProgramFault → Type 0
   EndsJob Start verdict = Ends left pulls held pushes AnswersStart
   EndsJob (Play room) verdict = Ends left pulls held pushes (AnswersPlay room)
-  EndsJob (Improve workers seed effort) verdict = EndsImprove left pulls held pushes (record { workers = workers; seed = seed; effort = effort })
+  EndsJob (Improve workers seed effort) verdict =
+      EndsImprove left pulls held pushes (record { workers = workers; seed = seed; effort = effort })
   EndsJob (Find room plan) verdict = Ends left pulls held pushes (AnswersFind room plan)
   EndsJob (Report format) verdict = Ends left pulls held pushes (AnswersReport format verdict)
 

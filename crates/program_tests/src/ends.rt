@@ -4,6 +4,7 @@
 ghost use Rattle.std.specs.Prelude.{None};
 
 use crate::checks::check_same_of;
+use crate::judged_schedules::FAULTY;
 use crate::samples::{FIND, PLAY, REPORT, START, TABLE};
 use crate::told::{Answer, Case, Command};
 use advice::Hint;
@@ -18,7 +19,7 @@ use streams::{
     MemorySink, MemorySource, RehearsedSink, RehearsedSource, Sink, Source, Step, Tally,
 };
 
-const SAMPLES: [Case<'_>; 5] = [START, PLAY, FIND, REPORT, TABLE];
+const SAMPLES: [Case<'_>; 6] = [START, PLAY, FIND, REPORT, FAULTY, TABLE];
 
 fn run_from<T: Threads + Wait + Sync, R: Source, W: Sink>(
     rt: &T,

@@ -2,9 +2,9 @@
 
 use crate::checks::{check_holds, check_same};
 use crate::circle::{CIRCLE, SHEET};
-use crate::judged_schedules::{DAMAGED, FAULTS};
+use crate::judged_schedules::{DAMAGE, FAULTS_ALONE};
 use crate::samples::{JUDGED, PAGE, TABLE};
-use crate::told::Text::{Excerpt, Whole};
+use crate::told::Text::Excerpt;
 use crate::told::{Case, Command, Text, check_cases, tell};
 use commands::{Format, ProgramFault, Verdict, report};
 use csv::{ByteRecord, ReaderBuilder};
@@ -16,20 +16,9 @@ use std::test::Fail;
 use std::thread::Threads;
 use streams::{MemorySink, MemorySource, RehearsedSink, Step};
 
-/// The faults of a damaged schedule, as text whatever the format.
-const FAULTS_ALONE: Text<'_> = Whole(&[FAULTS]);
-
-const DAMAGE: &[&str] = &[CIRCLE, JUDGED, DAMAGED];
-
 const CASES: &[Case<'_>] = &[
     TABLE,
     PAGE,
-    (
-        Command::Report(Format::Text),
-        DAMAGE,
-        Ok(Some(Verdict::Infeasible)),
-        FAULTS_ALONE,
-    ),
     (
         Command::Report(Format::Csv),
         DAMAGE,

@@ -90,7 +90,7 @@ const COST_UNDER_RULES: &str = "travel 30 hard 2 soft 10\n\
     infeasible\n";
 
 /// The start with a bad line, three games that are none, and a game that stands in another's place.
-pub(crate) const DAMAGED: &str = "round 1: 1-4 2-3 3-3\n\
+const DAMAGED: &str = "round 1: 1-4 2-3 3-3\n\
     round 2: 1-2 4-3\n\
     round 3: 2-4 3-1\n\
     round x: 1-2\n\
@@ -100,7 +100,7 @@ pub(crate) const DAMAGED: &str = "round 1: 1-4 2-3 3-3\n\
     round 18446744073709551615: 5-1\n\
     round 0: 1-2\n";
 
-pub(crate) const FAULTS: &str = "bad line 4\n\
+const FAULTS: &str = "bad line 4\n\
     game 3-3 of round 1 is none\n\
     game 5-1 of round 18446744073709551615 is none\n\
     game 1-2 of round 0 is none\n\
@@ -109,6 +109,18 @@ pub(crate) const FAULTS: &str = "bad line 4\n\
     game 1-2 stands 2 times\n\
     game 4-2 is missing\n\
     no double round robin\n";
+
+/// A schedule with faults, which are text whatever the format.
+pub(crate) const DAMAGE: &[&str] = &[CIRCLE, JUDGED, DAMAGED];
+
+pub(crate) const FAULTS_ALONE: Text<'_> = Whole(&[FAULTS]);
+
+pub(crate) const FAULTY: Case<'_> = (
+    TEXT_REPORT,
+    DAMAGE,
+    Ok(Some(Verdict::Infeasible)),
+    FAULTS_ALONE,
+);
 
 /// A bad line behind the lines of the start, and what it is told.
 const AFTER_A_BAD_LINE: Case<'_> = (
@@ -143,12 +155,7 @@ const CASES: &[Case<'_>] = &[
         Ok(Some(Verdict::Infeasible)),
         Whole(&[SHEET, COST_UNDER_RULES]),
     ),
-    (
-        TEXT_REPORT,
-        &[CIRCLE, JUDGED, DAMAGED],
-        Ok(Some(Verdict::Infeasible)),
-        Whole(&[FAULTS]),
-    ),
+    FAULTY,
     AFTER_A_BAD_LINE,
     (
         Command::Report(Format::Text),

@@ -34,9 +34,16 @@ abbrev pub no_game_lines : ℕ → List WrittenGame → List ℕ
 no_game_lines n [] = []
 no_game_lines n (w ∷ ws) = no_game_line n w ++ no_game_lines n ws
 
+-- whether the team plays the game, at home or away
+abbrev pub plays : ℕ → ℕ → Game → Bool
+plays n team x = is_game n x && (x.home == team || x.away == team)
+
+abbrev pub is_of_team : ℕ → ℕ → ℕ → Game → Bool
+is_of_team n team round x = plays n team x && x.round == round
+
 -- how many games of the list a team has in a round
 unfoldable pub games_in : ℕ → List Game → ℕ → ℕ → ℕ
-games_in n games team round = count_by (λ x. is_game n x && x.round == round && (x.home == team || x.away == team)) games
+games_in n games team round = count_by (is_of_team n team round) games
 
 -- a team has one game in each round
 abbrev pub team_line : ℕ → ℕ → ℕ → List ℕ
@@ -48,9 +55,15 @@ team_line team round count =
 abbrev pub team_lines : ℕ → List Game → ℕ → List ℕ
 team_lines n games team = pieces_below (λ round. team_line team round (games_in n games team round)) (round_count n)
 
+abbrev pub receives : ℕ → ℕ → Game → Bool
+receives n home x = is_game n x && x.home == home
+
+abbrev pub is_of_pair : ℕ → ℕ → ℕ → Game → Bool
+is_of_pair n home away x = receives n home x && x.away == away
+
 -- how many games of the list the pair has with this home team
 unfoldable pub games_of_pair : ℕ → List Game → ℕ → ℕ → ℕ
-games_of_pair n games home away = count_by (λ x. is_game n x && x.home == home && x.away == away) games
+games_of_pair n games home away = count_by (is_of_pair n home away) games
 
 -- two distinct teams have one game with this home team
 abbrev pub pair_line : ℕ → ℕ → ℕ → List ℕ
@@ -66,7 +79,10 @@ pair_lines n games home = pieces_below (λ away. pair_line home away (games_of_p
 unfoldable pub game_faults : ℕ → List Game → List ℕ
 game_faults n games = pieces_below (team_lines n games) n ++ pieces_below (pair_lines n games) n
 
--- the faults of the lines
+-- a line for each fault of the lines
+abbrev pub faults : ℕ → List (List ℕ) → List ℕ
+faults n lines = bad_lines 1 lines ++ no_game_lines n (written_games lines) ++ game_faults n (given_games lines)
+
+-- the faults of lines that give no double round robin
 unfoldable pub faults_text : ℕ → List (List ℕ) → List ℕ
-faults_text n lines =
-    bad_lines 1 lines ++ no_game_lines n (written_games lines) ++ game_faults n (given_games lines) ++ codes "no double round robin\n"
+faults_text n lines = faults n lines ++ codes "no double round robin\n"

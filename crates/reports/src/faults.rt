@@ -4,12 +4,13 @@ ghost use Rattle.std.specs.Prelude.{◌≡◌, ◌≤◌};
 ghost use Rattle.std.specs.Str.Lines.{lines};
 ghost use Rattle.league.specs.Limits.{max_teams};
 ghost use Rattle.streams.specs.Writing.{Writes};
-ghost use Rattle.reports.specs.Faults.{bad_line, bad_lines, faults_text, game_faults, games_in, games_of_pair, is_game};
+ghost use Rattle.reports.specs.Faults.{bad_line, bad_lines, faults_text, game_faults};
 ghost use Rattle.reports.specs.Faults.{no_game_line, no_game_lines, pair_line, pair_lines, team_line, team_lines};
 ghost use Rattle.reports.specs.Given.{given_games};
 ghost use Rattle.reports.specs.ScheduleText.{written_games};
 ghost use Rattle.streams.specs.Pieces.{pieces_below};
 
+use crate::counts::{games_by_guest, games_by_round, is_game};
 use crate::schedule_text::{ScheduleLine, WrittenGame};
 use fixtures::Game;
 use streams::{BufferedSink, Sink, WriteFault};
@@ -109,15 +110,6 @@ fn write_no_game<W: Sink>(
     )
 }
 
-/// Whether the game has two distinct teams of so many, and one of their rounds.
-fn is_game(teams: u8, game: Game) -> bool
-    requires least { 4 ≤ teams }
-    requires most { teams ≤ max_teams }
-    ensures { result ≡ is_game teams game }
-{
-    game.home < teams && game.away < teams && game.home != game.away && game.round < 2 * (teams - 1)
-}
-
 fn write_game_faults<W: Sink>(
     out: &mut BufferedSink<'_, W>,
     teams: u8,
@@ -157,8 +149,9 @@ fn write_team<W: Sink>(
     requires most { teams ≤ max_teams }
     ensures { Writes W.held W.tally out.old out.new result (team_lines teams games.now team) }
 {
+    let counts = games_by_round(teams, games, team);
     for round in 0..2 * (teams - 1) {
-        write_team_round(out, team, round, games_in(teams, games, team, round))?;
+        write_team_round(out, team, round, counts[usize::from(round)])?;
     }
     Ok(())
 }
@@ -200,23 +193,6 @@ fn write_team_round<W: Sink>(
     )
 }
 
-/// How many games the team has in the round.
-#[tactic(auto, unfolding(crate::specs::Faults::games_in))]
-fn games_in(teams: u8, games: &[Game], team: u8, round: u8) -> usize
-    requires least { 4 ≤ teams }
-    requires most { teams ≤ max_teams }
-    ensures { result ≡ games_in teams games.now team round }
-{
-    games
-        .iter()
-        .filter(|game| {
-            is_game(teams, **game)
-                && game.round == round
-                && (game.home == team || game.away == team)
-        })
-        .count()
-}
-
 fn write_pairs<W: Sink>(
     out: &mut BufferedSink<'_, W>,
     teams: u8,
@@ -243,8 +219,9 @@ fn write_home<W: Sink>(
     requires most { teams ≤ max_teams }
     ensures { Writes W.held W.tally out.old out.new result (pair_lines teams games.now home) }
 {
+    let counts = games_by_guest(teams, games, home);
     for away in 0..teams {
-        write_pair(out, home, away, games_of_pair(teams, games, home, away))?;
+        write_pair(out, home, away, counts[usize::from(away)])?;
     }
     Ok(())
 }
@@ -284,17 +261,4 @@ fn write_pair<W: Sink>(
             Piece::Text(b" times\n"),
         ],
     )
-}
-
-/// How many games of the two the home team has at home.
-#[tactic(auto, unfolding(crate::specs::Faults::games_of_pair))]
-fn games_of_pair(teams: u8, games: &[Game], home: u8, away: u8) -> usize
-    requires least { 4 ≤ teams }
-    requires most { teams ≤ max_teams }
-    ensures { result ≡ games_of_pair teams games.now home away }
-{
-    games
-        .iter()
-        .filter(|game| is_game(teams, **game) && game.home == home && game.away == away)
-        .count()
 }

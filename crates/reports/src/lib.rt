@@ -5,6 +5,7 @@
 #![tactic(auto)]
 
 mod costs;
+mod counts;
 mod faults;
 mod judged;
 mod laws;
@@ -14,7 +15,7 @@ mod schedule_text;
 
 pub use costs::class_name;
 pub use judged::{Judged, judge};
-pub use laws::figures_add_up;
+pub use laws::{faults_are_complete, figures_add_up};
 pub use report::write_report;
 pub use runs::windows_spent;
 pub use schedule_text::{ScheduleLine, WrittenGame};

@@ -1,11 +1,11 @@
 -- The rounds in which a team's game counts, and those in which it has a break, as sets.
-use Rattle.std.proofs.Common.{◌≡◌, ℕ, ◌+◌, ◌-◌, ◌<◌, ◌&&◌, ◌||◌, ◌==◌, not, nat_lt, Bool, true, false, inl, inr, refl, ◌∙◌, ap, arith}
+use Rattle.std.proofs.Common.{◌≡◌, ℕ, ◌+◌, ◌-◌, ◌<◌, ◌&&◌, ◌||◌, ◌==◌, not, nat_lt, Bool, true, false, if◌then◌else◌, sym, inl, inr, refl, ◌∙◌, ap, arith}
 use Rattle.std.specs.Bool.{beq}
 use Rattle.std.proofs.lemmas.Bool.{cases_eq, cases_lt, lt-ltb, le-ltb, ne_eqb}
 use Rattle.league.specs.Sets.{has}
 use Rattle.league.specs.Sums.{sum_below, sum_where, count_where, any_below}
 use Rattle.league.specs.declared.rule.Side.{Side}
-use Rattle.league.proofs.ForCallers.{sum_below_same, sum_where_same, count_where_same}
+use Rattle.league.proofs.ForCallers.{sum_below_same, sum_below_add, sum_where_same, count_where_same}
 use Rattle.fixtures.specs.Games.{Games, round_count, cell, is_home}
 use Rattle.robinx.specs.Deviations.{over, is_on_side, is_counted, games_of_team, games_in_window, games_in_round, over_in_windows, is_break, breaks}
 use Rattle.robinx.specs.Parts.{meets_window, over_in_met_windows}
@@ -24,6 +24,31 @@ counted_from g side opponents t r slot =
     regrouped true false true d = refl
     regrouped true false false d = refl
     regrouped false b c d = refl
+
+-- the games that count in those rounds on the side that pass a test
+pub counted_among : (g : Games) (side : Side) (opponents test : ℕ → Bool) (t on_side set : ℕ) →
+    ((r : ℕ) → has on_side r ≡ (nat_lt r (round_count g.teams) && is_on_side side (is_home g t r))) →
+    ((r : ℕ) → has set r ≡ (has on_side r && test r)) →
+    count_where (round_count g.teams) (λ r. has set r && opponents (cell g t r).opponent) ≡
+    count_where (round_count g.teams) (λ r. test r && is_counted g side opponents t r)
+counted_among g side opponents test t on_side set on_sides members =
+    count_where_same (round_count g.teams) (λ r. has set r && opponents (cell g t r).opponent) (λ r. test r && is_counted g side opponents t r)
+    (λ r below.
+    ap (λ b. b && opponents (cell g t r).opponent) (members r ∙ ap (λ b. b && test r) (on_sides r)) ∙
+    counted_from g side opponents t r (test r) ∙ ap (λ b. b && (test r && is_counted g side opponents t r)) (lt-ltb r (round_count g.teams) below))
+
+-- in the slots and out of them
+pub counted_in_and_out : (n : ℕ) (slots test : ℕ → Bool) →
+    count_where n (λ r. slots r && test r) + count_where n (λ r. not (slots r) && test r) ≡ count_where n test
+counted_in_and_out n slots test =
+    sym (sum_below_add n (λ r. if slots r && test r then 1 else 0) (λ r. if not (slots r) && test r then 1 else 0)) ∙
+    sum_below_same n _ _ (λ r below. at (slots r) (test r))
+  where
+    at : (a b : Bool) → (if a && b then 1 else 0) + (if not a && b then 1 else 0) ≡ (if b then 1 else 0)
+    at true true = refl
+    at true false = refl
+    at false true = refl
+    at false false = refl
 
 -- the windows of the counted rounds of the season
 module _ (g : Games) (side : Side) (opponents : ℕ → Bool) (window most t season counted : ℕ)
@@ -49,19 +74,28 @@ module _ (g : Games) (side : Side) (opponents : ℕ → Bool) (window most t sea
       sum_below_same (round_count g.teams + 1 - window) (λ first. over (count_where window (λ k. has counted (first + k))) most)
       (λ first. over (games_in_window g side opponents window t first) most) over_in_window
 
-  -- those that have a round of a set
-  pub met_windows_of_counted : (rounds : ℕ → Bool) (whole meeting starts windows : ℕ) → windows ≡ round_count g.teams + 1 - window →
-      ((s : ℕ) → has whole s ≡ nat_lt s windows) → ((s : ℕ) → has meeting s ≡ any_below window (λ k. rounds (s + k))) →
-      ((s : ℕ) → has starts s ≡ (has whole s && has meeting s)) →
-      sum_where windows (has starts) (λ first. over (count_where window (λ k. has counted (first + k))) most) ≡
-      over_in_met_windows g side opponents window most rounds t
-  unfolding over_in_met_windows meets_window
-  met_windows_of_counted rounds whole meeting starts windows size wholes meets is =
-      ap (λ n. sum_where n (has starts) (λ first. over (count_where window (λ k. has counted (first + k))) most)) size ∙
-      sum_where_same (round_count g.teams + 1 - window) (has starts) (λ first. any_below window (λ k. rounds (first + k)))
+  -- those that begin with one of some starts
+  pub starts_of_counted : (starts : ℕ) →
+      sum_where (round_count g.teams + 1 - window) (has starts) (λ first. over (count_where window (λ k. has counted (first + k))) most) ≡
+      sum_where (round_count g.teams + 1 - window) (has starts) (λ first. over (games_in_window g side opponents window t first) most)
+  starts_of_counted starts =
+      sum_where_same (round_count g.teams + 1 - window) (has starts) (has starts)
       (λ first. over (count_where window (λ k. has counted (first + k))) most) (λ first. over (games_in_window g side opponents window t first) most)
-      (λ s below. is s ∙ ap (λ b. b && has meeting s) (wholes s ∙ lt-ltb s windows (omega (arith, size, below))) ∙ meets s)
-      (λ s below passes. over_in_window s below)
+      (λ s below. refl) (λ s below passes. over_in_window s below)
+
+-- the windows that have a round of a set
+pub met_starts : (g : Games) (side : Side) (opponents rounds : ℕ → Bool) (window most t whole meeting starts windows : ℕ) →
+    windows ≡ round_count g.teams + 1 - window →
+    ((s : ℕ) → has whole s ≡ nat_lt s windows) → ((s : ℕ) → has meeting s ≡ any_below window (λ k. rounds (s + k))) →
+    ((s : ℕ) → has starts s ≡ (has whole s && has meeting s)) →
+    sum_where (round_count g.teams + 1 - window) (has starts) (λ first. over (games_in_window g side opponents window t first) most) ≡
+    over_in_met_windows g side opponents window most rounds t
+unfolding over_in_met_windows meets_window
+met_starts g side opponents rounds window most t whole meeting starts windows size wholes meets is =
+    sum_where_same (round_count g.teams + 1 - window) (has starts) (λ first. any_below window (λ k. rounds (first + k)))
+    (λ first. over (games_in_window g side opponents window t first) most) (λ first. over (games_in_window g side opponents window t first) most)
+    (λ s below. is s ∙ ap (λ b. b && has meeting s) (wholes s ∙ lt-ltb s windows (omega (arith, size, below))) ∙ meets s)
+    (λ s below passes. refl)
 
 -- all games that count, team by team
 pub together_by_teams : (g : Games) (side : Side) (teams opponents slots : ℕ → Bool) →
@@ -70,15 +104,6 @@ pub together_by_teams : (g : Games) (side : Side) (teams opponents slots : ℕ �
 unfolding games_of_team games_in_round
 together_by_teams g side teams opponents slots =
     sum_of_counts_swap g.teams (round_count g.teams) teams slots (is_counted g side opponents)
-
--- the rounds up to one in which a team is at home
-pub home_rounds_until : (g : Games) (t round until homes both : ℕ) → round < round_count g.teams →
-    ((r : ℕ) → has until r ≡ nat_lt r (round + 1)) →
-    ((r : ℕ) → has homes r ≡ (nat_lt r (round_count g.teams) && is_home g t r)) →
-    ((r : ℕ) → has both r ≡ (has until r && has homes r)) → count_where (round + 1) (has both) ≡ count_where (round + 1) (is_home g t)
-home_rounds_until g t round until homes both in_season untils at_home members =
-    count_where_same (round + 1) (has both) (is_home g t)
-    (λ r below. members r ∙ rw (untils r, at_home r, lt-ltb r (round + 1) below, lt-ltb r (round_count g.teams) (omega arith)) refl)
 
 -- whether a team is on the same side as before, where turns are rounds such that it or the one before is at home, and away
 pub without_turn : (n r : ℕ) (at : ℕ → Bool) →

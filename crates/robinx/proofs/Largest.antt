@@ -1,5 +1,5 @@
 -- Laws of the largest value below a number.
-use Rattle.std.proofs.Common.{◌≡◌, ℕ, zero, suc, ◌+◌, ◌<◌, ◌≤◌, max, refl, ap, inl, inr, arith}
+use Rattle.std.proofs.Common.{◌≡◌, ℕ, zero, suc, ◌+◌, ◌<◌, ◌≤◌, max, refl, inl, inr, arith}
 use Rattle.std.specs.Ordering.{ord_max, nat_cmp}
 use Rattle.std.proofs.Math.Numerals.{suc-eq-add-one}
 use Rattle.std.proofs.lemmas.Bool.Decides.{nat_tests}
@@ -18,19 +18,14 @@ largest_below_le zero most f each = omega arith
 largest_below_le (suc n) most f each =
     omega (arith, largest_below_le n most f (λ k below. each k (omega arith)), each n (omega arith))
 
+pub largest_below_none : (f : ℕ → ℕ) → largest_below 0 f ≡ 0
+unfolding largest_below
+largest_below_none f = refl
+
 -- one more number
 pub largest_below_more : (n : ℕ) (f : ℕ → ℕ) → largest_below (n + 1) f ≡ max (largest_below n f) (f n)
 unfolding largest_below
 largest_below_more n f = rw (← suc-eq-add-one n) refl
-
--- a value is at most the largest
-pub largest_below_at : (n k : ℕ) (f : ℕ → ℕ) → k < n → f k ≤ largest_below n f
-unfolding largest_below
-largest_below_at zero k f below = absurd (omega arith)
-largest_below_at (suc n) k f below = elim (cases_eq k n) [
-  | inl last ↦ omega (arith, ap f last)
-  | inr other ↦ omega (arith, largest_below_at n k f (omega arith))
-]
 
 -- what comes from m on is 0
 pub largest_below_past : (m n : ℕ) (f : ℕ → ℕ) → m ≤ n → ((k : ℕ) → m ≤ k → k < n → f k ≡ 0) → largest_below n f ≡ largest_below m f

@@ -1,9 +1,10 @@
 mod AllTeams
 mod CountedRounds
 mod Filters
+mod FullWindows
 pub mod ForCallers
 mod GameCounts
-mod GapWalk
+mod HomeRows
 mod Largest
 mod Limits
 mod LookedPast
@@ -14,6 +15,7 @@ mod PartSums
 mod PartTerms
 mod PartsBalance
 pub mod Searches
+mod SeasonCounts
 mod SeesSame
 mod Sets
 mod Untouched

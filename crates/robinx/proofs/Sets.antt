@@ -1,11 +1,17 @@
 -- How many numbers there are in the sets that counting makes.
-use Rattle.std.proofs.Common.{◌≡◌, ℕ, zero, suc, ◌+◌, ◌<◌, ◌&&◌, not, nat_lt, Bool, true, false, if◌then◌else◌, refl, sym, ◌∙◌, ap, arith}
+use Rattle.std.proofs.Common.{◌≡◌, ℕ, zero, suc, ◌+◌, ◌<◌, ◌≤◌, ◌&&◌, not, nat_lt, Bool, true, false, if◌then◌else◌, refl, sym, ◌∙◌, ap, arith}
 use mir.Val.{bool_byte}
 use Rattle.std.proofs.Math.Nat.{add-zero, add-suc}
 use Rattle.std.proofs.lemmas.Bool.{lt-ltb, le-ltb}
 use Rattle.league.specs.Sets.{has}
 use Rattle.league.specs.Sums.{sum_below, sum_where, count_where}
-use Rattle.league.proofs.ForCallers.{sum_below_none, sum_below_more, sum_below_zero, sum_below_swap, sum_below_same, sum_where_same, count_where_same, count_where_none}
+use Rattle.league.proofs.ForCallers.{sum_below_none, sum_below_more, sum_below_zero, sum_below_swap, sum_below_same, count_where_same, count_where_none}
+
+-- how many numbers there are
+pub ones : (n : ℕ) → sum_below n (λ _. 1) ≡ n
+unfolding sum_below
+ones zero = refl
+ones (suc n) = omega (arith, ones n)
 
 -- the first m terms, and n more
 sum_below_append : (m n : ℕ) (f : ℕ → ℕ) → sum_below (m + n) f ≡ sum_below m f + sum_below n (λ k. f (m + k))
@@ -23,6 +29,10 @@ count_of_members n set test members =
 pub byte_is : (b : Bool) → bool_byte b ≡ (if b then 1 else 0)
 byte_is true = refl
 byte_is false = refl
+
+pub byte_le : (b : Bool) → bool_byte b ≤ 1
+byte_le true = omega arith
+byte_le false = omega arith
 
 -- a window moved on by one: one number comes, and one goes
 pub count_moved_on : (set first window : ℕ) →
@@ -94,13 +104,6 @@ count_in_window rounds set first window members =
         members (first + k) ∙
         ap (λ b. (b && not (nat_lt (first + k) first)) && has rounds (first + k)) (lt-ltb (first + k) (first + window) (omega arith)) ∙
         ap (λ b. not b && has rounds (first + k)) (le-ltb (first + k) first (omega arith))
-
--- the lower numbers of a set
-pub sum_of_lower : (n lower all set : ℕ) (f : ℕ → ℕ) → ((k : ℕ) → has all k ≡ nat_lt k n) →
-    ((k : ℕ) → has lower k ≡ (has all k && has set k)) → sum_where n (has lower) f ≡ sum_where n (has set) f
-sum_of_lower n lower all set f is_all members =
-    sum_where_same n (has lower) (has set) f f
-    (λ k below. members k ∙ ap (λ b. b && has set k) (is_all k ∙ lt-ltb k n below)) (λ k below passes. refl)
 
 -- a count under a condition
 if_count : (b : Bool) (n : ℕ) (test : ℕ → Bool) → (if b then count_where n test else 0) ≡ count_where n (λ k. b && test k)

@@ -1,17 +1,40 @@
 -- What private functions count on the way: words of theirs alone.
-use Rattle.std.specs.Prelude.{ℕ, ◌+◌, if◌then◌else◌}
+use Rattle.std.specs.Prelude.{◌≡◌, ℕ, ◌+◌, ◌-◌, ◌*◌, Bool, if◌then◌else◌, ◌<◌, not, min, List, [], length, slice_index, slice_index_or}
 use Rattle.std.specs.Int.{abs_diff}
-use Rattle.league.specs.Limits.{max_rounds}
 use Rattle.league.specs.Sets.{has}
 use Rattle.league.specs.Sums.{count_where}
-use Rattle.robinx.specs.Deviations.{over, largest_below}
+use Rattle.league.specs.declared.rule.Side.{Side}
+use Rattle.league.specs.declared.rule.Side.TheVariants.{Home, Away, Any}
+use Rattle.fixtures.specs.Games.{Games, round_count}
+use Rattle.robinx.specs.Deviations.{home_games, largest_below}
 
--- by how much the numbers of members of two sets up to and with a round are apart over the most
-unfoldable pub apart_at : ℕ → ℕ → ℕ → ℕ → ℕ
-apart_at first second most r =
-    over (abs_diff (count_where (r + 1) (has first)) (count_where (r + 1) (has second))) most
+-- how many games of a team count in a season against so many opponents, one of which may be the team itself
+abbrev pub season_games : Side → ℕ → Bool → ℕ
+season_games Home opponents own = opponents - (if own then 1 else 0)
+season_games Away opponents own = opponents - (if own then 1 else 0)
+season_games Any opponents own = 2 * (opponents - (if own then 1 else 0))
 
--- the largest of these in the slots, or 0 where there is no slot
-unfoldable pub worst_apart : ℕ → ℕ → ℕ → ℕ → ℕ
-worst_apart first second slots most =
-    largest_below max_rounds (λ r. if has slots r then apart_at first second most r else 0)
+-- how many rounds of a window, which begins with its first, aren't in a set
+abbrev pub lacks : ℕ → ℕ → ℕ → ℕ
+lacks set first window = count_where window (λ k. not (has set (first + k)))
+
+-- the places of a row, one for each round and some more
+abbrev pub row_places : ℕ
+row_places = 80
+
+-- a row has a team's home games up to and with each round
+pub record IsRowOf (g : Games) (team : ℕ) (row : List ℕ) : Type 0 where
+  pub places : length row ≡ row_places
+  pub counts : (r : ℕ) → r < round_count g.teams → slice_index row r ≡ home_games g team r
+
+-- the row of a team
+abbrev pub row_of : List (List ℕ) → ℕ → List ℕ
+row_of rows team = slice_index_or rows team []
+
+-- by how much two rows are apart in a round, or the limit of the round where that is less
+abbrev pub apart_within : List ℕ → List ℕ → List ℕ → ℕ → ℕ
+apart_within first second limits r = min (abs_diff (slice_index first r) (slice_index second r)) (slice_index limits r)
+
+-- the largest of these
+unfoldable pub worst_apart : List ℕ → List ℕ → List ℕ → ℕ
+worst_apart first second limits = largest_below row_places (apart_within first second limits)

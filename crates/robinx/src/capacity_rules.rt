@@ -6,11 +6,12 @@ ghost use Rattle.league.specs.Sets.{has, IsBelow};
 ghost use Rattle.league.specs.Sums.{sum_below, sum_where, count_where};
 ghost use Rattle.league.specs.declared.rule.RuleBody.TheVariants as RuleBody;
 ghost use Rattle.fixtures.specs.Games.{round_count, IsDoubleRoundRobin};
-ghost use Rattle.robinx.specs.Deviations.{over, games_in_round, over_in_windows, deviation};
+ghost use Rattle.robinx.specs.Deviations.{over, games_in_round, games_in_window, over_in_windows, deviation};
 ghost use Rattle.robinx.specs.Parts.{over_in_met_windows, changing_terms};
 
-use crate::counts::{CountedGames, counted_rounds, games_in_round, games_of_team, over};
+use crate::counts::{CountedGames, counted_rounds, games_in_round, games_of_team, opponents_of, over};
 use crate::guests::teams_otherwise;
+use crate::windows::{over_in_row, over_in_windows_of};
 use fixtures::Schedule;
 use league::{SlotSet, TeamSet};
 
@@ -22,9 +23,10 @@ pub(crate) fn ca2(schedule: &Schedule, games: &CountedGames, slots: SlotSet, mos
     ensures { result ≡
         deviation schedule.now (RuleBody.Ca2 games.now.teams games.now.side games.now.opponents slots most) }
 {
+    let opponents = opponents_of(schedule, games);
     let mut total = 0;
     for team in games.teams {
-        total += over(games_of_team(schedule, games, slots, team), most);
+        total += over(games_of_team(schedule, games, opponents, slots, team), most);
     }
     total
 }
@@ -65,27 +67,6 @@ fn over_in_windows(
     over_in_row(counted, schedule.rounds(), window, most)
 }
 
-/// The rounds of the set in each window of consecutive rounds of a season, over the most.
-#[tactic(auto, using(league::proofs::ForCallers::sums))]
-fn over_in_row(set: SlotSet, rounds: u8, window: u8, most: u32) -> u64
-    requires least { 1 ≤ window }
-    requires window { window ≤ rounds }
-    requires season { rounds ≤ max_rounds }
-    ensures value { result ≡
-        sum_below (rounds + 1 - window) (λ first. over (count_where window (λ k. has set (first + k))) most) }
-    ensures most { result ≤ max_rounds * max_rounds }
-{
-    let mut count = rounds_in_window(set, 0, window);
-    let mut total = over(count, most);
-    for first in 0..rounds - window {
-        // the window moves on by a round: one comes, and one goes
-        count += u32::from(set.has(first + window));
-        count -= u32::from(set.has(first));
-        total += over(count, most);
-    }
-    total
-}
-
 /// Those windows of `ca3` that have one of the rounds.
 pub(crate) fn ca3_part(
     schedule: &Schedule,
@@ -101,18 +82,21 @@ pub(crate) fn ca3_part(
     ensures { result ≡ sum_where schedule.now.teams (has games.now.teams)
         (over_in_met_windows schedule.now games.now.side (has games.now.opponents) window most (has rounds)) }
 {
+    let length = window as u8;
+    let windows = schedule.rounds() + 1 - length;
+    let starts = SlotSet::below(windows).common(rounds.starts_meeting(length));
     let mut total = 0;
     for team in games.teams {
-        total += over_in_met_windows(schedule, games, rounds, window as u8, most, team);
+        total += over_from_starts(schedule, games, starts, length, most, team);
     }
     total
 }
 
-/// The games of the team that count in each window with one of the rounds, over the most.
-fn over_in_met_windows(
+/// The games of the team that count in each window that begins with one of the starts, over the most.
+fn over_from_starts(
     schedule: &Schedule,
     games: &CountedGames,
-    rounds: SlotSet,
+    starts: SlotSet,
     window: u8,
     most: u32,
     team: u8,
@@ -120,42 +104,14 @@ fn over_in_met_windows(
     requires team { team < schedule.now.teams }
     requires least { 1 ≤ window }
     requires window { window ≤ round_count schedule.now.teams }
-    ensures value { result ≡
-        over_in_met_windows schedule.now games.now.side (has games.now.opponents) window most (has rounds) team }
+    requires starts { IsBelow (round_count schedule.now.teams + 1 - window) starts }
+    ensures value { result ≡ sum_where (round_count schedule.now.teams + 1 - window) (has starts)
+        (λ first. over (games_in_window schedule.now games.now.side (has games.now.opponents) window team first) most) }
     ensures most { result ≤ max_rounds * max_rounds }
 {
     let season = SlotSet::below(schedule.rounds());
     let counted = counted_rounds(schedule, games, season, team);
-    let windows = schedule.rounds() + 1 - window;
-    let starts = SlotSet::below(windows).common(rounds.starts_meeting(window));
-    over_from(counted, windows, starts, window, most)
-}
-
-/// The rounds of the set in each window that begins with one of the starts, over the most.
-fn over_from(set: SlotSet, windows: u8, starts: SlotSet, window: u8, most: u32) -> u64
-    requires least { 1 ≤ window }
-    requires season { windows + window ≤ max_rounds + 1 }
-    requires starts { IsBelow windows starts }
-    ensures value { result ≡
-        sum_where windows (has starts) (λ first. over (count_where window (λ k. has set (first + k))) most) }
-    ensures most { result ≤ max_rounds * max_rounds }
-{
-    let mut total = 0;
-    for first in starts {
-        total += over(rounds_in_window(set, first, window), most);
-    }
-    total
-}
-
-/// How many of the rounds are in the window that begins with the round `first`.
-fn rounds_in_window(rounds: SlotSet, first: u8, window: u8) -> u32
-    requires { first + window ≤ max_rounds }
-    ensures value { result ≡ count_where window (λ k. has rounds (first + k)) }
-    ensures most { result ≤ window }
-{
-    let past = SlotSet::below(first);
-    let until_end = SlotSet::below(first + window);
-    until_end.difference(past).common(rounds).len()
+    over_in_windows_of(counted, schedule.rounds(), starts, window, most)
 }
 
 /// The games of all the teams that count, over the most: in each of the slots, or in all of them together.
@@ -231,9 +187,10 @@ fn games_of_all(schedule: &Schedule, games: &CountedGames, slots: SlotSet) -> u3
         sum_where (round_count schedule.now.teams) (has slots) (games_in_round schedule.now games.now.side
         (has games.now.teams) (has games.now.opponents)) }
 {
+    let opponents = opponents_of(schedule, games);
     let mut count = 0;
     for team in games.teams {
-        count += games_of_team(schedule, games, slots, team);
+        count += games_of_team(schedule, games, opponents, slots, team);
     }
     count
 }

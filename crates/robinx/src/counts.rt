@@ -3,9 +3,12 @@
 ghost use Rattle.std.specs.Prelude.{◌≡◌, ℕ, ◌<◌, ◌≤◌, ◌&&◌, ◌==◌, nat_lt};
 ghost use Rattle.league.specs.Limits.{max_teams, max_rounds};
 ghost use Rattle.league.specs.Sets.{has, IsBelow};
+ghost use Rattle.league.specs.Sums.{count_where};
 ghost use Rattle.fixtures.specs.Games.{round_count, cell, is_home, IsDoubleRoundRobin};
 ghost use Rattle.robinx.specs.Deviations.{over, is_on_side, is_counted, games_of_team, games_in_round};
+ghost use Rattle.robinx.specs.Walked.{season_games};
 
+use crate::guests::meets_one_of;
 use fixtures::Schedule;
 use league::{Side, SlotSet, TeamSet};
 
@@ -56,6 +59,7 @@ pub(crate) fn rounds_on_side(schedule: &Schedule, side: Side, team: u8) -> SlotS
 }
 
 /// The rounds of the slots in which a team's game counts, where the team does.
+#[inline]
 pub(crate) fn counted_rounds(
     schedule: &Schedule,
     games: &CountedGames,
@@ -113,18 +117,75 @@ fn rounds_with(schedule: &Schedule, side: Side, opponent: u8, team: u8) -> SlotS
     }
 }
 
-/// In how many rounds of the slots the team's game counts.
+/// How many of the teams are opponents.
+pub(crate) fn opponents_of(schedule: &Schedule, games: &CountedGames) -> u32
+    ensures { result ≡ count_where schedule.now.teams (has games.now.opponents) }
+{
+    let all = TeamSet::below(schedule.teams());
+    if games.opponents == all {
+        return schedule.teams().into();
+    }
+    let mut count = 0;
+    for _ in all.common(games.opponents) {
+        count += 1;
+    }
+    count
+}
+
+/// In how many rounds of the slots the team's game counts, where there are so many opponents. It looks at the slots or at the
+/// other rounds, whichever are fewer: how many games count in the whole season is known.
 pub(crate) fn games_of_team(
     schedule: &Schedule,
     games: &CountedGames,
+    opponents: u32,
     slots: SlotSet,
     team: u8,
 ) -> u32
-    requires { team < schedule.now.teams }
+    requires team { team < schedule.now.teams }
+    requires opponents { opponents ≡ count_where schedule.now.teams (has games.now.opponents) }
     ensures value { result ≡ games_of_team schedule.now games.now.side (has games.now.opponents) (has slots) team }
     ensures most { result ≤ max_rounds }
 {
-    counted_rounds(schedule, games, slots, team).len()
+    let on_side = rounds_on_side(schedule, games.side, team);
+    let within = on_side.common(slots);
+    if games.opponents == TeamSet::below(schedule.teams()) {
+        return within.len();
+    }
+    let outside = on_side.difference(slots);
+    if within.len() <= outside.len() {
+        return games_with(schedule, games.opponents, within, team);
+    }
+    let season = games_of_season(games.side, opponents, games.opponents.has(team));
+    season - games_with(schedule, games.opponents, outside, team)
+}
+
+/// In how many of the rounds the team meets one of the opponents.
+fn games_with(schedule: &Schedule, opponents: TeamSet, rounds: SlotSet, team: u8) -> u32
+    requires team { team < schedule.now.teams }
+    requires most { schedule.now.teams ≤ max_teams }
+    requires rounds { IsBelow (round_count schedule.now.teams) rounds }
+    ensures value { result ≡ count_where (round_count schedule.now.teams)
+        (λ r. has rounds r && has opponents (cell schedule.now team r).opponent) }
+    ensures most { result ≤ max_rounds }
+{
+    let mut count = 0;
+    for round in rounds {
+        count += u32::from(meets_one_of(schedule, opponents, team, round));
+    }
+    count
+}
+
+/// How many games of a team count in a season on this side against so many opponents, where the team itself may be one.
+fn games_of_season(side: Side, opponents: u32, own: bool) -> u32
+    requires { opponents ≤ max_teams }
+    ensures { result ≡ season_games side opponents own }
+{
+    let others = opponents.saturating_sub(own.into());
+    match side {
+        Side::Home => others,
+        Side::Away => others,
+        Side::Any => 2 * others,
+    }
 }
 
 /// For how many of the teams the game in the round counts.

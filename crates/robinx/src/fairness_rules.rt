@@ -1,20 +1,29 @@
 //! Fairness rules: the numbers of home games stay close to each other.
 
-ghost use Rattle.std.specs.Prelude.{◌≡◌, ℕ, ◌+◌, ◌*◌, ◌<◌, ◌≤◌, true, false, if◌then◌else◌};
+ghost use Rattle.std.specs.Prelude.{◌≡◌, ℕ, ◌*◌, ◌<◌, ◌≤◌, true, false, if◌then◌else◌, slice_index};
 ghost use Rattle.league.specs.Limits.{max_teams, max_rounds};
 ghost use Rattle.league.specs.Sets.{has, IsBelow};
 ghost use Rattle.league.specs.Sums.{sum_where, sum_of_pairs};
 ghost use Rattle.league.specs.declared.rule.RuleBody.TheVariants as RuleBody;
 ghost use Rattle.fixtures.specs.Games.{round_count, IsDoubleRoundRobin};
-ghost use Rattle.robinx.specs.Deviations.{worst_gap, deviation};
+ghost use Rattle.robinx.specs.Deviations.{over, worst_gap, deviation};
 ghost use Rattle.robinx.specs.Parts.{is_pair_with};
-ghost use Rattle.robinx.specs.Walked.{worst_apart};
+ghost use Rattle.robinx.specs.Walked.{IsRowOf, row_of, worst_apart};
 
 use crate::counts::over;
 use crate::pairs::partners;
 use fixtures::Schedule;
-use league::limits::MAX_ROUNDS;
+use league::limits::MAX_TEAMS;
 use league::{SlotSet, TeamSet};
+
+/// The places of a row, one for each round: some more than the rounds of the longest season, so that they are a multiple of
+/// the 16 bytes that the machine compares at once.
+const ROW: usize = 80;
+
+const TEAMS: usize = MAX_TEAMS as usize;
+
+/// A number for each round.
+type Row = [u8; ROW];
 
 /// The worst gap of each pair of the teams.
 pub(crate) fn fa2(schedule: &Schedule, teams: TeamSet, slots: SlotSet, most: u32) -> u64
@@ -40,73 +49,83 @@ pub(crate) fn fa2_with(
     ensures { result ≡ sum_of_pairs schedule.now.teams (λ i j.
         if is_pair_with teams set i j then worst_gap schedule.now (has slots) most i j else 0) }
 {
+    let counts = rows_of_home_games(schedule, teams);
+    let limits = limits(slots, schedule.rounds());
     let mut total = 0;
     for team in teams {
         let lower = partners(teams, set, team);
-        total += gaps_with(schedule, lower, slots, most, team);
+        total += gaps_with(&counts, &limits, lower, most, team);
     }
     total
 }
 
-/// The worst gaps of the team and of each of these lower teams.
-fn gaps_with(schedule: &Schedule, lower: TeamSet, slots: SlotSet, most: u32, team: u8) -> u64
-    requires round_robin { IsDoubleRoundRobin schedule.now }
-    requires team { team < schedule.now.teams }
+/// The worst gaps of the team and of each of these lower teams, by their rows.
+fn gaps_with(rows: &[Row; TEAMS], limits: &Row, lower: TeamSet, most: u32, team: u8) -> u64
+    requires team { team < max_teams }
     requires lower { IsBelow team lower }
-    requires slots { IsBelow (round_count schedule.now.teams) slots }
-    ensures value { result ≡ sum_where team (has lower) (λ other. worst_gap schedule.now (has slots) most other team) }
-    ensures most { result ≤ max_teams * max_rounds }
+    ensures value { result ≡ sum_where team (has lower)
+        (λ other. over (worst_apart (row_of rows.now other) (row_of rows.now team) limits.now) most) }
+    ensures most { result ≤ max_teams * 255 }
 {
+    let own = &rows[usize::from(team)];
     let mut total = 0;
     for other in lower {
-        total += worst_gap(schedule, slots, most, other, team);
+        let worst = worst_apart(&rows[usize::from(other)], own, limits);
+        total += over(worst.into(), most);
     }
     total
 }
 
-/// The largest gap of two teams in the slots. It changes only where exactly one of them is at home.
-fn worst_gap(schedule: &Schedule, slots: SlotSet, most: u32, i: u8, j: u8) -> u64
-    requires i { i < schedule.now.teams }
-    requires j { j < schedule.now.teams }
-    requires season { round_count schedule.now.teams ≤ max_rounds }
-    requires slots { IsBelow (round_count schedule.now.teams) slots }
-    ensures value { result ≡ worst_gap schedule.now (has slots) most i j }
-    ensures most { result ≤ max_rounds }
+/// The largest number by which the rows are apart in a round, where the limits allow it.
+fn worst_apart(first: &Row, second: &Row, limits: &Row) -> u8
+    ensures { result ≡ worst_apart first.now second.now limits.now }
 {
-    let home_i = schedule.home_rounds(i);
-    let home_j = schedule.home_rounds(j);
-    let i_alone = home_i.difference(home_j);
-    let j_alone = home_j.difference(home_i);
-    worst_apart(i_alone, j_alone, slots, most)
-}
-
-/// By how much the numbers of rounds of the first set and of the second are apart, at the worst of the slots, over the
-/// most.
-fn worst_apart(first: SlotSet, second: SlotSet, slots: SlotSet, most: u32) -> u64
-    ensures value { result ≡ worst_apart first second slots most }
-    ensures most { result ≤ max_rounds }
-{
-    let turns = first.union(second);
-    let starts = slots_to_look_at(slots);
-    let mut firsts = 0;
-    let mut seconds = 0;
     let mut worst = 0;
-    for round in turns.union(starts) {
-        firsts += u32::from(first.has(round));
-        seconds += u32::from(second.has(round));
-        if slots.has(round) {
-            worst = worst.max(over(firsts.abs_diff(seconds), most));
-        }
+    for round in 0..ROW {
+        let apart = first[round].abs_diff(second[round]);
+        worst = worst.max(apart.min(limits[round]));
     }
     worst
 }
 
-/// The round 0, and the slots that don't follow another.
-fn slots_to_look_at(slots: SlotSet) -> SlotSet
-    ensures start { has result 0 ≡ true }
-    ensures follow { (r : ℕ) → has result (r + 1) ≡ false → has slots (r + 1) ≡ true → has slots r ≡ true }
+/// The rows of the teams: how many home games each has up to and with each round.
+fn rows_of_home_games(schedule: &Schedule, teams: TeamSet) -> [Row; TEAMS]
+    requires round_robin { IsDoubleRoundRobin schedule.now }
+    requires teams { IsBelow schedule.now.teams teams }
+    ensures { (t : ℕ) → has teams t ≡ true → IsRowOf schedule.now t (row_of result t) }
 {
-    let others = SlotSet::below(MAX_ROUNDS).difference(slots);
-    let after_another = others.with_next_below(MAX_ROUNDS);
-    slots.common(after_another).with(0)
+    let mut rows = [[0; ROW]; TEAMS];
+    for team in teams {
+        rows[usize::from(team)] = home_games_by_round(schedule, team);
+    }
+    rows
+}
+
+/// How many home games the team has up to and with each round.
+fn home_games_by_round(schedule: &Schedule, team: u8) -> Row
+    requires { team < schedule.now.teams }
+    ensures { IsRowOf schedule.now team result }
+{
+    let mut row = [0; ROW];
+    let mut count = 0;
+    for round in 0..schedule.rounds() {
+        count += u8::from(schedule.game_at(team, round).home);
+        row[usize::from(round)] = count;
+    }
+    row
+}
+
+/// For each round that is a slot more than two rows can be apart, and 0 for each other.
+fn limits(slots: SlotSet, rounds: u8) -> Row
+    requires season { rounds ≤ max_rounds }
+    requires slots { IsBelow rounds slots }
+    ensures { (r : ℕ) → slice_index result r ≡ (if has slots r then 255 else 0) }
+{
+    let mut row = [0; ROW];
+    for round in 0..rounds {
+        if slots.has(round) {
+            row[usize::from(round)] = u8::MAX;
+        }
+    }
+    row
 }

@@ -73,7 +73,7 @@ fn is_guest(schedule: &Schedule, main: TeamSet, rounds: SlotSet, team: u8) -> bo
 }
 
 /// Whether the team meets one of the teams in the round.
-fn meets_one_of(schedule: &Schedule, teams: TeamSet, team: u8, round: u8) -> bool
+pub(crate) fn meets_one_of(schedule: &Schedule, teams: TeamSet, team: u8, round: u8) -> bool
     requires team { team < schedule.now.teams }
     requires most { schedule.now.teams ≤ max_teams }
     requires round { round < round_count schedule.now.teams }

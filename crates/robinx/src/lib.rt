@@ -17,6 +17,7 @@ mod parts;
 mod passed_rules;
 mod separation_rules;
 mod touched_rules;
+mod windows;
 
 pub use break_rules::breaks;
 pub use deviations::deviation;

@@ -171,7 +171,10 @@ fn slack_at(plan: WorkerPlan, course: SlackCourse, s: u32) -> u64
 {
     match course {
         SlackCourse::Falls => {
-            (u128::from(plan.slack) * u128::from(plan.steps - s) / u128::from(plan.steps)) as u64
+            let steps = u64::from(plan.steps);
+            let left = u64::from(plan.steps - s);
+            // the slack times the steps left may need 128 bits, and its quotient and remainder need 64 each
+            plan.slack / steps * left + plan.slack % steps * left / steps
         }
         SlackCourse::Stays => plan.slack,
     }

@@ -14,7 +14,8 @@ pub one_more-le : (n : ℕ) → one_more n ≤ n + 1
 one_more-le n = grind (arith, nat_tests)
 
 -- a write that moved some bytes: the calls that were allowed for these are more than those that were made
-pub calls_moved : (calls start whole interrupted rest n : ℕ) → (n ≡ 0 → ⊥) → n ≤ rest → interrupted < 1000 → calls + 1000 * rest ≤ start + 1000 * whole + interrupted
+pub calls_moved : (calls start whole interrupted rest n : ℕ) → (n ≡ 0 → ⊥) → n ≤ rest → interrupted < 1000 →
+    calls + 1000 * rest ≤ start + 1000 * whole + interrupted
     → one_more calls + 1000 * (rest - n) ≤ start + 1000 * whole + 0
 calls_moved calls start whole interrupted rest n some fits few made =
     let counted = one_more-le calls in
@@ -22,7 +23,8 @@ calls_moved calls start whole interrupted rest n some fits few made =
     omega (arith, counted, positive, fits, few, made)
 
 -- it is no empty one
-pub empty_moved : (n failed empty total : ℕ) → (n ≡ 0 → ⊥) → failed + empty ≡ total → failed + (if n == 0 then one_more empty else empty) ≡ total
+pub empty_moved : (n failed empty total : ℕ) → (n ≡ 0 → ⊥) → failed + empty ≡ total →
+    failed + (if n == 0 then one_more empty else empty) ≡ total
 empty_moved n failed empty total some e = grind (arith, nat_tests, some, e)
 
 pub NotBelow-refl : (t : Tally) → NotBelow t t
@@ -32,7 +34,8 @@ pub NotBelow-trans : (a b c : Tally) → NotBelow a b → NotBelow b c → NotBe
 NotBelow-trans a b c p q = record { calls = omega arith; failed = omega arith; empty = omega arith; again = omega arith }
 
 pub NotBelow-noted : (t : Tally) (s : Step) → NotBelow t (noted t s)
-NotBelow-noted t (Moved n) = record { calls = one_more-ge t.calls; failed = omega arith; empty = grind (arith, nat_tests); again = omega arith }
+NotBelow-noted t (Moved n) = record
+    { calls = one_more-ge t.calls; failed = omega arith; empty = grind (arith, nat_tests); again = omega arith }
 NotBelow-noted t Again = record { calls = one_more-ge t.calls; failed = omega arith; empty = omega arith; again = one_more-ge t.again }
 NotBelow-noted t Failed = record { calls = one_more-ge t.calls; failed = one_more-ge t.failed; empty = omega arith; again = omega arith }
 

@@ -1,5 +1,6 @@
 -- How pieces written one after another to a `BufferedSink` make a text.
-use Rattle.std.proofs.Common.{◌≡◌, ℕ, zero, suc, ◌+◌, ◌<◌, add-one, inl, inr, List, [], ◌++◌, Option, Result, Ok, Err, OnOk, OnErr, IsErr, refl, sym, ◌∙◌, append_assoc, append-nil}
+use Rattle.std.proofs.Common.{◌≡◌, ℕ, zero, suc, ◌+◌, ◌<◌, add-one, inl, inr, List, [], ◌++◌, Option, Result, Ok, Err}
+use Rattle.std.proofs.Common.{OnOk, OnErr, IsErr, refl, sym, ◌∙◌, append_assoc, append-nil}
 use Rattle.std.proofs.Math.Nat.{eq-or-lt_of_le, le_of_suc-le-suc, not-suc-le-zero}
 use Rattle.std.specs.Io.KnownBytes.{Appends}
 use Rattle.std.specs.Borrow.{MutBor}
@@ -14,7 +15,8 @@ use Rattle.streams.proofs.Counts.{NotBelow-refl, NotBelow-trans, FailsWriting-af
 use Rattle.streams.proofs.Sendings.{AppendsAllBut-refl, AppendsAllBut-trans, AppendsAllBut-more, AppendsAllBut-all}
 
 -- a front of what waited and the first piece, and then of the rest and the second
-joined : (a b c : Option (List ℕ)) (waiting p q rest left : List ℕ) → AppendsAllBut a b (waiting ++ p) rest → AppendsAllBut b c (rest ++ q) left
+joined : (a b c : Option (List ℕ)) (waiting p q rest left : List ℕ) → AppendsAllBut a b (waiting ++ p) rest →
+    AppendsAllBut b c (rest ++ q) left
     → AppendsAllBut a c (waiting ++ (p ++ q)) left
 joined a b c waiting p q rest left first second =
     rw (← append_assoc waiting p q) (AppendsAllBut-trans a b c _ _ left (AppendsAllBut-more a b _ rest q first) second)
@@ -58,14 +60,16 @@ module _ {S : Type 0} {held : S → Option (List ℕ)} {tally : S → Tally} whe
   }
 
   -- at the exit of a `?`
-  pub Stops-writes : {T E : Type 0} {a b : BufferedSink S} {r : Result T E} {p : List ℕ} → IsErr r → Stops held tally a b p → Writes held tally a b r p
+  pub Stops-writes : {T E : Type 0} {a b : BufferedSink S} {r : Result T E} {p : List ℕ} → IsErr r → Stops held tally a b p →
+      Writes held tally a b r p
   Stops-writes {r = Ok x} err w = cc
   Stops-writes {r = Err e} err w = record { ok = tt; err = w }
 
   -- nothing waited, and the piece went past the buffer
   pub Writes-passed : {T E : Type 0} (a b : BufferedSink S) (r : Result T E) (p : List ℕ) → b.sink.ghost_name ≡ a.sink.ghost_name
       → waiting_in a ≡ [] → waiting_in b ≡ [] → OnOk r (Appends (held a.sink.now) (held b.sink.now) p)
-      → OnErr r (AppendsFront (held a.sink.now) (held b.sink.now) p) → OnErr r (FailsWriting WRITE_LIMIT (tally a.sink.now) (tally b.sink.now))
+      → OnErr r (AppendsFront (held a.sink.now) (held b.sink.now) p) →
+      OnErr r (FailsWriting WRITE_LIMIT (tally a.sink.now) (tally b.sink.now))
       → NotBelow (tally a.sink.now) (tally b.sink.now) → Writes held tally a b r p
   Writes-passed a b (Ok x) p name before after ok prefix cause counts =
       let sent : AppendsAllBut (held a.sink.now) (held b.sink.now) p [] = record { sent = p; parts = sym (append-nil p); appended = ok } in
@@ -89,7 +93,8 @@ module _ {S : Type 0} {held : S → Option (List ℕ)} {tally : S → Tally} whe
   ]
 
 -- what a whole text does to a sink, as `write_all` says it
-pub record Delivers {S T E : Type 0} (held : S → Option (List ℕ)) (tally : S → Tally) (old new : S) (result : Result T E) (text : List ℕ) : Type 0 where
+pub record Delivers {S T E : Type 0} (held : S → Option (List ℕ)) (tally : S → Tally) (old new : S) (result : Result T E)
+    (text : List ℕ) : Type 0 where
   pub ok : OnOk result (Appends (held old) (held new) text)
   pub prefix : OnErr result (AppendsFront (held old) (held new) text)
   pub cause : OnErr result (FailsWriting WRITE_LIMIT (tally old) (tally new))
@@ -97,14 +102,16 @@ pub record Delivers {S T E : Type 0} (held : S → Option (List ℕ)) (tally : S
 
 module _ {S : Type 0} {held : S → Option (List ℕ)} {tally : S → Tally} {sink : MutBor S} where
   -- a write failed before the end
-  pub Stops-delivers : {T E : Type 0} {a b : BufferedSink S} {r : Result T E} {text : List ℕ} → IsFreshOver sink a → IsErr r → Stops held tally a b text
+  pub Stops-delivers : {T E : Type 0} {a b : BufferedSink S} {r : Result T E} {text : List ℕ} → IsFreshOver sink a → IsErr r →
+      Stops held tally a b text
       → Delivers held tally sink.now b.sink.now r text
   Stops-delivers {r = Ok x} fresh err w = cc
   Stops-delivers {b} {r = Err e} {text} fresh err w =
       rw (← fresh.unchanged) (record { ok = tt; prefix = rw fresh.waiting at w.prefix; cause = w.cause; counts = w.counts })
 
   -- the text was added, and what waited was flushed
-  pub Adds-delivers : {T E : Type 0} {a b c : BufferedSink S} {r : Result T E} {text : List ℕ} → IsFreshOver sink a → Adds held tally a b text
+  pub Adds-delivers : {T E : Type 0} {a b c : BufferedSink S} {r : Result T E} {text : List ℕ} → IsFreshOver sink a →
+      Adds held tally a b text
       → Writes held tally b c r [] → waiting_in c ≡ [] → Delivers held tally sink.now c.sink.now r text
   Adds-delivers {r = Ok x} {text} fresh added flushed none =
       let whole = rw append-nil at (Adds-then added flushed.ok) in

@@ -8,7 +8,8 @@ pub AppendsAllBut-refl : (a : Option (List ℕ)) (text : List ℕ) → AppendsAl
 AppendsAllBut-refl a text = record { sent = []; parts = refl; appended = Appends-nil a }
 
 -- of what was left after the first, more went
-pub AppendsAllBut-trans : (a b c : Option (List ℕ)) (text rest left : List ℕ) → AppendsAllBut a b text rest → AppendsAllBut b c rest left → AppendsAllBut a c text left
+pub AppendsAllBut-trans : (a b c : Option (List ℕ)) (text rest left : List ℕ) → AppendsAllBut a b text rest →
+    AppendsAllBut b c rest left → AppendsAllBut a c text left
 AppendsAllBut-trans a b c text rest left p q = record {
   sent = p.sent ++ q.sent;
   parts = p.parts ∙ ap (λ l. p.sent ++ l) q.parts ∙ sym (append_assoc p.sent q.sent left);
@@ -16,12 +17,14 @@ AppendsAllBut-trans a b c text rest left p q = record {
 }
 
 -- the next bytes went
-pub AppendsAllBut-moved : (a b c : Option (List ℕ)) (text rest : List ℕ) (n : ℕ) → AppendsAllBut a b text rest → Appends b c (take n rest) → AppendsAllBut a c text (drop n rest)
+pub AppendsAllBut-moved : (a b c : Option (List ℕ)) (text rest : List ℕ) (n : ℕ) → AppendsAllBut a b text rest →
+    Appends b c (take n rest) → AppendsAllBut a c text (drop n rest)
 AppendsAllBut-moved a b c text rest n p q =
     AppendsAllBut-trans a b c text rest (drop n rest) p (record { sent = take n rest; parts = sym (take-append-drop n rest); appended = q })
 
 -- a longer text, of which the new part is left too
-pub AppendsAllBut-more : (a b : Option (List ℕ)) (text left more : List ℕ) → AppendsAllBut a b text left → AppendsAllBut a b (text ++ more) (left ++ more)
+pub AppendsAllBut-more : (a b : Option (List ℕ)) (text left more : List ℕ) → AppendsAllBut a b text left →
+    AppendsAllBut a b (text ++ more) (left ++ more)
 AppendsAllBut-more a b text left more p = record {
   sent = p.sent;
   parts = ap (λ l. l ++ more) p.parts ∙ append_assoc p.sent left more;

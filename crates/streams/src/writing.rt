@@ -26,7 +26,8 @@ pub fn write_all<W: Sink>(sink: &mut W, text: &[u8]) -> Result<(), WriteFault>
     // at most 999 interrupted writes stand before each byte, and one more ends it
     ensures calls { (W.tally sink.new).calls ≤ (W.tally sink.old).calls + write_limit * length text.now }
     ensures at_once { (W.tally sink.new).failed + (W.tally sink.new).empty ≤ (W.tally sink.old).failed + (W.tally sink.old).empty + 1 }
-    ensures none_failed { OnOk result ((W.tally sink.new).failed + (W.tally sink.new).empty ≡ (W.tally sink.old).failed + (W.tally sink.old).empty) }
+    ensures none_failed { OnOk result
+        ((W.tally sink.new).failed + (W.tally sink.new).empty ≡ (W.tally sink.old).failed + (W.tally sink.old).empty) }
 {
     let mut rest = text;
     let mut interrupted = 0;

@@ -15,7 +15,7 @@ use Rattle.tours.proofs.Stops.{tour_at_round, tour_at_end}
 
 -- rounds k and l exchanged for the teams of a set that has their opponents
 
-exchanged_next : (k l r : ℕ) → exchanged (k + 1) (l + 1) (r + 1) ≡ exchanged k l r + 1
+pub exchanged_next : (k l r : ℕ) → exchanged (k + 1) (l + 1) (r + 1) ≡ exchanged k l r + 1
 exchanged_next k l r = elim (cases_eq r k) [
   | inl e ↦
       ap (λ x. exchanged (k + 1) (l + 1) (x + 1)) e ∙ exchanged_first (k + 1) (l + 1) ∙

@@ -5,6 +5,9 @@ pub mod HigherTeams
 pub mod Members
 pub mod SamePairs
 pub mod RunStarts
+pub mod RunsTold
+pub mod RepeatsTold
+pub mod EdgeRepeats
 pub mod Balances
 pub mod TravelBalance
 pub mod RunsBalance

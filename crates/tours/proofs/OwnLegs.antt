@@ -24,7 +24,7 @@ use Rattle.tours.proofs.TeamsTold.{at_round, unmoved, meets_neither, of_first, o
 
 -- the legs of both, the first and those that come after a round
 
-first_leg : (n : ℕ) (h : ℕ → ℕ) → sum_below (n + 1) h ≡ h 0 + sum_below n (λ s. h (s + 1))
+pub first_leg : (n : ℕ) (h : ℕ → ℕ) → sum_below (n + 1) h ≡ h 0 + sum_below n (λ s. h (s + 1))
 unfolding sum_below
 first_leg zero h = omega (arith, sum_below_more 0 h)
 first_leg (suc n) h =
@@ -106,9 +106,9 @@ three_sums : (n : ℕ) (a b c : ℕ → ℕ) →
 three_sums n a b c =
     sum_below_add n a (λ s. b s + c s) ∙ ap (λ x. sum_below n a + x) (sum_below_add n b c)
 
-same_side : (g : Games) (s t : ℕ) → turns g s (s + 1) t ≡ false → is_home g t s ≡ is_home g t (s + 1)
+pub same_side : (g : Games) (r s t : ℕ) → turns g r s t ≡ false → is_home g t r ≡ is_home g t s
 unfolding turns
-same_side g s t = by_sides (is_home g t s) (is_home g t (s + 1))
+same_side g r s t = by_sides (is_home g t r) (is_home g t s)
   where
     by_sides : (x y : Bool) → not (beq x y) ≡ false → x ≡ y
     by_sides true true e = refl
@@ -178,7 +178,7 @@ module _ (l : LeagueData) (diagonal : (a : ℕ) → distance l a a ≡ 0) (g : G
         let parts = and_parts (rounds s) (rounds (s + 1)) both in
         let next : s + 1 < round_count g.teams = next_in s in_s parts.1 in
         not_turned t s of_t in_t next parts.0 parts.1
-        (same_side g s t (sym (are.turning s next (is_inner s ∙ both)) ∙ out))
+        (same_side g s (s + 1) t (sym (are.turning s next (is_inner s ∙ both)) ∙ out))
 
     each : (s : ℕ) → s < round_count g.teams →
         (if rounds s || rounds (s + 1) then told j (s + 1) + told i (s + 1) else 0) +

@@ -24,7 +24,7 @@ use Rattle.tours.proofs.ExchangedTours.{legs_after}
 two_on : (k : ℕ) → k + 1 + 1 ≡ k + 2
 two_on k = omega arith
 
-exchanged_turned : (k l r : ℕ) → exchanged k l r ≡ exchanged l k r
+pub exchanged_turned : (k l r : ℕ) → exchanged k l r ≡ exchanged l k r
 exchanged_turned k l r = grind (arith, nat_tests)
 
 before_first : (k l : ℕ) → k < l → exchanged (k + 1) (l + 1) k ≡ k
@@ -41,23 +41,22 @@ after_second : (k l : ℕ) → k < l → exchanged (k + 1) (l + 1) (l + 1 + 1) �
 after_second k l ordered =
     exchanged_other (k + 1) (l + 1) (l + 1 + 1) (λ e. omega arith) (λ e. omega arith) ∙ two_on l
 
--- the legs before and after, by the stops
+-- what lies between stops before and after
 
-module _ (l : LeagueData) (g : Games) (t k m : ℕ) where
-  abbrev between : ℕ → ℕ → ℕ
-  between a b = distance l (slice_index (tour g t) a) (slice_index (tour g t) b)
+module _ (between : ℕ → ℕ → ℕ) (k m : ℕ) where
+  -- between the stop with an index and the next, with the two exchanged
+  abbrev pub exchanged_terms : ℕ → ℕ
+  exchanged_terms r = between (exchanged (k + 1) (m + 1) r) (exchanged (k + 1) (m + 1) (r + 1))
 
   between_same : (a b x y : ℕ) → a ≡ x → b ≡ y → between a b ≡ between x y
   between_same a b x y of_a of_b = ap (λ n. between n b) of_a ∙ ap (between x) of_b
 
-  pub two_before : leg l g t k + leg l g t (k + 1) + (leg l g t m + leg l g t (m + 1)) ≡
+  pub two_before : between k (k + 1) + between (k + 1) (k + 1 + 1) + (between m (m + 1) + between (m + 1) (m + 1 + 1)) ≡
       between k (k + 1) + between (k + 1) (k + 2) + (between m (m + 1) + between (m + 1) (m + 2))
-  unfolding leg
   two_before = ap₂ (λ x y. between k (k + 1) + x + (between m (m + 1) + y)) (ap (between (k + 1)) (two_on k)) (ap (between (m + 1)) (two_on m))
 
   pub two_after : k + 1 < m →
-      leg_exchanged l g k m t k + leg_exchanged l g k m t (k + 1) +
-      (leg_exchanged l g k m t m + leg_exchanged l g k m t (m + 1)) ≡
+      exchanged_terms k + exchanged_terms (k + 1) + (exchanged_terms m + exchanged_terms (m + 1)) ≡
       between k (m + 1) + between (m + 1) (k + 2) + (between m (k + 1) + between (k + 1) (m + 2))
   two_after apart =
       ap₂ (λ x y. x + y)
@@ -68,15 +67,14 @@ module _ (l : LeagueData) (g : Games) (t k m : ℕ) where
       (between_same _ _ _ _ (before_second k m apart) (exchanged_second (k + 1) (m + 1)))
       (between_same _ _ _ _ (exchanged_second (k + 1) (m + 1)) (after_second k m (omega arith))))
 
-  pub neighbours_before : m ≡ k + 1 → leg l g t k + leg l g t (k + 1) + leg l g t (m + 1) ≡
+  pub neighbours_before : m ≡ k + 1 → between k (k + 1) + between (k + 1) (k + 1 + 1) + between (m + 1) (m + 1 + 1) ≡
       between k (k + 1) + between (k + 1) (m + 1) + between (m + 1) (m + 2)
-  unfolding leg
   neighbours_before next =
       ap₂ (λ x y. between k (k + 1) + x + y) (ap (between (k + 1)) (ap (λ x. x + 1) (sym next)))
       (ap (between (m + 1)) (two_on m))
 
   pub neighbours_after : m ≡ k + 1 →
-      leg_exchanged l g k m t k + leg_exchanged l g k m t (k + 1) + leg_exchanged l g k m t (m + 1) ≡
+      exchanged_terms k + exchanged_terms (k + 1) + exchanged_terms (m + 1) ≡
       between k (m + 1) + between (m + 1) (k + 1) + between (k + 1) (m + 2)
   neighbours_after next =
       ap₂ (λ x y. x + y)
@@ -109,7 +107,7 @@ and_one n a test f in_range out =
 none : (n : ℕ) (f : ℕ → ℕ) → sum_where n (λ _. false) f ≡ 0
 none n f = sum_where_none n (λ _. false) f (λ k below. refl)
 
-touches_two : (r k l n : ℕ) → k < n → l < n →
+pub touches_two : (r k l n : ℕ) → k < n → l < n →
     ((not (r == 0) && (r - 1 == k || r - 1 == l)) || (nat_lt r n && (r == k || r == l))) ≡
     (r == k || (r == k + 1 || (r == l || (r == l + 1 || false))))
 touches_two r k l n in_k in_l = grind (arith, nat_tests)
@@ -120,10 +118,10 @@ touches_neighbours : (r k l n : ℕ) → l ≡ k + 1 → l < n →
 touches_neighbours r k l n is in_l = grind (arith, nat_tests)
 
 -- the two rounds, of which k comes first
-abbrev two_rounds : ℕ → ℕ → ℕ → Bool
+abbrev pub two_rounds : ℕ → ℕ → ℕ → Bool
 two_rounds k l r = r == k || r == l
 
-legs_touched : (g : Games) (f : ℕ → ℕ) (k l : ℕ) → k < l → l < round_count g.teams →
+pub legs_touched : (g : Games) (f : ℕ → ℕ) (k l : ℕ) → k < l → l < round_count g.teams →
     sum_where (leg_count g) (touches_leg g (two_rounds k l)) f ≡ legs_around f k l
 unfolding touches_leg
 legs_touched g f k l ordered in_l = elim (cases_eq l (k + 1)) [
@@ -160,17 +158,14 @@ legs_touched g f k l ordered in_l = elim (cases_eq l (k + 1)) [
 
 -- a team that is at one place in both rounds
 
-stop_same : (g : Games) (t k m r : ℕ) → slice_index (tour g t) (k + 1) ≡ slice_index (tour g t) (m + 1) →
-    slice_index (tour g t) (exchanged (k + 1) (m + 1) r) ≡ slice_index (tour g t) r
-stop_same g t k m r same = elim (cases_eq r (k + 1)) [
+pub stop_same : (stop : ℕ → ℕ) (k m r : ℕ) → stop (k + 1) ≡ stop (m + 1) → stop (exchanged (k + 1) (m + 1) r) ≡ stop r
+stop_same stop k m r same = elim (cases_eq r (k + 1)) [
   | inl e ↦
-      ap (λ x. slice_index (tour g t) (exchanged (k + 1) (m + 1) x)) e ∙
-      ap (slice_index (tour g t)) (exchanged_first (k + 1) (m + 1)) ∙ sym same ∙ sym (ap (slice_index (tour g t)) e)
+      ap (λ x. stop (exchanged (k + 1) (m + 1) x)) e ∙ ap stop (exchanged_first (k + 1) (m + 1)) ∙ sym same ∙ sym (ap stop e)
   | inr not_k ↦ elim (cases_eq r (m + 1)) [
     | inl e ↦
-        ap (λ x. slice_index (tour g t) (exchanged (k + 1) (m + 1) x)) e ∙
-        ap (slice_index (tour g t)) (exchanged_second (k + 1) (m + 1)) ∙ same ∙ sym (ap (slice_index (tour g t)) e)
-    | inr not_m ↦ ap (slice_index (tour g t)) (exchanged_other (k + 1) (m + 1) r not_k not_m)
+        ap (λ x. stop (exchanged (k + 1) (m + 1) x)) e ∙ ap stop (exchanged_second (k + 1) (m + 1)) ∙ same ∙ sym (ap stop e)
+    | inr not_m ↦ ap stop (exchanged_other (k + 1) (m + 1) r not_k not_m)
   ]
 ]
 
@@ -178,7 +173,7 @@ legs_same : (l : LeagueData) (g : Games) (t k m : ℕ) → slice_index (tour g t
     leg_exchanged l g k m t ≡ leg l g t
 unfolding leg
 legs_same l g t k m same =
-    fun_ext (λ r. ap₂ (distance l) (stop_same g t k m r same) (stop_same g t k m (r + 1) same))
+    fun_ext (λ r. ap₂ (distance l) (stop_same (slice_index (tour g t)) k m r same) (stop_same (slice_index (tour g t)) k m (r + 1) same))
 
 changed_term : (is_in same : Bool) (now after : ℕ) → (same ≡ true → after ≡ now) →
     (if is_in then after else 0) + (if is_in then (if same then 0 else now) else 0) ≡

@@ -12,12 +12,9 @@ use Rattle.league.proofs.ForCallers.{all_below_same, all_below_fails, sum_below_
 use Rattle.fixtures.specs.Games.{Games, round_count, is_home}
 use Rattle.tours.specs.Runs.{windows, is_run, runs_of, runs_over}
 use Rattle.tours.specs.Parts.{touches_window, runs_part_of, runs_part}
+use Rattle.tours.specs.Told.{HasHomes, HasRuns}
 
--- the rounds of the season in which a team is at home
-abbrev pub HasHomes : Games → ℕ → ℕ → Type 0
-HasHomes g team home = (r : ℕ) → has home r ≡ (nat_lt r (round_count g.teams) && is_home g team r)
-
-home_at : (g : Games) (team home r : ℕ) → HasHomes g team home → r < round_count g.teams → has home r ≡ is_home g team r
+pub home_at : (g : Games) (team home r : ℕ) → HasHomes g team home → r < round_count g.teams → has home r ≡ is_home g team r
 home_at g team home r homes in_r = homes r ∙ ap (λ b. b && is_home g team r) (lt-ltb r (round_count g.teams) in_r)
 
 -- the rounds before the last one of the season that are as the next round is
@@ -81,6 +78,20 @@ run_from g team length season home likes least is_season homes is_likes first =
           (none_past_season length season home likes first least is_likes (omega arith))
     ]
 
+if_below : (k n : ℕ) (b : Bool) → n ≤ k → ◌≡◌ {A = ℕ} (if nat_lt k n && b then 1 else 0) 0
+if_below k n b past = grind (arith, nat_tests)
+
+-- a set of windows has as many as pass its test
+windows_counted : (g : Games) (length set : ℕ) (test : ℕ → Bool) → 1 ≤ length → round_count g.teams ≤ 78 →
+    ((first : ℕ) → has set first ≡ (nat_lt first (windows g length) && test first)) →
+    count_where 78 (has set) ≡ count_where (windows g length) test
+windows_counted g length set test least season is_set =
+    count_where_same 78 (has set) (λ f. nat_lt f (windows g length) && test f) (λ f below. is_set f) ∙
+    sum_below_past (windows g length) 78 (λ f. if nat_lt f (windows g length) && test f then 1 else 0) (omega arith)
+    (λ f past below. if_below f (windows g length) (test f) past) ∙
+    count_where_same (windows g length) (λ f. nat_lt f (windows g length) && test f) test
+    (λ f below. ap (λ b. b && test f) (lt-ltb f (windows g length) below))
+
 regroup : (window run start : Bool) → ((window && run) && start) ≡ (window && (start && run))
 regroup true true true = refl
 regroup true true false = refl
@@ -88,25 +99,23 @@ regroup true false true = refl
 regroup true false false = refl
 regroup false run start = refl
 
-if_below : (k n : ℕ) (b : Bool) → n ≤ k → ◌≡◌ {A = ℕ} (if nat_lt k n && b then 1 else 0) 0
-if_below k n b past = grind (arith, nat_tests)
-
 -- how many of a team's runs begin with a round of the set
-pub runs_counted : (g : Games) (team length runs starts counted : ℕ) → 1 ≤ length → round_count g.teams ≤ 78 →
-    ((first : ℕ) → has runs first ≡ (nat_lt first (windows g length) && is_run g team first length)) →
+pub runs_counted : (g : Games) (team length runs starts counted : ℕ) → 1 ≤ length → round_count g.teams ≤ 78 → HasRuns g team length runs →
     ((first : ℕ) → has counted first ≡ (has runs first && has starts first)) →
     count_where 78 (has counted) ≡ count_where (windows g length) (λ first. has starts first && is_run g team first length)
 runs_counted g team length runs starts counted least season is_runs is_counted =
-    count_where_same 78 (has counted) (λ f. nat_lt f (windows g length) && (has starts f && is_run g team f length))
-    (λ f below. is_counted f ∙ ap (λ b. b && has starts f) (is_runs f) ∙ regroup (nat_lt f (windows g length)) (is_run g team f length) (has starts f)) ∙
-    sum_below_past (windows g length) 78 (λ f. if nat_lt f (windows g length) && (has starts f && is_run g team f length) then 1 else 0) (omega arith)
-    (λ f past below. if_below f (windows g length) (has starts f && is_run g team f length) past) ∙
-    count_where_same (windows g length) (λ f. nat_lt f (windows g length) && (has starts f && is_run g team f length)) (λ f. has starts f && is_run g team f length)
-    (λ f below. ap (λ b. b && (has starts f && is_run g team f length)) (lt-ltb f (windows g length) below))
+    windows_counted g length counted (λ f. has starts f && is_run g team f length) least season
+    (λ f. is_counted f ∙ ap (λ b. b && has starts f) (is_runs f) ∙ regroup (nat_lt f (windows g length)) (is_run g team f length) (has starts f))
+
+-- how many there are
+pub all_runs_counted : (g : Games) (team most runs : ℕ) → round_count g.teams ≤ 78 → HasRuns g team (most + 1) runs →
+    count_where 78 (has runs) ≡ runs_of g most team
+unfolding runs_of
+all_runs_counted g team most runs season is_runs =
+    windows_counted g (most + 1) runs (λ f. is_run g team f (most + 1)) (omega arith) season is_runs
 
 -- none, where none of its runs does
-pub no_runs_counted : (g : Games) (team length runs starts : ℕ) → 1 ≤ length → round_count g.teams ≤ 78 →
-    ((first : ℕ) → has runs first ≡ (nat_lt first (windows g length) && is_run g team first length)) →
+pub no_runs_counted : (g : Games) (team length runs starts : ℕ) → 1 ≤ length → round_count g.teams ≤ 78 → HasRuns g team length runs →
     any_below 78 (λ s. has runs s && has starts s) ≡ false →
     count_where (windows g length) (λ first. has starts first && is_run g team first length) ≡ 0
 no_runs_counted g team length runs starts least season is_runs out =

@@ -9,7 +9,7 @@ use Rattle.tours.specs.Parts.{touches_window, runs_part_of, runs_at, runs_part}
 use Rattle.tours.proofs.Balances.{one, count_balance, sum_balance}
 
 -- the sides of a team stay, but in rounds of the set
-abbrev SidesStay : Games → Games → (ℕ → Bool) → ℕ → Type 0
+abbrev pub SidesStay : Games → Games → (ℕ → Bool) → ℕ → Type 0
 SidesStay g g' rounds t = (r : ℕ) → r < round_count g.teams → rounds r ≡ false → is_home g' t r ≡ is_home g t r
 
 is_run_same : (g g' : Games) (set : ℕ → Bool) (t first rounds : ℕ) → SidesStay g g' set t → first + rounds ≤ round_count g.teams →
@@ -25,7 +25,7 @@ is_run_same g g' set t first rounds stay fits out =
     same : (k : ℕ) → k < rounds → is_home g' t (first + k) ≡ is_home g t (first + k)
     same k below = stay (first + k) (omega arith) (any_below_fails rounds (λ k. set (first + k)) out k below)
 
-runs_of_balance : (g g' : Games) (most : ℕ) (rounds : ℕ → Bool) (t : ℕ) → g'.teams ≡ g.teams → SidesStay g g' rounds t →
+pub runs_of_balance : (g g' : Games) (most : ℕ) (rounds : ℕ → Bool) (t : ℕ) → g'.teams ≡ g.teams → SidesStay g g' rounds t →
     runs_of g' most t + runs_part_of g most rounds t ≡ runs_of g most t + runs_part_of g' most rounds t
 unfolding runs_of runs_part_of
 runs_of_balance g g' most rounds t size stay =
@@ -48,7 +48,7 @@ none_touched : (first rounds : ℕ) (run : Bool) → (touches_window (λ _. fals
 unfolding touches_window
 none_touched first rounds run = rw (any_below_from_none rounds (λ _. false) (λ k below. refl)) refl
 
-part_of_box : (g : Games) (most : ℕ) (rounds : ℕ → Bool) (t : ℕ) (inside : Bool) →
+pub part_of_box : (g : Games) (most : ℕ) (rounds : ℕ → Bool) (t : ℕ) (inside : Bool) →
     runs_part_of g most (λ r. inside && rounds r) t ≡ (if inside then runs_part_of g most rounds t else 0)
 unfolding runs_part_of
 part_of_box g most rounds t true = refl

@@ -8,7 +8,7 @@ use Rattle.league.proofs.ForCallers.{sum_below_same, sum_below_add}
 use Rattle.fixtures.specs.Games.{Games, round_count, IsDoubleRoundRobin}
 use Rattle.fixtures.specs.Edits.{exchanged}
 use Rattle.fixtures.specs.Changes.{MeetingsExchanged}
-use Rattle.fixtures.proofs.Exchanged.{exchanged-exchanged, exchanged_lt}
+use Rattle.fixtures.proofs.numbers.Exchanged.{exchanged-exchanged, exchanged_lt}
 use Rattle.tours.specs.Repeats.{repeats_after, repeats}
 use Rattle.tours.specs.Parts.{repeats_with_after}
 use Rattle.tours.proofs.Balances.{one}
@@ -17,7 +17,7 @@ use Rattle.tours.proofs.Opponents.{opponent_in, IsPairing-opponents}
 use Rattle.tours.proofs.HigherTeams.{repeats_with_after_higher}
 use Rattle.tours.proofs.Members.{same_there}
 
-abbrev at_higher : (ℕ → ℕ) → (ℕ → ℕ) → ℕ → ℕ
+abbrev pub at_higher : (ℕ → ℕ) → (ℕ → ℕ) → ℕ → ℕ
 at_higher a b t = one (nat_lt (a t) t && a t == b t)
 
 either_way : (o t : ℕ) (same : Bool) → o ≢ t → one (nat_lt o t && same) + one (nat_lt t o && same) ≡ one same
@@ -68,7 +68,7 @@ renamed_pairing n i j a a' renamed pairing = record {
       (sym (exchanged-exchanged i j (a (exchanged i j t))) ∙ ap (exchanged i j) (sym (renamed.same t in_t) ∙ is));
 }
 
-same_exchanged : (i j x y : ℕ) → (exchanged i j x == exchanged i j y) ≡ (x == y)
+pub same_exchanged : (i j x y : ℕ) → (exchanged i j x == exchanged i j y) ≡ (x == y)
 same_exchanged i j x y = elim (cases_eq x y) [
   | inl same ↦ eq-eqb (exchanged i j x) (exchanged i j y) (ap (exchanged i j) same) ∙ sym (eq-eqb x y same)
   | inr other ↦ ne_eqb (exchanged i j x) (exchanged i j y) (exchanged_apart i j x y other) ∙ sym (ne_eqb x y other)
@@ -97,7 +97,7 @@ at_higher_renamed n i j a b a' b' pairing turn renamed_a renamed_b =
     as_many n i j a b a' b' renamed_a renamed_b ∙ sym (twice n a b pairing turn))
 
 -- as many repeats as teams that meet a lower team twice
-repeats_after_higher : (g : Games) (r : ℕ) → repeats_after g r ≡ sum_below g.teams (at_higher (opponent_in g r) (opponent_in g (r + 1)))
+pub repeats_after_higher : (g : Games) (r : ℕ) → repeats_after g r ≡ sum_below g.teams (at_higher (opponent_in g r) (opponent_in g (r + 1)))
 unfolding repeats_after repeats_with_after
 repeats_after_higher g r = repeats_with_after_higher g (λ _. true) r
 

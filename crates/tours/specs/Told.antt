@@ -1,10 +1,11 @@
 -- What the walks count that tell on the schedule before what an exchange changes: words of private functions alone.
 use Rattle.std.specs.Prelude.{◌≡◌, ℕ, ◌<◌, true, false, ◌+◌, ◌-◌, ◌==◌, ◌&&◌, ◌||◌, not, nat_lt, Bool, if◌then◌else◌, slice_index}
 use Rattle.league.specs.League.{LeagueData, distance}
-use Rattle.fixtures.specs.Games.{Games, round_count, cell}
+use Rattle.fixtures.specs.Games.{Games, round_count, cell, is_home}
 use Rattle.league.specs.Sets.{has}
 use Rattle.fixtures.specs.Changes.{turns}
 use Rattle.fixtures.specs.Edits.{exchanged}
+use Rattle.tours.specs.Runs.{windows, is_run}
 use Rattle.tours.specs.Tours.{tour}
 
 -- of a tour's legs, those that touch one of the rounds k and l, of which k is the first
@@ -51,3 +52,29 @@ pub record IsTurn (g : Games) (i j t s : ℕ) : Type 0 where
 pub record AreTurns (g : Games) (inner t set : ℕ) : Type 0 where
   pub inside : (s : ℕ) → has inner s ≡ false → has set s ≡ false
   pub turning : (s : ℕ) → s + 1 < round_count g.teams → has inner s ≡ true → has set s ≡ turns g s (s + 1) t
+
+-- the rounds of the season in which a team is at home
+abbrev pub HasHomes : Games → ℕ → ℕ → Type 0
+HasHomes g team home = (r : ℕ) → has home r ≡ (nat_lt r (round_count g.teams) && is_home g team r)
+
+-- the first rounds of a team's runs of so many rounds
+abbrev pub HasRuns : Games → ℕ → ℕ → ℕ → Type 0
+HasRuns g team length runs = (first : ℕ) → has runs first ≡ (nat_lt first (windows g length) && is_run g team first length)
+
+-- whom a team meets in the round before the index: itself before the first round and after the last
+abbrev pub met : Games → ℕ → ℕ → ℕ
+met g t index = if index == 0 || nat_lt (round_count g.teams) index then t else (cell g t (index - 1)).opponent
+
+-- 1 where a team meets the same lower team twice
+abbrev pub same_lower : ℕ → ℕ → ℕ → ℕ
+same_lower t a b = if nat_lt a t && a == b then 1 else 0
+
+-- of the terms between two rounds that a team meets lower teams in, those around rounds k and l, of which k is the first:
+-- none where it meets the same team in both
+abbrev pub repeats_around : (ℕ → ℕ) → (ℕ → ℕ) → ℕ → ℕ → ℕ → ℕ
+repeats_around meets stop t k l =
+    if meets (k + 1) == meets (l + 1) then 0 else legs_around (λ r. same_lower t (meets (stop r)) (meets (stop (r + 1)))) k l
+
+-- 1 where one team meets in a round whom another, or it itself, meets in the next
+abbrev pub meets_next : Games → ℕ → ℕ → ℕ → ℕ
+meets_next g t u r = if (cell g t r).opponent == (cell g u (r + 1)).opponent then 1 else 0

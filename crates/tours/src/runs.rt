@@ -1,13 +1,14 @@
 //! Long stretches at home or away.
 
-ghost use Rattle.std.specs.Prelude.{◌≡◌, ℕ, ◌+◌, ◌*◌, ◌<◌, ◌≤◌, ◌&&◌, nat_lt};
+ghost use Rattle.std.specs.Prelude.{◌≡◌, ℕ, ◌+◌, ◌*◌, ◌<◌, ◌≤◌, ◌&&◌};
 ghost use Rattle.league.specs.League.{teams};
 ghost use Rattle.league.specs.Limits.{max_teams, max_rounds};
 ghost use Rattle.league.specs.Sets.{has, IsBelow};
 ghost use Rattle.league.specs.Sums.{sum_where, count_where};
-ghost use Rattle.fixtures.specs.Games.{round_count, IsDoubleRoundRobin};
-ghost use Rattle.tours.specs.Runs.{windows, is_run, runs_over};
+ghost use Rattle.fixtures.specs.Games.{Games, round_count, IsDoubleRoundRobin};
+ghost use Rattle.tours.specs.Runs.{windows, is_run, runs_of, runs_over};
 ghost use Rattle.tours.specs.Parts.{runs_part};
+ghost use Rattle.tours.specs.Told.{HasHomes, HasRuns};
 
 use crate::season::teams_in;
 use fixtures::{Schedule, Touched};
@@ -74,7 +75,7 @@ fn runs_of_team(schedule: &Schedule, at_most: u8, starts: SlotSet, team: u8) -> 
         is_run schedule.now team first (at_most + 1)) }
     ensures most { result ≤ max_rounds }
 {
-    let runs = run_starts(schedule, at_most + 1, team);
+    let runs = run_starts(schedule.home_rounds(team), schedule.rounds(), at_most + 1);
     // most teams have none, and a test takes fewer instructions than a count
     if runs.meets(starts) {
         let counted = runs.common(starts);
@@ -84,17 +85,32 @@ fn runs_of_team(schedule: &Schedule, at_most: u8, starts: SlotSet, team: u8) -> 
     }
 }
 
-/// The first rounds of the windows of so many rounds that a team spends at home throughout or away throughout.
-fn run_starts(schedule: &Schedule, length: u8, team: u8) -> SlotSet
+/// How many runs a team has that is at home in these rounds of a season.
+pub(crate) fn runs_in(home: SlotSet, rounds: u8, at_most: u8) -> u64
+    requires least { 1 ≤ at_most }
+    requires most { at_most ≤ max_rounds }
+    requires season { rounds ≤ max_rounds }
+    ensures value { (g : Games) (t : ℕ) → round_count g.teams ≡ rounds → HasHomes g t home → result ≡ runs_of g at_most t }
+    ensures most { result ≤ max_rounds }
+{
+    let runs = run_starts(home, rounds, at_most + 1);
+    // most have none, and a test takes fewer instructions than a count
+    if runs == SlotSet::empty() {
+        0
+    } else {
+        u64::from(runs.len())
+    }
+}
+
+/// The first rounds of the windows of so many rounds that a team spends at home throughout or away throughout, where it is at
+/// home in these rounds of a season.
+fn run_starts(home: SlotSet, rounds: u8, length: u8) -> SlotSet
     requires least { 2 ≤ length }
     requires most { length ≤ max_rounds + 1 }
-    requires team { team < schedule.now.teams }
-    ensures members { (first : ℕ) → has result first ≡
-        (nat_lt first (windows schedule.now length) && is_run schedule.now team first length) }
-    ensures season { round_count schedule.now.teams ≤ max_rounds }
+    requires season { rounds ≤ max_rounds }
+    ensures members { (g : Games) (t : ℕ) → round_count g.teams ≡ rounds → HasHomes g t home → HasRuns g t length result }
 {
-    let home = schedule.home_rounds(team);
-    let like_next = home.like_next_below(schedule.rounds());
+    let like_next = home.like_next_below(rounds);
     // each round of a run but the last is as the next one is
     like_next.starts_within(length - 1)
 }

@@ -7,3 +7,10 @@ pub struct Legs {
     pub before: u64,
     pub after: u64,
 }
+
+/// How often hard limits are broken in what an exchange alters, before it and after it.
+#[derive(Clone, Copy, Debug, Drop, PartialEq, Eq)]
+pub struct Breaches {
+    pub before: u64,
+    pub after: u64,
+}

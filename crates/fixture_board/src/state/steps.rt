@@ -2,7 +2,7 @@
 
 use crate::ask::{Ask, Proposal};
 use crate::change::Change;
-use crate::kept_cost::make_at_cost;
+use crate::made_within::make_at_cost;
 use crate::reply::Why;
 use crate::state::State;
 use fixtures::Game;

@@ -21,7 +21,7 @@ use std::hint::spin_loop;
 use std::sync::Wait;
 use std::time::Duration;
 
-/// How often a seat tries for the turn before its thread sleeps.
+/// How often a seat reads the turn word or tries for the turn before its thread sleeps.
 const TRIES: u32 = 64;
 
 /// How many microseconds it sleeps, where the turn is still taken. Nobody wakes it: that would cost each turn a call of the
@@ -92,20 +92,18 @@ impl Shared {
         self.table.shared.load::<Tell>(place, TURN);
     }
 
-    /// Tries for the turn a few times, and says whether it was taken.
+    /// Tries for the turn, a few times where it gets free, and says whether it was taken.
     fn try_take(&self, place: &mut Place) -> bool
         requires table { place.old.table_id ≡ self.now }
         requires idle { (place.old.me.0.live ≡ true) × (place.old.me.0.stage ≡ away) }
         ensures same { place.new.table_id ≡ place.old.table_id }
         ensures took { MatchBool result (Took place.old.me place.new.me) (place.new.me ≡ place.old.me) }
     {
-        for _ in 0..TRIES {
-            if self
-                .table
-                .shared
-                .compare_exchange::<Take>(place, TURN, 0, 1)
-                == 0
-            {
+        let table = &self.table.shared;
+        for tried in 0..TRIES {
+            // where the turn is taken, reading alone leaves the words to the seat that has it
+            let may_be_free = tried == 0 || table.peek(TURN) == 0;
+            if may_be_free && table.compare_exchange::<Take>(place, TURN, 0, 1) == 0 {
                 return true;
             }
             spin_loop();

@@ -7,4 +7,5 @@ use Rattle.advice.proofs.forms.are_games.Given as goal
 
 abbrev pub invariant-loop-item : goal.invariant-loop-item
 invariant-loop-item l =
-    is_some (all_items (game_of l.teams) (items_view (drop l.item-index l.items))) ≡ is_some (all_items (game_of l.teams) (items_view l.items))
+    is_some (all_items (game_of l.teams) (items_view (drop l.item-index l.items)))
+    ≡ is_some (all_items (game_of l.teams) (items_view l.items))

@@ -6,4 +6,5 @@ use Rattle.advice.proofs.forms.are_numbers.Given as goal
 
 abbrev pub invariant-loop-item : goal.invariant-loop-item
 invariant-loop-item l =
-    is_some (all_items (number_within 1 l.most) (items_view (drop l.item-index l.items))) ≡ is_some (all_items (number_within 1 l.most) (items_view l.items))
+    is_some (all_items (number_within 1 l.most) (items_view (drop l.item-index l.items)))
+    ≡ is_some (all_items (number_within 1 l.most) (items_view l.items))

@@ -6,4 +6,5 @@ use Rattle.advice.proofs.remarks.push_members.Given as goal
 
 abbrev pub invariant-loop-name : goal.invariant-loop-name
 invariant-loop-name l =
-    l.initial.remarks.items ++ member_remarks l.owner (members_view l.members.entries) ≡ l.remarks.items ++ member_remarks l.owner (members_view l.name-iterator)
+    l.initial.remarks.items ++ member_remarks l.owner (members_view l.members.entries)
+    ≡ l.remarks.items ++ member_remarks l.owner (members_view l.name-iterator)

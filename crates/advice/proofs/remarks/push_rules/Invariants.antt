@@ -7,5 +7,6 @@ use Rattle.advice.proofs.remarks.push_rules.Given as goal
 abbrev pub invariant-loop-rule : goal.invariant-loop-rule
 invariant-loop-rule l = record {
   number : l.number ≡ l.rule-index + 1;
-  added : l.initial.remarks.items ++ rule_remarks 1 (items_view l.rules) ≡ l.remarks.items ++ rule_remarks l.number (items_view (drop l.rule-index l.rules));
+  added : l.initial.remarks.items ++ rule_remarks 1 (items_view l.rules)
+      ≡ l.remarks.items ++ rule_remarks l.number (items_view (drop l.rule-index l.rules));
 }

@@ -49,5 +49,6 @@ returns-clause-fault c =
     let words = map string_bytes c.args.words.now in
     let is_program = c.in-Ok.ensures in
     let parse = c.in-Err-try_get_matches_from.ensures in
-    let told = subst (λ (a : App). HasKind (fault_of a words) c.in-Err-try_get_matches_from.error) is_program (parse.kinds (ap is_simple_and_free is_program)) in
+    let told = subst (λ (a : App). HasKind (fault_of a words) c.in-Err-try_get_matches_from.error) is_program
+    (parse.kinds (ap is_simple_and_free is_program)) in
     still_refused (fault_of program words) _ c.in-Err-try_get_matches_from.error told

@@ -10,4 +10,5 @@ returns c =
     let with_workers = c.in_ok-arg-2.ensures.shape c.arg-3.ensures.local ∙ ap₂ with_rule with_room c.arg-3.ensures.rule in
     let with_seed = c.in_ok-arg-3.ensures.shape c.arg-5.ensures.local ∙ ap₂ with_rule with_workers c.arg-5.ensures.rule in
     let with_steps = c.in_ok-arg-4.ensures.shape c.arg-7.ensures.local ∙ ap₂ with_rule with_seed c.arg-7.ensures.rule in
-    IfOk-weaker c.arg-10.result _ _ (λ r added. added.shape c.arg-9.ensures.local ∙ ap₂ with_rule with_steps c.arg-9.ensures.rule) c.arg-10.ensures
+    IfOk-weaker c.arg-10.result _ _
+    (λ r added. added.shape c.arg-9.ensures.local ∙ ap₂ with_rule with_steps c.arg-9.ensures.rule) c.arg-10.ensures

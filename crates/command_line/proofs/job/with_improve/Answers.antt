@@ -9,4 +9,5 @@ returns c =
     let is_improve = c.in_ok-improve.ensures in
     let plain = plain_fields c.in_ok-improve.improve (ap (λ (a : App). a.top.is_plain) is_improve) in
     IfOk-weaker c.subcommand.result _ _
-    (λ m added. added.shape plain.globals ∙ ap₂ with_subcommand c.in_ok-with_play.ensures (ap (λ (a : App). a.top) is_improve)) c.subcommand.ensures
+    (λ m added. added.shape plain.globals ∙ ap₂ with_subcommand c.in_ok-with_play.ensures (ap (λ (a : App). a.top) is_improve))
+    c.subcommand.ensures

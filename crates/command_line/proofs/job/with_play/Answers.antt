@@ -9,4 +9,5 @@ returns c =
     let is_play = c.in_ok-play.ensures in
     let plain = plain_fields c.in_ok-play.play (ap (λ (a : App). a.top.is_plain) is_play) in
     IfOk-weaker c.subcommand.result _ _
-    (λ m added. added.shape plain.globals ∙ ap₂ with_subcommand c.in_ok-with_start.ensures (ap (λ (a : App). a.top) is_play)) c.subcommand.ensures
+    (λ m added. added.shape plain.globals ∙ ap₂ with_subcommand c.in_ok-with_start.ensures (ap (λ (a : App). a.top) is_play))
+    c.subcommand.ensures

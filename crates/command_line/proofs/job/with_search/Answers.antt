@@ -9,4 +9,5 @@ returns c =
     let is_search = c.in_ok-search.ensures in
     let plain = plain_fields c.in_ok-search.search (ap (λ (a : App). a.top.is_plain) is_search) in
     IfOk-weaker c.subcommand.result _ _
-    (λ m added. added.shape plain.globals ∙ ap₂ with_subcommand c.in_ok-with_improve.ensures (ap (λ (a : App). a.top) is_search)) c.subcommand.ensures
+    (λ m added. added.shape plain.globals ∙ ap₂ with_subcommand c.in_ok-with_improve.ensures (ap (λ (a : App). a.top) is_search))
+    c.subcommand.ensures

@@ -10,12 +10,14 @@ loop-i-init g c = none_added _ _
 
 pub loop-i-preserved : goal.loop-i-preserved
 loop-i-preserved g c =
-    let next = workers_from c.args.reports.now c.loop-i.i c.at-report.result (omega (arith, c.len-i-end.ensures)) (c.at-report.ensures c.at-report.result) in
+    let next = workers_from c.args.reports.now c.loop-i.i c.at-report.result (omega (arith, c.len-i-end.ensures))
+    (c.at-report.ensures c.at-report.result) in
     one_added _ _ _ (rw next at c.loop-i.invariant) c.in_ok-write_worker.ensures.ok
 
 pub returns-in_err-write_worker : goal.returns-in_err-write_worker
 returns-in_err-write_worker g c =
-    let next = workers_from c.args.reports.now c.loop-i.i c.at-report.result (omega (arith, c.len-i-end.ensures)) (c.at-report.ensures c.at-report.result) in
+    let next = workers_from c.args.reports.now c.loop-i.i c.at-report.result (omega (arith, c.len-i-end.ensures))
+    (c.at-report.ensures c.at-report.result) in
     Stops-writes c.from_residual.ensures.0 (one_stopped _ _ _ (rw next at c.loop-i.invariant) c.in_err-write_worker.ensures.err)
 
 pub returns : goal.returns

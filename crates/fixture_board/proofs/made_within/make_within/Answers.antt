@@ -1,8 +1,9 @@
-use Rattle.std.proofs.Common.{refl, sym, ◌∙◌, ap, arith}
+use Rattle.std.proofs.Common.{sym, ◌∙◌, ap, arith}
 use Rattle.moves.specs.Exchanges.{exchanged_by}
+use Rattle.fixture_board.specs.Costs.{score_of}
 use Rattle.fixture_board.specs.declared.cost.Cost.{Cost}
 use Rattle.fixture_board.proofs.Scores.{cost_travel}
-use Rattle.fixture_board.proofs.Shares.{rest_scores, score_after, travel_scores, whole_after}
+use Rattle.fixture_board.proofs.Shares.{least_scores, score_after, travel_scores, told_whole}
 use Rattle.fixture_board.proofs.made_within.make_within.Goals as goal
 
 pub travel_after-travel-requires-clause-known : goal.travel_after-travel-requires-clause-known
@@ -21,22 +22,57 @@ pub score-requires : goal.score-requires
 score-requires c =
     omega (
       arith,
-      rest_scores _ _ c.args.exchange.now c.of-scope.result _ c.teams.ensures.limits c.requires.same_size c.of-scope.ensures.scope
-          c.of-scope.ensures.exchange c.rest_of-rest.ensures,
-      score_after c.args.league.now c.args.schedule.now _ c.args.exchange.now c.teams.ensures.limits c.requires.same_size refl _ refl,
+      least_scores c.args.league.now (exchanged_by c.args.schedule.now c.args.exchange.now) c.runs_of-runs.result.after
+          (omega (arith, c.runs_of-runs.ensures.balance, c.runs_of-runs.ensures.within)),
+      c.travel_after-travel.ensures,
+      score_after c.args.league.now c.args.schedule.now c.args.exchange.now c.teams.ensures.limits c.requires.same_size,
     )
 
 pub returns-then-score-most-clause-value : goal.returns-then-score-most-clause-value
 returns-then-score-most-clause-value c =
     omega (
       arith,
-      rest_scores _ _ c.args.exchange.now c.of-scope.result _ c.teams.ensures.limits c.requires.same_size c.of-scope.ensures.scope
-          c.of-scope.ensures.exchange c.rest_of-rest.ensures,
+      least_scores c.args.league.now (exchanged_by c.args.schedule.now c.args.exchange.now) c.runs_of-runs.result.after
+          (omega (arith, c.runs_of-runs.ensures.balance, c.runs_of-runs.ensures.within)),
+      c.travel_after-travel.ensures,
       c.score.ensures,
       c.if-score-most.true,
     )
 
-pub whole_within-cost-requires-clause-whole : goal.whole_within-cost-requires-clause-whole
-whole_within-cost-requires-clause-whole c =
-    whole_after _ _ _ c.of-scope.result _ c.teams.ensures.limits c.requires.same_size c.of-scope.ensures.scope c.rest_of-rest.ensures
-    (c.make.ensures.made ∙ ap (exchanged_by c.args.schedule.now) (sym c.of-scope.ensures.exchange))
+pub score-requires-2 : goal.score-requires-2
+score-requires-2 c =
+    omega (
+      arith,
+      ap (score_of c.args.league.now)
+          (told_whole c.args.league.now c.args.schedule.now c.args.exchange.now c.told_cost-told.result c.told_cost-told.ensures
+          (omega (arith, c.rule_count.ensures.value, c.if-rule_count-gt0.false)) (sym c.phased.ensures ∙ c.if-phased.false)),
+      score_after c.args.league.now c.args.schedule.now c.args.exchange.now c.teams.ensures.limits c.requires.same_size,
+    )
+
+pub returns-then-score-most-2-clause-value : goal.returns-then-score-most-2-clause-value
+returns-then-score-most-2-clause-value c =
+    omega (
+      arith,
+      ap (score_of c.args.league.now)
+          (told_whole c.args.league.now c.args.schedule.now c.args.exchange.now c.told_cost-told.result c.told_cost-told.ensures
+          (omega (arith, c.rule_count.ensures.value, c.if-rule_count-gt0.false)) (sym c.phased.ensures ∙ c.if-phased.false)),
+      c.score-2.ensures,
+      c.if-score-most-2.true,
+    )
+
+pub returns-clause-value : goal.returns-clause-value
+returns-clause-value c = (
+  told_whole c.args.league.now c.args.schedule.now c.args.exchange.now c.told_cost-told.result c.told_cost-told.ensures
+      (omega (arith, c.rule_count.ensures.value, c.if-rule_count-gt0.false)) (sym c.phased.ensures ∙ c.if-phased.false),
+  omega (arith, c.score-2.ensures, c.if-score-most-2.false),
+)
+
+pub returns-clause-small : goal.returns-clause-small
+returns-clause-small c =
+    omega (
+      arith,
+      ap (score_of c.args.league.now)
+          (told_whole c.args.league.now c.args.schedule.now c.args.exchange.now c.told_cost-told.result c.told_cost-told.ensures
+          (omega (arith, c.rule_count.ensures.value, c.if-rule_count-gt0.false)) (sym c.phased.ensures ∙ c.if-phased.false)),
+      score_after c.args.league.now c.args.schedule.now c.args.exchange.now c.teams.ensures.limits c.requires.same_size,
+    )

@@ -1,6 +1,4 @@
-use Rattle.std.proofs.Common.{◌≡◌, Option, None, sym, ◌∙◌, ap, take}
-use Rattle.fixture_board.specs.declared.cost.Best.{Best}
-use Rattle.fixture_board.specs.History.{best_of}
+use Rattle.std.proofs.Common.{sym, ◌∙◌, ap, take}
 use Rattle.improvement.proofs.Rewinds.{rewound_best, rewound_none}
 use Rattle.improvement.proofs.lead.final_version.Goals as goal
 

@@ -1,6 +1,6 @@
 use Rattle.std.proofs.Common.{append-nil}
 use Rattle.streams.proofs.Pieces.{Adds-stops, Adds-then, Adds-writes, Stops-more, Stops-writes}
-use Rattle.improvement.specs.PhaseText.{least_words, phase_text, phase_words, solution_text}
+use Rattle.improvement.specs.PhaseText.{least_words, phase_text, solution_text}
 use Rattle.improvement.specs.Runs.{least_in}
 use Rattle.improvement.proofs.phase_text.write_phase.Goals as goal
 

@@ -6,7 +6,8 @@ use Rattle.league.proofs.checks.check.Goals as goal
 
 pub returns-clause-table : goal.returns-clause-table
 returns-clause-table c =
-    IsTable-from_tests _ _ (sym c.if-not-is_team_count.ensures) (sym c.if-not-is_square.ensures) (sym c.if-not-is_in_range.ensures) (sym c.if-not-has_zero_diagonal.ensures) (sym c.if-not-is_symmetric.ensures)
+    IsTable-from_tests _ _ (sym c.if-not-is_team_count.ensures) (sym c.if-not-is_square.ensures) (sym c.if-not-is_in_range.ensures)
+    (sym c.if-not-has_zero_diagonal.ensures) (sym c.if-not-is_symmetric.ensures)
 
 pub returns-clause-value : goal.returns-clause-value
 unfolding checked

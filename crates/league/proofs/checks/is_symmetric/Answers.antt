@@ -1,6 +1,6 @@
 use Rattle.std.proofs.Common.{sym}
 use Rattle.league.specs.Checks.{is_symmetric}
-use Rattle.league.proofs.Sums.{all_below_fails}
+use Rattle.sets.proofs.ForCallers.{all_below_fails}
 use Rattle.league.proofs.checks.is_symmetric.Goals as goal
 
 pub returns-then-not-is_mirrored_at : goal.returns-then-not-is_mirrored_at

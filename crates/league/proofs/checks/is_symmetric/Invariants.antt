@@ -1,7 +1,7 @@
 -- The rows above row a pass.
 use Rattle.std.proofs.Common.{◌≡◌, true}
 use Rattle.league.specs.Checks.{is_mirrored_at}
-use Rattle.league.specs.Sums.{all_below}
+use Rattle.sets.specs.Sums.{all_below}
 use Rattle.league.specs.Views.{rows}
 use Rattle.league.proofs.checks.is_symmetric.Given as goal
 

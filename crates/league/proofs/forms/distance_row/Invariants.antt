@@ -7,4 +7,5 @@ use Rattle.league.proofs.forms.distance_row.Given as goal
 
 abbrev pub invariant-loop-item : goal.invariant-loop-item
 invariant-loop-item l =
-    with_front l.row.items (all_items whole_number (items_view (drop l.item-index l.item-items))) ≡ all_items whole_number (items_view l.item-items)
+    with_front l.row.items (all_items whole_number (items_view (drop l.item-index l.item-items)))
+    ≡ all_items whole_number (items_view l.item-items)

@@ -9,4 +9,5 @@ use Rattle.league.proofs.forms.distance_rows.Given as goal
 
 abbrev pub invariant-loop-item : goal.invariant-loop-item
 invariant-loop-item l =
-    with_front (rows l.table.items) (all_items distance_row (items_view (drop l.item-index l.item-items))) ≡ all_items distance_row (items_view l.item-items)
+    with_front (rows l.table.items) (all_items distance_row (items_view (drop l.item-index l.item-items)))
+    ≡ all_items distance_row (items_view l.item-items)

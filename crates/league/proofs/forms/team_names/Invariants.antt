@@ -10,6 +10,7 @@ use Rattle.league.proofs.forms.team_names.Given as goal
 
 abbrev pub invariant-loop-item : goal.invariant-loop-item
 invariant-loop-item l = record {
-  read : with_front (texts l.names.items) (all_items team_name (items_view (drop l.item-index l.item-items))) ≡ all_items team_name (items_view l.item-items);
+  read : with_front (texts l.names.items) (all_items team_name (items_view (drop l.item-index l.item-items)))
+      ≡ all_items team_name (items_view l.item-items);
   fit : list_all is_team_name (texts l.names.items) ≡ true;
 }

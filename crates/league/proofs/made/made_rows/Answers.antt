@@ -6,4 +6,5 @@ use Rattle.league.proofs.made.made_rows.Goals as goal
 
 pub loop-a-preserved : goal.loop-a-preserved
 loop-a-preserved c =
-    rw (map-range_with_len_more (made_row c.args.layout c.args.n) 0 c.loop-a.a c.loop-a.a (zero-add c.loop-a.a)) (grind (arith, common_steps))
+    rw (map-range_with_len_more (made_row c.args.layout c.args.n) 0 c.loop-a.a c.loop-a.a (zero-add c.loop-a.a))
+    (grind (arith, common_steps))

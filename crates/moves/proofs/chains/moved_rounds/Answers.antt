@@ -5,9 +5,9 @@ use Rattle.league.specs.Sets.{has, with_number}
 use Rattle.league.proofs.ForCallers.{with_number-grows}
 use Rattle.fixtures.specs.Closed.{IsLeastClosed, shares_opponent}
 use Rattle.fixtures.proofs.ForCallers.{member_least_closed, shares_in_range, are_apart_never}
-use Rattle.moves.proofs.Added.{with_added}
-use Rattle.moves.proofs.Checked.{IsPartTeams, part_teams-checked}
-use Rattle.moves.proofs.RoundChain.{Follows-cell, IsRoundChain-start, IsLeastClosed-chain, IsRoundChain-next, next-false}
+use Rattle.moves.proofs.chain.Added.{with_added}
+use Rattle.moves.proofs.move_laws.Checked.{IsPartTeams, part_teams-checked}
+use Rattle.moves.proofs.chain.RoundChain.{Follows-cell, IsRoundChain-start, IsLeastClosed-chain, IsRoundChain-next, next-false}
 use Rattle.moves.proofs.chains.moved_rounds.Goals as goal
 
 pub loop-found-init : goal.loop-found-init

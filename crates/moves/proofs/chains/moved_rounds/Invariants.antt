@@ -1,8 +1,8 @@
 use Rattle.std.proofs.Common.{◌≡◌, ◌-◌, ◌^◌, false}
 use Rattle.league.specs.Limits.{max_rounds}
 use Rattle.league.specs.Sets.{has, IsBelow}
-use Rattle.moves.proofs.Added.{with_added}
-use Rattle.moves.proofs.RoundChain.{IsRoundChain}
+use Rattle.moves.proofs.chain.Added.{with_added}
+use Rattle.moves.proofs.chain.RoundChain.{IsRoundChain}
 use Rattle.moves.proofs.chains.moved_rounds.Given as goal
 
 abbrev pub invariant-loop-found : goal.invariant-loop-found

@@ -4,8 +4,8 @@ use Rattle.league.specs.Sets.{has, with_number}
 use Rattle.league.proofs.ForCallers.{le-with_number, with_number-grows}
 use Rattle.fixtures.specs.Closed.{IsLeastClosed, plays_in}
 use Rattle.fixtures.proofs.ForCallers.{member_least_closed, meets_cell, plays_in_below}
-use Rattle.moves.proofs.Added.{Adds, with_added}
-use Rattle.moves.proofs.TeamChain.{IsTeamChain-start, IsLeastClosed-chain, IsTeamChain-next, middle-false}
+use Rattle.moves.proofs.chain.Added.{Adds, with_added}
+use Rattle.moves.proofs.chain.TeamChain.{IsTeamChain-start, IsLeastClosed-chain, IsTeamChain-next, middle-false}
 use Rattle.moves.proofs.chains.moved_teams.Goals as goal
 
 pub loop-team-init : goal.loop-team-init

@@ -1,8 +1,8 @@
 use Rattle.std.proofs.Common.{◌-◌, ◌^◌}
 use Rattle.league.specs.Limits.{max_teams}
 use Rattle.league.specs.Sets.{has, IsBelow}
-use Rattle.moves.proofs.Added.{with_added}
-use Rattle.moves.proofs.TeamChain.{IsTeamChain}
+use Rattle.moves.proofs.chain.Added.{with_added}
+use Rattle.moves.proofs.chain.TeamChain.{IsTeamChain}
 use Rattle.moves.proofs.chains.moved_teams.Given as goal
 
 abbrev pub invariant-loop-team : goal.invariant-loop-team

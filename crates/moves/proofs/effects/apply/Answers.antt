@@ -1,5 +1,5 @@
 use Rattle.std.proofs.Common.{sym, ◌∙◌}
-use Rattle.moves.proofs.EachMove.{TellsTouched, tells_touched, differs_by}
+use Rattle.moves.proofs.move_laws.EachMove.{TellsTouched, tells_touched, differs_by}
 use Rattle.moves.proofs.effects.apply.Goals as goal
 
 tells : (c : goal.After-make) → TellsTouched c.args.schedule.now c.args.mv c.touched_by-touched.result

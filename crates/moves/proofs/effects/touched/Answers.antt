@@ -1,4 +1,4 @@
-use Rattle.moves.proofs.EachMove.{TellsTouched, tells_touched}
+use Rattle.moves.proofs.move_laws.EachMove.{TellsTouched, tells_touched}
 use Rattle.moves.proofs.effects.touched.Goals as goal
 
 tells : (c : goal.After-touched_by) → TellsTouched c.args.schedule.now c.args.mv c.touched_by.result

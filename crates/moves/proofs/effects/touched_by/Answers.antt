@@ -2,8 +2,8 @@ use Rattle.std.proofs.Common.{sym, ◌∙◌, ap, subst}
 use Rattle.league.specs.Sets.{has}
 use Rattle.moves.specs.declared.exchanges.Exchange.{Exchange}
 use Rattle.moves.specs.Exchanges.{Fits, IsOfTeams, touched_by}
-use Rattle.moves.proofs.EachExchange.{stays_fitting}
-use Rattle.moves.proofs.TouchedTeams.{touched-by_first}
+use Rattle.moves.proofs.exchange_laws.EachExchange.{stays_fitting}
+use Rattle.moves.proofs.exchange_laws.TouchedTeams.{touched-by_first}
 use Rattle.moves.proofs.effects.touched_by.Goals as goal
 
 pub returns-in-Teams-clause-teams : goal.returns-in-Teams-clause-teams

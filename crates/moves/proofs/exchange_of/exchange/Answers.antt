@@ -1,5 +1,5 @@
 use Rattle.std.proofs.Common.{rules}
-use Rattle.moves.proofs.MovesAsExchanges.{part_rounds-set, part_teams-set, is_exchange_of}
+use Rattle.moves.proofs.move_laws.MovesAsExchanges.{part_rounds-set, part_teams-set, is_exchange_of}
 use Rattle.moves.proofs.exchange_of.exchange.Goals as goal
 
 pub returns-in-Homes-clause-is_move : goal.returns-in-Homes-clause-is_move

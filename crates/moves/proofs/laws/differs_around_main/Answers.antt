@@ -1,4 +1,4 @@
-use Rattle.moves.proofs.Around.{each-around}
+use Rattle.moves.proofs.exchange_laws.Around.{each-around}
 use Rattle.moves.proofs.laws.differs_around_main.Goals as goal
 
 pub returns : goal.returns

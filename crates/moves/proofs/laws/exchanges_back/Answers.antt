@@ -1,4 +1,4 @@
-use Rattle.moves.proofs.EachExchange.{each-undone}
+use Rattle.moves.proofs.exchange_laws.EachExchange.{each-undone}
 use Rattle.moves.proofs.laws.exchanges_back.Goals as goal
 
 pub returns : goal.returns

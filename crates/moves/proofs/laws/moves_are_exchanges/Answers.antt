@@ -1,4 +1,4 @@
-use Rattle.moves.proofs.MovesAsExchanges.{each-exchange}
+use Rattle.moves.proofs.move_laws.MovesAsExchanges.{each-exchange}
 use Rattle.moves.proofs.laws.moves_are_exchanges.Goals as goal
 
 pub returns : goal.returns

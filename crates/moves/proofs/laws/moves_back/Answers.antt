@@ -1,4 +1,4 @@
-use Rattle.moves.proofs.EachMove.{each-its_own_inverse}
+use Rattle.moves.proofs.move_laws.EachMove.{each-its_own_inverse}
 use Rattle.moves.proofs.laws.moves_back.Goals as goal
 
 pub returns : goal.returns

@@ -1,4 +1,4 @@
-use Rattle.moves.proofs.EachMove.{each-double_round_robin}
+use Rattle.moves.proofs.move_laws.EachMove.{each-double_round_robin}
 use Rattle.moves.proofs.laws.stays_double_round_robin.Goals as goal
 
 pub returns : goal.returns

@@ -21,11 +21,13 @@ same_job : (named : Option Job) (a b : Job) → named ≡ Some a → named ≡ S
 same_job named a b is_a is_b = cc
 
 -- no memory for a job, before anything was read or written
-module _ {R W : Type 0} (left : R → Option (List ℕ)) (pulls : R → Tally) (held : W → Option (List ℕ)) (pushes : W → Tally) (source : R) (sink : W) where
+module _ {R W : Type 0} (left : R → Option (List ℕ)) (pulls : R → Tally) (held : W → Option (List ℕ)) (pushes : W → Tally) (source : R)
+    (sink : W) where
   nothing_done : (job : Job) → EndsJob left pulls held pushes job None source source sink sink (Err Memory)
   nothing_done Start = record { ending = refl; failed_read = λ h. absurd (omega (arith, h)); reads = omega arith }
   nothing_done (Play room) = record { ending = refl; failed_read = λ h. absurd (omega (arith, h)); reads = omega arith }
-  nothing_done (Improve workers seed effort) = record { ending = inl refl; failed_read = λ h. absurd (omega (arith, h)); reads = omega arith }
+  nothing_done (Improve workers seed effort) =
+      record { ending = inl refl; failed_read = λ h. absurd (omega (arith, h)); reads = omega arith }
   nothing_done (Find room plan) = record { ending = refl; failed_read = λ h. absurd (omega (arith, h)); reads = omega arith }
   nothing_done (Report format) = record { ending = refl; failed_read = λ h. absurd (omega (arith, h)); reads = omega arith }
 
@@ -40,7 +42,9 @@ returns-in-Err-clause-done g c = λ job none found. record {
 pub returns-clause-done : goal.returns-clause-done
 returns-clause-done g c = λ job none found.
     let same = same_job _ c.in-Ok.job job c.in-Ok.ensures.job found in
-    let IsEnd : Job → Type 0 = λ j. EndsJob g.R.Source.left g.R.Source.tally g.W.Sink.held g.W.Sink.tally j (told_in c.perform-outcome.result) c.args.source c.perform-outcome.ensures.ends.0 c.args.sink.now c.perform-outcome.new.sink (without_value c.perform-outcome.result) in
+    let IsEnd : Job → Type 0 = λ j. EndsJob g.R.Source.left g.R.Source.tally g.W.Sink.held g.W.Sink.tally j
+    (told_in c.perform-outcome.result) c.args.source c.perform-outcome.ensures.ends.0 c.args.sink.now c.perform-outcome.new.sink
+    (without_value c.perform-outcome.result) in
     record {
       outcome = c.perform-outcome.result;
       source_after = c.perform-outcome.ensures.ends.0;

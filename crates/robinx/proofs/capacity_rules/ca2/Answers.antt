@@ -6,8 +6,8 @@ use Rattle.robinx.proofs.capacity_rules.ca2.Goals as goal
 pub loop-team-init : goal.loop-team-init
 loop-team-init c = sum_without_none _ _ _ _ _ (omega arith) c.into_iter-team-iterator.ensures.into_iter_gives
 
-pub games_of_team-requires : goal.games_of_team-requires
-games_of_team-requires c = lowest_below _ _ _ _ c.loop-team.invariant.below c.in-Some.ensures.steps
+pub games_of_team-requires-clause-team : goal.games_of_team-requires-clause-team
+games_of_team-requires-clause-team c = lowest_below _ _ _ _ c.loop-team.invariant.below c.in-Some.ensures.steps
 
 pub loop-team-preserved : goal.loop-team-preserved
 loop-team-preserved c = sum_without_more _ _ _ _ _ _ _ _ _ c.loop-team.invariant c.in-Some.ensures.steps (rw c.games_of_team.ensures.value at c.over-total.ensures.value) (omega arith)

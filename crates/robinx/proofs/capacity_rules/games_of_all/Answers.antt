@@ -7,8 +7,8 @@ use Rattle.robinx.proofs.capacity_rules.games_of_all.Goals as goal
 pub loop-team-init : goal.loop-team-init
 loop-team-init c = sum_without_none _ _ _ _ _ (omega arith) c.into_iter-team-iterator.ensures.into_iter_gives
 
-pub games_of_team-count-requires : goal.games_of_team-count-requires
-games_of_team-count-requires c = lowest_below _ _ _ _ c.loop-team.invariant.below c.in-Some.ensures.steps
+pub games_of_team-count-requires-clause-team : goal.games_of_team-count-requires-clause-team
+games_of_team-count-requires-clause-team c = lowest_below _ _ _ _ c.loop-team.invariant.below c.in-Some.ensures.steps
 
 pub loop-team-preserved : goal.loop-team-preserved
 loop-team-preserved c = sum_without_more _ _ _ _ _ _ _ _ _ c.loop-team.invariant c.in-Some.ensures.steps c.games_of_team-count.ensures.value c.games_of_team-count.ensures.most

@@ -1,5 +1,7 @@
-use Rattle.robinx.proofs.GapWalk.{IsGapWalk}
+use Rattle.std.proofs.Common.{◌≡◌}
+use Rattle.robinx.specs.Deviations.{largest_below}
+use Rattle.robinx.specs.Walked.{apart_within}
 use Rattle.robinx.proofs.fairness_rules.worst_apart.Given as goal
 
 abbrev pub invariant-loop-round : goal.invariant-loop-round
-invariant-loop-round l = IsGapWalk l.round-iterator l.first l.second l.slots l.most l.firsts l.seconds l.worst
+invariant-loop-round l = l.worst ≡ largest_below l.round (apart_within l.first l.second l.limits)

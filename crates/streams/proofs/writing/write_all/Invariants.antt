@@ -11,8 +11,10 @@ invariant-loop-rest g l = record {
   still : l.interrupted ≤ 1000 * length l.rest;
   in_a_row : l.interrupted ≤ (g.W.Sink.tally l.sink).again_in_a_row;
   interruptions : RisesBy l.interrupted (g.W.Sink.tally l.initial.sink).again (g.W.Sink.tally l.sink).again;
-  calls : (g.W.Sink.tally l.sink).calls + 1000 * length l.rest ≤ (g.W.Sink.tally l.initial.sink).calls + 1000 * length l.fn.text + l.interrupted;
-  none_failed : (g.W.Sink.tally l.sink).failed + (g.W.Sink.tally l.sink).empty ≡ (g.W.Sink.tally l.initial.sink).failed + (g.W.Sink.tally l.initial.sink).empty;
+  calls : (g.W.Sink.tally l.sink).calls + 1000 * length l.rest ≤
+      (g.W.Sink.tally l.initial.sink).calls + 1000 * length l.fn.text + l.interrupted;
+  none_failed : (g.W.Sink.tally l.sink).failed + (g.W.Sink.tally l.sink).empty
+      ≡ (g.W.Sink.tally l.initial.sink).failed + (g.W.Sink.tally l.initial.sink).empty;
 }
 
 abbrev pub decreases-loop-rest : goal.decreases-loop-rest

@@ -1,10 +1,11 @@
-use Rattle.std.proofs.Common.{◌∙◌}
+use Rattle.std.proofs.Common.{sym, ◌∙◌}
 use Rattle.tours.proofs.RunStarts.{run_from}
 use Rattle.tours.proofs.runs.run_starts.Goals as goal
 
-pub returns-clause-members : goal.returns-clause-members
-returns-clause-members c = λ first.
-    c.starts_within.ensures.members first ∙
-    run_from c.args.schedule.now c.args.team c.args.length c.rounds.result c.home_rounds-home.result
-    c.like_next_below-like_next.result c.requires.least c.rounds.ensures.number
-    c.home_rounds-home.ensures.members c.like_next_below-like_next.ensures.members first
+pub returns : goal.returns
+returns c = record {
+  members = λ g t season homes first.
+      c.starts_within.ensures.members first ∙
+      run_from g t c.args.length c.args.rounds c.args.home c.like_next_below-like_next.result c.requires.least (sym season) homes
+      c.like_next_below-like_next.ensures.members first;
+}

@@ -7,12 +7,15 @@ use Rattle.commands.proofs.progress.Line.clear.Goals as goal
 pub returns-in_err-write_clear-clause-front : goal.returns-in_err-write_clear-clause-front
 returns-in_err-write_clear-clause-front g c =
     let stands : c.args.self.now.shown ≡ true = search rules in
-    rw stands (front_at g.W.Sink.held _ _ _ _ _ (Stops-delivers c.new-out.ensures c.from_residual.ensures.0 c.in_err-write_clear.ensures.err).prefix (grind arith))
+    rw stands (front_at g.W.Sink.held _ _ _ _ _
+    (Stops-delivers c.new-out.ensures c.from_residual.ensures.0 c.in_err-write_clear.ensures.err).prefix (grind arith))
 
 pub returns-clause-front : goal.returns-clause-front
 returns-clause-front g c =
     let stands : c.args.self.now.shown ≡ true = search rules in
-    rw stands (front_at g.W.Sink.held _ _ _ _ _ (Adds-delivers c.new-out.ensures c.in_ok-write_clear.ensures.ok c.flush.ensures.writes c.flush.ensures.waiting).prefix (grind arith))
+    rw stands (front_at g.W.Sink.held _ _ _ _ _
+    (Adds-delivers c.new-out.ensures c.in_ok-write_clear.ensures.ok c.flush.ensures.writes c.flush.ensures.waiting).prefix
+    (grind arith))
 
 pub returns-then-not-self-clause-ok : goal.returns-then-not-self-clause-ok
 returns-then-not-self-clause-ok g c = search rules

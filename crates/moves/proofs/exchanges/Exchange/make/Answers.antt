@@ -1,7 +1,7 @@
 use Rattle.std.proofs.Common.{sym, ◌∙◌, ap, subst}
 use Rattle.league.specs.Sets.{has}
 use Rattle.moves.specs.Exchanges.{Fits, IsOfRounds, IsOfTeams, exchanged_by}
-use Rattle.moves.proofs.EachExchange.{made-again, made-back}
+use Rattle.moves.proofs.exchange_laws.EachExchange.{made-again, made-back}
 use Rattle.moves.proofs.exchanges.Exchange.make.Goals as goal
 
 pub exchange_rounds-requires-clause-closed : goal.exchange_rounds-requires-clause-closed

@@ -5,7 +5,7 @@ use Rattle.shared_board.proofs.shared.Shared.try_take.Goals as goal
 
 pub compare_exchange-requires : goal.compare_exchange-requires
 compare_exchange-requires c =
-    let same = c.loop.invariant.1 in (
+    let same = c.loop-tried.invariant.1 in (
       search rules,
       search rules,
       take_keeps _ _ _ (ap (λ (m : Place). m.0.live) same ∙ c.requires.idle.0)

@@ -13,7 +13,8 @@ returns-clause-writes g c =
     let kept : c.try_extend_from_slice-2.new.self ≡ c.flush.new.self.waiting = grind arith in
     let none = (c.in_ok-flush.ensures).waiting in
     let e = c.write_all.ensures in
-    rw kept (Adds-writes (rw same at (c.in_ok-flush.ensures).writes.ok) (Writes-passed _ _ _ _ refl none none e.ok e.prefix e.cause e.counts))
+    rw kept (Adds-writes (rw same at (c.in_ok-flush.ensures).writes.ok)
+    (Writes-passed _ _ _ _ refl none none e.ok e.prefix e.cause e.counts))
 
 pub returns-then-is_ok-clause-waits : goal.returns-then-is_ok-clause-waits
 returns-then-is_ok-clause-waits g c = search rules

@@ -1,0 +1,46 @@
+-- The schedules that an improvement writes.
+use Rattle.std.specs.Prelude.{ℕ, nat_lt, if◌then◌else◌, Bool, true, List, [], ◌∷◌, ◌++◌, Option, Some, None, option_map}
+use Rattle.std.specs.List.{cons_option}
+use Rattle.league.specs.League.{LeagueData}
+use Rattle.fixtures.specs.Games.{Games}
+use Rattle.fixture_board.specs.declared.change.Entry.{Entry}
+use Rattle.fixture_board.specs.History.{best_prefix}
+use Rattle.phases.specs.Laws.{least_told}
+use Rattle.texts.specs.SearchText.{games_at_best}
+use Rattle.improvement.specs.Runs.{PhaseRun, least_in, outcomes_of}
+
+-- a schedule that is written, and the total behind it
+pub record Solution : Type 0 where
+  pub games : Games
+  pub total : ℕ
+
+-- the best schedule of a history, with this total
+abbrev pub best_with : LeagueData → List Entry → ℕ → Solution
+best_with league h total = record { games = games_at_best league h (best_prefix league h); total = total }
+
+-- the best schedule of a history, if a version of it is feasible
+abbrev pub best_solution : LeagueData → List Entry → Option Solution
+best_solution league h = option_map (best_with league h) (least_in league h)
+
+-- whether the total is below the least before, or is the first
+abbrev pub is_below : ℕ → Option ℕ → Bool
+is_below total None = true
+is_below total (Some least) = nat_lt total least
+
+-- a solution whose total is below the least before
+abbrev pub below : Option ℕ → Option Solution → Option Solution
+below least None = None
+below least (Some s) = if is_below s.total least then Some s else None
+
+-- what is written of a run after those before it: its best schedule, where its total is below all before
+abbrev pub solution_after : LeagueData → List PhaseRun → PhaseRun → Option Solution
+solution_after league before run = below (least_told (outcomes_of league before)) (best_solution league run.history)
+
+abbrev pub solutions_from : LeagueData → List PhaseRun → List PhaseRun → List Solution
+solutions_from league before [] = []
+solutions_from league before (run ∷ runs) =
+    cons_option (solution_after league before run) (solutions_from league (before ++ run ∷ []) runs)
+
+-- what is written of these runs, in its order
+unfoldable pub solutions_of : LeagueData → List PhaseRun → List Solution
+solutions_of league runs = solutions_from league [] runs

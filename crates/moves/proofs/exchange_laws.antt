@@ -1,0 +1,7 @@
+-- What an exchange changes, and what it leaves.
+pub mod Around
+pub mod TouchedTeams
+pub mod DiffersThere
+pub mod KeptMeetings
+pub mod ChangedGames
+pub mod EachExchange

@@ -1,0 +1,94 @@
+-- A set of slots by its halves: the numbers below 64, and those from 64 on, each 64 further down.
+use Rattle.std.proofs.Common.{◌≡◌, ℕ, ◌+◌, ◌-◌, ◌*◌, ◌^◌, ◌<◌, ◌≤◌, ◌&&◌, ◌==◌, not, Bool, bit_and, true, false}
+use Rattle.std.proofs.Common.{refl, sym, ◌∙◌, ap, inl, inr, arith}
+use Rattle.std.proofs.Math.Nat.{mul-lt-mul_of_pos_right}
+use Rattle.std.proofs.lemmas.Bool.{cases_eq, cases_lt, eq-eqb, ne_eqb}
+use Rattle.std.proofs.lemmas.Nat.{pow_pos}
+use Rattle.std.proofs.lemmas.Nat.Bits.{bit_at-zero, bit_at_cat_low, bit_at_cat_high}
+use Rattle.std.specs.Int.{w64, trailing_zeros}
+use Rattle.sets.specs.Sets.{has, IsWithoutLowest}
+use Rattle.sets.proofs.LowestBits.{lowest_taken}
+use Rattle.sets.proofs.WalkedSums.{lowest_below}
+
+-- the lowest number of the low half, with those of the high half above it
+
+has_low : (high low m i : ℕ) → i < m → has (high * 2 ^ m + low) i ≡ has low i
+has_low high low m i lt = ap (λ n. n == 1) (bit_at_cat_low high m low i lt)
+
+has_high : (high low m i : ℕ) → low < 2 ^ m → m ≤ i → has (high * 2 ^ m + low) i ≡ has high (i - m)
+has_high high low m i below from = ap (λ n. n == 1) (bit_at_cat_high high m low i below from)
+
+and_true : (b c : Bool) → c ≡ true → (b && c) ≡ b
+and_true true c is = is
+and_true false c is = refl
+
+lowest_of_low_half : (high low m k rest : ℕ) → low < 2 ^ m → IsWithoutLowest low k rest
+    → IsWithoutLowest (high * 2 ^ m + low) k (high * 2 ^ m + rest)
+lowest_of_low_half high low m k rest below taken =
+    let lt : k < m = lowest_below m low k rest below taken in
+    let fewer : rest < low = taken.fewer in
+    let rest_below : rest < 2 ^ m = omega arith in
+    record {
+      in_set = has_low high low m k lt ∙ taken.in_set;
+      is_lowest = λ i i_lt. has_low high low m i (omega arith) ∙ taken.is_lowest i i_lt;
+      others = λ i. elim (cases_lt i m) [
+        | inl inside ↦
+            has_low high rest m i inside ∙ taken.others i
+            ∙ ap (λ b. b && not (i == k)) (sym (has_low high low m i inside))
+        | inr beyond ↦
+            has_high high rest m i rest_below beyond ∙ sym (has_high high low m i below beyond)
+            ∙ sym (and_true (has (high * 2 ^ m + low) i) (not (i == k)) (ap not (ne_eqb i k (omega arith))))
+      ];
+      fewer = omega arith;
+    }
+
+-- the same set further up
+
+has_moved_below : (set m i : ℕ) → i < m → has (set * 2 ^ m) i ≡ false
+has_moved_below set m i lt =
+    let as_sum : set * 2 ^ m ≡ set * 2 ^ m + 0 = omega arith in
+    ap (λ n. has n i) as_sum ∙ has_low set 0 m i lt ∙ ap (λ n. n == 1) (bit_at-zero i)
+
+has_moved : (set m i : ℕ) → m ≤ i → has (set * 2 ^ m) i ≡ has set (i - m)
+has_moved set m i from =
+    let as_sum : set * 2 ^ m ≡ set * 2 ^ m + 0 = omega arith in
+    ap (λ n. has n i) as_sum ∙ has_high set 0 m i (pow_pos m) from
+
+lowest_moved : (set m k rest : ℕ) → IsWithoutLowest set k rest → IsWithoutLowest (set * 2 ^ m) (m + k) (rest * 2 ^ m)
+lowest_moved set m k rest taken = record {
+  in_set = has_moved set m (m + k) (omega arith) ∙ ap (has set) (omega arith) ∙ taken.in_set;
+  is_lowest = λ i i_lt. elim (cases_lt i m) [
+    | inl inside ↦ has_moved_below set m i inside
+    | inr beyond ↦ has_moved set m i beyond ∙ taken.is_lowest (i - m) (omega arith)
+  ];
+  others = λ i. elim (cases_lt i m) [
+    | inl inside ↦
+        has_moved_below rest m i inside ∙ sym (ap (λ b. b && not (i == m + k)) (has_moved_below set m i inside))
+    | inr beyond ↦
+        has_moved rest m i beyond ∙ taken.others (i - m) ∙ ap (λ b. has set (i - m) && not b) (same_place i beyond)
+        ∙ sym (ap (λ b. b && not (i == m + k)) (has_moved set m i beyond))
+  ];
+  fewer = mul-lt-mul_of_pos_right taken.fewer (pow_pos m);
+}
+  where
+    same_place : (i : ℕ) → m ≤ i → (i - m == k) ≡ (i == m + k)
+    same_place i beyond = elim (cases_eq i (m + k)) [
+      | inl same ↦ eq-eqb (i - m) k (omega arith) ∙ sym (eq-eqb i (m + k) same)
+      | inr other ↦ ne_eqb (i - m) k (λ same. other (omega arith)) ∙ sym (ne_eqb i (m + k) other)
+    ]
+
+-- what a step of the walk does to the set of those left, which is (high * 2 ^ 64 + low) * 2 ^ base
+
+pub earliest_taken : (low high base : ℕ) → 0 < low → low < 2 ^ 64
+    → IsWithoutLowest ((high * 2 ^ 64 + low) * 2 ^ base) (base + trailing_zeros w64 low)
+    ((high * 2 ^ 64 + bit_and low (low - 1)) * 2 ^ base)
+earliest_taken low high base some fits =
+    let k = trailing_zeros w64 low in
+    let rest = bit_and low (low - 1) in
+    lowest_moved (high * 2 ^ 64 + low) base k (high * 2 ^ 64 + rest)
+    (lowest_of_low_half high low 64 k rest fits (lowest_taken w64 low some fits))
+
+-- the high half alone, once the low half has none
+pub upper_half : (low high base : ℕ) → low ≡ 0 → base ≡ 0
+    → (high * 2 ^ 64 + low) * 2 ^ base ≡ (0 * 2 ^ 64 + high) * 2 ^ 64
+upper_half low high base none first = rw (none, first) (omega arith)

@@ -1,0 +1,3 @@
+pub mod Limits
+pub mod Sums
+pub mod Sets

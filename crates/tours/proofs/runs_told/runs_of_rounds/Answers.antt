@@ -1,0 +1,42 @@
+use Rattle.std.proofs.Common.{refl, arith}
+use Rattle.league.specs.Sets.{has}
+use Rattle.league.proofs.ForCallers.{sum_without_none, sum_without_more, sum_without_all, lowest_below}
+use Rattle.tours.proofs.RunsTold.{part_of_runs, rounds_told}
+use Rattle.tours.proofs.runs_told.runs_of_rounds.Goals as goal
+
+pub loop-team-init : goal.loop-team-init
+loop-team-init c = record {
+  before = sum_without_none _ _ _ _ _ (omega (arith, c.into_iter-team-iterator.ensures.into_iter_gives)) refl;
+  after = sum_without_none _ _ _ _ _ (omega (arith, c.into_iter-team-iterator.ensures.into_iter_gives)) refl;
+}
+
+pub turned_runs-runs-requires-clause-team : goal.turned_runs-runs-requires-clause-team
+turned_runs-runs-requires-clause-team c =
+    lowest_below _ _ _ _ c.loop-team.invariant.before.below c.in-Some.ensures.steps
+
+pub loop-team-preserved : goal.loop-team-preserved
+loop-team-preserved c = record {
+  before =
+      sum_without_more _ _ _ _ _ _ _ _ _ c.loop-team.invariant.before c.in-Some.ensures.steps c.turned_runs-runs.ensures.before
+      c.turned_runs-runs.ensures.before_most;
+  after =
+      sum_without_more _ _ _ _ _ _ _ _ _ c.loop-team.invariant.after c.in-Some.ensures.steps c.turned_runs-runs.ensures.after
+      c.turned_runs-runs.ensures.after_most;
+}
+
+pub returns-clause-balance : goal.returns-clause-balance
+returns-clause-balance c =
+    rw (
+      sum_without_all _ _ _ _ _ _ _ c.loop-team.invariant.before c.in-None.ensures.steps.0 (λ t below. refl),
+      sum_without_all _ _ _ _ _ _ _ c.loop-team.invariant.after c.in-None.ensures.steps.0 (λ t below. refl),
+      c.into_iter-team-iterator.ensures.into_iter_gives,
+      c.at_most-at_most.ensures.value,
+    )
+    (rounds_told c.args.schedule.now c.teams_in-teams.ensures.round_robin c.args.k c.args.l
+    (record { home_in = c.requires.k; away_in = c.requires.l; distinct = c.requires.distinct })
+    (has c.args.among) c.requires.closed c.args.league.now.at_most (has c.teams_in-teams.result) c.teams_in-teams.ensures.members)
+
+pub returns-clause-within : goal.returns-clause-within
+returns-clause-within c =
+    rw (sum_without_all _ _ _ _ _ _ _ c.loop-team.invariant.before c.in-None.ensures.steps.0 (λ t below. refl), c.at_most-at_most.ensures.value)
+    (part_of_runs c.args.schedule.now c.args.league.now.at_most _ _)
