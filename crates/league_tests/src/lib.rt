@@ -20,6 +20,6 @@ mod rule_faults;
 #[cfg(test)]
 mod rules;
 #[cfg(test)]
-mod sets;
+mod team_and_slot_sets;
 #[cfg(test)]
 mod values;

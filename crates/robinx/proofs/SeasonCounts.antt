@@ -62,7 +62,7 @@ module _ (g : Games) (rr : IsDoubleRoundRobin g) (t : ℕ) (in_t : t < g.teams) 
       omega (
         arith,
         sum_below_only g.teams t (λ o. if o == t && opponents o then 1 else 0) in_t
-        (λ o below other. ap {B = ℕ} (λ b. if b && opponents o then 1 else 0) (ne_eqb o t other)),
+            (λ o below other. ap {B = ℕ} (λ b. if b && opponents o then 1 else 0) (ne_eqb o t other)),
         ap {B = ℕ} (λ b. if b && opponents t then 1 else 0) (eq-eqb t t refl),
         sum_below_add g.teams (λ o. if opponents o then (if o == t then 0 else 1) else 0) (λ o. if o == t && opponents o then 1 else 0),
         sum_below_same g.teams _ (λ o. if opponents o then 1 else 0) (λ o below. at (opponents o) (o == t)),

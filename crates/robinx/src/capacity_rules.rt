@@ -9,7 +9,9 @@ ghost use Rattle.fixtures.specs.Games.{round_count, IsDoubleRoundRobin};
 ghost use Rattle.robinx.specs.Deviations.{over, games_in_round, games_in_window, over_in_windows, deviation};
 ghost use Rattle.robinx.specs.Parts.{over_in_met_windows, changing_terms};
 
-use crate::counts::{CountedGames, counted_rounds, games_in_round, games_of_team, opponents_of, over};
+use crate::counts::{
+    CountedGames, counted_rounds, games_in_round, games_of_team, opponents_of, over,
+};
 use crate::guests::teams_otherwise;
 use crate::windows::{over_in_row, over_in_windows_of};
 use fixtures::Schedule;

@@ -1,7 +1,7 @@
 //! The teams and the rounds that partial moves take along.
 
 use crate::checks::{check_holds, check_same};
-use crate::sets::{rounds_of, teams_of};
+use crate::number_sets::{rounds_of, teams_of};
 use crate::small_leagues::{Plan, schedule};
 use fixtures::{Schedule, berger};
 use league::TeamSet;

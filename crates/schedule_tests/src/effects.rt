@@ -1,7 +1,7 @@
 //! What moves make of schedules.
 
 use crate::checks::{check_same, check_same_of};
-use crate::sets::teams_of;
+use crate::number_sets::teams_of;
 use crate::sheets::{games, games_in, games_of};
 use crate::small_leagues::{Plan, schedule};
 use fixtures::{Game, Schedule, berger};

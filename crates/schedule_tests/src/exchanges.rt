@@ -4,7 +4,7 @@
 //! `moved_teams` and `moved_rounds` say so of theirs, which is therefore compared with the set that is meant, and passed.
 
 use crate::checks::check_same;
-use crate::sets::{rounds_of, teams_of};
+use crate::number_sets::{rounds_of, teams_of};
 use crate::sheets::{FOUR, check_sheet};
 use crate::small_leagues::{Plan, schedule};
 use fixtures::{Schedule, berger};

@@ -2,7 +2,7 @@
 //! table of four teams.
 
 use crate::checks::{check_same, check_same_of};
-use crate::sets::teams_of;
+use crate::number_sets::teams_of;
 use crate::small_leagues::{Plan, rounds_exchanged, schedule};
 use fixtures::{Schedule, Touched, berger};
 use league::SlotSet;

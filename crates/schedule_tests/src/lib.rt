@@ -25,6 +25,8 @@ mod halves;
 #[cfg(test)]
 mod home_games;
 #[cfg(test)]
+mod number_sets;
+#[cfg(test)]
 mod parts;
 #[cfg(test)]
 mod refusals;
@@ -34,8 +36,6 @@ mod rule_leagues;
 mod rule_parts;
 #[cfg(test)]
 mod rules_reached;
-#[cfg(test)]
-mod sets;
 #[cfg(test)]
 mod sheets;
 #[cfg(test)]

@@ -1,7 +1,7 @@
 //! The starts of leagues, against the Berger tables of FIDE.
 
 use crate::checks::{check_holds, check_same};
-use crate::sets::rounds_of;
+use crate::number_sets::rounds_of;
 use crate::sheets::{FOUR, SIX, check_sheet};
 use crate::small_leagues::{Plan, circle_of_four, schedule};
 use fixtures::{Schedule, berger, start};

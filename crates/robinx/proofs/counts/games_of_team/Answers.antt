@@ -52,13 +52,13 @@ in_and_out c =
     omega (
       arith,
       c.games_with-2.ensures.value ∙
-      counted_among c.args.schedule.now c.args.games.now.side (has c.args.games.now.opponents) (λ r. not (has c.args.slots r)) c.args.team _ _
-      c.rounds_on_side-on_side.ensures.members c.difference-outside.ensures.members,
+          counted_among c.args.schedule.now c.args.games.now.side (has c.args.games.now.opponents) (λ r. not (has c.args.slots r)) c.args.team _ _
+          c.rounds_on_side-on_side.ensures.members c.difference-outside.ensures.members,
       c.games_of_season-season.ensures ∙ ap (season_games c.args.games.now.side c.args.opponents) c.has.ensures ∙
-      games_of_season c.args.schedule.now c.teams.ensures.round_robin c.args.team c.requires.team c.args.games.now.side
-      (has c.args.games.now.opponents) c.args.opponents c.requires.opponents,
+          games_of_season c.args.schedule.now c.teams.ensures.round_robin c.args.team c.requires.team c.args.games.now.side
+          (has c.args.games.now.opponents) c.args.opponents c.requires.opponents,
       counted_in_and_out (round_count c.args.schedule.now.teams) (has c.args.slots)
-      (is_counted c.args.schedule.now c.args.games.now.side (has c.args.games.now.opponents) c.args.team),
+          (is_counted c.args.schedule.now c.args.games.now.side (has c.args.games.now.opponents) c.args.team),
     )
 
 pub overflow_sub-result : goal.overflow_sub-result
@@ -74,7 +74,7 @@ returns-clause-most c =
       arith,
       in_and_out c,
       count_where_le (round_count c.args.schedule.now.teams)
-      (λ r. has c.args.slots r && is_counted c.args.schedule.now c.args.games.now.side (has c.args.games.now.opponents) c.args.team r),
+          (λ r. has c.args.slots r && is_counted c.args.schedule.now c.args.games.now.side (has c.args.games.now.opponents) c.args.team r),
       c.teams.ensures.number,
       c.teams.ensures.most,
     )
