@@ -78,7 +78,7 @@ impl State {
     }
 
     /// Up to which score after its move a proposal is judged by that score. Above a claim for the board's version the claim is
-    /// wrong, whatever the slack. Where nothing is claimed, a score above the one before and the slack is worse.
+    /// wrong, whatever the slack. If there is no such claim, a score above the one before and the slack is worse.
     pub(crate) fn limit_of(&self, proposal: Proposal, before: u64) -> Limit
         ensures above { (after : ℕ) → result.most < after → after < 2 ^ 64 →
             first_of (score_rows (length self.now.history.items) proposal before after) ≡ Some result.above }

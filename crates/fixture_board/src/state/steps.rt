@@ -33,8 +33,8 @@ impl State {
         }
     }
 
-    /// Tries a move. One that would give a pinned game another round is refused before its cost is counted, and mostly one
-    /// whose score would be too high before it is made.
+    /// Tries a move. One that would give a pinned game another round is refused before its cost is counted. One whose score is
+    /// above the limit is told by `make_within`, mostly before it is made.
     fn shift(&mut self, league: &League, proposal: Proposal) -> Result<(), Why>
         requires memory { HasMemory self.old }
         requires kept { IsKept league.now (kept_of self.old) }
