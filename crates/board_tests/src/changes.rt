@@ -93,6 +93,18 @@ fn a_claim_has_to_be_the_score(rt: HostRuntime) -> Result<(), Fail> {
 
 const WRONG_CLAIM: &[Step] = &[
     Do(Ask(Asked::Shift(0, TEAMS, Some(25), 0), No(0, Why::WrongClaim))),
+    Do(Ask(Asked::Shift(0, TEAMS, Some(27), 0), No(0, Why::WrongClaim))),
+    Do(Ask(
+        Asked::Shift(0, ROUNDS, Some(429), 0),
+        No(0, Why::WrongClaim),
+    )),
+    Do(Ask(
+        Asked::Shift(0, ROUNDS, Some(431), 0),
+        No(0, Why::WrongClaim),
+    )),
+    Do(Ask(Asked::Shift(0, ROUNDS, Some(430), 399), No(0, Why::Worse))),
+    See(Cost(30, 0, 0)),
+    See(Round(1, 2, 2)),
     Do(Ask(Asked::Shift(1, TEAMS, Some(26), 0), No(0, Why::Ahead))),
 ];
 

@@ -1,6 +1,6 @@
 //! Why a board refuses: the first reason that holds, in the order of `Why`.
 
-ghost use Rattle.std.specs.Prelude.{◌≡◌, ◌≢◌, ◌<◌, List, length, IfOk};
+ghost use Rattle.std.specs.Prelude.{◌≡◌, ◌≢◌, ℕ, ◌^◌, ◌<◌, List, length, Some, IfOk};
 ghost use Rattle.std.specs.Result.{result_err};
 ghost use Rattle.league.specs.Limits.{max_teams};
 ghost use Rattle.fixtures.specs.declared.game.Game.{Game};
@@ -13,6 +13,13 @@ use crate::reply::Why;
 use crate::state::State;
 use fixtures::{Game, Schedule};
 use moves::{Move, MoveFault, check};
+
+/// A score, and why a proposal is refused whose score after its move is above it.
+#[derive(Clone, Copy)]
+pub(crate) struct Limit {
+    pub(crate) most: u64,
+    pub(crate) above: Why,
+}
 
 impl State {
     /// Refuses what may only be asked for at the board's version where that is another, or where there is no room.
@@ -67,6 +74,25 @@ impl State {
             Err(MoveFault::BadMove) => Err(Why::BadMove),
             Err(MoveFault::Meet) => Err(Why::Meet),
             Ok(()) => Ok(()),
+        }
+    }
+
+    /// Up to which score after its move a proposal is judged by that score. Above a claim for the board's version the claim is
+    /// wrong, whatever the slack. If there is no such claim, a score above the one before and the slack is worse.
+    pub(crate) fn limit_of(&self, proposal: Proposal, before: u64) -> Limit
+        ensures above { (after : ℕ) → result.most < after → after < 2 ^ 64 →
+            first_of (score_rows (length self.now.history.items) proposal before after) ≡ Some result.above }
+        ensures most { first_of (score_rows (length self.now.history.items) proposal before result.most) ≢ Some result.above }
+    {
+        match proposal.claim {
+            Some(claim) if self.version() == proposal.version => Limit {
+                most: claim,
+                above: Why::WrongClaim,
+            },
+            _ => Limit {
+                most: before.saturating_add(proposal.slack),
+                above: Why::Worse,
+            },
         }
     }
 

@@ -2,9 +2,10 @@
 
 use crate::ask::{Ask, Proposal};
 use crate::change::Change;
-use crate::made_within::make_at_cost;
+use crate::made_within::{make_at_cost, make_within};
 use crate::reply::Why;
 use crate::state::State;
+use crate::state::checks::Limit;
 use fixtures::Game;
 use league::League;
 use moves::exchange;
@@ -32,7 +33,8 @@ impl State {
         }
     }
 
-    /// Tries a move. One that would give a pinned game another round is refused before its cost is counted.
+    /// Tries a move. One that would give a pinned game another round is refused before its cost is counted. One whose score is
+    /// above the limit is told by `make_within`, mostly before it is made.
     fn shift(&mut self, league: &League, proposal: Proposal) -> Result<(), Why>
         requires memory { HasMemory self.old }
         requires kept { IsKept league.now (kept_of self.old) }
@@ -46,7 +48,10 @@ impl State {
             return Err(Why::Pinned);
         }
         let before = self.cost.score(league);
-        let cost = make_at_cost(&mut self.schedule, league, &exchange, self.cost);
+        let Limit { most, above } = self.limit_of(proposal, before);
+        let Some(cost) = make_within(&mut self.schedule, league, &exchange, self.cost, most) else {
+            return Err(above);
+        };
         if let Err(why) = self.check_score(proposal, before, cost.score(league)) {
             exchange.make(&mut self.schedule);
             return Err(why);
