@@ -42,7 +42,9 @@ const RULES: &[&str] = &[
 ];
 
 fn made(alloc: Global, (teams, distances, more): (&str, &str, &str)) -> Result<League, Fail> {
-    let text = format!(in alloc; "{{\"format\":2,\"teams\":{teams},\"distances\":{distances}{more}}}")?;
+    let text = format!(in alloc;
+        "{{\"format\":2,\"teams\":{teams},\"distances\":{distances}{more}}}"
+    )?;
     Ok(read_league(alloc, text.as_bytes())?)
 }
 

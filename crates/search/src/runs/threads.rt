@@ -115,7 +115,10 @@ pub(crate) fn launch<R: Threads + Wait + Sync, G: HearingGate + Sync>(
         move |scope| -> (bool, Vec<Handle<G>>)
             requires { CanStart of_boards league.now shared.now jobs handles }
             ensures { AreStarted gate.entry.now phase.search.steps shared.entry.now jobs result.0 result.1 }
-        { start_all(scope, rt, shared, gate, Measure { league, of_boards }, phase, jobs, handles) },
+        {
+            let measure = Measure { league, of_boards };
+            start_all(scope, rt, shared, gate, measure, phase, jobs, handles)
+        },
     )
 }
 
@@ -170,7 +173,10 @@ fn start<'s, E, R: Wait + Sync, G: HearingGate + Sync>(
                 requires fresh { IsJob shared.now job }
                 requires measured { JobMeasured of_boards league.now job }
                 ensures { IsBack (G.heard gate.entry.now) phase.search.steps job.seat result.report result.seat }
-            { work(rt, shared, gate, Measure { league, of_boards }, phase, job) },
+            {
+                let measure = Measure { league, of_boards };
+                work(rt, shared, gate, measure, phase, job)
+            },
         )
         .ok()
 }

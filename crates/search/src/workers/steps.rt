@@ -77,7 +77,11 @@ pub(crate) fn refresh<R: Wait, D: Door>(
     let Measure { league, of_boards } = measure;
     prove_eq!(league.teams(), copy.teams());
     let seen = door.look(rt, copy);
-    let cost = if of_boards { seen.cost } else { cost_of(copy, league) };
+    let cost = if of_boards {
+        seen.cost
+    } else {
+        cost_of(copy, league)
+    };
     Known {
         version: seen.version,
         cost,

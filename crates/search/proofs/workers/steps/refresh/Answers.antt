@@ -1,4 +1,4 @@
-use Rattle.std.proofs.Common.{sym, ap, ◌∙◌, arith}
+use Rattle.std.proofs.Common.{◌∙◌, arith}
 use Rattle.search.proofs.Measures.{told_cost, told_small}
 use Rattle.search.proofs.workers.steps.refresh.Goals as goal
 use Rattle.search.proofs.workers.steps.refresh.Goals.{else-of_boards, then-of_boards}
