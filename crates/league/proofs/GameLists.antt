@@ -2,20 +2,14 @@
 use Rattle.std.proofs.Common.{◌≡◌, ℕ, ◌+◌, ◌*◌, ◌<◌, ◌≤◌, ◌||◌, eqb, List, [], ◌∷◌, ◌++◌, length, map, true, false}
 use Rattle.std.proofs.Common.{refl, ap, ◌∙◌, arith, inl, inr}
 use Rattle.std.specs.List.{list_any, AllByRecursion, IsDistinct}
-use Rattle.std.specs.Cmp.{IsEquivalence}
 use Rattle.std.proofs.lemmas.Bool.{or_cases, eqb-true}
 use Rattle.std.proofs.lemmas.Bool.Decides.{nat_tests}
-use Rattle.std.proofs.lemmas.Cmp.{nat_eq_equiv, and_equiv, on_equiv}
 use Rattle.std.proofs.lemmas.List.{length-map}
 use Rattle.std.proofs.lemmas.Map.Keys.{IsDistinct-push}
 use Rattle.std.proofs.lemmas.Map.Steps.{length-le_from_distinct_below}
 use Rattle.league.specs.declared.rule.Pairing.{Pairing}
-use Rattle.league.specs.Games.{IsGameFor, IsGameList, is_same_game, has_game}
+use Rattle.league.specs.Games.{IsGameFor, IsGameList, is_same_game, is_same_game_equiv, has_game}
 use Rattle.league.specs.Limits.{max_teams, max_games}
-
-is_same_game_equiv : IsEquivalence is_same_game
-is_same_game_equiv =
-    and_equiv (on_equiv (λ (p : Pairing). p.home) nat_eq_equiv) (on_equiv (λ (p : Pairing). p.away) nat_eq_equiv)
 
 -- the search for a game from either side
 has_game-flip : (games : List Pairing) (game : Pairing) → list_any (is_same_game game) games ≡ has_game games game

@@ -1,4 +1,5 @@
 pub mod ForCallers
+mod Equality
 mod GameLists
 mod Items
 mod MadeLeagues

@@ -4,18 +4,15 @@ use Rattle.std.proofs.Common.{drop, Vec, String, string_bytes, Global, refl, sym
 use Rattle.std.proofs.lemmas.List.{get_or-map, get_or-take, get_or-drop, length-take, length-drop, length-map}
 use Rattle.std.proofs.lemmas.List.{get_or_default, drop_all, append-nil}
 use Rattle.std.proofs.lemmas.Nat.{mul-add-lt}
+use Rattle.std.proofs.Math.Seq.{take-add}
 use Rattle.league.specs.Checks.{distance_of, IsTable}
-use Rattle.league.specs.Rows.{cut, table_of}
+use Rattle.league.specs.Rows.{cut, joined, table_of}
 use Rattle.league.specs.Views.{texts, rows, row_items}
 use Rattle.league.proofs.Tables.{HasColumns}
 
 pub get_or-rows : (table : List (Vec ℕ Global)) (a : ℕ) (row : Vec ℕ Global) → a < length table
     → row ≡ get_or table a row → get_or (rows table) a [] ≡ row.items
 get_or-rows table a row lt is = get_or-map row_items table a row [] lt ∙ sym (ap row_items is)
-
-abbrev pub joined : List (List ℕ) → List ℕ
-joined [] = []
-joined (row ∷ table) = row ++ joined table
 
 take_row : (row rest : List ℕ) → take (length row) (row ++ rest) ≡ row
 take_row [] rest = refl
@@ -56,6 +53,22 @@ get_or-cut n (suc count) numbers zero b a_below b_below =
 get_or-cut n (suc count) numbers (suc a) b a_below b_below =
     get_or-cut n count (drop n numbers) a b (omega arith) b_below ∙ get_or-drop n numbers (a * n + b) 0
     ∙ ap (λ i. get_or numbers i 0) (omega arith)
+
+-- the numbers that were cut
+joined-cut : (n count : ℕ) (numbers : List ℕ) → count * n ≤ length numbers → joined (cut n count numbers) ≡ take (count * n) numbers
+unfolding cut
+joined-cut n zero numbers room = let none : 0 ≡ 0 * n = omega arith in ap (λ m. take m numbers) none
+joined-cut n (suc count) numbers room =
+    let more : n + count * n ≡ suc count * n = omega arith in
+    ap (λ rest. take n numbers ++ rest) (joined-cut n count (drop n numbers) (omega (arith, room, length-drop n numbers)))
+    ∙ sym (take-add n (count * n) numbers) ∙ ap (λ m. take m numbers) more
+
+pub joined-table_of : (n : ℕ) (numbers : List ℕ) → HasColumns n (table_of n numbers)
+    → joined (table_of n numbers) ≡ take (n * n) numbers
+joined-table_of n numbers fit = joined-cut n n numbers (length-cut n n numbers fit)
+
+pub numbers_within : (n : ℕ) (numbers : List ℕ) → HasColumns n (table_of n numbers) → n * n ≤ length numbers
+numbers_within n numbers fit = length-cut n n numbers fit
 
 -- where a number of the table lies
 pub place_in_table : (n : ℕ) (numbers : List ℕ) (a b : ℕ) → HasColumns n (table_of n numbers) → a < n → b < n

@@ -1,9 +1,9 @@
 //! A league in memory.
 
-ghost use Rattle.std.specs.Prelude.{◌≡◌, ℕ, ◌<◌, ◌≤◌, ◌%◌, ◌++◌, Some, length, slice_get, slice_index, IfOk, OnOk};
+ghost use Rattle.std.specs.Prelude.{◌≡◌, ◌↔◌, ℕ, ◌<◌, ◌≤◌, ◌%◌, ◌++◌, Some, length, slice_get, slice_index, IfOk, IsTrue, OnOk};
 ghost use Rattle.league.specs.Checks.{IsTable};
 ghost use Rattle.league.specs.Limits.{min_teams, max_teams, max_rounds, max_distance, max_weight, max_rules};
-ghost use Rattle.league.specs.Rows.{table_of};
+ghost use Rattle.league.specs.Rows.{joined, table_of};
 ghost use Rattle.league.specs.Views.{texts, rows};
 
 use crate::rule::Rule;
@@ -11,7 +11,7 @@ use std::alloc::{AllocError, Global};
 use std::marker::Model;
 
 /// What a league says beside its teams, distances and rules.
-#[derive(Clone, Copy, Debug, Drop)]
+#[derive(Clone, Copy, Debug, Drop, PartialEq, Eq)]
 pub(crate) struct Terms {
     pub(crate) at_most: u8,
     pub(crate) hard_weight: u32,
@@ -153,6 +153,24 @@ impl League {
         ensures { result ≡ self.now.phased }
     {
         self.terms.phased
+    }
+
+    /// Whether the two leagues are equal in all that they say.
+    pub fn is_same(&self, other: &League) -> bool
+        ensures { IsTrue result ↔ (self.now ≡ other.now) }
+    {
+        self.terms == other.terms
+            && self.names == other.names
+            && self.numbers() == other.numbers()
+            && self.rules == other.rules
+    }
+
+    // the numbers of the table, row by row
+    fn numbers(&self) -> &[u32]
+        ensures { result.now ≡ joined self.now.distances }
+    {
+        let teams = self.names.len();
+        &self.distances[..teams * teams]
     }
 
     /// An equal league with memory of its own.

@@ -34,14 +34,14 @@ pub enum Weight {
 }
 
 /// A rule on the schedules of a league.
-#[derive(Clone, Debug, Drop)]
+#[derive(Clone, Debug, Drop, PartialEq, Eq)]
 pub struct Rule {
     pub weight: Weight,
     pub body: RuleBody,
 }
 
 /// What a rule asks, by its class. Teams and rounds are numbered from 0; each count is at most 10,000.
-#[derive(Clone, Debug, Drop)]
+#[derive(Clone, Debug, Drop, PartialEq, Eq)]
 pub enum RuleBody {
     /// Each team has at most `max` games of the side, which is not `Any`, in the slots.
     Ca1 {
@@ -135,6 +135,27 @@ impl Clone for GameList {
             games: self.games.clone()?,
         })
     }
+}
+
+/// Equal lists have the same games in the same order.
+impl PartialEq for GameList {
+    ghost use Rattle.std.specs.Cmp.{partial_equiv_from_equiv};
+    ghost use Rattle.std.specs.Cmp.Lexicographic.{pointwise};
+    ghost use Rattle.league.specs.Games.{is_same_game, same_games_equiv};
+
+    ghost eq = { pointwise is_same_game };
+
+    ghost laws = { partial_equiv_from_equiv same_games_equiv };
+
+    fn eq(&self, other: &GameList) -> bool {
+        self.games == other.games
+    }
+}
+
+impl Eq for GameList {
+    ghost use Rattle.league.specs.Games.{same_games_equiv};
+
+    ghost laws = { same_games_equiv };
 }
 
 impl GameList {

@@ -4,6 +4,8 @@
 #[cfg(test)]
 mod checks;
 #[cfg(test)]
+mod equality;
+#[cfg(test)]
 mod faults;
 #[cfg(test)]
 mod formats;

@@ -13,10 +13,10 @@ use Rattle.shared_board.specs.Held.{under}
 use Rattle.shared_board.specs.Seats.{BoardId, SeatValue, IsNew, given_at}
 use Rattle.shared_board.specs.Setting.{Setting}
 use Rattle.search.specs.declared.runs.threads.Job.{Job}
-use Rattle.search.specs.Crews.{IsFresh, IsJob, JobSaw, job_number}
+use Rattle.search.specs.Crews.{IsFresh, IsJob, JobIn, JobSaw, job_number}
 
--- The seats of the jobs are fresh, and their numbers rise up to that of the run's own, which is fresh too. All have seen one
--- history
+-- The seats of the jobs are fresh, and their numbers rise up to that of the run's own, which is fresh too. All have one
+-- setting, and have seen one history
 pub record IsChain (table : BoardId) (setting : Setting) (start : List Entry) (jobs : List Job) (seat : SeatValue) : Type 0 where
   pub fresh : IsFresh table seat
   pub setting_is : seat.setting ≡ setting
@@ -25,6 +25,7 @@ pub record IsChain (table : BoardId) (setting : Setting) (start : List Entry) (j
   pub below : All (λ n. n < seat.number) (map job_number jobs)
   pub seen : seat.seen ≡ start
   pub saw : All (JobSaw start) jobs
+  pub in_setting : All (JobIn setting) jobs
 
 increasing_push : (ns : List ℕ) (n : ℕ) → IsStrictlyIncreasing ns → All (λ m. m < n) ns → IsStrictlyIncreasing (ns ++ n ∷ [])
 increasing_push ns n was below k within =
@@ -92,4 +93,6 @@ chain_more table setting start jobs jobs' job a b own was new own_is items given
       seen = ap (λ (s : SeatValue). s.seen) new.now ∙ was.seen;
       saw = All-same (JobSaw start) jobs' (jobs ++ job ∷ []) items
           (All-push (JobSaw start) jobs job was.saw (ap (λ (s : SeatValue). s.seen) given ∙ was.seen));
+      in_setting = All-same (JobIn setting) jobs' (jobs ++ job ∷ []) items
+          (All-push (JobIn setting) jobs job was.in_setting (ap (λ (s : SeatValue). s.setting) given ∙ was.setting_is));
     })

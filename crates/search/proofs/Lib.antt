@@ -1,3 +1,4 @@
+pub mod Measures
 pub mod SeatLaws
 pub mod Chains
 pub mod Credited

@@ -2,12 +2,14 @@
 use Rattle.std.specs.Prelude.{◌≡◌, ℕ, ◌+◌, ◌^◌, ◌<◌, ◌≤◌, List, [], ◌∷◌, ◌++◌, length, Bool, IsTrue, map, All, Vec, vec_len, vec_capacity}
 use Rattle.std.specs.declared.alloc.Global.{Global}
 use Rattle.std.specs.declared.thread.PromisedHandle.{PromisedHandle}
+use Rattle.league.specs.League.{LeagueData}
 use Rattle.fixture_board.specs.declared.change.Entry.{Entry}
 use Rattle.fixture_board.specs.declared.reply.Reply.{Reply}
 use Rattle.fixture_board.specs.History.{IsLegal}
 use Rattle.shared_board.specs.declared.shared.Closed.{Closed}
 use Rattle.shared_board.specs.Held.{under}
 use Rattle.shared_board.specs.Seats.{BoardId, SeatValue}
+use Rattle.shared_board.specs.Setting.{Setting}
 use Rattle.search.specs.declared.workers.Report.{Report}
 use Rattle.search.specs.declared.runs.SearchPlan.{SearchPlan}
 use Rattle.search.specs.declared.runs.Outcome.{Outcome}
@@ -42,6 +44,14 @@ IsJob table j = IsFresh table j.seat
 abbrev pub JobSaw : List Entry → Job → Type 0
 JobSaw start j = j.seat.seen ≡ start
 
+-- the seat of the job has this setting
+abbrev pub JobIn : Setting → Job → Type 0
+JobIn setting j = j.seat.setting ≡ setting
+
+-- the board of the job's seat is of this league, if it is said to be
+abbrev pub JobMeasured : Bool → LeagueData → Job → Type 0
+JobMeasured of_boards league j = IsTrue of_boards → j.seat.setting.league ≡ league
+
 abbrev pub job_number : Job → ℕ
 job_number j = j.seat.number
 
@@ -56,10 +66,11 @@ HandleSaw start h = h.promise.seat.value.seen ≡ start
 abbrev pub handle_number : {G : Type 0} → PromisedHandle Ended (Given G) → ℕ
 handle_number h = h.promise.seat.value.number
 
--- jobs by fresh seats, and room for their threads
-pub record CanStart {G : Type 0} (table : BoardId) (jobs : Vec Job Global)
+-- jobs by fresh seats of a board of this league, if it is said to be, and room for their threads
+pub record CanStart {G : Type 0} (of_boards : Bool) (league : LeagueData) (table : BoardId) (jobs : Vec Job Global)
     (handles : Vec (PromisedHandle Ended (Given G)) Global) : Type 0 where
   pub jobs_are : All (IsJob table) jobs.items
+  pub measured : All (JobMeasured of_boards league) jobs.items
   pub no_handle : handles.items ≡ []
   pub room : vec_len jobs ≤ vec_capacity handles
 

@@ -1,5 +1,5 @@
 -- The steps of a worker.
-use Rattle.std.specs.Prelude.{◌≡◌, ℕ, ◌+◌, ◌-◌, ◌*◌, ◌/◌, ◌^◌, ◌==◌, min, if◌then◌else◌, Option, Some, None}
+use Rattle.std.specs.Prelude.{◌≡◌, ℕ, ◌+◌, ◌-◌, ◌*◌, ◌/◌, ◌^◌, ◌==◌, min, if◌then◌else◌, Bool, IsTrue, Option, Some, None}
 use Rattle.league.specs.League.{LeagueData}
 use Rattle.fixtures.specs.Games.{Games}
 use Rattle.fixture_board.specs.declared.cost.Cost.{Cost}
@@ -46,6 +46,10 @@ lesser (Some least) total = min least total
 -- the least total of feasible versions, with one more version's cost. A total stops at the greatest `u64`
 abbrev pub least_with : Option ℕ → Cost → Option ℕ
 least_with least cost = if cost.hard == 0 then Some (lesser least (min (cost.travel + cost.soft) (2 ^ 64 - 1))) else least
+
+-- each board that may be had is of this league, if it is said to be
+abbrev pub IsMeasured : Bool → LeagueData → (LeagueData → ℕ → Type 0) → Type 0
+IsMeasured of_boards league may_have = IsTrue of_boards → (other : LeagueData) (room : ℕ) → may_have other room → other ≡ league
 
 -- the cost and the score of the copy
 pub record IsKnown (league : LeagueData) (copy : Games) (cost : Cost) (score : ℕ) : Type 0 where

@@ -13,7 +13,7 @@ mod crew;
 mod threads;
 
 use crate::gates::{Hearing, HearingGate};
-use crate::workers::Report;
+use crate::workers::{Measure, Report};
 use crate::{Gate, NoGate, SlackCourse};
 use crew::Crew;
 use fixture_board::Board;
@@ -188,11 +188,13 @@ pub fn resume_with<R: Threads + Wait + Sync, G: Gate + Sync>(
     let version = board.version();
     let room = board.room();
     prove!(version <= u64::from(room));
+    let of_boards = league.is_same(board.league());
+    let measure = Measure { league, of_boards };
     let Ok((shared, seat)) = Shared::resume(alloc, board) else {
         let why = RunFault::Memory;
         return Err(RunRefused { why, board: None });
     };
-    search(rt, &Hearing { gate }, league, shared, seat, crew, phase)
+    search(rt, &Hearing { gate }, measure, shared, seat, crew, phase)
 }
 
 /// The crew of a plan, beside the board. If there is none, the board comes back as it was.
@@ -227,13 +229,14 @@ fn crew_for<H: Drop>(
 fn search<R: Threads + Wait + Sync, G: HearingGate + Sync>(
     rt: &R,
     gate: &G,
-    league: &League,
+    measure: Measure<'_>,
     shared: Shared,
     mut seat: Seat,
     crew: Crew<Handle<G>>,
     phase: PhasePlan,
 ) -> Result<Outcome, RunRefused>
     requires seat { IsFresh shared seat }
+    requires measured { IsTrue measure.of_boards → seat.setting.league ≡ measure.league.now }
     requires crew { HasRoom phase.search.workers crew }
     requires workers { IsWorkers phase.search }
     ensures done { IfOk result (IsResumed phase.search (board_at seat.setting seat.seen)) }
@@ -252,7 +255,7 @@ fn search<R: Threads + Wait + Sync, G: HearingGate + Sync>(
         let board = Some(shared.close(rt, seat).board);
         return Err(RunRefused { why, board });
     };
-    let (all, handles) = launch(rt, &shared, gate, league, phase, jobs, handles);
+    let (all, handles) = launch(rt, &shared, gate, measure, phase, jobs, handles);
     let steps = phase.search.steps;
     let reports = gather(rt, &shared, gate, &mut seat, handles, reports, steps);
     let closed = shared.close(rt, seat);

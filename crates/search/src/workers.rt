@@ -4,7 +4,7 @@ ghost use Rattle.std.specs.Prelude.{◌≡◌, ◌+◌, ◌^◌, ◌<◌};
 ghost use Rattle.league.specs.League.{teams};
 ghost use Rattle.search.specs.Heard.{IsHeard};
 ghost use Rattle.search.specs.Reports.{IsReport};
-ghost use Rattle.search.specs.Steps.{report_with, slack_in};
+ghost use Rattle.search.specs.Steps.{IsMeasured, report_with, slack_in};
 
 mod steps;
 
@@ -14,6 +14,7 @@ use fixtures::Schedule;
 use league::League;
 use rand_pcg::Lcg64Xsh32;
 use std::sync::Wait;
+pub(crate) use steps::Measure;
 use steps::{Told, Trial, least_with, refresh, step};
 
 /// What a worker is to do.
@@ -97,8 +98,12 @@ pub fn worker<R: Wait, D: Door, G: Gate>(
     ensures other_size { ¬ (copy.old.teams ≡ teams league.now) →
         (result.made ≡ 0) × (copy.new ≡ copy.old) × (door.new ≡ door.old) }
 {
+    let measure = Measure {
+        league,
+        of_boards: false,
+    };
     let course = SlackCourse::Falls;
-    take_steps(rt, door, &Hearing { gate }, league, plan, course, copy)
+    take_steps(rt, door, &Hearing { gate }, measure, plan, course, copy)
 }
 
 /// What a worker does, with a slack that falls or stays. Its report counts the replies that the gate heard.
@@ -106,17 +111,18 @@ pub(crate) fn take_steps<R: Wait, D: Door, G: HearingGate>(
     rt: &R,
     door: &mut D,
     gate: &G,
-    league: &League,
+    measure: Measure<'_>,
     plan: WorkerPlan,
     course: SlackCourse,
     copy: &mut Schedule,
 ) -> Report
-    requires { D.granted door.old < 2 ^ 62 }
+    requires few { D.granted door.old < 2 ^ 62 }
+    requires measured { IsMeasured measure.of_boards measure.league.now (D.may_have door.old) }
     ensures report { IsReport plan.steps result }
     ensures heard { IsHeard (G.heard gate.now plan.worker) result }
     ensures counted { D.granted door.new ≡ D.granted door.old + result.accepted }
     ensures stays { D.stays door.old door.new }
-    ensures other_size { ¬ (copy.old.teams ≡ teams league.now) →
+    ensures other_size { ¬ (copy.old.teams ≡ teams measure.entry.league.now) →
         (result.made ≡ 0) × (copy.new ≡ copy.old) × (door.new ≡ door.old) }
 {
     let mut report = Report {
@@ -124,10 +130,10 @@ pub(crate) fn take_steps<R: Wait, D: Door, G: HearingGate>(
         accepted: 0,
         refused: 0,
     };
-    let teams = league.teams();
+    let teams = measure.league.teams();
     if copy.teams() == teams {
         let mut generator = Lcg64Xsh32::new(plan.seed, u64::from(plan.worker));
-        let mut known = refresh(rt, door, league, copy);
+        let mut known = refresh(rt, door, measure, copy);
         let mut progress = Progress {
             steps: 0,
             version: known.version,
@@ -141,7 +147,7 @@ pub(crate) fn take_steps<R: Wait, D: Door, G: HearingGate>(
                 slack: slack_at(plan, course, s),
                 mv: draw(&mut generator, teams),
             };
-            let told = step(rt, door, gate, league, copy, &mut known, trial);
+            let told = step(rt, door, gate, measure, copy, &mut known, trial);
             report = report.with(told);
             match told {
                 Told::Nothing | Told::Refused => {}

@@ -3,16 +3,15 @@
 ghost use Rattle.std.specs.Prelude.{◌≡◌, ◌+◌, ◌≤◌, [], length, map, All, IfOk, IfSome, vec_len, vec_capacity};
 ghost use Rattle.std.specs.List.Sorted.{IsStrictlyIncreasing};
 ghost use Rattle.search.specs.Crews.{AreCredited, AreStarted, CanStart, HandleSaw, IsBack, IsFresh, IsHandle, IsJob};
-ghost use Rattle.search.specs.Crews.{JobSaw, handle_number, job_number};
+ghost use Rattle.search.specs.Crews.{JobIn, JobMeasured, JobSaw, handle_number, job_number};
 ghost use Rattle.search.specs.Outcomes.{accepted_in};
 ghost use Rattle.search.specs.Heard.{IsOfWorker};
 
 use super::PhasePlan;
 use crate::SeatDoor;
 use crate::gates::HearingGate;
-use crate::workers::{Report, WorkerPlan, take_steps};
+use crate::workers::{Measure, Report, WorkerPlan, take_steps};
 use fixtures::Schedule;
-use league::League;
 use shared_board::{Seat, Shared, SplitFault};
 use std::snapshot::Snapshot;
 use std::sync::Wait;
@@ -77,6 +76,7 @@ pub(crate) fn seat_all<R: Wait>(
     ensures setting { seat.new.setting ≡ seat.old.setting }
     ensures seen { seat.new.seen ≡ seat.old.seen }
     ensures saw { IfOk result (λ v. All (JobSaw seat.old.seen) v.items) }
+    ensures in_setting { IfOk result (λ v. All (JobIn seat.old.setting) v.items) }
     ensures jobs { IfOk result (λ v. All (IsJob shared.now) v.items) }
     ensures many { IfOk result (λ v. vec_len v ≡ vec_len copies) }
     ensures rising { IfOk result (λ v. IsStrictlyIncreasing (map job_number v.items)) }
@@ -100,21 +100,25 @@ pub(crate) fn launch<R: Threads + Wait + Sync, G: HearingGate + Sync>(
     rt: &R,
     shared: &Shared,
     gate: &G,
-    league: &League,
+    measure: Measure<'_>,
     phase: PhasePlan,
     jobs: Vec<Job>,
     handles: Vec<Handle<G>>,
 ) -> (bool, Vec<Handle<G>>)
-    requires { CanStart shared.now jobs handles }
+    requires { CanStart measure.of_boards measure.league.now shared.now jobs handles }
     ensures { AreStarted gate.now phase.search.steps shared.now jobs result.0 result.1 }
 {
+    let Measure { league, of_boards } = measure;
     thread::scope(
         thread::scope_env(),
         rt,
         move |scope| -> (bool, Vec<Handle<G>>)
-            requires { CanStart shared.now jobs handles }
+            requires { CanStart of_boards league.now shared.now jobs handles }
             ensures { AreStarted gate.entry.now phase.search.steps shared.entry.now jobs result.0 result.1 }
-        { start_all(scope, rt, shared, gate, league, phase, jobs, handles) },
+        {
+            let measure = Measure { league, of_boards };
+            start_all(scope, rt, shared, gate, measure, phase, jobs, handles)
+        },
     )
 }
 
@@ -124,16 +128,16 @@ fn start_all<'s, E, R: Wait + Sync, G: HearingGate + Sync>(
     rt: &'s R,
     shared: &'s Shared,
     gate: &'s G,
-    league: &'s League,
+    measure: Measure<'s>,
     phase: PhasePlan,
     jobs: Vec<Job>,
     mut handles: Vec<Handle<G>>,
 ) -> (bool, Vec<Handle<G>>)
-    requires { CanStart shared.now jobs handles }
+    requires { CanStart measure.of_boards measure.league.now shared.now jobs handles }
     ensures { AreStarted gate.now phase.search.steps shared.now jobs result.0 result.1 }
 {
     for job in jobs {
-        let Some(handle) = start(scope, rt, shared, gate, league, phase, job) else {
+        let Some(handle) = start(scope, rt, shared, gate, measure, phase, job) else {
             return (false, handles);
         };
         handles.push_reserved(handle);
@@ -147,11 +151,12 @@ fn start<'s, E, R: Wait + Sync, G: HearingGate + Sync>(
     rt: &'s R,
     shared: &'s Shared,
     gate: &'s G,
-    league: &'s League,
+    measure: Measure<'s>,
     phase: PhasePlan,
     job: Job,
 ) -> Option<Handle<G>>
-    requires { IsJob shared.now job }
+    requires fresh { IsJob shared.now job }
+    requires measured { JobMeasured measure.of_boards measure.league.now job }
     ensures handle { IfSome result (IsHandle gate.now phase.search.steps shared.now) }
     ensures seat { IfSome result (λ h. h.promise.seat.value ≡ job.seat) }
 {
@@ -160,8 +165,19 @@ fn start<'s, E, R: Wait + Sync, G: HearingGate + Sync>(
         seat: Snapshot::of(&job.seat),
         gate: Snapshot::of(gate),
     };
+    let Measure { league, of_boards } = measure;
     scope
-        .spawn_with(given, move || work(rt, shared, gate, league, phase, job))
+        .spawn_with(
+            given,
+            move || -> Ended
+                requires fresh { IsJob shared.now job }
+                requires measured { JobMeasured of_boards league.now job }
+                ensures { IsBack (G.heard gate.entry.now) phase.search.steps job.seat result.report result.seat }
+            {
+                let measure = Measure { league, of_boards };
+                work(rt, shared, gate, measure, phase, job)
+            },
+        )
         .ok()
 }
 
@@ -170,11 +186,12 @@ fn work<R: Wait, G: HearingGate>(
     rt: &R,
     shared: &Shared,
     gate: &G,
-    league: &League,
+    measure: Measure<'_>,
     phase: PhasePlan,
     job: Job,
 ) -> Ended
-    requires { IsJob shared.now job }
+    requires fresh { IsJob shared.now job }
+    requires measured { JobMeasured measure.of_boards measure.league.now job }
     ensures { IsBack (G.heard gate.now) phase.search.steps job.seat result.report result.seat }
 {
     let Job {
@@ -190,7 +207,7 @@ fn work<R: Wait, G: HearingGate>(
         slack: search.slack,
     };
     let mut door = SeatDoor { shared, seat };
-    let report = take_steps(rt, &mut door, gate, league, plan, course, &mut copy);
+    let report = take_steps(rt, &mut door, gate, measure, plan, course, &mut copy);
     let SeatDoor { shared: _, seat } = door;
     Ended { report, seat }
 }

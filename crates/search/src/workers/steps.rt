@@ -5,7 +5,7 @@ ghost use Rattle.league.specs.League.{teams};
 ghost use Rattle.moves.specs.Exchanges.{exchanged_by, IsExchange};
 ghost use Rattle.fixture_board.specs.declared.reply.Reply.{Reply};
 ghost use Rattle.search.specs.Doors.{done_count};
-ghost use Rattle.search.specs.Steps.{IsKnown, IsProposed, accepted_count, least_with};
+ghost use Rattle.search.specs.Steps.{IsKnown, IsMeasured, IsProposed, accepted_count, least_with};
 
 use crate::Door;
 use crate::gates::HearingGate;
@@ -14,6 +14,14 @@ use fixtures::Schedule;
 use league::League;
 use moves::{Exchange, Move, check, exchange};
 use std::sync::Wait;
+
+/// What costs are counted with.
+#[derive(Clone, Copy)]
+pub(crate) struct Measure<'a> {
+    pub(crate) league: &'a League,
+    /// Each board that the door may have is known to be of this league.
+    pub(crate) of_boards: bool,
+}
 
 /// What a worker knows of its copy.
 #[derive(Clone, Copy)]
@@ -52,21 +60,28 @@ struct Made {
     score: u64,
 }
 
-/// Looks, and counts what the copy costs.
+/// Looks. What the copy costs is what the look told if the board is of this league, and is counted otherwise.
 pub(crate) fn refresh<R: Wait, D: Door>(
     rt: &R,
     door: &mut D,
-    league: &League,
+    measure: Measure<'_>,
     copy: &mut Schedule,
 ) -> Known
-    requires { teams league.now ≡ copy.old.teams }
+    requires same_size { teams measure.league.now ≡ copy.old.teams }
+    requires measured { IsMeasured measure.of_boards measure.league.now (D.may_have door.old) }
     ensures same_size { copy.new.teams ≡ copy.old.teams }
-    ensures known { IsKnown league.now copy.new result.cost result.score }
+    ensures known { IsKnown measure.entry.league.now copy.new result.cost result.score }
     ensures counted { D.granted door.new ≡ D.granted door.old }
     ensures stays { D.stays door.old door.new }
 {
+    let Measure { league, of_boards } = measure;
+    prove_eq!(league.teams(), copy.teams());
     let seen = door.look(rt, copy);
-    let cost = cost_of(copy, league);
+    let cost = if of_boards {
+        seen.cost
+    } else {
+        cost_of(copy, league)
+    };
     Known {
         version: seen.version,
         cost,
@@ -79,16 +94,17 @@ pub(crate) fn step<R: Wait, D: Door, G: HearingGate>(
     rt: &R,
     door: &mut D,
     gate: &G,
-    league: &League,
+    measure: Measure<'_>,
     copy: &mut Schedule,
     known: &mut Known,
     trial: Trial,
 ) -> Told
-    requires same_size { teams league.now ≡ copy.old.teams }
-    requires known { IsKnown league.now copy.old known.old.cost known.old.score }
+    requires same_size { teams measure.league.now ≡ copy.old.teams }
+    requires measured { IsMeasured measure.of_boards measure.league.now (D.may_have door.old) }
+    requires known { IsKnown measure.league.now copy.old known.old.cost known.old.score }
     requires granted { D.granted door.old < 2 ^ 63 }
     ensures same_size { copy.new.teams ≡ copy.old.teams }
-    ensures known { IsKnown league.now copy.new known.new.cost known.new.score }
+    ensures known { IsKnown measure.entry.league.now copy.new known.new.cost known.new.score }
     ensures counted { D.granted door.new ≡ D.granted door.old + accepted_count result }
     ensures heard { IsProposed result → (reply : Reply)
         × G.heard gate.now trial.worker trial.made reply × (done_count reply ≡ accepted_count result) }
@@ -100,13 +116,13 @@ pub(crate) fn step<R: Wait, D: Door, G: HearingGate>(
     }
     let exchange = exchange(copy, mv);
     let most = known.score.saturating_add(trial.slack);
-    let Some(cost) = make_within(copy, league, &exchange, known.cost, most) else {
+    let Some(cost) = make_within(copy, measure.league, &exchange, known.cost, most) else {
         return Told::Nothing;
     };
-    let score = cost.score(league);
+    let score = cost.score(measure.league);
     if door.front(rt) != known.version {
         exchange.make(copy);
-        *known = refresh(rt, door, league, copy);
+        *known = refresh(rt, door, measure, copy);
         return Told::Nothing;
     }
     let proposal = Proposal {
@@ -123,25 +139,26 @@ pub(crate) fn step<R: Wait, D: Door, G: HearingGate>(
         cost,
         score,
     };
-    settle(rt, door, league, copy, known, made, reply)
+    settle(rt, door, measure, copy, known, made, reply)
 }
 
 /// Keeps the move that was proposed, or withdraws it, and looks if the board has gone on.
 fn settle<R: Wait, D: Door>(
     rt: &R,
     door: &mut D,
-    league: &League,
+    measure: Measure<'_>,
     copy: &mut Schedule,
     known: &mut Known,
     made: Made,
     reply: Reply,
 ) -> Told
-    requires same_size { teams league.now ≡ copy.old.teams }
+    requires same_size { teams measure.league.now ≡ copy.old.teams }
+    requires measured { IsMeasured measure.of_boards measure.league.now (D.may_have door.old) }
     requires again { IsExchange copy.old made.exchange }
-    requires made { IsKnown league.now copy.old made.cost made.score }
-    requires before { IsKnown league.now (exchanged_by copy.old made.exchange) known.old.cost known.old.score }
+    requires made { IsKnown measure.league.now copy.old made.cost made.score }
+    requires before { IsKnown measure.league.now (exchanged_by copy.old made.exchange) known.old.cost known.old.score }
     ensures same_size { copy.new.teams ≡ copy.old.teams }
-    ensures known { IsKnown league.now copy.new known.new.cost known.new.score }
+    ensures known { IsKnown measure.entry.league.now copy.new known.new.cost known.new.score }
     ensures told { accepted_count result ≡ done_count reply }
     ensures proposed { IsProposed result }
     ensures counted { D.granted door.new ≡ D.granted door.old }
@@ -156,7 +173,7 @@ fn settle<R: Wait, D: Door>(
                     score: made.score,
                 };
             } else {
-                *known = refresh(rt, door, league, copy);
+                *known = refresh(rt, door, measure, copy);
             }
             Told::Accepted(cost)
         }
@@ -166,7 +183,7 @@ fn settle<R: Wait, D: Door>(
                 return Told::Full;
             }
             if at != known.version {
-                *known = refresh(rt, door, league, copy);
+                *known = refresh(rt, door, measure, copy);
             }
             Told::Refused
         }

@@ -1,4 +1,4 @@
-use Rattle.std.proofs.Common.{arith, ap, sym, subst, rules}
+use Rattle.std.proofs.Common.{arith, ap, sym, ◌∙◌, subst, rules}
 use Rattle.fixture_board.specs.Record.{Book}
 use Rattle.shared_board.specs.Held.{AreOf, under}
 use Rattle.shared_board.specs.Seats.{SeatValue}
@@ -25,3 +25,7 @@ search-requires-clause-seat g c = λ _ _.
         c.room-room.type_inv,
       );
     }
+
+pub search-requires-clause-measured : goal.search-requires-clause-measured
+search-requires-clause-measured g c = λ _ _ on.
+    ap (λ (s : SeatValue). s.setting.league) c.in-Ok.ensures ∙ sym (c.is_same-of_boards.ensures.0 on ∙ c.league.ensures)

@@ -1,8 +1,10 @@
 use Rattle.std.proofs.Common.{List, length, map, sym, ap, ◌∙◌, subst, arith, rules}
 use Rattle.std.proofs.lemmas.List.{length-map}
+use Rattle.std.proofs.lemmas.List.Elements.{All-weaker}
 use Rattle.std.specs.List.{All}
 use Rattle.fixture_board.specs.declared.change.Entry.{Entry}
-use Rattle.search.specs.Crews.{AreCredited, HandleSaw, handle_number, job_number}
+use Rattle.shared_board.specs.Setting.{Setting}
+use Rattle.search.specs.Crews.{AreCredited, HandleSaw, JobIn, JobMeasured, handle_number, job_number}
 use Rattle.search.proofs.Conclusions.{begins_whole, resumed_of}
 use Rattle.search.proofs.runs.search.Goals as goal
 
@@ -43,3 +45,12 @@ returns-clause-done g c =
     c.gather-reports.ensures.each c.launch-all.ensures (search rules) c.in-Ok.ensures.rising
     (subst P c.seat_all.ensures.seen c.gather-reports.ensures.credits) c.close-closed.ensures
     (c.gather-reports.ensures.setting ∙ c.seat_all.ensures.setting) c.seen-before.ensures c.conclude.ensures.done
+
+pub launch-all-requires-after_bounds : goal.launch-all-requires-after_bounds
+launch-all-requires-after_bounds g c = λ _ _. record {
+  jobs_are = c.in-Ok.ensures.jobs;
+  measured = All-weaker (JobIn c.args.seat.setting) (JobMeasured c.args.measure.of_boards c.args.measure.league.now)
+      (λ j here on. ap (λ (s : Setting). s.league) here ∙ c.requires.measured on) c.in-Ok.jobs.items c.in-Ok.ensures.in_setting;
+  no_handle = c.requires.crew.no_handle;
+  room = omega (arith, c.in-Ok.ensures.many, c.requires.crew.copies, c.requires.crew.handles);
+}

@@ -1,5 +1,6 @@
 use Rattle.std.proofs.Common.{refl, arith, rules}
 use Rattle.search.proofs.Hearing.{counts_next, heard_next, heard_none}
+use Rattle.search.proofs.Measures.{measured_still}
 use Rattle.search.proofs.workers.take_steps.Goals as goal
 
 pub loop-s-init : goal.loop-s-init
@@ -32,3 +33,9 @@ pub returns-in-Full-clause-heard : goal.returns-in-Full-clause-heard
 returns-in-Full-clause-heard g c =
     heard_next _ c.loop-s.report c.with-report.result c.step-told.result c.with-report.ensures c.loop-s.invariant.heard
     c.step-told.ensures.heard
+
+pub step-told-requires-clause-measured : goal.step-told-requires-clause-measured
+step-told-requires-clause-measured g c =
+    measured_still c.args.measure.of_boards c.args.measure.league.now (g.D.Door.may_have c.args.door.now)
+    (g.D.Door.may_have c.loop-s.door) (g.met.D.Door.stays_boards c.args.door.now c.loop-s.door c.loop-s.invariant.stays)
+    c.requires.measured

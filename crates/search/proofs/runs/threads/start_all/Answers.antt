@@ -4,7 +4,7 @@ use Rattle.std.proofs.lemmas.List.Elements.{All-head, All-push, All-rest, All-sa
 use Rattle.std.specs.Vec.Iter.{into_iter_items}
 use Rattle.shared_board.specs.Seats.{SeatValue}
 use Rattle.search.specs.declared.runs.threads.Job.{Job}
-use Rattle.search.specs.Crews.{HandleSaw, IsHandle, IsJob, JobSaw, handle_number, job_number}
+use Rattle.search.specs.Crews.{HandleSaw, IsHandle, IsJob, JobMeasured, JobSaw, handle_number, job_number}
 use Rattle.search.proofs.Chains.{numbers_more}
 use Rattle.search.proofs.runs.threads.start_all.Goals as goal
 
@@ -20,6 +20,7 @@ loop-job-preserved g c =
     let handle = c.in-Some-start.handle in
     let given : handle.promise.seat.value ≡ c.in-Some.job.seat = c.in-Some-start.ensures.seat in
     let left : List Job = into_iter_items c.loop-job.job-iterator in
+    let measured_job = JobMeasured c.args.measure.of_boards c.args.measure.league.now in
     record {
       left_saw = λ start saw. All-rest (JobSaw start) c.in-Some.job rest left steps (was.left_saw start saw);
       saw = λ start saw. All-same (HandleSaw start) c.push_reserved.new.self.items (old ++ handle ∷ []) pushed.items
@@ -28,6 +29,7 @@ loop-job-preserved g c =
           ∙ All-head (JobSaw start) c.in-Some.job rest
           (All-same (JobSaw start) (c.in-Some.job ∷ rest) left (sym steps) (was.left_saw start saw))));
       jobs = All-rest (IsJob c.args.shared.now) c.in-Some.job rest (into_iter_items c.loop-job.job-iterator) steps was.jobs;
+      measured = All-rest measured_job c.in-Some.job rest left steps was.measured;
       left = omega (arith, was.left, gone, short);
       handles = All-same (IsHandle c.args.gate.now c.args.phase.search.steps c.args.shared.now) c.push_reserved.new.self.items
           (old ++ handle ∷ []) pushed.items

@@ -2,12 +2,13 @@ use Rattle.std.proofs.Common.{◌≡◌, ◌+◌, ◌≤◌, ◌++◌, length, L
 use Rattle.std.specs.List.{All}
 use Rattle.fixture_board.specs.declared.change.Entry.{Entry}
 use Rattle.std.specs.Vec.Iter.{into_iter_items, into_iter_len}
-use Rattle.search.specs.Crews.{HandleSaw, IsHandle, IsJob, JobSaw, handle_number, job_number}
+use Rattle.search.specs.Crews.{HandleSaw, IsHandle, IsJob, JobMeasured, JobSaw, handle_number, job_number}
 use Rattle.search.proofs.runs.threads.start_all.Given as goal
 
 abbrev pub invariant-loop-job : goal.invariant-loop-job
 invariant-loop-job g l = record {
   jobs : All (IsJob l.shared) (into_iter_items l.job-iterator);
+  measured : All (JobMeasured l.measure.of_boards l.measure.league.now) (into_iter_items l.job-iterator);
   left_saw : (start : List Entry) → All (JobSaw start) l.fn.jobs.items → All (JobSaw start) (into_iter_items l.job-iterator);
   saw : (start : List Entry) → All (JobSaw start) l.fn.jobs.items → All (HandleSaw start) l.handles.items;
   left : into_iter_len l.job-iterator ≡ length (into_iter_items l.job-iterator);

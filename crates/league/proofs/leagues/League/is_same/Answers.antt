@@ -1,0 +1,49 @@
+use Rattle.std.proofs.Common.{◌≡◌, ◌&&◌, refl, ◌∙◌, nat_eq}
+use Rattle.std.specs.Cmp.Lexicographic.{pointwise}
+use Rattle.league.specs.contracts.rule.RulePartialEq.TheImpl as rule_eq
+use Rattle.league.specs.Rows.{joined}
+use Rattle.league.proofs.Equality.{are_same_texts, chain_decides, else_and, then_and}
+use Rattle.league.proofs.leagues.League.is_same.Goals as goal
+use Rattle.league.proofs.leagues.League.is_same.Goals.{else-eq, else-eq-2, then-eq, then-eq-2}
+
+pub returns-then-eq-3 : goal.returns-then-eq-3
+returns-then-eq-3 c =
+    let mine = c.self.inside in let its = c.other.inside in
+    let names = are_same_texts mine.names.items its.names.items in
+    let named : c.if-eq.value ≡ (c.eq.result && names) =
+    elim c.if-eq.branch [
+      | then-eq w ↦ then_and c.eq.result names _ w.if-eq.true (w.value-is ∙ w.eq-then-eq.ensures)
+      | else-eq w ↦ else_and c.eq.result names _ w.if-eq.false w.value-is
+    ] in
+    let numbers = pointwise nat_eq (joined c.args.self.now.distances) (joined c.args.other.now.distances) in
+    let numbered : c.if-eq-2.value ≡ (c.if-eq.value && numbers) =
+    elim c.if-eq-2.branch [
+      | then-eq-2 w ↦ then_and c.if-eq.value numbers _ w.if-eq-2.true (w.value-is ∙ w.eq-then-eq-2.ensures
+          ∙ (λ i. pointwise nat_eq (w.numbers.ensures i) (w.numbers-then-eq-2.ensures i)))
+      | else-eq-2 w ↦ else_and c.if-eq.value numbers _ w.if-eq-2.false w.value-is
+    ] in
+    let rules = pointwise rule_eq.eq-value.it mine.rules.items its.rules.items in
+    chain_decides c.args.self.now c.args.other.now mine.names.items its.names.items _ _ mine.terms its.terms mine.rules.items
+    its.rules.items c.self.invariant.table c.other.invariant.table c.self.view_is c.other.view_is _ _ _ _ c.eq.ensures named numbered
+    (then_and c.if-eq-2.value rules c.eq-then-eq-3.result c.if-eq-3.true c.eq-then-eq-3.ensures)
+
+pub returns-else-eq-3 : goal.returns-else-eq-3
+returns-else-eq-3 c =
+    let mine = c.self.inside in let its = c.other.inside in
+    let names = are_same_texts mine.names.items its.names.items in
+    let named : c.if-eq.value ≡ (c.eq.result && names) =
+    elim c.if-eq.branch [
+      | then-eq w ↦ then_and c.eq.result names _ w.if-eq.true (w.value-is ∙ w.eq-then-eq.ensures)
+      | else-eq w ↦ else_and c.eq.result names _ w.if-eq.false w.value-is
+    ] in
+    let numbers = pointwise nat_eq (joined c.args.self.now.distances) (joined c.args.other.now.distances) in
+    let numbered : c.if-eq-2.value ≡ (c.if-eq.value && numbers) =
+    elim c.if-eq-2.branch [
+      | then-eq-2 w ↦ then_and c.if-eq.value numbers _ w.if-eq-2.true (w.value-is ∙ w.eq-then-eq-2.ensures
+          ∙ (λ i. pointwise nat_eq (w.numbers.ensures i) (w.numbers-then-eq-2.ensures i)))
+      | else-eq-2 w ↦ else_and c.if-eq.value numbers _ w.if-eq-2.false w.value-is
+    ] in
+    let rules = pointwise rule_eq.eq-value.it mine.rules.items its.rules.items in
+    chain_decides c.args.self.now c.args.other.now mine.names.items its.names.items _ _ mine.terms its.terms mine.rules.items
+    its.rules.items c.self.invariant.table c.other.invariant.table c.self.view_is c.other.view_is _ _ _ _ c.eq.ensures named numbered
+    (else_and c.if-eq-2.value rules c.if-eq-2.value c.if-eq-3.false refl)
