@@ -1,5 +1,5 @@
 -- What a look tells where its board is known to be of a league.
-use Rattle.std.proofs.Common.{◌≡◌, ◌↔◌, ℕ, ◌<◌, ◌^◌, ◌==◌, cond, List, Bool, true, sym, ap, ◌∙◌, arith}
+use Rattle.std.proofs.Common.{◌≡◌, ◌↔◌, ℕ, ◌<◌, ◌^◌, cond, List, Bool, sym, ap, ◌∙◌}
 use Rattle.std.specs.Bool.{IsTrue}
 use Rattle.std.specs.Cmp.{unsigned_Decides}
 use Rattle.league.specs.League.{LeagueData, IsLeague, teams}
