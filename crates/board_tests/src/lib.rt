@@ -22,7 +22,7 @@ mod equality;
 #[cfg(test)]
 mod kept_cost;
 #[cfg(test)]
-mod made_within;
+mod made_exchanges;
 #[cfg(test)]
 mod memory;
 #[cfg(test)]

@@ -10,7 +10,7 @@ use Rattle.texts.specs.Input.{lines_after, text_before}
 use Rattle.reports.specs.Given.{IsVerdict}
 use Rattle.report_formats.specs.declared.format.Format.{Format}
 use Rattle.report_formats.specs.Format.{report_in}
-use Rattle.commands.specs.declared.judging.Verdict.{Verdict}
+use Rattle.commands.specs.declared.report_command.Verdict.{Verdict}
 use Rattle.commands.specs.Outcome.{IsAnswered}
 use Rattle.commands.specs.Report.{AnswersReport, IsToldOf}
 

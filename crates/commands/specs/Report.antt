@@ -13,8 +13,8 @@ use Rattle.report_formats.specs.declared.format.Format.{Format}
 use Rattle.report_formats.specs.Format.{report_in}
 use Rattle.commands.specs.declared.fault.ProgramFault.{ProgramFault}
 use Rattle.commands.specs.declared.fault.ProgramFault.TheVariants.{League, LeagueAt, NoSheet, Memory}
-use Rattle.commands.specs.declared.judging.Verdict.{Verdict}
-use Rattle.commands.specs.declared.judging.Verdict.TheVariants.{Feasible, Infeasible}
+use Rattle.commands.specs.declared.report_command.Verdict.{Verdict}
+use Rattle.commands.specs.declared.report_command.Verdict.TheVariants.{Feasible, Infeasible}
 
 abbrev pub verdict_of : Bool → Verdict
 verdict_of true = Feasible

@@ -2,25 +2,25 @@
 #![tactic(auto)]
 
 mod fault;
-mod finding;
-mod improving;
-mod judging;
-mod playing;
+mod improve_command;
+mod play_command;
 mod progress;
+mod report_command;
+mod search_command;
 mod search_text;
-mod starting;
+mod start_command;
 
 pub use fault::ProgramFault;
-pub use finding::{find, find_from, find_with};
+pub use improve_command::{improve, improve_from, improve_with};
 pub use improvement::ImprovePlan;
-pub use improving::{improve, improve_from, improve_with};
-pub use judging::{Verdict, report, report_from};
 pub use phases::MIN_EFFORT;
-pub use playing::{play, play_from};
+pub use play_command::{play, play_from};
 pub use progress::ProgressLine;
+pub use report_command::{Verdict, report, report_from};
 pub use report_formats::Format;
 pub use search::{NoGate, Outcome, SearchPlan};
+pub use search_command::{find, find_from, find_with};
 pub use search_text::search_report;
-pub use starting::{start, start_from};
+pub use start_command::{start, start_from};
 pub use streams::{Sink, Source, Step};
 pub use texts::sheet;

@@ -10,10 +10,9 @@ mod board;
 mod change;
 mod cost;
 mod counted;
-mod counting;
 mod laws;
 mod look;
-mod made_within;
+mod made_exchanges;
 mod penalties;
 mod pins;
 mod reply;
@@ -21,17 +20,18 @@ mod rule_costs;
 mod scope;
 mod state;
 mod told_cost;
+mod whole_cost;
 
 pub use ask::{Ask, Proposal};
 pub use board::{Board, BoardFault, MAX_ROOM, NewRefused};
 pub use change::{Change, Entry};
 pub use cost::{Best, Cost};
-pub use counting::cost_of;
 pub use laws::{
     answer_tells_history, best_is_least, best_never_rises, callers_are_names_alone,
     empty_history_is_legal, legal_history_is_sound, next_history_is_legal, replay,
     rewinding_keeps_the_best, weight_is_for_scores_alone,
 };
 pub use look::Seen;
-pub use made_within::{make_at_cost, make_within};
+pub use made_exchanges::{make_at_cost, make_within};
 pub use reply::{Reply, Why};
+pub use whole_cost::cost_of;

@@ -79,15 +79,15 @@ fn high() -> SlotSet {
 #[test]
 fn sets_of_two_sets(rt: HostRuntime) {
     check_same(&rt, &low().union(high()), &SlotSet::below(3).with(77));
-    check_same(&rt, &low().common(high()), &SlotSet::empty().with(2));
+    check_same(&rt, &low().intersection(high()), &SlotSet::empty().with(2));
     check_same(&rt, &low().difference(high()), &SlotSet::below(2));
-    check_same(&rt, &low().toggled(high()), &SlotSet::below(2).with(77));
+    check_same(&rt, &low().symmetric_difference(high()), &SlotSet::below(2).with(77));
 }
 
 #[test]
 fn sets_that_meet(rt: HostRuntime) {
     let other = SlotSet::empty().with(3);
-    let found = (low().meets(high()), low().meets(other));
+    let found = (low().intersects(high()), low().intersects(other));
     check_same(&rt, &found, &(true, false));
     check_same(&rt, &(low().len() + high().len()), &5);
 }
@@ -96,9 +96,9 @@ fn sets_that_meet(rt: HostRuntime) {
 fn teams_of_two_sets(rt: HostRuntime) {
     let teams = TeamSet::below(3);
     let third = TeamSet::empty().with(2);
-    check_same(&rt, &teams.common(third.with(39)), &third);
+    check_same(&rt, &teams.intersection(third.with(39)), &third);
     let other = TeamSet::empty().with(3);
-    let found = (teams.meets(third), teams.meets(other));
+    let found = (teams.intersects(third), teams.intersects(other));
     check_same(&rt, &found, &(true, false));
 }
 

@@ -117,7 +117,11 @@ fn differ_in_side(schedule: &Schedule, i: u8, j: u8, rounds: SlotSet) -> bool
     ensures { result ≡
         any_below max_rounds (λ r. has rounds r && not (beq (is_home schedule.now i r) (is_home schedule.now j r))) }
 {
-    rounds.meets(schedule.home_rounds(i).toggled(schedule.home_rounds(j)))
+    rounds.intersects(
+        schedule
+            .home_rounds(i)
+            .symmetric_difference(schedule.home_rounds(j)),
+    )
 }
 
 /// Whether a team of the set meets another team in round `l` than in `k`.

@@ -6,7 +6,7 @@
 #![tactic(auto)]
 
 mod chains;
-mod changes;
+mod changed_games;
 mod effects;
 mod exchange_of;
 mod exchanges;
@@ -16,7 +16,7 @@ mod moves;
 mod refusals;
 
 pub use chains::{moved_rounds, moved_teams};
-pub use changes::would_change;
+pub use changed_games::would_change;
 pub use effects::{apply, touched};
 pub use exchange_of::exchange;
 pub use exchanges::Exchange;

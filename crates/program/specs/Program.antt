@@ -4,8 +4,8 @@ use Rattle.command_line.specs.declared.job.Job.{Job}
 use Rattle.command_line.specs.declared.job.Job.TheVariants.{Start, Play, Improve, Find, Report}
 use Rattle.streams.specs.declared.tally.Tally.{Tally}
 use Rattle.commands.specs.declared.fault.ProgramFault.{ProgramFault}
-use Rattle.commands.specs.declared.judging.Verdict.{Verdict}
-use Rattle.commands.specs.declared.judging.Verdict.TheVariants.{Feasible, Infeasible}
+use Rattle.commands.specs.declared.report_command.Verdict.{Verdict}
+use Rattle.commands.specs.declared.report_command.Verdict.TheVariants.{Feasible, Infeasible}
 use Rattle.commands.specs.Outcome.{without_value, Ends}
 use Rattle.commands.specs.Start.{AnswersStart}
 use Rattle.commands.specs.Play.{AnswersPlay}

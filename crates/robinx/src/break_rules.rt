@@ -23,7 +23,7 @@ pub fn breaks(schedule: &Schedule, team: u8, slots: SlotSet, side: Side) -> u32
 {
     let on_side = rounds_on_side(schedule, side, team);
     let stays = rounds_without_turn(schedule, team);
-    on_side.common(stays).common(slots).len()
+    on_side.intersection(stays).intersection(slots).len()
 }
 
 /// The rounds in which the team is on the same side as in the round before.
@@ -38,7 +38,7 @@ fn rounds_without_turn(schedule: &Schedule, team: u8) -> SlotSet
     let away = rounds_on_side(schedule, Side::Away, team);
     let turns = home
         .with_next_below(rounds)
-        .common(away.with_next_below(rounds));
+        .intersection(away.with_next_below(rounds));
     let later = SlotSet::below(rounds).difference(SlotSet::below(1));
     later.difference(turns)
 }
@@ -84,7 +84,7 @@ pub(crate) fn br2_with(
     ensures { (main rounds : ℕ) →
         result ≡ changing_terms schedule.now main rounds sides (RuleBody.Br2 teams slots most) }
 {
-    if teams.meets(sides) {
+    if teams.intersects(sides) {
         br2(schedule, teams, slots, most)
     } else {
         0

@@ -1,6 +1,6 @@
 //! Capacity rules: at most so many games of a side, against some opponents, in some rounds.
 
-ghost use Rattle.std.specs.Prelude.{◌≡◌, ℕ, ◌+◌, ◌-◌, ◌*◌, ◌<◌, ◌≤◌};
+ghost use Rattle.std.specs.Prelude.{◌≡◌, ℕ, ◌+◌, ◌-◌, ◌*◌, ◌<◌, ◌≤◌, nat_lt};
 ghost use Rattle.league.specs.Limits.{max_rounds};
 ghost use Rattle.league.specs.Sets.{has, IsBelow};
 ghost use Rattle.league.specs.Sums.{sum_below, sum_where, count_where};
@@ -10,7 +10,7 @@ ghost use Rattle.robinx.specs.Deviations.{over, games_in_round, games_in_window,
 ghost use Rattle.robinx.specs.Parts.{over_in_met_windows, changing_terms};
 
 use crate::counts::{
-    CountedGames, counted_rounds, games_in_round, games_of_team, opponents_of, over,
+    CountedGames, counted_rounds, games_in_round, games_of_team, games_on_side, opponents_of, over,
 };
 use crate::guests::teams_otherwise;
 use crate::windows::{over_in_row, over_in_windows_of};
@@ -86,7 +86,7 @@ pub(crate) fn ca3_part(
 {
     let length = window as u8;
     let windows = schedule.rounds() + 1 - length;
-    let starts = SlotSet::below(windows).common(rounds.starts_meeting(length));
+    let starts = SlotSet::below(windows).intersection(rounds.starts_meeting(length));
     let mut total = 0;
     for team in games.teams {
         total += over_from_starts(schedule, games, starts, length, most, team);
@@ -154,11 +154,11 @@ pub(crate) fn ca4_part(
         (RuleBody.Ca4 games.now.teams games.now.side games.now.opponents slots each most) }
 {
     let otherwise = teams_otherwise(schedule, main, rounds, games.teams, games.opponents);
-    if !otherwise.meets(games.teams) {
+    if !otherwise.intersects(games.teams) {
         return 0;
     }
     if each {
-        over_in_slots(schedule, games, slots.common(rounds), most)
+        over_in_slots(schedule, games, slots.intersection(rounds), most)
     } else {
         over(games_of_all(schedule, games, slots), most)
     }
@@ -189,10 +189,29 @@ fn games_of_all(schedule: &Schedule, games: &CountedGames, slots: SlotSet) -> u3
         sum_where (round_count schedule.now.teams) (has slots) (games_in_round schedule.now games.now.side
         (has games.now.teams) (has games.now.opponents)) }
 {
+    if games.opponents == TeamSet::below(schedule.teams()) {
+        return games_on_sides(schedule, games, slots);
+    }
     let opponents = opponents_of(schedule, games);
     let mut count = 0;
     for team in games.teams {
         count += games_of_team(schedule, games, opponents, slots, team);
+    }
+    count
+}
+
+/// The same where all teams are opponents.
+fn games_on_sides(schedule: &Schedule, games: &CountedGames, slots: SlotSet) -> u32
+    requires round_robin { IsDoubleRoundRobin schedule.now }
+    requires teams { IsBelow schedule.now.teams games.now.teams }
+    requires opponents { (t : ℕ) → has games.now.opponents t ≡ nat_lt t schedule.now.teams }
+    ensures { result ≡
+        sum_where (round_count schedule.now.teams) (has slots) (games_in_round schedule.now games.now.side
+        (has games.now.teams) (has games.now.opponents)) }
+{
+    let mut count = 0;
+    for team in games.teams {
+        count += games_on_side(schedule, games, slots, team);
     }
     count
 }

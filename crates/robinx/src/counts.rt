@@ -43,6 +43,7 @@ pub(crate) fn over(count: u32, most: u32) -> u64
 }
 
 /// The rounds in which the team is on this side.
+#[inline]
 pub(crate) fn rounds_on_side(schedule: &Schedule, side: Side, team: u8) -> SlotSet
     requires { team < schedule.now.teams }
     ensures members { (r : ℕ) → has result r ≡
@@ -74,10 +75,10 @@ pub(crate) fn counted_rounds(
 {
     let all = TeamSet::below(schedule.teams());
     if games.opponents == all {
-        return rounds_on_side(schedule, games.side, team).common(slots);
+        return rounds_on_side(schedule, games.side, team).intersection(slots);
     }
-    let opponents = all.common(games.opponents);
-    rounds_against(schedule, games.side, opponents, team).common(slots)
+    let opponents = all.intersection(games.opponents);
+    rounds_against(schedule, games.side, opponents, team).intersection(slots)
 }
 
 /// The rounds in which the team meets one of the opponents on this side.
@@ -126,7 +127,7 @@ pub(crate) fn opponents_of(schedule: &Schedule, games: &CountedGames) -> u32
         return schedule.teams().into();
     }
     let mut count = 0;
-    for _ in all.common(games.opponents) {
+    for _ in all.intersection(games.opponents) {
         count += 1;
     }
     count
@@ -146,17 +147,35 @@ pub(crate) fn games_of_team(
     ensures value { result ≡ games_of_team schedule.now games.now.side (has games.now.opponents) (has slots) team }
     ensures most { result ≤ max_rounds }
 {
-    let on_side = rounds_on_side(schedule, games.side, team);
-    let within = on_side.common(slots);
     if games.opponents == TeamSet::below(schedule.teams()) {
-        return within.len();
+        return games_on_side(schedule, games, slots, team);
     }
+    let on_side = rounds_on_side(schedule, games.side, team);
+    let within = on_side.intersection(slots);
     let outside = on_side.difference(slots);
     if within.len() <= outside.len() {
         return games_with(schedule, games.opponents, within, team);
     }
     let season = games_of_season(games.side, opponents, games.opponents.has(team));
     season - games_with(schedule, games.opponents, outside, team)
+}
+
+/// In how many rounds of the slots the team's game counts, where all teams are opponents.
+#[inline]
+pub(crate) fn games_on_side(
+    schedule: &Schedule,
+    games: &CountedGames,
+    slots: SlotSet,
+    team: u8,
+) -> u32
+    requires team { team < schedule.now.teams }
+    requires opponents { (t : ℕ) → has games.now.opponents t ≡ nat_lt t schedule.now.teams }
+    ensures value { result ≡ games_of_team schedule.now games.now.side (has games.now.opponents) (has slots) team }
+    ensures most { result ≤ max_rounds }
+{
+    rounds_on_side(schedule, games.side, team)
+        .intersection(slots)
+        .len()
 }
 
 /// In how many of the rounds the team meets one of the opponents.

@@ -6,7 +6,7 @@ ghost use Rattle.league.specs.Sets.{has, IsBelow};
 ghost use Rattle.fixtures.specs.Games.{round_count, cell};
 ghost use Rattle.robinx.specs.Parts.{is_guest, counts_otherwise};
 
-use crate::passed_rules::takes_all_or_none;
+use crate::unaffected_rules::takes_all_or_none;
 use fixtures::Schedule;
 use league::{SlotSet, TeamSet};
 
@@ -24,7 +24,7 @@ pub(crate) fn teams_otherwise(
     ensures below { IsBelow schedule.now.teams result }
 {
     if takes_all_or_none(main, opponents) {
-        teams.common(main)
+        teams.intersection(main)
     } else {
         teams_around(schedule, main, rounds, teams)
     }
@@ -37,7 +37,7 @@ fn teams_around(schedule: &Schedule, main: TeamSet, rounds: SlotSet, teams: Team
         (has teams t && (has main t || is_guest schedule.now (has main) (has rounds) t)) }
     ensures below { IsBelow schedule.now.teams result }
 {
-    let in_season = SlotSet::below(schedule.rounds()).common(rounds);
+    let in_season = SlotSet::below(schedule.rounds()).intersection(rounds);
     let mut around = TeamSet::empty();
     for team in teams {
         if is_around(schedule, main, in_season, team) {

@@ -14,14 +14,14 @@ mod guests;
 mod laws;
 mod pairs;
 mod parts;
-mod passed_rules;
 mod separation_rules;
 mod touched_rules;
+mod unaffected_rules;
 mod windows;
 
 pub use break_rules::breaks;
 pub use deviations::deviation;
 pub use laws::{deviations_balance, looked_past_stays, nothing_to_alter, untouched_stays};
 pub use parts::deviation_part;
-pub use passed_rules::looks_past;
 pub use touched_rules::touches;
+pub use unaffected_rules::looks_past;

@@ -12,10 +12,10 @@ pub(crate) fn partners(teams: TeamSet, set: TeamSet, team: u8) -> TeamSet
     ensures members { (t : ℕ) → t < team → has result t ≡ (has teams t && (has set t || has set team)) }
     ensures below { IsBelow team result }
 {
-    let lower = TeamSet::below(team).common(teams);
+    let lower = TeamSet::below(team).intersection(teams);
     if set.has(team) {
         lower
     } else {
-        lower.common(set)
+        lower.intersection(set)
     }
 }

@@ -54,7 +54,7 @@ fn changing_terms(
             max,
         } => ca2(
             schedule,
-            &CountedGames::new(teams.common(sides), *side, all_teams),
+            &CountedGames::new(teams.intersection(sides), *side, all_teams),
             *slots,
             *max,
         ),
@@ -116,7 +116,7 @@ fn changing_terms(
             side,
             slots,
             most,
-        } => br1(schedule, teams.common(sides), *side, *slots, *most),
+        } => br1(schedule, teams.intersection(sides), *side, *slots, *most),
         RuleBody::Br2 { teams, slots, most } => { br2_with(schedule, *teams, sides, *slots, *most) }
         RuleBody::Se1 { teams, min } => se1_with(schedule, *teams, main, *min),
         RuleBody::Fa2 { teams, slots, most } => { fa2_with(schedule, *teams, sides, *slots, *most) }

@@ -25,15 +25,15 @@ fn looks_at_team(rule: &Rule, teams: TeamSet) -> bool
     ensures { result ≡ looks_at_team rule.now.body (has teams) }
 {
     match &rule.body {
-        RuleBody::Ca1 { teams: own, .. } => own.meets(teams),
-        RuleBody::Ca2 { teams1, .. } => teams1.meets(teams),
-        RuleBody::Ca3 { teams1, .. } => teams1.meets(teams),
-        RuleBody::Ca4 { teams1, .. } => teams1.meets(teams),
+        RuleBody::Ca1 { teams: own, .. } => own.intersects(teams),
+        RuleBody::Ca2 { teams1, .. } => teams1.intersects(teams),
+        RuleBody::Ca3 { teams1, .. } => teams1.intersects(teams),
+        RuleBody::Ca4 { teams1, .. } => teams1.intersects(teams),
         RuleBody::Ga1 { games, .. } => has_touched_game(games, teams),
-        RuleBody::Br1 { teams: own, .. } => own.meets(teams),
-        RuleBody::Br2 { teams: own, .. } => own.meets(teams),
-        RuleBody::Se1 { teams: own, .. } => own.meets(teams),
-        RuleBody::Fa2 { teams: own, .. } => own.meets(teams),
+        RuleBody::Br1 { teams: own, .. } => own.intersects(teams),
+        RuleBody::Br2 { teams: own, .. } => own.intersects(teams),
+        RuleBody::Se1 { teams: own, .. } => own.intersects(teams),
+        RuleBody::Fa2 { teams: own, .. } => own.intersects(teams),
     }
 }
 
@@ -43,11 +43,11 @@ pub(crate) fn looks_at_round(rule: &Rule, rounds: SlotSet) -> bool
     ensures { result ≡ looks_at_round rule.now.body (has rounds) }
 {
     match &rule.body {
-        RuleBody::Ca1 { slots, .. } => slots.meets(rounds),
-        RuleBody::Ca2 { slots, .. } => slots.meets(rounds),
+        RuleBody::Ca1 { slots, .. } => slots.intersects(rounds),
+        RuleBody::Ca2 { slots, .. } => slots.intersects(rounds),
         RuleBody::Ca3 { .. } => has_touched_round(rounds),
-        RuleBody::Ca4 { slots, .. } => slots.meets(rounds),
-        RuleBody::Ga1 { slots, .. } => slots.meets(rounds),
+        RuleBody::Ca4 { slots, .. } => slots.intersects(rounds),
+        RuleBody::Ga1 { slots, .. } => slots.intersects(rounds),
         RuleBody::Br1 { slots, .. } => has_touched_break(*slots, rounds),
         RuleBody::Br2 { slots, .. } => has_touched_break(*slots, rounds),
         RuleBody::Se1 { .. } => has_touched_round(rounds),
@@ -60,7 +60,7 @@ pub(crate) fn looks_at_round(rule: &Rule, rounds: SlotSet) -> bool
 fn has_touched_round(touched: SlotSet) -> bool
     ensures { result ≡ has_touched_round (has touched) }
 {
-    SlotSet::below(MAX_ROUNDS).meets(touched)
+    SlotSet::below(MAX_ROUNDS).intersects(touched)
 }
 
 /// Whether one of the slots is touched, or the round before it.
@@ -68,7 +68,7 @@ fn has_touched_round(touched: SlotSet) -> bool
 fn has_touched_break(slots: SlotSet, touched: SlotSet) -> bool
     ensures { result ≡ has_touched_slot slots (or_before (has touched)) }
 {
-    slots.meets(touched.with_next_below(MAX_ROUNDS))
+    slots.intersects(touched.with_next_below(MAX_ROUNDS))
 }
 
 /// Whether a round up to one of the slots is touched: where one of the slots isn't before the first touched round.
@@ -78,7 +78,9 @@ fn has_touched_until(slots: SlotSet, touched: SlotSet) -> bool
     match touched.into_iter().next() {
         Some(first) => {
             let earlier = SlotSet::below(first);
-            SlotSet::below(MAX_ROUNDS).difference(earlier).meets(slots)
+            SlotSet::below(MAX_ROUNDS)
+                .difference(earlier)
+                .intersects(slots)
         }
         None => false,
     }

@@ -81,8 +81,8 @@ fn full_windows(set: SlotSet, starts: SlotSet, window: u8) -> Windows
     let mut nearly = starts;
     let mut next = set;
     for _ in 0..window {
-        nearly = nearly.common(next).union(full);
-        full = full.common(next);
+        nearly = nearly.intersection(next).union(full);
+        full = full.intersection(next);
         next = before(next);
     }
     Windows { full, nearly }
@@ -93,7 +93,7 @@ fn before(set: SlotSet) -> SlotSet
     ensures { (s : ℕ) → s + 1 < max_rounds → has result s ≡ has set (s + 1) }
 {
     let alike = set.like_next_below(MAX_ROUNDS);
-    set.toggled(SlotSet::below(MAX_ROUNDS - 1).difference(alike))
+    set.symmetric_difference(SlotSet::below(MAX_ROUNDS - 1).difference(alike))
 }
 
 /// The rounds of the set in each window that begins with one of the starts, over the most.
@@ -120,5 +120,5 @@ fn rounds_in_window(rounds: SlotSet, first: u8, window: u8) -> u32
 {
     let past = SlotSet::below(first);
     let until_end = SlotSet::below(first + window);
-    until_end.difference(past).common(rounds).len()
+    until_end.difference(past).intersection(rounds).len()
 }

@@ -7,7 +7,7 @@ mod allocations;
 #[cfg(test)]
 mod chains;
 #[cfg(test)]
-mod changes;
+mod changed_games;
 #[cfg(test)]
 mod checks;
 #[cfg(test)]

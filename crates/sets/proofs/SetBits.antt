@@ -5,7 +5,7 @@ use Rattle.std.proofs.Common.{◌∙◌, ap, inl, inr, arith}
 use Rattle.std.proofs.Math.Nat.{mod-eq_of_lt}
 use Rattle.std.proofs.lemmas.Bool.{cases_eq, cases_lt, ne_eqb}
 use Rattle.std.proofs.lemmas.Nat.{pow_pos, shr-shr, shr_split, shr_le, mod_below, shr_below, and_le_l, and_le_r, or_lt}
-use Rattle.std.proofs.lemmas.Nat.{xor_lt, ones_cat}
+use Rattle.std.proofs.lemmas.Nat.{xor_lt, ones_cat, and_mask}
 use Rattle.std.proofs.lemmas.Nat.Bits.{bit_at_and, bit_at_or, bit_at_xor, bit_at_not, bit_at-lt, bit_at-zero}
 use Rattle.std.proofs.lemmas.Nat.Bits.{bit_at_cat_low, bit_at_cat_high}
 use Rattle.std.specs.Bool.{beq}
@@ -31,8 +31,8 @@ has_union a b k = rw (bit_at_or a b k) (of_bits (bit_at a k) (bit_at b k) (bit_a
       | inr e ↦ elim (is_zero_or_one y y_small) [ inl f ↦ rw (e, f) refl | inr f ↦ rw (e, f) refl ]
     ]
 
-pub has_common : (a b k : ℕ) → has (bit_and a b) k ≡ (has a k && has b k)
-has_common a b k = rw (bit_at_and a b k) (of_bits (bit_at a k) (bit_at b k) (bit_at-lt a k) (bit_at-lt b k))
+pub has_intersection : (a b k : ℕ) → has (bit_and a b) k ≡ (has a k && has b k)
+has_intersection a b k = rw (bit_at_and a b k) (of_bits (bit_at a k) (bit_at b k) (bit_at-lt a k) (bit_at-lt b k))
   where
     of_bits : (x y : ℕ) → x < 2 → y < 2 → (min x y == 1) ≡ (x == 1 && y == 1)
     of_bits x y x_small y_small = elim (is_zero_or_one x x_small) [
@@ -52,7 +52,7 @@ has_toggled a b k = rw (bit_at_xor a b k) (of_bits (bit_at a k) (bit_at b k) (bi
 -- a word's bits that another lacks, where the first has none beyond the word
 pub has_difference : (w : Width) (a b k : ℕ) → IsBelow (bits w) a → IsBelow (bits w) b
     → has (bit_and a (bit_not w b)) k ≡ (has a k && not (has b k))
-has_difference w a b k a_below b_below = has_common a (bit_not w b) k ∙ elim (cases_lt k (bits w)) [
+has_difference w a b k a_below b_below = has_intersection a (bit_not w b) k ∙ elim (cases_lt k (bits w)) [
   | inl inside ↦ ap (λ c. has a k && c) (rw (bit_at_not w b k b_below inside) (of_bit (bit_at b k) (bit_at-lt b k)))
   | inr beyond ↦ rw (has_beyond (bits w) a k a_below beyond) refl
 ]
@@ -105,13 +105,22 @@ ones_count (suc m) set below =
     top : (bit : ℕ) → bit < 2 → count_ones bit ≡ (if bit % 2 == 1 then 1 else 0)
     top bit small = elim (is_zero_or_one bit small) [ inl none ↦ rw none refl | inr one ↦ rw one refl ]
 
+-- the bits of a word are those of its two halves
+pub ones_of_halves : (set : ℕ) → count_ones (bit_and set (2 ^ 64 - 1)) + count_ones (set / 2 ^ 64) ≡ count_ones set
+ones_of_halves set =
+    omega (
+      arith,
+      ap (λ n. count_ones n) (and_mask set 64),
+      ap (λ n. count_ones n) (sym (shr_split set 64)) ∙ ones_cat 64 (set / 2 ^ 64) (set % 2 ^ 64) (mod_below set (2 ^ 64) (pow_pos 64)),
+    )
+
 -- whether some bit is in both words
 pub meets_of_bits : (w : Width) (m a b : ℕ) → m ≤ bits w → IsBelow m a
     → not (bit_and a b == 0) ≡ any_below m (λ k. has a k && has b k)
 meets_of_bits w m a b fits below = elim (cases_eq (bit_and a b) 0) [
   | inl none ↦
       rw none (sym (any_below_from_none m (λ k. has a k && has b k)
-      (λ k k_below. sym (has_common a b k) ∙ ap (λ s. has s k) none ∙ has_empty k)))
+      (λ k k_below. sym (has_intersection a b k) ∙ ap (λ s. has s k) none ∙ has_empty k)))
   | inr some ↦
       let common_below : IsBelow m (bit_and a b) = IsBelow_common m a b below in
       let taken =
@@ -119,7 +128,7 @@ meets_of_bits w m a b fits below = elim (cases_eq (bit_and a b) 0) [
       rw (ne_eqb (bit_and a b) 0 some)
       (sym (any_below_found m (λ k. has a k && has b k) (trailing_zeros w (bit_and a b))
       (lowest_below m (bit_and a b) _ _ common_below taken)
-      (sym (has_common a b (trailing_zeros w (bit_and a b))) ∙ taken.in_set)))
+      (sym (has_intersection a b (trailing_zeros w (bit_and a b))) ∙ taken.in_set)))
 ]
 
 -- the numbers that are as the next is, where that is below a bound
@@ -161,7 +170,7 @@ has_with_next w set m k fits lt =
     rw (
       mask,
       next,
-      has_common (bit_or set (set * 2 ^ 1)) (all_numbers m) k,
+      has_intersection (bit_or set (set * 2 ^ 1)) (all_numbers m) k,
       has_union set (set * 2 ^ 1) k,
       has_next set k,
       has_all_numbers m k,

@@ -5,7 +5,7 @@ use Rattle.std.proofs.lemmas.Bool.{true≢false}
 use Rattle.sets.specs.Sums.{all_below, any_below}
 use Rattle.sets.specs.Sets.{has}
 use Rattle.sets.proofs.Sums.{all_below_none, all_below_more, any_below_none, any_below_more}
-use Rattle.sets.proofs.SetBits.{has_common, has_union, has_shifted}
+use Rattle.sets.proofs.SetBits.{has_intersection, has_union, has_shifted}
 
 -- all in a row of k + 1 pass, and all in the row that begins one later: so do all in a row of k + 2
 all_of_both : (k : ℕ) (test later : ℕ → Bool) → ((j : ℕ) → later j ≡ test (suc j))
@@ -57,7 +57,7 @@ pub has_longer_row : (set starts k s : ℕ) → 1 ≤ k
     → has (bit_and starts (starts / 2 ^ 1)) s ≡ all_below (k + 1) (λ j. has set (s + j))
 has_longer_row set starts zero s some so_far = absurd (omega arith)
 has_longer_row set starts (suc k) s some so_far =
-    has_common starts (starts / 2 ^ 1) s ∙ ap (λ b. has starts s && b) (has_shifted starts 1 s ∙ so_far (s + 1))
+    has_intersection starts (starts / 2 ^ 1) s ∙ ap (λ b. has starts s && b) (has_shifted starts 1 s ∙ so_far (s + 1))
     ∙ ap (λ b. b && all_below (suc k) (λ j. has set (s + 1 + j))) (so_far s)
     ∙ all_of_both k (λ j. has set (s + j)) (λ j. has set (s + 1 + j)) (λ j. ap (has set) (omega arith))
     ∙ ap (λ n. all_below n (λ j. has set (s + j))) (omega arith)

@@ -69,13 +69,20 @@ impl SlotSet {
     }
 
     /// How many slots there are.
+    #[inline]
     #[tactic(auto, using(crate::proofs::SetBits::ones_count, crate::proofs::SetWords::slots_len))]
     pub fn len(self) -> u32
         ensures value { result ≡ count_where max_rounds (has self) }
         ensures among { (m : ℕ) → IsBelow m self → result ≡ count_where m (has self) }
         ensures most { result ≤ max_rounds }
     {
-        self.bits.count_ones()
+        let low = (self.bits & 0xffff_ffff_ffff_ffff) as u64;
+        let high = (self.bits >> 64) as u64;
+        // a season of up to 32 teams ends before slot 64
+        if high == 0 {
+            return low.count_ones();
+        }
+        low.count_ones() + high.count_ones()
     }
 
     /// The slots that are in one of the sets, or in both.
@@ -90,8 +97,8 @@ impl SlotSet {
     }
 
     /// The slots that are in both sets.
-    #[tactic(auto, using(crate::proofs::SetBits::has_common))]
-    pub fn common(self, slots: SlotSet) -> Self
+    #[tactic(auto, using(crate::proofs::SetBits::has_intersection))]
+    pub fn intersection(self, slots: SlotSet) -> Self
         ensures members { (s : ℕ) → has result s ≡ (has self s && has slots s) }
         ensures below { (m : ℕ) → IsBelow m self → IsBelow m result }
     {
@@ -113,7 +120,7 @@ impl SlotSet {
 
     /// The set with each slot of the other added where it lacks it, and taken out where it has it.
     #[tactic(auto, using(crate::proofs::SetWords::slots_turned))]
-    pub fn toggled(self, slots: SlotSet) -> Self
+    pub fn symmetric_difference(self, slots: SlotSet) -> Self
         ensures members { (s : ℕ) → has result s ≡ (if has slots s then not (has self s) else has self s) }
         ensures below { (m : ℕ) → IsBelow m self → IsBelow m slots → IsBelow m result }
     {
@@ -124,7 +131,7 @@ impl SlotSet {
 
     /// Whether some slot is in both sets.
     #[tactic(auto, using(crate::proofs::SetWords::slots_meet))]
-    pub fn meets(self, slots: SlotSet) -> bool
+    pub fn intersects(self, slots: SlotSet) -> bool
         ensures { result ≡ any_below max_rounds (λ s. has self s && has slots s) }
     {
         self.bits & slots.bits != 0

@@ -69,8 +69,8 @@ impl TeamSet {
     }
 
     /// The teams that are in both sets.
-    #[tactic(auto, using(crate::proofs::SetBits::has_common))]
-    pub fn common(self, teams: TeamSet) -> Self
+    #[tactic(auto, using(crate::proofs::SetBits::has_intersection))]
+    pub fn intersection(self, teams: TeamSet) -> Self
         ensures members { (t : ℕ) → has result t ≡ (has self t && has teams t) }
         ensures below { (m : ℕ) → IsBelow m self → IsBelow m result }
     {
@@ -81,7 +81,7 @@ impl TeamSet {
 
     /// Whether some team is in both sets.
     #[tactic(auto, using(crate::proofs::SetWords::teams_meet))]
-    pub fn meets(self, teams: TeamSet) -> bool
+    pub fn intersects(self, teams: TeamSet) -> bool
         ensures { result ≡ any_below max_teams (λ t. has self t && has teams t) }
     {
         self.bits & teams.bits != 0

@@ -6,9 +6,7 @@
 #![tactic(auto)]
 
 mod laws;
-mod legs;
-mod meetings;
-mod phases;
+mod repeats;
 mod repeats_told;
 mod rounds_told;
 mod runs;
@@ -16,16 +14,18 @@ mod runs_told;
 mod season;
 mod teams_told;
 mod told;
+mod travel;
 mod travel_parts;
+mod unphased_pairs;
 
 pub use laws::{changes_around_balance, changes_balance, parts_balance, same_pairs_repeat_alike};
-pub use legs::{travel, travel_of};
-pub use meetings::{repeats, repeats_part, repeats_with};
-pub use phases::{unphased, unphased_part};
+pub use repeats::{repeats, repeats_part, repeats_with};
 pub use repeats_told::{repeats_of_rounds, repeats_of_teams};
 pub use rounds_told::legs_of_rounds;
 pub use runs::{runs_over, runs_part};
 pub use runs_told::{runs_of_rounds, runs_of_teams};
 pub use teams_told::legs_of_teams;
 pub use told::{Breaches, Legs};
+pub use travel::{travel, travel_of};
 pub use travel_parts::{travel_around, travel_part};
+pub use unphased_pairs::{unphased, unphased_part};

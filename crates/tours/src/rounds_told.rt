@@ -12,9 +12,9 @@ ghost use Rattle.tours.specs.Tours.{leg, travel};
 ghost use Rattle.tours.specs.Walked.{leg_exchanged};
 ghost use Rattle.tours.specs.Told.{legs_around, legs_changed};
 
-use crate::legs::{stop, way};
 use crate::season::teams_in;
 use crate::told::Legs;
+use crate::travel::{stop, way};
 use fixtures::Schedule;
 use league::{League, TeamSet};
 

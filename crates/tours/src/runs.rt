@@ -77,8 +77,8 @@ fn runs_of_team(schedule: &Schedule, at_most: u8, starts: SlotSet, team: u8) -> 
 {
     let runs = run_starts(schedule.home_rounds(team), schedule.rounds(), at_most + 1);
     // most teams have none, and a test takes fewer instructions than a count
-    if runs.meets(starts) {
-        let counted = runs.common(starts);
+    if runs.intersects(starts) {
+        let counted = runs.intersection(starts);
         u64::from(counted.len())
     } else {
         0

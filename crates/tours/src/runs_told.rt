@@ -71,7 +71,7 @@ fn turned_runs(schedule: &Schedule, at_most: u8, k: u8, l: u8, team: u8) -> Brea
             after: 0,
         };
     }
-    let turned = home.toggled(SlotSet::empty().with(k).with(l));
+    let turned = home.symmetric_difference(SlotSet::empty().with(k).with(l));
     Breaches {
         before: runs_in(home, rounds, at_most),
         after: runs_in(turned, rounds, at_most),
@@ -99,9 +99,9 @@ pub fn runs_of_teams(schedule: &Schedule, league: &League, i: u8, j: u8, among: 
     let rounds = schedule.rounds();
     let of_i = schedule.home_rounds(i);
     let of_j = schedule.home_rounds(j);
-    let turned = of_i.toggled(of_j).common(among);
-    let new_i = of_i.toggled(turned);
-    let new_j = of_j.toggled(turned);
+    let turned = of_i.symmetric_difference(of_j).intersection(among);
+    let new_i = of_i.symmetric_difference(turned);
+    let new_j = of_j.symmetric_difference(turned);
     Breaches {
         before: runs_in(of_j, rounds, at_most) + runs_in(of_i, rounds, at_most),
         after: runs_in(new_j, rounds, at_most) + runs_in(new_i, rounds, at_most),

@@ -15,7 +15,7 @@ pub(crate) fn teams_in(schedule: &Schedule, set: TeamSet) -> TeamSet
     ensures round_robin { IsDoubleRoundRobin schedule.now }
 {
     let all = TeamSet::below(schedule.teams());
-    all.common(set)
+    all.intersection(set)
 }
 
 /// The rounds of the set that the schedule has.
@@ -24,7 +24,7 @@ pub(crate) fn rounds_in(schedule: &Schedule, set: SlotSet) -> SlotSet
     ensures below { IsBelow (round_count schedule.now.teams) result }
 {
     let all = SlotSet::below(schedule.rounds());
-    all.common(set)
+    all.intersection(set)
 }
 
 /// The rounds before the last that are in the set, or the next of which is.
@@ -35,5 +35,5 @@ pub(crate) fn rounds_next_to(schedule: &Schedule, set: SlotSet) -> SlotSet
 {
     let all = SlotSet::below(schedule.rounds() - 1);
     let starts = set.starts_meeting(2);
-    all.common(starts)
+    all.intersection(starts)
 }

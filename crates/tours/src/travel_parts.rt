@@ -10,8 +10,8 @@ ghost use Rattle.tours.specs.Tours.{leg};
 ghost use Rattle.tours.specs.Parts.{travel_part, travel_around};
 ghost use Rattle.tours.specs.Walked.{legs_of_guest};
 
-use crate::legs::{leg, stop, way};
 use crate::season::{rounds_in, teams_in};
+use crate::travel::{leg, stop, way};
 use fixtures::{Schedule, Touched};
 use league::{League, SlotSet, TeamSet};
 
@@ -110,7 +110,7 @@ fn legs_to_hosts(schedule: &Schedule, league: &League, hosts: TeamSet, rounds: S
 {
     let mut total = 0;
     for host in hosts {
-        let visits = schedule.home_rounds(host).common(rounds);
+        let visits = schedule.home_rounds(host).intersection(rounds);
         total += legs_to_host(schedule, league, hosts, rounds, host, visits);
     }
     total

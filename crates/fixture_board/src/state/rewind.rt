@@ -4,8 +4,8 @@ ghost use Rattle.std.specs.Prelude.{◌≡◌, ◌+◌, ◌<◌, ◌≤◌, leng
 ghost use Rattle.fixture_board.specs.History.{effect, effective};
 
 use crate::change::{Change, Entry};
-use crate::counting::cost_of;
 use crate::state::State;
+use crate::whole_cost::cost_of;
 use league::League;
 
 impl State {

@@ -2,7 +2,7 @@
 
 use crate::ask::{Ask, Proposal};
 use crate::change::Change;
-use crate::made_within::{make_at_cost, make_within};
+use crate::made_exchanges::{make_at_cost, make_within};
 use crate::reply::Why;
 use crate::state::State;
 use crate::state::checks::Limit;

@@ -11,8 +11,8 @@ ghost use Rattle.tours.specs.Walked.{guest_terms};
 ghost use Rattle.tours.specs.Told.{is_either, in_rounds, leg_told};
 
 use super::places::{exchanged, is_visit};
-use crate::legs::{stop, way};
 use crate::told::Legs;
+use crate::travel::{stop, way};
 use fixtures::Schedule;
 use league::{League, SlotSet};
 
@@ -44,7 +44,7 @@ pub(super) fn guests_legs(
     ensures after_most { result.after ≤ 2 * max_distance * max_rounds }
 {
     let home = schedule.home_rounds(host);
-    let visits = home.common(rounds);
+    let visits = home.intersection(rounds);
     legs_of_visits(schedule, league, i, j, rounds, host, visits)
 }
 

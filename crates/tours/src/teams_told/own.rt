@@ -12,8 +12,8 @@ ghost use Rattle.tours.specs.Walked.{part_of};
 ghost use Rattle.tours.specs.Told.{leg_told, leg_turned, AreTurns, IsTurn};
 
 use super::places::exchanged;
-use crate::legs::{stop, way};
 use crate::told::Legs;
+use crate::travel::{stop, way};
 use fixtures::Schedule;
 use league::{League, SlotSet};
 

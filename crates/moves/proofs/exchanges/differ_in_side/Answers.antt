@@ -15,10 +15,10 @@ toggled false true = refl
 toggled false false = refl
 
 pub returns : goal.returns
-returns c = c.meets.ensures ∙ any_below_same max_rounds _ _ (λ r _.
+returns c = c.intersects.ensures ∙ any_below_same max_rounds _ _ (λ r _.
     and_agree (has c.args.rounds r) _ _ (λ is_in.
     let below = lt-ltb r (round_count c.args.schedule.now.teams) (c.requires.below r is_in) in
-    c.toggled.ensures.members r ∙
+    c.symmetric_difference.ensures.members r ∙
     ap₂ (λ x y. cond y (not x) x)
     (c.home_rounds.ensures.members r ∙ ap (λ b. b && is_home c.args.schedule.now c.args.i r) below)
     (c.home_rounds-2.ensures.members r ∙ ap (λ b. b && is_home c.args.schedule.now c.args.j r) below) ∙

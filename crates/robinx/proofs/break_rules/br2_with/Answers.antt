@@ -4,11 +4,11 @@ use Rattle.robinx.specs.Touches.{has_touched_team}
 use Rattle.robinx.specs.Parts.{changing_terms}
 use Rattle.robinx.proofs.break_rules.br2_with.Goals as goal
 
-pub returns-then-meets : goal.returns-then-meets
+pub returns-then-intersects : goal.returns-then-intersects
 unfolding changing_terms has_touched_team
-returns-then-meets c = λ main rounds.
-    c.br2.ensures ∙ sym (cond-true {A = ℕ} _ _ 0 (sym c.meets.ensures ∙ c.if-meets.true))
+returns-then-intersects c = λ main rounds.
+    c.br2.ensures ∙ sym (cond-true {A = ℕ} _ _ 0 (sym c.intersects.ensures ∙ c.if-intersects.true))
 
-pub returns-else-meets : goal.returns-else-meets
+pub returns-else-intersects : goal.returns-else-intersects
 unfolding changing_terms has_touched_team
-returns-else-meets c = λ main rounds. sym (cond-false {A = ℕ} _ _ 0 (sym c.meets.ensures ∙ c.if-meets.false))
+returns-else-intersects c = λ main rounds. sym (cond-false {A = ℕ} _ _ 0 (sym c.intersects.ensures ∙ c.if-intersects.false))

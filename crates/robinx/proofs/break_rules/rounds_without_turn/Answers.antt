@@ -10,7 +10,7 @@ returns c = λ r.
       c.difference-later.ensures.members r,
       c.below.ensures.members r,
       c.below-2.ensures.members r,
-      c.common-turns.ensures.members r,
+      c.intersection-turns.ensures.members r,
       c.with_next_below.ensures.members r,
       c.with_next_below-2.ensures.members r,
       c.rounds_on_side-home.ensures.members r,

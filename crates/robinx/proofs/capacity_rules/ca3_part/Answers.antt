@@ -12,16 +12,16 @@ over_from_starts-total-requires-clause-team c = lowest_below _ _ _ _ c.loop-team
 
 pub over_from_starts-total-requires-clause-starts : goal.over_from_starts-total-requires-clause-starts
 over_from_starts-total-requires-clause-starts c =
-    subst (λ (n : ℕ). IsBelow (n + 1 - c.args.window) c.common-starts.result) c.rounds.ensures.number
-    (c.common-starts.ensures.below _ c.below.ensures.below)
+    subst (λ (n : ℕ). IsBelow (n + 1 - c.args.window) c.intersection-starts.result) c.rounds.ensures.number
+    (c.intersection-starts.ensures.below _ c.below.ensures.below)
 
 pub loop-team-preserved : goal.loop-team-preserved
 loop-team-preserved c =
     sum_without_more _ _ _ _ _ _ _ _ _ c.loop-team.invariant c.in-Some.ensures.steps
     (c.over_from_starts-total.ensures.value ∙
     met_starts c.args.schedule.now c.args.games.now.side (has c.args.games.now.opponents) (has c.args.rounds) c.args.window c.args.most c.in-Some.team
-    c.below.result c.starts_meeting.result c.common-starts.result _ (ap (λ n. n + 1 - c.args.window) c.rounds.ensures.number)
-    c.below.ensures.members c.starts_meeting.ensures.members c.common-starts.ensures.members) c.over_from_starts-total.ensures.most
+    c.below.result c.starts_meeting.result c.intersection-starts.result _ (ap (λ n. n + 1 - c.args.window) c.rounds.ensures.number)
+    c.below.ensures.members c.starts_meeting.ensures.members c.intersection-starts.ensures.members) c.over_from_starts-total.ensures.most
 
 pub returns : goal.returns
 returns c = sum_without_all _ _ _ _ _ _ _ c.loop-team.invariant c.in-None.ensures.steps.0 (λ k below. refl)

@@ -5,22 +5,22 @@ use Rattle.robinx.proofs.capacity_rules.ca4_part.Goals as goal
 
 pub returns-then-not-meets : goal.returns-then-not-meets
 returns-then-not-meets c = λ sides.
-    let none : c.meets.result ≡ false = cc in
+    let none : c.intersects.result ≡ false = cc in
     Ca4-none c.args.schedule.now c.args.main c.args.rounds sides c.args.games.now.teams c.args.games.now.side c.args.games.now.opponents
-    c.args.slots c.args.most c.args.each (sym (one_is_met _ _ _ c.teams_otherwise-otherwise.ensures.members) ∙ sym c.meets.ensures ∙ none)
+    c.args.slots c.args.most c.args.each (sym (one_is_met _ _ _ c.teams_otherwise-otherwise.ensures.members) ∙ sym c.intersects.ensures ∙ none)
 
 pub returns-then-each : goal.returns-then-each
 returns-then-each c = λ sides.
-    let one : c.meets.result ≡ true = cc in
+    let one : c.intersects.result ≡ true = cc in
     rw c.if-each.true
     (c.over_in_slots.ensures ∙
     Ca4-each c.args.schedule.now c.args.main c.args.rounds sides c.args.games.now.teams c.args.games.now.side c.args.games.now.opponents
-    c.args.slots c.args.most _ c.common.ensures.members (sym (one_is_met _ _ _ c.teams_otherwise-otherwise.ensures.members) ∙ sym c.meets.ensures ∙ one))
+    c.args.slots c.args.most _ c.intersection.ensures.members (sym (one_is_met _ _ _ c.teams_otherwise-otherwise.ensures.members) ∙ sym c.intersects.ensures ∙ one))
 
 pub returns-else-each : goal.returns-else-each
 returns-else-each c = λ sides.
-    let one : c.meets.result ≡ true = cc in
+    let one : c.intersects.result ≡ true = cc in
     rw c.if-each.false
     (c.over.ensures.value ∙ ap (λ n. over n c.args.most) c.games_of_all.ensures ∙
     Ca4-all c.args.schedule.now c.args.main c.args.rounds sides c.args.games.now.teams c.args.games.now.side c.args.games.now.opponents
-    c.args.slots c.args.most (sym (one_is_met _ _ _ c.teams_otherwise-otherwise.ensures.members) ∙ sym c.meets.ensures ∙ one))
+    c.args.slots c.args.most (sym (one_is_met _ _ _ c.teams_otherwise-otherwise.ensures.members) ∙ sym c.intersects.ensures ∙ one))

@@ -12,26 +12,12 @@ use Rattle.robinx.proofs.SeasonCounts.{games_of_season}
 use Rattle.robinx.proofs.Sets.{count_of_members}
 use Rattle.robinx.proofs.counts.games_of_team.Goals as goal
 
-pub returns-then-eq-clause-value : goal.returns-then-eq-clause-value
-unfolding games_of_team
-returns-then-eq-clause-value c =
-    let all : c.args.games.now.opponents ≡ c.below.result = eqb-true _ _ (sym c.eq.ensures ∙ c.if-eq.true) in
-    let members : (t : ℕ) → has c.args.games.now.opponents t ≡ nat_lt t c.args.schedule.now.teams =
-    λ t. ap (λ s. has s t) all ∙ c.below.ensures.members t ∙ ap (nat_lt t) c.teams.ensures.number in
-    c.len.ensures.among _ (c.common-within.ensures.below _ c.rounds_on_side-on_side.ensures.below) ∙
-    count_of_members _ _ _
-    (λ r.
-    c.common-within.ensures.members r ∙
-    ap (λ b. b && has c.args.slots r) (c.rounds_on_side-on_side.ensures.members r) ∙
-    counted_from-all c.args.schedule.now c.teams.ensures.round_robin c.args.games.now.side c.args.games.now.opponents members c.args.team r
-    (has c.args.slots r) c.requires.team)
-
 pub returns-then-len-clause-value : goal.returns-then-len-clause-value
 unfolding games_of_team
 returns-then-len-clause-value c =
     c.games_with.ensures.value ∙
     counted_among c.args.schedule.now c.args.games.now.side (has c.args.games.now.opponents) (has c.args.slots) c.args.team _ _
-    c.rounds_on_side-on_side.ensures.members c.common-within.ensures.members
+    c.rounds_on_side-on_side.ensures.members c.intersection-within.ensures.members
 
 pub games_of_season-season-requires : goal.games_of_season-season-requires
 games_of_season-season-requires c =

@@ -18,7 +18,7 @@ pub loop-init : goal.loop-init
 loop-init c =
     sum_without_none _ _ _ _ _
     (subst (λ (n : ℕ). IsBelow n c.into_iter-iterator.result) c.teams.ensures.number
-    (omega (arith, c.into_iter-iterator.ensures.into_iter_gives, c.common-items.ensures.below _ c.below-all.ensures.below))) refl
+    (omega (arith, c.into_iter-iterator.ensures.into_iter_gives, c.intersection-items.ensures.below _ c.below-all.ensures.below))) refl
 
 pub loop-preserved : goal.loop-preserved
 loop-preserved c = sum_without_more _ _ _ _ _ _ _ _ _ c.loop.invariant c.in-Some.ensures.steps refl (omega arith)
@@ -27,6 +27,6 @@ pub returns : goal.returns
 returns c =
     sum_without_all _ _ _ _ _ _ _ c.loop.invariant c.in-None.ensures.steps.0
     (λ t below.
-    ap (λ s. has s t) c.into_iter-iterator.ensures.into_iter_gives ∙ c.common-items.ensures.members t ∙
+    ap (λ s. has s t) c.into_iter-iterator.ensures.into_iter_gives ∙ c.intersection-items.ensures.members t ∙
     ap (λ b. b && has c.args.games.now.opponents t)
     (c.below-all.ensures.members t ∙ lt-ltb t c.teams.result (omega (arith, c.teams.ensures.number))))

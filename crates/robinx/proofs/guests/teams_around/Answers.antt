@@ -38,5 +38,5 @@ pub returns-clause-members : goal.returns-clause-members
 returns-clause-members c = λ t.
     passing_all _ _ _ _ c.loop-team.invariant.passing t (ap (λ s. has s t) c.in-None.ensures.steps.0 ∙ has_empty t) ∙
     ap (λ b. has c.args.teams t && (has c.args.main t || b))
-    (guest_in_season c.args.schedule.now (has c.args.main) c.below.result c.args.rounds c.common-in_season.result t
-    (λ r. c.below.ensures.members r ∙ ap (nat_lt r) c.rounds.ensures.number) c.common-in_season.ensures.members)
+    (guest_in_season c.args.schedule.now (has c.args.main) c.below.result c.args.rounds c.intersection-in_season.result t
+    (λ r. c.below.ensures.members r ∙ ap (nat_lt r) c.rounds.ensures.number) c.intersection-in_season.ensures.members)

@@ -8,9 +8,9 @@ pub returns-in-Ca1-clause-value : goal.returns-in-Ca1-clause-value
 returns-in-Ca1-clause-value c =
     rw (c.new.ensures.teams, c.new.ensures.side, c.new.ensures.opponents) at c.ca2.ensures ∙
     Ca2-all c.args.schedule.now c.teams.ensures.round_robin c.in-Ca1.side c.below-all_teams.result
-    (rw c.teams.ensures.number at c.below-all_teams.ensures.members) c.common.result c.in-Ca1.slots c.in-Ca1.max ∙
-    Ca1-terms c.args.schedule.now c.args.main c.args.rounds c.args.sides c.in-Ca1.teams c.in-Ca1.side c.in-Ca1.slots c.in-Ca1.max c.common.result
-    c.common.ensures.members ∙
+    (rw c.teams.ensures.number at c.below-all_teams.ensures.members) c.intersection.result c.in-Ca1.slots c.in-Ca1.max ∙
+    Ca1-terms c.args.schedule.now c.args.main c.args.rounds c.args.sides c.in-Ca1.teams c.in-Ca1.side c.in-Ca1.slots c.in-Ca1.max c.intersection.result
+    c.intersection.ensures.members ∙
     ap (changing_terms c.args.schedule.now c.args.main c.args.rounds c.args.sides) (sym c.in-Ca1.is)
 
 pub returns-in-Ca2-clause-value : goal.returns-in-Ca2-clause-value
@@ -39,8 +39,8 @@ returns-in-Ga1-clause-value c =
 pub returns-in-Br1-clause-value : goal.returns-in-Br1-clause-value
 returns-in-Br1-clause-value c =
     c.br1.ensures ∙
-    Br1-terms c.args.schedule.now c.args.main c.args.rounds c.args.sides c.in-Br1.teams c.in-Br1.side c.in-Br1.slots c.in-Br1.most c.common-in-Br1.result
-    c.common-in-Br1.ensures.members ∙
+    Br1-terms c.args.schedule.now c.args.main c.args.rounds c.args.sides c.in-Br1.teams c.in-Br1.side c.in-Br1.slots c.in-Br1.most c.intersection-in-Br1.result
+    c.intersection-in-Br1.ensures.members ∙
     ap (changing_terms c.args.schedule.now c.args.main c.args.rounds c.args.sides) (sym c.in-Br1.is)
 
 pub returns-in-Br2-clause-value : goal.returns-in-Br2-clause-value

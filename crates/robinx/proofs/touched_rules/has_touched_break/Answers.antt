@@ -6,4 +6,4 @@ use Rattle.robinx.proofs.touched_rules.has_touched_break.Goals as goal
 
 pub returns : goal.returns
 unfolding has_touched_slot
-returns c = c.meets.ensures ∙ touched_break c.args.slots _ (has c.args.touched) c.with_next_below.ensures.members
+returns c = c.intersects.ensures ∙ touched_break c.args.slots _ (has c.args.touched) c.with_next_below.ensures.members

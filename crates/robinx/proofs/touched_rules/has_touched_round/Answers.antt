@@ -4,4 +4,4 @@ use Rattle.robinx.proofs.Searches.{touched_round}
 use Rattle.robinx.proofs.touched_rules.has_touched_round.Goals as goal
 
 pub returns : goal.returns
-returns c = c.meets.ensures ∙ touched_round _ (has c.args.touched) c.below.ensures.members
+returns c = c.intersects.ensures ∙ touched_round _ (has c.args.touched) c.below.ensures.members

@@ -11,7 +11,7 @@ below-earlier-requires c =
 
 pub returns-in-Some : goal.returns-in-Some
 returns-in-Some c =
-    c.meets.ensures ∙
+    c.intersects.ensures ∙
     touched_until c.args.slots c.args.touched _ _ _ (rw c.into_iter.ensures.into_iter_gives at c.in-Some.ensures.steps)
     (λ r. c.difference.ensures.members r ∙ rw (c.below.ensures.members r, c.below-earlier.ensures.members r) refl)
 

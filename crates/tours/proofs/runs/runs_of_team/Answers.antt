@@ -3,18 +3,18 @@ use Rattle.tours.specs.Told.{HasRuns}
 use Rattle.tours.proofs.RunStarts.{runs_counted, no_runs_counted}
 use Rattle.tours.proofs.runs.runs_of_team.Goals as goal
 
-pub returns-then-meets-clause-value : goal.returns-then-meets-clause-value
-returns-then-meets-clause-value c =
+pub returns-then-intersects-clause-value : goal.returns-then-intersects-clause-value
+returns-then-intersects-clause-value c =
     let same : c.from.result ≡ c.len.result = omega arith in
     let runs : HasRuns c.args.schedule.now c.args.team (c.args.at_most + 1) c.run_starts-runs.result =
     c.run_starts-runs.ensures.members c.args.schedule.now c.args.team (sym c.rounds.ensures.number) c.home_rounds.ensures.members in
     same ∙ c.len.ensures.value ∙
-    runs_counted c.args.schedule.now c.args.team (c.args.at_most + 1) c.run_starts-runs.result c.args.starts c.common-counted.result (omega arith)
-    (omega (arith, c.rounds.ensures.number, c.rounds.ensures.most)) runs c.common-counted.ensures.members
+    runs_counted c.args.schedule.now c.args.team (c.args.at_most + 1) c.run_starts-runs.result c.args.starts c.intersection-counted.result (omega arith)
+    (omega (arith, c.rounds.ensures.number, c.rounds.ensures.most)) runs c.intersection-counted.ensures.members
 
-pub returns-else-meets-clause-value : goal.returns-else-meets-clause-value
-returns-else-meets-clause-value c =
+pub returns-else-intersects-clause-value : goal.returns-else-intersects-clause-value
+returns-else-intersects-clause-value c =
     let runs : HasRuns c.args.schedule.now c.args.team (c.args.at_most + 1) c.run_starts-runs.result =
     c.run_starts-runs.ensures.members c.args.schedule.now c.args.team (sym c.rounds.ensures.number) c.home_rounds.ensures.members in
     sym (no_runs_counted c.args.schedule.now c.args.team (c.args.at_most + 1) c.run_starts-runs.result c.args.starts (omega arith)
-    (omega (arith, c.rounds.ensures.number, c.rounds.ensures.most)) runs (sym c.meets.ensures ∙ c.if-meets.false))
+    (omega (arith, c.rounds.ensures.number, c.rounds.ensures.most)) runs (sym c.intersects.ensures ∙ c.if-intersects.false))

@@ -17,7 +17,7 @@ loop-host-preserved c =
     sum_without_more _ _ _ _ _ _ _ _ _ c.loop-host.invariant c.in-Some.ensures.steps
     (c.legs_to_host-total.ensures.value ∙
     sum_of_visits c.args.schedule.now _ c.in-Some.host _ _ _ c.home_rounds.ensures.members
-    c.common-visits.ensures.members)
+    c.intersection-visits.ensures.members)
     c.legs_to_host-total.ensures.most
 
 pub returns-clause-value : goal.returns-clause-value

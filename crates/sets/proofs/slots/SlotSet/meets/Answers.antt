@@ -1,7 +1,0 @@
-use Rattle.std.proofs.Common.{arith}
-use Rattle.std.proofs.lemmas.Grind.{common_steps}
-use Rattle.sets.proofs.SetWords.{slots_meet}
-use Rattle.sets.proofs.slots.SlotSet.meets.Goals as goal
-
-pub returns : goal.returns
-returns c = grind (arith, common_steps, slots_meet)
