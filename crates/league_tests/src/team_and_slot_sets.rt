@@ -81,7 +81,11 @@ fn sets_of_two_sets(rt: HostRuntime) {
     check_same(&rt, &low().union(high()), &SlotSet::below(3).with(77));
     check_same(&rt, &low().intersection(high()), &SlotSet::empty().with(2));
     check_same(&rt, &low().difference(high()), &SlotSet::below(2));
-    check_same(&rt, &low().symmetric_difference(high()), &SlotSet::below(2).with(77));
+    check_same(
+        &rt,
+        &low().symmetric_difference(high()),
+        &SlotSet::below(2).with(77),
+    );
 }
 
 #[test]
