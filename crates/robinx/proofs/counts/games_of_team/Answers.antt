@@ -1,15 +1,12 @@
-use Rattle.std.proofs.Common.{◌≡◌, ℕ, ◌+◌, ◌&&◌, not, nat_lt, sym, ◌∙◌, ap, arith}
-use Rattle.std.proofs.lemmas.Bool.{eqb-true}
+use Rattle.std.proofs.Common.{◌≡◌, ◌+◌, ◌&&◌, not, ◌∙◌, ap, arith}
 use Rattle.league.specs.Sets.{has}
 use Rattle.league.specs.Sums.{count_where}
 use Rattle.league.proofs.ForCallers.{count_where_le}
 use Rattle.fixtures.specs.Games.{round_count}
 use Rattle.robinx.specs.Deviations.{is_counted, games_of_team}
 use Rattle.robinx.specs.Walked.{season_games}
-use Rattle.robinx.proofs.AllTeams.{counted_from-all}
 use Rattle.robinx.proofs.CountedRounds.{counted_among, counted_in_and_out}
 use Rattle.robinx.proofs.SeasonCounts.{games_of_season}
-use Rattle.robinx.proofs.Sets.{count_of_members}
 use Rattle.robinx.proofs.counts.games_of_team.Goals as goal
 
 pub returns-then-len-clause-value : goal.returns-then-len-clause-value
