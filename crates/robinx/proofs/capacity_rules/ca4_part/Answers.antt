@@ -3,8 +3,8 @@ use Rattle.robinx.specs.Deviations.{over}
 use Rattle.robinx.proofs.PartTerms.{one_is_met, Ca4-none, Ca4-all, Ca4-each}
 use Rattle.robinx.proofs.capacity_rules.ca4_part.Goals as goal
 
-pub returns-then-not-meets : goal.returns-then-not-meets
-returns-then-not-meets c = λ sides.
+pub returns-then-not-intersects : goal.returns-then-not-intersects
+returns-then-not-intersects c = λ sides.
     let none : c.intersects.result ≡ false = cc in
     Ca4-none c.args.schedule.now c.args.main c.args.rounds sides c.args.games.now.teams c.args.games.now.side c.args.games.now.opponents
     c.args.slots c.args.most c.args.each (sym (one_is_met _ _ _ c.teams_otherwise-otherwise.ensures.members) ∙ sym c.intersects.ensures ∙ none)
