@@ -35,7 +35,8 @@ in_and_out c =
     omega (
       arith,
       c.games_with-2.ensures.value ∙
-          counted_among c.args.schedule.now c.args.games.now.side (has c.args.games.now.opponents) (λ r. not (has c.args.slots r)) c.args.team _ _
+          counted_among c.args.schedule.now c.args.games.now.side (has c.args.games.now.opponents)
+          (λ r. not (has c.args.slots r)) c.args.team _ _
           c.rounds_on_side-on_side.ensures.members c.difference-outside.ensures.members,
       c.games_of_season-season.ensures ∙ ap (season_games c.args.games.now.side c.args.opponents) c.has.ensures ∙
           games_of_season c.args.schedule.now c.teams.ensures.round_robin c.args.team c.requires.team c.args.games.now.side

@@ -12,5 +12,6 @@ returns-clause-value c =
     count_of_members _ _ _
     (λ r.
     c.intersection.ensures.members r ∙ ap (λ b. b && has c.args.slots r) (c.rounds_on_side.ensures.members r) ∙
-    counted_from-all c.args.schedule.now c.requires.round_robin c.args.games.now.side c.args.games.now.opponents c.requires.opponents c.args.team r
+    counted_from-all c.args.schedule.now c.requires.round_robin c.args.games.now.side c.args.games.now.opponents c.requires.opponents
+    c.args.team r
     (has c.args.slots r) c.requires.team)
