@@ -21,8 +21,8 @@ meets_again g team round = nat_lt 0 round && (cell g team round).opponent == (ce
 -- the opponent, and whether the game is at home, goes over the most in a row, and repeats
 abbrev pub cell_of : ℕ → Bool → Bool → Bool → List ℕ
 cell_of opponent home over again =
-    concat (codes "<td class='" ∷ word_if home (codes "h") ∷ word_if over (codes " o") ∷ word_if again (codes " r") ∷ codes "'>" ∷ word_if
-    (not home) (codes "@") ∷ decimal (opponent + 1) ∷ codes "</td>" ∷ [])
+    concat (codes "<td class='" ∷ word_if home (codes "h") ∷ word_if over (codes " o") ∷ word_if again (codes " r") ∷ codes "'>" ∷
+    word_if (not home) (codes "@") ∷ decimal (opponent + 1) ∷ codes "</td>" ∷ [])
 
 abbrev pub cell_text : Games → ℕ → ℕ → ℕ → List ℕ
 cell_text g at_most team round =
