@@ -1,6 +1,6 @@
 """Schedules, moves, costs, play texts and reports of leagues of both formats, written from docs/model.md, docs/rules.md,
 docs/league-format.md, docs/script.md, docs/sheet.md and docs/report.md. It shares no code with the crates:
-scripts/worker-steps, scripts/play-apart, scripts/search-again and scripts/report-apart hold the crates to it."""
+scripts/worker-steps, scripts/bench-counts, scripts/play-apart, scripts/search-again and scripts/report-apart hold the crates to it."""
 import json
 from itertools import accumulate, combinations, groupby
 

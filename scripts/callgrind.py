@@ -1,5 +1,7 @@
-"""The instructions of a step of a search, counted by valgrind's callgrind, which other processes don't disturb."""
+"""Instructions of a step of a search, and of each call of a function, counted by valgrind's callgrind, which other processes don't
+disturb."""
 import json
+import pathlib
 import re
 import subprocess
 import tempfile
@@ -12,15 +14,41 @@ def league(teams, rule=None):
     return json.dumps({"format": 2, "teams": [f"T{i + 1}" for i in range(teams)], "distances": away, "rules": rules})
 
 
+def counted(command, counts, options=(), text=""):
+    """What valgrind says of a run of the command. The counts go to this file, or to files that begin with its name."""
+    tool = ["valgrind", "--tool=callgrind", f"--callgrind-out-file={counts}", *options]
+    return subprocess.run([*tool, *command], input=text, capture_output=True, text=True, check=True).stderr
+
+
 def instructions(program, text, steps, slack):
     """Those of a search of one worker over this league."""
     words = ["search", "--workers", "1", "--seed", "1", "--slack", str(slack), "--room", "100000", "--steps", str(steps)]
     with tempfile.NamedTemporaryFile() as counts:
-        tool = ["valgrind", "--tool=callgrind", f"--callgrind-out-file={counts.name}"]
-        said = subprocess.run([*tool, program, *words], input=text, capture_output=True, text=True, check=True).stderr
+        said = counted([program, *words], counts.name, text=text)
     return int(re.search(r"Collected : (\d+)", said)[1])
 
 
 def step(program, text, few, many, slack=0):
     """Those of a step: of many steps more than of few, over the steps between."""
     return (instructions(program, text, many, slack) - instructions(program, text, few, slack)) / (many - few)
+
+
+def symbols(program, path):
+    """The names under which the program has the function of this path, one for each type that it is called with."""
+    said = subprocess.run(["nm", program], capture_output=True, text=True, check=True).stdout
+    names = {line.split(maxsplit=2)[-1] for line in said.splitlines()}
+    return [name for name in names if name == path or name.startswith(f"{path}::<")]
+
+
+def calls(program, words, paths):
+    """The instructions of each call of the functions of these paths, by path, in the order of the calls."""
+    path_of = {name: path for path in paths for name in symbols(program, path)}
+    options = [f"--{what}={name}" for name in path_of for what in ("toggle-collect", "dump-after")]
+    found = {path: [] for path in paths}
+    with tempfile.TemporaryDirectory() as room:
+        counted([program, *words], f"{room}/counts", ["--demangle=no", *options])
+        for dump in sorted(pathlib.Path(room).glob("counts.*"), key=lambda file: int(file.suffix[1:])):
+            text = dump.read_text(encoding="utf-8")
+            name = re.search("^desc: Trigger: --dump-after=(.*)$", text, re.M)[1]
+            found[path_of[name]].append(int(re.search(r"^totals: (\d+)", text, re.M)[1]))
+    return found

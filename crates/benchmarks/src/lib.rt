@@ -5,6 +5,7 @@
 
 mod kind;
 mod measure;
+mod plan;
 mod reports;
 mod steps;
 mod tries;

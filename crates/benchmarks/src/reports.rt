@@ -4,12 +4,13 @@ ghost use Rattle.std.specs.Prelude.{◌≡◌, ◌*◌, ◌^◌, ◌<◌, [], If
 
 use crate::kind::Kind;
 use crate::measure::{Count, measure};
+use crate::plan::Plan;
 use crate::steps::{own_steps, seat_steps};
-use crate::tries::{Tries, try_moves};
+use crate::tries::{Tried, Tries, try_moves};
 use crate::turns::{Turn, Work, take_turns};
 use fixture_board::{Board, MAX_ROOM};
 use league::{League, circular};
-use search::Report;
+use search::{Report, SeatDoor};
 use shared_board::Shared;
 use std::alloc::Global;
 use std::io;
@@ -17,6 +18,9 @@ use std::rt::Runtime;
 use std::sync::Wait;
 use std::thread::Threads;
 use std::time::Instant;
+
+/// By how much the score may rise at the first of the tries or steps.
+const SLACKS: [u32; 2] = [0, 300];
 
 /// Moves of each kind, made and taken back.
 pub fn report_moves<R: Runtime + AllocGlobal>(rt: &R, teams: u8, count: u32) -> io::Result<()> {
@@ -52,58 +56,96 @@ fn time_moves<R: Runtime + AllocGlobal>(
     Ok((counted, each))
 }
 
-/// Tries of drawn moves.
+/// Tries of drawn moves, and of the moves of each kind, with each slack.
 pub fn report_tries<R: Runtime + AllocGlobal>(rt: &R, teams: u8, count: u32) -> io::Result<()> {
-    let (tries, each) = time_tries(rt, teams, count)?;
+    for slack in SLACKS {
+        report_tries_by_kind(rt, teams, Plan { count, slack })?;
+    }
+    Ok(())
+}
+
+fn report_tries_by_kind<R: Runtime + AllocGlobal>(rt: &R, teams: u8, plan: Plan) -> io::Result<()> {
+    for tried in Tried::ALL {
+        report_tried(rt, teams, tried, plan)?;
+    }
+    Ok(())
+}
+
+fn report_tried<R: Runtime + AllocGlobal>(
+    rt: &R,
+    teams: u8,
+    tried: Tried,
+    plan: Plan,
+) -> io::Result<()> {
+    let (tries, each) = time_tries(rt, teams, tried, plan)?;
     let Tries {
         kept,
         withdrawn,
         refused,
     } = tries;
-    println!(rt; "{teams} teams tries: kept {kept} withdrawn {withdrawn} refused {refused}")?;
-    eprintln!(rt; "{teams} teams tries: {each} ns each")
+    let slack = plan.slack;
+    println!(rt;
+        "{teams} teams {tried} tries, slack {slack}: kept {kept} withdrawn {withdrawn} refused {refused}"
+    )?;
+    eprintln!(rt; "{teams} teams {tried} tries, slack {slack}: {each} ns each")
 }
 
 /// What became of the tries, and the nanoseconds of each.
 fn time_tries<R: Runtime + AllocGlobal>(
     rt: &R,
     teams: u8,
-    count: u32,
+    tried: Tried,
+    plan: Plan,
 ) -> io::Result<(Tries, u128)> {
     let league = league_of(rt.alloc(), teams)?;
     let mut schedule = fixtures::start(rt.alloc(), &league)?;
     let start = Instant::now(rt)?;
-    let tries = try_moves(&mut schedule, &league, count);
-    let each = nanoseconds_each(rt, start, count)?;
+    let tries = try_moves(&mut schedule, &league, tried, plan);
+    let each = nanoseconds_each(rt, start, plan.count)?;
     Ok((tries, each))
 }
 
-/// Steps of a worker that has the board for itself, and of one that has the only seat of a shared board.
+/// Steps of a worker that has the board for itself, and of one that has the only seat of a shared board, with each slack.
 pub fn report_steps<R: Runtime + AllocGlobal + Wait>(
     rt: &R,
     teams: u8,
     count: u32,
 ) -> io::Result<()> {
-    let (Report { made, accepted, .. }, each) = time_own_steps(rt, teams, count)?;
-    println!(rt; "{teams} teams own board: proposed {made} accepted {accepted}")?;
-    eprintln!(rt; "{teams} teams own board: {each} ns each")?;
-    let (Report { made, accepted, .. }, each) = time_seat_steps(rt, teams, count)?;
-    println!(rt; "{teams} teams shared board: proposed {made} accepted {accepted}")?;
-    eprintln!(rt; "{teams} teams shared board: {each} ns each")
+    for slack in SLACKS {
+        let plan = Plan { count, slack };
+        let own = time_own_steps(rt, teams, plan)?;
+        report_worker(rt, teams, "own board", slack, own)?;
+        let seat = time_seat_steps(rt, teams, plan)?;
+        report_worker(rt, teams, "shared board", slack, seat)?;
+    }
+    Ok(())
+}
+
+/// What a worker reports, and the nanoseconds of a step.
+fn report_worker<R: Runtime + AllocGlobal>(
+    rt: &R,
+    teams: u8,
+    board: &str,
+    slack: u32,
+    timed: (Report, u128),
+) -> io::Result<()> {
+    let (Report { made, accepted, .. }, each) = timed;
+    println!(rt; "{teams} teams {board}, slack {slack}: proposed {made} accepted {accepted}")?;
+    eprintln!(rt; "{teams} teams {board}, slack {slack}: {each} ns each")
 }
 
 /// What a worker with a board of its own reports, and the nanoseconds of a step.
 fn time_own_steps<R: Runtime + AllocGlobal + Wait>(
     rt: &R,
     teams: u8,
-    count: u32,
+    plan: Plan,
 ) -> io::Result<(Report, u128)> {
     let league = league_of(rt.alloc(), teams)?;
     let mut copy = fixtures::start(rt.alloc(), &league)?;
-    let board = board_of(rt.alloc(), teams, count)?;
+    let board = board_of(rt.alloc(), teams, plan.count)?;
     let start = Instant::now(rt)?;
-    let report = own_steps(rt, &league, board, &mut copy, count);
-    let each = nanoseconds_each(rt, start, count)?;
+    let report = own_steps(rt, &league, board, &mut copy, plan);
+    let each = nanoseconds_each(rt, start, plan.count)?;
     Ok((report, each))
 }
 
@@ -111,14 +153,18 @@ fn time_own_steps<R: Runtime + AllocGlobal + Wait>(
 fn time_seat_steps<R: Runtime + AllocGlobal + Wait>(
     rt: &R,
     teams: u8,
-    count: u32,
+    plan: Plan,
 ) -> io::Result<(Report, u128)> {
     let league = league_of(rt.alloc(), teams)?;
     let mut copy = fixtures::start(rt.alloc(), &league)?;
-    let (shared, seat) = Shared::new(rt.alloc(), board_of(rt.alloc(), teams, count)?)?;
+    let (shared, seat) = Shared::new(rt.alloc(), board_of(rt.alloc(), teams, plan.count)?)?;
+    let door = SeatDoor {
+        shared: &shared,
+        seat,
+    };
     let start = Instant::now(rt)?;
-    let report = seat_steps(rt, &league, &shared, seat, &mut copy, count);
-    let each = nanoseconds_each(rt, start, count)?;
+    let report = seat_steps(rt, &league, door, &mut copy, plan);
+    let each = nanoseconds_each(rt, start, plan.count)?;
     Ok((report, each))
 }
 

@@ -1,13 +1,13 @@
-//! Steps of one worker of a search, that lets no score rise.
+//! Steps of one worker of a search.
 
 ghost use Rattle.search.specs.Crews.{IsFresh};
 
+use crate::plan::Plan;
 use crate::tries::SEED;
 use fixture_board::Board;
 use fixtures::Schedule;
 use league::League;
 use search::{NoGate, OwnDoor, Report, SeatDoor, WorkerPlan, worker};
-use shared_board::{Seat, Shared};
 use std::sync::Wait;
 
 /// The steps of a worker that has the board for itself.
@@ -16,36 +16,34 @@ pub fn own_steps<R: Wait>(
     league: &League,
     board: Board,
     copy: &mut Schedule,
-    steps: u32,
+    plan: Plan,
 ) -> Report {
     let mut door = OwnDoor {
         board,
         caller: 0,
         dones: 0,
     };
-    worker(rt, &mut door, &NoGate, league, plan(steps), copy)
+    worker(rt, &mut door, &NoGate, league, worker_plan(plan), copy)
 }
 
 /// The steps of a worker with the only seat of a shared board.
 pub fn seat_steps<R: Wait>(
     rt: &R,
     league: &League,
-    shared: &Shared,
-    seat: Seat,
+    mut door: SeatDoor<'_>,
     copy: &mut Schedule,
-    steps: u32,
+    plan: Plan,
 ) -> Report
-    requires { IsFresh shared.now seat }
+    requires { IsFresh door.shared.now door.seat }
 {
-    let mut door = SeatDoor { shared, seat };
-    worker(rt, &mut door, &NoGate, league, plan(steps), copy)
+    worker(rt, &mut door, &NoGate, league, worker_plan(plan), copy)
 }
 
-fn plan(steps: u32) -> WorkerPlan {
+fn worker_plan(plan: Plan) -> WorkerPlan {
     WorkerPlan {
         worker: 0,
         seed: SEED,
-        steps,
-        slack: 0,
+        steps: plan.count,
+        slack: u64::from(plan.slack),
     }
 }

@@ -1,19 +1,64 @@
-//! Tries of moves, as a search makes them: a move that can be made is kept if the score doesn't rise. Otherwise the
-//! schedule is as it was, and the move counts as withdrawn.
+//! Tries of moves, as a search makes them: a move that can be made is kept if the score rises by no more than the slack.
+//! Otherwise the schedule is as it was, and the move counts as withdrawn.
 
-ghost use Rattle.std.specs.Prelude.{◌≡◌};
+ghost use Rattle.std.specs.Prelude.{◌≡◌, ◌≤◌};
 ghost use Rattle.league.specs.League.{teams};
+ghost use Rattle.league.specs.Limits.{max_teams};
 ghost use Rattle.search.specs.Steps.{IsKnown};
 
+use crate::kind::Kind;
+use crate::plan::Plan;
 use fixture_board::{Cost, cost_of, make_within};
 use fixtures::Schedule;
 use league::League;
 use moves::{Move, check, exchange};
 use rand_pcg::Lcg64Xsh32;
 use search::draw;
+use std::fmt;
+use std::fmt::Write;
 
 /// The state that the generator starts with.
 pub const SEED: u64 = 1;
+
+/// Which moves are tried.
+#[derive(Clone, Copy, Debug, PartialEq, Eq)]
+pub enum Tried {
+    /// Moves as a search draws them.
+    Drawn,
+    /// The moves of a kind, in its order.
+    Of(Kind),
+}
+
+impl Tried {
+    pub const ALL: [Tried; 6] = [
+        Tried::Drawn,
+        Tried::Of(Kind::Homes),
+        Tried::Of(Kind::Rounds),
+        Tried::Of(Kind::Teams),
+        Tried::Of(Kind::PartRounds),
+        Tried::Of(Kind::PartTeams),
+    ];
+
+    /// The move of a try.
+    fn nth(self, generator: &mut Lcg64Xsh32, index: u32, teams: u8) -> Move
+        requires two { 2 ≤ teams }
+        requires most { teams ≤ max_teams }
+    {
+        match self {
+            Tried::Drawn => draw(generator, teams),
+            Tried::Of(kind) => kind.nth(index, teams, 2 * (teams - 1)),
+        }
+    }
+}
+
+impl fmt::Display for Tried {
+    fn fmt<W: Write>(&self, f: &mut fmt::Formatter<W>) -> fmt::Result {
+        match self {
+            Tried::Drawn => f.write_str("drawn"),
+            Tried::Of(kind) => write!(f, "{kind}"),
+        }
+    }
+}
 
 /// What became of the tries.
 #[derive(Clone, Copy, Debug, Default, PartialEq, Eq)]
@@ -30,6 +75,13 @@ struct Known {
     score: u64,
 }
 
+/// A move, and by how much the score may rise with it.
+#[derive(Clone, Copy)]
+struct Trial {
+    mv: Move,
+    slack: u64,
+}
+
 /// What became of one try.
 enum Outcome {
     Kept,
@@ -37,8 +89,8 @@ enum Outcome {
     Refused,
 }
 
-/// Tries so many moves, drawn by a generator that is the same at each call.
-pub fn try_moves(schedule: &mut Schedule, league: &League, tries: u32) -> Tries
+/// Tries so many moves. They are the same at each call, since the generator is.
+pub fn try_moves(schedule: &mut Schedule, league: &League, tried: Tried, plan: Plan) -> Tries
     requires { teams league.now ≡ schedule.old.teams }
 {
     let teams = schedule.teams();
@@ -48,9 +100,12 @@ pub fn try_moves(schedule: &mut Schedule, league: &League, tries: u32) -> Tries
     let mut known = Known { cost, score };
     let mut kept = 0;
     let mut withdrawn = 0;
-    for _ in 0..tries {
-        let mv = draw(&mut generator, teams);
-        match attempt(schedule, league, mv, &mut known) {
+    for index in 0..plan.count {
+        let trial = Trial {
+            mv: tried.nth(&mut generator, index, teams),
+            slack: plan.slack_at(index),
+        };
+        match attempt(schedule, league, trial, &mut known) {
             Outcome::Kept => kept += 1,
             Outcome::Withdrawn => withdrawn += 1,
             Outcome::Refused => {}
@@ -59,22 +114,24 @@ pub fn try_moves(schedule: &mut Schedule, league: &League, tries: u32) -> Tries
     Tries {
         kept,
         withdrawn,
-        refused: tries - kept - withdrawn,
+        refused: plan.count - kept - withdrawn,
     }
 }
 
 /// Tries a move on a schedule of known cost.
-fn attempt(schedule: &mut Schedule, league: &League, mv: Move, known: &mut Known) -> Outcome
+fn attempt(schedule: &mut Schedule, league: &League, trial: Trial, known: &mut Known) -> Outcome
     requires same_size { teams league.now ≡ schedule.old.teams }
     requires known { IsKnown league.now schedule.old known.old.cost known.old.score }
     ensures same_size { schedule.new.teams ≡ schedule.old.teams }
     ensures known { IsKnown league.now schedule.new known.new.cost known.new.score }
 {
+    let Trial { mv, slack } = trial;
     if check(schedule, mv).is_err() {
         return Outcome::Refused;
     }
     let exchange = exchange(schedule, mv);
-    let Some(cost) = make_within(schedule, league, &exchange, known.cost, known.score) else {
+    let most = known.score.saturating_add(slack);
+    let Some(cost) = make_within(schedule, league, &exchange, known.cost, most) else {
         return Outcome::Withdrawn;
     };
     let score = cost.score(league);

@@ -3,9 +3,9 @@ use Rattle.league.specs.League.{teams}
 use Rattle.search.specs.Steps.{IsKnown}
 use Rattle.benchmarks.proofs.tries.try_moves.Given as goal
 
-abbrev pub invariant-loop : goal.invariant-loop
-invariant-loop l = record {
-  counted : l.kept + l.withdrawn ≤ l.counter;
+abbrev pub invariant-loop-index : goal.invariant-loop-index
+invariant-loop-index l = record {
+  counted : l.kept + l.withdrawn ≤ l.index;
   same_size : teams l.league ≡ l.schedule.teams;
   size : l.schedule.teams ≡ l.teams;
   known : IsKnown l.league l.schedule l.known.cost l.known.score;
