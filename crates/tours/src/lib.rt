@@ -6,7 +6,7 @@
 #![tactic(auto)]
 
 mod laws;
-mod repeats;
+mod repeat_counts;
 mod repeats_told;
 mod rounds_told;
 mod runs;
@@ -14,18 +14,18 @@ mod runs_told;
 mod season;
 mod teams_told;
 mod told;
-mod travel;
 mod travel_parts;
 mod unphased_pairs;
+mod whole_travel;
 
 pub use laws::{changes_around_balance, changes_balance, parts_balance, same_pairs_repeat_alike};
-pub use repeats::{repeats, repeats_part, repeats_with};
+pub use repeat_counts::{repeats, repeats_part, repeats_with};
 pub use repeats_told::{repeats_of_rounds, repeats_of_teams};
 pub use rounds_told::legs_of_rounds;
 pub use runs::{runs_over, runs_part};
 pub use runs_told::{runs_of_rounds, runs_of_teams};
 pub use teams_told::legs_of_teams;
 pub use told::{Breaches, Legs};
-pub use travel::{travel, travel_of};
 pub use travel_parts::{travel_around, travel_part};
 pub use unphased_pairs::{unphased, unphased_part};
+pub use whole_travel::{travel, travel_of};

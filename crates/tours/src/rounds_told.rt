@@ -14,7 +14,7 @@ ghost use Rattle.tours.specs.Told.{legs_around, legs_changed};
 
 use crate::season::teams_in;
 use crate::told::Legs;
-use crate::travel::{stop, way};
+use crate::whole_travel::{stop, way};
 use fixtures::Schedule;
 use league::{League, TeamSet};
 

@@ -11,7 +11,7 @@ ghost use Rattle.tours.specs.Parts.{travel_part, travel_around};
 ghost use Rattle.tours.specs.Walked.{legs_of_guest};
 
 use crate::season::{rounds_in, teams_in};
-use crate::travel::{leg, stop, way};
+use crate::whole_travel::{leg, stop, way};
 use fixtures::{Schedule, Touched};
 use league::{League, SlotSet, TeamSet};
 

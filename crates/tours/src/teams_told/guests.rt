@@ -12,7 +12,7 @@ ghost use Rattle.tours.specs.Told.{is_either, in_rounds, leg_told};
 
 use super::places::{exchanged, is_visit};
 use crate::told::Legs;
-use crate::travel::{stop, way};
+use crate::whole_travel::{stop, way};
 use fixtures::Schedule;
 use league::{League, SlotSet};
 

@@ -13,7 +13,7 @@ ghost use Rattle.tours.specs.Told.{leg_told, leg_turned, AreTurns, IsTurn};
 
 use super::places::exchanged;
 use crate::told::Legs;
-use crate::travel::{stop, way};
+use crate::whole_travel::{stop, way};
 use fixtures::Schedule;
 use league::{League, SlotSet};
 

@@ -1,0 +1,10 @@
+use Rattle.std.proofs.Common.{◌-◌}
+use Rattle.league.specs.Limits.{max_teams}
+use Rattle.league.specs.Sets.{has}
+use Rattle.league.proofs.ForCallers.{IsSumWithout}
+use Rattle.fixtures.specs.Games.{round_count}
+use Rattle.tours.specs.Parts.{repeats_with_after}
+use Rattle.tours.proofs.repeat_counts.repeats_from_with.Given as goal
+
+abbrev pub invariant-loop-round : goal.invariant-loop-round
+invariant-loop-round l = IsSumWithout (round_count l.schedule.teams - 1) l.fn.firsts l.round-iterator l.total max_teams (repeats_with_after l.schedule (has l.among))

@@ -1,0 +1,12 @@
+use Rattle.std.proofs.Common.{arith, rules}
+use Rattle.std.proofs.lemmas.Grind.{common_steps}
+use Rattle.league.proofs.ForCallers.{sums}
+use Rattle.tours.specs.Tours.{travel_of}
+use Rattle.tours.proofs.whole_travel.travel_of.Goals as goal
+
+pub returns-clause-value : goal.returns-clause-value
+unfolding travel_of
+returns-clause-value c = grind (arith, common_steps, sums)
+
+pub returns-clause-most : goal.returns-clause-most
+returns-clause-most c = search rules
