@@ -1,13 +1,13 @@
 -- The repeats after an exchange, told by the meetings before it.
-use Rattle.std.proofs.Common.{◌≡◌, ℕ, ◌+◌, ◌-◌, ◌<◌, ◌≤◌, ◌≢◌, Bool, true, false, ◌&&◌, ◌||◌, inl, inr, refl, sym, ◌∙◌, ap, ap₂, arith}
+use Rattle.std.proofs.Common.{◌≡◌, ℕ, ◌+◌, ◌-◌, ◌<◌, ◌≤◌, ◌≢◌, Bool, true, false, ◌||◌, inl, inr, refl, sym, ◌∙◌, ap, ap₂, arith}
 use Rattle.std.specs.Prelude.{◌==◌, nat_lt, if◌then◌else◌}
-use Rattle.std.proofs.lemmas.Bool.{cases_Bool, cases_eq, cases_lt, cond-true, cond-false, eq-eqb, eqb-true, ne_eqb}
+use Rattle.std.proofs.lemmas.Bool.{cases_Bool, cond-true, cond-false, eq-eqb, eqb-true, ne_eqb}
 use Rattle.std.proofs.lemmas.Bool.Decides.{nat_tests}
 use Rattle.std.proofs.Math.Path.{fun_ext}
 use Rattle.league.specs.Sums.{sum_below, sum_where}
 use Rattle.league.proofs.ForCallers.{sum_below_more, sum_below_same, sum_below_swap, sum_below_balance}
 use Rattle.fixtures.specs.declared.game.Cell.{Cell}
-use Rattle.fixtures.specs.Games.{Games, round_of, round_count, cell, IsPair, IsDoubleRoundRobin}
+use Rattle.fixtures.specs.Games.{Games, round_count, cell, IsPair, IsDoubleRoundRobin}
 use Rattle.fixtures.specs.Edits.{exchanged, rounds_exchanged}
 use Rattle.fixtures.specs.Closed.{IsClosed, plays_in}
 use Rattle.fixtures.proofs.ForCallers.{exchanged_other, exchanged_lt, cell_rounds_exchanged, round_robin_rounds_exchanged}

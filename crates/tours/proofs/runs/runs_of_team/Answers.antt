@@ -1,4 +1,4 @@
-use Rattle.std.proofs.Common.{◌≡◌, ◌+◌, refl, sym, ◌∙◌, arith}
+use Rattle.std.proofs.Common.{◌≡◌, ◌+◌, sym, ◌∙◌, arith}
 use Rattle.tours.specs.Told.{HasRuns}
 use Rattle.tours.proofs.RunStarts.{runs_counted, no_runs_counted}
 use Rattle.tours.proofs.runs.runs_of_team.Goals as goal
