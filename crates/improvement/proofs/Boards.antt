@@ -1,5 +1,6 @@
 -- The boards of the chains.
-use Rattle.std.proofs.Common.{◌≡◌, ℕ, Bool, true, false, nat_lt, List, [], length, if◌then◌else◌, refl, sym, ◌∙◌, ap, subst, Option, Some, None, Result, Ok, Err, IfOk}
+use Rattle.std.proofs.Common.{◌≡◌, ℕ, Bool, true, false, nat_lt, List, [], length, if◌then◌else◌, refl, sym, ◌∙◌, ap, subst, Option, Some}
+use Rattle.std.proofs.Common.{None, Result, Ok, Err, IfOk}
 use Rattle.league.specs.League.{LeagueData}
 use Rattle.fixture_board.specs.declared.change.Entry.{Entry}
 use Rattle.fixture_board.specs.Record.{Book, book}
@@ -33,12 +34,14 @@ beginning_nothing league room LeagueStart = refl
 beginning_nothing league room Best = ap (with_room league room) (rewound_nothing league) ∙ room_for_nothing league room
 beginning_nothing league room Last = room_for_nothing league room
 
-pub begun_anew : {E : Type 0} (league : LeagueData) (room : ℕ) (start : PhaseStart) (kept : Option Book) (new : Result Book E) → kept ≡ None →
+pub begun_anew : {E : Type 0} (league : LeagueData) (room : ℕ) (start : PhaseStart) (kept : Option Book) (new : Result Book E) →
+    kept ≡ None →
     IfOk new (λ b. b ≡ book league room []) → IfOk new (λ b. b.history ≡ beginning league room start (history_in kept))
 begun_anew league room start kept (Ok b) none same =
     ap (λ (x : Book). x.history) same ∙ sym (beginning_nothing league room start) ∙
     ap (λ (k : Option Book). beginning league room start (history_in k)) (sym none)
 begun_anew league room start kept (Err e) none same = tt
 
-pub slot_board : {league : LeagueData} {room : ℕ} (kept : Option Book) (b : Book) → IsSlot league room kept → kept ≡ Some b → IsChainBoard league room b
+pub slot_board : {league : LeagueData} {room : ℕ} (kept : Option Book) (b : Book) → IsSlot league room kept → kept ≡ Some b →
+    IsChainBoard league room b
 slot_board {league} {room} kept b slot same = subst (IsSlot league room) same slot

@@ -38,13 +38,15 @@ record IsFinal (league : LeagueData) (room : ℕ) (h : List Entry) (changes : Li
   history : played_from league room [] changes ≡ rewound league h
   legal : IsLegal league room (rewound league h)
 
-final_is : (league : LeagueData) (room : ℕ) (leading : Option (List Entry)) (lead : Lead) → IsLeague league → IsLead league room leading lead →
+final_is : (league : LeagueData) (room : ℕ) (leading : Option (List Entry)) (lead : Lead) → IsLeague league →
+    IsLead league room leading lead →
     IsFinal league room (unwrap_or leading []) lead.changes.items
 final_is league room leading lead limits is =
     let h : List Entry = unwrap_or leading [] in
     let legal : IsLegal league room (rewound league h) = (same_best_rewound league room h).legal is.legal in
     record {
-      history = ap (played_from league room []) is.changes_are ∙ (replayed league room (rewound league h) (is_scored_league league limits) legal).history ∙
+      history = ap (played_from league room []) is.changes_are ∙
+          (replayed league room (rewound league h) (is_scored_league league limits) legal).history ∙
           credited_same 0 (rewound league h) (rewound_of league h is.of_caller);
       legal = legal;
     }
@@ -79,14 +81,17 @@ module _ {W : Type 0} (held : W → Option (List ℕ)) (tally : W → Tally) (le
       b ≡ book league (room_of plan.effort) (played_from league (room_of plan.effort) [] lead.changes.items) →
       phases_text league plan.workers all.runs ++ found_text b.league b.history ≡ improve_text league plan.workers all.runs
   text_is a x lead b all same =
-      ap (λ (t : List ℕ). phases_text league plan.workers all.runs ++ t) (found_is league plan all.runs lead b all.limits all.lead_is same) ∙
+      ap (λ (t : List ℕ). phases_text league plan.workers all.runs ++ t)
+      (found_is league plan all.runs lead b all.limits all.lead_is same) ∙
       sym (ending_is league plan.workers all.runs all.all)
 
-  pub all_stopped : {a x : BufferedSink W} (lead : Lead) → HasRunAll held tally league plan a x lead → StopsAfterPhases held tally league plan a x
+  pub all_stopped : {a x : BufferedSink W} (lead : Lead) → HasRunAll held tally league plan a x lead →
+      StopsAfterPhases held tally league plan a x
   all_stopped lead all =
       (phases_text league plan.workers all.runs, record { runs = all.runs; are = all.are; text_is = refl }, all.sends)
 
-  pub end_stops : {T : Type 0} {a x y : BufferedSink W} (done : T → Type 0) (lead : Lead) (b : Book) → HasRunAll held tally league plan a x lead →
+  pub end_stops : {T : Type 0} {a x y : BufferedSink W} (done : T → Type 0) (lead : Lead) (b : Book) →
+      HasRunAll held tally league plan a x lead →
       b ≡ book league (room_of plan.effort) (played_from league (room_of plan.effort) [] lead.changes.items) →
       Stops held tally x y (found_text b.league b.history) → EndsBy held tally league plan a y done (Err Write)
   end_stops {T} {a} {x} {y} done lead b all same stops = (

@@ -1,5 +1,6 @@
 -- The total of the history that leads.
-use Rattle.std.proofs.Common.{◌≡◌, ℕ, Bool, true, false, nat_lt, min, List, [], Option, Some, None, if◌then◌else◌, refl, sym, ◌∙◌, ap, subst, true≢false, arith}
+use Rattle.std.proofs.Common.{◌≡◌, ℕ, Bool, true, false, nat_lt, min, List, [], Option, Some, None, if◌then◌else◌, refl, sym, ◌∙◌, ap}
+use Rattle.std.proofs.Common.{subst, true≢false, arith}
 use Rattle.std.proofs.lemmas.Bool.Decides.{nat_tests}
 use Rattle.std.proofs.lemmas.List.Folds.{fold-map, fold_along}
 use Rattle.std.specs.Option.{option_map, unwrap_or}
@@ -62,7 +63,8 @@ least_leads league runs =
 
 -- ---- what is kept of it
 
-pub lead_none : (league : LeagueData) (room : ℕ) (lead : Lead) → lead.outcome ≡ None → lead.changes.items ≡ [] → IsLead league room None lead
+pub lead_none : (league : LeagueData) (room : ℕ) (lead : Lead) → lead.outcome ≡ None → lead.changes.items ≡ [] →
+    IsLead league room None lead
 lead_none league room lead outcome changes = record {
   outcome_is = outcome;
   changes_are = changes ∙ ap changes_of (sym (rewound_nothing league));
@@ -71,10 +73,12 @@ lead_none league room lead outcome changes = record {
 }
 
 ahead_by : (league : LeagueData) (leading : Option (List Entry)) (h : List Entry) (c : Bool) →
-    is_behind (option_map (outcome_of league) leading) (outcome_of league h) ≡ c → ahead league leading h ≡ (if c then h else unwrap_or leading [])
+    is_behind (option_map (outcome_of league) leading) (outcome_of league h) ≡ c →
+    ahead league leading h ≡ (if c then h else unwrap_or leading [])
 ahead_by league leading h c same = ap (λ (b : Bool). if b then h else unwrap_or leading []) same
 
-behind_by : (league : LeagueData) (leading : Option (List Entry)) (lead : Option PhaseOutcome) (o : PhaseOutcome) (h : List Entry) (c : Bool) →
+behind_by : (league : LeagueData) (leading : Option (List Entry)) (lead : Option PhaseOutcome) (o : PhaseOutcome) (h : List Entry)
+    (c : Bool) →
     lead ≡ option_map (outcome_of league) leading → o ≡ outcome_of league h → is_behind lead o ≡ c →
     is_behind (option_map (outcome_of league) leading) (outcome_of league h) ≡ c
 behind_by league leading lead o h c lead_is o_is same = rw (← lead_is, ← o_is) same

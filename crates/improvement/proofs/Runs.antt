@@ -6,13 +6,15 @@ use Rattle.league.specs.League.{LeagueData}
 use Rattle.phases.specs.Laws.{policy_of}
 use Rattle.phases.specs.Policy.{new_policy, policy_after}
 use Rattle.improvement.specs.declared.plan.ImprovePlan.{ImprovePlan}
-use Rattle.improvement.specs.Runs.{AreRuns, AreRunsFrom, IsRunAfter, PhaseRun, histories_after, histories_of, lead_after, lead_of, outcome_in, outcomes_of}
+use Rattle.improvement.specs.Runs.{AreRuns, AreRunsFrom, IsRunAfter, PhaseRun, histories_after, histories_of, lead_after, lead_of}
+use Rattle.improvement.specs.Runs.{outcome_in, outcomes_of}
 
 pub no_runs : (league : LeagueData) (plan : ImprovePlan) → AreRuns league plan []
 unfolding AreRuns
 no_runs league plan = tt
 
-from_more : (league : LeagueData) (plan : ImprovePlan) (before runs : List PhaseRun) (run : PhaseRun) → AreRunsFrom league plan before runs →
+from_more : (league : LeagueData) (plan : ImprovePlan) (before runs : List PhaseRun) (run : PhaseRun) →
+    AreRunsFrom league plan before runs →
     IsRunAfter league plan (before ++ runs) run → AreRunsFrom league plan before (runs ++ run ∷ [])
 from_more league plan before [] run are next =
     (subst (λ (b : List PhaseRun). IsRunAfter league plan b run) (append-nil before) next, tt)

@@ -1,5 +1,6 @@
 -- An improvement between two phases.
-use Rattle.std.proofs.Common.{◌≡◌, ℕ, ◌+◌, ◌-◌, ◌<◌, nat_lt, Bool, true, false, List, [], ◌∷◌, ◌++◌, length, get_or, set, map, replicate, All}
+use Rattle.std.proofs.Common.{◌≡◌, ℕ, ◌+◌, ◌-◌, ◌<◌, nat_lt, Bool, true, false, List, [], ◌∷◌, ◌++◌, length, get_or, set, map, replicate}
+use Rattle.std.proofs.Common.{All}
 use Rattle.std.proofs.Common.{Option, Some, None, Err, refl, sym, ◌∙◌, ap, subst, subst₂, length-append, length-set, set-set, arith}
 use Rattle.std.proofs.lemmas.Bool.{cond-true, lt-ltb}
 use Rattle.std.proofs.lemmas.Bool.Decides.{nat_tests}
@@ -24,10 +25,12 @@ use Rattle.streams.proofs.Pieces.{Adds-nothing, Adds-stops, Adds-then, Stops-mor
 use Rattle.phases.specs.Laws.{least_told}
 use Rattle.improvement.specs.declared.plan.ImproveFault.{ImproveFault}
 use Rattle.improvement.specs.declared.plan.ImproveFault.TheVariants.{Workers, Spawn, Receipts, Write, Memory}
-use Rattle.improvement.specs.Kept.{EndsBy, HasRun, IsChainBoard, IsKeptAfter, IsLead, IsRunFault, IsSlot, IsUnderWay, Sends, StopsAfterPhases}
+use Rattle.improvement.specs.Kept.{EndsBy, HasRun, IsChainBoard, IsKeptAfter, IsLead, IsRunFault, IsSlot, IsUnderWay, Sends}
+use Rattle.improvement.specs.Kept.{StopsAfterPhases}
 use Rattle.improvement.specs.Kept.{best_of_outcome, history_in, run_of}
 use Rattle.improvement.specs.PhaseText.{ending, improve_text, phase_text, phases_text}
-use Rattle.improvement.specs.Runs.{AreRuns, IsRunAfter, PhaseRun, ahead, beginning, histories_of, lead_of, outcome_in, outcome_of, outcomes_of, room_of}
+use Rattle.improvement.specs.Runs.{AreRuns, IsRunAfter, PhaseRun, ahead, beginning, histories_of, lead_of, outcome_in, outcome_of}
+use Rattle.improvement.specs.Runs.{outcomes_of, room_of}
 use Rattle.improvement.proofs.Leads.{least_leads}
 use Rattle.improvement.proofs.Texts.{no_text, text_more}
 use Rattle.improvement.proofs.Runs.{histories_more, lead_more, no_runs, policy_more, runs_more}
@@ -166,7 +169,8 @@ module _ {W : Type 0} (held : W → Option (List ℕ)) (tally : W → Tally) (le
         };
       }
 
-  pub stops_more : {T : Type 0} {a b c : BufferedSink W} {policy : PolicyData} {chains : Chains} {lead : Lead} (done : T → Type 0) (ended : EndedPhase)
+  pub stops_more : {T : Type 0} {a b c : BufferedSink W} {policy : PolicyData} {chains : Chains} {lead : Lead} (done : T → Type 0)
+      (ended : EndedPhase)
       (least : Option ℕ) (under : IsUnderWay held tally league plan a b policy chains lead) →
       IsRunAfter league plan under.runs (run_of ended) → ended.board.league ≡ league → least ≡ best_of_outcome lead.outcome →
       Stops held tally b c (phase_text ended.board.league plan.workers least (run_of ended)) →
@@ -197,7 +201,8 @@ module _ {W : Type 0} (held : W → Option (List ℕ)) (tally : W → Tally) (le
   stopped_none a none =
       stopped [] (no_runs league plan) (record { adds = rw (no_text league plan.workers) (Adds-nothing a); sent = none })
 
-  pub under_way_more : {a b c : BufferedSink W} (policy : PolicyData) (chains : Chains) (lead : Lead) (phase : Phase) (ended : EndedPhase) (least : Option ℕ)
+  pub under_way_more : {a b c : BufferedSink W} (policy : PolicyData) (chains : Chains) (lead : Lead) (phase : Phase) (ended : EndedPhase)
+      (least : Option ℕ)
       (outcome : PhaseOutcome) (policy' : PolicyData) (chains' : Chains) (lead' : Lead) →
       IsUnderWay held tally league plan a b policy chains lead → next_phase policy ≡ Some phase → phase.chain < 8 →
       HasRun league (room_of plan.effort)
@@ -209,7 +214,8 @@ module _ {W : Type 0} (held : W → Option (List ℕ)) (tally : W → Tally) (le
       ((leading : Option (List Entry)) → IsLead ended.board.league ended.board.room leading lead →
       IsLead ended.board.league ended.board.room (Some (ahead ended.board.league leading ended.board.history)) lead') →
       IsLeague ended.board.league → IsUnderWay held tally league plan a c policy' chains' lead'
-  under_way_more {a} {b} {c} policy chains lead phase ended least outcome policy' chains' lead' under next chain_in ran same adds none outcome_is
+  under_way_more {a} {b} {c} policy chains lead phase ended least outcome policy' chains' lead' under next chain_in ran same adds none
+      outcome_is
       policy_is items meets limits =
       let league_is : ended.board.league ≡ league = ran.board_is.league_is in
       let run = run_is phase ended under.kept next ran in

@@ -77,7 +77,8 @@ pub record IsLead (league : LeagueData) (room : ℕ) (leading : Option (List Ent
   pub of_caller : AreOf 0 (unwrap_or leading [])
 
 -- what is kept after some runs
-pub record IsKeptAfter (league : LeagueData) (plan : ImprovePlan) (runs : List PhaseRun) (policy : PolicyData) (chains : Chains) (lead : Lead) : Type 0 where
+pub record IsKeptAfter (league : LeagueData) (plan : ImprovePlan) (runs : List PhaseRun) (policy : PolicyData) (chains : Chains)
+    (lead : Lead) : Type 0 where
   pub are : AreRuns league plan runs
   pub policy_is : policy ≡ policy_of league plan.seed plan.effort (outcomes_of league runs)
   pub told : policy.told ≡ length runs
@@ -88,7 +89,8 @@ pub record IsKeptAfter (league : LeagueData) (plan : ImprovePlan) (runs : List P
   pub limits : 1 ≤ length runs → IsLeague league
 
 -- For a buffer over a sink with these bytes held and these calls
-module _ {W : Type 0} (held : W → Option (List ℕ)) (pushes : W → Tally) (league : LeagueData) (plan : ImprovePlan) (old new : BufferedSink W) where
+module _ {W : Type 0} (held : W → Option (List ℕ)) (pushes : W → Tally) (league : LeagueData) (plan : ImprovePlan)
+    (old new : BufferedSink W) where
   -- the text was added, and nothing waits
   pub record Sends (text : List ℕ) : Type 0 where
     pub adds : Adds held pushes old new text

@@ -2,14 +2,17 @@
 use Rattle.std.proofs.Common.{◌≡◌, ◌∙◌, ap, ℕ, ◌+◌, add-one, List, [], ◌++◌, Result, Ok, Err, OnOk, append_assoc, append-nil}
 use Rattle.streams.specs.Pieces.{pieces_below}
 
-pub piece_added : (a b c : List ℕ) (piece : ℕ → List ℕ) (n : ℕ) → b ≡ a ++ pieces_below piece n → c ≡ b ++ piece n → c ≡ a ++ pieces_below piece (n + 1)
+pub piece_added : (a b c : List ℕ) (piece : ℕ → List ℕ) (n : ℕ) → b ≡ a ++ pieces_below piece n → c ≡ b ++ piece n →
+    c ≡ a ++ pieces_below piece (n + 1)
 piece_added a b c piece n so_far next = rw (add-one, next, so_far) (append_assoc a (pieces_below piece n) (piece n))
 
 both_added : (a b c p q : List ℕ) → b ≡ a ++ p → c ≡ b ++ q → c ≡ a ++ (p ++ q)
 both_added a b c p q first second = rw (second, first) (append_assoc a p q)
 
 -- a text that is one part, another text, and one part more
-pub added_between : {T E : Type 0} (r : Result T E) (a b c d p q s : List ℕ) → b ≡ a ++ (p ++ []) → c ≡ b ++ q → OnOk r (d ≡ c ++ (s ++ [])) → OnOk r (d ≡ a ++ (p ++ q ++ s))
+pub added_between : {T E : Type 0} (r : Result T E) (a b c d p q s : List ℕ) → b ≡ a ++ (p ++ []) → c ≡ b ++ q →
+    OnOk r (d ≡ c ++ (s ++ [])) → OnOk r (d ≡ a ++ (p ++ q ++ s))
 added_between (Ok x) a b c d p q s first second last =
-    both_added a c d (p ++ q) s (both_added a b c p q (first ∙ ap (λ t. a ++ t) (append-nil p)) second) (last ∙ ap (λ t. c ++ t) (append-nil s))
+    both_added a c d (p ++ q) s (both_added a b c p q (first ∙ ap (λ t. a ++ t) (append-nil p)) second)
+    (last ∙ ap (λ t. c ++ t) (append-nil s))
 added_between (Err e) a b c d p q s first second last = tt

@@ -21,7 +21,8 @@ meets_again g team round = nat_lt 0 round && (cell g team round).opponent == (ce
 -- the opponent, and whether the game is at home, goes over the most in a row, and repeats
 abbrev pub cell_of : ℕ → Bool → Bool → Bool → List ℕ
 cell_of opponent home over again =
-    concat (codes "<td class='" ∷ word_if home (codes "h") ∷ word_if over (codes " o") ∷ word_if again (codes " r") ∷ codes "'>" ∷ word_if (not home) (codes "@") ∷ decimal (opponent + 1) ∷ codes "</td>" ∷ [])
+    concat (codes "<td class='" ∷ word_if home (codes "h") ∷ word_if over (codes " o") ∷ word_if again (codes " r") ∷ codes "'>" ∷
+    word_if (not home) (codes "@") ∷ decimal (opponent + 1) ∷ codes "</td>" ∷ [])
 
 abbrev pub cell_text : Games → ℕ → ℕ → ℕ → List ℕ
 cell_text g at_most team round =
@@ -42,7 +43,9 @@ grid_lines l g = pieces_below round_head (round_count g.teams) ++ pieces_below (
 -- what the marks mean
 abbrev pub legend_text : ℕ → List ℕ
 legend_text at_most =
-    concat (codes "<h2>Games</h2><p><span class='h'>Shaded</span>: at home. @: away. <span class='o'>Ringed</span>: more than " ∷ decimal at_most ∷ codes " in a row at home or away. <span class='r'>Dashed</span>: the opponent of the round before.</p><div class='wide'><table class='grid'><tr><th>Team</th>" ∷ [])
+    concat (codes "<h2>Games</h2><p><span class='h'>Shaded</span>: at home. @: away. <span class='o'>Ringed</span>: more than " ∷
+    decimal at_most ∷
+    codes " in a row at home or away. <span class='r'>Dashed</span>: the opponent of the round before.</p><div class='wide'><table class='grid'><tr><th>Team</th>" ∷ [])
 
 unfoldable pub grid_text : LeagueData → Games → List ℕ
 grid_text l g = legend_text l.at_most ++ grid_lines l g ++ codes "</tr></table></div>"

@@ -1,5 +1,6 @@
 -- The page of a schedule. Teams, rounds and rules are numbered from 0 in calls, and from 1 in texts.
-use Rattle.std.specs.Prelude.{ℕ, ◌+◌, ◌-◌, ◌*◌, ◌==◌, List, [], ◌∷◌, ◌++◌, Bool, true, false, nat_lt, length, slice_get, Option, Some, None, codes, decimal, if◌then◌else◌}
+use Rattle.std.specs.Prelude.{ℕ, ◌+◌, ◌-◌, ◌*◌, ◌==◌, List, [], ◌∷◌, ◌++◌, Bool, true, false, nat_lt, length, slice_get, Option, Some, None}
+use Rattle.std.specs.Prelude.{codes, decimal, if◌then◌else◌}
 use Rattle.std.specs.Bool.{beq}
 use Rattle.std.specs.List.{concat}
 use Rattle.fixtures.specs.Games.{Games, round_count}
@@ -29,13 +30,17 @@ total_text cost =
 
 abbrev pub figures_text : LeagueData → Cost → List ℕ
 figures_text l cost =
-    concat (codes "<h1>" ∷ decimal (teams l) ∷ codes " teams, " ∷ decimal (2 * (teams l - 1)) ∷ codes " rounds</h1><ul><li>travel <b>" ∷ decimal cost.travel ∷ codes "</b></li><li>hard <b>" ∷ decimal cost.hard ∷ codes "</b></li><li>soft <b>" ∷ decimal cost.soft ∷ codes "</b></li>" ∷ [])
+    concat (codes "<h1>" ∷ decimal (teams l) ∷ codes " teams, " ∷ decimal (2 * (teams l - 1)) ∷
+    codes " rounds</h1><ul><li>travel <b>" ∷ decimal cost.travel ∷ codes "</b></li><li>hard <b>" ∷ decimal cost.hard ∷
+    codes "</b></li><li>soft <b>" ∷ decimal cost.soft ∷ codes "</b></li>" ∷ [])
     ++ total_text cost
 
 -- the travel of a team, with a bar
 abbrev pub tour_row : LeagueData → Games → ℕ → List ℕ
 tour_row l g team =
-    concat (codes "<tr><th>" ∷ decimal (team + 1) ∷ codes " " ∷ escaped (name_of l team) ∷ codes "</th><td>" ∷ decimal (travel_of l g team) ∷ codes "</td><td class='bar'><div style='--tour:" ∷ decimal (travel_of l g team) ∷ codes "'></div></td></tr>" ∷ [])
+    concat (codes "<tr><th>" ∷ decimal (team + 1) ∷ codes " " ∷ escaped (name_of l team) ∷ codes "</th><td>" ∷
+    decimal (travel_of l g team) ∷ codes "</td><td class='bar'><div style='--tour:" ∷ decimal (travel_of l g team) ∷
+    codes "'></div></td></tr>" ∷ [])
 
 abbrev pub travel_text : LeagueData → Games → List ℕ
 travel_text l g =
@@ -52,7 +57,8 @@ row_head broken = if broken then codes "<tr class='bad'><td>" else codes "<tr><t
 -- the rule, if it is broken or not as is asked
 abbrev pub rule_row : Games → Bool → ℕ → Rule → List ℕ
 rule_row g broken i rule = if beq (nat_lt 0 (deviation g rule.body)) broken then
-    concat (row_head broken ∷ decimal (i + 1) ∷ codes "</td><td>" ∷ class_name rule.body ∷ codes "</td><td>" ∷ weight_text rule.weight ∷ codes "</td><td>" ∷ decimal (deviation g rule.body) ∷ codes "</td></tr>" ∷ []) else []
+    concat (row_head broken ∷ decimal (i + 1) ∷ codes "</td><td>" ∷ class_name rule.body ∷ codes "</td><td>" ∷
+    weight_text rule.weight ∷ codes "</td><td>" ∷ decimal (deviation g rule.body) ∷ codes "</td></tr>" ∷ []) else []
 
 -- where there is one
 abbrev pub rule_row_at : Games → Bool → ℕ → Option Rule → List ℕ
@@ -67,7 +73,8 @@ unfoldable pub sorted_rules : LeagueData → Games → List ℕ
 sorted_rules l g = rule_rows l g true ++ rule_rows l g false
 
 abbrev pub rules_head : List ℕ
-rules_head = codes "<h2>Rules</h2><p>Broken ones first.</p><table class='rules'><tr><th>Rule</th><th>Class</th><th>Kind</th><th>Deviation</th></tr>"
+rules_head =
+    codes "<h2>Rules</h2><p>Broken ones first.</p><table class='rules'><tr><th>Rule</th><th>Class</th><th>Kind</th><th>Deviation</th></tr>"
 
 abbrev pub rule_table : LeagueData → Games → List ℕ
 rule_table l g = rules_head ++ sorted_rules l g ++ codes "</table>"

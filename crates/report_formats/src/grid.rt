@@ -6,7 +6,8 @@ ghost use Rattle.league.specs.League.{teams};
 ghost use Rattle.league.specs.Sets.{has};
 ghost use Rattle.league.specs.Limits.{max_rounds};
 ghost use Rattle.streams.specs.Pieces.{pieces_below};
-ghost use Rattle.report_formats.specs.Grid.{cell_of, cell_text, grid_lines, grid_row, grid_text, legend_text, meets_again, round_head, word_if};
+ghost use Rattle.report_formats.specs.Grid.{cell_of, cell_text, grid_lines, grid_row, grid_text, legend_text, meets_again, round_head};
+ghost use Rattle.report_formats.specs.Grid.{word_if};
 
 use crate::parts::{Part, push_parts};
 use fixtures::Schedule;

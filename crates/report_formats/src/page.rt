@@ -5,7 +5,8 @@ ghost use Rattle.fixture_board.specs.Costs.{total_of};
 ghost use Rattle.league.specs.League.{teams};
 ghost use Rattle.league.specs.RuleLimits.{IsBodyFor};
 ghost use Rattle.streams.specs.Pieces.{pieces_below};
-ghost use Rattle.report_formats.specs.Page.{costs_text, figures_text, measures_text, page_text, row_head, rule_row, rule_rows, rule_table, rules_text};
+ghost use Rattle.report_formats.specs.Page.{costs_text, figures_text, measures_text, page_text, row_head, rule_row, rule_rows, rule_table};
+ghost use Rattle.report_formats.specs.Page.{rules_text};
 ghost use Rattle.report_formats.specs.Page.{sections_text, sorted_rules, top_text, total_text, tour_row, travel_text, weight_text};
 
 use crate::grid::push_grid;

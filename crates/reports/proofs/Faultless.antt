@@ -1,5 +1,6 @@
 -- Lines have no fault exactly where they give a double round robin.
-use Rattle.std.proofs.Common.{◌≡◌, ℕ, zero, suc, ◌+◌, ◌<◌, inl, inr, Bool, true, false, List, [], ◌∷◌, ◌++◌, length, get_or, map, eqb, refl, sym, ◌∙◌, ap, arith}
+use Rattle.std.proofs.Common.{◌≡◌, ℕ, zero, suc, ◌+◌, ◌<◌, inl, inr, Bool, true, false, List, [], ◌∷◌, ◌++◌, length, get_or, map, eqb, refl}
+use Rattle.std.proofs.Common.{sym, ◌∙◌, ap, arith}
 use Rattle.std.proofs.Math.Nat.{eq-or-lt_of_le, le_of_suc-le-suc, not-suc-le-zero}
 use Rattle.std.proofs.lemmas.Bool.{cases_Bool, cases_eq, eq-eqb, false≢true, ne_eqb, or_from, or_parts, true_from_ne_false}
 use Rattle.std.proofs.lemmas.List.Elements.{Contains-get_or}
@@ -12,7 +13,8 @@ use Rattle.streams.specs.Pieces.{pieces_below}
 use Rattle.reports.specs.declared.schedule_text.ScheduleLine.{ScheduleLine}
 use Rattle.reports.specs.declared.schedule_text.ScheduleLine.TheVariants.{Other, Bad, Round}
 use Rattle.reports.specs.declared.schedule_text.WrittenGame.{WrittenGame}
-use Rattle.reports.specs.Faults.{bad_line, bad_lines, faults, game_faults, games_of_pair, no_game_line, no_game_lines, pair_line, pair_lines, team_line, team_lines, is_game}
+use Rattle.reports.specs.Faults.{bad_line, bad_lines, faults, game_faults, games_of_pair, no_game_line, no_game_lines, pair_line}
+use Rattle.reports.specs.Faults.{pair_lines, team_line, team_lines, is_game}
 use Rattle.reports.specs.Faultless.{IsFaultlessExactly}
 use Rattle.reports.specs.Given.{given_games, placed, IsGivenBy}
 use Rattle.reports.specs.ScheduleText.{has_bad_line, is_bad, line_of, written_games}

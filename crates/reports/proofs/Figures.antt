@@ -30,7 +30,8 @@ no_streak test n e = rw e refl
 past : (g : Games) (at_most team first : ℕ) → windows g (at_most + 1) ≤ first → is_over g at_most team first ≡ false
 past g at_most team first e = rw (le-ltb first (windows g (at_most + 1)) e) refl
 
-inside : (g : Games) (at_most team first : ℕ) → first < windows g (at_most + 1) → is_over g at_most team first ≡ is_run g team first (at_most + 1)
+inside : (g : Games) (at_most team first : ℕ) → first < windows g (at_most + 1) →
+    is_over g at_most team first ≡ is_run g team first (at_most + 1)
 inside g at_most team first e = rw (lt-ltb first (windows g (at_most + 1)) e) refl
 
 -- of a season of at least one round
@@ -41,20 +42,24 @@ runs_told g at_most team (suc k) some rounds season =
     let none = no_streak (is_over g at_most team) k (past g at_most team k (omega arith)) in
     omega (arith, none, streaks_add_up (is_over g at_most team) (suc k))
 
-counted_once : (g : Games) (at_most team : ℕ) → 1 ≤ at_most → count_where (round_count g.teams) (is_over g at_most team) ≡ runs_of g at_most team
+counted_once : (g : Games) (at_most team : ℕ) → 1 ≤ at_most →
+    count_where (round_count g.teams) (is_over g at_most team) ≡ runs_of g at_most team
 unfolding runs_of
 counted_once g at_most team some =
     sum_below_past (windows g (at_most + 1)) (round_count g.teams) (λ f. if is_over g at_most team f then 1 else 0) (omega arith)
     (λ f beyond below. rw (past g at_most team f beyond) refl) ∙
     count_where_same (windows g (at_most + 1)) (is_over g at_most team) (λ f. is_run g team f (at_most + 1)) (inside g at_most team)
 
-windows_add_up : (g : Games) (at_most team : ℕ) → 1 ≤ at_most → 1 ≤ round_count g.teams → windows_told g at_most team ≡ runs_of g at_most team
-windows_add_up g at_most team some rounds = runs_told g at_most team (round_count g.teams) some rounds refl ∙ counted_once g at_most team some
+windows_add_up : (g : Games) (at_most team : ℕ) → 1 ≤ at_most → 1 ≤ round_count g.teams →
+    windows_told g at_most team ≡ runs_of g at_most team
+windows_add_up g at_most team some rounds = runs_told g at_most team (round_count g.teams) some rounds refl ∙
+    counted_once g at_most team some
 
 repeats_add_up : (g : Games) → repeats_told g ≡ repeats g
 unfolding repeats repeats_after
 repeats_add_up g =
-    sum_below_same (round_count g.teams - 1) _ _ (λ r r_in. sum_below_same g.teams _ _ (λ t t_in. sym (repeats_at_higher g t r _ _ refl refl)))
+    sum_below_same (round_count g.teams - 1) _ _
+    (λ r r_in. sum_below_same g.teams _ _ (λ t t_in. sym (repeats_at_higher g t r _ _ refl refl)))
 
 pub adds_up : (l : LeagueData) (g : Games) → IsLeague l → IsDoubleRoundRobin g → AddsUp l g
 unfolding told_cost cost_of travel runs_over unphased

@@ -11,7 +11,8 @@ streak_within test (suc k) =
     elim (cases_Bool (test k)) [ inl e ↦ rw e (omega arith) | inr e ↦ rw e (omega arith) ]
 
 -- one number more
-pub streak_more : (test : ℕ → Bool) (k count : ℕ) (goes_on : Bool) → goes_on ≡ test k → count ≡ streak test k → (if goes_on then count + 1 else 0) ≡ streak test (k + 1)
+pub streak_more : (test : ℕ → Bool) (k count : ℕ) (goes_on : Bool) → goes_on ≡ test k → count ≡ streak test k →
+    (if goes_on then count + 1 else 0) ≡ streak test (k + 1)
 streak_more test k count goes_on is so_far =
     let next : k + 1 ≡ suc k = omega arith in
     rw (is, so_far, next) refl

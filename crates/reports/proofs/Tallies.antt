@@ -1,5 +1,6 @@
 -- Counts by number of the games that pass a test, with one game more.
-use Rattle.std.proofs.Common.{◌≡◌, ℕ, ◌+◌, ◌<◌, ◌≤◌, inl, inr, Bool, true, false, ◌&&◌, eqb, List, [], length, get_or, set, take, replicate, sym, ◌∙◌, ap, arith, get_or-set_other, get_or-set_same, length-take}
+use Rattle.std.proofs.Common.{◌≡◌, ℕ, ◌+◌, ◌<◌, ◌≤◌, inl, inr, Bool, true, false, ◌&&◌, eqb, List, [], length, get_or, set, take, replicate}
+use Rattle.std.proofs.Common.{sym, ◌∙◌, ap, arith, get_or-set_other, get_or-set_same, length-take}
 use Rattle.std.specs.Prelude.{count_by}
 use Rattle.std.proofs.lemmas.Bool.{and_from, and_left, and_right, cases_eq, eq-eqb, ne_eqb}
 use Rattle.std.proofs.lemmas.List.{get_or-replicate, length-replicate, length-set}
@@ -15,11 +16,13 @@ module _ (test : Game → Bool) (number : Game → ℕ) where
   pub tallies_none : (places : ℕ) → Tallies [] places (replicate places 0)
   tallies_none places = record { size = length-replicate places 0; each = λ k below. get_or-replicate places k 0 0 below }
 
-  pub tally_small : (list : List Game) (places i : ℕ) (counts : List ℕ) (k : ℕ) → k < places → Tallies (take i list) places counts → get_or counts k 0 ≤ i
+  pub tally_small : (list : List Game) (places i : ℕ) (counts : List ℕ) (k : ℕ) → k < places → Tallies (take i list) places counts →
+      get_or counts k 0 ≤ i
   tally_small list places i counts k below has =
       omega (arith, has.each k below, count_by-le-length (λ x. test x && eqb (number x) k) (take i list), length-take i list)
 
-  module _ (list : List Game) (places i : ℕ) (d : Game) (counts : List ℕ) (within : i < length list) (has : Tallies (take i list) places counts) where
+  module _ (list : List Game) (places i : ℕ) (d : Game) (counts : List ℕ) (within : i < length list)
+      (has : Tallies (take i list) places counts) where
     -- the game at this place passes, and its number has one more
     pub tallies_more : (k : ℕ) → test (get_or list i d) ≡ true → k ≡ number (get_or list i d) → k < places
         → Tallies (take (i + 1) list) places (set counts k (get_or counts k 0 + 1))

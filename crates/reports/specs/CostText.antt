@@ -1,6 +1,7 @@
 -- What a double round robin costs, and which tour, run, repeat, pair and rule costs how much. Teams and rounds are numbered
 -- from 0 in calls, and from 1 in texts.
-use Rattle.std.specs.Prelude.{ℕ, ◌+◌, ◌-◌, ◌==◌, Bool, ◌&&◌, nat_lt, List, [], ◌∷◌, ◌++◌, length, slice_get, Option, Some, None, codes, decimal, if◌then◌else◌}
+use Rattle.std.specs.Prelude.{ℕ, ◌+◌, ◌-◌, ◌==◌, Bool, ◌&&◌, nat_lt, List, [], ◌∷◌, ◌++◌, length, slice_get, Option, Some, None, codes}
+use Rattle.std.specs.Prelude.{decimal, if◌then◌else◌}
 use Rattle.std.specs.List.{concat}
 use Rattle.streams.specs.Pieces.{pieces_below}
 use Rattle.league.specs.League.{LeagueData}
@@ -19,7 +20,8 @@ use Rattle.reports.specs.Runs.{is_over, ended_streak}
 
 abbrev pub costs_line : Cost → List ℕ
 costs_line cost =
-    concat (codes "travel " ∷ decimal cost.travel ∷ codes " hard " ∷ decimal cost.hard ∷ codes " soft " ∷ decimal cost.soft ∷ codes "\n" ∷ [])
+    concat (codes "travel " ∷ decimal cost.travel ∷ codes " hard " ∷ decimal cost.hard ∷ codes " soft " ∷ decimal cost.soft ∷
+    codes "\n" ∷ [])
 
 abbrev pub tour_line : LeagueData → Games → ℕ → List ℕ
 tour_line l g team = concat (codes "tour " ∷ decimal (team + 1) ∷ codes " travel " ∷ decimal (travel_of l g team) ∷ codes "\n" ∷ [])
@@ -30,7 +32,8 @@ side_word home = if home then codes " home rounds " else codes " away rounds "
 -- a stretch of this many windows, the last of which begins with the round before this one
 abbrev pub run_line : Games → ℕ → ℕ → ℕ → ℕ → List ℕ
 run_line g at_most team round count = if count == 0 then [] else
-    concat (codes "run " ∷ decimal (team + 1) ∷ side_word (is_home g team (round - 1)) ∷ decimal (round - count + 1) ∷ codes "-" ∷ decimal (round + at_most) ∷ codes " windows " ∷ decimal count ∷ codes "\n" ∷ [])
+    concat (codes "run " ∷ decimal (team + 1) ∷ side_word (is_home g team (round - 1)) ∷ decimal (round - count + 1) ∷ codes "-" ∷
+    decimal (round + at_most) ∷ codes " windows " ∷ decimal count ∷ codes "\n" ∷ [])
 
 -- the stretches of a team at home or away that are longer than allowed, each with its windows
 abbrev pub run_lines : Games → ℕ → ℕ → List ℕ
@@ -44,7 +47,8 @@ repeats_lower g round team =
 
 abbrev pub repeat_line : Games → ℕ → ℕ → List ℕ
 repeat_line g round team = if repeats_lower g round team then
-    concat (codes "repeat " ∷ decimal ((cell g team round).opponent + 1) ∷ codes "-" ∷ decimal (team + 1) ∷ codes " rounds " ∷ decimal (round + 1) ∷ codes " " ∷ decimal (round + 2) ∷ codes "\n" ∷ []) else []
+    concat (codes "repeat " ∷ decimal ((cell g team round).opponent + 1) ∷ codes "-" ∷ decimal (team + 1) ∷ codes " rounds " ∷
+    decimal (round + 1) ∷ codes " " ∷ decimal (round + 2) ∷ codes "\n" ∷ []) else []
 
 abbrev pub repeat_lines : Games → ℕ → List ℕ
 repeat_lines g round = pieces_below (repeat_line g round) g.teams
@@ -52,7 +56,8 @@ repeat_lines g round = pieces_below (repeat_line g round) g.teams
 -- the pair plays both its games in one half of the season
 abbrev pub half_line : Games → ℕ → ℕ → List ℕ
 half_line g high low = if is_unphased g low high then
-    concat (codes "half " ∷ decimal (low + 1) ∷ codes "-" ∷ decimal (high + 1) ∷ codes " rounds " ∷ decimal (round_of g low high + 1) ∷ codes " " ∷ decimal (round_of g high low + 1) ∷ codes "\n" ∷ []) else []
+    concat (codes "half " ∷ decimal (low + 1) ∷ codes "-" ∷ decimal (high + 1) ∷ codes " rounds " ∷
+    decimal (round_of g low high + 1) ∷ codes " " ∷ decimal (round_of g high low + 1) ∷ codes "\n" ∷ []) else []
 
 abbrev pub half_lines : Games → ℕ → List ℕ
 half_lines g high = pieces_below (half_line g high) high
@@ -74,9 +79,11 @@ class_name (Fa2 teams slots most) = codes "FA2"
 
 abbrev pub rule_line : Games → ℕ → Rule → Weight → List ℕ
 rule_line g i rule Hard =
-    concat (codes "rule " ∷ decimal (i + 1) ∷ codes " " ∷ class_name rule.body ∷ codes " hard deviation " ∷ decimal (deviation g rule.body) ∷ codes "\n" ∷ [])
+    concat (codes "rule " ∷ decimal (i + 1) ∷ codes " " ∷ class_name rule.body ∷ codes " hard deviation " ∷
+    decimal (deviation g rule.body) ∷ codes "\n" ∷ [])
 rule_line g i rule (Soft weight) =
-    concat (codes "rule " ∷ decimal (i + 1) ∷ codes " " ∷ class_name rule.body ∷ codes " soft " ∷ decimal weight ∷ codes " deviation " ∷ decimal (deviation g rule.body) ∷ codes "\n" ∷ [])
+    concat (codes "rule " ∷ decimal (i + 1) ∷ codes " " ∷ class_name rule.body ∷ codes " soft " ∷ decimal weight ∷
+    codes " deviation " ∷ decimal (deviation g rule.body) ∷ codes "\n" ∷ [])
 
 -- where there is one
 abbrev pub rule_at : Games → ℕ → Option Rule → List ℕ

@@ -49,8 +49,10 @@ games_in n games team round = count_by (is_of_team n team round) games
 abbrev pub team_line : ℕ → ℕ → ℕ → List ℕ
 team_line team round count =
     if count == 1 then []
-    else if count == 0 then concat (codes "team " ∷ decimal (team + 1) ∷ codes " has no game in round " ∷ decimal (round + 1) ∷ codes "\n" ∷ [])
-    else concat (codes "team " ∷ decimal (team + 1) ∷ codes " has " ∷ decimal count ∷ codes " games in round " ∷ decimal (round + 1) ∷ codes "\n" ∷ [])
+    else if count == 0 then concat (codes "team " ∷ decimal (team + 1) ∷ codes " has no game in round " ∷ decimal (round + 1) ∷
+    codes "\n" ∷ [])
+    else concat (codes "team " ∷ decimal (team + 1) ∷ codes " has " ∷ decimal count ∷ codes " games in round " ∷ decimal (round + 1) ∷
+    codes "\n" ∷ [])
 
 abbrev pub team_lines : ℕ → List Game → ℕ → List ℕ
 team_lines n games team = pieces_below (λ round. team_line team round (games_in n games team round)) (round_count n)
@@ -70,7 +72,8 @@ abbrev pub pair_line : ℕ → ℕ → ℕ → List ℕ
 pair_line home away count =
     if home == away || count == 1 then []
     else if count == 0 then concat (codes "game " ∷ decimal (home + 1) ∷ codes "-" ∷ decimal (away + 1) ∷ codes " is missing\n" ∷ [])
-    else concat (codes "game " ∷ decimal (home + 1) ∷ codes "-" ∷ decimal (away + 1) ∷ codes " stands " ∷ decimal count ∷ codes " times\n" ∷ [])
+    else concat (codes "game " ∷ decimal (home + 1) ∷ codes "-" ∷ decimal (away + 1) ∷ codes " stands " ∷ decimal count ∷
+    codes " times\n" ∷ [])
 
 abbrev pub pair_lines : ℕ → List Game → ℕ → List ℕ
 pair_lines n games home = pieces_below (λ away. pair_line home away (games_of_pair n games home away)) n

@@ -26,7 +26,8 @@ halves_told g = sum_below g.teams (λ high. count_where high (λ low. is_unphase
 unfoldable pub told_cost : LeagueData → Games → Cost
 told_cost l g = record {
   travel = sum_below g.teams (travel_of l g);
-  hard = sum_below g.teams (windows_told g l.at_most) + repeats_told g + sum_over_rules hard_share l.rules g + where_phased l (halves_told g);
+  hard = sum_below g.teams (windows_told g l.at_most) + repeats_told g + sum_over_rules hard_share l.rules g +
+      where_phased l (halves_told g);
   soft = sum_over_rules soft_share l.rules g;
 }
 

@@ -1,5 +1,6 @@
 -- The rounds in which a team's game counts, and those in which it has a break, as sets.
-use Rattle.std.proofs.Common.{◌≡◌, ℕ, ◌+◌, ◌-◌, ◌<◌, ◌&&◌, ◌||◌, ◌==◌, not, nat_lt, Bool, true, false, if◌then◌else◌, sym, inl, inr, refl, ◌∙◌, ap, arith}
+use Rattle.std.proofs.Common.{◌≡◌, ℕ, ◌+◌, ◌-◌, ◌<◌, ◌&&◌, ◌||◌, ◌==◌, not, nat_lt, Bool, true, false, if◌then◌else◌, sym, inl, inr, refl}
+use Rattle.std.proofs.Common.{◌∙◌, ap, arith}
 use Rattle.std.specs.Bool.{beq}
 use Rattle.std.proofs.lemmas.Bool.{cases_eq, cases_lt, lt-ltb, le-ltb, ne_eqb}
 use Rattle.league.specs.Sets.{has}
@@ -7,7 +8,8 @@ use Rattle.league.specs.Sums.{sum_below, sum_where, count_where, any_below}
 use Rattle.league.specs.declared.rule.Side.{Side}
 use Rattle.league.proofs.ForCallers.{sum_below_same, sum_below_add, sum_where_same, count_where_same}
 use Rattle.fixtures.specs.Games.{Games, round_count, cell, is_home}
-use Rattle.robinx.specs.Deviations.{over, is_on_side, is_counted, games_of_team, games_in_window, games_in_round, over_in_windows, is_break, breaks}
+use Rattle.robinx.specs.Deviations.{over, is_on_side, is_counted, games_of_team, games_in_window, games_in_round, over_in_windows, is_break}
+use Rattle.robinx.specs.Deviations.{breaks}
 use Rattle.robinx.specs.Parts.{meets_window, over_in_met_windows}
 use Rattle.robinx.proofs.Sets.{sum_of_counts_swap}
 
@@ -32,10 +34,12 @@ pub counted_among : (g : Games) (side : Side) (opponents test : ℕ → Bool) (t
     count_where (round_count g.teams) (λ r. has set r && opponents (cell g t r).opponent) ≡
     count_where (round_count g.teams) (λ r. test r && is_counted g side opponents t r)
 counted_among g side opponents test t on_side set on_sides members =
-    count_where_same (round_count g.teams) (λ r. has set r && opponents (cell g t r).opponent) (λ r. test r && is_counted g side opponents t r)
+    count_where_same (round_count g.teams) (λ r. has set r && opponents (cell g t r).opponent)
+    (λ r. test r && is_counted g side opponents t r)
     (λ r below.
     ap (λ b. b && opponents (cell g t r).opponent) (members r ∙ ap (λ b. b && test r) (on_sides r)) ∙
-    counted_from g side opponents t r (test r) ∙ ap (λ b. b && (test r && is_counted g side opponents t r)) (lt-ltb r (round_count g.teams) below))
+    counted_from g side opponents t r (test r) ∙
+    ap (λ b. b && (test r && is_counted g side opponents t r)) (lt-ltb r (round_count g.teams) below))
 
 -- in the slots and out of them
 pub counted_in_and_out : (n : ℕ) (slots test : ℕ → Bool) →
@@ -67,7 +71,8 @@ module _ (g : Games) (side : Side) (opponents : ℕ → Bool) (window most t sea
           members r ∙ ap (λ b. nat_lt r (round_count g.teams) && (b && is_counted g side opponents t r)) (all r) ∙
           ap (λ b. b && (b && is_counted g side opponents t r)) (lt-ltb r (round_count g.teams) in_r)
 
-  pub windows_of_counted : sum_below (round_count g.teams + 1 - window) (λ first. over (count_where window (λ k. has counted (first + k))) most) ≡
+  pub windows_of_counted : sum_below (round_count g.teams + 1 - window)
+      (λ first. over (count_where window (λ k. has counted (first + k))) most) ≡
       over_in_windows g side opponents window most t
   unfolding over_in_windows
   windows_of_counted =
@@ -80,7 +85,8 @@ module _ (g : Games) (side : Side) (opponents : ℕ → Bool) (window most t sea
       sum_where (round_count g.teams + 1 - window) (has starts) (λ first. over (games_in_window g side opponents window t first) most)
   starts_of_counted starts =
       sum_where_same (round_count g.teams + 1 - window) (has starts) (has starts)
-      (λ first. over (count_where window (λ k. has counted (first + k))) most) (λ first. over (games_in_window g side opponents window t first) most)
+      (λ first. over (count_where window (λ k. has counted (first + k))) most)
+      (λ first. over (games_in_window g side opponents window t first) most)
       (λ s below. refl) (λ s below passes. over_in_window s below)
 
 -- the windows that have a round of a set
@@ -93,7 +99,8 @@ pub met_starts : (g : Games) (side : Side) (opponents rounds : ℕ → Bool) (wi
 unfolding over_in_met_windows meets_window
 met_starts g side opponents rounds window most t whole meeting starts windows size wholes meets is =
     sum_where_same (round_count g.teams + 1 - window) (has starts) (λ first. any_below window (λ k. rounds (first + k)))
-    (λ first. over (games_in_window g side opponents window t first) most) (λ first. over (games_in_window g side opponents window t first) most)
+    (λ first. over (games_in_window g side opponents window t first) most)
+    (λ first. over (games_in_window g side opponents window t first) most)
     (λ s below. is s ∙ ap (λ b. b && has meeting s) (wholes s ∙ lt-ltb s windows (omega (arith, size, below))) ∙ meets s)
     (λ s below passes. refl)
 

@@ -40,7 +40,8 @@ passing_none set left kept test whole empty = record {
   members = λ k. empty k ∙ none_yet (has set k) (test k) ∙ ap (λ s. has set k && not (has s k) && test k) (sym whole);
 }
 
-module _ (set left lowest rest kept : ℕ) (test : ℕ → Bool) (so_far : HasPassing set left kept test) (taken : IsWithoutLowest left lowest rest) where
+module _ (set left lowest rest kept : ℕ) (test : ℕ → Bool) (so_far : HasPassing set left kept test)
+    (taken : IsWithoutLowest left lowest rest) where
   gone : has rest lowest ≡ false
   gone = taken.others lowest ∙ ap (λ b. has left lowest && not b) (eq-eqb lowest lowest refl) ∙ and_false (has left lowest)
 

@@ -1,10 +1,12 @@
 -- Windows of consecutive rounds that lack no round of a set, or at most one.
-use Rattle.std.proofs.Common.{◌≡◌, ◌≢◌, ℕ, ◌+◌, ◌-◌, ◌<◌, ◌≤◌, ◌&&◌, ◌||◌, ◌==◌, not, nat_lt, Bool, true, false, if◌then◌else◌, inl, inr, refl, sym, ◌∙◌, ap, arith}
+use Rattle.std.proofs.Common.{◌≡◌, ◌≢◌, ℕ, ◌+◌, ◌-◌, ◌<◌, ◌≤◌, ◌&&◌, ◌||◌, ◌==◌, not, nat_lt, Bool, true, false, if◌then◌else◌, inl, inr}
+use Rattle.std.proofs.Common.{refl, sym, ◌∙◌, ap, arith}
 use Rattle.std.proofs.lemmas.Bool.{cases_eq, cases_lt, eq-eqb, ne_eqb, lt-ltb, le-ltb, cond-true, cond-false}
 use Rattle.std.proofs.Math.Nat.{add-zero}
 use Rattle.league.specs.Sets.{has, IsBelow}
 use Rattle.league.specs.Sums.{sum_where, count_where}
-use Rattle.league.proofs.ForCallers.{sum_below_none, sum_below_more, sum_below_same, sum_below_zero, sum_below_add, sum_where_split, has_beyond}
+use Rattle.league.proofs.ForCallers.{sum_below_none, sum_below_more, sum_below_same, sum_below_zero, sum_below_add, sum_where_split}
+use Rattle.league.proofs.ForCallers.{has_beyond}
 use Rattle.robinx.specs.Deviations.{over}
 use Rattle.robinx.specs.Walked.{lacks}
 use Rattle.robinx.proofs.Sets.{ones}
@@ -82,28 +84,30 @@ pub full_more : (set starts k full nearly next window kept new_full new_nearly n
     ((s : ℕ) → has new_full s ≡ (has full s && has next s)) → ((s : ℕ) → s + 1 < 78 → has new_next s ≡ has next (s + 1)) →
     ((m : ℕ) → IsBelow m full → IsBelow m new_full) → ((m : ℕ) → IsBelow m nearly → IsBelow m kept) →
     ((m : ℕ) → IsBelow m kept → IsBelow m full → IsBelow m new_nearly) → HasFull set starts (k + 1) new_full new_nearly new_next
-full_more set starts k full nearly next window kept new_full new_nearly new_next so_far below in_window in_season keeps nears fulls nexts full_below kept_below near_below = record {
-  none = λ s.
-      fulls s ∙ ap (λ b. b && has next s) (so_far.none s) ∙
-      elim (cases_lt s (79 - window)) [
-        | inl start ↦
-            ap (λ b. (has starts s && lacks set s k == 0) && b) (so_far.later s (omega arith)) ∙
-            full_step (has starts s) (has set (s + k)) (lacks set s k) (lacks set s (k + 1)) (more s)
-        | inr past ↦ rw (has_beyond (79 - window) starts s below past) refl
-      ];
-  one = λ s.
-      nears s ∙ ap (λ b. b || has full s) (keeps s) ∙ ap (λ b. (b && has next s) || has full s) (so_far.one s) ∙
-      ap (λ b. ((has starts s && nat_lt (lacks set s k) 2) && has next s) || b) (so_far.none s) ∙
-      elim (cases_lt s (79 - window)) [
-        | inl start ↦
-            ap (λ b. ((has starts s && nat_lt (lacks set s k) 2) && b) || (has starts s && lacks set s k == 0)) (so_far.later s (omega arith)) ∙
-            nearly_step (has starts s) (has set (s + k)) (lacks set s k) (lacks set s (k + 1)) (more s)
-        | inr past ↦ rw (has_beyond (79 - window) starts s below past) refl
-      ];
-  later = λ s in_next. nexts s (omega arith) ∙ so_far.later (s + 1) (omega arith) ∙ ap (has set) (omega arith);
-  none_below = λ m m_below. full_below m (so_far.none_below m m_below);
-  one_below = λ m m_below. near_below m (kept_below m (so_far.one_below m m_below)) (so_far.none_below m m_below);
-}
+full_more set starts k full nearly next window kept new_full new_nearly new_next so_far below in_window in_season keeps nears fulls nexts
+    full_below kept_below near_below = record {
+      none = λ s.
+          fulls s ∙ ap (λ b. b && has next s) (so_far.none s) ∙
+          elim (cases_lt s (79 - window)) [
+            | inl start ↦
+                ap (λ b. (has starts s && lacks set s k == 0) && b) (so_far.later s (omega arith)) ∙
+                full_step (has starts s) (has set (s + k)) (lacks set s k) (lacks set s (k + 1)) (more s)
+            | inr past ↦ rw (has_beyond (79 - window) starts s below past) refl
+          ];
+      one = λ s.
+          nears s ∙ ap (λ b. b || has full s) (keeps s) ∙ ap (λ b. (b && has next s) || has full s) (so_far.one s) ∙
+          ap (λ b. ((has starts s && nat_lt (lacks set s k) 2) && has next s) || b) (so_far.none s) ∙
+          elim (cases_lt s (79 - window)) [
+            | inl start ↦
+                ap (λ b. ((has starts s && nat_lt (lacks set s k) 2) && b) || (has starts s && lacks set s k == 0))
+                (so_far.later s (omega arith)) ∙
+                nearly_step (has starts s) (has set (s + k)) (lacks set s k) (lacks set s (k + 1)) (more s)
+            | inr past ↦ rw (has_beyond (79 - window) starts s below past) refl
+          ];
+      later = λ s in_next. nexts s (omega arith) ∙ so_far.later (s + 1) (omega arith) ∙ ap (has set) (omega arith);
+      none_below = λ m m_below. full_below m (so_far.none_below m m_below);
+      one_below = λ m m_below. near_below m (kept_below m (so_far.one_below m m_below)) (so_far.none_below m m_below);
+    }
   where
     more : (s : ℕ) → lacks set s (k + 1) ≡ lacks set s k + (if not (has set (s + k)) then 1 else 0)
     more s = sum_below_more k (λ j. if not (has set (s + j)) then 1 else 0)
@@ -132,7 +136,8 @@ two_short count m most whole = elim (cases_lt m 2) [
 ]
 
 module _ (set starts windows window most : ℕ) where
-  pub over_without_room : window ≤ most → sum_where windows (has starts) (λ first. over (count_where window (λ k. has set (first + k))) most) ≡ 0
+  pub over_without_room : window ≤ most →
+      sum_where windows (has starts) (λ first. over (count_where window (λ k. has set (first + k))) most) ≡ 0
   over_without_room le = sum_below_zero windows _ (λ first below. none (has starts first) _ (omega (arith, has_and_lacks set first window)))
     where
       none : (b : Bool) (x : ℕ) → x ≡ 0 → (if b then x else 0) ≡ 0

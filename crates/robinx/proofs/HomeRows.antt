@@ -1,5 +1,6 @@
 -- Rows of home games, a number for each round, and by how much two of them are apart.
-use Rattle.std.proofs.Common.{◌≡◌, ◌≢◌, ℕ, zero, suc, ◌+◌, ◌<◌, ◌≤◌, ◌==◌, not, Bool, true, false, if◌then◌else◌, List, [], length, get_or, sym, ◌∙◌, ap, subst, inl, inr, arith, get_or-set_other}
+use Rattle.std.proofs.Common.{◌≡◌, ◌≢◌, ℕ, zero, suc, ◌+◌, ◌<◌, ◌≤◌, ◌==◌, not, Bool, true, false, if◌then◌else◌, List, [], length, get_or}
+use Rattle.std.proofs.Common.{sym, ◌∙◌, ap, subst, inl, inr, arith, get_or-set_other}
 use Rattle.std.proofs.Math.ListN.{set}
 use Rattle.std.proofs.lemmas.Grind.{get_or-set_at}
 use Rattle.std.proofs.lemmas.List.{length-set}
@@ -44,7 +45,8 @@ module _ (g : Games) (most i j slots : ℕ) (first second limits : List ℕ) (se
   unfolding worst_gap worst_apart
   worst_gap_of_rows =
       ap (λ n. over n most)
-      (largest_below_past (round_count g.teams) 80 (apart_within first second limits) (omega (arith, season)) (λ r past below. past_season r past)) ∙
+      (largest_below_past (round_count g.teams) 80 (apart_within first second limits) (omega (arith, season))
+      (λ r past below. past_season r past)) ∙
       over_largest (round_count g.teams) most (apart_within first second limits) ∙
       sym (largest_below_same (round_count g.teams) (λ r. if has slots r then gap g most i j r else 0)
       (λ r. over (apart_within first second limits r) most) in_season)

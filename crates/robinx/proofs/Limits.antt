@@ -13,7 +13,8 @@ use Rattle.league.specs.declared.rule.Side.{Side}
 use Rattle.league.specs.declared.rule.Side.TheVariants.{Any}
 use Rattle.league.proofs.ForCallers.{sum_below_le, sum_below_le_each, sum_where_le, count_where_le}
 use Rattle.fixtures.specs.Games.{Games, round_count, round_of, is_home}
-use Rattle.robinx.specs.Deviations.{over, is_counted, games_of_team, games_in_window, games_in_round, is_break, breaks, rounds_between, listed_games_in, over_in_windows, short_pairs, deviation}
+use Rattle.robinx.specs.Deviations.{over, is_counted, games_of_team, games_in_window, games_in_round, is_break, breaks, rounds_between}
+use Rattle.robinx.specs.Deviations.{listed_games_in, over_in_windows, short_pairs, deviation}
 use Rattle.robinx.specs.Deviations.{home_games, gap, worst_gap, worst_gaps}
 use Rattle.robinx.proofs.Largest.{largest_below_le}
 

@@ -18,9 +18,11 @@ use Rattle.robinx.specs.Deviations.{over, deviation}
 use Rattle.robinx.specs.Touches.{has_touched_team}
 use Rattle.robinx.specs.LooksPast.{AreApart, TakesAllOrNone, LooksPast, has_team_outside, has_game_of, takes_all_or_none, looks_past}
 use Rattle.fixtures.proofs.ForCallers.{round_of_kept_around}
-use Rattle.robinx.proofs.SeesSame.{SeesSame, SeesSameBreaks, SeesSameUntil, limited-same, together-same, each-same, windows-same, breaks_of_each-same, breaks_of_all-same, separation-same, gaps-same, listed_games_in-same}
+use Rattle.robinx.proofs.SeesSame.{SeesSame, SeesSameBreaks, SeesSameUntil, limited-same, together-same, each-same, windows-same}
+use Rattle.robinx.proofs.SeesSame.{breaks_of_each-same, breaks_of_all-same, separation-same, gaps-same, listed_games_in-same}
 
-module _ (g g' : Games) (rr : IsDoubleRoundRobin g) (rr' : IsDoubleRoundRobin g') (main rounds : ℕ → Bool) (differs : DiffersOnlyAround g g' main rounds) where
+module _ (g g' : Games) (rr : IsDoubleRoundRobin g) (rr' : IsDoubleRoundRobin g') (main rounds : ℕ → Bool)
+    (differs : DiffersOnlyAround g g' main rounds) where
   -- each team is one of 40
   forty : (t : ℕ) → t < g.teams → t < 40
   forty t in_t = omega (arith, rr.most)
@@ -77,7 +79,8 @@ module _ (g g' : Games) (rr : IsDoubleRoundRobin g) (rr' : IsDoubleRoundRobin g'
   games_kept slots [] all others = tt
   games_kept slots (game ∷ games) all others =
       let is = all.0 in (
-        ap slots (round_kept game.home game.away (record { home_in = is.home; away_in = is.away; distinct = is.distinct }) others.0.0 others.0.1),
+        ap slots (round_kept game.home game.away (record { home_in = is.home; away_in = is.away; distinct = is.distinct }) others.0.0
+            others.0.1),
         games_kept slots games all.1 others.1,
       )
 
@@ -85,7 +88,8 @@ pub looked_past_deviation : (g g' : Games) (main rounds : ℕ → Bool) (body : 
     IsBodyFor g.teams body → DiffersOnlyAround g g' main rounds → LooksPast main body → deviation g' body ≡ deviation g body
 unfolding deviation
 looked_past_deviation g g' main rounds (Ca1 teams side slots most) rr rr' is differs past =
-    limited-same g g' (has teams) (has slots) (λ _. true) (SeesSame-any g g' rr rr' main rounds differs (has teams) (has slots) past) side most
+    limited-same g g' (has teams) (has slots) (λ _. true) (SeesSame-any g g' rr rr' main rounds differs (has teams) (has slots) past) side
+    most
 looked_past_deviation g g' main rounds (Ca2 teams1 side teams2 slots most) rr rr' is differs past =
     limited-same g g' (has teams1) (has slots) (has teams2)
     (SeesSame-against g g' rr rr' main rounds differs (has teams1) (has slots) (has teams2) past.0 past.1) side most
@@ -102,13 +106,16 @@ looked_past_deviation g g' main rounds (Ga1 games slots least most) rr rr' is di
     ap (λ (count : ℕ). over count most + over least count)
     (listed_games_in-same g g' (has slots) games (games_kept g g' rr rr' main rounds differs (has slots) games is.0 past))
 looked_past_deviation g g' main rounds (Br1 teams side slots most) rr rr' is differs past =
-    breaks_of_each-same g g' (has teams) (has slots) (SeesSameBreaks-any g g' rr rr' main rounds differs (has teams) (has slots) past) side most
+    breaks_of_each-same g g' (has teams) (has slots) (SeesSameBreaks-any g g' rr rr' main rounds differs (has teams) (has slots) past) side
+    most
 looked_past_deviation g g' main rounds (Br2 teams slots most) rr rr' is differs past =
-    breaks_of_all-same g g' (has teams) (has slots) (SeesSameBreaks-any g g' rr rr' main rounds differs (has teams) (has slots) past) Any most
+    breaks_of_all-same g g' (has teams) (has slots) (SeesSameBreaks-any g g' rr rr' main rounds differs (has teams) (has slots) past) Any
+    most
 looked_past_deviation g g' main rounds (Se1 teams least) rr rr' is differs past =
     separation-same g g' (has teams) least differs.same_size
     (λ i j pair team other. round_kept g g' rr rr' main rounds differs i j pair
-    (past i (forty g g' rr rr' main rounds differs i pair.home_in) team) (past j (forty g g' rr rr' main rounds differs j pair.away_in) other))
+    (past i (forty g g' rr rr' main rounds differs i pair.home_in) team)
+    (past j (forty g g' rr rr' main rounds differs j pair.away_in) other))
 looked_past_deviation g g' main rounds (Fa2 teams slots most) rr rr' is differs past =
     gaps-same g g' (has teams) (has slots) (SeesSameUntil-any g g' rr rr' main rounds differs (has teams) (has slots) past) most
 
@@ -150,7 +157,9 @@ pub others-tested : (teams : ℕ) (games : List Pairing) → has_game_of games (
 unfolding has_game_of
 others-tested teams [] none = tt
 others-tested teams (game ∷ games) none =
-    let parts = or_parts (has teams game.home || has teams game.away) (list_any (λ (game : Pairing). has teams game.home || has teams game.away) games) none in
+    let parts =
+    or_parts (has teams game.home || has teams game.away)
+    (list_any (λ (game : Pairing). has teams game.home || has teams game.away) games) none in
     (or_parts (has teams game.home) (has teams game.away) parts.0, others-tested teams games parts.1)
 
 pub looks_past_tested : (teams : ℕ) (body : RuleBody) → looks_past teams body ≡ true → LooksPast (has teams) body

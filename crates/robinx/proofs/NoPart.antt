@@ -1,7 +1,9 @@
 -- Of a rule that isn't touched, or that looks past the main teams, a change can alter nothing.
-use Rattle.std.proofs.Common.{◌≡◌, ℕ, ◌<◌, ◌^◌, ◌&&◌, ◌||◌, not, Bool, true, false, if◌then◌else◌, List, [], ◌∷◌, inl, inr, refl, sym, ◌∙◌, ap, arith}
+use Rattle.std.proofs.Common.{◌≡◌, ℕ, ◌<◌, ◌^◌, ◌&&◌, ◌||◌, not, Bool, true, false, if◌then◌else◌, List, [], ◌∷◌, inl, inr, refl, sym, ◌∙◌}
+use Rattle.std.proofs.Common.{ap, arith}
 use Rattle.std.specs.List.{AllByRecursion, list_any}
-use Rattle.std.proofs.lemmas.Bool.{cases_lt, cond-false, false≢true, false_from_ne_true, and_cases, and_parts, and_left, and_right, or_from, or_parts, not-true}
+use Rattle.std.proofs.lemmas.Bool.{cases_lt, cond-false, false≢true, false_from_ne_true, and_cases, and_parts, and_left, and_right, or_from}
+use Rattle.std.proofs.lemmas.Bool.{or_parts, not-true}
 use Rattle.league.specs.Sets.{has}
 use Rattle.league.specs.Games.{IsGameFor}
 use Rattle.league.specs.RuleLimits.{IsBodyFor}
@@ -47,23 +49,29 @@ module _ (g : Games) (rr : IsDoubleRoundRobin g) (main rounds sides : ℕ) where
         | inr past ↦ absurd (false≢true (sym (has_beyond g.teams teams t below past) ∙ is))
       ]))
 
-  no_pair : (teams set i j : ℕ) (x : ℕ) → i < g.teams → j < g.teams → NonePasses teams (has set) → ◌≡◌ {A = ℕ} (if is_pair_with teams set i j then x else 0) 0
+  no_pair : (teams set i j : ℕ) (x : ℕ) → i < g.teams → j < g.teams → NonePasses teams (has set) →
+      ◌≡◌ {A = ℕ} (if is_pair_with teams set i j then x else 0) 0
   no_pair teams set i j x in_i in_j none =
       cond-false (is_pair_with teams set i j) x 0
       (not_both (has teams i && has teams j) (has set i || has set j)
-      (λ both. let parts = and_parts (has teams i) (has teams j) both in or_from (has set i) (has set j) (none i in_i parts.0) (none j in_j parts.1)))
+      (λ both. let parts = and_parts (has teams i) (has teams j) both in or_from (has set i) (has set j) (none i in_i parts.0)
+      (none j in_j parts.1)))
 
   none_changes : (body : RuleBody) → IsBodyFor g.teams body → IsQuiet body → changing_terms g main rounds sides body ≡ 0
   unfolding changing_terms
-  none_changes (Ca1 teams side slots most) is quiet = sum_where_none g.teams (λ t. has teams t && has sides t) _ (λ t in_t. not_both _ _ (quiet t in_t))
+  none_changes (Ca1 teams side slots most) is quiet =
+      sum_where_none g.teams (λ t. has teams t && has sides t) _ (λ t in_t. not_both _ _ (quiet t in_t))
   none_changes (Ca2 teams1 side teams2 slots most) is quiet =
       sum_where_none g.teams (λ t. has teams1 t && counts_otherwise g main rounds teams2 t) _ (λ t in_t. not_both _ _ (quiet t in_t))
   none_changes (Ca3 teams1 side teams2 window most) is quiet =
       sum_where_none g.teams (λ t. has teams1 t && counts_otherwise g main rounds teams2 t) _ (λ t in_t. not_both _ _ (quiet t in_t))
-  none_changes (Ca4 teams1 side teams2 slots false most) is quiet = cond-false {A = ℕ} _ _ 0 (none_of_all teams1 (counts_otherwise g main rounds teams2) is.0 quiet)
-  none_changes (Ca4 teams1 side teams2 slots true most) is quiet = cond-false {A = ℕ} _ _ 0 (none_of_all teams1 (counts_otherwise g main rounds teams2) is.0 quiet)
+  none_changes (Ca4 teams1 side teams2 slots false most) is quiet =
+      cond-false {A = ℕ} _ _ 0 (none_of_all teams1 (counts_otherwise g main rounds teams2) is.0 quiet)
+  none_changes (Ca4 teams1 side teams2 slots true most) is quiet =
+      cond-false {A = ℕ} _ _ 0 (none_of_all teams1 (counts_otherwise g main rounds teams2) is.0 quiet)
   none_changes (Ga1 games slots least most) is quiet = cond-false {A = ℕ} _ _ 0 quiet
-  none_changes (Br1 teams side slots most) is quiet = sum_where_none g.teams (λ t. has teams t && has sides t) _ (λ t in_t. not_both _ _ (quiet t in_t))
+  none_changes (Br1 teams side slots most) is quiet =
+      sum_where_none g.teams (λ t. has teams t && has sides t) _ (λ t in_t. not_both _ _ (quiet t in_t))
   none_changes (Br2 teams slots most) is quiet = cond-false {A = ℕ} _ _ 0 (none_of_all teams (has sides) is.0 quiet)
   none_changes (Se1 teams least) is quiet =
       sum_below_zero g.teams _ (λ j in_j. sum_below_zero j _ (λ i lower. no_pair teams main i j _ (omega arith) in_j quiet))
@@ -95,7 +103,8 @@ module _ (g : Games) (rr : IsDoubleRoundRobin g) (main rounds sides : ℕ) where
         let both = and_parts (not (has_touched_team teams (has main))) (takes_all_or_none main opponents) tested in
         or_from (has main t) _ (apart teams both.0 t in_t is) (ap (λ b. not b && is_guest g (has main) (has rounds) t) both.1)
 
-    no_moved_game : (games : List Pairing) → AllByRecursion (λ (game : Pairing). (has main game.home ≡ false) × (has main game.away ≡ false)) games →
+    no_moved_game : (games : List Pairing) →
+        AllByRecursion (λ (game : Pairing). (has main game.home ≡ false) × (has main game.away ≡ false)) games →
         has_moved_game g (has main) (has rounds) games ≡ false
     unfolding has_moved_game
     no_moved_game [] all = refl
@@ -115,7 +124,8 @@ module _ (g : Games) (rr : IsDoubleRoundRobin g) (main rounds sides : ℕ) where
 
     -- untouched, where the main teams and their guests are touched
 
-    module _ (touched : ℕ → Bool) (all : (t : ℕ) → t < g.teams → (has main t || is_guest g (has main) (has rounds) t) ≡ true → touched t ≡ true) where
+    module _ (touched : ℕ → Bool) (all : (t : ℕ) → t < g.teams → (has main t || is_guest g (has main) (has rounds) t) ≡ true →
+        touched t ≡ true) where
       neither : (t : ℕ) → t < g.teams → touched t ≡ false → (has main t ≡ false) × (is_guest g (has main) (has rounds) t ≡ false)
       neither t in_t out =
           or_parts (has main t) (is_guest g (has main) (has rounds) t)
@@ -123,12 +133,14 @@ module _ (g : Games) (rr : IsDoubleRoundRobin g) (main rounds sides : ℕ) where
 
       untouched : (teams : ℕ) → has_touched_team teams touched ≡ false → NonePasses teams touched
       unfolding has_touched_team
-      untouched teams none t in_t is = elim (and_cases (has teams t) (touched t) (any_below_fails 40 (λ t. has teams t && touched t) none t (omega (arith, rr.most)))) [
-        | inl out ↦ absurd (false≢true (sym out ∙ is))
-        | inr out ↦ out
-      ]
+      untouched teams none t in_t is =
+          elim (and_cases (has teams t) (touched t) (any_below_fails 40 (λ t. has teams t && touched t) none t (omega (arith, rr.most)))) [
+            | inl out ↦ absurd (false≢true (sym out ∙ is))
+            | inr out ↦ out
+          ]
 
-      uncounted : (teams opponents : ℕ) → has_touched_team teams touched ≡ false → NonePasses teams (counts_otherwise g main rounds opponents)
+      uncounted : (teams opponents : ℕ) → has_touched_team teams touched ≡ false →
+          NonePasses teams (counts_otherwise g main rounds opponents)
       unfolding counts_otherwise
       uncounted teams opponents none t in_t is =
           let out = neither t in_t (untouched teams none t in_t is) in
@@ -142,14 +154,17 @@ module _ (g : Games) (rr : IsDoubleRoundRobin g) (main rounds sides : ℕ) where
           let parts = or_parts (touched game.home) (list_any (λ (game : Pairing). touched game.home) games) none in
           or_from _ _ (here game are.0 (neither game.home are.0.home parts.0)) (unmoved games are.1 parts.1)
         where
-          here : (game : Pairing) → IsGameFor g.teams game → (has main game.home ≡ false) × (is_guest g (has main) (has rounds) game.home ≡ false) →
+          here : (game : Pairing) → IsGameFor g.teams game →
+              (has main game.home ≡ false) × (is_guest g (has main) (has rounds) game.home ≡ false) →
               ((has main game.home || has main game.away) && has rounds (round_of g game.home game.away)) ≡ false
           here game is out =
               let pair : IsPair g.teams game.home game.away = record { home_in = is.home; away_in = is.away; distinct = is.distinct } in
               let r = round_of g game.home game.away in
-              let met : has main (cell g game.home r).opponent ≡ has main game.away = ap (λ (c : Cell). has main c.opponent) (cell_home g rr game.home game.away pair) in
+              let met : has main (cell g game.home r).opponent ≡ has main game.away =
+              ap (λ (c : Cell). has main c.opponent) (cell_home g rr game.home game.away pair) in
               let fails : (has rounds r && has main (cell g game.home r).opponent) ≡ false =
-              any_below_fails (round_count g.teams) (λ r. has rounds r && has main (cell g game.home r).opponent) out.1 r (rr.in_range game.home game.away pair) in
+              any_below_fails (round_count g.teams) (λ r. has rounds r && has main (cell g game.home r).opponent) out.1 r
+              (rr.in_range game.home game.away pair) in
               turned (has main game.home) (has main game.away) (has rounds r) out.0 (sym (ap (λ b. has rounds r && b) met) ∙ fails)
             where
               turned : (h a r : Bool) → h ≡ false → (r && a) ≡ false → ((h || a) && r) ≡ false
@@ -172,14 +187,17 @@ module _ (g : Games) (rr : IsDoubleRoundRobin g) (main rounds sides : ℕ) where
 
 pub looked_past_part : (g : Games) (main rounds sides : ℕ) (body : RuleBody) → IsDoubleRoundRobin g → IsBodyFor g.teams body →
     ((t : ℕ) → has sides t ≡ true → has main t ≡ true) → looks_past main body ≡ true → deviation_part g main rounds sides body ≡ 0
-looked_past_part g main rounds sides body rr is sides_in past = no_part g rr main rounds sides body is (quiet_past g rr main rounds sides sides_in body past)
+looked_past_part g main rounds sides body rr is sides_in past =
+    no_part g rr main rounds sides body is (quiet_past g rr main rounds sides sides_in body past)
 
-pub untouched_part : (g : Games) (main rounds sides : ℕ) (touched : ℕ → Bool) (body : RuleBody) → IsDoubleRoundRobin g → IsBodyFor g.teams body →
+pub untouched_part : (g : Games) (main rounds sides : ℕ) (touched : ℕ → Bool) (body : RuleBody) → IsDoubleRoundRobin g →
+    IsBodyFor g.teams body →
     ((t : ℕ) → has sides t ≡ true → has main t ≡ true) →
     ((t : ℕ) → t < g.teams → (has main t || is_guest g (has main) (has rounds) t) ≡ true → touched t ≡ true) →
     touches body touched (has rounds) ≡ false → deviation_part g main rounds sides body ≡ 0
 unfolding touches deviation_part
-untouched_part g main rounds sides touched body rr is sides_in all none = elim (and_cases (looks_at_team body touched) (looks_at_round body (has rounds)) none) [
-  | inl team ↦ no_part g rr main rounds sides body is (quiet_untouched g rr main rounds sides sides_in touched all body is team)
-  | inr round ↦ cond-false {A = ℕ} (looks_at_round body (has rounds)) (changing_terms g main rounds sides body) 0 round
-]
+untouched_part g main rounds sides touched body rr is sides_in all none =
+    elim (and_cases (looks_at_team body touched) (looks_at_round body (has rounds)) none) [
+      | inl team ↦ no_part g rr main rounds sides body is (quiet_untouched g rr main rounds sides sides_in touched all body is team)
+      | inr round ↦ cond-false {A = ℕ} (looks_at_round body (has rounds)) (changing_terms g main rounds sides body) 0 round
+    ]

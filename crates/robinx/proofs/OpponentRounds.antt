@@ -16,7 +16,9 @@ pub record HasMet (g : Games) (t : ℕ) (side : Side) (set left against : ℕ) :
   pub within : (k : ℕ) → has left k ≡ true → has set k ≡ true
   pub season : IsBelow (round_count g.teams) against
   pub members : (r : ℕ) → has against r ≡
-      (nat_lt r (round_count g.teams) && (is_on_side side (is_home g t r) && (has set (cell g t r).opponent && not (has left (cell g t r).opponent))))
+      (nat_lt r
+      (round_count g.teams) && (is_on_side side
+      (is_home g t r) && (has set (cell g t r).opponent && not (has left (cell g t r).opponent))))
 
 module _ (g : Games) (rr : IsDoubleRoundRobin g) (t : ℕ) (in_t : t < g.teams) where
   -- in the round of a game a team meets the other, and in no other round on that side
@@ -99,7 +101,8 @@ module _ (g : Games) (rr : IsDoubleRoundRobin g) (t : ℕ) (in_t : t < g.teams) 
 
     pub met_away : (r : ℕ) → (r == round_of g o t || false) ≡ meets_on Away o r
     met_away r = elim (cases_lt r (round_count g.teams)) [
-      | inl in_r ↦ rw (away_round o r pair in_r, lt-ltb r (round_count g.teams) in_r) (same (not (is_home g t r) && (cell g t r).opponent == o))
+      | inl in_r ↦ rw (away_round o r pair in_r, lt-ltb r (round_count g.teams) in_r)
+          (same (not (is_home g t r) && (cell g t r).opponent == o))
       | inr past ↦ rw (not_past o t r swapped past, le-ltb r (round_count g.teams) past) refl
     ]
       where
@@ -129,7 +132,9 @@ module _ (g : Games) (rr : IsDoubleRoundRobin g) (t : ℕ) (in_t : t < g.teams) 
     season = season;
     members = λ r.
         empty r ∙ none (nat_lt r (round_count g.teams)) (is_on_side side (is_home g t r)) (has set (cell g t r).opponent) ∙
-        ap (λ s. nat_lt r (round_count g.teams) && (is_on_side side (is_home g t r) && (has set (cell g t r).opponent && not (has s (cell g t r).opponent)))) (sym whole);
+        ap (λ s. nat_lt r
+        (round_count g.teams) && (is_on_side side
+        (is_home g t r) && (has set (cell g t r).opponent && not (has s (cell g t r).opponent)))) (sym whole);
   }
     where
       none : (a b c : Bool) → false ≡ (a && (b && (c && not c)))
@@ -138,14 +143,16 @@ module _ (g : Games) (rr : IsDoubleRoundRobin g) (t : ℕ) (in_t : t < g.teams) 
       none true false c = refl
       none false b c = refl
 
-  pub met_more : (side : Side) (set left lowest rest against met new : ℕ) → HasMet g t side set left against → IsWithoutLowest left lowest rest →
+  pub met_more : (side : Side) (set left lowest rest against met new : ℕ) → HasMet g t side set left against →
+      IsWithoutLowest left lowest rest →
       ((r : ℕ) → has met r ≡ meets_on side lowest r) → ((r : ℕ) → has new r ≡ (has against r || has met r)) →
       IsBelow (round_count g.teams) new → HasMet g t side set rest new
   met_more side set left lowest rest against met new so_far taken mets members season = record {
     below = omega (arith, so_far.below, taken.fewer);
     within = λ k is. so_far.within k (and_parts (has left k) (not (k == lowest)) (sym (taken.others k) ∙ is)).0;
     season = season;
-    members = λ r. members r ∙ rw (so_far.members r, mets r) (joined (nat_lt r (round_count g.teams)) (is_on_side side (is_home g t r)) (cell g t r).opponent);
+    members = λ r. members r ∙
+        rw (so_far.members r, mets r) (joined (nat_lt r (round_count g.teams)) (is_on_side side (is_home g t r)) (cell g t r).opponent);
   }
     where
       taken_in : (a b : Bool) → ((a && (b && (true && not true))) || (a && (b && true))) ≡ (a && (b && (true && not false)))
@@ -159,10 +166,12 @@ module _ (g : Games) (rr : IsDoubleRoundRobin g) (t : ℕ) (in_t : t < g.teams) 
       as_before true false c = refl
       as_before false b c = refl
 
-      joined : (a b : Bool) (o : ℕ) → ((a && (b && (has set o && not (has left o)))) || (a && (b && o == lowest))) ≡ (a && (b && (has set o && not (has rest o))))
+      joined : (a b : Bool) (o : ℕ) →
+          ((a && (b && (has set o && not (has left o)))) || (a && (b && o == lowest))) ≡ (a && (b && (has set o && not (has rest o))))
       joined a b o = elim (cases_eq o lowest) [
         | inl here ↦
-            rw (here, eq-eqb lowest lowest refl, so_far.within lowest taken.in_set, taken.in_set, lowest_gone left lowest rest taken) (taken_in a b)
+            rw (here, eq-eqb lowest lowest refl, so_far.within lowest taken.in_set, taken.in_set, lowest_gone left lowest rest taken)
+            (taken_in a b)
         | inr other ↦ rw (ne_eqb o lowest other, others_kept left lowest rest o taken other) (as_before a b (has set o && not (has left o)))
       ]
 
@@ -180,13 +189,19 @@ module _ (g : Games) (rr : IsDoubleRoundRobin g) (t : ℕ) (in_t : t < g.teams) 
       and_true false = refl
 
   -- in the slots, against those of all teams that are opponents
-  pub met_in_slots : (side : Side) (all opponents both : ℕ) → ((k : ℕ) → has all k ≡ nat_lt k g.teams) → ((k : ℕ) → has both k ≡ (has all k && has opponents k)) →
+  pub met_in_slots : (side : Side) (all opponents both : ℕ) → ((k : ℕ) → has all k ≡ nat_lt k g.teams) →
+      ((k : ℕ) → has both k ≡ (has all k && has opponents k)) →
       (r : ℕ) (slot : Bool) → ((nat_lt r (round_count g.teams) && is_counted g side (has both) t r) && slot) ≡
       (nat_lt r (round_count g.teams) && (slot && is_counted g side (has opponents) t r))
   unfolding is_counted
   met_in_slots side all opponents both is_all members r slot = elim (cases_lt r (round_count g.teams)) [
     | inl in_r ↦
-        rw (members (cell g t r).opponent, is_all (cell g t r).opponent, lt-ltb (cell g t r).opponent g.teams (is_cell g rr t r in_t in_r).pair.away_in)
+        rw (
+          members (cell g t r).opponent,
+          is_all (cell g t r).opponent,
+          lt-ltb (cell g t r).opponent g.teams
+              (is_cell g rr t r in_t in_r).pair.away_in,
+        )
         (regrouped (nat_lt r (round_count g.teams)) (is_on_side side (cell g t r).home && has opponents (cell g t r).opponent) slot)
     | inr past ↦ rw (le-ltb r (round_count g.teams) past) refl
   ]

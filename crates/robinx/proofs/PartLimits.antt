@@ -9,7 +9,8 @@ use Rattle.league.specs.declared.rule.RuleBody.TheVariants.{Ca1, Ca2, Ca3, Ca4, 
 use Rattle.league.specs.declared.rule.Side.{Side}
 use Rattle.league.proofs.ForCallers.{sum_below_le_each}
 use Rattle.fixtures.specs.Games.{Games, round_count}
-use Rattle.robinx.specs.Deviations.{over, games_of_team, games_in_window, games_in_round, breaks, rounds_between, over_in_windows, short_pairs, worst_gap, worst_gaps, deviation}
+use Rattle.robinx.specs.Deviations.{over, games_of_team, games_in_window, games_in_round, breaks, rounds_between, over_in_windows}
+use Rattle.robinx.specs.Deviations.{short_pairs, worst_gap, worst_gaps, deviation}
 use Rattle.robinx.specs.Touches.{looks_at_round}
 use Rattle.robinx.specs.Parts.{counts_otherwise, over_in_met_windows, meets_window, is_pair_with, changing_terms, deviation_part}
 use Rattle.robinx.proofs.Limits.{deviation_below}
@@ -23,9 +24,11 @@ or_none : (b : Bool) (x y : ℕ) → x ≤ y → (if b then x else 0) ≤ y
 or_none true x y le = le
 or_none false x y le = omega arith
 
-some_le : (n : ℕ) (test inside : ℕ → Bool) (f h : ℕ → ℕ) → ((k : ℕ) → f k ≤ h k) → sum_where n (λ k. test k && inside k) f ≤ sum_where n test h
+some_le : (n : ℕ) (test inside : ℕ → Bool) (f h : ℕ → ℕ) → ((k : ℕ) → f k ≤ h k) →
+    sum_where n (λ k. test k && inside k) f ≤ sum_where n test h
 some_le n test inside f h each =
-    sum_below_le_each n (λ k. if test k && inside k then f k else 0) (λ k. if test k then h k else 0) (λ k below. fewer (test k) (inside k) (f k) (h k) (each k))
+    sum_below_le_each n (λ k. if test k && inside k then f k else 0) (λ k. if test k then h k else 0)
+    (λ k below. fewer (test k) (inside k) (f k) (h k) (each k))
 
 le_self : (x : ℕ) → x ≤ x
 le_self x = omega arith
@@ -37,7 +40,8 @@ windows_le : (g : Games) (side : Side) (opponents : ℕ → Bool) (window most :
     over_in_met_windows g side opponents window most rounds t ≤ over_in_windows g side opponents window most t
 unfolding over_in_windows over_in_met_windows
 windows_le g side opponents window most rounds t =
-    some_of (round_count g.teams + 1 - window) (λ _. true) (meets_window rounds window) (λ first. over (games_in_window g side opponents window t first) most)
+    some_of (round_count g.teams + 1 - window) (λ _. true) (meets_window rounds window)
+    (λ first. over (games_in_window g side opponents window t first) most)
 
 terms_le : (g : Games) (main rounds sides : ℕ) (body : RuleBody) → changing_terms g main rounds sides body ≤ deviation g body
 unfolding deviation changing_terms short_pairs worst_gaps
@@ -50,7 +54,8 @@ terms_le g main rounds sides (Ca3 teams1 side teams2 window most) =
     (over_in_windows g side (has teams2) window most) (windows_le g side (has teams2) window most (has rounds))
 terms_le g main rounds sides (Ca4 teams1 side teams2 slots false most) = or_none _ _ _ (le_self _)
 terms_le g main rounds sides (Ca4 teams1 side teams2 slots true most) =
-    or_none _ _ _ (some_of (round_count g.teams) (has slots) (has rounds) (λ r. over (games_in_round g side (has teams1) (has teams2) r) most))
+    or_none _ _ _
+    (some_of (round_count g.teams) (has slots) (has rounds) (λ r. over (games_in_round g side (has teams1) (has teams2) r) most))
 terms_le g main rounds sides (Ga1 games slots least most) = or_none _ _ _ (le_self _)
 terms_le g main rounds sides (Br1 teams side slots most) =
     some_of g.teams (has teams) (has sides) (λ t. over (breaks g t (has slots) side) most)

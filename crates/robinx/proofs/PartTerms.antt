@@ -24,7 +24,8 @@ pub Ca2-terms : (g : Games) (main rounds sides teams : ℕ) (side : Side) (oppon
     deviation g (Ca2 both side opponents slots most) ≡ changing_terms g main rounds sides (Ca2 teams side opponents slots most)
 unfolding deviation changing_terms
 Ca2-terms g main rounds sides teams side opponents slots most both members =
-    sum_where_same g.teams (has both) (λ t. has teams t && counts_otherwise g main rounds opponents t) _ _ (λ t in_t. members t) (λ t in_t is. refl)
+    sum_where_same g.teams (has both) (λ t. has teams t && counts_otherwise g main rounds opponents t) _ _ (λ t in_t. members t)
+    (λ t in_t is. refl)
 
 pub Ca3-terms : (g : Games) (main rounds sides teams : ℕ) (side : Side) (opponents window most both : ℕ) →
     ((t : ℕ) → has both t ≡ (has teams t && counts_otherwise g main rounds opponents t)) →
@@ -32,7 +33,8 @@ pub Ca3-terms : (g : Games) (main rounds sides teams : ℕ) (side : Side) (oppon
     changing_terms g main rounds sides (Ca3 teams side opponents window most)
 unfolding changing_terms
 Ca3-terms g main rounds sides teams side opponents window most both members =
-    sum_where_same g.teams (has both) (λ t. has teams t && counts_otherwise g main rounds opponents t) _ _ (λ t in_t. members t) (λ t in_t is. refl)
+    sum_where_same g.teams (has both) (λ t. has teams t && counts_otherwise g main rounds opponents t) _ _ (λ t in_t. members t)
+    (λ t in_t is. refl)
 
 pub Br1-terms : (g : Games) (main rounds sides teams : ℕ) (side : Side) (slots most both : ℕ) →
     ((t : ℕ) → has both t ≡ (has teams t && has sides t)) →
@@ -119,7 +121,9 @@ pub guest_in_season : (g : Games) (main : ℕ → Bool) (all rounds both t : ℕ
 unfolding is_guest
 guest_in_season g main all rounds both t is_all members =
     any_below_same (round_count g.teams) (λ r. has both r && main (cell g t r).opponent) (λ r. has rounds r && main (cell g t r).opponent)
-    (λ r in_r. ap (λ b. b && main (cell g t r).opponent) (members r ∙ ap (λ b. b && has rounds r) (is_all r ∙ lt-ltb r (round_count g.teams) in_r)))
+    (λ r in_r.
+    ap (λ b. b && main (cell g t r).opponent)
+    (members r ∙ ap (λ b. b && has rounds r) (is_all r ∙ lt-ltb r (round_count g.teams) in_r)))
 
 -- the lower teams of pairs
 
@@ -146,7 +150,8 @@ pub pairs_of_all : (n teams : ℕ) (f : ℕ → ℕ → ℕ) →
     sum_of_pairs n (λ i j. if is_pair_with teams teams i j then f i j else 0) ≡
     sum_below n (λ j. sum_below j (λ i. if has teams i && has teams j then f i j else 0))
 pairs_of_all n teams f =
-    sum_below_same n _ _ (λ j j_below. sum_below_same j _ _ (λ i i_below. ap (λ b. if b then f i j else 0) (both (has teams i) (has teams j))))
+    sum_below_same n _ _
+    (λ j j_below. sum_below_same j _ _ (λ i i_below. ap (λ b. if b then f i j else 0) (both (has teams i) (has teams j))))
   where
     both : (a b : Bool) → ((a && b) && (a || b)) ≡ (a && b)
     both true true = refl

@@ -1,5 +1,6 @@
 -- What a change around some teams adds to the part of a deviation, it adds to the whole.
-use Rattle.std.proofs.Common.{◌≡◌, ℕ, ◌+◌, ◌-◌, ◌<◌, ◌≤◌, ◌&&◌, ◌||◌, ◌⊎◌, not, Bool, true, false, List, [], ◌∷◌, inl, inr, refl, sym, ◌∙◌, ap, arith}
+use Rattle.std.proofs.Common.{◌≡◌, ℕ, ◌+◌, ◌-◌, ◌<◌, ◌≤◌, ◌&&◌, ◌||◌, ◌⊎◌, not, Bool, true, false, List, [], ◌∷◌, inl, inr, refl, sym, ◌∙◌}
+use Rattle.std.proofs.Common.{ap, arith}
 use Rattle.std.specs.List.{AllByRecursion, list_any}
 use Rattle.std.proofs.lemmas.Bool.{cases_Bool, cases_lt, false≢true, and_cases, and_right, or_parts, not_from_false, not-false, not-true}
 use Rattle.league.specs.Sets.{has, IsBelow}
@@ -16,13 +17,16 @@ use Rattle.fixtures.specs.declared.game.Cell.{Cell}
 use Rattle.fixtures.specs.Games.{Games, round_count, round_of, cell, is_home, IsPair, IsDoubleRoundRobin}
 use Rattle.fixtures.specs.Changes.{DiffersOnlyAt, DiffersOnlyAround, box}
 use Rattle.fixtures.proofs.ForCallers.{is_cell, round_of_kept, round_of_kept_around}
-use Rattle.robinx.specs.Deviations.{over, is_on_side, is_counted, games_of_team, games_in_window, games_in_round, breaks, rounds_between, over_in_windows, short_pairs, worst_gap, worst_gaps, deviation}
+use Rattle.robinx.specs.Deviations.{over, is_on_side, is_counted, games_of_team, games_in_window, games_in_round, breaks, rounds_between}
+use Rattle.robinx.specs.Deviations.{over_in_windows, short_pairs, worst_gap, worst_gaps, deviation}
 use Rattle.robinx.specs.LooksPast.{takes_all_or_none}
 use Rattle.robinx.specs.Touches.{has_touched_team, looks_at_round, touches}
-use Rattle.robinx.specs.Parts.{is_guest, counts_otherwise, has_moved_game, meets_window, over_in_met_windows, changing_terms, deviation_part}
+use Rattle.robinx.specs.Parts.{is_guest, counts_otherwise, has_moved_game, meets_window, over_in_met_windows, changing_terms}
+use Rattle.robinx.specs.Parts.{deviation_part}
 use Rattle.robinx.proofs.LookedPast.{TakesAllOrNone-tested}
 use Rattle.robinx.proofs.PartSums.{where_balance, whole_terms_balance, pairs_balance, whole_balance, part_balance}
-use Rattle.robinx.proofs.SeesSame.{SeesSame, SeesSameBreaks, SeesSameUntil, games_of_team-same, games_in_round-same, over_in_windows-same, breaks-same, worst_gap-same, together-same, each-same, breaks_of_all-same, listed_games_in-same}
+use Rattle.robinx.proofs.SeesSame.{SeesSame, SeesSameBreaks, SeesSameUntil, games_of_team-same, games_in_round-same, over_in_windows-same}
+use Rattle.robinx.proofs.SeesSame.{breaks-same, worst_gap-same, together-same, each-same, breaks_of_all-same, listed_games_in-same}
 use Rattle.robinx.proofs.Untouched.{untouched_deviation}
 
 other_fails : (p q : Bool) → (p && q) ≡ false → p ≡ true → q ≡ false
@@ -31,7 +35,8 @@ other_fails p q fails passes = elim (and_cases p q fails) [
   | inr fails_there ↦ fails_there
 ]
 
-module _ (g g' : Games) (rr : IsDoubleRoundRobin g) (rr' : IsDoubleRoundRobin g') (main rounds : ℕ) (differs : DiffersOnlyAround g g' (has main) (has rounds)) where
+module _ (g g' : Games) (rr : IsDoubleRoundRobin g) (rr' : IsDoubleRoundRobin g') (main rounds : ℕ)
+    (differs : DiffersOnlyAround g g' (has main) (has rounds)) where
   below' : (t r : ℕ) → t < g.teams → r < round_count g.teams → (cell g' t r).opponent < 40
   below' t r in_t in_r =
       omega (arith, rr'.most, (is_cell g' rr' t r (rw differs.same_size in_t) (rw differs.same_size in_r)).pair.away_in)
@@ -40,7 +45,8 @@ module _ (g g' : Games) (rr : IsDoubleRoundRobin g) (rr' : IsDoubleRoundRobin g'
   below_before t r in_t in_r = omega (arith, rr.most, (is_cell g rr t r in_t in_r).pair.away_in)
 
   -- a team that isn't main meets a main team in a round of the change before it and after it, or neither
-  meets_main : (t r : ℕ) → t < g.teams → r < round_count g.teams → has main t ≡ false → has main (cell g' t r).opponent ≡ has main (cell g t r).opponent
+  meets_main : (t r : ℕ) → t < g.teams → r < round_count g.teams → has main t ≡ false →
+      has main (cell g' t r).opponent ≡ has main (cell g t r).opponent
   meets_main t r in_t in_r other = elim (differs.others t r in_t in_r other).same_or_in [
     | inl same ↦ ap (has main) same
     | inr both ↦ both.1 ∙ sym both.0
@@ -50,7 +56,8 @@ module _ (g g' : Games) (rr : IsDoubleRoundRobin g) (rr' : IsDoubleRoundRobin g'
   unfolding is_guest
   guest_same t in_t other =
       ap (λ (n : ℕ). any_below (round_count n) (λ r. has rounds r && has main (cell g' t r).opponent)) differs.same_size ∙
-      any_below_same (round_count g.teams) (λ r. has rounds r && has main (cell g' t r).opponent) (λ r. has rounds r && has main (cell g t r).opponent)
+      any_below_same (round_count g.teams) (λ r. has rounds r && has main (cell g' t r).opponent)
+      (λ r. has rounds r && has main (cell g t r).opponent)
       (λ r in_r. ap (λ (b : Bool). has rounds r && b) (meets_main t r in_t in_r other))
 
   counts_same : (opponents t : ℕ) → t < g.teams → counts_otherwise g' main rounds opponents t ≡ counts_otherwise g main rounds opponents t
@@ -64,7 +71,8 @@ module _ (g g' : Games) (rr : IsDoubleRoundRobin g) (rr' : IsDoubleRoundRobin g'
       has_touched_team teams (counts_otherwise g' main rounds opponents) ≡ has_touched_team teams (counts_otherwise g main rounds opponents)
   unfolding has_touched_team
   one_counts_same opponents teams below =
-      any_below_same 40 (λ t. has teams t && counts_otherwise g' main rounds opponents t) (λ t. has teams t && counts_otherwise g main rounds opponents t)
+      any_below_same 40 (λ t. has teams t && counts_otherwise g' main rounds opponents t)
+      (λ t. has teams t && counts_otherwise g main rounds opponents t)
       (λ t in_t. elim (cases_lt t g.teams) [
         | inl lt ↦ ap (λ (b : Bool). has teams t && b) (counts_same opponents t lt)
         | inr past ↦ rw (has_beyond g.teams teams t below past) refl
@@ -80,7 +88,8 @@ module _ (g g' : Games) (rr : IsDoubleRoundRobin g) (rr' : IsDoubleRoundRobin g'
         | inl all_or_none ↦ elim (differs.others t r in_t in_r parts.0).same_or_in [
           | inl same ↦ ap (has opponents) same
           | inr both ↦
-              TakesAllOrNone-tested main opponents (not-false _ all_or_none) _ _ (below' t r in_t in_r) (below_before t r in_t in_r) both.1 both.0
+              TakesAllOrNone-tested main opponents (not-false _ all_or_none) _ _ (below' t r in_t in_r) (below_before t r in_t in_r) both.1
+              both.0
         ]
         | inr no_guest ↦ by_round parts.0 no_guest (has rounds r) refl
       ]
@@ -100,9 +109,11 @@ module _ (g g' : Games) (rr : IsDoubleRoundRobin g) (rr' : IsDoubleRoundRobin g'
       (cell g' t r).home ≡ (cell g t r).home
   unfolding counts_otherwise is_home
   side_kept opponents t r in_t in_r out =
-      (differs.others t r in_t in_r (or_parts (has main t) (not (takes_all_or_none main opponents) && is_guest g (has main) (has rounds) t) out).0).same_side
+      (differs.others t r in_t in_r
+      (or_parts (has main t) (not (takes_all_or_none main opponents) && is_guest g (has main) (has rounds) t) out).0).same_side
 
-  SeesSame-others : (opponents : ℕ) (teams slots : ℕ → Bool) → ((t : ℕ) → t < g.teams → teams t ≡ true → counts_otherwise g main rounds opponents t ≡ false) →
+  SeesSame-others : (opponents : ℕ) (teams slots : ℕ → Bool) →
+      ((t : ℕ) → t < g.teams → teams t ≡ true → counts_otherwise g main rounds opponents t ≡ false) →
       SeesSame g g' teams slots (has opponents)
   SeesSame-others opponents teams slots others = record {
     same_size = differs.same_size;
@@ -123,7 +134,9 @@ module _ (g g' : Games) (rr : IsDoubleRoundRobin g) (rr' : IsDoubleRoundRobin g'
   unfolding has_touched_team
   SeesSame-none opponents teams slots none =
       SeesSame-others opponents (has teams) slots
-      (λ t in_t team. other_fails (has teams t) _ (any_below_fails 40 (λ t. has teams t && counts_otherwise g main rounds opponents t) none t (omega (arith, rr.most))) team)
+      (λ t in_t team.
+      other_fails (has teams t) _
+      (any_below_fails 40 (λ t. has teams t && counts_otherwise g main rounds opponents t) none t (omega (arith, rr.most))) team)
 
   -- all teams in the rounds outside
   SeesSame-outside : (teams opponents : ℕ → Bool) → SeesSame g g' teams (λ r. not (has rounds r)) opponents
@@ -134,7 +147,8 @@ module _ (g g' : Games) (rr : IsDoubleRoundRobin g) (rr' : IsDoubleRoundRobin g'
   }
 
   -- the whole stays where the rule looks at none of the rounds
-  none_looked_at : (body : RuleBody) → IsBodyFor g.teams body → looks_at_round body (has rounds) ≡ false → deviation g' body ≡ deviation g body
+  none_looked_at : (body : RuleBody) → IsBodyFor g.teams body → looks_at_round body (has rounds) ≡ false →
+      deviation g' body ≡ deviation g body
   unfolding touches
   none_looked_at body is none =
       untouched_deviation g g' (λ _. true) (has rounds) body rr rr' is
@@ -143,13 +157,15 @@ module _ (g g' : Games) (rr : IsDoubleRoundRobin g) (rr' : IsDoubleRoundRobin g'
 
   -- windows that have none of the rounds
   window_same : (side : Side) (opponents : ℕ → Bool) (window t first : ℕ) → t < g.teams → first + window ≤ round_count g.teams →
-      meets_window (has rounds) window first ≡ false → games_in_window g' side opponents window t first ≡ games_in_window g side opponents window t first
+      meets_window (has rounds) window first ≡ false →
+      games_in_window g' side opponents window t first ≡ games_in_window g side opponents window t first
   unfolding meets_window games_in_window is_counted
   window_same side opponents window t first in_t within none =
       count_where_same window (λ k. is_counted g' side opponents t (first + k)) (λ k. is_counted g side opponents t (first + k))
       (λ k below. counted_outside (first + k) (omega arith) (any_below_fails window (λ k. has rounds (first + k)) none k below))
     where
-      counted_outside : (r : ℕ) → r < round_count g.teams → has rounds r ≡ false → is_counted g' side opponents t r ≡ is_counted g side opponents t r
+      counted_outside : (r : ℕ) → r < round_count g.teams → has rounds r ≡ false →
+          is_counted g' side opponents t r ≡ is_counted g side opponents t r
       counted_outside r in_r out = ap (λ (c : Cell). is_on_side side c.home && opponents c.opponent) (differs.same_cells t r in_t in_r out)
 
   windows_balance : (side : Side) (opponents : ℕ → Bool) (window most t : ℕ) → t < g.teams → window ≤ round_count g.teams →
@@ -157,23 +173,31 @@ module _ (g g' : Games) (rr : IsDoubleRoundRobin g) (rr' : IsDoubleRoundRobin g'
       over_in_windows g side opponents window most t + over_in_met_windows g' side opponents window most (has rounds) t
   unfolding over_in_windows over_in_met_windows
   windows_balance side opponents window most t in_t within =
-      where_balance (round_count g.teams + 1 - window) (round_count g'.teams + 1 - window) (λ _. true) (meets_window (has rounds) window) (meets_window (has rounds) window)
-      (λ first. over (games_in_window g' side opponents window t first) most) (λ first. over (games_in_window g side opponents window t first) most)
-      (λ first. over (games_in_window g' side opponents window t first) most) (λ first. over (games_in_window g side opponents window t first) most)
+      where_balance (round_count g.teams + 1 - window) (round_count g'.teams + 1 - window) (λ _. true) (meets_window (has rounds) window)
+      (meets_window (has rounds) window)
+      (λ first. over (games_in_window g' side opponents window t first) most)
+      (λ first. over (games_in_window g side opponents window t first) most)
+      (λ first. over (games_in_window g' side opponents window t first) most)
+      (λ first. over (games_in_window g side opponents window t first) most)
       (ap (λ (n : ℕ). round_count n + 1 - window) differs.same_size) (λ first below. refl) (λ first below is. omega arith)
       (λ first below is none. ap (λ (count : ℕ). over count most) (window_same side opponents window t first in_t (omega arith) none))
 
   -- games of main teams in the rounds
-  moved_game_kept : (games : List Pairing) → AllByRecursion (IsGameFor g.teams) games → has_moved_game g (has main) (has rounds) games ≡ false →
+  moved_game_kept : (games : List Pairing) → AllByRecursion (IsGameFor g.teams) games →
+      has_moved_game g (has main) (has rounds) games ≡ false →
       AllByRecursion (λ (game : Pairing). round_of g' game.home game.away ≡ round_of g game.home game.away) games
   unfolding has_moved_game
   moved_game_kept [] all none = tt
   moved_game_kept (game ∷ games) all none =
       let parts = or_parts ((has main game.home || has main game.away) && has rounds (round_of g game.home game.away))
-      (list_any (λ (game : Pairing). (has main game.home || has main game.away) && has rounds (round_of g game.home game.away)) games) none in
-      (kept game all.0 (and_cases (has main game.home || has main game.away) (has rounds (round_of g game.home game.away)) parts.0), moved_game_kept games all.1 parts.1)
+      (list_any (λ (game : Pairing). (has main game.home || has main game.away) && has rounds (round_of g game.home game.away)) games)
+      none in (
+        kept game all.0 (and_cases (has main game.home || has main game.away) (has rounds (round_of g game.home game.away)) parts.0),
+        moved_game_kept games all.1 parts.1,
+      )
     where
-      kept : (game : Pairing) → IsGameFor g.teams game → ((has main game.home || has main game.away) ≡ false) ⊎ (has rounds (round_of g game.home game.away) ≡ false) →
+      kept : (game : Pairing) → IsGameFor g.teams game →
+          ((has main game.home || has main game.away) ≡ false) ⊎ (has rounds (round_of g game.home game.away) ≡ false) →
           round_of g' game.home game.away ≡ round_of g game.home game.away
       kept game is untouched = elim untouched [
         | inl others ↦
@@ -187,7 +211,8 @@ module _ (g g' : Games) (rr : IsDoubleRoundRobin g) (rr' : IsDoubleRoundRobin g'
           pair : (game : Pairing) → IsGameFor g.teams game → IsPair g.teams game.home game.away
           pair game is = record { home_in = is.home; away_in = is.away; distinct = is.distinct }
 
-module _ (g g' : Games) (size : g'.teams ≡ g.teams) (sides rounds : ℕ) (turned : DiffersOnlyAt is_home g g' (box (has sides) (has rounds))) where
+module _ (g g' : Games) (size : g'.teams ≡ g.teams) (sides rounds : ℕ)
+    (turned : DiffersOnlyAt is_home g g' (box (has sides) (has rounds))) where
   -- a team that isn't a side team keeps its sides
   home_kept : (t r : ℕ) → t < g.teams → r < round_count g.teams → has sides t ≡ false → (cell g' t r).home ≡ (cell g t r).home
   unfolding is_home
@@ -200,7 +225,8 @@ module _ (g g' : Games) (size : g'.teams ≡ g.teams) (sides rounds : ℕ) (turn
     opponent = λ t r in_t in_r team slot. refl;
   }
 
-  SeesSameBreaks-unturned : (teams slots : ℕ → Bool) → ((t : ℕ) → t < g.teams → teams t ≡ true → has sides t ≡ false) → SeesSameBreaks g g' teams slots
+  SeesSameBreaks-unturned : (teams slots : ℕ → Bool) → ((t : ℕ) → t < g.teams → teams t ≡ true → has sides t ≡ false) →
+      SeesSameBreaks g g' teams slots
   SeesSameBreaks-unturned teams slots others = record {
     same_size = size;
     side = λ t r in_t in_r team slot. home_kept t r in_t in_r (others t in_t team);
@@ -214,7 +240,8 @@ module _ (g g' : Games) (size : g'.teams ≡ g.teams) (sides rounds : ℕ) (turn
     side = λ t r k in_t in_r team slot until. home_kept t k in_t (omega arith) (not-true _ team);
   }
 
-  none_turns : (teams : ℕ) → g.teams ≤ 40 → has_touched_team teams (has sides) ≡ false → (t : ℕ) → t < g.teams → has teams t ≡ true → has sides t ≡ false
+  none_turns : (teams : ℕ) → g.teams ≤ 40 → has_touched_team teams (has sides) ≡ false → (t : ℕ) → t < g.teams → has teams t ≡ true →
+      has sides t ≡ false
   unfolding has_touched_team
   none_turns teams forty none t in_t team =
       other_fails (has teams t) (has sides t) (any_below_fails 40 (λ t. has teams t && has sides t) none t (omega arith)) team
@@ -222,7 +249,8 @@ module _ (g g' : Games) (size : g'.teams ≡ g.teams) (sides rounds : ℕ) (turn
 neither : (p q : Bool) → (p || q) ≡ false → (not p ≡ true) × (not q ≡ true)
 neither p q fails = let parts = or_parts p q fails in (not_from_false p parts.0, not_from_false q parts.1)
 
-module _ (g g' : Games) (rr : IsDoubleRoundRobin g) (rr' : IsDoubleRoundRobin g') (main rounds sides : ℕ) (differs : DiffersOnlyAround g g' (has main) (has rounds))
+module _ (g g' : Games) (rr : IsDoubleRoundRobin g) (rr' : IsDoubleRoundRobin g') (main rounds sides : ℕ)
+    (differs : DiffersOnlyAround g g' (has main) (has rounds))
     (turned : DiffersOnlyAt is_home g g' (box (has sides) (has rounds))) where
   -- a game of the list in the rounds is one in both schedules
   moved_game_same : (games : List Pairing) → AllByRecursion (IsGameFor g.teams) games →
@@ -242,7 +270,8 @@ module _ (g g' : Games) (rr : IsDoubleRoundRobin g) (rr' : IsDoubleRoundRobin g'
           pair' : IsPair g'.teams game.home game.away
           pair' = rw differs.same_size pair
 
-          at : (b : Bool) → has rounds (round_of g game.home game.away) ≡ b → (c : Bool) → has rounds (round_of g' game.home game.away) ≡ c →
+          at : (b : Bool) → has rounds (round_of g game.home game.away) ≡ b → (c : Bool) →
+              has rounds (round_of g' game.home game.away) ≡ c →
               ((has main game.home || has main game.away) && c) ≡ ((has main game.home || has main game.away) && b)
           at true inside true inside' = refl
           at false outside false outside' = refl
@@ -254,7 +283,8 @@ module _ (g g' : Games) (rr : IsDoubleRoundRobin g) (rr' : IsDoubleRoundRobin g'
           at true inside false outside' =
               let kept : round_of g game.home game.away ≡ round_of g' game.home game.away =
               round_of_kept g' g rr' rr (sym differs.same_size) game.home game.away pair'
-              (sym (differs.same_cells game.home (round_of g' game.home game.away) is.home (rw differs.same_size at (rr'.in_range game.home game.away pair')) outside')) in
+              (sym (differs.same_cells game.home (round_of g' game.home game.away) is.home
+              (rw differs.same_size at (rr'.in_range game.home game.away pair')) outside')) in
               absurd (false≢true (sym outside' ∙ ap (has rounds) (sym kept) ∙ inside))
 
   terms_balance : (body : RuleBody) → IsBodyFor g.teams body →
@@ -265,13 +295,15 @@ module _ (g g' : Games) (rr : IsDoubleRoundRobin g) (rr' : IsDoubleRoundRobin g'
       (λ t. over (games_of_team g' side (λ _. true) (has slots) t) most) (λ t. over (games_of_team g side (λ _. true) (has slots) t) most)
       differs.same_size (λ t in_t. refl)
       (λ t in_t team out. ap (λ (count : ℕ). over count most)
-      (games_of_team-same g g' (λ t. not (has sides t)) (has slots) (λ _. true) (SeesSame-unturned g g' differs.same_size sides rounds turned (has slots)) side t in_t (not_from_false _ out)))
+      (games_of_team-same g g' (λ t. not (has sides t)) (has slots) (λ _. true)
+      (SeesSame-unturned g g' differs.same_size sides rounds turned (has slots)) side t in_t (not_from_false _ out)))
   terms_balance (Ca2 teams1 side teams2 slots most) is =
       whole_terms_balance g.teams g'.teams (has teams1) (counts_otherwise g main rounds teams2) (counts_otherwise g' main rounds teams2)
       (λ t. over (games_of_team g' side (has teams2) (has slots) t) most) (λ t. over (games_of_team g side (has teams2) (has slots) t) most)
       differs.same_size (counts_same g g' rr rr' main rounds differs teams2)
       (λ t in_t team out. ap (λ (count : ℕ). over count most)
-      (games_of_team-same g g' (others g g' rr rr' main rounds differs teams2) (has slots) (has teams2) (SeesSame-counted g g' rr rr' main rounds differs teams2 (has slots)) side t in_t (not_from_false _ out)))
+      (games_of_team-same g g' (others g g' rr rr' main rounds differs teams2) (has slots) (has teams2)
+      (SeesSame-counted g g' rr rr' main rounds differs teams2 (has slots)) side t in_t (not_from_false _ out)))
   terms_balance (Ca3 teams1 side teams2 window most) is =
       where_balance g.teams g'.teams (has teams1) (counts_otherwise g main rounds teams2) (counts_otherwise g' main rounds teams2)
       (over_in_windows g' side (has teams2) window most) (over_in_windows g side (has teams2) window most)
@@ -279,27 +311,37 @@ module _ (g g' : Games) (rr : IsDoubleRoundRobin g) (rr' : IsDoubleRoundRobin g'
       differs.same_size (counts_same g g' rr rr' main rounds differs teams2)
       (λ t in_t inside. windows_balance g g' rr rr' main rounds differs side (has teams2) window most t in_t is.3)
       (λ t in_t team out.
-      over_in_windows-same g g' (others g g' rr rr' main rounds differs teams2) (has teams2) (SeesSame-counted g g' rr rr' main rounds differs teams2 (λ _. true)) side window most t in_t (not_from_false _ out) is.3)
+      over_in_windows-same g g' (others g g' rr rr' main rounds differs teams2) (has teams2)
+      (SeesSame-counted g g' rr rr' main rounds differs teams2 (λ _. true)) side window most t in_t (not_from_false _ out) is.3)
   terms_balance (Ca4 teams1 side teams2 slots false most) is =
-      whole_balance (has_touched_team teams1 (counts_otherwise g main rounds teams2)) (has_touched_team teams1 (counts_otherwise g' main rounds teams2)) _ _
+      whole_balance (has_touched_team teams1 (counts_otherwise g main rounds teams2))
+      (has_touched_team teams1 (counts_otherwise g' main rounds teams2)) _ _
       (one_counts_same g g' rr rr' main rounds differs teams2 teams1 is.0)
-      (λ none. together-same g g' (has teams1) (has slots) (has teams2) (SeesSame-none g g' rr rr' main rounds differs teams2 teams1 (has slots) none) side most)
+      (λ none. together-same g g' (has teams1) (has slots) (has teams2)
+      (SeesSame-none g g' rr rr' main rounds differs teams2 teams1 (has slots) none) side most)
   terms_balance (Ca4 teams1 side teams2 slots true most) is =
-      part_balance (has_touched_team teams1 (counts_otherwise g main rounds teams2)) (has_touched_team teams1 (counts_otherwise g' main rounds teams2)) _ _ _ _
+      part_balance (has_touched_team teams1 (counts_otherwise g main rounds teams2))
+      (has_touched_team teams1 (counts_otherwise g' main rounds teams2)) _ _ _ _
       (one_counts_same g g' rr rr' main rounds differs teams2 teams1 is.0)
       (whole_terms_balance (round_count g.teams) (round_count g'.teams) (has slots) (has rounds) (has rounds)
-      (λ r. over (games_in_round g' side (has teams1) (has teams2) r) most) (λ r. over (games_in_round g side (has teams1) (has teams2) r) most)
+      (λ r. over (games_in_round g' side (has teams1) (has teams2) r) most)
+      (λ r. over (games_in_round g side (has teams1) (has teams2) r) most)
       (ap round_count differs.same_size) (λ r in_r. refl)
       (λ r in_r slot out. ap (λ (count : ℕ). over count most)
-      (games_in_round-same g g' (has teams1) (λ r. not (has rounds r)) (has teams2) (SeesSame-outside g g' rr rr' main rounds differs (has teams1) (has teams2)) side r in_r (not_from_false _ out))))
-      (λ none. each-same g g' (has teams1) (has slots) (has teams2) (SeesSame-none g g' rr rr' main rounds differs teams2 teams1 (has slots) none) side most)
+      (games_in_round-same g g' (has teams1) (λ r. not (has rounds r)) (has teams2)
+      (SeesSame-outside g g' rr rr' main rounds differs (has teams1) (has teams2)) side r in_r (not_from_false _ out))))
+      (λ none. each-same g g' (has teams1) (has slots) (has teams2)
+      (SeesSame-none g g' rr rr' main rounds differs teams2 teams1 (has slots) none) side most)
   terms_balance (Ga1 games slots least most) is =
-      whole_balance (has_moved_game g (has main) (has rounds) games) (has_moved_game g' (has main) (has rounds) games) _ _ (moved_game_same games is.0)
+      whole_balance (has_moved_game g (has main) (has rounds) games) (has_moved_game g' (has main) (has rounds) games) _ _
+      (moved_game_same games is.0)
       (λ none. ap (λ (count : ℕ). over count most + over least count)
       (listed_games_in-same g g' (has slots) games (in_slots games (moved_game_kept g g' rr rr' main rounds differs games is.0 none))))
     where
-      in_slots : (games : List Pairing) → AllByRecursion (λ (game : Pairing). round_of g' game.home game.away ≡ round_of g game.home game.away) games →
-          AllByRecursion (λ (game : Pairing). has slots (round_of g' game.home game.away) ≡ has slots (round_of g game.home game.away)) games
+      in_slots : (games : List Pairing) →
+          AllByRecursion (λ (game : Pairing). round_of g' game.home game.away ≡ round_of g game.home game.away) games →
+          AllByRecursion (λ (game : Pairing). has slots (round_of g' game.home game.away) ≡ has slots (round_of g game.home game.away))
+          games
       in_slots [] all = tt
       in_slots (game ∷ games) all = (ap (has slots) all.0, in_slots games all.1)
   terms_balance (Br1 teams side slots most) is =
@@ -307,29 +349,35 @@ module _ (g g' : Games) (rr : IsDoubleRoundRobin g) (rr' : IsDoubleRoundRobin g'
       (λ t. over (breaks g' t (has slots) side) most) (λ t. over (breaks g t (has slots) side) most) differs.same_size (λ t in_t. refl)
       (λ t in_t team out. ap (λ (count : ℕ). over count most)
       (breaks-same g g' (λ t. not (has sides t)) (has slots)
-      (SeesSameBreaks-unturned g g' differs.same_size sides rounds turned (λ t. not (has sides t)) (has slots) (λ t in_t is. not-true _ is)) side t in_t (not_from_false _ out)))
+      (SeesSameBreaks-unturned g g' differs.same_size sides rounds turned (λ t. not (has sides t)) (has slots) (λ t in_t is. not-true _ is))
+      side t in_t (not_from_false _ out)))
   terms_balance (Br2 teams slots most) is =
       whole_balance (has_touched_team teams (has sides)) (has_touched_team teams (has sides)) _ _ refl
       (λ none. breaks_of_all-same g g' (has teams) (has slots)
-      (SeesSameBreaks-unturned g g' differs.same_size sides rounds turned (has teams) (has slots) (none_turns g g' differs.same_size sides rounds turned teams rr.most none)) Any most)
+      (SeesSameBreaks-unturned g g' differs.same_size sides rounds turned (has teams) (has slots)
+      (none_turns g g' differs.same_size sides rounds turned teams rr.most none)) Any most)
   terms_balance (Se1 teams least) is =
       pairs_balance g.teams g'.teams (λ i j. has teams i && has teams j) (λ i j. has main i || has main j)
       (λ i j. over least (rounds_between g' i j)) (λ i j. over least (rounds_between g i j)) differs.same_size
       (λ i j lower in_j both out. ap (over least) (rounds_kept i j lower in_j (or_parts (has main i) (has main j) out)))
     where
-      rounds_kept : (i j : ℕ) → i < j → j < g.teams → (has main i ≡ false) × (has main j ≡ false) → rounds_between g' i j ≡ rounds_between g i j
+      rounds_kept : (i j : ℕ) → i < j → j < g.teams → (has main i ≡ false) × (has main j ≡ false) →
+          rounds_between g' i j ≡ rounds_between g i j
       rounds_kept i j lower in_j out =
           let there : round_of g' i j ≡ round_of g i j =
-          round_of_kept_around g g' (has main) (has rounds) rr rr' differs i j (record { home_in = omega arith; away_in = in_j; distinct = omega arith }) out.0 out.1 in
+          round_of_kept_around g g' (has main) (has rounds) rr rr' differs i j
+          (record { home_in = omega arith; away_in = in_j; distinct = omega arith }) out.0 out.1 in
           let back : round_of g' j i ≡ round_of g j i =
-          round_of_kept_around g g' (has main) (has rounds) rr rr' differs j i (record { home_in = in_j; away_in = omega arith; distinct = omega arith }) out.1 out.0 in
+          round_of_kept_around g g' (has main) (has rounds) rr rr' differs j i
+          (record { home_in = in_j; away_in = omega arith; distinct = omega arith }) out.1 out.0 in
           rw (there, back) refl
   terms_balance (Fa2 teams slots most) is =
       pairs_balance g.teams g'.teams (λ i j. has teams i && has teams j) (λ i j. has sides i || has sides j)
       (λ i j. worst_gap g' (has slots) most i j) (λ i j. worst_gap g (has slots) most i j) differs.same_size
       (λ i j lower in_j both out.
       let parts = neither (has sides i) (has sides j) out in
-      worst_gap-same g g' (λ t. not (has sides t)) (has slots) (SeesSameUntil-unturned g g' differs.same_size sides rounds turned (has slots)) most i j (omega arith) in_j parts.0 parts.1)
+      worst_gap-same g g' (λ t. not (has sides t)) (has slots)
+      (SeesSameUntil-unturned g g' differs.same_size sides rounds turned (has slots)) most i j (omega arith) in_j parts.0 parts.1)
 
   pub deviation_balance : (body : RuleBody) → IsBodyFor g.teams body →
       deviation g' body + deviation_part g main rounds sides body ≡ deviation g body + deviation_part g' main rounds sides body

@@ -1,5 +1,6 @@
 -- Loops that look in a set, or in a list of games, for one that passes a test.
-use Rattle.std.proofs.Common.{◌≡◌, ℕ, ◌+◌, ◌-◌, ◌&&◌, ◌||◌, ◌==◌, not, nat_lt, Bool, true, false, List, take, get_or, Some, refl, sym, ◌∙◌, ap, inl, inr, arith}
+use Rattle.std.proofs.Common.{◌≡◌, ℕ, ◌+◌, ◌-◌, ◌&&◌, ◌||◌, ◌==◌, not, nat_lt, Bool, true, false, List, take, get_or, Some, refl, sym, ◌∙◌}
+use Rattle.std.proofs.Common.{ap, inl, inr, arith}
 use Rattle.std.specs.List.{slice_get, list_any}
 use Rattle.std.proofs.lemmas.Bool.{cases_eq, ne_eqb, and_from, or_from, cases_lt, lt-ltb, le-ltb, and_right, false≢true}
 use Rattle.std.proofs.lemmas.List.Folds.{list_any_more, list_any_at}
@@ -86,7 +87,8 @@ pub touched_until : (slots touched first rest from : ℕ) → IsWithoutLowest to
 unfolding has_touched_until
 touched_until slots touched first rest from taken members =
     any_below_same 78 (λ r. has from r && has slots r) (λ r. has slots r && any_below (r + 1) (has touched))
-    (λ r below. ap (λ (b : Bool). b && has slots r) (members r ∙ ap (λ (b : Bool). b && not (nat_lt r first)) (lt-ltb r 78 below) ∙ since r) ∙
+    (λ r below. ap (λ (b : Bool). b && has slots r) (members r ∙ ap (λ (b : Bool). b && not (nat_lt r first)) (lt-ltb r 78 below) ∙
+    since r) ∙
     exchanged (any_below (r + 1) (has touched)) (has slots r))
   where
     since : (r : ℕ) → not (nat_lt r first) ≡ any_below (r + 1) (has touched)

@@ -1,5 +1,6 @@
 -- How many games of a team count in a whole season: one at home and one away against each opponent but itself.
-use Rattle.std.proofs.Common.{◌≡◌, ◌≢◌, ℕ, ◌+◌, ◌<◌, ◌&&◌, ◌||◌, ◌==◌, not, nat_lt, Bool, true, false, if◌then◌else◌, inl, inr, refl, sym, ◌∙◌, ap, arith}
+use Rattle.std.proofs.Common.{◌≡◌, ◌≢◌, ℕ, ◌+◌, ◌<◌, ◌&&◌, ◌||◌, ◌==◌, not, nat_lt, Bool, true, false, if◌then◌else◌, inl, inr, refl, sym}
+use Rattle.std.proofs.Common.{◌∙◌, ap, arith}
 use Rattle.std.proofs.lemmas.Bool.{cases_eq, eq-eqb, ne_eqb, lt-ltb}
 use Rattle.league.specs.Sums.{sum_where, count_where}
 use Rattle.league.specs.declared.rule.Side.{Side}
@@ -22,7 +23,8 @@ module _ (g : Games) (rr : IsDoubleRoundRobin g) (t : ℕ) (in_t : t < g.teams) 
       (is_cell g rr t r in_t in_r).pair.away_in
       (λ o below other.
       let apart : (cell g t r).opponent ≢ o = λ same. other (sym same) in
-      rw (ne_eqb (cell g t r).opponent o apart) (never (opponents o) (nat_lt r (round_count g.teams)) (is_on_side side (cell g t r).home))) ∙
+      rw (ne_eqb (cell g t r).opponent o apart)
+      (never (opponents o) (nat_lt r (round_count g.teams)) (is_on_side side (cell g t r).home))) ∙
       rw (eq-eqb (cell g t r).opponent (cell g t r).opponent refl, lt-ltb r (round_count g.teams) in_r)
       (always (opponents (cell g t r).opponent) (is_on_side side (cell g t r).home))
     where

@@ -1,5 +1,6 @@
 -- Where all that a rule looks at is the same in two schedules, so is the deviation.
-use Rattle.std.proofs.Common.{◌≡◌, ℕ, ◌+◌, ◌-◌, ◌<◌, ◌≤◌, ◌==◌, not, ◌&&◌, if◌then◌else◌, Bool, true, false, List, [], ◌∷◌, refl, sym, ◌∙◌, ap, arith}
+use Rattle.std.proofs.Common.{◌≡◌, ℕ, ◌+◌, ◌-◌, ◌<◌, ◌≤◌, ◌==◌, not, ◌&&◌, if◌then◌else◌, Bool, true, false, List, [], ◌∷◌, refl, sym, ◌∙◌}
+use Rattle.std.proofs.Common.{ap, arith}
 use Rattle.std.specs.Bool.{beq}
 use Rattle.std.specs.List.{AllByRecursion}
 use Rattle.std.proofs.lemmas.Bool.{and_parts}
@@ -9,7 +10,8 @@ use Rattle.league.specs.declared.rule.Pairing.{Pairing}
 use Rattle.league.specs.declared.rule.Side.{Side}
 use Rattle.league.proofs.ForCallers.{sum_below_same, sum_where_same, count_where_same}
 use Rattle.fixtures.specs.Games.{Games, round_count, round_of, cell, is_home, IsPair}
-use Rattle.robinx.specs.Deviations.{over, is_on_side, is_counted, games_of_team, games_in_window, games_in_round, is_break, breaks, rounds_between, listed_games_in, over_in_windows, short_pairs}
+use Rattle.robinx.specs.Deviations.{over, is_on_side, is_counted, games_of_team, games_in_window, games_in_round, is_break, breaks}
+use Rattle.robinx.specs.Deviations.{rounds_between, listed_games_in, over_in_windows, short_pairs}
 use Rattle.robinx.specs.Deviations.{home_games, largest_below, gap, worst_gap, worst_gaps}
 use Rattle.robinx.proofs.Largest.{largest_below_same}
 
@@ -136,7 +138,8 @@ module _ (g g' : Games) (teams slots : ℕ → Bool) (sees : SeesSameBreaks g g'
   unfolding is_break
   is_break-same side t r in_t in_r team slot =
       ap (λ (home : Bool). not (r == 0) && beq (cell g' t (r - 1)).home home && is_on_side side home) (sees.side t r in_t in_r team slot) ∙
-      ap (λ (home : Bool). not (r == 0) && beq home (cell g t r).home && is_on_side side (cell g t r).home) (sees.before t r in_t in_r team slot)
+      ap (λ (home : Bool). not (r == 0) && beq home (cell g t r).home && is_on_side side (cell g t r).home)
+      (sees.before t r in_t in_r team slot)
 
   pub breaks-same : (side : Side) (t : ℕ) → t < g.teams → teams t ≡ true → breaks g' t slots side ≡ breaks g t slots side
   unfolding breaks

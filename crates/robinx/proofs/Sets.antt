@@ -1,11 +1,13 @@
 -- How many numbers there are in the sets that counting makes.
-use Rattle.std.proofs.Common.{◌≡◌, ℕ, zero, suc, ◌+◌, ◌<◌, ◌≤◌, ◌&&◌, not, nat_lt, Bool, true, false, if◌then◌else◌, refl, sym, ◌∙◌, ap, arith}
+use Rattle.std.proofs.Common.{◌≡◌, ℕ, zero, suc, ◌+◌, ◌<◌, ◌≤◌, ◌&&◌, not, nat_lt, Bool, true, false, if◌then◌else◌, refl, sym, ◌∙◌, ap}
+use Rattle.std.proofs.Common.{arith}
 use mir.Val.{bool_byte}
 use Rattle.std.proofs.Math.Nat.{add-zero, add-suc}
 use Rattle.std.proofs.lemmas.Bool.{lt-ltb, le-ltb}
 use Rattle.league.specs.Sets.{has}
 use Rattle.league.specs.Sums.{sum_below, sum_where, count_where}
-use Rattle.league.proofs.ForCallers.{sum_below_none, sum_below_more, sum_below_zero, sum_below_swap, sum_below_same, count_where_same, count_where_none}
+use Rattle.league.proofs.ForCallers.{sum_below_none, sum_below_more, sum_below_zero, sum_below_swap, sum_below_same, count_where_same}
+use Rattle.league.proofs.ForCallers.{count_where_none}
 
 -- how many numbers there are
 pub ones : (n : ℕ) → sum_below n (λ _. 1) ≡ n
@@ -65,7 +67,8 @@ pub count_next : (set first window count comes goes : ℕ) (in_next in_first : B
     count ≡ count_where window (λ k. has set (first + k)) →
     count_where window (λ k. has set (first + 1 + k)) + goes ≡ count + comes
 count_next set first window count comes goes in_next in_first is_next is_first is_comes is_goes is =
-    let comes_is : comes ≡ (if has set (first + window) then 1 else 0) = is_comes ∙ byte_is in_next ∙ ap {B = ℕ} (λ b. if b then 1 else 0) is_next in
+    let comes_is : comes ≡ (if has set (first + window) then 1 else 0) = is_comes ∙ byte_is in_next ∙
+    ap {B = ℕ} (λ b. if b then 1 else 0) is_next in
     let goes_is : goes ≡ (if has set first then 1 else 0) = is_goes ∙ byte_is in_first ∙ ap {B = ℕ} (λ b. if b then 1 else 0) is_first in
     omega (arith, count_moved_on set first window, comes_is, goes_is, is)
 

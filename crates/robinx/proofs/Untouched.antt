@@ -1,5 +1,6 @@
 -- A rule that isn't touched keeps its deviation.
-use Rattle.std.proofs.Common.{◌≡◌, ℕ, ◌-◌, ◌<◌, ◌+◌, ◌&&◌, ◌||◌, ◌⊎◌, ◌==◌, not, Bool, true, false, List, [], ◌∷◌, inl, inr, refl, sym, ◌∙◌, ap, arith}
+use Rattle.std.proofs.Common.{◌≡◌, ℕ, ◌-◌, ◌<◌, ◌+◌, ◌&&◌, ◌||◌, ◌⊎◌, ◌==◌, not, Bool, true, false, List, [], ◌∷◌, inl, inr, refl, sym, ◌∙◌}
+use Rattle.std.proofs.Common.{ap, arith}
 use Rattle.std.specs.List.{AllByRecursion, list_any}
 use Rattle.std.proofs.lemmas.Bool.{and_cases, or_parts, cases_eq, ne_eqb, false≢true}
 use Rattle.league.specs.Sets.{has}
@@ -15,12 +16,15 @@ use Rattle.fixtures.specs.declared.game.Cell.{Cell}
 use Rattle.fixtures.specs.Games.{Games, round_count, round_of, cell, is_home, IsPair, IsDoubleRoundRobin}
 use Rattle.fixtures.specs.Changes.{DiffersOnlyIn}
 use Rattle.robinx.specs.Deviations.{over, deviation}
-use Rattle.robinx.specs.Touches.{has_touched_team, has_touched_slot, has_touched_round, has_touched_game, has_touched_until, or_before, looks_at_team, looks_at_round, touches}
+use Rattle.robinx.specs.Touches.{has_touched_team, has_touched_slot, has_touched_round, has_touched_game, has_touched_until, or_before}
+use Rattle.robinx.specs.Touches.{looks_at_team, looks_at_round, touches}
 use Rattle.fixtures.proofs.ForCallers.{round_of_kept}
-use Rattle.robinx.proofs.SeesSame.{SeesSame, SeesSameBreaks, SeesSameUntil, limited-same, together-same, each-same, windows-same, breaks_of_each-same, breaks_of_all-same, separation-same, gaps-same, listed_games_in-same}
+use Rattle.robinx.proofs.SeesSame.{SeesSame, SeesSameBreaks, SeesSameUntil, limited-same, together-same, each-same, windows-same}
+use Rattle.robinx.proofs.SeesSame.{breaks_of_each-same, breaks_of_all-same, separation-same, gaps-same, listed_games_in-same}
 
 other_fails : (p q : Bool) → (p && q) ≡ false → p ≡ true → q ≡ false
-other_fails p q fails passes = elim (and_cases p q fails) [ inl fails_here ↦ absurd (false≢true (sym fails_here ∙ passes)) | inr fails_there ↦ fails_there ]
+other_fails p q fails passes =
+    elim (and_cases p q fails) [ inl fails_here ↦ absurd (false≢true (sym fails_here ∙ passes)) | inr fails_there ↦ fails_there ]
 
 fails_right : (p q : Bool) → q ≡ false → (p && q) ≡ false
 fails_right true q fails = fails
@@ -48,12 +52,14 @@ module _ (g g' : Games) (rr : IsDoubleRoundRobin g) (in_teams in_rounds : ℕ �
       differs.same_cells t r in_t in_r
       (not_both 40 78 (has teams) in_teams (has slots) in_rounds untouched t r (omega (arith, rr.most)) (omega (arith, rr.most)) team slot)
 
-  SeesSame-slots : (teams slots : ℕ) (opponents : ℕ → Bool) → (has_touched_team teams in_teams && has_touched_slot slots in_rounds) ≡ false →
+  SeesSame-slots : (teams slots : ℕ) (opponents : ℕ → Bool) →
+      (has_touched_team teams in_teams && has_touched_slot slots in_rounds) ≡ false →
       SeesSame g g' (has teams) (has slots) opponents
   SeesSame-slots teams slots opponents untouched = record {
     same_size = differs.same_size;
     side = λ t r in_t in_r team slot. ap (λ (c : Cell). c.home) (stays_in_slots teams slots untouched t r in_t in_r team slot);
-    opponent = λ t r in_t in_r team slot. ap (λ (c : Cell). opponents c.opponent) (stays_in_slots teams slots untouched t r in_t in_r team slot);
+    opponent = λ t r in_t in_r team slot.
+        ap (λ (c : Cell). opponents c.opponent) (stays_in_slots teams slots untouched t r in_t in_r team slot);
   }
 
   -- all cells of a rule's teams stay
@@ -79,7 +85,8 @@ module _ (g g' : Games) (rr : IsDoubleRoundRobin g) (in_teams in_rounds : ℕ �
   unfolding has_touched_team has_touched_slot
   stays_around teams slots untouched t r in_t in_r team slot =
       let neither : (in_teams t && (in_rounds r || (not (r == 0) && in_rounds (r - 1)))) ≡ false =
-      not_both 40 78 (has teams) in_teams (has slots) (or_before in_rounds) untouched t r (omega (arith, rr.most)) (omega (arith, rr.most)) team slot in (
+      not_both 40 78 (has teams) in_teams (has slots) (or_before in_rounds) untouched t r (omega (arith, rr.most))
+      (omega (arith, rr.most)) team slot in (
         differs.same_cells t r in_t in_r (here (in_teams t) (in_rounds r) _ neither),
         differs.same_cells t (r - 1) in_t (omega arith) (before r neither),
       )
@@ -96,7 +103,8 @@ module _ (g g' : Games) (rr : IsDoubleRoundRobin g) (in_teams in_rounds : ℕ �
         | inr fails_there ↦ fails_right p y (other_fails x y (or_parts q (x && y) fails_there).1 is)
       ]
 
-      before : (r : ℕ) → (in_teams t && (in_rounds r || (not (r == 0) && in_rounds (r - 1)))) ≡ false → (in_teams t && in_rounds (r - 1)) ≡ false
+      before : (r : ℕ) → (in_teams t && (in_rounds r || (not (r == 0) && in_rounds (r - 1)))) ≡ false →
+          (in_teams t && in_rounds (r - 1)) ≡ false
       before r neither = elim (cases_eq r 0) [
         | inl first ↦
             let same : r - 1 ≡ r = omega arith in
@@ -120,7 +128,8 @@ module _ (g g' : Games) (rr : IsDoubleRoundRobin g) (in_teams in_rounds : ℕ �
     same_size = differs.same_size;
     side = λ t r k in_t in_r team slot until.
         ap (λ (c : Cell). c.home) (differs.same_cells t k in_t (omega arith) (one_fails t r k until
-        (not_both 40 78 (has teams) in_teams (has slots) (λ r. any_below (r + 1) in_rounds) untouched t r (omega (arith, rr.most)) (omega (arith, rr.most)) team slot)));
+        (not_both 40 78 (has teams) in_teams (has slots) (λ r. any_below (r + 1) in_rounds) untouched t r (omega (arith, rr.most))
+        (omega (arith, rr.most)) team slot)));
   }
     where
       one_fails : (t r k : ℕ) → k < r + 1 → (in_teams t && any_below (r + 1) in_rounds) ≡ false → (in_teams t && in_rounds k) ≡ false
@@ -164,12 +173,14 @@ module _ (g g' : Games) (rr : IsDoubleRoundRobin g) (in_teams in_rounds : ℕ �
 
       kept_back : (in_teams game.home && in_rounds (round_of g' game.home game.away)) ≡ false →
           round_of g game.home game.away ≡ round_of g' game.home game.away
-      kept_back out = round_of_kept g' g rr' rr (sym differs.same_size) game.home game.away pair' (sym (differs.same_cells _ _ is.home in_r' out))
+      kept_back out = round_of_kept g' g rr' rr (sym differs.same_size) game.home game.away pair'
+          (sym (differs.same_cells _ _ is.home in_r' out))
 
       slot_kept : any_below 78 (λ r. has slots r && in_rounds r) ≡ false → (r : ℕ) → r < round_count g.teams → has slots r ≡ true →
           in_rounds r ≡ false
       slot_kept none r below slot =
-          other_fails (has slots r) (in_rounds r) (any_below_fails 78 (λ r. has slots r && in_rounds r) none r (omega (arith, rr.most))) slot
+          other_fails (has slots r) (in_rounds r) (any_below_fails 78 (λ r. has slots r && in_rounds r) none r (omega (arith, rr.most)))
+          slot
 
       by_tests : any_below 78 (λ r. has slots r && in_rounds r) ≡ false → (b : Bool) → has slots (round_of g game.home game.away) ≡ b →
           (c : Bool) → has slots (round_of g' game.home game.away) ≡ c → c ≡ b
@@ -196,21 +207,27 @@ pub untouched_deviation : (g g' : Games) (in_teams in_rounds : ℕ → Bool) (bo
     deviation g' body ≡ deviation g body
 unfolding touches looks_at_team looks_at_round deviation
 untouched_deviation g g' in_teams in_rounds (Ca1 teams side slots most) rr rr' is differs untouched =
-    limited-same g g' (has teams) (has slots) (λ _. true) (SeesSame-slots g g' rr in_teams in_rounds differs teams slots (λ _. true) untouched) side most
+    limited-same g g' (has teams) (has slots) (λ _. true)
+    (SeesSame-slots g g' rr in_teams in_rounds differs teams slots (λ _. true) untouched) side most
 untouched_deviation g g' in_teams in_rounds (Ca2 teams1 side teams2 slots most) rr rr' is differs untouched =
-    limited-same g g' (has teams1) (has slots) (has teams2) (SeesSame-slots g g' rr in_teams in_rounds differs teams1 slots (has teams2) untouched) side most
+    limited-same g g' (has teams1) (has slots) (has teams2)
+    (SeesSame-slots g g' rr in_teams in_rounds differs teams1 slots (has teams2) untouched) side most
 untouched_deviation g g' in_teams in_rounds (Ca3 teams1 side teams2 window most) rr rr' is differs untouched =
-    windows-same g g' (has teams1) (has teams2) (SeesSame-rounds g g' rr in_teams in_rounds differs teams1 (has teams2) untouched) side window most is.3
+    windows-same g g' (has teams1) (has teams2) (SeesSame-rounds g g' rr in_teams in_rounds differs teams1 (has teams2) untouched) side
+    window most is.3
 untouched_deviation g g' in_teams in_rounds (Ca4 teams1 side teams2 slots false most) rr rr' is differs untouched =
-    together-same g g' (has teams1) (has slots) (has teams2) (SeesSame-slots g g' rr in_teams in_rounds differs teams1 slots (has teams2) untouched) side most
+    together-same g g' (has teams1) (has slots) (has teams2)
+    (SeesSame-slots g g' rr in_teams in_rounds differs teams1 slots (has teams2) untouched) side most
 untouched_deviation g g' in_teams in_rounds (Ca4 teams1 side teams2 slots true most) rr rr' is differs untouched =
-    each-same g g' (has teams1) (has slots) (has teams2) (SeesSame-slots g g' rr in_teams in_rounds differs teams1 slots (has teams2) untouched) side most
+    each-same g g' (has teams1) (has slots) (has teams2)
+    (SeesSame-slots g g' rr in_teams in_rounds differs teams1 slots (has teams2) untouched) side most
 untouched_deviation g g' in_teams in_rounds (Ga1 games slots least most) rr rr' is differs untouched =
     ap (λ (count : ℕ). over count most + over least count)
     (listed_games_in-same g g' (has slots) games (games_kept g g' rr in_teams in_rounds differs rr' slots games is.0
     (and_cases (has_touched_game games in_teams) (has_touched_slot slots in_rounds) untouched)))
 untouched_deviation g g' in_teams in_rounds (Br1 teams side slots most) rr rr' is differs untouched =
-    breaks_of_each-same g g' (has teams) (has slots) (SeesSameBreaks-slots g g' rr in_teams in_rounds differs teams slots untouched) side most
+    breaks_of_each-same g g' (has teams) (has slots) (SeesSameBreaks-slots g g' rr in_teams in_rounds differs teams slots untouched) side
+    most
 untouched_deviation g g' in_teams in_rounds (Br2 teams slots most) rr rr' is differs untouched =
     breaks_of_all-same g g' (has teams) (has slots) (SeesSameBreaks-slots g g' rr in_teams in_rounds differs teams slots untouched) Any most
 untouched_deviation g g' in_teams in_rounds (Se1 teams least) rr rr' is differs untouched =

@@ -9,7 +9,8 @@ use Rattle.league.specs.declared.rule.Side.TheVariants.{Home, Away, Any}
 use Rattle.fixtures.specs.Games.{Games, is_home}
 use Rattle.fixtures.specs.Berger.{berger_games, fide_games}
 use Rattle.fixtures.specs.Edits.{homes_exchanged}
-use Rattle.robinx.specs.Deviations.{is_counted, games_of_team, games_in_window, games_in_round, is_break, breaks, rounds_between, listed_games_in, over_in_windows, short_pairs, deviation}
+use Rattle.robinx.specs.Deviations.{is_counted, games_of_team, games_in_window, games_in_round, is_break, breaks, rounds_between}
+use Rattle.robinx.specs.Deviations.{listed_games_in, over_in_windows, short_pairs, deviation}
 use Rattle.robinx.specs.Deviations.{home_games, largest_below, gap, worst_gap, worst_gaps}
 
 start : Games
@@ -45,7 +46,8 @@ rules =
     ∷ []
 
 deviations_of_start : map (deviation start) rules ≡ 2 ∷ 2 ∷ 1 ∷ 1 ∷ 2 ∷ 1 ∷ 2 ∷ 1 ∷ 1 ∷ 0 ∷ []
-unfolding with_number sum_below is_counted games_of_team games_in_window games_in_round is_break breaks rounds_between over_in_windows short_pairs deviation start rules
+unfolding with_number sum_below is_counted games_of_team games_in_window games_in_round is_break breaks rounds_between over_in_windows
+    short_pairs deviation start rules
 deviations_of_start = refl
 
 soft_rules : List RuleBody
@@ -58,11 +60,13 @@ soft_rules =
     ∷ []
 
 soft_deviations_of_start : map (deviation start) soft_rules ≡ 2 ∷ 1 ∷ 1 ∷ 2 ∷ 0 ∷ []
-unfolding with_number sum_below is_counted games_of_team games_in_window is_break breaks rounds_between listed_games_in over_in_windows short_pairs deviation start soft_rules
+unfolding with_number sum_below is_counted games_of_team games_in_window is_break breaks rounds_between listed_games_in over_in_windows
+    short_pairs deviation start soft_rules
 soft_deviations_of_start = refl
 
 soft_deviations_after_exchange : map (deviation exchanged) soft_rules ≡ 6 ∷ 1 ∷ 1 ∷ 2 ∷ 1 ∷ []
-unfolding with_number sum_below is_counted games_of_team games_in_window is_break breaks rounds_between listed_games_in over_in_windows short_pairs deviation start exchanged soft_rules
+unfolding with_number sum_below is_counted games_of_team games_in_window is_break breaks rounds_between listed_games_in over_in_windows
+    short_pairs deviation start exchanged soft_rules
 soft_deviations_after_exchange = refl
 
 -- the first team is at home in rounds 0, 1 and 5

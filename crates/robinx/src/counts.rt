@@ -168,6 +168,7 @@ pub(crate) fn games_on_side(
     slots: SlotSet,
     team: u8,
 ) -> u32
+    requires round_robin { IsDoubleRoundRobin schedule.now }
     requires team { team < schedule.now.teams }
     requires opponents { (t : ℕ) → has games.now.opponents t ≡ nat_lt t schedule.now.teams }
     ensures value { result ≡ games_of_team schedule.now games.now.side (has games.now.opponents) (has slots) team }

@@ -1,7 +1,8 @@
 use Rattle.std.proofs.Common.{sym, ◌∙◌, ap, set, Some, [], ◌∷◌, ◌++◌}
 use Rattle.std.proofs.lemmas.Result.{err_from_is_err_and}
 use Rattle.improvement.specs.Kept.{HasRunAll, run_of}
-use Rattle.improvement.proofs.UnderWay.{fewer_left, kept_none, run_is, stopped, stopped_none, stops_more, under_way_more, under_way_none, wrote_more}
+use Rattle.improvement.proofs.UnderWay.{fewer_left, kept_none, run_is, stopped, stopped_none, stops_more, under_way_more, under_way_none}
+use Rattle.improvement.proofs.UnderWay.{wrote_more}
 use Rattle.improvement.proofs.improving.run_all.Goals as goal
 
 pub loop-phase-init : goal.loop-phase-init

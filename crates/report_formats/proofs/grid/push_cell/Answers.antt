@@ -2,4 +2,11 @@ use Rattle.report_formats.proofs.grid.push_cell.Goals as goal
 
 pub returns : goal.returns
 returns c =
-    rw (c.word_if.ensures, c.word_if-2.ensures, c.word_if-3.ensures, c.word_if-4.ensures, c.meets_again.ensures, c.game_at-game.ensures.value) at c.push_parts.ensures
+    rw (
+      c.word_if.ensures,
+      c.word_if-2.ensures,
+      c.word_if-3.ensures,
+      c.word_if-4.ensures,
+      c.meets_again.ensures,
+      c.game_at-game.ensures.value,
+    ) at c.push_parts.ensures

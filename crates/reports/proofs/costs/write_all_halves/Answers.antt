@@ -9,4 +9,5 @@ loop-high-preserved g c =
 pub returns-in_err-write_halves_of : goal.returns-in_err-write_halves_of
 returns-in_err-write_halves_of g c =
     Stops-writes c.from_residual.ensures.0
-    (Stops-in_pieces (half_lines c.args.schedule.now) c.loop-high.high _ (rw c.teams-high-end.ensures.number at c.loop-high-test.true) c.loop-high.invariant c.in_err-write_halves_of.ensures.err)
+    (Stops-in_pieces (half_lines c.args.schedule.now) c.loop-high.high _ (rw c.teams-high-end.ensures.number at c.loop-high-test.true)
+    c.loop-high.invariant c.in_err-write_halves_of.ensures.err)

@@ -9,4 +9,5 @@ loop-low-preserved g c =
 pub returns-in_err-write_half : goal.returns-in_err-write_half
 returns-in_err-write_half g c =
     Stops-writes c.from_residual.ensures.0
-    (Stops-in_pieces (half_line c.args.schedule.now c.args.high) c.loop-low.low _ c.loop-low-test.true c.loop-low.invariant c.in_err-write_half.ensures.err)
+    (Stops-in_pieces (half_line c.args.schedule.now c.args.high) c.loop-low.low _ c.loop-low-test.true c.loop-low.invariant
+    c.in_err-write_half.ensures.err)

@@ -9,4 +9,5 @@ loop-round-preserved g c =
 pub returns-in_err-write_repeats_after : goal.returns-in_err-write_repeats_after
 returns-in_err-write_repeats_after g c =
     Stops-writes c.from_residual.ensures.0
-    (Stops-in_pieces (repeat_lines c.args.schedule.now) c.loop-round.round _ (rw c.rounds-round-end.ensures.number at c.loop-round-test.true) c.loop-round.invariant c.in_err-write_repeats_after.ensures.err)
+    (Stops-in_pieces (repeat_lines c.args.schedule.now) c.loop-round.round _
+    (rw c.rounds-round-end.ensures.number at c.loop-round-test.true) c.loop-round.invariant c.in_err-write_repeats_after.ensures.err)

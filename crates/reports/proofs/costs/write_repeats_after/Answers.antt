@@ -9,4 +9,5 @@ loop-team-preserved g c =
 pub returns-in_err-write_repeat : goal.returns-in_err-write_repeat
 returns-in_err-write_repeat g c =
     Stops-writes c.from_residual.ensures.0
-    (Stops-in_pieces (repeat_line c.args.schedule.now c.args.round) c.loop-team.team _ (rw c.teams-team-end.ensures.number at c.loop-team-test.true) c.loop-team.invariant c.in_err-write_repeat.ensures.err)
+    (Stops-in_pieces (repeat_line c.args.schedule.now c.args.round) c.loop-team.team _
+    (rw c.teams-team-end.ensures.number at c.loop-team-test.true) c.loop-team.invariant c.in_err-write_repeat.ensures.err)

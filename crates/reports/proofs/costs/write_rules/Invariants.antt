@@ -5,4 +5,5 @@ use Rattle.reports.specs.CostText.{rule_at}
 use Rattle.reports.proofs.costs.write_rules.Given as goal
 
 abbrev pub invariant-loop-i : goal.invariant-loop-i
-invariant-loop-i g l = Adds g.W.Sink.held g.W.Sink.tally l.initial.out l.out (pieces_below (λ i. rule_at l.schedule i (slice_get l.league.rules i)) l.i)
+invariant-loop-i g l =
+    Adds g.W.Sink.held g.W.Sink.tally l.initial.out l.out (pieces_below (λ i. rule_at l.schedule i (slice_get l.league.rules i)) l.i)

@@ -9,4 +9,5 @@ loop-team-preserved g c =
 pub returns-in_err-write_tour : goal.returns-in_err-write_tour
 returns-in_err-write_tour g c =
     Stops-writes c.from_residual.ensures.0
-    (Stops-in_pieces (tour_line c.args.league.now c.args.schedule.now) c.loop-team.team _ (rw c.teams-team-end.ensures.number at c.loop-team-test.true) c.loop-team.invariant c.in_err-write_tour.ensures.err)
+    (Stops-in_pieces (tour_line c.args.league.now c.args.schedule.now) c.loop-team.team _
+    (rw c.teams-team-end.ensures.number at c.loop-team-test.true) c.loop-team.invariant c.in_err-write_tour.ensures.err)

@@ -12,7 +12,8 @@ loop-game-init c = tallies_none (receives c.args.teams c.args.home) (λ x. x.awa
 pub overflow_add-counts : goal.overflow_add-counts
 overflow_add-counts c =
     let below = guest_below c.args.teams c.args.home _ c.requires.most (sym c.receives.ensures ∙ c.if-receives.true) in
-    let small = tally_small (receives c.args.teams c.args.home) (λ x. x.away) c.args.games.now 40 c.loop-game.game-index c.loop-game.counts c.from.result
+    let small = tally_small (receives c.args.teams c.args.home) (λ x. x.away) c.args.games.now 40 c.loop-game.game-index c.loop-game.counts
+    c.from.result
     (rw c.from.ensures below) c.loop-game.invariant in
     omega (arith, small)
 

@@ -12,7 +12,8 @@ loop-game-init c = tallies_none (plays c.args.teams c.args.team) (λ x. x.round)
 pub overflow_add-counts : goal.overflow_add-counts
 overflow_add-counts c =
     let below = round_below c.args.teams c.args.team _ c.requires.most (sym c.plays.ensures ∙ c.if-plays.true) in
-    let small = tally_small (plays c.args.teams c.args.team) (λ x. x.round) c.args.games.now 78 c.loop-game.game-index c.loop-game.counts c.from.result
+    let small = tally_small (plays c.args.teams c.args.team) (λ x. x.round) c.args.games.now 78 c.loop-game.game-index c.loop-game.counts
+    c.from.result
     (rw c.from.ensures below) c.loop-game.invariant in
     omega (arith, small)
 

@@ -11,7 +11,8 @@ loop-line-preserved g c =
     let takes = (c.in-Some.ensures).some in
     let shorter = takes.shorter in
     record {
-      written = one_added _ _ _ (rw takes.lines_are at c.loop-line.invariant.written) (rw c.of.ensures at c.in_ok-write_bad_line.ensures.ok);
+      written =
+          one_added _ _ _ (rw takes.lines_are at c.loop-line.invariant.written) (rw c.of.ensures at c.in_ok-write_bad_line.ensures.ok);
       few = omega (arith, c.loop-line.invariant.few);
     }
 

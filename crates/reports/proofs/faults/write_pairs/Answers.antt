@@ -9,4 +9,5 @@ loop-home-preserved g c =
 pub returns-in_err-write_home : goal.returns-in_err-write_home
 returns-in_err-write_home g c =
     Stops-writes c.from_residual.ensures.0
-    (Stops-in_pieces (pair_lines c.args.teams c.args.games.now) c.loop-home.home _ c.loop-home-test.true c.loop-home.invariant c.in_err-write_home.ensures.err)
+    (Stops-in_pieces (pair_lines c.args.teams c.args.games.now) c.loop-home.home _ c.loop-home-test.true c.loop-home.invariant
+    c.in_err-write_home.ensures.err)

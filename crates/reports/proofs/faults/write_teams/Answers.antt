@@ -9,4 +9,5 @@ loop-team-preserved g c =
 pub returns-in_err-write_team : goal.returns-in_err-write_team
 returns-in_err-write_team g c =
     Stops-writes c.from_residual.ensures.0
-    (Stops-in_pieces (team_lines c.args.teams c.args.games.now) c.loop-team.team _ c.loop-team-test.true c.loop-team.invariant c.in_err-write_team.ensures.err)
+    (Stops-in_pieces (team_lines c.args.teams c.args.games.now) c.loop-team.team _ c.loop-team-test.true c.loop-team.invariant
+    c.in_err-write_team.ensures.err)

@@ -9,4 +9,5 @@ loop-team-preserved g c =
 pub returns-in_err-write_runs_of : goal.returns-in_err-write_runs_of
 returns-in_err-write_runs_of g c =
     Stops-writes c.from_residual.ensures.0
-    (Stops-in_pieces (run_lines c.args.schedule.now c.args.at_most) c.loop-team.team _ (rw c.teams-team-end.ensures.number at c.loop-team-test.true) c.loop-team.invariant c.in_err-write_runs_of.ensures.err)
+    (Stops-in_pieces (run_lines c.args.schedule.now c.args.at_most) c.loop-team.team _
+    (rw c.teams-team-end.ensures.number at c.loop-team-test.true) c.loop-team.invariant c.in_err-write_runs_of.ensures.err)

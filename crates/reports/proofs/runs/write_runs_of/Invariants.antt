@@ -8,6 +8,7 @@ use Rattle.reports.proofs.runs.write_runs_of.Given as goal
 abbrev pub invariant-loop-round : goal.invariant-loop-round
 invariant-loop-round g l = record {
   written : Adds g.W.Sink.held g.W.Sink.tally l.initial.out l.out
-      (pieces_below (λ round. run_line l.schedule l.at_most l.team round (ended_streak (is_over l.schedule l.at_most l.team) round)) l.round);
+      (pieces_below (λ round. run_line l.schedule l.at_most l.team round (ended_streak (is_over l.schedule l.at_most l.team) round))
+      l.round);
   streak_is : l.streak ≡ streak (is_over l.schedule l.at_most l.team) l.round;
 }

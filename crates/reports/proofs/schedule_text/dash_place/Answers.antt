@@ -8,4 +8,6 @@ use Rattle.reports.proofs.schedule_text.dash_place.Goals as goal
 pub returns-clause-place : goal.returns-clause-place
 returns-clause-place c =
     let xs = c.args.word.now in
-    c.unwrap_or.ensures ∙ place_or_length is_dash xs _ (position_from_yields_List is_dash _ _ _ c.position.ensures.ran (YieldsList-from_slice xs cc) (λ x b q k. search (rules, tests)))
+    c.unwrap_or.ensures ∙
+    place_or_length is_dash xs _
+    (position_from_yields_List is_dash _ _ _ c.position.ensures.ran (YieldsList-from_slice xs cc) (λ x b q k. search (rules, tests)))

@@ -10,7 +10,8 @@ pub breaks-requires : goal.breaks-requires
 breaks-requires c = lowest_below _ _ _ _ c.loop-team.invariant.below c.in-Some.ensures.steps
 
 pub loop-team-preserved : goal.loop-team-preserved
-loop-team-preserved c = sum_without_more _ _ _ _ _ _ _ _ _ c.loop-team.invariant c.in-Some.ensures.steps (rw c.breaks.ensures.value at c.over-total.ensures.value) (omega arith)
+loop-team-preserved c = sum_without_more _ _ _ _ _ _ _ _ _ c.loop-team.invariant c.in-Some.ensures.steps
+    (rw c.breaks.ensures.value at c.over-total.ensures.value) (omega arith)
 
 pub returns : goal.returns
 unfolding deviation

@@ -10,7 +10,8 @@ pub breaks-count-requires : goal.breaks-count-requires
 breaks-count-requires c = lowest_below _ _ _ _ c.loop-team.invariant.below c.in-Some.ensures.steps
 
 pub loop-team-preserved : goal.loop-team-preserved
-loop-team-preserved c = sum_without_more _ _ _ _ _ _ _ _ _ c.loop-team.invariant c.in-Some.ensures.steps c.breaks-count.ensures.value c.breaks-count.ensures.most
+loop-team-preserved c = sum_without_more _ _ _ _ _ _ _ _ _ c.loop-team.invariant c.in-Some.ensures.steps c.breaks-count.ensures.value
+    c.breaks-count.ensures.most
 
 pub returns : goal.returns
 unfolding deviation

@@ -10,7 +10,9 @@ pub over_in_windows-total-requires-clause-team : goal.over_in_windows-total-requ
 over_in_windows-total-requires-clause-team c = lowest_below _ _ _ _ c.loop-team.invariant.below c.in-Some.ensures.steps
 
 pub loop-team-preserved : goal.loop-team-preserved
-loop-team-preserved c = sum_without_more _ _ _ _ _ _ _ _ _ c.loop-team.invariant c.in-Some.ensures.steps c.over_in_windows-total.ensures.value c.over_in_windows-total.ensures.most
+loop-team-preserved c =
+    sum_without_more _ _ _ _ _ _ _ _ _ c.loop-team.invariant c.in-Some.ensures.steps c.over_in_windows-total.ensures.value
+    c.over_in_windows-total.ensures.most
 
 pub returns : goal.returns
 unfolding deviation

@@ -19,7 +19,8 @@ pub loop-team-preserved : goal.loop-team-preserved
 loop-team-preserved c =
     sum_without_more _ _ _ _ _ _ _ _ _ c.loop-team.invariant c.in-Some.ensures.steps
     (c.over_from_starts-total.ensures.value ∙
-    met_starts c.args.schedule.now c.args.games.now.side (has c.args.games.now.opponents) (has c.args.rounds) c.args.window c.args.most c.in-Some.team
+    met_starts c.args.schedule.now c.args.games.now.side (has c.args.games.now.opponents) (has c.args.rounds) c.args.window c.args.most
+    c.in-Some.team
     c.below.result c.starts_meeting.result c.intersection-starts.result _ (ap (λ n. n + 1 - c.args.window) c.rounds.ensures.number)
     c.below.ensures.members c.starts_meeting.ensures.members c.intersection-starts.ensures.members) c.over_from_starts-total.ensures.most
 

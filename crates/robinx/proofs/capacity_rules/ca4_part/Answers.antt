@@ -3,11 +3,12 @@ use Rattle.robinx.specs.Deviations.{over}
 use Rattle.robinx.proofs.PartTerms.{one_is_met, Ca4-none, Ca4-all, Ca4-each}
 use Rattle.robinx.proofs.capacity_rules.ca4_part.Goals as goal
 
-pub returns-then-not-meets : goal.returns-then-not-meets
-returns-then-not-meets c = λ sides.
+pub returns-then-not-intersects : goal.returns-then-not-intersects
+returns-then-not-intersects c = λ sides.
     let none : c.intersects.result ≡ false = cc in
     Ca4-none c.args.schedule.now c.args.main c.args.rounds sides c.args.games.now.teams c.args.games.now.side c.args.games.now.opponents
-    c.args.slots c.args.most c.args.each (sym (one_is_met _ _ _ c.teams_otherwise-otherwise.ensures.members) ∙ sym c.intersects.ensures ∙ none)
+    c.args.slots c.args.most c.args.each (sym (one_is_met _ _ _ c.teams_otherwise-otherwise.ensures.members) ∙ sym c.intersects.ensures ∙
+    none)
 
 pub returns-then-each : goal.returns-then-each
 returns-then-each c = λ sides.
@@ -15,7 +16,8 @@ returns-then-each c = λ sides.
     rw c.if-each.true
     (c.over_in_slots.ensures ∙
     Ca4-each c.args.schedule.now c.args.main c.args.rounds sides c.args.games.now.teams c.args.games.now.side c.args.games.now.opponents
-    c.args.slots c.args.most _ c.intersection.ensures.members (sym (one_is_met _ _ _ c.teams_otherwise-otherwise.ensures.members) ∙ sym c.intersects.ensures ∙ one))
+    c.args.slots c.args.most _ c.intersection.ensures.members (sym (one_is_met _ _ _ c.teams_otherwise-otherwise.ensures.members) ∙
+    sym c.intersects.ensures ∙ one))
 
 pub returns-else-each : goal.returns-else-each
 returns-else-each c = λ sides.

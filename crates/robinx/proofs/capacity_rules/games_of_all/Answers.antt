@@ -11,9 +11,11 @@ pub games_of_team-count-requires-clause-team : goal.games_of_team-count-requires
 games_of_team-count-requires-clause-team c = lowest_below _ _ _ _ c.loop-team.invariant.below c.in-Some.ensures.steps
 
 pub loop-team-preserved : goal.loop-team-preserved
-loop-team-preserved c = sum_without_more _ _ _ _ _ _ _ _ _ c.loop-team.invariant c.in-Some.ensures.steps c.games_of_team-count.ensures.value c.games_of_team-count.ensures.most
+loop-team-preserved c = sum_without_more _ _ _ _ _ _ _ _ _ c.loop-team.invariant c.in-Some.ensures.steps c.games_of_team-count.ensures.value
+    c.games_of_team-count.ensures.most
 
 pub returns : goal.returns
 returns c =
     sum_without_all _ _ _ _ _ _ _ c.loop-team.invariant c.in-None.ensures.steps.0 (λ k below. refl) ∙
-    together_by_teams c.args.schedule.now c.args.games.now.side (has c.args.games.now.teams) (has c.args.games.now.opponents) (has c.args.slots)
+    together_by_teams c.args.schedule.now c.args.games.now.side (has c.args.games.now.teams) (has c.args.games.now.opponents)
+    (has c.args.slots)

@@ -13,7 +13,8 @@ pub returns-clause-value : goal.returns-clause-value
 returns-clause-value c =
     c.over_in_windows_of.ensures.value ∙
     ap (λ n. sum_where (n + 1 - c.args.window) (has c.args.starts)
-    (λ first. over (count_where c.args.window (λ k. has c.counted_rounds-counted.result (first + k))) c.args.most)) c.rounds-2.ensures.number ∙
+    (λ first. over (count_where c.args.window (λ k. has c.counted_rounds-counted.result (first + k))) c.args.most))
+    c.rounds-2.ensures.number ∙
     starts_of_counted c.args.schedule.now c.args.games.now.side (has c.args.games.now.opponents) c.args.window c.args.most c.args.team
     c.below-season.result c.counted_rounds-counted.result (λ r. c.below-season.ensures.members r ∙ ap (nat_lt r) c.rounds.ensures.number)
     c.counted_rounds-counted.ensures.members c.args.starts

@@ -9,7 +9,8 @@ pub games_in_round-requires-clause-round : goal.games_in_round-requires-clause-r
 games_in_round-requires-clause-round c = lowest_below _ _ _ _ c.loop-round.invariant.below c.in-Some.ensures.steps
 
 pub loop-round-preserved : goal.loop-round-preserved
-loop-round-preserved c = sum_without_more _ _ _ _ _ _ _ _ _ c.loop-round.invariant c.in-Some.ensures.steps (rw c.games_in_round.ensures.value at c.over-total.ensures.value) (omega arith)
+loop-round-preserved c = sum_without_more _ _ _ _ _ _ _ _ _ c.loop-round.invariant c.in-Some.ensures.steps
+    (rw c.games_in_round.ensures.value at c.over-total.ensures.value) (omega arith)
 
 pub returns : goal.returns
 returns c = sum_without_all _ _ _ _ _ _ _ c.loop-round.invariant c.in-None.ensures.steps.0 (λ k below. refl)

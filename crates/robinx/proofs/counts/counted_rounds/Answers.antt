@@ -21,4 +21,5 @@ returns-clause-members c = λ r.
     c.intersection-2.ensures.members r ∙
     ap (λ b. b && has c.args.slots r) (c.rounds_against.ensures.members r) ∙
     met_in_slots c.args.schedule.now c.teams.ensures.round_robin c.args.team c.requires c.args.games.now.side _ c.args.games.now.opponents _
-    (λ t. c.below-all.ensures.members t ∙ ap (nat_lt t) c.teams.ensures.number) c.intersection-opponents.ensures.members r (has c.args.slots r)
+    (λ t. c.below-all.ensures.members t ∙ ap (nat_lt t) c.teams.ensures.number) c.intersection-opponents.ensures.members r
+    (has c.args.slots r)

@@ -1,15 +1,12 @@
-use Rattle.std.proofs.Common.{◌≡◌, ℕ, ◌+◌, ◌&&◌, not, nat_lt, sym, ◌∙◌, ap, arith}
-use Rattle.std.proofs.lemmas.Bool.{eqb-true}
+use Rattle.std.proofs.Common.{◌≡◌, ◌+◌, ◌&&◌, not, ◌∙◌, ap, arith}
 use Rattle.league.specs.Sets.{has}
 use Rattle.league.specs.Sums.{count_where}
 use Rattle.league.proofs.ForCallers.{count_where_le}
 use Rattle.fixtures.specs.Games.{round_count}
 use Rattle.robinx.specs.Deviations.{is_counted, games_of_team}
 use Rattle.robinx.specs.Walked.{season_games}
-use Rattle.robinx.proofs.AllTeams.{counted_from-all}
 use Rattle.robinx.proofs.CountedRounds.{counted_among, counted_in_and_out}
 use Rattle.robinx.proofs.SeasonCounts.{games_of_season}
-use Rattle.robinx.proofs.Sets.{count_of_members}
 use Rattle.robinx.proofs.counts.games_of_team.Goals as goal
 
 pub returns-then-len-clause-value : goal.returns-then-len-clause-value
@@ -38,7 +35,8 @@ in_and_out c =
     omega (
       arith,
       c.games_with-2.ensures.value ∙
-          counted_among c.args.schedule.now c.args.games.now.side (has c.args.games.now.opponents) (λ r. not (has c.args.slots r)) c.args.team _ _
+          counted_among c.args.schedule.now c.args.games.now.side (has c.args.games.now.opponents)
+          (λ r. not (has c.args.slots r)) c.args.team _ _
           c.rounds_on_side-on_side.ensures.members c.difference-outside.ensures.members,
       c.games_of_season-season.ensures ∙ ap (season_games c.args.games.now.side c.args.opponents) c.has.ensures ∙
           games_of_season c.args.schedule.now c.teams.ensures.round_robin c.args.team c.requires.team c.args.games.now.side

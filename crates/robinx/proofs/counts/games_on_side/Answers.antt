@@ -1,4 +1,4 @@
-use Rattle.std.proofs.Common.{◌≡◌, ℕ, ◌&&◌, nat_lt, ◌∙◌, ap}
+use Rattle.std.proofs.Common.{◌&&◌, ◌∙◌, ap}
 use Rattle.league.specs.Sets.{has}
 use Rattle.robinx.specs.Deviations.{games_of_team}
 use Rattle.robinx.proofs.AllTeams.{counted_from-all}
@@ -12,5 +12,6 @@ returns-clause-value c =
     count_of_members _ _ _
     (λ r.
     c.intersection.ensures.members r ∙ ap (λ b. b && has c.args.slots r) (c.rounds_on_side.ensures.members r) ∙
-    counted_from-all c.args.schedule.now c.args.schedule.round_robin c.args.games.now.side c.args.games.now.opponents c.requires.opponents c.args.team r
+    counted_from-all c.args.schedule.now c.requires.round_robin c.args.games.now.side c.args.games.now.opponents c.requires.opponents
+    c.args.team r
     (has c.args.slots r) c.requires.team)

@@ -6,7 +6,8 @@ use Rattle.robinx.proofs.counts.rounds_with.Goals as goal
 pub returns-then-team-opponent-clause-members : goal.returns-then-team-opponent-clause-members
 returns-then-team-opponent-clause-members c = λ r.
     c.empty.ensures.members r ∙
-    none_with_itself c.args.schedule.now c.requires.round_robin c.args.team c.requires.team c.args.side c.args.opponent r c.if-team-opponent.true
+    none_with_itself c.args.schedule.now c.requires.round_robin c.args.team c.requires.team c.args.side c.args.opponent r
+    c.if-team-opponent.true
 
 pub returns-in-Home-clause-members : goal.returns-in-Home-clause-members
 returns-in-Home-clause-members c = λ r.

@@ -18,7 +18,8 @@ partners-lower-requires c = omega (arith, lowest_below _ _ _ _ c.loop-team.invar
 
 pub gaps_with-total-requires-clause-team : goal.gaps_with-total-requires-clause-team
 gaps_with-total-requires-clause-team c =
-    let in_range : c.in-Some.team < c.args.schedule.now.teams = lowest_below _ _ _ _ c.loop-team.invariant.sums.below c.in-Some.ensures.steps in
+    let in_range : c.in-Some.team < c.args.schedule.now.teams =
+    lowest_below _ _ _ _ c.loop-team.invariant.sums.below c.in-Some.ensures.steps in
     omega (arith, c.requires.round_robin.most)
 
 pub loop-team-preserved : goal.loop-team-preserved
@@ -31,10 +32,12 @@ loop-team-preserved c = record {
       worst_gap_of_rows c.args.schedule.now c.args.most other c.in-Some.team c.args.slots _ _ c.limits-limits.result
       (omega (arith, c.rounds.ensures.number, c.rounds.ensures.most)) c.requires.slots
       (c.rows_of_home_games-counts.ensures other (and_parts _ _ (sym (c.partners-lower.ensures.members other below) ∙ is)).0)
-      (c.rows_of_home_games-counts.ensures c.in-Some.team (c.loop-team.invariant.within c.in-Some.team c.in-Some.ensures.steps.in_set)) c.limits-limits.ensures))
+      (c.rows_of_home_games-counts.ensures c.in-Some.team (c.loop-team.invariant.within c.in-Some.team c.in-Some.ensures.steps.in_set))
+      c.limits-limits.ensures))
       c.gaps_with-total.ensures.most;
   within = λ k here.
-      c.loop-team.invariant.within k (and_parts (has c.loop-team.team-iterator k) (not (k == c.in-Some.team)) (sym (c.in-Some.ensures.steps.others k) ∙ here)).0;
+      c.loop-team.invariant.within k
+      (and_parts (has c.loop-team.team-iterator k) (not (k == c.in-Some.team)) (sym (c.in-Some.ensures.steps.others k) ∙ here)).0;
 }
 
 pub returns : goal.returns

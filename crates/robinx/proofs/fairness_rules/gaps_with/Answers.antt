@@ -18,7 +18,8 @@ loop-other-preserved c =
     (c.over-total.ensures.value ∙ ap (λ n. over n c.args.most)
     (c.into.ensures ∙ c.worst_apart-worst.ensures ∙
     ap (λ k. worst_apart (row_of c.args.rows.now k) (row_of c.args.rows.now c.from.result) c.args.limits.now) c.from-in-loop-other.ensures ∙
-    ap (λ k. worst_apart (row_of c.args.rows.now c.in-Some.other) (row_of c.args.rows.now k) c.args.limits.now) c.from.ensures)) (omega (arith, c.over-total.ensures.most, c.into.ensures, c.worst_apart-worst.type_inv))
+    ap (λ k. worst_apart (row_of c.args.rows.now c.in-Some.other) (row_of c.args.rows.now k) c.args.limits.now) c.from.ensures))
+    (omega (arith, c.over-total.ensures.most, c.into.ensures, c.worst_apart-worst.type_inv))
 
 pub returns-clause-value : goal.returns-clause-value
 returns-clause-value c = sum_without_all _ _ _ _ _ _ _ c.loop-other.invariant c.in-None.ensures.steps.0 (λ k below. refl)

@@ -21,14 +21,21 @@ pub loop-round-preserved : goal.loop-round-preserved
 unfolding is_home home_games
 loop-round-preserved c =
     let added : c.from-count.result ≡ (if is_home c.args.schedule.now c.args.team c.loop-round.round then 1 else 0) =
-    c.from-count.ensures ∙ byte_is c.game_at.result.home ∙ ap {B = ℕ} (λ (cell : Cell). if cell.home then 1 else 0) c.game_at.ensures.value in
+    c.from-count.ensures ∙ byte_is c.game_at.result.home ∙
+    ap {B = ℕ} (λ (cell : Cell). if cell.home then 1 else 0) c.game_at.ensures.value in
     let by_round : c.from-count.result ≤ 1 = omega (arith, c.from-count.ensures, byte_le c.game_at.result.home) in
     let more : c.loop-round.count + c.from-count.result ≡ count_where (c.loop-round.round + 1) (is_home c.args.schedule.now c.args.team) =
-    omega (arith, c.loop-round.invariant.count, added, sum_below_more c.loop-round.round (λ r. if is_home c.args.schedule.now c.args.team r then 1 else 0)) in
+    omega (
+      arith,
+      c.loop-round.invariant.count,
+      added,
+      sum_below_more c.loop-round.round (λ r. if is_home c.args.schedule.now c.args.team r then 1 else 0),
+    ) in
     record {
       places = length-set c.loop-round.row _ _ ∙ c.loop-round.invariant.places;
       count = more;
       within = omega (arith, c.loop-round.invariant.within, by_round);
       written = one_more_written c.loop-round.row _ c.loop-round.round _ (home_games c.args.schedule.now c.args.team) c.from.ensures
-          (omega (arith, c.loop-round.invariant.places, c.rounds-round-end.ensures.most, c.loop-round-test.true)) more c.loop-round.invariant.written;
+          (omega (arith, c.loop-round.invariant.places, c.rounds-round-end.ensures.most, c.loop-round-test.true)) more
+          c.loop-round.invariant.written;
     }

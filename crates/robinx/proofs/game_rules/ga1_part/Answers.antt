@@ -8,9 +8,11 @@ pub returns-then-has_moved_game : goal.returns-then-has_moved_game
 unfolding changing_terms
 returns-then-has_moved_game c = λ sides.
     c.ga1.ensures ∙
-    sym (cond-true {A = ℕ} (has_moved_game c.args.schedule.now (has c.args.main) (has c.args.rounds) c.args.games.now) _ 0 (sym c.has_moved_game.ensures ∙ c.if-has_moved_game.true))
+    sym (cond-true {A = ℕ} (has_moved_game c.args.schedule.now (has c.args.main) (has c.args.rounds) c.args.games.now) _ 0
+    (sym c.has_moved_game.ensures ∙ c.if-has_moved_game.true))
 
 pub returns-else-has_moved_game : goal.returns-else-has_moved_game
 unfolding changing_terms
 returns-else-has_moved_game c = λ sides.
-    sym (cond-false {A = ℕ} (has_moved_game c.args.schedule.now (has c.args.main) (has c.args.rounds) c.args.games.now) _ 0 (sym c.has_moved_game.ensures ∙ c.if-has_moved_game.false))
+    sym (cond-false {A = ℕ} (has_moved_game c.args.schedule.now (has c.args.main) (has c.args.rounds) c.args.games.now) _ 0
+    (sym c.has_moved_game.ensures ∙ c.if-has_moved_game.false))

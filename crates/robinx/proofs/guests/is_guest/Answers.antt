@@ -6,7 +6,8 @@ use Rattle.robinx.proofs.guests.is_guest.Goals as goal
 
 pub loop-round-init : goal.loop-round-init
 loop-round-init c =
-    none_before_start _ _ _ _ (omega (arith, c.requires.rounds, c.into_iter-round-iterator.ensures.into_iter_gives)) c.into_iter-round-iterator.ensures.into_iter_gives
+    none_before_start _ _ _ _ (omega (arith, c.requires.rounds, c.into_iter-round-iterator.ensures.into_iter_gives))
+    c.into_iter-round-iterator.ensures.into_iter_gives
 
 pub meets_one_of-requires-clause-round : goal.meets_one_of-requires-clause-round
 meets_one_of-requires-clause-round c = lowest_below _ _ _ _ c.loop-round.invariant.below c.in-Some.ensures.steps

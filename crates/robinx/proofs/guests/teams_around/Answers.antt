@@ -24,7 +24,8 @@ loop-team-preserved-then-is_around c =
     record {
       left = omega (arith, c.in-Some.ensures.steps.fewer);
       below = c.with-around.ensures.below _ c.loop-team.invariant.below in_range;
-      passing = passing_more _ _ _ _ _ _ c.loop-team.invariant.passing c.in-Some.ensures.steps _ (sym c.is_around.ensures ∙ c.if-is_around.true) c.with-around.ensures.members;
+      passing = passing_more _ _ _ _ _ _ c.loop-team.invariant.passing c.in-Some.ensures.steps _
+          (sym c.is_around.ensures ∙ c.if-is_around.true) c.with-around.ensures.members;
     }
 
 pub loop-team-preserved : goal.loop-team-preserved

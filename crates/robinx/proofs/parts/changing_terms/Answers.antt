@@ -9,21 +9,24 @@ returns-in-Ca1-clause-value c =
     rw (c.new.ensures.teams, c.new.ensures.side, c.new.ensures.opponents) at c.ca2.ensures ∙
     Ca2-all c.args.schedule.now c.teams.ensures.round_robin c.in-Ca1.side c.below-all_teams.result
     (rw c.teams.ensures.number at c.below-all_teams.ensures.members) c.intersection.result c.in-Ca1.slots c.in-Ca1.max ∙
-    Ca1-terms c.args.schedule.now c.args.main c.args.rounds c.args.sides c.in-Ca1.teams c.in-Ca1.side c.in-Ca1.slots c.in-Ca1.max c.intersection.result
+    Ca1-terms c.args.schedule.now c.args.main c.args.rounds c.args.sides c.in-Ca1.teams c.in-Ca1.side c.in-Ca1.slots c.in-Ca1.max
+    c.intersection.result
     c.intersection.ensures.members ∙
     ap (changing_terms c.args.schedule.now c.args.main c.args.rounds c.args.sides) (sym c.in-Ca1.is)
 
 pub returns-in-Ca2-clause-value : goal.returns-in-Ca2-clause-value
 returns-in-Ca2-clause-value c =
     rw (c.new-in-Ca2.ensures.teams, c.new-in-Ca2.ensures.side, c.new-in-Ca2.ensures.opponents) at c.ca2-in-Ca2.ensures ∙
-    Ca2-terms c.args.schedule.now c.args.main c.args.rounds c.args.sides c.in-Ca2.teams1 c.in-Ca2.side c.in-Ca2.teams2 c.in-Ca2.slots c.in-Ca2.max
+    Ca2-terms c.args.schedule.now c.args.main c.args.rounds c.args.sides c.in-Ca2.teams1 c.in-Ca2.side c.in-Ca2.teams2 c.in-Ca2.slots
+    c.in-Ca2.max
     c.teams_otherwise-teams.result c.teams_otherwise-teams.ensures.members ∙
     ap (changing_terms c.args.schedule.now c.args.main c.args.rounds c.args.sides) (sym c.in-Ca2.is)
 
 pub returns-in-Ca3-clause-value : goal.returns-in-Ca3-clause-value
 returns-in-Ca3-clause-value c =
     rw (c.new-in-Ca3.ensures.teams, c.new-in-Ca3.ensures.side, c.new-in-Ca3.ensures.opponents) at c.ca3_part.ensures ∙
-    Ca3-terms c.args.schedule.now c.args.main c.args.rounds c.args.sides c.in-Ca3.teams1 c.in-Ca3.side c.in-Ca3.teams2 c.in-Ca3.window c.in-Ca3.max
+    Ca3-terms c.args.schedule.now c.args.main c.args.rounds c.args.sides c.in-Ca3.teams1 c.in-Ca3.side c.in-Ca3.teams2 c.in-Ca3.window
+    c.in-Ca3.max
     c.teams_otherwise-teams-in-Ca3.result c.teams_otherwise-teams-in-Ca3.ensures.members ∙
     ap (changing_terms c.args.schedule.now c.args.main c.args.rounds c.args.sides) (sym c.in-Ca3.is)
 
@@ -39,7 +42,8 @@ returns-in-Ga1-clause-value c =
 pub returns-in-Br1-clause-value : goal.returns-in-Br1-clause-value
 returns-in-Br1-clause-value c =
     c.br1.ensures ∙
-    Br1-terms c.args.schedule.now c.args.main c.args.rounds c.args.sides c.in-Br1.teams c.in-Br1.side c.in-Br1.slots c.in-Br1.most c.intersection-in-Br1.result
+    Br1-terms c.args.schedule.now c.args.main c.args.rounds c.args.sides c.in-Br1.teams c.in-Br1.side c.in-Br1.slots c.in-Br1.most
+    c.intersection-in-Br1.result
     c.intersection-in-Br1.ensures.members ∙
     ap (changing_terms c.args.schedule.now c.args.main c.args.rounds c.args.sides) (sym c.in-Br1.is)
 

@@ -8,4 +8,5 @@ use Rattle.robinx.proofs.separation_rules.se1_with.Given as goal
 abbrev pub invariant-loop-team : goal.invariant-loop-team
 invariant-loop-team l =
     IsSumWithout l.schedule.teams l.fn.teams l.team-iterator l.total 400000
-    (λ t. sum_where t (λ other. has l.fn.teams other && (has l.set other || has l.set t)) (λ other. over l.least (rounds_between l.schedule other t)))
+    (λ t. sum_where t (λ other. has l.fn.teams other && (has l.set other || has l.set t))
+    (λ other. over l.least (rounds_between l.schedule other t)))

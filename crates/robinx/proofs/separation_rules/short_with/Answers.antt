@@ -11,7 +11,8 @@ rounds_between-requires c =
     record { home_in = omega arith; away_in = c.requires.team; distinct = omega arith }
 
 pub loop-other-preserved : goal.loop-other-preserved
-loop-other-preserved c = sum_without_more _ _ _ _ _ _ _ _ _ c.loop-other.invariant c.in-Some.ensures.steps (rw c.rounds_between.ensures at c.over-total.ensures.value) (omega arith)
+loop-other-preserved c = sum_without_more _ _ _ _ _ _ _ _ _ c.loop-other.invariant c.in-Some.ensures.steps
+    (rw c.rounds_between.ensures at c.over-total.ensures.value) (omega arith)
 
 pub returns-clause-value : goal.returns-clause-value
 returns-clause-value c = sum_without_all _ _ _ _ _ _ _ c.loop-other.invariant c.in-None.ensures.steps.0 (λ k below. refl)

@@ -4,10 +4,10 @@ use Rattle.robinx.specs.LooksPast.{takes_all_or_none}
 use Rattle.robinx.specs.Touches.{has_touched_team}
 use Rattle.robinx.proofs.unaffected_rules.takes_all_or_none.Goals as goal
 
-pub returns-then-not-meets : goal.returns-then-not-meets
+pub returns-then-not-intersects : goal.returns-then-not-intersects
 unfolding takes_all_or_none has_touched_team
-returns-then-not-meets c = grind (arith, common_steps)
+returns-then-not-intersects c = grind (arith, common_steps)
 
-pub returns-else-not-meets : goal.returns-else-not-meets
+pub returns-else-not-intersects : goal.returns-else-not-intersects
 unfolding takes_all_or_none has_touched_team
-returns-else-not-meets c = grind (arith, common_steps)
+returns-else-not-intersects c = grind (arith, common_steps)

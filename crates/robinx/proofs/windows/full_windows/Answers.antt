@@ -10,7 +10,8 @@ loop-init c = full_none _ _
 pub loop-preserved : goal.loop-preserved
 loop-preserved c =
     full_more _ _ _ _ _ _ _ _ _ _ _ c.loop.invariant c.requires.starts (omega arith) c.requires.season c.intersection.ensures.members
-    c.union-nearly.ensures.members c.intersection-full.ensures.members c.before-next.ensures c.intersection-full.ensures.below c.intersection.ensures.below
+    c.union-nearly.ensures.members c.intersection-full.ensures.members c.before-next.ensures c.intersection-full.ensures.below
+    c.intersection.ensures.below
     c.union-nearly.ensures.below
 
 pub returns-clause-full : goal.returns-clause-full

@@ -4,7 +4,8 @@ use Rattle.league.proofs.ForCallers.{sum_without_none, sum_without_more, sum_wit
 use Rattle.robinx.proofs.windows.over_from.Goals as goal
 
 pub loop-first-init : goal.loop-first-init
-loop-first-init c = sum_without_none _ _ _ _ _ (omega (arith, c.requires.starts, c.into_iter-first-iterator.ensures.into_iter_gives)) c.into_iter-first-iterator.ensures.into_iter_gives
+loop-first-init c = sum_without_none _ _ _ _ _ (omega (arith, c.requires.starts, c.into_iter-first-iterator.ensures.into_iter_gives))
+    c.into_iter-first-iterator.ensures.into_iter_gives
 
 pub rounds_in_window-requires : goal.rounds_in_window-requires
 rounds_in_window-requires c =

@@ -24,18 +24,23 @@ loop-first-init c =
 
 pub overflow_sub-count : goal.overflow_sub-count
 overflow_sub-count c =
-    let next = count_next c.args.set c.loop-first.first c.args.window c.loop-first.count c.from-count.result c.from-count-in-loop-first.result
-    c.has.result c.has-in-loop-first.result c.has.ensures c.has-in-loop-first.ensures c.from-count.ensures c.from-count-in-loop-first.ensures
+    let next =
+    count_next c.args.set c.loop-first.first c.args.window c.loop-first.count c.from-count.result c.from-count-in-loop-first.result
+    c.has.result c.has-in-loop-first.result c.has.ensures c.has-in-loop-first.ensures c.from-count.ensures
+    c.from-count-in-loop-first.ensures
     c.loop-first.invariant.count in
     omega (arith, next)
 
 pub loop-first-preserved : goal.loop-first-preserved
 loop-first-preserved c =
-    let next = count_next c.args.set c.loop-first.first c.args.window c.loop-first.count c.from-count.result c.from-count-in-loop-first.result
-    c.has.result c.has-in-loop-first.result c.has.ensures c.has-in-loop-first.ensures c.from-count.ensures c.from-count-in-loop-first.ensures
+    let next =
+    count_next c.args.set c.loop-first.first c.args.window c.loop-first.count c.from-count.result c.from-count-in-loop-first.result
+    c.has.result c.has-in-loop-first.result c.has.ensures c.has-in-loop-first.ensures c.from-count.ensures
+    c.from-count-in-loop-first.ensures
     c.loop-first.invariant.count in
     let few = count_where_le c.args.window (λ k. has c.args.set (c.loop-first.first + 1 + k)) in
-    let more = sum_below_more (c.loop-first.first + 1) (λ first. over (count_where c.args.window (λ k. has c.args.set (first + k))) c.args.most) in
+    let more =
+    sum_below_more (c.loop-first.first + 1) (λ first. over (count_where c.args.window (λ k. has c.args.set (first + k))) c.args.most) in
     record {
       count = omega (arith, next);
       value = omega (arith, next, more, c.loop-first.invariant.value, c.over-total-in-loop-first.ensures.value);

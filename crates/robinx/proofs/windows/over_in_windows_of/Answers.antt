@@ -15,7 +15,8 @@ full_windows-windows-requires-clause-starts c =
 
 pub returns-in-0-clause-value : goal.returns-in-0-clause-value
 returns-in-0-clause-value c =
-    sym (over_without_room c.args.set c.args.starts _ c.args.window c.args.most (omega (arith, c.from.ensures, c.saturating_sub.ensures, c.in-0.is)))
+    sym (over_without_room c.args.set c.args.starts _ c.args.window c.args.most
+    (omega (arith, c.from.ensures, c.saturating_sub.ensures, c.in-0.is)))
 
 pub returns-in-1-clause-value : goal.returns-in-1-clause-value
 returns-in-1-clause-value c =
@@ -30,5 +31,6 @@ returns-in-2-clause-value c =
       c.from-in-2.ensures ∙ c.len-in-2.ensures.among _ (c.full_windows-windows.ensures.full_below _ c.requires.starts),
       c.from-in-2-2.ensures ∙ c.len-in-2-2.ensures.among _ (c.full_windows-windows.ensures.nearly_below _ c.requires.starts),
       over_by_both c.args.set c.args.starts (c.args.rounds + 1 - c.args.window) c.args.window c.args.most _ _
-          (omega (arith, c.from.ensures, c.saturating_sub.ensures, c.in-2.is)) c.full_windows-windows.ensures.full c.full_windows-windows.ensures.nearly,
+          (omega (arith, c.from.ensures, c.saturating_sub.ensures, c.in-2.is)) c.full_windows-windows.ensures.full
+          c.full_windows-windows.ensures.nearly,
     )

@@ -10,7 +10,8 @@ returns c =
     let value : c.len.result ≡ count_where c.args.window (λ k. has c.args.rounds (c.args.first + k)) =
     c.len.ensures.among _ (c.intersection.ensures.below _ (c.difference.ensures.below _ c.below-until_end.ensures.below)) ∙
     count_in_window c.args.rounds _ c.args.first c.args.window
-    (λ k. c.intersection.ensures.members k ∙ rw (c.difference.ensures.members k, c.below-until_end.ensures.members k, c.below-past.ensures.members k) refl) in
+    (λ k. c.intersection.ensures.members k ∙
+    rw (c.difference.ensures.members k, c.below-until_end.ensures.members k, c.below-past.ensures.members k) refl) in
     record {
       value = value;
       most = omega (arith, value, count_where_le c.args.window (λ k. has c.args.rounds (c.args.first + k)));
