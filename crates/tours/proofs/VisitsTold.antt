@@ -1,5 +1,6 @@
 -- The legs of a guest around its game at one of two teams that are exchanged.
-use Rattle.std.proofs.Common.{◌≡◌, ◌≢◌, ℕ, ◌+◌, ◌-◌, ◌<◌, Bool, true, false, not, ◌&&◌, ◌||◌, inl, inr, get_or, refl, sym, ◌∙◌, ap, ap₂, arith}
+use Rattle.std.proofs.Common.{◌≡◌, ◌≢◌, ℕ, ◌+◌, ◌-◌, ◌<◌, Bool, true, false, not, ◌&&◌, ◌||◌, inl, inr, get_or, refl}
+use Rattle.std.proofs.Common.{sym, ◌∙◌, ap, ap₂, arith}
 use Rattle.std.specs.Prelude.{◌==◌, nat_lt, if◌then◌else◌}
 use Rattle.std.proofs.lemmas.Bool.{cases_eq, cases_lt, or_cases, cond-true, cond-false, eqb-true, ne_eqb, false≢true}
 use Rattle.std.proofs.lemmas.Bool.Decides.{nat_tests}
@@ -12,7 +13,7 @@ use Rattle.fixtures.proofs.ForCallers.{exchanged_first, exchanged_second, exchan
 use Rattle.tours.specs.Tours.{tour, leg}
 use Rattle.tours.specs.Walked.{guest_terms}
 use Rattle.tours.specs.Told.{is_either, in_rounds, stop_told, leg_told}
-use Rattle.tours.specs.Exchanges.{leg_before, leg_after, guest_legs}
+use Rattle.tours.specs.Exchanges.{leg_before, leg_after, around_visit}
 use Rattle.tours.specs.declared.teams_told.exchange.TeamExchange.{TeamExchange}
 use Rattle.tours.proofs.Stops.{tour_at_round, tour_at_end}
 use Rattle.tours.proofs.Opponents.{side_of_opponent, IsPairing-opponents}
@@ -232,16 +233,16 @@ module _ (l : LeagueData) (g : Games) (rr : IsDoubleRoundRobin g) (i j : ℕ) (r
 pub record AreVisitLegs (x : TeamExchange) (host r from to from_told other : ℕ) : Type 0 where
   pub ends_before :
       (to == other && in_rounds x.schedule.now (has x.rounds) (r + 2)) ≡ true →
-      distance x.league.now from host ≡ guest_legs x (leg_before x) host r
+      distance x.league.now from host ≡ around_visit x (leg_before x) host r
   pub ends_after :
       (to == other && in_rounds x.schedule.now (has x.rounds) (r + 2)) ≡ true →
-      distance x.league.now from_told other ≡ guest_legs x (leg_after x) host r
+      distance x.league.now from_told other ≡ around_visit x (leg_after x) host r
   pub on_before :
       (to == other && in_rounds x.schedule.now (has x.rounds) (r + 2)) ≡ false →
-      distance x.league.now from host + distance x.league.now host to ≡ guest_legs x (leg_before x) host r
+      distance x.league.now from host + distance x.league.now host to ≡ around_visit x (leg_before x) host r
   pub on_after :
       (to == other && in_rounds x.schedule.now (has x.rounds) (r + 2)) ≡ false →
-      distance x.league.now from_told other + distance x.league.now other to ≡ guest_legs x (leg_after x) host r
+      distance x.league.now from_told other + distance x.league.now other to ≡ around_visit x (leg_after x) host r
 
 module _ (x : TeamExchange) (rr : IsDoubleRoundRobin x.schedule.now) (host r : ℕ) (of_host : is_either x.i x.j host ≡ true)
     (in_host : host < x.schedule.now.teams) (in_r : r < round_count x.schedule.now.teams)

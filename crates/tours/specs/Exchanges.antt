@@ -19,8 +19,8 @@ abbrev pub turned_after : TeamExchange → ℕ → ℕ → ℕ
 turned_after x = leg_turned x.league.now x.schedule.now x.i x.j
 
 -- by such a function of legs, those around the game of a host's guest in a round of the set
-abbrev pub guest_legs : TeamExchange → (ℕ → ℕ → ℕ) → ℕ → ℕ → ℕ
-guest_legs x leg = guest_terms leg x.schedule.now (is_either x.i x.j) (has x.rounds)
+abbrev pub around_visit : TeamExchange → (ℕ → ℕ → ℕ) → ℕ → ℕ → ℕ
+around_visit x leg = guest_terms leg x.schedule.now (is_either x.i x.j) (has x.rounds)
 
 -- where a team is at the stop with this index, and how far from there a place is
 abbrev pub stop_of : TeamExchange → ℕ → ℕ → ℕ

@@ -13,7 +13,7 @@ use crate::whole_travel::{stop, way};
 use league::SlotSet;
 
 impl TeamExchange<'_> {
-    ghost use Rattle.tours.specs.Exchanges.{leg_before, leg_after, guest_legs};
+    ghost use Rattle.tours.specs.Exchanges.{leg_before, leg_after, around_visit};
 
     /// The legs around the home games of the host, `i` or `j`, in the rounds of the set, as they are and after the two are
     /// exchanged there.
@@ -22,10 +22,10 @@ impl TeamExchange<'_> {
         requires is_host { is_either self.now.i self.now.j host ≡ true }
         ensures before { result.before ≡ sum_where (round_count self.now.schedule.now.teams)
             (λ r. has self.now.rounds r && is_home self.now.schedule.now host r)
-            (guest_legs self.now (leg_before self.now) host) }
+            (around_visit self.now (leg_before self.now) host) }
         ensures after { result.after ≡ sum_where (round_count self.now.schedule.now.teams)
             (λ r. has self.now.rounds r && is_home self.now.schedule.now host r)
-            (guest_legs self.now (leg_after self.now) host) }
+            (around_visit self.now (leg_after self.now) host) }
         ensures before_most { result.before ≤ 2 * max_distance * max_rounds }
         ensures after_most { result.after ≤ 2 * max_distance * max_rounds }
     {
@@ -41,9 +41,9 @@ impl TeamExchange<'_> {
         requires home { (r : ℕ) → has visits r ≡ true → is_home self.now.schedule.now host r ≡ true }
         requires in_set { (r : ℕ) → has visits r ≡ true → has self.now.rounds r ≡ true }
         ensures before { result.before ≡ sum_where (round_count self.now.schedule.now.teams) (has visits)
-            (guest_legs self.now (leg_before self.now) host) }
+            (around_visit self.now (leg_before self.now) host) }
         ensures after { result.after ≡ sum_where (round_count self.now.schedule.now.teams) (has visits)
-            (guest_legs self.now (leg_after self.now) host) }
+            (around_visit self.now (leg_after self.now) host) }
         ensures before_most { result.before ≤ 2 * max_distance * round_count self.now.schedule.now.teams }
         ensures after_most { result.after ≤ 2 * max_distance * round_count self.now.schedule.now.teams }
     {
@@ -64,8 +64,8 @@ impl TeamExchange<'_> {
         requires round { round < round_count self.now.schedule.now.teams }
         requires home { is_home self.now.schedule.now host round ≡ true }
         requires in_set { has self.now.rounds round ≡ true }
-        ensures before { result.before ≡ guest_legs self.now (leg_before self.now) host round }
-        ensures after { result.after ≡ guest_legs self.now (leg_after self.now) host round }
+        ensures before { result.before ≡ around_visit self.now (leg_before self.now) host round }
+        ensures after { result.after ≡ around_visit self.now (leg_after self.now) host round }
         ensures before_most { result.before ≤ 2 * max_distance }
         ensures after_most { result.after ≤ 2 * max_distance }
     {

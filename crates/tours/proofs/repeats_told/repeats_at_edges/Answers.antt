@@ -6,7 +6,8 @@ pub loop-round-init : goal.loop-round-init
 loop-round-init c = totals_begun _ _ _ _ _ _ (omega arith) c.into_iter-round-iterator.ensures.into_iter_gives
 
 pub repeats_at_edge-repeats-requires-clause-next : goal.repeats_at_edge-repeats-requires-clause-next
-repeats_at_edge-repeats-requires-clause-next c = omega (arith, (next_in _ _ _ _ _ _ _ _ _ _ c.loop-round.invariant c.in-Some.ensures.steps).0)
+repeats_at_edge-repeats-requires-clause-next c =
+    omega (arith, (next_in _ _ _ _ _ _ _ _ _ _ c.loop-round.invariant c.in-Some.ensures.steps).0)
 
 pub loop-round-preserved : goal.loop-round-preserved
 loop-round-preserved c =

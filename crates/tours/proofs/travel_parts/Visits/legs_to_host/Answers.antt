@@ -9,7 +9,9 @@ pub legs_of_guest-total-requires-clause-round : goal.legs_of_guest-total-require
 legs_of_guest-total-requires-clause-round c = lowest_below _ _ _ _ c.loop-round.invariant.below c.in-Some.ensures.steps
 
 pub loop-round-preserved : goal.loop-round-preserved
-loop-round-preserved c = sum_without_more _ _ _ _ _ _ _ _ _ c.loop-round.invariant c.in-Some.ensures.steps c.legs_of_guest-total.ensures.value c.legs_of_guest-total.ensures.most
+loop-round-preserved c =
+    sum_without_more _ _ _ _ _ _ _ _ _ c.loop-round.invariant c.in-Some.ensures.steps c.legs_of_guest-total.ensures.value
+    c.legs_of_guest-total.ensures.most
 
 pub returns-clause-value : goal.returns-clause-value
 returns-clause-value c = sum_without_all _ _ _ _ _ _ _ c.loop-round.invariant c.in-None.ensures.steps.0 (λ k below. refl)

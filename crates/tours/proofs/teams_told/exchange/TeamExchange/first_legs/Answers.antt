@@ -13,9 +13,10 @@ returns-then-has-clause-before c =
 
 pub returns-then-has-clause-after : goal.returns-then-has-clause-after
 returns-then-has-clause-after c =
-    let first : has c.args.self.now.rounds 0 ≡ true = sym c.has.ensures ∙ c.if-has.true in
-    let some : 0 < round_count c.args.self.now.schedule.now.teams =
-    some_round _ _ _ c.args.self.now.first c.args.self.now.second c.args.self.now.distinct in
+    let x = c.args.self.now in
+    let first : has x.rounds 0 ≡ true = sym c.has.ensures ∙ c.if-has.true in
+    let some : 0 < round_count x.schedule.now.teams =
+    some_round _ _ _ x.first x.second x.distinct in
     c.legs_across.ensures.after ∙
-    told_at_start c.args.self.now.league.now c.args.self.now.schedule.now c.args.self.now.i c.args.self.now.j (has c.args.self.now.rounds) some first ∙
+    told_at_start x.league.now x.schedule.now x.i x.j (has x.rounds) some first ∙
     sym (cond-true _ _ _ first)
