@@ -15,8 +15,6 @@ pub returns-then-has-clause-after : goal.returns-then-has-clause-after
 returns-then-has-clause-after c =
     let x = c.args.self.now in
     let first : has x.rounds 0 ≡ true = sym c.has.ensures ∙ c.if-has.true in
-    let some : 0 < round_count x.schedule.now.teams =
-    some_round _ _ _ x.first x.second x.distinct in
+    let some : 0 < round_count x.schedule.now.teams = some_round _ _ _ x.first x.second x.distinct in
     c.legs_across.ensures.after ∙
-    told_at_start x.league.now x.schedule.now x.i x.j (has x.rounds) some first ∙
-    sym (cond-true _ _ _ first)
+    told_at_start x.league.now x.schedule.now x.i x.j (has x.rounds) some first ∙ sym (cond-true _ _ _ first)
