@@ -1,7 +1,9 @@
 -- The balances of boxes of cells and of changes around some teams, as cases of the general ones.
-use Rattle.std.proofs.Common.{◌≡◌, ℕ, ◌+◌, ◌-◌, ◌<◌, ◌≢◌, ◌⊎◌, inl, inr, Bool, true, false, not, ◌&&◌, ◌||◌, refl, sym, ◌∙◌, ap, subst, arith}
+use Rattle.std.proofs.Common.{◌≡◌, ℕ, ◌+◌, ◌-◌, ◌<◌, ◌≢◌, ◌⊎◌, inl, inr, Bool, true, false, not, ◌&&◌, ◌||◌, refl, sym}
+use Rattle.std.proofs.Common.{◌∙◌, ap, subst, arith}
 use Rattle.std.specs.Prelude.{◌==◌, nat_lt, if◌then◌else◌}
-use Rattle.std.proofs.lemmas.Bool.{cases_Bool, or_parts, or_left, and_cases, and_left, and_right, not-true, ltb-true, eqb-false, ne_eqb, false≢true}
+use Rattle.std.proofs.lemmas.Bool.{cases_Bool, or_parts, or_left, and_cases, and_left, and_right, not-true, ltb-true}
+use Rattle.std.proofs.lemmas.Bool.{eqb-false, ne_eqb, false≢true}
 use Rattle.league.specs.League.{LeagueData}
 use Rattle.league.proofs.ForCallers.{sum_where_same, sum_below_same}
 use Rattle.fixtures.specs.declared.game.Cell.{Cell}
@@ -90,13 +92,15 @@ place_in_set g g' teams t r kept =
     ap (λ h. teams (if h then t else (cell g' t r).opponent)) kept.same_side ∙
     host_in_set teams t (cell g t r).opponent (cell g' t r).opponent (cell g t r).home kept.same_or_in
 
-place_stays : (g g' : Games) (teams : ℕ → Bool) (t r : ℕ) → IsKeptOrMeets teams g g' t r → teams (place g t r) ≡ false → place g' t r ≡ place g t r
+place_stays : (g g' : Games) (teams : ℕ → Bool) (t r : ℕ) → IsKeptOrMeets teams g g' t r → teams (place g t r) ≡ false →
+    place g' t r ≡ place g t r
 unfolding place is_home
 place_stays g g' teams t r kept out =
     ap (λ h. if h then t else (cell g' t r).opponent) kept.same_side ∙
     host_stays teams t (cell g t r).opponent (cell g' t r).opponent (cell g t r).home kept.same_or_in out
 
-places_around : (g g' : Games) (teams rounds : ℕ → Bool) → DiffersOnlyAround g g' teams rounds → DiffersOnlyAt place g g' (with_guests g teams rounds)
+places_around : (g g' : Games) (teams rounds : ℕ → Bool) → DiffersOnlyAround g g' teams rounds →
+    DiffersOnlyAt place g g' (with_guests g teams rounds)
 unfolding with_guests
 places_around g g' teams rounds d = record {
   same_size = d.same_size;
@@ -108,12 +112,14 @@ places_around g g' teams rounds d = record {
   ];
 }
 
-guests_same : (g g' : Games) (teams rounds : ℕ → Bool) → DiffersOnlyAround g g' teams rounds → (t r : ℕ) → t < g.teams → r < round_count g.teams →
+guests_same : (g g' : Games) (teams rounds : ℕ → Bool) → DiffersOnlyAround g g' teams rounds → (t r : ℕ) → t < g.teams →
+    r < round_count g.teams →
     with_guests g teams rounds t r ≡ with_guests g' teams rounds t r
 unfolding with_guests
 guests_same g g' teams rounds d t r in_t in_r = elim (cases_Bool (rounds r)) [
   | inl round ↦ elim (cases_Bool (teams t)) [
-    | inl main ↦ ap (λ b. rounds r && b) (or_left (teams t) (teams (place g t r)) main ∙ sym (or_left (teams t) (teams (place g' t r)) main))
+    | inl main ↦
+        ap (λ b. rounds r && b) (or_left (teams t) (teams (place g t r)) main ∙ sym (or_left (teams t) (teams (place g' t r)) main))
     | inr other ↦ ap (λ b. rounds r && (teams t || b)) (sym (place_in_set g g' teams t r (d.others t r in_t in_r other)))
   ]
   | inr no_round ↦
@@ -170,7 +176,8 @@ meeting_same : (teams : ℕ → Bool) (o o' u : ℕ) → SameOrIn teams o o' →
 meeting_same teams o o' u either out = elim either [
   | inl same ↦ ap (λ x. x == u) same
   | inr both ↦
-      ne_eqb o' u (λ is. false≢true (sym out ∙ ap teams (sym is) ∙ both.1)) ∙ sym (ne_eqb o u (λ is. false≢true (sym out ∙ ap teams (sym is) ∙ both.0)))
+      ne_eqb o' u (λ is. false≢true (sym out ∙ ap teams (sym is) ∙ both.1)) ∙
+      sym (ne_eqb o u (λ is. false≢true (sym out ∙ ap teams (sym is) ∙ both.0)))
 ]
 
 meets_same : (g g' : Games) (teams : ℕ → Bool) (t u r : ℕ) → IsKeptOrMeets teams g g' t r → teams u ≡ false → meets g' t u r ≡ meets g t u r

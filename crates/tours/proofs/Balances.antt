@@ -8,7 +8,8 @@ abbrev pub one : Bool → ℕ
 one b = if b then 1 else 0
 
 -- a term is in the part, where it changes by as much as the part's, or it stays
-pub where_balance : (inside inside' : Bool) (new old part_new part_old : ℕ) → inside' ≡ inside → (inside ≡ true → new + part_old ≡ old + part_new) → (inside ≡ false → new ≡ old) →
+pub where_balance : (inside inside' : Bool) (new old part_new part_old : ℕ) → inside' ≡ inside →
+    (inside ≡ true → new + part_old ≡ old + part_new) → (inside ≡ false → new ≡ old) →
     new + (if inside then part_old else 0) ≡ old + (if inside' then part_new else 0)
 where_balance true inside' new old part_new part_old same balance stays = rw same (balance refl)
 where_balance false inside' new old part_new part_old same balance stays = rw (same, stays refl) refl
@@ -33,5 +34,6 @@ pairs_balance n n' new old part_new part_old same each =
     subst (λ (m : ℕ). sum_of_pairs m new + sum_of_pairs n part_old ≡ sum_of_pairs n old + sum_of_pairs m part_new) (sym same)
     (sum_of_pairs_balance n new old part_new part_old each)
 
-pub pairs_same : (n n' : ℕ) (new old : ℕ → ℕ → ℕ) → n' ≡ n → ((i j : ℕ) → i < j → j < n → new i j ≡ old i j) → sum_of_pairs n' new ≡ sum_of_pairs n old
+pub pairs_same : (n n' : ℕ) (new old : ℕ → ℕ → ℕ) → n' ≡ n → ((i j : ℕ) → i < j → j < n → new i j ≡ old i j) →
+    sum_of_pairs n' new ≡ sum_of_pairs n old
 pairs_same n n' new old same each = ap (λ (m : ℕ). sum_of_pairs m new) same ∙ sum_of_pairs_same n new old each

@@ -21,7 +21,8 @@ host_same : (cut whole : ℕ → Bool) (t o : ℕ) (home : Bool) → cut t ≡ w
 host_same cut whole t o true same_t same_o = same_t
 host_same cut whole t o false same_t same_o = same_o
 
-place_same : (g : Games) (cut whole : ℕ → Bool) (t r : ℕ) → IsDoubleRoundRobin g → SameBelow g.teams cut whole → t < g.teams → r < round_count g.teams →
+place_same : (g : Games) (cut whole : ℕ → Bool) (t r : ℕ) → IsDoubleRoundRobin g → SameBelow g.teams cut whole →
+    t < g.teams → r < round_count g.teams →
     cut (place g t r) ≡ whole (place g t r)
 unfolding place
 place_same g cut whole t r rr same in_t in_r =

@@ -1,7 +1,8 @@
 -- The legs of two teams that are exchanged, at an edge of the set: one of the two rounds is in it.
-use Rattle.std.proofs.Common.{◌≡◌, ℕ, ◌+◌, ◌-◌, ◌<◌, Bool, true, false, not, ◌&&◌, ◌||◌, get_or, refl, sym, ◌∙◌, ap, ap₂, arith}
+use Rattle.std.proofs.Common.{◌≡◌, ◌≢◌, ℕ, ◌+◌, ◌-◌, ◌<◌, Bool, true, false, not, ◌&&◌, ◌||◌, inl, inr, get_or}
+use Rattle.std.proofs.Common.{refl, sym, ◌∙◌, ap, ap₂, arith}
 use Rattle.std.specs.Prelude.{◌==◌, nat_lt}
-use Rattle.std.proofs.lemmas.Bool.{false≢true}
+use Rattle.std.proofs.lemmas.Bool.{cases_lt, false≢true}
 use Rattle.std.proofs.lemmas.Bool.Decides.{nat_tests}
 use Rattle.league.specs.League.{LeagueData, distance}
 use Rattle.fixtures.specs.Games.{Games, round_count}
@@ -9,6 +10,13 @@ use Rattle.fixtures.specs.Edits.{exchanged}
 use Rattle.tours.specs.Tours.{tour, leg}
 use Rattle.tours.specs.Told.{in_rounds, stop_told, leg_told}
 use Rattle.tours.proofs.TeamsTold.{at_round, told_out, told_first, told_second}
+
+-- two teams have a round
+pub some_round : (n i j : ℕ) → i < n → j < n → i ≢ j → 0 < round_count n
+some_round n i j in_i in_j distinct = elim (cases_lt 1 n) [
+  | inl more ↦ omega arith
+  | inr one ↦ absurd (distinct (omega arith))
+]
 
 -- the first legs, where the first round is in the set
 pub told_at_start : (l : LeagueData) (g : Games) (i j : ℕ) (rounds : ℕ → Bool) → 0 < round_count g.teams → rounds 0 ≡ true →

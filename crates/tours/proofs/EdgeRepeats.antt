@@ -9,7 +9,8 @@ use Rattle.fixtures.specs.declared.game.Cell.{Cell}
 use Rattle.fixtures.specs.Games.{Games, round_of, round_count, cell, meets, IsPair, IsDoubleRoundRobin}
 use Rattle.fixtures.specs.Edits.{exchanged, teams_exchanged}
 use Rattle.fixtures.specs.Changes.{MeetingsDifferOnlyIn}
-use Rattle.fixtures.proofs.ForCallers.{exchanged_first, exchanged_second, cell_teams_exchanged, other_cell, round_robin_teams_exchanged, StaysAmong}
+use Rattle.fixtures.proofs.ForCallers.{exchanged_first, exchanged_second, cell_teams_exchanged, other_cell}
+use Rattle.fixtures.proofs.ForCallers.{round_robin_teams_exchanged, StaysAmong}
 use Rattle.tours.specs.Repeats.{repeats}
 use Rattle.tours.specs.Parts.{repeats_with_after, repeats_with}
 use Rattle.tours.specs.Walked.{repeat_at}

@@ -47,7 +47,8 @@ unfolding sum_below
 walked mark f zero = refl
 walked mark f (suc m) =
     let before : suc m - 1 ≡ m = omega arith in
-    rw (before, not_first m, add-one m) (one_place _ _ (f m) (f (suc m)) (not (m == 0) && mark (m - 1)) (mark m) (mark (suc m)) (walked mark f m))
+    rw (before, not_first m, add-one m) (one_place _ _ (f m) (f (suc m)) (not (m == 0) && mark (m - 1)) (mark m)
+    (mark (suc m)) (walked mark f m))
 
 -- up to a place that isn't marked
 all_walked : (mark : ℕ → Bool) (f : ℕ → ℕ) (m : ℕ) → mark m ≡ false → at_marks mark f m ≡ sum_where (m + 1) (next_to mark) f
@@ -56,9 +57,11 @@ all_walked mark f m out =
   where
     last : sum_where m (next_to mark) f + still_to_come mark f m ≡ sum_where m (next_to mark) f + (if next_to mark m then f m else 0)
     last = ap (λ b. sum_where m (next_to mark) f + (if (not (m == 0) && mark (m - 1)) && not b then f m else 0)) out ∙
-        ends (not (m == 0) && mark (m - 1)) ∙ ap (λ b. sum_where m (next_to mark) f + (if (not (m == 0) && mark (m - 1)) || b then f m else 0)) (sym out)
+        ends (not (m == 0) && mark (m - 1)) ∙
+        ap (λ b. sum_where m (next_to mark) f + (if (not (m == 0) && mark (m - 1)) || b then f m else 0)) (sym out)
       where
-        ends : (b : Bool) → sum_where m (next_to mark) f + (if b && not false then f m else 0) ≡ sum_where m (next_to mark) f + (if b || false then f m else 0)
+        ends : (b : Bool) → sum_where m (next_to mark) f + (if b && not false then f m else 0) ≡
+            sum_where m (next_to mark) f + (if b || false then f m else 0)
         ends true = refl
         ends false = refl
 
@@ -98,7 +101,8 @@ own_part : (f : ℕ → ℕ → ℕ) (g : Games) (teams rounds : ℕ → Bool) (
 unfolding with_guests
 own_part f g teams rounds t mine =
     sum_where_same (leg_count g) (touches_leg g (with_guests g teams rounds t)) (touches_leg g rounds) (f t) (f t)
-    (λ r in_r. touches_leg_of g rounds (with_guests g teams rounds t) r in_r (λ k in_k. own_rounds (teams t) (rounds k) (teams (place g t k)) mine))
+    (λ r in_r. touches_leg_of g rounds (with_guests g teams rounds t) r in_r
+    (λ k in_k. own_rounds (teams t) (rounds k) (teams (place g t k)) mine))
     (λ r in_r touched. refl)
 
 -- what a guest of some teams travels around a game there
@@ -114,16 +118,20 @@ theirs_in_round false false at x = refl
 
 others_part : (f : ℕ → ℕ → ℕ) (g : Games) (teams rounds : ℕ → Bool) →
     sum_where g.teams (λ t. not (teams t)) (λ t. part_of f g (with_guests g teams rounds t) t) ≡
-    sum_where (round_count g.teams) rounds (λ r. sum_where g.teams (λ t. not (teams t) && teams (place g t r)) (guest_legs f g teams rounds r))
+    sum_where (round_count g.teams) rounds (λ r. sum_where g.teams (λ t. not (teams t) && teams (place g t r))
+    (guest_legs f g teams rounds r))
 unfolding with_guests
 others_part f g teams rounds =
     sum_below_same g.teams (λ t. if not (teams t) then part_of f g (with_guests g teams rounds t) t else 0)
-    (λ t. sum_below (round_count g.teams) (λ r. if with_guests g teams rounds t r then (if not (teams t) then guest_legs f g teams rounds r t else 0) else 0))
+    (λ t. sum_below (round_count g.teams)
+    (λ r. if with_guests g teams rounds t r then (if not (teams t) then guest_legs f g teams rounds r t else 0) else 0))
     (λ t in_t. ap (λ x. if not (teams t) then x else 0) (part_by_rounds f g (with_guests g teams rounds t) t) ∙
     inside (not (teams t)) (round_count g.teams) (with_guests g teams rounds t) (λ r. guest_legs f g teams rounds r t)) ∙
-    sum_below_swap g.teams (round_count g.teams) (λ t r. if with_guests g teams rounds t r then (if not (teams t) then guest_legs f g teams rounds r t else 0) else 0) ∙
+    sum_below_swap g.teams (round_count g.teams)
+    (λ t r. if with_guests g teams rounds t r then (if not (teams t) then guest_legs f g teams rounds r t else 0) else 0) ∙
     sum_below_same (round_count g.teams)
-    (λ r. sum_below g.teams (λ t. if with_guests g teams rounds t r then (if not (teams t) then guest_legs f g teams rounds r t else 0) else 0))
+    (λ r. sum_below g.teams
+    (λ t. if with_guests g teams rounds t r then (if not (teams t) then guest_legs f g teams rounds r t else 0) else 0))
     (λ r. if rounds r then sum_where g.teams (λ t. not (teams t) && teams (place g t r)) (guest_legs f g teams rounds r) else 0)
     (λ r in_r. sum_below_same g.teams
     (λ t. if with_guests g teams rounds t r then (if not (teams t) then guest_legs f g teams rounds r t else 0) else 0)
@@ -143,7 +151,8 @@ away_there true false at x teams t o is_mine is_at = rw (← is_mine) refl
 away_there false true at x teams t o is_mine is_at = refl
 away_there false false at x teams t o is_mine is_at = rw is_at refl
 
-hosted : (home mine at : Bool) (x : ℕ) → (if not (not home) && (not at && mine) then x else 0) ≡ (if mine then (if home && not at then x else 0) else 0)
+hosted : (home mine at : Bool) (x : ℕ) →
+    (if not (not home) && (not at && mine) then x else 0) ≡ (if mine then (if home && not at then x else 0) else 0)
 hosted true true true x = refl
 hosted true true false x = refl
 hosted true false true x = refl
@@ -165,21 +174,26 @@ guests_by_host g teams f r rr in_r =
     each : (t : ℕ) → t < g.teams → as_guest g teams f r (opponent_in g r t) ≡
         (if teams t then (if (cell g t r).home && not (teams (opponent_in g r t)) then f (opponent_in g r t) else 0) else 0)
     each t in_t =
-        ap (λ b. if not b && (not (teams (opponent_in g r t)) && teams (opponent_in g r (opponent_in g r t))) then f (opponent_in g r t) else 0) (side_of_opponent g rr t r in_t in_r) ∙
+        ap
+        (λ b. if not b && (not (teams (opponent_in g r t)) && teams (opponent_in g r (opponent_in g r t)))
+        then f (opponent_in g r t) else 0)
+        (side_of_opponent g rr t r in_t in_r) ∙
         ap (λ u. if not (not (cell g t r).home) && (not (teams (opponent_in g r t)) && teams u) then f (opponent_in g r t) else 0)
         ((IsPairing-opponents g rr r in_r).turn.back t in_t) ∙
         hosted (cell g t r).home (teams t) (teams (opponent_in g r t)) (f (opponent_in g r t))
 
 -- host by host, in its rounds at home
 
-at_home : (round home own : Bool) (x : ℕ) → (if round then (if home && not own then x else 0) else 0) ≡ (if round && home then (if own then 0 else x) else 0)
+at_home : (round home own : Bool) (x : ℕ) →
+    (if round then (if home && not own then x else 0) else 0) ≡ (if round && home then (if own then 0 else x) else 0)
 at_home true true true x = refl
 at_home true true false x = refl
 at_home true false own x = refl
 at_home false home own x = refl
 
 abbrev hosted_at : (ℕ → ℕ → ℕ) → Games → (ℕ → Bool) → (ℕ → Bool) → ℕ → ℕ → ℕ
-hosted_at f g teams rounds r t = if (cell g t r).home && not (teams (opponent_in g r t)) then guest_legs f g teams rounds r (opponent_in g r t) else 0
+hosted_at f g teams rounds r t =
+    if (cell g t r).home && not (teams (opponent_in g r t)) then guest_legs f g teams rounds r (opponent_in g r t) else 0
 
 guests_of_hosts : (f : ℕ → ℕ → ℕ) (g : Games) (teams rounds : ℕ → Bool) →
     sum_where (round_count g.teams) rounds (λ r. sum_where g.teams teams (hosted_at f g teams rounds r)) ≡

@@ -37,7 +37,8 @@ abbrev pub is_repeat_with : Games → (ℕ → Bool) → ℕ → ℕ → Bool
 is_repeat_with g teams r t =
     (teams (opponent_in g r t) || teams t) && (nat_lt (opponent_in g r t) t && opponent_in g r t == opponent_in g (r + 1) t)
 
-pub repeats_with_after_higher : (g : Games) (teams : ℕ → Bool) (r : ℕ) → repeats_with_after g teams r ≡ count_where g.teams (is_repeat_with g teams r)
+pub repeats_with_after_higher : (g : Games) (teams : ℕ → Bool) (r : ℕ) →
+    repeats_with_after g teams r ≡ count_where g.teams (is_repeat_with g teams r)
 unfolding repeats_with_after meets
 repeats_with_after_higher g teams r =
     sum_below_same g.teams

@@ -28,3 +28,4 @@ pub mod TurnedLegs
 pub mod EdgeLegs
 pub mod OwnLegs
 pub mod VisitsTold
+pub mod TwoTotals

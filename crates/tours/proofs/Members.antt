@@ -42,7 +42,8 @@ at_members : (n : ℕ) (teams : ℕ → Bool) (a b : ℕ → ℕ) → IsPairing 
     count_where n (λ t. (teams (a t) || teams t) && (nat_lt (a t) t && a t == b t)) ≡
     sum_where n teams (λ t. one (a t == b t && (nat_lt (a t) t || not (teams (a t)))))
 at_members n teams a b pairing turn =
-    sum_below_same n (λ t. one ((teams (a t) || teams t) && (nat_lt (a t) t && a t == b t))) (λ t. with_higher teams a b t + with_lower teams a b t)
+    sum_below_same n (λ t. one ((teams (a t) || teams t) && (nat_lt (a t) t && a t == b t)))
+    (λ t. with_higher teams a b t + with_lower teams a b t)
     (λ t below. split (teams t) (teams (a t)) (nat_lt (a t) t) (a t == b t)) ∙
     sum_below_add n (with_higher teams a b) (with_lower teams a b) ∙
     ap (λ x. sum_below n (with_higher teams a b) + x) (sym (sum_below_turned n a (with_lower teams a b) pairing.turn)) ∙
@@ -60,7 +61,8 @@ pub repeats_with_after_members : (g : Games) (teams : ℕ → Bool) (r : ℕ) �
     repeats_with_after g teams r ≡ sum_where g.teams teams (repeat_at g teams r)
 repeats_with_after_members g teams r rr in_r =
     repeats_with_after_higher g teams r ∙
-    at_members g.teams teams (opponent_in g r) (opponent_in g (r + 1)) (IsPairing-opponents g rr r (omega arith)) (IsPairing-opponents g rr (r + 1) in_r).turn
+    at_members g.teams teams (opponent_in g r) (opponent_in g (r + 1)) (IsPairing-opponents g rr r (omega arith))
+    (IsPairing-opponents g rr (r + 1) in_r).turn
 
 pub repeat_at_cells : (g : Games) (teams : ℕ → Bool) (r t : ℕ) (now next : Cell) → now ≡ cell g t r → next ≡ cell g t (r + 1) →
     repeat_at g teams r t ≡ (if now.opponent == next.opponent && (nat_lt now.opponent t || not (teams now.opponent)) then 1 else 0)

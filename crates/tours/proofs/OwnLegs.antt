@@ -1,6 +1,7 @@
 -- The own legs of two teams that are exchanged in the rounds of a set: they change where a team turns between home and
 -- away, and at the edges of the set.
-use Rattle.std.proofs.Common.{◌≡◌, ℕ, zero, suc, ◌+◌, ◌-◌, ◌<◌, Bool, true, false, not, ◌&&◌, ◌||◌, inl, inr, refl, sym, ◌∙◌, ap, ap₂, arith, add-one}
+use Rattle.std.proofs.Common.{◌≡◌, ℕ, zero, suc, ◌+◌, ◌-◌, ◌<◌, Bool, true, false, not, ◌&&◌, ◌||◌, inl, inr, refl, sym}
+use Rattle.std.proofs.Common.{◌∙◌, ap, ap₂, arith, add-one}
 use Rattle.std.specs.Prelude.{◌==◌, nat_lt, if◌then◌else◌}
 use Rattle.std.specs.Bool.{beq}
 use Rattle.std.proofs.lemmas.Bool.{cases_lt, and_parts, and_left, cond-true, lt-ltb, true≢false, false≢true}

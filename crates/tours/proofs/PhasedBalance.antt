@@ -30,10 +30,12 @@ balance_where g g' teams same_size kept =
 
     stays : (i j : ℕ) → i < j → j < g.teams → (teams i ≡ false) × (teams j ≡ false) → is_unphased g' i j ≡ is_unphased g i j
     stays i j lower in_j out =
-        ap (λ b. beq b (is_early g' j i)) (early_stays i j (record { home_in = omega arith; away_in = in_j; distinct = omega arith }) out.0 out.1) ∙
+        ap (λ b. beq b (is_early g' j i)) (early_stays i j
+        (record { home_in = omega arith; away_in = in_j; distinct = omega arith }) out.0 out.1) ∙
         ap (beq (is_early g i j)) (early_stays j i (record { home_in = in_j; away_in = omega arith; distinct = omega arith }) out.1 out.0)
 
-pub unphased_balance : (g g' : Games) (teams rounds : ℕ → Bool) → IsDoubleRoundRobin g → IsDoubleRoundRobin g' → DiffersOnlyIn g g' teams rounds →
+pub unphased_balance : (g g' : Games) (teams rounds : ℕ → Bool) → IsDoubleRoundRobin g → IsDoubleRoundRobin g' →
+    DiffersOnlyIn g g' teams rounds →
     unphased g' + unphased_part g teams ≡ unphased g + unphased_part g' teams
 unphased_balance g g' teams rounds rr rr' differs =
     balance_where g g' teams differs.same_size

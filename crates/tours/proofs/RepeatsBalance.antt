@@ -29,7 +29,8 @@ after_balance : (g g' : Games) (teams rounds : ℕ → Bool) → MeetingsDifferO
 unfolding repeats_after repeats_with_after
 after_balance g g' teams rounds d r in_r =
     pairs_balance g.teams g'.teams (λ low high. one (meet_twice g' r low high)) (λ low high. one (meet_twice g r low high))
-    (λ low high. one ((teams low || teams high) && meet_twice g' r low high)) (λ low high. one ((teams low || teams high) && meet_twice g r low high))
+    (λ low high. one ((teams low || teams high) && meet_twice g' r low high))
+    (λ low high. one ((teams low || teams high) && meet_twice g r low high))
     d.same_size
     (λ low high in_low in_high. count_balance (teams low || teams high) (meet_twice g' r low high) (meet_twice g r low high)
     (λ out. meet_twice_same g g' teams rounds d r low high in_r in_low in_high
@@ -51,7 +52,8 @@ pub repeats_balance_with : (g g' : Games) (teams rounds : ℕ → Bool) → Meet
 unfolding repeats repeats_with
 repeats_balance_with g g' teams rounds d =
     sum_balance (round_count g.teams - 1) (round_count g'.teams - 1) (repeats_after g') (repeats_after g)
-    (λ r. if rounds r || rounds (r + 1) then repeats_with_after g' teams r else 0) (λ r. if rounds r || rounds (r + 1) then repeats_with_after g teams r else 0)
+    (λ r. if rounds r || rounds (r + 1) then repeats_with_after g' teams r else 0)
+    (λ r. if rounds r || rounds (r + 1) then repeats_with_after g teams r else 0)
     (ap (λ n. round_count n - 1) d.same_size)
     (λ r in_r. where_balance (rounds r || rounds (r + 1)) (rounds r || rounds (r + 1)) (repeats_after g' r) (repeats_after g r)
     (repeats_with_after g' teams r) (repeats_with_after g teams r) refl

@@ -1,13 +1,13 @@
 -- The repeats after an exchange, told by the meetings before it.
-use Rattle.std.proofs.Common.{◌≡◌, ℕ, ◌+◌, ◌-◌, ◌<◌, ◌≤◌, ◌≢◌, Bool, true, false, ◌&&◌, ◌||◌, inl, inr, refl, sym, ◌∙◌, ap, ap₂, arith}
+use Rattle.std.proofs.Common.{◌≡◌, ℕ, ◌+◌, ◌-◌, ◌<◌, ◌≤◌, ◌≢◌, Bool, true, false, ◌||◌, inl, inr, refl, sym, ◌∙◌, ap, ap₂, arith}
 use Rattle.std.specs.Prelude.{◌==◌, nat_lt, if◌then◌else◌}
-use Rattle.std.proofs.lemmas.Bool.{cases_Bool, cases_eq, cases_lt, cond-true, cond-false, eq-eqb, eqb-true, ne_eqb}
+use Rattle.std.proofs.lemmas.Bool.{cases_Bool, cond-true, cond-false, eq-eqb, eqb-true, ne_eqb}
 use Rattle.std.proofs.lemmas.Bool.Decides.{nat_tests}
 use Rattle.std.proofs.Math.Path.{fun_ext}
 use Rattle.league.specs.Sums.{sum_below, sum_where}
 use Rattle.league.proofs.ForCallers.{sum_below_more, sum_below_same, sum_below_swap, sum_below_balance}
 use Rattle.fixtures.specs.declared.game.Cell.{Cell}
-use Rattle.fixtures.specs.Games.{Games, round_of, round_count, cell, IsPair, IsDoubleRoundRobin}
+use Rattle.fixtures.specs.Games.{Games, round_count, cell, IsPair, IsDoubleRoundRobin}
 use Rattle.fixtures.specs.Edits.{exchanged, rounds_exchanged}
 use Rattle.fixtures.specs.Closed.{IsClosed, plays_in}
 use Rattle.fixtures.proofs.ForCallers.{exchanged_other, exchanged_lt, cell_rounds_exchanged, round_robin_rounds_exchanged}
@@ -19,7 +19,8 @@ use Rattle.tours.proofs.Balances.{where_balance}
 use Rattle.tours.proofs.ExchangedTours.{exchanged_next}
 use Rattle.tours.proofs.Opponents.{opponent_in}
 use Rattle.tours.proofs.OwnLegs.{first_leg}
-use Rattle.tours.proofs.RoundsTold.{exchanged_terms, exchanged_turned, legs_touched, stop_same, touches_two, two_rounds, two_before, two_after, neighbours_before, neighbours_after}
+use Rattle.tours.proofs.RoundsTold.{exchanged_terms, exchanged_turned, legs_touched, stop_same, touches_two, two_rounds}
+use Rattle.tours.proofs.RoundsTold.{two_before, two_after, neighbours_before, neighbours_after}
 use Rattle.tours.proofs.SamePairs.{at_higher, repeats_after_higher}
 
 -- all terms between stops change by as much as those around the two rounds that are exchanged
@@ -116,7 +117,8 @@ of_team_rounds g t rounds is =
 repeats_by_teams : (g : Games) → IsDoubleRoundRobin g → repeats g ≡ sum_below g.teams (λ t. of_team g (met g t) t)
 unfolding repeats
 repeats_by_teams g rr =
-    sum_below_same (round_count g.teams - 1) (repeats_after g) (λ r. sum_below g.teams (at_higher (opponent_in g r) (opponent_in g (r + 1))))
+    sum_below_same (round_count g.teams - 1) (repeats_after g)
+    (λ r. sum_below g.teams (at_higher (opponent_in g r) (opponent_in g (r + 1))))
     (λ r in_r. repeats_after_higher g r) ∙
     sum_below_swap (round_count g.teams - 1) g.teams (λ r. at_higher (opponent_in g r) (opponent_in g (r + 1))) ∙
     sum_below_same g.teams (λ t. sum_below (round_count g.teams - 1) (λ r. at_higher (opponent_in g r) (opponent_in g (r + 1)) t))
@@ -147,7 +149,8 @@ module _ (g : Games) (rr : IsDoubleRoundRobin g) (k l : ℕ) (p : IsPair (round_
         let most = in_season index (round_count g.teams) within in
         cond-false _ _ _ within ∙
         ap (λ (c : Cell). c.opponent)
-        (cell_rounds_exchanged g rr k l p.home_in p.away_in among closed t (index - 1) in_t (omega (arith, some, most)) ∙ cond-false _ _ _ out) ∙
+        (cell_rounds_exchanged g rr k l p.home_in p.away_in among closed t (index - 1) in_t (omega (arith, some, most)) ∙
+        cond-false _ _ _ out) ∙
         sym (cond-false _ _ _ within)
   ]
 

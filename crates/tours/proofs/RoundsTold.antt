@@ -53,7 +53,8 @@ module _ (between : ℕ → ℕ → ℕ) (k m : ℕ) where
 
   pub two_before : between k (k + 1) + between (k + 1) (k + 1 + 1) + (between m (m + 1) + between (m + 1) (m + 1 + 1)) ≡
       between k (k + 1) + between (k + 1) (k + 2) + (between m (m + 1) + between (m + 1) (m + 2))
-  two_before = ap₂ (λ x y. between k (k + 1) + x + (between m (m + 1) + y)) (ap (between (k + 1)) (two_on k)) (ap (between (m + 1)) (two_on m))
+  two_before =
+      ap₂ (λ x y. between k (k + 1) + x + (between m (m + 1) + y)) (ap (between (k + 1)) (two_on k)) (ap (between (m + 1)) (two_on m))
 
   pub two_after : k + 1 < m →
       exchanged_terms k + exchanged_terms (k + 1) + (exchanged_terms m + exchanged_terms (m + 1)) ≡

@@ -8,7 +8,8 @@ use Rattle.std.proofs.lemmas.Bool.{cases_lt, lt-ltb, le-ltb}
 use Rattle.std.proofs.lemmas.Bool.Decides.{nat_tests}
 use Rattle.league.specs.Sets.{has, is_like_next}
 use Rattle.league.specs.Sums.{sum_where, count_where, all_below, any_below}
-use Rattle.league.proofs.ForCallers.{all_below_same, all_below_fails, sum_below_past, sum_where_same, count_where_same, count_where_none, any_below_fails}
+use Rattle.league.proofs.ForCallers.{all_below_same, all_below_fails, sum_below_past, sum_where_same, count_where_same}
+use Rattle.league.proofs.ForCallers.{count_where_none, any_below_fails}
 use Rattle.fixtures.specs.Games.{Games, round_count, is_home}
 use Rattle.tours.specs.Runs.{windows, is_run, runs_of, runs_over}
 use Rattle.tours.specs.Parts.{touches_window, runs_part_of, runs_part}
@@ -105,7 +106,8 @@ pub runs_counted : (g : Games) (team length runs starts counted : ℕ) → 1 ≤
     count_where 78 (has counted) ≡ count_where (windows g length) (λ first. has starts first && is_run g team first length)
 runs_counted g team length runs starts counted least season is_runs is_counted =
     windows_counted g length counted (λ f. has starts f && is_run g team f length) least season
-    (λ f. is_counted f ∙ ap (λ b. b && has starts f) (is_runs f) ∙ regroup (nat_lt f (windows g length)) (is_run g team f length) (has starts f))
+    (λ f. is_counted f ∙ ap (λ b. b && has starts f) (is_runs f) ∙
+    regroup (nat_lt f (windows g length)) (is_run g team f length) (has starts f))
 
 -- how many there are
 pub all_runs_counted : (g : Games) (team most runs : ℕ) → round_count g.teams ≤ 78 → HasRuns g team (most + 1) runs →
@@ -137,17 +139,21 @@ runs_walked g most among starts =
     sum_where g.teams (has among) (λ t. count_where (windows g (most + 1)) (λ first. has starts first && is_run g t first (most + 1)))
 
 pub runs_walked_part : (g : Games) (most among starts : ℕ) (teams rounds : ℕ → Bool) → ((t : ℕ) → t < g.teams → has among t ≡ teams t) →
-    ((first : ℕ) → has starts first ≡ touches_window rounds first (most + 1)) → runs_walked g most among starts ≡ runs_part g most teams rounds
+    ((first : ℕ) → has starts first ≡ touches_window rounds first (most + 1)) →
+    runs_walked g most among starts ≡ runs_part g most teams rounds
 unfolding runs_part runs_part_of
 runs_walked_part g most among starts teams rounds members is_starts =
-    sum_where_same g.teams (has among) teams (λ t. count_where (windows g (most + 1)) (λ f. has starts f && is_run g t f (most + 1))) (runs_part_of g most rounds) members
-    (λ t in_t inside. count_where_same (windows g (most + 1)) (λ f. has starts f && is_run g t f (most + 1)) (λ f. touches_window rounds f (most + 1) && is_run g t f (most + 1))
+    sum_where_same g.teams (has among) teams
+    (λ t. count_where (windows g (most + 1)) (λ f. has starts f && is_run g t f (most + 1))) (runs_part_of g most rounds) members
+    (λ t in_t inside. count_where_same (windows g (most + 1)) (λ f. has starts f && is_run g t f (most + 1))
+    (λ f. touches_window rounds f (most + 1) && is_run g t f (most + 1))
     (λ f below. ap (λ b. b && is_run g t f (most + 1)) (is_starts f)))
 
 pub runs_walked_all : (g : Games) (most all starts : ℕ) → ((t : ℕ) → t < g.teams → has all t ≡ true) →
     ((first : ℕ) → first < round_count g.teams → has starts first ≡ true) → runs_walked g most all starts ≡ runs_over g most
 unfolding runs_over runs_of
 runs_walked_all g most all starts members is_starts =
-    sum_where_same g.teams (has all) (λ _. true) (λ t. count_where (windows g (most + 1)) (λ f. has starts f && is_run g t f (most + 1))) (runs_of g most) members
+    sum_where_same g.teams (has all) (λ _. true)
+    (λ t. count_where (windows g (most + 1)) (λ f. has starts f && is_run g t f (most + 1))) (runs_of g most) members
     (λ t in_t inside. count_where_same (windows g (most + 1)) (λ f. has starts f && is_run g t f (most + 1)) (λ f. is_run g t f (most + 1))
     (λ f below. ap (λ b. b && is_run g t f (most + 1)) (is_starts f (omega arith))))

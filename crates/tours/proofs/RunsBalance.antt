@@ -30,7 +30,8 @@ pub runs_of_balance : (g g' : Games) (most : ℕ) (rounds : ℕ → Bool) (t : �
 unfolding runs_of runs_part_of
 runs_of_balance g g' most rounds t size stay =
     sum_balance (windows g (most + 1)) (windows g' (most + 1)) (λ f. one (is_run g' t f (most + 1))) (λ f. one (is_run g t f (most + 1)))
-    (λ f. one (touches_window rounds f (most + 1) && is_run g' t f (most + 1))) (λ f. one (touches_window rounds f (most + 1) && is_run g t f (most + 1)))
+    (λ f. one (touches_window rounds f (most + 1) && is_run g' t f (most + 1)))
+    (λ f. one (touches_window rounds f (most + 1) && is_run g t f (most + 1)))
     (ap (λ n. round_count n + 1 - (most + 1)) size)
     (λ f below. count_balance (touches_window rounds f (most + 1)) (is_run g' t f (most + 1)) (is_run g t f (most + 1))
     (is_run_same g g' rounds t f (most + 1) stay (omega arith)))
@@ -39,7 +40,8 @@ pub runs_balance_at : (g g' : Games) (most : ℕ) (at : ℕ → ℕ → Bool) �
     runs_over g' most + runs_at g most at ≡ runs_over g most + runs_at g' most at
 unfolding runs_over runs_at
 runs_balance_at g g' most at d =
-    sum_balance g.teams g'.teams (runs_of g' most) (runs_of g most) (λ t. runs_part_of g' most (at t) t) (λ t. runs_part_of g most (at t) t) d.same_size
+    sum_balance g.teams g'.teams (runs_of g' most) (runs_of g most) (λ t. runs_part_of g' most (at t) t)
+    (λ t. runs_part_of g most (at t) t) d.same_size
     (λ t in_t. runs_of_balance g g' most (at t) t d.same_size (λ r. d.same t r in_t))
 
 -- a box of touched cells is a case of sets of rounds for each team

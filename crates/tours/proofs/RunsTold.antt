@@ -1,5 +1,6 @@
 -- The runs after an exchange, told by the sides before it.
-use Rattle.std.proofs.Common.{◌≡◌, ◌≢◌, ℕ, ◌+◌, ◌<◌, ◌≤◌, Bool, true, false, not, ◌&&◌, ◌||◌, inl, inr, refl, sym, ◌∙◌, ap, ap₂, subst, le_refl, arith}
+use Rattle.std.proofs.Common.{◌≡◌, ◌≢◌, ℕ, ◌+◌, ◌<◌, ◌≤◌, Bool, true, false, not, ◌&&◌, ◌||◌, inl, inr, refl, sym, ◌∙◌}
+use Rattle.std.proofs.Common.{ap, ap₂, subst, le_refl, arith}
 use Rattle.std.specs.Prelude.{◌==◌, nat_lt, if◌then◌else◌}
 use Rattle.std.specs.Bool.{beq}
 use Rattle.std.proofs.lemmas.Bool.{cases_Bool, cases_lt, cond-true, cond-false, lt-ltb, le-ltb, ltb-true}
@@ -12,7 +13,8 @@ use Rattle.fixtures.specs.Games.{Games, round_of, round_count, games, cell, is_h
 use Rattle.fixtures.specs.Edits.{exchanged, rounds_exchanged, teams_exchanged}
 use Rattle.fixtures.specs.Closed.{IsClosed, plays_in}
 use Rattle.fixtures.specs.Changes.{turns}
-use Rattle.fixtures.proofs.ForCallers.{exchanged_first, exchanged_second, exchanged_other, cases_exchanged, cell_rounds_exchanged, cell_teams_exchanged, other_cell, StaysAmong}
+use Rattle.fixtures.proofs.ForCallers.{exchanged_first, exchanged_second, exchanged_other, cases_exchanged}
+use Rattle.fixtures.proofs.ForCallers.{cell_rounds_exchanged, cell_teams_exchanged, other_cell, StaysAmong}
 use Rattle.tours.specs.Runs.{runs_of, runs_over}
 use Rattle.tours.specs.Told.{HasHomes, is_either}
 use Rattle.tours.proofs.OwnLegs.{same_side}
@@ -116,7 +118,8 @@ module _ (g : Games) (rr : IsDoubleRoundRobin g) (k l : ℕ) (p : IsPair (round_
 abbrev for_all : Games → ℕ → ℕ → Games
 for_all g k l = rounds_exchanged g k l (λ _. true)
 
-side_for_all : (g : Games) (k l : ℕ) → IsDoubleRoundRobin g → IsPair (round_count g.teams) k l → (t r : ℕ) → t < g.teams → r < round_count g.teams →
+side_for_all : (g : Games) (k l : ℕ) → IsDoubleRoundRobin g → IsPair (round_count g.teams) k l → (t r : ℕ) → t < g.teams →
+    r < round_count g.teams →
     is_home (for_all g k l) t r ≡ is_home g t (exchanged k l r)
 side_for_all g k l rr p t r = side_after g rr k l p (λ _. true) (λ x y step member. member) t r true refl
 

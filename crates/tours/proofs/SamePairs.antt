@@ -32,7 +32,8 @@ twice n a b pairing turn =
     sum_below_same n (λ t. at_higher a b t + at_higher a b (a t)) (λ t. one (a t == b t)) each
   where
     each : (t : ℕ) → t < n → at_higher a b t + at_higher a b (a t) ≡ one (a t == b t)
-    each t in_t = rw (pairing.turn.back t in_t, same_there n a b pairing.turn turn t in_t) (either_way (a t) t (a t == b t) (pairing.apart t in_t))
+    each t in_t =
+        rw (pairing.turn.back t in_t, same_there n a b pairing.turn turn t in_t) (either_way (a t) t (a t == b t) (pairing.apart t in_t))
 
 -- a map under the names that i and j exchange
 record IsRenamed (n i j : ℕ) (a a' : ℕ → ℕ) : Type 0 where
@@ -101,7 +102,8 @@ pub repeats_after_higher : (g : Games) (r : ℕ) → repeats_after g r ≡ sum_b
 unfolding repeats_after repeats_with_after
 repeats_after_higher g r = repeats_with_after_higher g (λ _. true) r
 
-renamed_in : (g g' : Games) (i j r : ℕ) → MeetingsExchanged g g' i j → r < round_count g.teams → IsRenamed g.teams i j (opponent_in g r) (opponent_in g' r)
+renamed_in : (g g' : Games) (i j r : ℕ) → MeetingsExchanged g g' i j → r < round_count g.teams →
+    IsRenamed g.teams i j (opponent_in g r) (opponent_in g' r)
 renamed_in g g' i j r d in_r = record { in_i = d.in_i; in_j = d.in_j; same = λ t in_t. d.same t r in_t in_r }
 
 after_same : (g g' : Games) (i j r : ℕ) → IsDoubleRoundRobin g → MeetingsExchanged g g' i j → r + 1 < round_count g.teams →

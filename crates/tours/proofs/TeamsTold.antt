@@ -1,7 +1,9 @@
 -- The legs after i and j are exchanged in the rounds of a set, told by the stops before.
-use Rattle.std.proofs.Common.{◌≡◌, ◌≢◌, ℕ, ◌+◌, ◌-◌, ◌<◌, ◌≤◌, Bool, true, false, not, ◌&&◌, ◌||◌, inl, inr, get_or, refl, sym, ◌∙◌, ap, ap₂, arith}
+use Rattle.std.proofs.Common.{◌≡◌, ◌≢◌, ℕ, ◌+◌, ◌-◌, ◌<◌, ◌≤◌, Bool, true, false, not, ◌&&◌, ◌||◌, inl, inr, get_or}
+use Rattle.std.proofs.Common.{refl, sym, ◌∙◌, ap, ap₂, arith}
 use Rattle.std.specs.Prelude.{◌==◌, nat_lt, if◌then◌else◌}
-use Rattle.std.proofs.lemmas.Bool.{cases_Bool, cases_eq, cases_lt, or_cases, or_parts, and_cases, cond-true, cond-false, eqb-true, eqb-false, ne_eqb, true≢false}
+use Rattle.std.proofs.lemmas.Bool.{cases_Bool, cases_eq, cases_lt, or_cases, or_parts, and_cases, cond-true, cond-false}
+use Rattle.std.proofs.lemmas.Bool.{eqb-true, eqb-false, ne_eqb, true≢false}
 use Rattle.std.proofs.lemmas.Bool.Decides.{nat_tests}
 use Rattle.league.specs.League.{LeagueData, distance}
 use Rattle.league.specs.Sums.{sum_where}
@@ -10,7 +12,9 @@ use Rattle.fixtures.specs.declared.game.Cell.{Cell}
 use Rattle.fixtures.specs.Games.{Games, round_of, round_count, cell, place, is_home, IsPair, IsDoubleRoundRobin}
 use Rattle.fixtures.specs.Edits.{exchanged, teams_exchanged}
 use Rattle.fixtures.specs.Changes.{with_guests, DiffersOnlyAt}
-use Rattle.fixtures.proofs.ForCallers.{exchanged_first, exchanged_second, exchanged_other, exchanged_exchanged, exchanged_lt, games_ext, cell_teams_exchanged, other_cell, StaysAmong, meets_cell, is_cell}
+use Rattle.fixtures.proofs.ForCallers.{exchanged_first, exchanged_second, exchanged_other, exchanged_exchanged}
+use Rattle.fixtures.proofs.ForCallers.{exchanged_lt, games_ext, cell_teams_exchanged, other_cell, StaysAmong}
+use Rattle.fixtures.proofs.ForCallers.{meets_cell, is_cell}
 use Rattle.tours.specs.Tours.{tour, leg_count, leg, travel}
 use Rattle.tours.specs.Parts.{touches_leg, travel_at, travel_part_of}
 use Rattle.tours.specs.Walked.{part_of, around, guest_terms}

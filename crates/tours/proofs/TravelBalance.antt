@@ -1,5 +1,6 @@
 -- Travel changes by as much as the legs around the places that change.
-use Rattle.std.proofs.Common.{◌≡◌, ℕ, ◌+◌, ◌-◌, ◌<◌, ◌≤◌, Bool, true, false, not, ◌&&◌, ◌||◌, get_or, refl, sym, ◌∙◌, ap, subst, inl, inr, arith}
+use Rattle.std.proofs.Common.{◌≡◌, ℕ, ◌+◌, ◌-◌, ◌<◌, ◌≤◌, Bool, true, false, not, ◌&&◌, ◌||◌, get_or, refl, sym, ◌∙◌}
+use Rattle.std.proofs.Common.{ap, subst, inl, inr, arith}
 use Rattle.std.specs.Prelude.{◌==◌, nat_lt, if◌then◌else◌}
 use Rattle.std.proofs.lemmas.Bool.{cases_lt, cases_eq}
 use Rattle.std.proofs.lemmas.Bool.Decides.{nat_tests}
@@ -74,7 +75,8 @@ pub travel_balance_at : (l : LeagueData) (g g' : Games) (at : ℕ → ℕ → Bo
     travel l g' + travel_at l g at ≡ travel l g + travel_at l g' at
 unfolding travel travel_at
 travel_balance_at l g g' at d =
-    sum_balance g.teams g'.teams (travel_of l g') (travel_of l g) (λ t. travel_part_of l g' (at t) t) (λ t. travel_part_of l g (at t) t) d.same_size
+    sum_balance g.teams g'.teams (travel_of l g') (travel_of l g) (λ t. travel_part_of l g' (at t) t)
+    (λ t. travel_part_of l g (at t) t) d.same_size
     (λ t in_t. travel_of_balance l g g' (at t) t d.same_size (λ r. d.same t r in_t))
 
 -- a box of touched cells is a case of sets of rounds for each team

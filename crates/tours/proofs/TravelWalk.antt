@@ -17,7 +17,8 @@ either_zero : (b : Bool) → ◌≡◌ {A = ℕ} (if b then 0 else 0) 0
 either_zero true = refl
 either_zero false = refl
 
-pub inside : (b : Bool) (n : ℕ) (test : ℕ → Bool) (f : ℕ → ℕ) → (if b then sum_where n test f else 0) ≡ sum_below n (λ r. if test r then (if b then f r else 0) else 0)
+pub inside : (b : Bool) (n : ℕ) (test : ℕ → Bool) (f : ℕ → ℕ) →
+    (if b then sum_where n test f else 0) ≡ sum_below n (λ r. if test r then (if b then f r else 0) else 0)
 inside true n test f = refl
 inside false n test f = sym (sum_below_zero n (λ r. if test r then 0 else 0) (λ r below. either_zero (test r)))
 
@@ -29,10 +30,12 @@ outside false n f = sum_below_zero n (λ _. 0) (λ t below. refl)
 pub sum_where_swap : (m n : ℕ) (rows columns : ℕ → Bool) (f : ℕ → ℕ → ℕ) →
     sum_where m rows (λ i. sum_where n columns (f i)) ≡ sum_where n columns (λ j. sum_where m rows (λ i. f i j))
 sum_where_swap m n rows columns f =
-    sum_below_same m (λ i. if rows i then sum_where n columns (f i) else 0) (λ i. sum_below n (λ j. if columns j then (if rows i then f i j else 0) else 0))
+    sum_below_same m (λ i. if rows i then sum_where n columns (f i) else 0)
+    (λ i. sum_below n (λ j. if columns j then (if rows i then f i j else 0) else 0))
     (λ i below. inside (rows i) n columns (f i)) ∙
     sum_below_swap m n (λ i j. if columns j then (if rows i then f i j else 0) else 0) ∙
-    sum_below_same n (λ j. sum_below m (λ i. if columns j then (if rows i then f i j else 0) else 0)) (λ j. if columns j then sum_where m rows (λ i. f i j) else 0)
+    sum_below_same n (λ j. sum_below m (λ i. if columns j then (if rows i then f i j else 0) else 0))
+    (λ j. if columns j then sum_where m rows (λ i. f i j) else 0)
     (λ j below. outside (columns j) m (λ i. if rows i then f i j else 0))
 
 -- legs outside, teams inside
@@ -63,9 +66,11 @@ legs_walked g f teams legs all_teams rounds some members is_legs =
     ap (λ x. sum_where (round_count g.teams) (has legs) (of_teams g f (has teams)) + x) home
   where
     same_legs : (r : ℕ) → of_teams g f all_teams r ≡ of_teams g f (has teams) r
-    same_legs r = sum_where_same g.teams all_teams (has teams) (λ t. f t r) (λ t. f t r) (λ t in_t. sym (members t in_t)) (λ t in_t passes. refl)
+    same_legs r =
+        sum_where_same g.teams all_teams (has teams) (λ t. f t r) (λ t. f t r) (λ t in_t. sym (members t in_t)) (λ t in_t passes. refl)
 
-    walked : sum_where (round_count g.teams) (touches_leg g rounds) (of_teams g f all_teams) ≡ sum_where (round_count g.teams) (has legs) (of_teams g f (has teams))
+    walked : sum_where (round_count g.teams) (touches_leg g rounds) (of_teams g f all_teams) ≡
+        sum_where (round_count g.teams) (has legs) (of_teams g f (has teams))
     walked =
         sum_where_same (round_count g.teams) (touches_leg g rounds) (has legs) (of_teams g f all_teams) (of_teams g f (has teams))
         (λ r in_r. sym (is_legs r ∙ touched_leg r (round_count g.teams) (rounds r) (rounds (r - 1)) in_r)) (λ r in_r touched. same_legs r)

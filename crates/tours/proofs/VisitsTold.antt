@@ -1,10 +1,11 @@
 -- The legs of a guest around its game at one of two teams that are exchanged.
-use Rattle.std.proofs.Common.{◌≡◌, ◌≢◌, ℕ, ◌+◌, ◌-◌, ◌<◌, Bool, true, false, not, ◌&&◌, ◌||◌, inl, inr, get_or, refl, sym, ◌∙◌, ap, ap₂, arith}
+use Rattle.std.proofs.Common.{◌≡◌, ◌≢◌, ℕ, ◌+◌, ◌-◌, ◌<◌, Bool, true, false, not, ◌&&◌, ◌||◌, inl, inr, get_or, refl}
+use Rattle.std.proofs.Common.{sym, ◌∙◌, ap, ap₂, arith}
 use Rattle.std.specs.Prelude.{◌==◌, nat_lt, if◌then◌else◌}
-use Rattle.std.proofs.lemmas.Bool.{cases_eq, cases_lt, or_cases, and_parts, cond-true, cond-false, eqb-true, ne_eqb, false≢true}
+use Rattle.std.proofs.lemmas.Bool.{cases_eq, cases_lt, or_cases, cond-true, cond-false, eqb-true, ne_eqb, false≢true}
 use Rattle.std.proofs.lemmas.Bool.Decides.{nat_tests}
 use Rattle.league.specs.League.{LeagueData, distance}
-use Rattle.league.specs.Sets.{has, IsWithoutLowest}
+use Rattle.league.specs.Sets.{has}
 use Rattle.fixtures.specs.Games.{Games, round_of, round_count, cell, place, is_home, IsCell, IsDoubleRoundRobin}
 use Rattle.fixtures.specs.Edits.{exchanged}
 use Rattle.fixtures.specs.Changes.{with_guests}
@@ -12,6 +13,8 @@ use Rattle.fixtures.proofs.ForCallers.{exchanged_first, exchanged_second, exchan
 use Rattle.tours.specs.Tours.{tour, leg}
 use Rattle.tours.specs.Walked.{guest_terms}
 use Rattle.tours.specs.Told.{is_either, in_rounds, stop_told, leg_told}
+use Rattle.tours.specs.Exchanges.{leg_before, leg_after, around_visit}
+use Rattle.tours.specs.declared.teams_told.exchange.TeamExchange.{TeamExchange}
 use Rattle.tours.proofs.Stops.{tour_at_round, tour_at_end}
 use Rattle.tours.proofs.Opponents.{side_of_opponent, IsPairing-opponents}
 use Rattle.tours.proofs.GuestSteps.{followed_by_next}
@@ -26,12 +29,6 @@ by_tests false false a x same = refl
 
 later : (r n : ℕ) (b : Bool) → (not (r + 2 == 0) && (nat_lt (r + 1) n && b)) ≡ (nat_lt (r + 1) n && b)
 later r n b = grind (arith, nat_tests)
-
--- the numbers that are left are of the set
-pub left_in_set : (set left lowest rest : ℕ) → ((k : ℕ) → has left k ≡ true → has set k ≡ true) →
-    IsWithoutLowest left lowest rest → (k : ℕ) → has rest k ≡ true → has set k ≡ true
-left_in_set set left lowest rest within taken k is =
-    within k (and_parts (has left k) (not (k == lowest)) (sym (taken.others k) ∙ is)).0
 
 module _ (l : LeagueData) (g : Games) (rr : IsDoubleRoundRobin g) (i j : ℕ) (rounds : ℕ → Bool)
     (first_out : rounds (round_of g i j) ≡ false) (second_out : rounds (round_of g j i) ≡ false) (host r : ℕ)
@@ -231,3 +228,47 @@ module _ (l : LeagueData) (g : Games) (rr : IsDoubleRoundRobin g) (i j : ℕ) (r
     goes_on_told out =
         ap₂ (λ x y. x + y) from_after (ap₂ (distance l) other_is to_is ∙ sym (leaving_told (on false out))) ∙
         sym (term_goes_on (leg_told l g i j rounds) (on false out))
+
+-- the ways that the walk adds up around a visit are its legs, where the next visit follows and where it doesn't
+pub record AreVisitLegs (x : TeamExchange) (host r from to from_told other : ℕ) : Type 0 where
+  pub ends_before :
+      (to == other && in_rounds x.schedule.now (has x.rounds) (r + 2)) ≡ true →
+      distance x.league.now from host ≡ around_visit x (leg_before x) host r
+  pub ends_after :
+      (to == other && in_rounds x.schedule.now (has x.rounds) (r + 2)) ≡ true →
+      distance x.league.now from_told other ≡ around_visit x (leg_after x) host r
+  pub on_before :
+      (to == other && in_rounds x.schedule.now (has x.rounds) (r + 2)) ≡ false →
+      distance x.league.now from host + distance x.league.now host to ≡ around_visit x (leg_before x) host r
+  pub on_after :
+      (to == other && in_rounds x.schedule.now (has x.rounds) (r + 2)) ≡ false →
+      distance x.league.now from_told other + distance x.league.now other to ≡ around_visit x (leg_after x) host r
+
+module _ (x : TeamExchange) (rr : IsDoubleRoundRobin x.schedule.now) (host r : ℕ) (of_host : is_either x.i x.j host ≡ true)
+    (in_host : host < x.schedule.now.teams) (in_r : r < round_count x.schedule.now.teams)
+    (home : is_home x.schedule.now host r ≡ true) (there : has x.rounds r ≡ true) (guest_at from to from_told other : ℕ)
+    (guest_is : guest_at ≡ (cell x.schedule.now host r).opponent) (from_is : from ≡ get_or (tour x.schedule.now guest_at) r 0)
+    (to_is : to ≡ get_or (tour x.schedule.now guest_at) (r + 2) 0)
+    (told_is : from_told ≡ (if from == other && in_rounds x.schedule.now (has x.rounds) r then host else from))
+    (other_is : other ≡ exchanged x.i x.j host) where
+  from_stop : from ≡ get_or (tour x.schedule.now (cell x.schedule.now host r).opponent) r 0
+  from_stop = from_is ∙ ap (λ u. get_or (tour x.schedule.now u) r 0) guest_is
+
+  to_stop : to ≡ get_or (tour x.schedule.now (cell x.schedule.now host r).opponent) (r + 2) 0
+  to_stop = to_is ∙ ap (λ u. get_or (tour x.schedule.now u) (r + 2) 0) guest_is
+
+  pub visit_legs : AreVisitLegs x host r from to from_told other
+  visit_legs = record {
+    ends_before =
+        ends_now x.league.now x.schedule.now rr x.i x.j (has x.rounds) x.first_out x.second_out host r of_host in_host in_r
+        home there from to from_told other from_stop to_stop told_is other_is;
+    ends_after =
+        ends_told x.league.now x.schedule.now rr x.i x.j (has x.rounds) x.first_out x.second_out host r of_host in_host in_r
+        home there from to from_told other from_stop to_stop told_is other_is;
+    on_before =
+        goes_on_now x.league.now x.schedule.now rr x.i x.j (has x.rounds) x.first_out x.second_out host r of_host in_host in_r
+        home there from to from_told other from_stop to_stop told_is other_is;
+    on_after =
+        goes_on_told x.league.now x.schedule.now rr x.i x.j (has x.rounds) x.first_out x.second_out host r of_host in_host in_r
+        home there from to from_told other from_stop to_stop told_is other_is;
+  }

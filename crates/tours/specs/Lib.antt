@@ -5,3 +5,4 @@ pub mod Parts
 pub mod Phased
 pub mod Walked
 pub mod Told
+pub mod Exchanges

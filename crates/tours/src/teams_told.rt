@@ -9,16 +9,15 @@ ghost use Rattle.fixtures.specs.Edits.{teams_exchanged};
 ghost use Rattle.fixtures.specs.Closed.{IsClosed, shares_opponent};
 ghost use Rattle.tours.specs.Tours.{travel};
 
+mod exchange;
 mod guests;
 mod own;
-mod places;
 
 use crate::season::rounds_in;
 use crate::told::Legs;
+use exchange::TeamExchange;
 use fixtures::Schedule;
-use guests::guests_legs;
 use league::{League, SlotSet};
-use own::own_legs;
 
 /// The legs that change where teams `i` and `j` are exchanged in the games of the rounds of the set. In none of them the
 /// two meet, and where one of them meets a team in a round of the set, so does the other.
@@ -36,10 +35,16 @@ pub fn legs_of_teams(schedule: &Schedule, league: &League, i: u8, j: u8, among: 
     ensures after_most { result.after ≤ (8 * max_rounds + 2) * max_distance }
 {
     prove_eq!(league.teams(), schedule.teams());
-    let rounds = rounds_in(schedule, among);
-    let own = own_legs(schedule, league, i, j, rounds);
-    let of_i = guests_legs(schedule, league, i, j, rounds, i);
-    let of_j = guests_legs(schedule, league, i, j, rounds, j);
+    let exchange = TeamExchange {
+        schedule,
+        league,
+        i,
+        j,
+        rounds: rounds_in(schedule, among),
+    };
+    let own = exchange.own_legs();
+    let of_i = exchange.guests_legs(i);
+    let of_j = exchange.guests_legs(j);
     Legs {
         before: own.before + (of_j.before + of_i.before),
         after: own.after + (of_j.after + of_i.after),

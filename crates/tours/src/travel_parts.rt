@@ -33,7 +33,13 @@ pub fn travel_around(schedule: &Schedule, league: &League, touched: Touched) -> 
 {
     let hosts = teams_in(schedule, touched.teams);
     let rounds = rounds_in(schedule, touched.rounds);
-    travel_among(schedule, league, hosts, rounds) + legs_to_hosts(schedule, league, hosts, rounds)
+    let visits = Visits {
+        schedule,
+        league,
+        hosts,
+        rounds,
+    };
+    travel_among(schedule, league, hosts, rounds) + visits.legs()
 }
 
 /// The legs of the teams of the set that touch one of the rounds.
@@ -98,84 +104,80 @@ fn legs_of(schedule: &Schedule, league: &League, among: TeamSet, index: u8) -> u
     total
 }
 
-/// The legs of the teams that these teams receive in these rounds.
-fn legs_to_hosts(schedule: &Schedule, league: &League, hosts: TeamSet, rounds: SlotSet) -> u64
-    requires same { teams league.now ≡ schedule.now.teams }
-    requires round_robin { IsDoubleRoundRobin schedule.now }
-    requires hosts { IsBelow schedule.now.teams hosts }
-    ensures value { result ≡ sum_where schedule.now.teams (has hosts) (λ host.
-        sum_where (round_count schedule.now.teams) (λ r. has rounds r && is_home schedule.now host r)
-        (legs_of_guest league.now schedule.now (has hosts) (has rounds) host)) }
-    ensures most { result ≤ 2 * max_rounds * max_distance * schedule.now.teams }
-{
-    let mut total = 0;
-    for host in hosts {
-        let visits = schedule.home_rounds(host).intersection(rounds);
-        total += legs_to_host(schedule, league, hosts, rounds, host, visits);
-    }
-    total
-}
-
-/// The legs of the teams that a host receives in these of its rounds at home.
-fn legs_to_host(
-    schedule: &Schedule,
-    league: &League,
+/// The games that these teams play at home in these rounds.
+#[derive(Clone, Copy)]
+struct Visits<'a> {
+    schedule: &'a Schedule,
+    league: &'a League,
     hosts: TeamSet,
     rounds: SlotSet,
-    host: u8,
-    visits: SlotSet,
-) -> u64
-    requires same { teams league.now ≡ schedule.now.teams }
-    requires round_robin { IsDoubleRoundRobin schedule.now }
-    requires host { host < schedule.now.teams }
-    requires below { IsBelow (round_count schedule.now.teams) visits }
-    ensures value { result ≡ sum_where (round_count schedule.now.teams) (has visits)
-        (legs_of_guest league.now schedule.now (has hosts) (has rounds) host) }
-    ensures most { result ≤ 2 * max_rounds * max_distance }
-{
-    let mut total = 0;
-    for round in visits {
-        total += legs_of_guest(schedule, league, hosts, rounds, host, round);
-    }
-    total
+    ghost same: { teams league.now ≡ schedule.now.teams },
+    ghost most: { schedule.now.teams ≤ max_teams },
+    ghost below: { IsBelow schedule.now.teams hosts },
 }
 
-/// The legs around a game of the host's opponent, unless that is one of the hosts itself.
-#[tactic(auto, using(crate::proofs::GuestSteps::followed_by_next), unfolding(crate::specs::Tours::leg))]
-fn legs_of_guest(
-    schedule: &Schedule,
-    league: &League,
-    hosts: TeamSet,
-    rounds: SlotSet,
-    host: u8,
-    round: u8,
-) -> u64
-    requires same { teams league.now ≡ schedule.now.teams }
-    requires host { host < schedule.now.teams }
-    requires round { round < round_count schedule.now.teams }
-    ensures value { result ≡ legs_of_guest league.now schedule.now (has hosts) (has rounds) host round }
-    ensures most { result ≤ 2 * max_distance }
-{
-    let guest = schedule.game_at(host, round).opponent;
-    if hosts.has(guest) {
-        return 0;
+impl Visits<'_> {
+    /// The legs of the hosts' guests.
+    fn legs(&self) -> u64
+        ensures value { result ≡ sum_where self.now.schedule.now.teams (has self.now.hosts) (λ host.
+            sum_where (round_count self.now.schedule.now.teams)
+            (λ r. has self.now.rounds r && is_home self.now.schedule.now host r)
+            (legs_of_guest self.now.league.now self.now.schedule.now (has self.now.hosts) (has self.now.rounds) host)) }
+        ensures most { result ≤ 2 * max_rounds * max_distance * self.now.schedule.now.teams }
+    {
+        let mut total = 0;
+        for host in self.hosts {
+            let visits = self.schedule.home_rounds(host).intersection(self.rounds);
+            total += self.legs_to_host(host, visits);
+        }
+        total
     }
-    let before = stop(schedule, guest, round);
-    let here = stop(schedule, guest, round + 1);
-    let next = stop(schedule, guest, round + 2);
-    let there = way(league, before, here);
-    // the leg on from here is then one of the next visit
-    if is_visit(schedule, hosts, rounds, next, round + 1) {
-        return there;
-    }
-    there + way(league, here, next)
-}
 
-/// Whether this place, to which a team goes for a round, is one of the hosts', and the round one of the set.
-fn is_visit(schedule: &Schedule, hosts: TeamSet, rounds: SlotSet, place: u8, round: u8) -> bool
-    requires { place < max_teams }
-    ensures { result ≡
-        (has hosts place && (nat_lt round (round_count schedule.now.teams) && has rounds round)) }
-{
-    hosts.has(place) && (round < schedule.rounds() && rounds.has(round))
+    /// The legs of the teams that a host receives in these of its rounds at home.
+    fn legs_to_host(&self, host: u8, visits: SlotSet) -> u64
+        requires host { host < self.now.schedule.now.teams }
+        requires below { IsBelow (round_count self.now.schedule.now.teams) visits }
+        ensures value { result ≡ sum_where (round_count self.now.schedule.now.teams) (has visits)
+            (legs_of_guest self.now.league.now self.now.schedule.now (has self.now.hosts) (has self.now.rounds) host) }
+        ensures most { result ≤ 2 * max_rounds * max_distance }
+    {
+        let mut total = 0;
+        for round in visits {
+            total += self.legs_of_guest(host, round);
+        }
+        total
+    }
+
+    /// The legs around a game of the host's opponent, unless that is one of the hosts itself.
+    #[tactic(auto, using(crate::proofs::GuestSteps::followed_by_next), unfolding(crate::specs::Tours::leg))]
+    fn legs_of_guest(&self, host: u8, round: u8) -> u64
+        requires host { host < self.now.schedule.now.teams }
+        requires round { round < round_count self.now.schedule.now.teams }
+        ensures value { result ≡ legs_of_guest self.now.league.now self.now.schedule.now (has self.now.hosts)
+            (has self.now.rounds) host round }
+        ensures most { result ≤ 2 * max_distance }
+    {
+        let guest = self.schedule.game_at(host, round).opponent;
+        if self.hosts.has(guest) {
+            return 0;
+        }
+        let before = stop(self.schedule, guest, round);
+        let here = stop(self.schedule, guest, round + 1);
+        let next = stop(self.schedule, guest, round + 2);
+        let there = way(self.league, before, here);
+        // the leg on from here is then one of the next visit
+        if self.is_visit(next, round + 1) {
+            return there;
+        }
+        there + way(self.league, here, next)
+    }
+
+    /// Whether this place, to which a team goes for a round, is one of the hosts', and the round one of the set.
+    fn is_visit(&self, place: u8, round: u8) -> bool
+        requires { place < max_teams }
+        ensures { result ≡ (has self.now.hosts place &&
+            (nat_lt round (round_count self.now.schedule.now.teams) && has self.now.rounds round)) }
+    {
+        self.hosts.has(place) && (round < self.schedule.rounds() && self.rounds.has(round))
+    }
 }

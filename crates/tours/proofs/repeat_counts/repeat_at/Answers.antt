@@ -6,7 +6,8 @@ use Rattle.tours.proofs.repeat_counts.repeat_at.Goals as goal
 
 pub returns-clause-value : goal.returns-clause-value
 returns-clause-value c =
-    rw (repeat_at_cells c.args.schedule.now (has c.args.among) c.args.round c.args.team _ _ c.game_at-opponent.ensures.value c.game_at-next.ensures.value)
+    rw (repeat_at_cells c.args.schedule.now (has c.args.among) c.args.round c.args.team _ _
+    c.game_at-opponent.ensures.value c.game_at-next.ensures.value)
     (grind (arith, nat_tests))
 
 pub returns-clause-most : goal.returns-clause-most

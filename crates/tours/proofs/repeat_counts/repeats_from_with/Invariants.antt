@@ -7,4 +7,6 @@ use Rattle.tours.specs.Parts.{repeats_with_after}
 use Rattle.tours.proofs.repeat_counts.repeats_from_with.Given as goal
 
 abbrev pub invariant-loop-round : goal.invariant-loop-round
-invariant-loop-round l = IsSumWithout (round_count l.schedule.teams - 1) l.fn.firsts l.round-iterator l.total max_teams (repeats_with_after l.schedule (has l.among))
+invariant-loop-round l =
+    IsSumWithout (round_count l.schedule.teams - 1) l.fn.firsts l.round-iterator l.total max_teams
+    (repeats_with_after l.schedule (has l.among))

@@ -10,5 +10,6 @@ pub returns-clause-value : goal.returns-clause-value
 unfolding repeats_part
 returns-clause-value c =
     c.repeats_from.ensures.value ∙
-    sum_where_same (round_count c.args.schedule.now.teams - 1) (has c.rounds_next_to-firsts.result) (λ r. has c.args.rounds r || has c.args.rounds (r + 1))
+    sum_where_same (round_count c.args.schedule.now.teams - 1) (has c.rounds_next_to-firsts.result)
+    (λ r. has c.args.rounds r || has c.args.rounds (r + 1))
     (repeats_after c.args.schedule.now) (repeats_after c.args.schedule.now) c.rounds_next_to-firsts.ensures.members (λ r in_r touched. refl)

@@ -10,6 +10,9 @@ pub returns-clause-value : goal.returns-clause-value
 unfolding repeats_with
 returns-clause-value c =
     c.repeats_from_with.ensures.value ∙
-    sum_where_same (round_count c.args.schedule.now.teams - 1) (has c.rounds_next_to-firsts.result) (λ r. has c.args.rounds r || has c.args.rounds (r + 1))
-    (repeats_with_after c.args.schedule.now (has c.teams_in-among.result)) (repeats_with_after c.args.schedule.now (has c.args.set)) c.rounds_next_to-firsts.ensures.members
-    (λ r in_r touched. repeats_with_after_cut c.args.schedule.now (has c.args.set) (has c.teams_in-among.result) r c.teams_in-among.ensures.members)
+    sum_where_same (round_count c.args.schedule.now.teams - 1) (has c.rounds_next_to-firsts.result)
+    (λ r. has c.args.rounds r || has c.args.rounds (r + 1))
+    (repeats_with_after c.args.schedule.now (has c.teams_in-among.result))
+    (repeats_with_after c.args.schedule.now (has c.args.set)) c.rounds_next_to-firsts.ensures.members
+    (λ r in_r touched. repeats_with_after_cut c.args.schedule.now (has c.args.set) (has c.teams_in-among.result) r
+    c.teams_in-among.ensures.members)

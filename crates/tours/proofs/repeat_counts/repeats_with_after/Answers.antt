@@ -11,7 +11,9 @@ pub repeat_at-total-requires-clause-team : goal.repeat_at-total-requires-clause-
 repeat_at-total-requires-clause-team c = lowest_below _ _ _ _ c.loop-team.invariant.below c.in-Some.ensures.steps
 
 pub loop-team-preserved : goal.loop-team-preserved
-loop-team-preserved c = sum_without_more _ _ _ _ _ _ _ _ _ c.loop-team.invariant c.in-Some.ensures.steps c.repeat_at-total.ensures.value c.repeat_at-total.ensures.most
+loop-team-preserved c =
+    sum_without_more _ _ _ _ _ _ _ _ _ c.loop-team.invariant c.in-Some.ensures.steps c.repeat_at-total.ensures.value
+    c.repeat_at-total.ensures.most
 
 pub returns-clause-value : goal.returns-clause-value
 returns-clause-value c =

@@ -1,6 +1,5 @@
 use Rattle.std.proofs.Common.{◌<◌, arith}
 use Rattle.league.specs.Sets.{has}
-use Rattle.fixtures.specs.Games.{round_count, IsPair}
 use Rattle.tours.proofs.RepeatsTold.{repeats_forward, repeats_back}
 use Rattle.tours.proofs.repeats_told.repeats_of_rounds.Goals as goal
 

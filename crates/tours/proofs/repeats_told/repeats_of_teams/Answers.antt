@@ -1,9 +1,8 @@
-use Rattle.std.proofs.Common.{◌≡◌, ℕ, ◌+◌, ◌-◌, ◌<◌, not, ◌&&◌, sym, ◌∙◌, ap, ap₂, arith}
-use Rattle.std.specs.Prelude.{nat_lt}
+use Rattle.std.proofs.Common.{◌+◌, ◌-◌, not, ◌&&◌, ◌∙◌, ap, ap₂, arith}
 use Rattle.std.specs.Bool.{beq}
 use Rattle.std.proofs.lemmas.Bool.{lt-ltb}
 use Rattle.league.specs.Sets.{has}
-use Rattle.fixtures.specs.Games.{round_count, IsPair}
+use Rattle.fixtures.specs.Games.{IsPair}
 use Rattle.fixtures.proofs.ForCallers.{stays_among_closed}
 use Rattle.tours.proofs.EdgeRepeats.{edges_told}
 use Rattle.tours.proofs.repeats_told.repeats_of_teams.Goals as goal

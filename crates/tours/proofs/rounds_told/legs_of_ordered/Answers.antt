@@ -1,31 +1,21 @@
-use Rattle.std.proofs.Common.{refl, arith}
-use Rattle.league.proofs.ForCallers.{sum_without_none, sum_without_more, sum_without_all, lowest_below}
+use Rattle.std.proofs.Common.{arith}
+use Rattle.tours.proofs.TwoTotals.{totals_begun, next_in, totals_more, totals_ended}
 use Rattle.tours.proofs.rounds_told.legs_of_ordered.Goals as goal
 
 pub loop-team-init : goal.loop-team-init
-loop-team-init c = record {
-  before = sum_without_none _ _ _ _ _ (omega arith) c.into_iter-team-iterator.ensures.into_iter_gives;
-  after = sum_without_none _ _ _ _ _ (omega arith) c.into_iter-team-iterator.ensures.into_iter_gives;
-}
+loop-team-init c = totals_begun _ _ _ _ _ _ (omega arith) c.into_iter-team-iterator.ensures.into_iter_gives
 
 pub changed_legs-legs-requires-clause-team : goal.changed_legs-legs-requires-clause-team
 changed_legs-legs-requires-clause-team c =
-    lowest_below _ _ _ _ c.loop-team.invariant.before.below c.in-Some.ensures.steps
+    (next_in _ _ _ _ _ _ _ _ _ _ c.loop-team.invariant c.in-Some.ensures.steps).0
 
 pub loop-team-preserved : goal.loop-team-preserved
-loop-team-preserved c = record {
-  before =
-      sum_without_more _ _ _ _ _ _ _ _ _ c.loop-team.invariant.before c.in-Some.ensures.steps
-      c.changed_legs-legs.ensures.before c.changed_legs-legs.ensures.before_most;
-  after =
-      sum_without_more _ _ _ _ _ _ _ _ _ c.loop-team.invariant.after c.in-Some.ensures.steps
-      c.changed_legs-legs.ensures.after c.changed_legs-legs.ensures.after_most;
-}
+loop-team-preserved c =
+    totals_more _ _ _ _ _ _ _ _ _ _ _ _ c.loop-team.invariant c.in-Some.ensures.steps c.changed_legs-legs.ensures.before
+    c.changed_legs-legs.ensures.after c.changed_legs-legs.ensures.before_most c.changed_legs-legs.ensures.after_most
 
 pub returns-clause-before : goal.returns-clause-before
-returns-clause-before c =
-    sum_without_all _ _ _ _ _ _ _ c.loop-team.invariant.before c.in-None.ensures.steps.0 (λ k below. refl)
+returns-clause-before c = (totals_ended _ _ _ _ _ _ _ _ c.loop-team.invariant c.in-None.ensures.steps.0).0
 
 pub returns-clause-after : goal.returns-clause-after
-returns-clause-after c =
-    sum_without_all _ _ _ _ _ _ _ c.loop-team.invariant.after c.in-None.ensures.steps.0 (λ k below. refl)
+returns-clause-after c = (totals_ended _ _ _ _ _ _ _ _ c.loop-team.invariant c.in-None.ensures.steps.0).1

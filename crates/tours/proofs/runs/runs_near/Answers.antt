@@ -8,7 +8,8 @@ pub returns-clause-value : goal.returns-clause-value
 unfolding touches_window
 returns-clause-value c =
     c.runs_from.ensures.value ∙
-    runs_walked_part c.args.schedule.now c.args.at_most c.teams_in-among.result c.starts_meeting-starts.result (has c.args.set) (has c.args.rounds)
+    runs_walked_part c.args.schedule.now c.args.at_most c.teams_in-among.result c.starts_meeting-starts.result
+    (has c.args.set) (has c.args.rounds)
     c.teams_in-among.ensures.members c.starts_meeting-starts.ensures.members
 
 pub returns-clause-most : goal.returns-clause-most

@@ -1,4 +1,4 @@
-use Rattle.std.proofs.Common.{◌≡◌, ◌+◌, refl, sym, ◌∙◌, arith}
+use Rattle.std.proofs.Common.{◌≡◌, ◌+◌, sym, ◌∙◌, arith}
 use Rattle.tours.specs.Told.{HasRuns}
 use Rattle.tours.proofs.RunStarts.{runs_counted, no_runs_counted}
 use Rattle.tours.proofs.runs.runs_of_team.Goals as goal
@@ -9,7 +9,8 @@ returns-then-intersects-clause-value c =
     let runs : HasRuns c.args.schedule.now c.args.team (c.args.at_most + 1) c.run_starts-runs.result =
     c.run_starts-runs.ensures.members c.args.schedule.now c.args.team (sym c.rounds.ensures.number) c.home_rounds.ensures.members in
     same ∙ c.len.ensures.value ∙
-    runs_counted c.args.schedule.now c.args.team (c.args.at_most + 1) c.run_starts-runs.result c.args.starts c.intersection-counted.result (omega arith)
+    runs_counted c.args.schedule.now c.args.team (c.args.at_most + 1) c.run_starts-runs.result c.args.starts
+    c.intersection-counted.result (omega arith)
     (omega (arith, c.rounds.ensures.number, c.rounds.ensures.most)) runs c.intersection-counted.ensures.members
 
 pub returns-else-intersects-clause-value : goal.returns-else-intersects-clause-value

@@ -8,7 +8,8 @@ returns-clause-value c =
     rw (← c.at_most-at_most.ensures.value)
     (c.runs_from.ensures.value ∙
     runs_walked_all c.args.schedule.now c.at_most-at_most.result c.below-all.result c.below-starts.result
-    (λ t in_t. c.below-all.ensures.members t ∙ lt-ltb t _ (omega arith)) (λ f in_f. c.below-starts.ensures.members f ∙ lt-ltb f _ (omega arith)))
+    (λ t in_t. c.below-all.ensures.members t ∙ lt-ltb t _ (omega arith))
+    (λ f in_f. c.below-starts.ensures.members f ∙ lt-ltb f _ (omega arith)))
 
 pub returns-clause-most : goal.returns-clause-most
 returns-clause-most c = search rules

@@ -1,34 +1,27 @@
 use Rattle.std.proofs.Common.{refl, arith}
 use Rattle.league.specs.Sets.{has}
-use Rattle.league.proofs.ForCallers.{sum_without_none, sum_without_more, sum_without_all, lowest_below}
 use Rattle.tours.proofs.RunsTold.{part_of_runs, rounds_told}
+use Rattle.tours.proofs.TwoTotals.{totals_begun, next_in, totals_more, totals_ended}
 use Rattle.tours.proofs.runs_told.runs_of_rounds.Goals as goal
 
 pub loop-team-init : goal.loop-team-init
-loop-team-init c = record {
-  before = sum_without_none _ _ _ _ _ (omega (arith, c.into_iter-team-iterator.ensures.into_iter_gives)) refl;
-  after = sum_without_none _ _ _ _ _ (omega (arith, c.into_iter-team-iterator.ensures.into_iter_gives)) refl;
-}
+loop-team-init c =
+    totals_begun _ _ _ _ _ _ (omega (arith, c.into_iter-team-iterator.ensures.into_iter_gives)) refl
 
 pub turned_runs-runs-requires-clause-team : goal.turned_runs-runs-requires-clause-team
 turned_runs-runs-requires-clause-team c =
-    lowest_below _ _ _ _ c.loop-team.invariant.before.below c.in-Some.ensures.steps
+    (next_in _ _ _ _ _ _ _ _ _ _ c.loop-team.invariant c.in-Some.ensures.steps).0
 
 pub loop-team-preserved : goal.loop-team-preserved
-loop-team-preserved c = record {
-  before =
-      sum_without_more _ _ _ _ _ _ _ _ _ c.loop-team.invariant.before c.in-Some.ensures.steps c.turned_runs-runs.ensures.before
-      c.turned_runs-runs.ensures.before_most;
-  after =
-      sum_without_more _ _ _ _ _ _ _ _ _ c.loop-team.invariant.after c.in-Some.ensures.steps c.turned_runs-runs.ensures.after
-      c.turned_runs-runs.ensures.after_most;
-}
+loop-team-preserved c =
+    totals_more _ _ _ _ _ _ _ _ _ _ _ _ c.loop-team.invariant c.in-Some.ensures.steps c.turned_runs-runs.ensures.before
+    c.turned_runs-runs.ensures.after c.turned_runs-runs.ensures.before_most c.turned_runs-runs.ensures.after_most
 
 pub returns-clause-balance : goal.returns-clause-balance
 returns-clause-balance c =
     rw (
-      sum_without_all _ _ _ _ _ _ _ c.loop-team.invariant.before c.in-None.ensures.steps.0 (λ t below. refl),
-      sum_without_all _ _ _ _ _ _ _ c.loop-team.invariant.after c.in-None.ensures.steps.0 (λ t below. refl),
+      (totals_ended _ _ _ _ _ _ _ _ c.loop-team.invariant c.in-None.ensures.steps.0).0,
+      (totals_ended _ _ _ _ _ _ _ _ c.loop-team.invariant c.in-None.ensures.steps.0).1,
       c.into_iter-team-iterator.ensures.into_iter_gives,
       c.at_most-at_most.ensures.value,
     )
@@ -38,5 +31,5 @@ returns-clause-balance c =
 
 pub returns-clause-within : goal.returns-clause-within
 returns-clause-within c =
-    rw (sum_without_all _ _ _ _ _ _ _ c.loop-team.invariant.before c.in-None.ensures.steps.0 (λ t below. refl), c.at_most-at_most.ensures.value)
+    rw ((totals_ended _ _ _ _ _ _ _ _ c.loop-team.invariant c.in-None.ensures.steps.0).0, c.at_most-at_most.ensures.value)
     (part_of_runs c.args.schedule.now c.args.league.now.at_most _ _)

@@ -19,12 +19,14 @@ returns-clause-balance c =
       c.runs_in-4.ensures.value _ c.args.i number
           (row c.args.i c.args.j _ _ _ c.requires.i (exchanged_first c.args.i c.args.j) c.home_rounds-of_i.ensures.members
           c.home_rounds-of_j.ensures.members
-          (λ r. c.symmetric_difference-new_i.ensures.members r ∙ first_turned (has c.home_rounds-of_i.result r) (has c.home_rounds-of_j.result r) (has c.args.among r) _ _
+          (λ r. c.symmetric_difference-new_i.ensures.members r ∙
+          first_turned (has c.home_rounds-of_i.result r) (has c.home_rounds-of_j.result r) (has c.args.among r) _ _
           (c.intersection-turned.ensures.members r) (c.symmetric_difference.ensures.members r))),
       c.runs_in-3.ensures.value _ c.args.j number
           (row c.args.j c.args.i _ _ _ c.requires.j (exchanged_second c.args.i c.args.j) c.home_rounds-of_j.ensures.members
           c.home_rounds-of_i.ensures.members
-          (λ r. c.symmetric_difference-new_j.ensures.members r ∙ second_turned (has c.home_rounds-of_i.result r) (has c.home_rounds-of_j.result r) (has c.args.among r) _ _
+          (λ r. c.symmetric_difference-new_j.ensures.members r ∙
+          second_turned (has c.home_rounds-of_i.result r) (has c.home_rounds-of_j.result r) (has c.args.among r) _ _
           (c.intersection-turned.ensures.members r) (c.symmetric_difference.ensures.members r))),
       c.at_most-at_most.ensures.value,
     )

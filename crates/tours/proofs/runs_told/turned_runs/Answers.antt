@@ -31,9 +31,11 @@ returns-clause-before c =
 pub returns-clause-after : goal.returns-clause-after
 returns-clause-after c =
     c.runs_in-2.ensures.value _ c.args.team (sym c.rounds-rounds.ensures.number)
-    (turned_row c.args.schedule.now c.args.team c.args.k c.args.l c.home_rounds-home.result c.with-2.result c.symmetric_difference-turned.result
+    (turned_row c.args.schedule.now c.args.team c.args.k c.args.l c.home_rounds-home.result c.with-2.result
+    c.symmetric_difference-turned.result
     c.requires.round_robin (record { home_in = c.requires.k; away_in = c.requires.l; distinct = c.requires.distinct }) c.requires.team
     c.home_rounds-home.ensures.members (turning c)
-    (λ r. c.with-2.ensures.members r ∙ ap (λ b. r == c.args.l || b) (c.with.ensures.members r ∙ ap (λ b. r == c.args.k || b) (c.empty.ensures.members r)))
+    (λ r. c.with-2.ensures.members r ∙ ap (λ b. r == c.args.l || b) (c.with.ensures.members r ∙
+    ap (λ b. r == c.args.k || b) (c.empty.ensures.members r)))
     c.symmetric_difference-turned.ensures.members) ∙
     sym (cond-true _ _ _ (turning c))

@@ -12,7 +12,8 @@ loop-team-preserved c =
     let pairs : ℕ → ℕ =
     λ j. sum_below j (λ i. if (has c.args.teams i || has c.args.teams j) && is_unphased c.args.schedule.now i j then 1 else 0) in
     let more : c.unphased_of-total.result ≡ pairs c.loop-team.team =
-    c.unphased_of-total.ensures.value ∙ unphased_at_lower c.args.schedule.now (has c.args.teams) c.lower_partners-lower.result c.loop-team.team c.lower_partners-lower.ensures.members in
+    c.unphased_of-total.ensures.value ∙ unphased_at_lower c.args.schedule.now (has c.args.teams)
+    c.lower_partners-lower.result c.loop-team.team c.lower_partners-lower.ensures.members in
     record {
       value = omega (arith, c.loop-team.invariant.value, sum_below_more c.loop-team.team pairs, more);
       most = omega (arith, c.loop-team.invariant.most, c.unphased_of-total.ensures.most);
