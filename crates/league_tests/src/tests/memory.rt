@@ -7,7 +7,9 @@ use crate::tests::checks::{check_holds, check_same, check_same_of};
 use crate::tests::league_texts::{
     FOUR_TEAMS, GOOD_RULE, all_games_text, check_bytes, list, rules_text,
 };
-use crate::tests::rules::{TWO_GAMES, check_all_games, check_body, check_games, weight_of};
+use crate::tests::rules::{
+    GameRule, TWO_GAMES, check_all_games, check_body, check_games, weight_of,
+};
 use league::{League, LeagueFault, SlotSet, TeamSet, Weight, circular, constant, read_league};
 use std::alloc::{AllocError, Global};
 use std::process::Abort;
@@ -102,8 +104,12 @@ fn check_rules(rt: &impl Abort, league: &League) {
     check_four(rt, league, 2, CIRCLE);
     let weights = (weight_of(league, 0), weight_of(league, 1));
     check_same(rt, &weights, &(Some(Weight::Soft(10)), Some(Weight::Hard)));
-    let second = SlotSet::empty().with(1);
-    check_games(rt, league, 0, TWO_GAMES, [1, 1], second);
+    let two = GameRule {
+        games: TWO_GAMES,
+        wanted: [1, 1],
+        slots: SlotSet::empty().with(1),
+    };
+    check_games(rt, league, 0, two);
     let sets = (Some(TeamSet::below(4)), None, Some(SlotSet::below(6)));
     check_body(rt, league, 1, ("BR2", None, [4, 0]), sets);
 }

@@ -218,20 +218,20 @@ fn games_of(body: &RuleBody) -> Option<Games> {
     Some((games.len(), Some(ends)))
 }
 
-// a rule of games, how many of them are wanted, and its slots
-pub(crate) fn check_games(
-    rt: &impl Abort,
-    league: &League,
-    rule: usize,
-    games: Games,
-    wanted: [u32; 2],
-    slots: SlotSet,
-) {
+/// What a rule of games says: its games, how many of them are wanted, and its slots.
+#[derive(Clone, Copy)]
+pub(crate) struct GameRule {
+    pub(crate) games: Games,
+    pub(crate) wanted: [u32; 2],
+    pub(crate) slots: SlotSet,
+}
+
+pub(crate) fn check_games(rt: &impl Abort, league: &League, rule: usize, said: GameRule) {
     assert!(rt; rule < league.rule_count());
     let found = games_of(&league.rule(rule).body);
-    check_same_of(rt, &rule, &found, &Some(games));
-    let values = ("GA1", None, wanted);
-    check_body(rt, league, rule, values, (None, None, Some(slots)));
+    check_same_of(rt, &rule, &found, &Some(said.games));
+    let values = ("GA1", None, said.wanted);
+    check_body(rt, league, rule, values, (None, None, Some(said.slots)));
 }
 
 const GAME_RULES: &str =
@@ -245,9 +245,18 @@ pub(crate) const TWO_GAMES: Games = (
 
 fn check_two_rules(rt: &impl Abort, league: &League) {
     check_same(rt, &league.rule_count(), &2);
-    let second = SlotSet::empty().with(1);
-    check_games(rt, league, 0, TWO_GAMES, [1, 2], second);
-    check_games(rt, league, 1, (0, None), [0, 0], SlotSet::below(6));
+    let two = GameRule {
+        games: TWO_GAMES,
+        wanted: [1, 2],
+        slots: SlotSet::empty().with(1),
+    };
+    let none = GameRule {
+        games: (0, None),
+        wanted: [0, 0],
+        slots: SlotSet::below(6),
+    };
+    check_games(rt, league, 0, two);
+    check_games(rt, league, 1, none);
 }
 
 #[test]
@@ -264,7 +273,12 @@ const ALL_GAMES: Games = (
 // the only rule lists all games of forty teams
 pub(crate) fn check_all_games(rt: &impl Abort, league: &League) {
     check_same(rt, &league.rule_count(), &1);
-    check_games(rt, league, 0, ALL_GAMES, [0, 1560], SlotSet::below(78));
+    let all = GameRule {
+        games: ALL_GAMES,
+        wanted: [0, 1560],
+        slots: SlotSet::below(78),
+    };
+    check_games(rt, league, 0, all);
 }
 
 #[test]

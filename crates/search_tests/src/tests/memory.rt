@@ -3,7 +3,7 @@
 ghost use Rattle.std.specs.Prelude.{◌≡◌, [], IfSome};
 
 use crate::tests::checks::check_same;
-use crate::tests::searches::{searched, searched_with};
+use crate::tests::searches::{AskedRun, searched, searched_with};
 use fixture_board::Board;
 use league::{League, circular};
 use search::{NoGate, Outcome, RunFault, RunRefused, SearchPlan, run, run_with};
@@ -43,11 +43,17 @@ fn search<R: Threads + Wait + Sync>(
     }
 }
 
+const RUN: AskedRun = AskedRun {
+    teams: 4,
+    room: 16,
+    plan: PLAN,
+};
+
 #[test]
 fn runs_with_ample_memory(rt: HostRuntime) -> Result<(), Fail> {
-    let outcome = searched(&rt, rt.alloc(), 4, 16, PLAN)?;
+    let outcome = searched(&rt, rt.alloc(), RUN)?;
     check_same(&rt, &outcome.reports.len(), &2);
-    let outcome = searched_with(&rt, rt.alloc(), &NoGate, 4, 16, PLAN)?;
+    let outcome = searched_with(&rt, rt.alloc(), &NoGate, RUN)?;
     check_same(&rt, &outcome.reports.len(), &2);
     Ok(())
 }

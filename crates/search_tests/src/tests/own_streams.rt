@@ -2,7 +2,7 @@
 
 use crate::tests::boards::{at_any_cost, check_same_history, circle};
 use crate::tests::checks::{check_distinct, check_holds, check_holds_of, check_same};
-use crate::tests::searches::searched_with;
+use crate::tests::searches::{AskedRun, searched_with};
 use fixture_board::Board;
 use fixtures::Schedule;
 use moves::{Move, check};
@@ -110,7 +110,12 @@ fn searched_in_turn<R: Threads + Wait + Sync>(
         steps: STEPS,
         slack: u64::MAX,
     };
-    searched_with(rt, alloc, &gate, TEAMS, ROOM, plan)
+    let asked = AskedRun {
+        teams: TEAMS,
+        room: ROOM,
+        plan,
+    };
+    searched_with(rt, alloc, &gate, asked)
 }
 
 /// Each of so many workers is granted just the moves of its own stream that can be made.

@@ -4,7 +4,7 @@ ghost use Rattle.std.specs.Prelude.{◌≡◌, [], length, IfOk};
 
 use crate::tests::boards::{board, check_end, check_replay, check_same_history};
 use crate::tests::checks::{check_holds, check_same};
-use crate::tests::searches::{self, searched_with};
+use crate::tests::searches::{self, AskedRun, searched_with};
 use fixture_board::{Best, Board, Change, Entry};
 use league::{League, circular};
 use moves::Move;
@@ -39,7 +39,8 @@ fn searched<R: Threads + Wait + Sync + Abort, G: Gate + Sync>(
 ) -> Result<Outcome, Fail>
     ensures { IfOk result (λ o. length o.reports ≡ plan.workers) }
 {
-    let outcome = searched_with(rt, alloc, gate, 4, room, plan)?;
+    let teams = 4;
+    let outcome = searched_with(rt, alloc, gate, AskedRun { teams, room, plan })?;
     check_replay(rt, alloc, &outcome.board)?;
     Ok(outcome)
 }
@@ -182,11 +183,15 @@ fn check_same_report(rt: &impl Abort, one: &Reports, two: &Reports) {
     check_same(rt, &one, &two);
 }
 
-const PLAN_OF_SIX: SearchPlan = SearchPlan {
-    workers: 1,
-    seed: 8,
-    steps: 24,
-    slack: 30,
+const RUN_OF_SIX: AskedRun = AskedRun {
+    teams: 6,
+    room: 1024,
+    plan: SearchPlan {
+        workers: 1,
+        seed: 8,
+        steps: 24,
+        slack: 30,
+    },
 };
 
 const SIXTH: Entry = Entry {
@@ -198,7 +203,7 @@ const SIXTH: Entry = Entry {
 /// another seed, slack, number of steps or number of the worker it prints others.
 #[test]
 fn a_worker_has_the_numbers_of_the_plan(rt: HostRuntime) -> Result<(), Fail> {
-    let outcome = searches::searched(&rt, rt.alloc(), 6, 1024, PLAN_OF_SIX)?;
+    let outcome = searches::searched(&rt, rt.alloc(), RUN_OF_SIX)?;
     check_end(&rt, &outcome.board, 6, SIXTH);
     Ok(())
 }

@@ -2,7 +2,7 @@
 
 use crate::tests::boards::check_replay;
 use crate::tests::checks::{check_holds, check_holds_of, check_same};
-use crate::tests::searches::searched;
+use crate::tests::searches::{AskedRun, searched};
 use search::{MAX_WORKERS, SearchPlan};
 use std::alloc::Global;
 use std::process::Abort;
@@ -26,9 +26,11 @@ fn expect_workers<R: Threads + Wait + Sync + Abort>(
     alloc: Global,
     workers: u32,
 ) -> Result<(), Fail> {
-    let outcome = searched(rt, alloc, 4, 4096, plan(workers, 100))?;
+    let (teams, room) = (4, 4096);
+    let plan = plan(workers, 100);
+    let outcome = searched(rt, alloc, AskedRun { teams, room, plan })?;
     check_same(rt, &outcome.reports.len(), &(workers as usize));
-    check_same(rt, &outcome.plan, &plan(workers, 100));
+    check_same(rt, &outcome.plan, &plan);
     check_holds(rt, 0 < outcome.board.version());
     check_replay(rt, alloc, &outcome.board)
 }
@@ -48,7 +50,8 @@ fn length<R: Threads + Wait + Sync>(
     room: u32,
     plan: SearchPlan,
 ) -> Result<u64, Fail> {
-    let outcome = searched(rt, alloc, 4, room, plan)?;
+    let teams = 4;
+    let outcome = searched(rt, alloc, AskedRun { teams, room, plan })?;
     Ok(outcome.board.version())
 }
 

@@ -1,7 +1,7 @@
 //! What a gate is told of a run.
 
 use crate::tests::checks::check_same;
-use crate::tests::searches::searched_with;
+use crate::tests::searches::{AskedRun, searched_with};
 use search::{Gate, Progress, SearchPlan};
 use std::alloc::Global;
 use std::fmt::Write;
@@ -48,7 +48,12 @@ fn told<R: Threads + Wait + Sync>(rt: &R, alloc: Global, steps: u32) -> Result<S
         steps,
         slack: 10,
     };
-    searched_with(rt, alloc, &gate, 8, 20_000, plan)?;
+    let asked = AskedRun {
+        teams: 8,
+        room: 20_000,
+        plan,
+    };
+    searched_with(rt, alloc, &gate, asked)?;
     Ok(log.into_inner())
 }
 
