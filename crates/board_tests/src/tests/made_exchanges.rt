@@ -12,6 +12,14 @@ use std::alloc::Global;
 use std::process::Abort;
 use std::test::Fail;
 
+/// A move on a schedule of a league.
+#[derive(Clone, Copy)]
+struct Trial<'a> {
+    league: &'a League,
+    schedule: &'a Schedule,
+    mv: Move,
+}
+
 /// A schedule after a move that can be made.
 #[derive(Drop)]
 struct AfterMove {
@@ -21,13 +29,12 @@ struct AfterMove {
 }
 
 /// The move made on a copy of the schedule, where it can be made.
-fn made(
-    rt: &impl Abort,
-    alloc: Global,
-    league: &League,
-    schedule: &Schedule,
-    mv: Move,
-) -> Result<Option<AfterMove>, Fail> {
+fn made(rt: &impl Abort, alloc: Global, trial: Trial<'_>) -> Result<Option<AfterMove>, Fail> {
+    let Trial {
+        league,
+        schedule,
+        mv,
+    } = trial;
     assert!(rt; league.teams() == schedule.teams());
     if check(schedule, mv).is_err() {
         return Ok(None);
@@ -47,11 +54,14 @@ fn made(
 fn tried(
     rt: &impl Abort,
     alloc: Global,
-    league: &League,
-    schedule: &Schedule,
-    mv: Move,
+    trial: Trial<'_>,
     most: u64,
 ) -> Result<(Schedule, Option<Cost>), Fail> {
+    let Trial {
+        league,
+        schedule,
+        mv,
+    } = trial;
     assert!(rt; league.teams() == schedule.teams());
     if check(schedule, mv).is_err() {
         return Err("a move that can be made".into());
@@ -66,20 +76,18 @@ fn tried(
 fn check_limit(
     rt: &impl Abort,
     alloc: Global,
-    league: &League,
-    schedule: &Schedule,
-    mv: Move,
+    trial: Trial<'_>,
     made: &AfterMove,
     most: u64,
 ) -> Result<(), Fail> {
-    let (tried, answer) = tried(rt, alloc, league, schedule, mv, most)?;
+    let (tried, answer) = tried(rt, alloc, trial, most)?;
     let (cost, left) = if made.score <= most {
         (Some(made.cost), &made.schedule)
     } else {
-        (None, schedule)
+        (None, trial.schedule)
     };
     let is_left = have_same_games(&tried, left);
-    check_same_of(rt, &(mv, most), &(answer, is_left), &(cost, true));
+    check_same_of(rt, &(trial.mv, most), &(answer, is_left), &(cost, true));
     Ok(())
 }
 
@@ -103,11 +111,16 @@ fn keeps_limits(
     schedule: &mut Schedule,
     mv: Move,
 ) -> Result<bool, Fail> {
-    let Some(made) = made(rt, alloc, league, schedule, mv)? else {
+    let trial = Trial {
+        league,
+        schedule,
+        mv,
+    };
+    let Some(made) = made(rt, alloc, trial)? else {
         return Ok(false);
     };
     for most in limits_around(made.score) {
-        check_limit(rt, alloc, league, schedule, mv, &made, most)?;
+        check_limit(rt, alloc, trial, &made, most)?;
     }
     schedule.copy_from(&made.schedule);
     Ok(true)

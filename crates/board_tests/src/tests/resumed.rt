@@ -6,7 +6,7 @@ use crate::tests::questions::Asked;
 use crate::tests::seat_checks::{check_number, check_seat, split};
 use crate::tests::seat_steps::SeatStep::{self, Accepted, Ask, Front, Look, Number, Total};
 use crate::tests::seat_steps::Who::{self, First, Second};
-use crate::tests::seat_steps::{check_end, check_seat_steps, check_seats};
+use crate::tests::seat_steps::{Pair, check_end, check_seat_steps, check_seats};
 use fixture_board::{Change, Why};
 use moves::Move;
 use shared_board::Shared;
@@ -57,9 +57,10 @@ fn the_first_seat_has_seen_the_history_as_its_own(rt: HostRuntime) -> Result<(),
 fn seats_go_on_from_a_history(rt: HostRuntime) -> Result<(), Fail> {
     let board = undone(rt.alloc()).expect(&rt, "a board");
     let mut copy = board.schedule().duplicate(rt.alloc())?;
-    let (shared, mut a) = Shared::resume(rt.alloc(), board)?;
-    let mut b = split(&rt, &shared, &mut a)?;
-    check_seats(&rt, &shared, &mut a, &mut b, &mut copy, EACH_A_CHANGE);
-    check_end(&rt, shared, a, b, 2, ENTRIES);
+    let (shared, mut first) = Shared::resume(rt.alloc(), board)?;
+    let second = split(&rt, &shared, &mut first)?;
+    let mut pair = Pair { first, second };
+    check_seats(&rt, &shared, &mut pair, &mut copy, EACH_A_CHANGE);
+    check_end(&rt, shared, pair, 2, ENTRIES);
     Ok(())
 }

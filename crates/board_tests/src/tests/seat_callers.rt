@@ -2,7 +2,7 @@
 //! seats were dropped. The answers were worked out by hand.
 
 use crate::tests::answers::Answer::{Done, No};
-use crate::tests::answers::{have_same_games, travel};
+use crate::tests::answers::{have_same_games, seen, travel};
 use crate::tests::boards::four;
 use crate::tests::checks::{check_cost, check_same, check_version};
 use crate::tests::questions::{Asked, propose};
@@ -100,7 +100,7 @@ fn a_dropped_seat_makes_the_board_not_whole(rt: HostRuntime) -> Result<(), Fail>
     drop(split(&rt, &shared, &mut a)?);
     let mut copy = berger_fide(rt.alloc(), 4)?;
     check_same(&rt, &have_same_games(&copy, &start), &false);
-    check_look(&rt, &shared, &mut a, &mut copy, 0, 30);
+    check_look(&rt, &shared, &mut a, &mut copy, &seen(0, 30));
     check_same(&rt, &have_same_games(&copy, &start), &true);
     let board = close(&rt, shared, a, false);
     check_version(&rt, &board, 0);

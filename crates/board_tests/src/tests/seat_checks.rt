@@ -3,27 +3,13 @@
 
 ghost use Rattle.std.specs.Prelude.{◌≡◌, IfOk};
 
-use crate::tests::answers::seen;
 use crate::tests::checks::{check_same, check_same_of};
 use crate::tests::questions::ask_seat;
-use fixture_board::{Ask, Board, Reply};
+use fixture_board::{Ask, Board, Reply, Seen};
 use fixtures::Schedule;
 use shared_board::{Seat, Shared, SplitFault};
 use std::process::Abort;
 use std::sync::Wait;
-
-pub(crate) fn check_reply<R: Wait + Abort>(
-    rt: &R,
-    shared: &Shared,
-    seat: &mut Seat,
-    ask: Ask,
-    reply: Reply,
-)
-    requires { seat.old.table ≡ shared.now }
-    ensures { seat.new.table ≡ shared.now }
-{
-    check_same_of(rt, &ask, &ask_seat(rt, shared, seat, ask), &reply);
-}
 
 /// Asks through a seat. It has then seen the version that is answered, which is the front, and a refusal is no entry of it.
 pub(crate) fn check_ask<R: Wait + Abort>(
@@ -37,7 +23,7 @@ pub(crate) fn check_ask<R: Wait + Abort>(
     ensures { seat.new.table ≡ shared.now }
 {
     let before = seat.accepted();
-    check_reply(rt, shared, seat, ask, reply);
+    check_same_of(rt, &ask, &ask_seat(rt, shared, seat, ask), &reply);
     match reply {
         Reply::Done { at, .. } => check_seen(rt, shared, seat, at, ask),
         Reply::No { at, .. } => {
@@ -79,14 +65,13 @@ pub(crate) fn check_look<R: Wait + Abort>(
     shared: &Shared,
     seat: &mut Seat,
     copy: &mut Schedule,
-    version: u64,
-    travel: u64,
+    wanted: &Seen,
 )
     requires { seat.old.table ≡ shared.now }
     ensures { seat.new.table ≡ shared.now }
 {
     let shown = shared.look(rt, seat, copy);
-    check_same(rt, &shown, &seen(version, travel));
+    check_same(rt, &shown, wanted);
 }
 
 pub(crate) fn check_front(rt: &impl Abort, shared: &Shared, seat: &mut Seat, front: u64)

@@ -2,7 +2,7 @@
 
 ghost use Rattle.std.specs.Prelude.{◌≡◌};
 
-use crate::tests::answers::Answer;
+use crate::tests::answers::{Answer, seen};
 use crate::tests::boards::four_with_room;
 use crate::tests::checks::{check_entry, check_same, check_version};
 use crate::tests::questions::Asked;
@@ -17,6 +17,13 @@ use std::alloc::Global;
 use std::process::Abort;
 use std::sync::Wait;
 use std::test::Fail;
+
+/// Two seats of a shared board.
+#[derive(Drop)]
+pub(crate) struct Pair {
+    pub(crate) first: Seat,
+    pub(crate) second: Seat,
+}
 
 #[derive(Clone, Copy)]
 pub(crate) enum Who {
@@ -57,7 +64,9 @@ fn check_seat_step<R: Wait + Abort>(
         SeatStep::Change(asked, version) => check_done(rt, shared, seat, asked.ask(), version),
         SeatStep::Front(front) => check_front(rt, shared, seat, front),
         SeatStep::Total(best) => check_total(rt, shared, seat, best),
-        SeatStep::Look(version, travel) => check_look(rt, shared, seat, copy, version, travel),
+        SeatStep::Look(version, travel) => {
+            check_look(rt, shared, seat, copy, &seen(version, travel));
+        }
         SeatStep::Accepted(accepted) => check_same(rt, &seat.accepted(), &accepted),
         SeatStep::Number(number) => check_number(rt, seat, number),
     }
@@ -82,20 +91,19 @@ pub(crate) fn check_seat_steps<R: Wait + Abort>(
 pub(crate) fn check_seats<R: Wait + Abort>(
     rt: &R,
     shared: &Shared,
-    first: &mut Seat,
-    second: &mut Seat,
+    pair: &mut Pair,
     copy: &mut Schedule,
     steps: &[(Who, SeatStep)],
 )
-    requires one { first.old.table ≡ shared.now }
-    requires other { second.old.table ≡ shared.now }
-    ensures one { first.new.table ≡ shared.now }
-    ensures other { second.new.table ≡ shared.now }
+    requires one { pair.old.first.table ≡ shared.now }
+    requires other { pair.old.second.table ≡ shared.now }
+    ensures one { pair.new.first.table ≡ shared.now }
+    ensures other { pair.new.second.table ≡ shared.now }
 {
     for &(who, step) in steps {
         match who {
-            Who::First => check_seat_step(rt, shared, first, copy, step),
-            Who::Second => check_seat_step(rt, shared, second, copy, step),
+            Who::First => check_seat_step(rt, shared, &mut pair.first, copy, step),
+            Who::Second => check_seat_step(rt, shared, &mut pair.second, copy, step),
         }
     }
 }
@@ -105,13 +113,13 @@ pub(crate) fn check_seats<R: Wait + Abort>(
 pub(crate) fn check_end<R: Wait + Abort>(
     rt: &R,
     shared: Shared,
-    mut first: Seat,
-    second: Seat,
+    pair: Pair,
     held: u32,
     entries: &[(u32, Change)],
 )
-    requires { (first.table ≡ shared) × (second.table ≡ shared) }
+    requires { (pair.first.table ≡ shared) × (pair.second.table ≡ shared) }
 {
+    let Pair { mut first, second } = pair;
     absorb(&shared, &mut first, second);
     let count = entries.len() as u64;
     check_seat(rt, &first, held, count, count);
@@ -127,9 +135,10 @@ pub(crate) fn check_pair<R: Wait + Abort>(
     entries: &[(u32, Change)],
 ) -> Result<(), Fail> {
     let (shared, mut first, mut copy) = four_with_room(alloc, room)?;
-    let mut second = split(rt, &shared, &mut first)?;
-    check_seats(rt, &shared, &mut first, &mut second, &mut copy, steps);
-    check_end(rt, shared, first, second, 2, entries);
+    let second = split(rt, &shared, &mut first)?;
+    let mut pair = Pair { first, second };
+    check_seats(rt, &shared, &mut pair, &mut copy, steps);
+    check_end(rt, shared, pair, 2, entries);
     Ok(())
 }
 

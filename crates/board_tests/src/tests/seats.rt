@@ -3,6 +3,7 @@
 ghost use Rattle.std.specs.Prelude.{◌≡◌};
 
 use crate::tests::answers::Answer::{Done, No};
+use crate::tests::answers::seen;
 use crate::tests::boards::{board_with, four};
 use crate::tests::checks::{check_pinned, check_same};
 use crate::tests::questions::{Asked, to_shift};
@@ -11,7 +12,7 @@ use crate::tests::seat_checks::{
 };
 use crate::tests::seat_steps::SeatStep::{self, Ask, Change as Make, Front, Look, Number, Total};
 use crate::tests::seat_steps::Who::{self, First, Second};
-use crate::tests::seat_steps::{check_end, check_pair, check_seat_steps, check_seats};
+use crate::tests::seat_steps::{Pair, check_end, check_pair, check_seat_steps, check_seats};
 use fixture_board::{Change, Why};
 use moves::Move;
 use shared_board::{Seat, Shared, SplitFault};
@@ -58,11 +59,19 @@ const LATER_ENTRIES: &[(u32, Change)] = &[(2, Change::Shift(HOMES)), (1, Change:
 fn three_seats_each_split_from_the_last(rt: HostRuntime) -> Result<(), Fail> {
     let (shared, mut a, mut copy) = four(rt.alloc())?;
     let mut b = split(&rt, &shared, &mut a)?;
-    let mut c = split(&rt, &shared, &mut b)?;
+    let c = split(&rt, &shared, &mut b)?;
     check_number(&rt, &a, 0);
-    check_seats(&rt, &shared, &mut b, &mut c, &mut copy, LATER_SEATS);
-    absorb(&shared, &mut a, c);
-    check_end(&rt, shared, a, b, 3, LATER_ENTRIES);
+    let mut later = Pair {
+        first: b,
+        second: c,
+    };
+    check_seats(&rt, &shared, &mut later, &mut copy, LATER_SEATS);
+    let Pair {
+        first: second,
+        second: third,
+    } = later;
+    absorb(&shared, &mut a, third);
+    check_end(&rt, shared, Pair { first: a, second }, 3, LATER_ENTRIES);
     Ok(())
 }
 
@@ -83,10 +92,12 @@ const PINNED_AND_UNPINNED: &[(Who, SeatStep)] = &[
 
 #[test]
 fn a_pinned_game_is_unpinned_by_another_seat(rt: HostRuntime) -> Result<(), Fail> {
-    let (shared, mut a, mut copy) = four(rt.alloc())?;
-    let mut b = split(&rt, &shared, &mut a)?;
-    check_seats(&rt, &shared, &mut a, &mut b, &mut copy, PINNED_AND_UNPINNED);
-    let board = close(&rt, shared, a, false);
+    let (shared, mut first, mut copy) = four(rt.alloc())?;
+    let second = split(&rt, &shared, &mut first)?;
+    let mut pair = Pair { first, second };
+    check_seats(&rt, &shared, &mut pair, &mut copy, PINNED_AND_UNPINNED);
+    let Pair { first, second: _ } = pair;
+    let board = close(&rt, shared, first, false);
     check_pinned(&rt, &board, 1, 4, false);
     Ok(())
 }
@@ -150,7 +161,7 @@ fn a_refused_split_draws_no_number(rt: HostRuntime) -> Result<(), Fail> {
     check_refused_split(&rt, &shared, &mut b);
     let done = Done(1, 26, 0).reply();
     check_ask(&rt, &shared, &mut a, to_shift(0, HOMES), done);
-    check_look(&rt, &shared, &mut b, &mut copy, 1, 26);
+    check_look(&rt, &shared, &mut b, &mut copy, &seen(1, 26));
     absorb(&shared, &mut a, b);
     check_held(&rt, &a, 64);
     close(&rt, shared, a, true);

@@ -67,16 +67,15 @@ fn check_made(
     check_same_games(rt, alloc, &schedule, start)
 }
 
-/// What the move makes of the start, and that it tells the touched cells.
+/// What the move makes of the schedule, and that it tells the touched cells.
 fn check_applied(
     rt: &impl Abort,
     alloc: Global,
-    start: &Schedule,
+    mut schedule: Schedule,
     (mv, _, after): Effect,
 ) -> Result<(), Fail> {
-    check(start, mv)?;
-    let touched = touched(start, mv);
-    let mut schedule = start.duplicate(alloc)?;
+    check(&schedule, mv)?;
+    let touched = touched(&schedule, mv);
     check_same_of(rt, &mv, &apply(&mut schedule, mv), &touched);
     check_rounds(rt, alloc, &schedule, touched.rounds, after)
 }
@@ -89,7 +88,7 @@ fn check_effect(
 ) -> Result<(), Fail> {
     check_said(rt, start, effect)?;
     check_made(rt, alloc, start, effect)?;
-    check_applied(rt, alloc, start, effect)
+    check_applied(rt, alloc, start.duplicate(alloc)?, effect)
 }
 
 /// On the start of so many teams.

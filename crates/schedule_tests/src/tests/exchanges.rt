@@ -74,14 +74,15 @@ fn exchange_teams(schedule: &mut Schedule, (i, j, k): (u8, u8, u8)) -> Option<Sl
     Some(among)
 }
 
-/// Teams `i` and `j` of the start of so many teams are exchanged in these rounds, of which `k` is one, and leave the sheet.
+/// Teams `i` and `j`, a round `k`, the rounds in which they are exchanged along with it, and the sheet after that.
+type Exchanged<'a> = ((u8, u8, u8), &'a [u8], &'a str);
+
+/// Two teams of the start of so many teams are exchanged in these rounds, and leave the sheet.
 fn check_teams(
     rt: &impl Abort,
     alloc: Global,
     teams: u8,
-    numbers: (u8, u8, u8),
-    rounds: &[u8],
-    sheet: &str,
+    (numbers, rounds, sheet): Exchanged<'_>,
 ) -> Result<(), Fail> {
     let mut schedule = schedule(alloc, Plan::Berger(teams))?;
     let among = exchange_teams(&mut schedule, numbers);
@@ -91,14 +92,14 @@ fn check_teams(
 
 #[test]
 fn teams_exchanged_in_four_rounds_of_six(rt: HostRuntime) -> Result<(), Fail> {
-    let rounds = &[0, 2, 6, 9];
-    check_teams(&rt, rt.alloc(), 6, (0, 3, 0), rounds, TEAMS_OF_SIX)
+    let exchanged: Exchanged<'_> = ((0, 3, 0), &[0, 2, 6, 9], TEAMS_OF_SIX);
+    check_teams(&rt, rt.alloc(), 6, exchanged)
 }
 
 #[test]
 fn teams_exchanged_in_all_games_of_four_but_their_own(rt: HostRuntime) -> Result<(), Fail> {
-    let rounds = &[0, 2, 3, 5];
-    check_teams(&rt, rt.alloc(), 4, (0, 1, 0), rounds, TEAMS_OF_FOUR)
+    let exchanged: Exchanged<'_> = ((0, 1, 0), &[0, 2, 3, 5], TEAMS_OF_FOUR);
+    check_teams(&rt, rt.alloc(), 4, exchanged)
 }
 
 #[test]
