@@ -30,17 +30,13 @@ struct AfterMove {
 
 /// The move made on a copy of the schedule, where it can be made.
 fn made(rt: &impl Abort, alloc: Global, trial: Trial<'_>) -> Result<Option<AfterMove>, Fail> {
-    let Trial {
-        league,
-        schedule,
-        mv,
-    } = trial;
-    assert!(rt; league.teams() == schedule.teams());
-    if check(schedule, mv).is_err() {
+    let (league, start) = (trial.league, trial.schedule);
+    assert!(rt; league.teams() == start.teams());
+    if check(start, trial.mv).is_err() {
         return Ok(None);
     }
-    let (known, exchange) = (cost_of(schedule, league), exchange(schedule, mv));
-    let mut schedule = schedule.duplicate(alloc)?;
+    let (known, exchange) = (cost_of(start, league), exchange(start, trial.mv));
+    let mut schedule = start.duplicate(alloc)?;
     let cost = make_at_cost(&mut schedule, league, &exchange, known);
     let score = cost.score(league);
     Ok(Some(AfterMove {
@@ -57,17 +53,13 @@ fn tried(
     trial: Trial<'_>,
     most: u64,
 ) -> Result<(Schedule, Option<Cost>), Fail> {
-    let Trial {
-        league,
-        schedule,
-        mv,
-    } = trial;
-    assert!(rt; league.teams() == schedule.teams());
-    if check(schedule, mv).is_err() {
+    let (league, start) = (trial.league, trial.schedule);
+    assert!(rt; league.teams() == start.teams());
+    if check(start, trial.mv).is_err() {
         return Err("a move that can be made".into());
     }
-    let (known, exchange) = (cost_of(schedule, league), exchange(schedule, mv));
-    let mut tried = schedule.duplicate(alloc)?;
+    let (known, exchange) = (cost_of(start, league), exchange(start, trial.mv));
+    let mut tried = start.duplicate(alloc)?;
     let answer = make_within(&mut tried, league, &exchange, known, most);
     Ok((tried, answer))
 }

@@ -50,6 +50,11 @@ const PLAIN: SearchPlan = SearchPlan {
     slack: 0,
 };
 
+/// A search with so much room, by this plan.
+const fn found(room: u32, plan: SearchPlan) -> Answer {
+    Ok(Job::Find { room, plan })
+}
+
 const JOBS: &[Row<'_>] = &[
     (&["ttp", "start"], Ok(Job::Start)),
     (&["ttp", "play"], Ok(Job::Play { room: 1024 })),
@@ -59,65 +64,33 @@ const JOBS: &[Row<'_>] = &[
         &["ttp", "play", "--room=1048576"],
         Ok(Job::Play { room: 1_048_576 }),
     ),
-    (
-        &["ttp", "search"],
-        Ok(Job::Find {
-            room: 1024,
-            plan: SearchPlan {
-                workers: 2,
-                seed: 1,
-                steps: 1000,
-                slack: 0,
-            },
-        }),
-    ),
-    (
-        &["ttp", "search", "--room", "0"],
-        Ok(Job::Find {
-            room: 0,
-            plan: SearchPlan {
-                workers: 2,
-                seed: 1,
-                steps: 1000,
-                slack: 0,
-            },
-        }),
-    ),
+    (&["ttp", "search"], found(1024, PLAIN)),
+    (&["ttp", "search", "--room", "0"], found(0, PLAIN)),
     (
         &["ttp", "search", "--workers", "1", "--steps=0"],
-        Ok(Job::Find {
-            room: 1024,
-            plan: SearchPlan {
+        found(
+            1024,
+            SearchPlan {
                 workers: 1,
-                seed: 1,
                 steps: 0,
-                slack: 0,
+                ..PLAIN
             },
-        }),
+        ),
     ),
     (
         &["ttp", "search", "--seed", "0"],
-        Ok(Job::Find {
-            room: 1024,
-            plan: SearchPlan {
-                workers: 2,
-                seed: 0,
-                steps: 1000,
-                slack: 0,
-            },
-        }),
+        found(1024, SearchPlan { seed: 0, ..PLAIN }),
     ),
     (
         &["ttp", "search", "--slack", "7", "--seed", "8"],
-        Ok(Job::Find {
-            room: 1024,
-            plan: SearchPlan {
-                workers: 2,
+        found(
+            1024,
+            SearchPlan {
                 seed: 8,
-                steps: 1000,
                 slack: 7,
+                ..PLAIN
             },
-        }),
+        ),
     ),
     (
         &[
@@ -129,15 +102,15 @@ const JOBS: &[Row<'_>] = &[
             "--workers=16",
             "--room=1048576",
         ],
-        Ok(Job::Find {
-            room: 1_048_576,
-            plan: SearchPlan {
+        found(
+            1_048_576,
+            SearchPlan {
                 workers: 16,
                 seed: u64::MAX,
                 steps: 1_000_000,
                 slack: u64::MAX,
             },
-        }),
+        ),
     ),
     (&["ttp", "report"], Ok(Job::Report(Format::Text))),
     (
@@ -279,15 +252,14 @@ const OF_EACH_KIND: &[Row<'_>] = &[
     (&["ttp", "start"], Ok(Job::Start)),
     (
         &["ttp", "search", "--workers=16", "--slack", "7"],
-        Ok(Job::Find {
-            room: 1024,
-            plan: SearchPlan {
+        found(
+            1024,
+            SearchPlan {
                 workers: 16,
-                seed: 1,
-                steps: 1000,
                 slack: 7,
+                ..PLAIN
             },
-        }),
+        ),
     ),
     (&["ttp", "play", "--room=x"], Err((ValueValidation, 2))),
     (

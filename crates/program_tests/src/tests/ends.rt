@@ -196,16 +196,35 @@ fn each_command_gives_up_on_reads_that_are_all_interrupted(rt: HostRuntime) {
     }
 }
 
+/// A command, its input, and the text that it writes.
+#[derive(Drop)]
+struct Writing {
+    command: Command,
+    input: String,
+    text: String,
+}
+
+fn writing(alloc: Global, case: &Case<'_>) -> Result<Writing, AllocError> {
+    let (command, input, _, text) = *case;
+    let (input, text) = (input.concat(alloc)?, text.parts().concat(alloc)?);
+    Ok(Writing {
+        command,
+        input,
+        text,
+    })
+}
+
 /// A command whose writes take so many single bytes of its text and then go by these steps leaves a front of as many.
 fn check_front<T: Threads + Wait + Sync + Abort>(
     rt: &T,
     alloc: Global,
-    (command, input): (Command, &[u8]),
+    told: &Writing,
     front: &[u8],
     last: &[Step],
 ) -> Result<(), Fail> {
     let mut steps = bytes_after(alloc, front.len(), 0)?;
     steps.extend_from_slice(last)?;
+    let (command, input) = (told.command, told.input.as_bytes());
     let ended = run_by(rt, alloc, command, (input, &[]), &steps)?;
     let found = (ended.answer, ended.writes, ended.text.as_slice());
     let wanted = (Err(ProgramFault::Write), steps.len() as u64, front);
@@ -219,12 +238,10 @@ fn check_failed_writes<T: Threads + Wait + Sync + Abort>(
     alloc: Global,
     case: &Case<'_>,
 ) -> Result<(), Fail> {
-    let (command, input, _, text) = *case;
-    let (input, text) = (input.concat(alloc)?, text.parts().concat(alloc)?);
-    let told = (command, input.as_bytes());
-    for length in 0..text.len() {
-        let front = &text.as_bytes()[..length];
-        check_front(rt, alloc, told, front, &[Step::Failed])?;
+    let told = writing(alloc, case)?;
+    for length in 0..told.text.len() {
+        let front = &told.text.as_bytes()[..length];
+        check_front(rt, alloc, &told, front, &[Step::Failed])?;
     }
     Ok(())
 }
@@ -243,14 +260,12 @@ fn check_stuck_writes<T: Threads + Wait + Sync + Abort>(
     alloc: Global,
     case: &Case<'_>,
 ) -> Result<(), Fail> {
-    let (command, input, _, text) = *case;
-    let (input, text) = (input.concat(alloc)?, text.parts().concat(alloc)?);
-    let told = (command, input.as_bytes());
-    let last = text.len().saturating_sub(1);
+    let told = writing(alloc, case)?;
+    let last = told.text.len().saturating_sub(1);
     for length in [0, 1, last / 2, last] {
-        let front = text.as_bytes().get(..length).ok_or("a longer text")?;
-        check_front(rt, alloc, told, front, &[Step::Moved(0)])?;
-        check_front(rt, alloc, told, front, &[Step::Again; 1000])?;
+        let front = told.text.as_bytes().get(..length).ok_or("a longer text")?;
+        check_front(rt, alloc, &told, front, &[Step::Moved(0)])?;
+        check_front(rt, alloc, &told, front, &[Step::Again; 1000])?;
     }
     Ok(())
 }

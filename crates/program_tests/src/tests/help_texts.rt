@@ -17,6 +17,16 @@ fn told(alloc: Global, given: &[&str]) -> Result<String, Fail> {
     }
 }
 
+/// What is said of the options of a search and of an improvement.
+const WORKERS_AND_SEED: &[&str] = &[
+    "--workers <W>",
+    "How many workers search at once, 1 to 16",
+    "[default: 2]",
+    "--seed <S>",
+    "What the workers' draws begin with, any number of 64 bits",
+    "[default: 1]",
+];
+
 /// Words, and parts of the text that they are answered with.
 const HELP: &[(&[&str], &[&str])] = &[
     (
@@ -65,12 +75,6 @@ const HELP: &[(&[&str], &[&str])] = &[
         &[
             "Reads a league from standard input, searches in phases that it chooses by itself, and writes\n",
             "each better schedule as soon as it has it, then the history that leads to the best\n",
-            "--workers <W>",
-            "How many workers search at once, 1 to 16",
-            "[default: 2]",
-            "--seed <S>",
-            "What the workers' draws begin with, any number of 64 bits",
-            "[default: 1]",
             "--effort <E>",
             "How many million moves the workers draw together, 1 to 1000",
             "[default: 10]",
@@ -97,12 +101,6 @@ const HELP: &[(&[&str], &[&str])] = &[
             "--room <N>",
             "How many changes the board has room for, 0 to 1048576",
             "[default: 1024]",
-            "--workers <W>",
-            "How many workers search at once, 1 to 16",
-            "[default: 2]",
-            "--seed <S>",
-            "What the workers' draws begin with, any number of 64 bits",
-            "[default: 1]",
             "--steps <T>",
             "How many moves each worker draws, 0 to 1000000",
             "[default: 1000]",
@@ -113,6 +111,8 @@ const HELP: &[(&[&str], &[&str])] = &[
             "ttp search --workers 4 --steps 200000 --slack 8 --room 1048576 < leagues/circular-10.json\n",
         ],
     ),
+    (&["ttp", "improve", "--help"], WORKERS_AND_SEED),
+    (&["ttp", "search", "--help"], WORKERS_AND_SEED),
     // the program is called ttp whatever it was run as
     (&["/tmp/program", "--help"], &["Usage: ttp <COMMAND>\n"]),
     (

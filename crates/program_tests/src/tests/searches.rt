@@ -25,52 +25,37 @@ fn search_without_steps_writes_the_start(rt: HostRuntime) -> Result<(), Fail> {
     Ok(())
 }
 
+/// A search without a step, with so much room and so many workers.
+const fn search_of(room: u32, workers: u32) -> Command {
+    let plan = SearchPlan {
+        workers,
+        ..NO_STEPS
+    };
+    Command::Find { room, plan }
+}
+
 /// The first fault is answered.
 const FAULTS: &[Case<'_>] = &[
     (
-        Command::Find {
-            room: 1_048_577,
-            plan: SearchPlan {
-                workers: 0,
-                ..NO_STEPS
-            },
-        },
+        search_of(1_048_577, 0),
         &[CIRCLE],
         Err(ProgramFault::Room),
         NOTHING,
     ),
     (
-        Command::Find {
-            room: 1024,
-            plan: SearchPlan {
-                workers: 0,
-                ..NO_STEPS
-            },
-        },
+        search_of(1024, 0),
         &[CIRCLE],
         Err(ProgramFault::Workers),
         NOTHING,
     ),
     (
-        Command::Find {
-            room: 1024,
-            plan: SearchPlan {
-                workers: 17,
-                ..NO_STEPS
-            },
-        },
+        search_of(1024, 17),
         &[CIRCLE],
         Err(ProgramFault::Workers),
         NOTHING,
     ),
     (
-        Command::Find {
-            room: 1024,
-            plan: SearchPlan {
-                workers: 0,
-                ..NO_STEPS
-            },
-        },
+        search_of(1024, 0),
         &[""],
         Err(ProgramFault::League(LeagueFault::NotJson)),
         NOTHING,

@@ -3,11 +3,15 @@
 use crate::tests::circle::SHEET;
 use crate::tests::samples::SCRIPT;
 use crate::tests::told::Text::{Excerpt, Whole};
-use crate::tests::told::{Case, Command, NOTHING, PLAY_OF_1024, WRITTEN, check_cases};
+use crate::tests::told::{Case, Command, NOTHING, PLAY_OF_1024, WRITTEN, check_case, check_cases};
 use commands::ProgramFault::League;
 use league::Field;
 use league::LeagueFault::{RuleClass, WrongKind};
+use std::alloc::Global;
+use std::process::Abort;
+use std::sync::Wait;
 use std::test::Fail;
+use std::thread::Threads;
 
 /// Four teams in a circle in each format, up to the members that are told besides, and the end of the text.
 const FIRST: &str =
@@ -113,121 +117,96 @@ fn leagues_are_refused_with_their_faults(rt: HostRuntime) -> Result<(), Fail> {
     check_cases(&rt, rt.alloc(), REFUSED)
 }
 
-/// Scripts on leagues of format 2, with the lines before the history and the last line.
-const PLAYS: &[Case<'_>] = &[
+/// A league of format 2 or 1 and a script, how the answer begins, and how it ends.
+type Play<'a> = (&'a [&'a str], &'a str, &'a str);
+
+/// Plays with the lines before the history and the last line.
+const PLAYS: &[Play<'_>] = &[
     // the order of the start
     (
-        PLAY_OF_1024,
         &[SECOND, FIDE, END, SCRIPT],
-        WRITTEN,
-        Excerpt(
-            "start travel 30 hard 0 soft 0\nhistory ",
-            &[],
-            "best 30 at 0\n",
-        ),
+        "start travel 30 hard 0 soft 0\nhistory ",
+        "best 30 at 0\n",
     ),
     (
-        PLAY_OF_1024,
         &[SECOND, FIDE_TWO_IN_A_ROW, END, SCRIPT],
-        WRITTEN,
-        Excerpt(
-            "start travel 30 hard 0 soft 0\nhistory ",
-            &[],
-            "best 30 at 0\n",
-        ),
+        "start travel 30 hard 0 soft 0\nhistory ",
+        "best 30 at 0\n",
     ),
     (
-        PLAY_OF_1024,
         &[SECOND, r#","at_most":2"#, END, SCRIPT],
-        WRITTEN,
-        Excerpt(
-            "start travel 30 hard 2 soft 0\nhistory ",
-            &[],
-            "best none\n",
-        ),
+        "start travel 30 hard 2 soft 0\nhistory ",
+        "best none\n",
     ),
     (
-        PLAY_OF_1024,
         &[SECOND, FIDE, END, SCRIPT, "rounds 2 3"],
-        WRITTEN,
-        Excerpt(
-            "start travel 30 hard 0 soft 0\ndone 1 travel 30 hard 0 soft 0\nhistory ",
-            &[],
-            "best 30 at 0\n",
-        ),
+        "start travel 30 hard 0 soft 0\ndone 1 travel 30 hard 0 soft 0\nhistory ",
+        "best 30 at 0\n",
     ),
     // how far home games may be apart
     (
-        PLAY_OF_1024,
         &[SECOND, IN_STEP, END, SCRIPT, "homes 1 2"],
-        WRITTEN,
-        Excerpt(
-            "start travel 30 hard 0 soft 10\ndone 1 travel 26 hard 0 soft 30\nhistory ",
-            &[],
-            "best 40 at 0\n",
-        ),
+        "start travel 30 hard 0 soft 10\ndone 1 travel 26 hard 0 soft 30\nhistory ",
+        "best 40 at 0\n",
     ),
     (
-        PLAY_OF_1024,
         &[SECOND, FIDE_IN_STEP, END, SCRIPT],
-        WRITTEN,
-        Excerpt(
-            "start travel 30 hard 1 soft 0\nhistory ",
-            &[],
-            "best none\n",
-        ),
+        "start travel 30 hard 1 soft 0\nhistory ",
+        "best none\n",
     ),
     // phases
     (
-        PLAY_OF_1024,
         &[SECOND, END, SCRIPT, "rounds 3 4"],
-        WRITTEN,
-        Excerpt(
-            "start travel 30 hard 0 soft 0\ndone 1 travel 26 hard 0 soft 0\nhistory ",
-            &[],
-            "best 26 at 1\n",
-        ),
+        "start travel 30 hard 0 soft 0\ndone 1 travel 26 hard 0 soft 0\nhistory ",
+        "best 26 at 1\n",
     ),
     (
-        PLAY_OF_1024,
         &[SECOND, PHASED, END, SCRIPT, "rounds 3 4\nundo"],
-        WRITTEN,
-        Excerpt(
-            "start travel 30 hard 0 soft 0\ndone 1 travel 26 hard 4 soft 0\ndone 2 travel 30 hard 0 soft 0\nhistory ",
-            &[],
-            "best 30 at 0\n",
-        ),
+        "start travel 30 hard 0 soft 0\ndone 1 travel 26 hard 4 soft 0\ndone 2 travel 30 hard 0 soft 0\nhistory ",
+        "best 30 at 0\n",
     ),
     (
-        PLAY_OF_1024,
         &[SECOND, PHASED, END, SCRIPT, "slack 0\nrounds 3 4"],
-        WRITTEN,
-        Excerpt(
-            "start travel 30 hard 0 soft 0\nslack 0\nno 0 worse\nhistory ",
-            &[],
-            "best 30 at 0\n",
-        ),
+        "start travel 30 hard 0 soft 0\nslack 0\nno 0 worse\nhistory ",
+        "best 30 at 0\n",
     ),
     (
-        PLAY_OF_1024,
         &[SECOND, PHASED, END, SCRIPT, "rounds 1 2"],
-        WRITTEN,
-        Excerpt(
-            "start travel 30 hard 0 soft 0\ndone 1 travel 28 hard 0 soft 0\nhistory ",
-            &[],
-            "best 28 at 1\n",
-        ),
+        "start travel 30 hard 0 soft 0\ndone 1 travel 28 hard 0 soft 0\nhistory ",
+        "best 28 at 1\n",
     ),
     (
-        PLAY_OF_1024,
         &[SECOND, FIDE_AND_PHASED, END, SCRIPT],
-        WRITTEN,
-        Excerpt(
-            "start travel 30 hard 0 soft 0\nhistory ",
-            &[],
-            "best 30 at 0\n",
-        ),
+        "start travel 30 hard 0 soft 0\nhistory ",
+        "best 30 at 0\n",
     ),
+    // the first format ignores both members
+    (
+        &[FIRST, PHASED, END, SCRIPT, "rounds 3 4"],
+        "",
+        "best 26 at 1\n",
+    ),
+];
+
+fn check_play<T: Threads + Wait + Sync + Abort>(
+    rt: &T,
+    alloc: Global,
+    (input, first, last): Play<'_>,
+) -> Result<(), Fail> {
+    let text = Excerpt(first, &[], last);
+    check_case(rt, alloc, &(PLAY_OF_1024, input, WRITTEN, text))
+}
+
+#[test]
+fn scripts_have_known_answers(rt: HostRuntime) -> Result<(), Fail> {
+    for &play in PLAYS {
+        check_play(&rt, rt.alloc(), play)?;
+    }
+    Ok(())
+}
+
+/// Plays with a sheet that is the plain start's.
+const SHEETS: &[Case<'_>] = &[
     // FIDE's order with its rounds 2 and 3 exchanged is the plain start
     (
         PLAY_OF_1024,
@@ -242,15 +221,9 @@ const PLAYS: &[Case<'_>] = &[
         WRITTEN,
         Excerpt("", &[SHEET], ""),
     ),
-    (
-        PLAY_OF_1024,
-        &[FIRST, PHASED, END, SCRIPT, "rounds 3 4"],
-        WRITTEN,
-        Excerpt("", &[], "best 26 at 1\n"),
-    ),
 ];
 
 #[test]
-fn scripts_have_known_answers(rt: HostRuntime) -> Result<(), Fail> {
-    check_cases(&rt, rt.alloc(), PLAYS)
+fn scripts_lead_to_the_plain_start(rt: HostRuntime) -> Result<(), Fail> {
+    check_cases(&rt, rt.alloc(), SHEETS)
 }
