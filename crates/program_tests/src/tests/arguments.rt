@@ -1,5 +1,6 @@
-//! The command line: jobs, mistakes with their statuses, and want of memory: `rt try --test --fail-alloc N` refuses the Nth allocation of each test. A test `.._tells_refused_memory` passes at every N;
-//! `.._with_ample_memory` fails while N is among its allocations.
+//! The command line: jobs, mistakes with their statuses, and want of memory: `rt try --test --fail-alloc N` refuses the Nth
+//! allocation of each test. A test `.._tells_refused_memory` passes at every N; `.._with_ample_memory` fails while N is among
+//! its allocations.
 
 use crate::tests::checks::{check_holds, check_same, check_same_of};
 use crate::tests::distinct::are_distinct;

@@ -216,8 +216,8 @@ fn run<C: Clock, W: Sink>(rt: &impl Wait, line: &ProgressLine<'_, C, W>, telling
     line.ended(rt);
 }
 
-/// After a quarter of a second the first run shows the line, and its end takes it away. The first telling of the second run writes it again,
-/// though a millisecond has passed.
+/// After a quarter of a second the first run shows the line, and its end takes it away. The first telling of the second run writes it
+/// again, though a millisecond has passed.
 #[test]
 fn line_comes_again_in_the_next_run(rt: HostRuntime) {
     let mut room = [0; 1000];
