@@ -230,8 +230,9 @@ pub(crate) fn check_games(rt: &impl Abort, league: &League, rule: usize, said: G
     assert!(rt; rule < league.rule_count());
     let found = games_of(&league.rule(rule).body);
     check_same_of(rt, &rule, &found, &Some(said.games));
-    let values = ("GA1", None, said.wanted);
-    check_body(rt, league, rule, values, (None, None, Some(said.slots)));
+    let wanted = said.wanted;
+    let sets = (None, None, Some(said.slots));
+    check_body(rt, league, rule, ("GA1", None, wanted), sets);
 }
 
 const GAME_RULES: &str =
