@@ -2,8 +2,4 @@
 #![tactic(auto)]
 
 #[cfg(test)]
-mod hints;
-#[cfg(test)]
-mod memory;
-#[cfg(test)]
-mod remarks;
+mod tests;

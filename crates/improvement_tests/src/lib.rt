@@ -2,6 +2,4 @@
 #![tactic(auto)]
 
 #[cfg(test)]
-mod circles;
-#[cfg(test)]
-mod ends;
+mod tests;

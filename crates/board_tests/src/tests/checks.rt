@@ -1,0 +1,96 @@
+//! One assertion each. A test that is a row of such calls is proved much faster than one with as many assertions of its own,
+//! since each carries all that is alive in it. A table that a function of `steps.rt` reads is proved faster still.
+
+use crate::tests::answers::{is_pinned, round_of, travels};
+use crate::tests::questions::{ask_board, pin, shift, undo, unpin};
+use fixture_board::{Ask, Best, Board, Change, Cost, Entry, Reply};
+use fixtures::{Game, Schedule};
+use moves::Move;
+use std::fmt::Debug;
+use std::process::Abort;
+
+/// The two are equal. An assertion takes as long to prove as five calls, so it stands here once for all types.
+pub(crate) fn check_same<T: PartialEq + Debug>(rt: &impl Abort, found: &T, wanted: &T) {
+    assert_eq!(rt; found, wanted);
+}
+
+/// The two are equal, which are about something.
+pub(crate) fn check_same_of<T: PartialEq + Debug>(
+    rt: &impl Abort,
+    about: &impl Debug,
+    found: &T,
+    wanted: &T,
+) {
+    assert_eq!(rt; found, wanted, "{about:?}");
+}
+
+/// What is asked by a call of its own is answered so.
+pub(crate) fn check_ask(rt: &impl Abort, board: &mut Board, caller: u32, ask: Ask, reply: Reply) {
+    check_same_of(rt, &ask, &ask_board(board, caller, ask), &reply);
+}
+
+/// What is asked by the call for all, as caller 0, is answered so.
+pub(crate) fn check_answer(rt: &impl Abort, board: &mut Board, ask: Ask, reply: Reply) {
+    check_same_of(rt, &ask, &board.answer(0, ask), &reply);
+}
+
+// what is asked at the board's version, as caller 0, is answered so
+
+pub(crate) fn check_shift(rt: &impl Abort, board: &mut Board, mv: Move, reply: Reply) {
+    check_same_of(rt, &mv, &shift(board, mv), &reply);
+}
+
+pub(crate) fn check_pin(rt: &impl Abort, board: &mut Board, game: Game, reply: Reply) {
+    check_same_of(rt, &("to pin", game), &pin(board, game), &reply);
+}
+
+pub(crate) fn check_unpin(rt: &impl Abort, board: &mut Board, game: Game, reply: Reply) {
+    check_same_of(rt, &("to unpin", game), &unpin(board, game), &reply);
+}
+
+pub(crate) fn check_undo(rt: &impl Abort, board: &mut Board, reply: Reply) {
+    check_same_of(rt, &"an undo", &undo(board), &reply);
+}
+
+// what a board shows; its teams and rounds count from 1
+
+pub(crate) fn check_best(rt: &impl Abort, board: &Board, best: Option<Best>) {
+    check_same(rt, &board.best(), &best);
+}
+
+pub(crate) fn check_no_best_schedule(rt: &impl Abort, board: &Board) {
+    check_same(rt, &board.best_schedule().is_none(), &true);
+}
+
+/// In the best schedule the two teams meet in this round.
+pub(crate) fn check_best_round(rt: &impl Abort, board: &Board, home: u8, away: u8, round: u8) {
+    let best = board.best_schedule().expect(rt, "a best schedule");
+    check_round(rt, best, home, away, round);
+}
+
+pub(crate) fn check_entry(rt: &impl Abort, board: &Board, i: u64, caller: u32, change: Change) {
+    assert!(rt; i < board.version());
+    check_same(rt, &board.entry(i), &Entry { caller, change });
+}
+
+pub(crate) fn check_cost(rt: &impl Abort, board: &Board, cost: Cost) {
+    check_same(rt, &board.cost(), &cost);
+}
+
+pub(crate) fn check_version(rt: &impl Abort, board: &Board, version: u64) {
+    check_same(rt, &board.version(), &version);
+}
+
+pub(crate) fn check_pinned(rt: &impl Abort, board: &Board, home: u8, away: u8, is: bool) {
+    let found = is_pinned(rt, board, home, away);
+    check_same_of(rt, &("pinned", home, away), &found, &is);
+}
+
+pub(crate) fn check_round(rt: &impl Abort, schedule: &Schedule, home: u8, away: u8, round: u8) {
+    let found = round_of(rt, schedule, home, away);
+    check_same_of(rt, &("the round", home, away), &found, &round);
+}
+
+pub(crate) fn check_travels(rt: &impl Abort, board: &Board, tours: [u64; 4]) {
+    check_same(rt, &travels(rt, board), &tours);
+}

@@ -1,0 +1,152 @@
+//! Moves within a limit, against the same moves made whatever they cost.
+
+use crate::tests::answers::have_same_games;
+use crate::tests::checks::check_same_of;
+use crate::tests::drawn_numbers::drawn_move;
+use crate::tests::kept_cost::league;
+use fixture_board::{Cost, cost_of, make_at_cost, make_within};
+use fixtures::{Schedule, start};
+use league::League;
+use moves::{Move, check, exchange};
+use std::alloc::Global;
+use std::process::Abort;
+use std::test::Fail;
+
+/// A move on a schedule of a league.
+#[derive(Clone, Copy)]
+struct Trial<'a> {
+    league: &'a League,
+    schedule: &'a Schedule,
+    mv: Move,
+}
+
+/// A schedule after a move that can be made.
+#[derive(Drop)]
+struct AfterMove {
+    schedule: Schedule,
+    cost: Cost,
+    score: u64,
+}
+
+/// The move made on a copy of the schedule, where it can be made.
+fn made(rt: &impl Abort, alloc: Global, trial: Trial<'_>) -> Result<Option<AfterMove>, Fail> {
+    let (league, start) = (trial.league, trial.schedule);
+    assert!(rt; league.teams() == start.teams());
+    if check(start, trial.mv).is_err() {
+        return Ok(None);
+    }
+    let (known, exchange) = (cost_of(start, league), exchange(start, trial.mv));
+    let mut schedule = start.duplicate(alloc)?;
+    let cost = make_at_cost(&mut schedule, league, &exchange, known);
+    let score = cost.score(league);
+    Ok(Some(AfterMove {
+        schedule,
+        cost,
+        score,
+    }))
+}
+
+/// A copy of the schedule on which the move was tried within a limit, and the answer.
+fn tried(
+    rt: &impl Abort,
+    alloc: Global,
+    trial: Trial<'_>,
+    most: u64,
+) -> Result<(Schedule, Option<Cost>), Fail> {
+    let (league, start) = (trial.league, trial.schedule);
+    assert!(rt; league.teams() == start.teams());
+    if check(start, trial.mv).is_err() {
+        return Err("a move that can be made".into());
+    }
+    let (known, exchange) = (cost_of(start, league), exchange(start, trial.mv));
+    let mut tried = start.duplicate(alloc)?;
+    let answer = make_within(&mut tried, league, &exchange, known, most);
+    Ok((tried, answer))
+}
+
+/// Within a limit a move is made as it is made without one, or not at all.
+fn check_limit(
+    rt: &impl Abort,
+    alloc: Global,
+    trial: Trial<'_>,
+    made: &AfterMove,
+    most: u64,
+) -> Result<(), Fail> {
+    let (tried, answer) = tried(rt, alloc, trial, most)?;
+    let (cost, left) = if made.score <= most {
+        (Some(made.cost), &made.schedule)
+    } else {
+        (None, trial.schedule)
+    };
+    let is_left = have_same_games(&tried, left);
+    check_same_of(rt, &(trial.mv, most), &(answer, is_left), &(cost, true));
+    Ok(())
+}
+
+/// The least and the greatest limit, and those around a score.
+fn limits_around(score: u64) -> [u64; 5] {
+    [
+        0,
+        score.saturating_sub(1),
+        score,
+        score.saturating_add(1),
+        u64::MAX,
+    ]
+}
+
+/// Tries a move at limits around the score after it, each time from the same schedule, and then makes it. Tells
+/// whether it can be made.
+fn keeps_limits(
+    rt: &impl Abort,
+    alloc: Global,
+    league: &League,
+    schedule: &mut Schedule,
+    mv: Move,
+) -> Result<bool, Fail> {
+    let trial = Trial {
+        league,
+        schedule,
+        mv,
+    };
+    let Some(made) = made(rt, alloc, trial)? else {
+        return Ok(false);
+    };
+    for most in limits_around(made.score) {
+        check_limit(rt, alloc, trial, &made, most)?;
+    }
+    schedule.copy_from(&made.schedule);
+    Ok(true)
+}
+
+/// Over moves that are drawn, of which a fourth at least has to be made.
+fn check_moves(
+    rt: &impl Abort,
+    alloc: Global,
+    state: &mut u64,
+    teams: u8,
+    moves: u64,
+) -> Result<(), Fail> {
+    let league = league(alloc, teams)?;
+    let mut schedule = start(alloc, &league)?;
+    let mut made: u64 = 0;
+    for _ in 0..moves {
+        let mv = drawn_move(state, teams);
+        if keeps_limits(rt, alloc, &league, &mut schedule, mv)? {
+            made = made.saturating_add(1);
+        }
+    }
+    assert!(rt; made > moves / 4, "{teams} teams");
+    Ok(())
+}
+
+/// Numbers of teams, and of moves of so many.
+const SIZES: &[(u8, u64)] = &[(4, 400), (6, 300), (10, 200)];
+
+#[test]
+fn a_move_is_made_where_its_score_is_within_the_limit(rt: HostRuntime) -> Result<(), Fail> {
+    let mut state = 5;
+    for &(teams, moves) in SIZES {
+        check_moves(&rt, rt.alloc(), &mut state, teams, moves)?;
+    }
+    Ok(())
+}

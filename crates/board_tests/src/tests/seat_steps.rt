@@ -1,0 +1,151 @@
+//! What two seats of a shared board do, one after the other, in tables.
+
+ghost use Rattle.std.specs.Prelude.{◌≡◌};
+
+use crate::tests::answers::{Answer, seen};
+use crate::tests::boards::four_with_room;
+use crate::tests::checks::{check_entry, check_same, check_version};
+use crate::tests::questions::Asked;
+use crate::tests::seat_checks::{
+    absorb, check_ask, check_done, check_front, check_look, check_number, check_seat, check_total,
+    close, split,
+};
+use fixture_board::{Board, Change};
+use fixtures::Schedule;
+use shared_board::{Seat, Shared};
+use std::alloc::Global;
+use std::process::Abort;
+use std::sync::Wait;
+use std::test::Fail;
+
+/// Two seats of a shared board.
+#[derive(Drop)]
+pub(crate) struct Pair {
+    pub(crate) first: Seat,
+    pub(crate) second: Seat,
+}
+
+#[derive(Clone, Copy)]
+pub(crate) enum Who {
+    First,
+    Second,
+}
+
+/// What a seat asks or shows.
+#[derive(Clone, Copy)]
+pub(crate) enum SeatStep {
+    Ask(Asked, Answer),
+    /// A change that is made as this version, whatever it costs.
+    Change(Asked, u64),
+    Front(u64),
+    /// The least total.
+    Total(Option<u64>),
+    /// The version and the travel.
+    Look(u64, u64),
+    /// How many entries are its own.
+    Accepted(u64),
+    Number(u32),
+}
+
+fn check_seat_step<R: Wait + Abort>(
+    rt: &R,
+    shared: &Shared,
+    seat: &mut Seat,
+    copy: &mut Schedule,
+    step: SeatStep,
+)
+    requires { seat.old.table ≡ shared.now }
+    ensures { seat.new.table ≡ shared.now }
+{
+    match step {
+        SeatStep::Ask(asked, answer) => {
+            check_ask(rt, shared, seat, asked.ask(), answer.reply());
+        }
+        SeatStep::Change(asked, version) => check_done(rt, shared, seat, asked.ask(), version),
+        SeatStep::Front(front) => check_front(rt, shared, seat, front),
+        SeatStep::Total(best) => check_total(rt, shared, seat, best),
+        SeatStep::Look(version, travel) => {
+            check_look(rt, shared, seat, copy, &seen(version, travel));
+        }
+        SeatStep::Accepted(accepted) => check_same(rt, &seat.accepted(), &accepted),
+        SeatStep::Number(number) => check_number(rt, seat, number),
+    }
+}
+
+/// The copy is one to look into.
+pub(crate) fn check_seat_steps<R: Wait + Abort>(
+    rt: &R,
+    shared: &Shared,
+    seat: &mut Seat,
+    copy: &mut Schedule,
+    steps: &[SeatStep],
+)
+    requires { seat.old.table ≡ shared.now }
+    ensures { seat.new.table ≡ shared.now }
+{
+    for &step in steps {
+        check_seat_step(rt, shared, seat, copy, step);
+    }
+}
+
+pub(crate) fn check_seats<R: Wait + Abort>(
+    rt: &R,
+    shared: &Shared,
+    pair: &mut Pair,
+    copy: &mut Schedule,
+    steps: &[(Who, SeatStep)],
+)
+    requires one { pair.old.first.table ≡ shared.now }
+    requires other { pair.old.second.table ≡ shared.now }
+    ensures one { pair.new.first.table ≡ shared.now }
+    ensures other { pair.new.second.table ≡ shared.now }
+{
+    for &(who, step) in steps {
+        match who {
+            Who::First => check_seat_step(rt, shared, &mut pair.first, copy, step),
+            Who::Second => check_seat_step(rt, shared, &mut pair.second, copy, step),
+        }
+    }
+}
+
+/// The first seat takes the second in, and then holds so many numbers. It has seen and accounts for these entries, which are
+/// all that the board has when it is closed.
+pub(crate) fn check_end<R: Wait + Abort>(
+    rt: &R,
+    shared: Shared,
+    pair: Pair,
+    held: u32,
+    entries: &[(u32, Change)],
+)
+    requires { (pair.first.table ≡ shared) × (pair.second.table ≡ shared) }
+{
+    let Pair { mut first, second } = pair;
+    absorb(&shared, &mut first, second);
+    let count = entries.len() as u64;
+    check_seat(rt, &first, held, count, count);
+    check_history(rt, &close(rt, shared, first, true), entries);
+}
+
+/// Two seats of a new shared board with room for so many entries, to its end with these.
+pub(crate) fn check_pair<R: Wait + Abort>(
+    rt: &R,
+    alloc: Global,
+    room: u32,
+    steps: &[(Who, SeatStep)],
+    entries: &[(u32, Change)],
+) -> Result<(), Fail> {
+    let (shared, mut first, mut copy) = four_with_room(alloc, room)?;
+    let second = split(rt, &shared, &mut first)?;
+    let mut pair = Pair { first, second };
+    check_seats(rt, &shared, &mut pair, &mut copy, steps);
+    check_end(rt, shared, pair, 2, entries);
+    Ok(())
+}
+
+/// Just these entries, each by its caller.
+pub(crate) fn check_history(rt: &impl Abort, board: &Board, entries: &[(u32, Change)]) {
+    check_version(rt, board, entries.len() as u64);
+    for (i, &(caller, change)) in entries.iter().enumerate() {
+        check_entry(rt, board, i as u64, caller, change);
+    }
+}

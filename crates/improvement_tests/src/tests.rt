@@ -1,0 +1,4 @@
+//! The tests by subject, and what they share.
+
+mod circles;
+mod ends;

@@ -1,0 +1,14 @@
+//! The tests by subject, and what they share.
+
+mod checks;
+mod equality;
+mod faults;
+mod formats;
+mod hostile;
+mod league_texts;
+mod members;
+mod memory;
+mod rule_faults;
+mod rules;
+mod team_and_slot_sets;
+mod values;

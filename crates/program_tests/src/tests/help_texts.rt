@@ -1,0 +1,156 @@
+//! What the help, the version and mistakes say.
+
+use crate::tests::arguments::words;
+use crate::tests::checks::check_same_of;
+use crate::tests::told::missing;
+use command_line::args;
+use std::alloc::Global;
+use std::process::Abort;
+use std::test::Fail;
+
+/// The text that these words are answered with.
+fn told(alloc: Global, given: &[&str]) -> Result<String, Fail> {
+    let words = words(alloc, given)?;
+    match args(alloc, &words) {
+        Ok(_) => Err(Fail::new("the words pass")),
+        Err(error) => Ok(format!(in alloc; "{error}")?),
+    }
+}
+
+/// What is said of the options of a search and of an improvement.
+const WORKERS_AND_SEED: &[&str] = &[
+    "--workers <W>",
+    "How many workers search at once, 1 to 16",
+    "[default: 2]",
+    "--seed <S>",
+    "What the workers' draws begin with, any number of 64 bits",
+    "[default: 1]",
+];
+
+/// Words, and parts of the text that they are answered with.
+const HELP: &[(&[&str], &[&str])] = &[
+    (
+        &["ttp", "--help"],
+        &[
+            "A fixture board for the Travelling Tournament Problem\n",
+            "\n  start ",
+            "\n  play ",
+            "\n  improve ",
+            "\n  search ",
+            "\n  report ",
+            "\nOptions:\n  -h, --help     Print help\n  -V, --version  Print version\n\n",
+            "Example:\n  ttp improve < leagues/circular-4.json\n",
+        ],
+    ),
+    (
+        &["ttp", "start", "--help"],
+        &[
+            "Reads a league from standard input and writes the sheet of its Berger start\n",
+            "Example:\n  ttp start < leagues/circular-4.json\n",
+        ],
+    ),
+    (
+        &["ttp", "play", "--help"],
+        &[
+            "Reads a league, a line `script` and script lines from standard input, plays them on a new\n",
+            "board, and writes an answer to each line, the history, the sheet and the best version\n",
+            "--room <N>",
+            "How many changes the board has room for, 0 to 1048576",
+            "[default: 1024]",
+            "docs/script.md",
+            "\n  homes I J ",
+            "\n  rounds K L ",
+            "\n  teams I J ",
+            "\n  part-rounds I K L ",
+            "\n  part-teams I J K ",
+            "\n  pin R H A ",
+            "\n  unpin R H A ",
+            "\n  undo ",
+            "\n  slack S ",
+            "echo script; echo 'homes 1 2'; echo undo) | ttp play --room 8\n",
+        ],
+    ),
+    (
+        &["ttp", "improve", "--help"],
+        &[
+            "Reads a league from standard input, searches in phases that it chooses by itself, and writes\n",
+            "each better schedule as soon as it has it, then the history that leads to the best\n",
+            "--effort <E>",
+            "How many million moves the workers draw together, 1 to 1000",
+            "[default: 10]",
+            "docs/improve.md",
+            "ttp improve --workers 4 --effort 100 < leagues/circular-10.json\n",
+        ],
+    ),
+    (
+        &["ttp", "report", "--help"],
+        &[
+            "Reads a league, a line `sheet` and a schedule from standard input, and writes whether it is a\n",
+            "and 3 where it isn't.\n",
+            "docs/report.md",
+            "--format <FORMAT>",
+            "How the report is written: text, csv (the games) or html (a page for a browser)",
+            "[default: text]",
+        ],
+    ),
+    (
+        &["ttp", "search", "--help"],
+        &[
+            "Reads a league from standard input, has workers search for a cheaper schedule on one board,\n",
+            "and writes their counts, the history, the sheet of the best schedule and the best version\n",
+            "--room <N>",
+            "How many changes the board has room for, 0 to 1048576",
+            "[default: 1024]",
+            "--steps <T>",
+            "How many moves each worker draws, 0 to 1000000",
+            "[default: 1000]",
+            "--slack <X>",
+            "By how much a score may rise at the first step, any number of 64 bits; it falls in a line, to X / T at the last",
+            "[default: 0]",
+            "docs/search.md",
+            "ttp search --workers 4 --steps 200000 --slack 8 --room 1048576 < leagues/circular-10.json\n",
+        ],
+    ),
+    (&["ttp", "improve", "--help"], WORKERS_AND_SEED),
+    (&["ttp", "search", "--help"], WORKERS_AND_SEED),
+    // the program is called ttp whatever it was run as
+    (&["/tmp/program", "--help"], &["Usage: ttp <COMMAND>\n"]),
+    (
+        &["/tmp/program", "play", "--help"],
+        &["Usage: ttp play [OPTIONS]\n"],
+    ),
+    (&["program", "start", "now"], &["Usage: ttp start\n"]),
+];
+
+#[test]
+fn help_tells_what_is_read_and_written(rt: HostRuntime) -> Result<(), Fail> {
+    for (given, parts) in HELP {
+        let text = told(rt.alloc(), given)?;
+        check_same_of(&rt, &text, &missing(text.as_str(), parts), &None);
+    }
+    Ok(())
+}
+
+/// Words, and the text that they are answered with.
+const TEXTS: &[(&[&str], &str)] = &[
+    // the version is a line of its own
+    (&["ttp", "--version"], "ttp 0.1.0\n"),
+    (&["ttp", "-V"], "ttp 0.1.0\n"),
+    (&["/tmp/program", "--version"], "ttp 0.1.0\n"),
+    // a wrong format is told which there are
+    (
+        &["ttp", "report", "--format", "pdf"],
+        "error: invalid value 'pdf' for '--format <FORMAT>'\n  \
+        [possible values: text, csv, html]\n\nUsage: ttp report [OPTIONS]\n\n\
+        For more information, try '--help'.\n",
+    ),
+];
+
+#[test]
+fn versions_and_mistakes_have_their_texts(rt: HostRuntime) -> Result<(), Fail> {
+    for (given, wanted) in TEXTS {
+        let text = told(rt.alloc(), given)?;
+        check_same_of(&rt, given, &text.as_str(), wanted);
+    }
+    Ok(())
+}

@@ -1,0 +1,254 @@
+//! The command `improve`: its words, its faults, its text, and its line on a terminal.
+
+ghost use Rattle.std.specs.Prelude.{◌≡◌};
+
+use crate::tests::arguments::words;
+use crate::tests::checks::{check_holds, check_same, check_same_of};
+use crate::tests::circle::CIRCLE;
+use crate::tests::closings::{closing, script};
+use clap::error::ErrorKind;
+use command_line::{Job, args};
+use commands::{ImprovePlan, ProgramFault, ProgressLine, improve, improve_with, play};
+use league::LeagueFault;
+use search::{Gate, Progress};
+use std::alloc::{AllocError, Global};
+use std::io;
+use std::process::Abort;
+use std::sync::Wait;
+use std::sync::atomic::{AtomicU64, Ordering};
+use std::test::Fail;
+use std::thread::Threads;
+use std::time::{Clock, Duration};
+use streams::{MemorySink, MemorySource, Sink};
+
+/// Words, and the workers, the seed and the effort of the improvement that they ask for.
+const PLANS: &[(&[&str], (u32, u64, u32))] = &[
+    (&["ttp", "improve"], (2, 1, 10_000_000)),
+    (&["ttp", "improve", "--effort", "1"], (2, 1, 1_000_000)),
+    (
+        &[
+            "ttp",
+            "improve",
+            "--effort=1000",
+            "--seed=18446744073709551615",
+            "--workers=16",
+        ],
+        (16, u64::MAX, 1_000_000_000),
+    ),
+];
+
+/// Words, and what is told in place of a job.
+const MISTAKES: &[(&[&str], ErrorKind)] = &[
+    (
+        &["ttp", "improve", "--effort", "0"],
+        ErrorKind::ValueValidation,
+    ),
+    (
+        &["ttp", "improve", "--effort", "1001"],
+        ErrorKind::ValueValidation,
+    ),
+    (
+        &["ttp", "improve", "--workers", "17"],
+        ErrorKind::ValueValidation,
+    ),
+    (
+        &["ttp", "improve", "--slack", "1"],
+        ErrorKind::UnknownArgument,
+    ),
+    (
+        &["ttp", "improve", "--room", "8"],
+        ErrorKind::UnknownArgument,
+    ),
+    (&["ttp", "improve", "--help"], ErrorKind::DisplayHelp),
+];
+
+fn answer(alloc: Global, given: &[&str]) -> Result<Result<Job, ErrorKind>, AllocError> {
+    match args(alloc, &words(alloc, given)?) {
+        Ok(job) => Ok(Ok(job)),
+        Err(error) => Ok(Err(error.kind())),
+    }
+}
+
+#[test]
+fn command_line_asks_for_an_improvement(rt: HostRuntime) -> Result<(), Fail> {
+    for (given, (workers, seed, effort)) in PLANS {
+        let (workers, seed, effort) = (*workers, *seed, *effort);
+        let job = Job::Improve {
+            workers,
+            seed,
+            effort,
+        };
+        check_same_of(&rt, given, &answer(rt.alloc(), given)?, &Ok(job));
+    }
+    Ok(())
+}
+
+#[test]
+fn command_line_refuses_other_improvements(rt: HostRuntime) -> Result<(), Fail> {
+    for (given, kind) in MISTAKES {
+        check_same_of(&rt, given, &answer(rt.alloc(), given)?, &Err(*kind));
+    }
+    Ok(())
+}
+
+/// An input, a number of workers, and the fault that is answered.
+const FAULTS: [(&str, u32, ProgramFault); 4] = [
+    (CIRCLE, 0, ProgramFault::Workers),
+    (CIRCLE, 17, ProgramFault::Workers),
+    ("", 1, ProgramFault::League(LeagueFault::NotJson)),
+    ("", 0, ProgramFault::League(LeagueFault::NotJson)),
+];
+
+/// The least that all phases together may do.
+fn by(workers: u32) -> ImprovePlan
+    ensures { result.effort ≡ 1280 }
+{
+    ImprovePlan {
+        workers,
+        seed: 1,
+        effort: 1280,
+    }
+}
+
+/// What an improvement by so many workers answers, and how often it wrote.
+fn ended<T: Threads + Wait + Sync>(
+    rt: &T,
+    alloc: Global,
+    input: &str,
+    workers: u32,
+) -> (Result<(), ProgramFault>, u64) {
+    let mut room = [0; 10];
+    let mut sink = MemorySink::new(&mut room);
+    let source = MemorySource::new(input.as_bytes());
+    let answer = improve(rt, alloc, source, &mut sink, by(workers));
+    (answer, sink.tally().calls)
+}
+
+#[test]
+fn improve_names_the_first_fault_and_writes_nothing(rt: HostRuntime) {
+    for (input, workers, fault) in FAULTS {
+        let found = ended(&rt, rt.alloc(), input, workers);
+        check_same_of(&rt, &(input, workers), &found, &(Err(fault), 0));
+    }
+}
+
+/// The text of an improvement on the circle.
+fn improved<T: Threads + Wait + Sync>(
+    rt: &T,
+    alloc: Global,
+    workers: u32,
+) -> Result<Vec<u8>, Fail> {
+    let mut room = vec![in alloc; 0; 100_000]?;
+    let mut sink = MemorySink::new(&mut room);
+    let source = MemorySource::new(CIRCLE.as_bytes());
+    improve(rt, alloc, source, &mut sink, by(workers))?;
+    Ok(Vec::from_slice(alloc, sink.held())?)
+}
+
+/// The play text of a script on the circle.
+fn played(alloc: Global, script: &str) -> Result<Vec<u8>, Fail> {
+    let input = [CIRCLE, "\nscript\n", script].concat(alloc)?;
+    let mut room = vec![in alloc; 0; 200_000]?;
+    let mut sink = MemorySink::new(&mut room);
+    play(alloc, MemorySource::new(input.as_bytes()), &mut sink, 2048)?;
+    Ok(Vec::from_slice(alloc, sink.held())?)
+}
+
+/// The text begins with the first phase, and its history played as a script leads to the same history, sheet and best version.
+fn check_played_again<T: Threads + Wait + Sync + Abort>(
+    rt: &T,
+    alloc: Global,
+    workers: u32,
+) -> Result<(), Fail> {
+    let text = improved(rt, alloc, workers)?;
+    let Some((history, rest)) = closing(&text) else {
+        return Err(Fail::new("no history"));
+    };
+    check_holds(rt, &workers, text.starts_with(b"phase 1 weight 5 slack 1 "));
+    let again = played(alloc, script(history))?;
+    check_same_of(rt, &workers, &closing(&again), &Some((history, rest)));
+    Ok(())
+}
+
+#[test]
+fn histories_of_improvements_played_lead_to_their_ends(rt: HostRuntime) -> Result<(), Fail> {
+    for workers in [1, 3] {
+        check_played_again(&rt, rt.alloc(), workers)?;
+    }
+    Ok(())
+}
+
+/// A clock that goes on by a millisecond at each reading, from 0.
+#[derive(Drop)]
+struct Ticks {
+    readings: AtomicU64,
+}
+
+impl Ticks {
+    fn new() -> Ticks {
+        let readings = AtomicU64::new(0);
+        Ticks { readings }
+    }
+}
+
+impl Clock for Ticks {
+    fn monotonic(&self) -> io::Result<Duration> {
+        let before = self.readings.fetch_add(1, Ordering::SeqCst);
+        Ok(Duration::from_millis(before))
+    }
+
+    fn since_1970(&self) -> io::Result<Duration> {
+        Ok(Duration::ZERO)
+    }
+}
+
+/// A run whose worker tells so often after a step, from the first of its versions on.
+fn run<C: Clock, W: Sink>(rt: &impl Wait, line: &ProgressLine<'_, C, W>, tellings: u64) {
+    line.begun(rt, 0);
+    for version in 0..tellings {
+        let progress = Progress {
+            steps: 1,
+            version,
+            least: Some(30),
+        };
+        line.told(rt, 0, progress);
+    }
+    line.ended(rt);
+}
+
+/// After a quarter of a second the first run shows the line, and its end takes it away. The first telling of the second run writes it
+/// again, though a millisecond has passed.
+#[test]
+fn line_comes_again_in_the_next_run(rt: HostRuntime) {
+    let mut room = [0; 1000];
+    let mut terminal = MemorySink::new(&mut room);
+    let clock = Ticks::new();
+    let line = ProgressLine::over(&clock, &mut terminal, 280);
+    run(&rt, &line, 250);
+    run(&rt, &line, 30);
+    drop(line);
+    let expected = b"\r\x1b[Ksteps 250 of 280 version 249 best 30\r\x1b[K\
+        \r\x1b[Ksteps 251 of 280 version 249 best 30\r\x1b[K";
+    check_same(&rt, &terminal.held(), &expected.as_slice());
+}
+
+/// The text is the same with a line on the terminal, and what is written on the terminal ends with what takes the line away.
+#[test]
+fn improvement_with_a_line_writes_the_same(rt: HostRuntime) -> Result<(), Fail> {
+    let mut room = vec![in rt.alloc(); 0; 200_000]?;
+    let (terminal, memory) = room.split_at_mut(100_000);
+    let mut terminal = MemorySink::new(terminal);
+    let mut sink = MemorySink::new(memory);
+    let clock = Ticks::new();
+    let line = ProgressLine::over(&clock, &mut terminal, 1280);
+    let mut source = MemorySource::new(CIRCLE.as_bytes());
+    improve_with(&rt, rt.alloc(), &line, &mut source, &mut sink, by(1))?;
+    drop(line);
+    check_same(&rt, &sink.held(), &improved(&rt, rt.alloc(), 1)?.as_slice());
+    check_holds(
+        &rt,
+        &"a line",
+        terminal.held().ends_with(b"best 20\r\x1b[K"),
+    );
+    Ok(())
+}

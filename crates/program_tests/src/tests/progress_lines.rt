@@ -1,0 +1,270 @@
+//! The line of a search: what is written on a terminal that keeps its bytes, by a clock that is set.
+
+use crate::tests::checks::{check_same, check_same_of};
+use crate::tests::circle::CIRCLE;
+use crate::tests::told::{Command, tell};
+use commands::{ProgramFault, ProgressLine, SearchPlan, find_with};
+use search::{Gate, Progress};
+use std::alloc::{AllocError, Global};
+use std::io;
+use std::io::ErrorKind;
+use std::process::Abort;
+use std::sync::Wait;
+use std::sync::atomic::{AtomicU64, Ordering};
+use std::test::Fail;
+use std::thread::Threads;
+use std::time::{Clock, Duration};
+use streams::{MemorySink, MemorySource, RehearsedSink, Sink, Step};
+
+/// A clock that goes on by so many milliseconds at each reading, from 0, or that can't be read.
+#[derive(Drop)]
+struct Ticks {
+    step: Option<u64>,
+    readings: AtomicU64,
+}
+
+impl Ticks {
+    fn new(step: Option<u64>) -> Ticks {
+        let readings = AtomicU64::new(0);
+        Ticks { step, readings }
+    }
+}
+
+impl Clock for Ticks {
+    fn monotonic(&self) -> io::Result<Duration> {
+        let before = self.readings.fetch_add(1, Ordering::SeqCst);
+        match self.step {
+            Some(step) => Ok(Duration::from_millis(before.saturating_mul(step))),
+            None => Err(io::Error::from(ErrorKind::Unsupported)),
+        }
+    }
+
+    fn since_1970(&self) -> io::Result<Duration> {
+        Ok(Duration::ZERO)
+    }
+}
+
+/// Two workers of 20,000 steps each.
+const PLAN: SearchPlan = SearchPlan {
+    workers: 2,
+    seed: 1,
+    steps: 20_000,
+    slack: 0,
+};
+
+/// The milliseconds between two readings, the number of tellings, and the pauses after the last four.
+const PAUSES: [(u64, usize, [u32; 4]); 6] = [
+    // where tellings follow each other by less than 8 milliseconds they become half as many, down to one in 4,096 steps
+    (7, 4, [2, 4, 8, 16]),
+    (7, 12, [512, 1024, 2048, 4096]),
+    (7, 16, [4096; 4]),
+    // slow steps are told one by one
+    (8, 4, [1; 4]),
+    (64, 4, [1; 4]),
+    (65, 4, [1; 4]),
+];
+
+/// The pauses of a line after each of so many tellings.
+fn pauses(rt: &impl Wait, clock: &Ticks, tellings: usize) -> [u32; 4] {
+    let mut room = [0; 1000];
+    let line = ProgressLine::new(clock, MemorySink::new(&mut room), PLAN);
+    let progress = Progress {
+        steps: 1,
+        version: 0,
+        least: None,
+    };
+    let mut pauses = [0; 4];
+    line.begun(rt, 0);
+    for told in 0..tellings {
+        line.told(rt, 0, progress);
+        pauses[told % 4] = line.pause();
+    }
+    pauses
+}
+
+#[test]
+fn quick_steps_are_told_by_thousands_and_slow_ones_one_by_one(rt: HostRuntime) {
+    for (step, tellings, wanted) in PAUSES {
+        let found = pauses(&rt, &Ticks::new(Some(step)), tellings);
+        check_same_of(&rt, &(step, tellings), &found, &wanted);
+    }
+}
+
+/// A worker, the version that it tells, and the least total.
+type Telling = (u32, u64, Option<u64>);
+
+/// What the workers of a search tell in turn.
+const TOLD: &[Telling] = &[
+    (0, 3, None),
+    (1, 7, Some(3_000)),
+    (0, 5, Some(998)),
+    (1, 12, Some(999)),
+    (1, 1_000, None),
+];
+
+/// Tellings on a terminal that takes bytes by these steps, and what it holds then.
+struct Showing<'a> {
+    step: Option<u64>,
+    writes: &'a [Step],
+    told: &'a [Telling],
+    ends: bool,
+    shown: &'a str,
+}
+
+const SHOWINGS: &[Showing<'_>] = &[
+    // the first reading begins the time, so each later one writes a line where the clock goes on by 250 milliseconds
+    Showing {
+        step: Some(250),
+        writes: &[],
+        told: TOLD,
+        ends: true,
+        shown: "\r\x1b[Ksteps 8192 of 40000 version 7 best 3000\
+            \r\x1b[Ksteps 12288 of 40000 version 7 best 998\
+            \r\x1b[Ksteps 16384 of 40000 version 12 best 998\
+            \r\x1b[Ksteps 20480 of 40000 version 1000 best 998\
+            \r\x1b[K",
+    },
+    // of the readings at 0, 249, 498, 747 and 996 milliseconds the third and the fifth are late enough
+    Showing {
+        step: Some(249),
+        writes: &[],
+        told: TOLD,
+        ends: true,
+        shown: "\r\x1b[Ksteps 12288 of 40000 version 7 best 998\
+            \r\x1b[Ksteps 20480 of 40000 version 1000 best 998\
+            \r\x1b[K",
+    },
+    // no total is known
+    Showing {
+        step: Some(1000),
+        writes: &[],
+        told: &[(0, 1, None), (0, 0, None)],
+        ends: false,
+        shown: "\r\x1b[Ksteps 8192 of 40000 version 1 best none",
+    },
+    // a failed write loses its line alone
+    Showing {
+        step: Some(250),
+        writes: &[Step::Failed, Step::Moved(5), Step::Moved(0)],
+        told: TOLD,
+        ends: true,
+        shown: "\r\x1b[Ks\
+            \r\x1b[Ksteps 16384 of 40000 version 12 best 998\
+            \r\x1b[Ksteps 20480 of 40000 version 1000 best 998\
+            \r\x1b[K",
+    },
+    // no line is due
+    Showing {
+        step: Some(62),
+        writes: &[],
+        told: TOLD,
+        ends: true,
+        shown: "",
+    },
+    Showing {
+        step: None,
+        writes: &[],
+        told: TOLD,
+        ends: true,
+        shown: "",
+    },
+];
+
+fn tell_all<R: Wait, C: Clock, W: Sink>(
+    rt: &R,
+    line: &ProgressLine<'_, C, W>,
+    showing: &Showing<'_>,
+) {
+    for (worker, version, least) in showing.told {
+        line.enter(rt, *worker, 0);
+        line.left(rt, *worker, 0);
+        let progress = Progress {
+            steps: 4096,
+            version: *version,
+            least: *least,
+        };
+        line.told(rt, *worker, progress);
+    }
+    if showing.ends {
+        line.ended(rt);
+    }
+}
+
+/// The terminal was never called where it is to hold nothing.
+fn check_showing<R: Wait + Abort>(rt: &R, showing: &Showing<'_>) {
+    let mut room = [0; 1000];
+    let mut memory = MemorySink::new(&mut room);
+    let mut terminal = RehearsedSink::new(&mut memory, showing.writes);
+    let clock = Ticks::new(showing.step);
+    tell_all(rt, &ProgressLine::new(&clock, &mut terminal, PLAN), showing);
+    let is_quiet = terminal.tally().calls == 0;
+    let found = (memory.held(), is_quiet);
+    let wanted = (showing.shown.as_bytes(), showing.shown.is_empty());
+    check_same_of(rt, &showing.step, &found, &wanted);
+}
+
+#[test]
+fn line_is_written_when_it_is_due_and_taken_away(rt: HostRuntime) {
+    for showing in SHOWINGS {
+        check_showing(&rt, showing);
+    }
+}
+
+const PLAN_OF_ONE: SearchPlan = SearchPlan {
+    workers: 1,
+    seed: 1,
+    steps: 4,
+    slack: 4,
+};
+
+const ROOM: u32 = 100_000;
+
+/// The text of a search by one worker that shows on the terminal how far it is. Each step takes a second.
+fn searched<T: Threads + Wait + Sync, W: Sink + Send + Drop>(
+    rt: &T,
+    alloc: Global,
+    terminal: W,
+    input: &str,
+) -> Result<Vec<u8>, ProgramFault> {
+    let mut memory = vec![in alloc; 0; 100_000]?;
+    let mut sink = MemorySink::new(&mut memory);
+    let mut source = MemorySource::new(input.as_bytes());
+    let clock = Ticks::new(Some(1000));
+    let line = ProgressLine::new(&clock, terminal, PLAN_OF_ONE);
+    find_with(rt, alloc, &line, &mut source, &mut sink, ROOM, PLAN_OF_ONE)?;
+    Ok(Vec::from_slice(alloc, sink.held())?)
+}
+
+/// The text of that search without a terminal.
+fn found<T: Threads + Wait + Sync>(rt: &T, alloc: Global) -> Result<Vec<u8>, AllocError> {
+    let command = Command::Find {
+        room: ROOM,
+        plan: PLAN_OF_ONE,
+    };
+    Ok(tell(rt, alloc, command, CIRCLE.as_bytes())?.text)
+}
+
+/// The versions and totals are those of `PAUSE=1 scripts/worker-steps asks 1 0 4 4 4 100000`.
+const SHOWN: &[u8] = b"\r\x1b[Ksteps 1 of 4 version 0 best 30\
+    \r\x1b[Ksteps 2 of 4 version 0 best 30\
+    \r\x1b[Ksteps 3 of 4 version 1 best 26\
+    \r\x1b[Ksteps 4 of 4 version 2 best 26\
+    \r\x1b[K";
+
+#[test]
+fn search_shows_its_line_and_takes_it_away(rt: HostRuntime) -> Result<(), Fail> {
+    let mut room = [0; 1000];
+    let mut terminal = MemorySink::new(&mut room);
+    let text = searched(&rt, rt.alloc(), &mut terminal, CIRCLE)?;
+    check_same(&rt, &text, &found(&rt, rt.alloc())?);
+    check_same(&rt, &terminal.held(), &SHOWN);
+    Ok(())
+}
+
+#[test]
+fn refused_search_shows_no_line(rt: HostRuntime) {
+    let mut room = [0; 1000];
+    let mut terminal = MemorySink::new(&mut room);
+    let is_refused = searched(&rt, rt.alloc(), &mut terminal, "").is_err();
+    check_same(&rt, &(is_refused, terminal.tally().calls), &(true, 0));
+}

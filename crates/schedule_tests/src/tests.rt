@@ -1,0 +1,24 @@
+//! The tests by subject, and what they share.
+
+mod allocations;
+mod chains;
+mod changed_games;
+mod checks;
+mod costs;
+mod deviations;
+mod drafts;
+mod effects;
+mod exchanges;
+mod halves;
+mod home_games;
+mod number_sets;
+mod parts;
+mod refusals;
+mod rule_leagues;
+mod rule_parts;
+mod rules_reached;
+mod sheets;
+mod small_leagues;
+mod starts;
+mod told;
+mod values;

@@ -1,0 +1,167 @@
+//! The parts of deviations that a move can alter.
+
+use crate::tests::checks::{check_holds, check_same_of};
+use crate::tests::rule_leagues::{check_deviation, league_with, only_deviation};
+use fixtures::{Schedule, Touched, berger};
+use league::{League, SlotSet, TeamSet};
+use moves::{Move, apply, check};
+use robinx::deviation_part;
+use std::alloc::Global;
+use std::process::Abort;
+use std::test::Fail;
+
+/// On the start of six teams 1 and 2 meet in rounds 2 and 7. Of the first rule of each line an exchange of their homes
+/// can alter what the second says, whose deviation is the number, as `deviation` of `scripts/apart.py` counts it.
+const OF_HOMES: &[(&str, &str, u64)] = &[
+    (
+        r#""class":"CA1","teams":[1,2,3,4,5,6],"mode":"H","slots":[1,2,3],"max":0"#,
+        r#""class":"CA1","teams":[1,2],"mode":"H","slots":[1,2,3],"max":0"#,
+        4,
+    ),
+    (
+        r#""class":"CA2","teams1":[1,2,3,4,5,6],"mode":"A","teams2":[1,2,5],"max":0"#,
+        r#""class":"CA2","teams1":[1,2],"mode":"A","teams2":[1,2,5],"max":0"#,
+        4,
+    ),
+    (
+        r#""class":"CA2","teams1":[1,2,3,4,5,6],"mode":"A","teams2":[1,5],"max":0"#,
+        r#""class":"CA2","teams1":[1,2],"mode":"A","teams2":[1,5],"max":0"#,
+        3,
+    ),
+    (
+        r#""class":"CA3","teams1":[1,2,3],"mode":"HA","intp":10,"max":4"#,
+        r#""class":"CA3","teams1":[1,2],"mode":"HA","intp":10,"max":4"#,
+        12,
+    ),
+    (
+        r#""class":"CA4","teams1":[3,4],"mode":"H","mode2":"EVERY","max":0"#,
+        r#""class":"CA4","teams1":[],"mode":"H","mode2":"EVERY","max":0"#,
+        0,
+    ),
+    (
+        r#""class":"BR1","teams":[1,2,3,4],"mode":"HA","intp":0"#,
+        r#""class":"BR1","teams":[1,2],"mode":"HA","intp":0"#,
+        6,
+    ),
+];
+
+/// Rules of each class: with opponents that hold all, none and one of teams 1 and 2, slots of the last round, and a
+/// window as long as the season.
+const RULES: &[&str] = &[
+    r#""class":"CA1","teams":[1,3],"mode":"A","slots":[1,2,10],"max":0"#,
+    r#""class":"CA2","teams1":[1,4,5],"mode":"HA","teams2":[1,2,3],"slots":[2,7,9],"max":0"#,
+    r#""class":"CA2","teams1":[1,4,5],"mode":"H","teams2":[2,6],"max":1"#,
+    r#""class":"CA2","teams1":[2,3,6],"mode":"A","teams2":[4,5],"slots":[10],"max":0"#,
+    r#""class":"CA3","teams1":[1,2,3,4],"mode":"HA","teams2":[1,5],"intp":3,"max":0"#,
+    r#""class":"CA3","teams1":[2,6],"mode":"H","intp":10,"max":3"#,
+    r#""class":"CA4","teams1":[3,4],"mode":"H","teams2":[1],"mode2":"GLOBAL","max":1"#,
+    r#""class":"CA4","teams1":[1,4],"mode":"HA","teams2":[2,6],"mode2":"EVERY","max":0"#,
+    r#""class":"GA1","games":[[1,2],[3,1],[5,6]],"slots":[1,2,10],"min":1,"max":1"#,
+    r#""class":"BR1","teams":[1,2,5],"mode":"H","slots":[2,3,10],"intp":0"#,
+    r#""class":"BR2","teams":[2,3,4],"slots":[5,10],"intp":0"#,
+    r#""class":"SE1","teams":[1,3,4,6],"min":6"#,
+    r#""class":"FA2","teams":[1,2,4,5],"slots":[2,5,10],"intp":0"#,
+    r#""class":"FA2","teams":[],"intp":0"#,
+];
+
+/// A move of each kind, which exchanges teams 1 and 2 or rounds 2 and 5, with whether only the two teams are main ones.
+const MOVES: &[(Move, bool)] = &[
+    (Move::Homes { i: 0, j: 1 }, true),
+    (Move::Rounds { k: 1, l: 4 }, false),
+    (Move::Teams { i: 0, j: 1 }, true),
+    (Move::PartRounds { i: 0, k: 1, l: 4 }, false),
+    (Move::PartTeams { i: 0, j: 1, k: 2 }, true),
+];
+
+/// The part of the deviation from a league's only rule that a change of these cells can alter, whose teams may change sides.
+fn part(schedule: &Schedule, league: &League, main: Touched) -> Option<u64> {
+    if league.teams() != schedule.teams() || league.rule_count() != 1 {
+        return None;
+    }
+    let rule = league.rule(0);
+    Some(deviation_part(schedule, rule, main, main.teams))
+}
+
+/// The part that an exchange of the homes of teams 1 and 2 can alter.
+fn check_part(
+    rt: &impl Abort,
+    alloc: Global,
+    start: &Schedule,
+    (rule, count): (&str, u64),
+) -> Result<(), Fail> {
+    let league = league_with(alloc, 6, rule)?;
+    let main = Touched {
+        teams: TeamSet::below(2),
+        rounds: SlotSet::empty().with(1).with(6),
+    };
+    check_same_of(rt, &rule, &part(start, &league, main), &Some(count));
+    Ok(())
+}
+
+fn check_parts(rt: &impl Abort, alloc: Global, start: &Schedule) -> Result<(), Fail> {
+    for &(rule, altered, count) in OF_HOMES {
+        check_part(rt, alloc, start, (rule, count))?;
+        check_deviation(rt, alloc, start, (altered, count))?;
+    }
+    Ok(())
+}
+
+#[test]
+fn parts_of_an_exchange_of_homes(rt: HostRuntime) -> Result<(), Fail> {
+    check_parts(&rt, rt.alloc(), &berger(rt.alloc(), 6)?)
+}
+
+/// Makes the move, and returns its main cells.
+fn made(schedule: &mut Schedule, (mv, two): (Move, bool)) -> Result<Touched, Fail> {
+    check(schedule, mv)?;
+    let mut main = apply(schedule, mv);
+    if two {
+        main.teams = TeamSet::below(2);
+    }
+    Ok(main)
+}
+
+/// What of the deviation isn't in the part.
+fn rest(schedule: &Schedule, league: &League, main: Touched) -> Option<u64> {
+    only_deviation(schedule, league)?.checked_sub(part(schedule, league, main)?)
+}
+
+/// The rest before the move and after it.
+fn rests(
+    alloc: Global,
+    start: &Schedule,
+    league: &League,
+    mv: (Move, bool),
+) -> Result<(Option<u64>, Option<u64>), Fail> {
+    let mut after = start.duplicate(alloc)?;
+    let main = made(&mut after, mv)?;
+    Ok((rest(start, league, main), rest(&after, league, main)))
+}
+
+fn check_rest(
+    rt: &impl Abort,
+    alloc: Global,
+    start: &Schedule,
+    mv: (Move, bool),
+    rule: &str,
+) -> Result<(), Fail> {
+    let league = league_with(alloc, 6, rule)?;
+    let (kept, found) = rests(alloc, start, &league, mv)?;
+    check_holds(rt, &rule, kept.is_some());
+    check_same_of(rt, &rule, &found, &kept);
+    Ok(())
+}
+
+fn check_rests(rt: &impl Abort, alloc: Global, start: &Schedule) -> Result<(), Fail> {
+    for &mv in MOVES {
+        for &rule in RULES {
+            check_rest(rt, alloc, start, mv, rule)?;
+        }
+    }
+    Ok(())
+}
+
+#[test]
+fn moves_keep_what_is_not_in_the_part(rt: HostRuntime) -> Result<(), Fail> {
+    check_rests(&rt, rt.alloc(), &berger(rt.alloc(), 6)?)
+}

@@ -1,0 +1,17 @@
+//! The tests by subject, and what they share.
+
+mod boards;
+mod checks;
+mod doors;
+mod first_moves;
+mod memory;
+mod own_streams;
+mod phased;
+mod recorder;
+mod resumed;
+mod runs;
+mod searches;
+mod sizes;
+mod steps;
+mod telling;
+mod values;

@@ -1,0 +1,126 @@
+//! A door and a gate that write down what a worker does.
+
+ghost use Rattle.std.specs.Prelude.{◌≡◌};
+
+use crate::tests::boards::at_any_cost;
+use fixture_board::{Board, Change, Proposal, Reply, Seen};
+use fixtures::Schedule;
+use search::{Door, Gate, LockedDoor};
+use std::fmt::Write;
+use std::sync::{Mutex, Wait};
+
+/// A door that writes down what is asked through it. Another caller makes a change just before one of the calls.
+#[derive(Drop)]
+pub(crate) struct Recorder<'a> {
+    pub(crate) door: LockedDoor<'a>,
+    pub(crate) log: &'a Mutex<String>,
+    /// How many calls there were.
+    pub(crate) calls: u32,
+    pub(crate) change: Option<(u32, Change)>,
+}
+
+/// Has another caller move or pin.
+fn enter(board: &mut Board, change: Change) {
+    let version = board.version();
+    match change {
+        Change::Shift(mv) => {
+            board.propose(9, at_any_cost(version, mv));
+        }
+        Change::Pin(game) => {
+            board.pin(9, version, game);
+        }
+        Change::Unpin(_) | Change::Undo => {}
+    }
+}
+
+impl Recorder<'_> {
+    /// Counts a call, and has the other caller make its change.
+    fn count<R: Wait>(&mut self, rt: &R)
+        ensures { self.new.door ≡ self.old.door }
+    {
+        self.calls = self.calls.saturating_add(1);
+        if let Some((call, change)) = self.change {
+            if call == self.calls {
+                enter(&mut self.door.board.lock(rt), change);
+            }
+        }
+    }
+}
+
+impl Door for Recorder<'_> {
+    ghost use Rattle.std.specs.Prelude.{◌≡◌, []};
+    ghost use Rattle.std.proofs.Common.{refl, ◌∙◌};
+
+    ghost stays = { λ d e. d.door.caller ≡ e.door.caller };
+
+    ghost granted = { λ d. d.door.dones };
+
+    ghost seen = { λ _. [] };
+
+    ghost may_have = { λ _ _ _. Unit {0} };
+
+    ghost caller = { λ d. d.door.caller };
+
+    ghost stays_same = { λ d. refl };
+
+    ghost stays_then = { λ a b c p q. p ∙ q };
+
+    ghost stays_caller = { λ a b p. p };
+
+    ghost stays_boards = { λ a b p league room. (λ h. h, λ h. h) };
+
+    fn look<R: Wait>(&mut self, rt: &R, copy: &mut Schedule) -> Seen {
+        self.count(rt);
+        let seen = self.door.look(rt, copy);
+        let _ = writeln!(self.log.lock(rt), "look {}", seen.version);
+        seen
+    }
+
+    fn propose<R: Wait>(&mut self, rt: &R, proposal: Proposal) -> Reply {
+        self.count(rt);
+        let reply = self.door.propose(rt, proposal);
+        let Proposal {
+            version,
+            mv,
+            claim,
+            slack,
+        } = proposal;
+        let mut log = self.log.lock(rt);
+        let _ = write!(
+            log,
+            "propose {version} {mv:?} claim {claim:?} slack {slack} answer "
+        );
+        let _ = match reply {
+            Reply::Done { at, .. } => writeln!(log, "Done {at}"),
+            Reply::No { at, why } => writeln!(log, "{why:?} {at}"),
+        };
+        reply
+    }
+
+    fn front<R: Wait>(&mut self, rt: &R) -> u64 {
+        self.count(rt);
+        let front = self.door.front(rt);
+        let _ = writeln!(self.log.lock(rt), "front {front}");
+        front
+    }
+
+    fn dones(&self) -> u64 {
+        self.door.dones()
+    }
+}
+
+/// A gate that writes down when it is passed.
+#[derive(Drop)]
+pub(crate) struct Passed<'a> {
+    pub(crate) log: &'a Mutex<String>,
+}
+
+impl Gate for Passed<'_> {
+    fn enter<R: Wait>(&self, rt: &R, worker: u32, made: u32) {
+        let _ = writeln!(self.log.lock(rt), "enter {worker} {made}");
+    }
+
+    fn left<R: Wait>(&self, rt: &R, worker: u32, made: u32) {
+        let _ = writeln!(self.log.lock(rt), "left {worker} {made}");
+    }
+}

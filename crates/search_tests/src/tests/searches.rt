@@ -1,0 +1,52 @@
+//! Runs on boards of leagues in a circle.
+
+ghost use Rattle.std.specs.Prelude.{◌≡◌, length, IfOk};
+
+use crate::tests::boards::board;
+use league::circular;
+use search::{Gate, Outcome, SearchPlan, run, run_with};
+use std::alloc::Global;
+use std::sync::Wait;
+use std::test::Fail;
+use std::thread::Threads;
+
+/// A run on a new board of a league in a circle.
+#[derive(Clone, Copy)]
+pub(crate) struct AskedRun {
+    pub(crate) teams: u8,
+    pub(crate) room: u32,
+    pub(crate) plan: SearchPlan,
+}
+
+/// What a run comes to.
+pub(crate) fn searched<R: Threads + Wait + Sync>(
+    rt: &R,
+    alloc: Global,
+    asked: AskedRun,
+) -> Result<Outcome, Fail>
+    ensures { IfOk result (λ o. length o.reports ≡ asked.plan.workers) }
+{
+    let league = circular(alloc, asked.teams)?;
+    let board = board(alloc, asked.teams, asked.room)?;
+    match run(rt, alloc, &league, board, asked.plan) {
+        Ok(outcome) => Ok(outcome),
+        Err(refused) => Err(refused.why.into()),
+    }
+}
+
+/// What a run through a gate comes to.
+pub(crate) fn searched_with<R: Threads + Wait + Sync, G: Gate + Sync>(
+    rt: &R,
+    alloc: Global,
+    gate: &G,
+    asked: AskedRun,
+) -> Result<Outcome, Fail>
+    ensures { IfOk result (λ o. length o.reports ≡ asked.plan.workers) }
+{
+    let league = circular(alloc, asked.teams)?;
+    let board = board(alloc, asked.teams, asked.room)?;
+    match run_with(rt, alloc, gate, &league, board, asked.plan) {
+        Ok(outcome) => Ok(outcome),
+        Err(refused) => Err(refused.why.into()),
+    }
+}

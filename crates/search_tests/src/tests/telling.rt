@@ -1,0 +1,85 @@
+//! What a gate is told of a run.
+
+use crate::tests::checks::check_same;
+use crate::tests::searches::{AskedRun, searched_with};
+use search::{Gate, Progress, SearchPlan};
+use std::alloc::Global;
+use std::fmt::Write;
+use std::process::Abort;
+use std::sync::{Mutex, Wait};
+use std::test::Fail;
+use std::thread::Threads;
+
+/// Writes down what it is told.
+#[derive(Drop)]
+struct Listener<'a> {
+    log: &'a Mutex<String>,
+}
+
+impl Gate for Listener<'_> {
+    fn enter<R: Wait>(&self, _rt: &R, _worker: u32, _made: u32) {}
+
+    fn left<R: Wait>(&self, _rt: &R, _worker: u32, _made: u32) {}
+
+    fn told<R: Wait>(&self, rt: &R, worker: u32, progress: Progress) {
+        let Progress {
+            steps,
+            version,
+            least,
+        } = progress;
+        let _ = writeln!(
+            self.log.lock(rt),
+            "told {worker} {steps} {version} {least:?}"
+        );
+    }
+
+    fn ended<R: Wait>(&self, rt: &R) {
+        let _ = writeln!(self.log.lock(rt), "ended");
+    }
+}
+
+/// What a gate is told of a run of one worker on a board of eight teams.
+fn told<R: Threads + Wait + Sync>(rt: &R, alloc: Global, steps: u32) -> Result<String, Fail> {
+    let log = Mutex::new(String::new(alloc));
+    let gate = Listener { log: &log };
+    let plan = SearchPlan {
+        workers: 1,
+        seed: 4,
+        steps,
+        slack: 10,
+    };
+    let asked = AskedRun {
+        teams: 8,
+        room: 20_000,
+        plan,
+    };
+    searched_with(rt, alloc, &gate, asked)?;
+    Ok(log.into_inner())
+}
+
+fn check_told<R: Threads + Wait + Sync + Abort>(
+    rt: &R,
+    alloc: Global,
+    steps: u32,
+    lines: &str,
+) -> Result<(), Fail> {
+    let told = told(rt, alloc, steps)?;
+    check_same(rt, &told.as_str(), &lines);
+    Ok(())
+}
+
+/// The versions and totals are those of `scripts/worker-steps asks 4 0 8 12300 10 20000`.
+const TOLD_THREE_TIMES: &str = "told 0 4096 856 Some(178)\n\
+    told 0 4096 1504 Some(170)\n\
+    told 0 4096 1693 Some(152)\n\
+    ended\n";
+
+#[test]
+fn gate_is_told_after_each_4096_steps(rt: HostRuntime) -> Result<(), Fail> {
+    check_told(&rt, rt.alloc(), 12_300, TOLD_THREE_TIMES)
+}
+
+#[test]
+fn gate_is_told_the_end_alone_of_a_short_run(rt: HostRuntime) -> Result<(), Fail> {
+    check_told(&rt, rt.alloc(), 4095, "ended\n")
+}
