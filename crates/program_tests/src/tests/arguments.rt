@@ -51,11 +51,6 @@ const PLAIN: SearchPlan = SearchPlan {
     slack: 0,
 };
 
-/// A search with so much room, by this plan.
-const fn found(room: u32, plan: SearchPlan) -> Answer {
-    Ok(Job::Find { room, plan })
-}
-
 const JOBS: &[Row<'_>] = &[
     (&["ttp", "start"], Ok(Job::Start)),
     (&["ttp", "play"], Ok(Job::Play { room: 1024 })),
@@ -64,54 +59,6 @@ const JOBS: &[Row<'_>] = &[
     (
         &["ttp", "play", "--room=1048576"],
         Ok(Job::Play { room: 1_048_576 }),
-    ),
-    (&["ttp", "search"], found(1024, PLAIN)),
-    (&["ttp", "search", "--room", "0"], found(0, PLAIN)),
-    (
-        &["ttp", "search", "--workers", "1", "--steps=0"],
-        found(
-            1024,
-            SearchPlan {
-                workers: 1,
-                steps: 0,
-                ..PLAIN
-            },
-        ),
-    ),
-    (
-        &["ttp", "search", "--seed", "0"],
-        found(1024, SearchPlan { seed: 0, ..PLAIN }),
-    ),
-    (
-        &["ttp", "search", "--slack", "7", "--seed", "8"],
-        found(
-            1024,
-            SearchPlan {
-                seed: 8,
-                slack: 7,
-                ..PLAIN
-            },
-        ),
-    ),
-    (
-        &[
-            "ttp",
-            "search",
-            "--slack=18446744073709551615",
-            "--steps=1000000",
-            "--seed=18446744073709551615",
-            "--workers=16",
-            "--room=1048576",
-        ],
-        found(
-            1_048_576,
-            SearchPlan {
-                workers: 16,
-                seed: u64::MAX,
-                steps: 1_000_000,
-                slack: u64::MAX,
-            },
-        ),
     ),
     (&["ttp", "report"], Ok(Job::Report(Format::Text))),
     (
@@ -131,6 +78,62 @@ const JOBS: &[Row<'_>] = &[
 #[test]
 fn command_lines_ask_for_jobs(rt: HostRuntime) -> Result<(), Fail> {
     check_answers(&rt, rt.alloc(), JOBS)
+}
+
+/// Words that ask for a search, its room and its plan.
+const SEARCHES: &[(&[&str], u32, SearchPlan)] = &[
+    (&["ttp", "search"], 1024, PLAIN),
+    (&["ttp", "search", "--room", "0"], 0, PLAIN),
+    (
+        &["ttp", "search", "--workers", "1", "--steps=0"],
+        1024,
+        SearchPlan {
+            workers: 1,
+            steps: 0,
+            ..PLAIN
+        },
+    ),
+    (
+        &["ttp", "search", "--seed", "0"],
+        1024,
+        SearchPlan { seed: 0, ..PLAIN },
+    ),
+    (
+        &["ttp", "search", "--slack", "7", "--seed", "8"],
+        1024,
+        SearchPlan {
+            seed: 8,
+            slack: 7,
+            ..PLAIN
+        },
+    ),
+    (
+        &[
+            "ttp",
+            "search",
+            "--slack=18446744073709551615",
+            "--steps=1000000",
+            "--seed=18446744073709551615",
+            "--workers=16",
+            "--room=1048576",
+        ],
+        1_048_576,
+        SearchPlan {
+            workers: 16,
+            seed: u64::MAX,
+            steps: 1_000_000,
+            slack: u64::MAX,
+        },
+    ),
+];
+
+#[test]
+fn command_lines_ask_for_searches(rt: HostRuntime) -> Result<(), Fail> {
+    for &(given, room, plan) in SEARCHES {
+        let row = (given, Ok(Job::Find { room, plan }));
+        check_answers(&rt, rt.alloc(), &[row])?;
+    }
+    Ok(())
 }
 
 /// Words that name no job.
@@ -253,14 +256,14 @@ const OF_EACH_KIND: &[Row<'_>] = &[
     (&["ttp", "start"], Ok(Job::Start)),
     (
         &["ttp", "search", "--workers=16", "--slack", "7"],
-        found(
-            1024,
-            SearchPlan {
+        Ok(Job::Find {
+            room: 1024,
+            plan: SearchPlan {
                 workers: 16,
                 slack: 7,
                 ..PLAIN
             },
-        ),
+        }),
     ),
     (&["ttp", "play", "--room=x"], Err((ValueValidation, 2))),
     (

@@ -204,7 +204,7 @@ struct Writing {
     text: String,
 }
 
-fn writing(alloc: Global, case: &Case<'_>) -> Result<Writing, AllocError> {
+fn writing_of(alloc: Global, case: &Case<'_>) -> Result<Writing, AllocError> {
     let (command, input, _, text) = *case;
     let (input, text) = (input.concat(alloc)?, text.parts().concat(alloc)?);
     Ok(Writing {
@@ -238,7 +238,7 @@ fn check_failed_writes<T: Threads + Wait + Sync + Abort>(
     alloc: Global,
     case: &Case<'_>,
 ) -> Result<(), Fail> {
-    let told = writing(alloc, case)?;
+    let told = writing_of(alloc, case)?;
     for length in 0..told.text.len() {
         let front = &told.text.as_bytes()[..length];
         check_front(rt, alloc, &told, front, &[Step::Failed])?;
@@ -260,7 +260,7 @@ fn check_stuck_writes<T: Threads + Wait + Sync + Abort>(
     alloc: Global,
     case: &Case<'_>,
 ) -> Result<(), Fail> {
-    let told = writing(alloc, case)?;
+    let told = writing_of(alloc, case)?;
     let last = told.text.len().saturating_sub(1);
     for length in [0, 1, last / 2, last] {
         let front = told.text.as_bytes().get(..length).ok_or("a longer text")?;

@@ -4,7 +4,7 @@ use crate::tests::checks::{check_holds, check_same, check_same_of};
 use crate::tests::circle::CIRCLE;
 use crate::tests::closings::{closing, script};
 use crate::tests::samples::{FIND, NO_STEPS, SCRIPT};
-use crate::tests::told::{Case, Command, NOTHING, check_cases, tell};
+use crate::tests::told::{Command, NOTHING, check_case, tell};
 use commands::{ProgramFault, SearchPlan, find};
 use league::LeagueFault;
 use std::alloc::{AllocError, Global};
@@ -25,46 +25,25 @@ fn search_without_steps_writes_the_start(rt: HostRuntime) -> Result<(), Fail> {
     Ok(())
 }
 
-/// A search without a step, with so much room and so many workers.
-const fn search_of(room: u32, workers: u32) -> Command {
-    let plan = SearchPlan {
-        workers,
-        ..NO_STEPS
-    };
-    Command::Find { room, plan }
-}
-
-/// The first fault is answered.
-const FAULTS: &[Case<'_>] = &[
-    (
-        search_of(1_048_577, 0),
-        &[CIRCLE],
-        Err(ProgramFault::Room),
-        NOTHING,
-    ),
-    (
-        search_of(1024, 0),
-        &[CIRCLE],
-        Err(ProgramFault::Workers),
-        NOTHING,
-    ),
-    (
-        search_of(1024, 17),
-        &[CIRCLE],
-        Err(ProgramFault::Workers),
-        NOTHING,
-    ),
-    (
-        search_of(1024, 0),
-        &[""],
-        Err(ProgramFault::League(LeagueFault::NotJson)),
-        NOTHING,
-    ),
+/// The room and the workers that a search without a step is asked for, its input, and the first fault, which is answered.
+const FAULTS: &[(u32, u32, &str, ProgramFault)] = &[
+    (1_048_577, 0, CIRCLE, ProgramFault::Room),
+    (1024, 0, CIRCLE, ProgramFault::Workers),
+    (1024, 17, CIRCLE, ProgramFault::Workers),
+    (1024, 0, "", ProgramFault::League(LeagueFault::NotJson)),
 ];
 
 #[test]
 fn search_names_the_first_fault(rt: HostRuntime) -> Result<(), Fail> {
-    check_cases(&rt, rt.alloc(), FAULTS)
+    for &(room, workers, input, fault) in FAULTS {
+        let plan = SearchPlan {
+            workers,
+            ..NO_STEPS
+        };
+        let command = Command::Find { room, plan };
+        check_case(&rt, rt.alloc(), &(command, &[input], Err(fault), NOTHING))?;
+    }
+    Ok(())
 }
 
 /// The text of a search on the circle, whose schedules are all accepted.

@@ -25,6 +25,7 @@ enum Asked {
 }
 
 /// A worker's plan, its board, and what it then asks of it.
+#[derive(Clone, Copy)]
 struct Scene {
     seed: u64,
     worker: u32,
