@@ -11,6 +11,7 @@ use search::{NoGate, OwnDoor, Report, SeatDoor, WorkerPlan, worker};
 use std::sync::Wait;
 
 /// The steps of a worker that has the board for itself.
+#[inline(never)]
 pub fn own_steps<R: Wait>(
     rt: &R,
     league: &League,

@@ -90,6 +90,7 @@ enum Outcome {
 }
 
 /// Tries so many moves. They are the same at each call, since the generator is.
+#[inline(never)]
 pub fn try_moves(schedule: &mut Schedule, league: &League, tried: Tried, plan: Plan) -> Tries
     requires { teams league.now ≡ schedule.old.teams }
 {
