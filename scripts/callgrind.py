@@ -40,15 +40,13 @@ def symbols(program, path):
     return [name for name in names if name == path or name.startswith(f"{path}::<")]
 
 
-def calls(program, words, paths):
-    """The instructions of each call of the functions of these paths, by path, in the order of the calls."""
-    path_of = {name: path for path in paths for name in symbols(program, path)}
-    options = [f"--{what}={name}" for name in path_of for what in ("toggle-collect", "dump-after")]
-    found = {path: [] for path in paths}
+def calls(program, words, path):
+    """The instructions of each call of the function of this path, in the order of the calls."""
+    names = symbols(program, path)
+    # callgrind collects nothing if it toggles and dumps at one name that has types behind it
+    toggle = path if names == [path] else f"{path}*"
+    options = [f"--toggle-collect={toggle}", *(f"--dump-after={name}" for name in names)]
     with tempfile.TemporaryDirectory() as room:
         counted([program, *words], f"{room}/counts", ["--demangle=no", *options])
-        for dump in sorted(pathlib.Path(room).glob("counts.*"), key=lambda file: int(file.suffix[1:])):
-            text = dump.read_text(encoding="utf-8")
-            name = re.search("^desc: Trigger: --dump-after=(.*)$", text, re.M)[1]
-            found[path_of[name]].append(int(re.search(r"^totals: (\d+)", text, re.M)[1]))
-    return found
+        dumps = sorted(pathlib.Path(room).glob("counts.*"), key=lambda file: int(file.suffix[1:]))
+        return [int(re.search(r"^totals: (\d+)", dump.read_text(encoding="utf-8"), re.M)[1]) for dump in dumps]
