@@ -18,5 +18,6 @@ pub mod Searches
 mod SeasonCounts
 mod SeesSame
 mod Sets
+mod ToldApart
 mod Untouched
 mod Worked

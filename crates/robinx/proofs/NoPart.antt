@@ -16,7 +16,8 @@ use Rattle.fixtures.specs.Games.{Games, round_count, round_of, cell, IsPair, IsD
 use Rattle.fixtures.proofs.ForCallers.{cell_home}
 use Rattle.robinx.specs.LooksPast.{takes_all_or_none, looks_past}
 use Rattle.robinx.specs.Touches.{has_touched_team, has_touched_game, looks_at_team, looks_at_round, touches}
-use Rattle.robinx.specs.Parts.{is_guest, counts_otherwise, has_moved_game, is_pair_with, changing_terms, deviation_part}
+use Rattle.robinx.specs.Parts.{is_guest, counts_otherwise, has_moved_game, is_pair_with, changing_terms, tells_apart, can_alter}
+use Rattle.robinx.specs.Parts.{deviation_part}
 use Rattle.robinx.proofs.LookedPast.{AreApart-tested, others-tested}
 
 module _ (g : Games) (rr : IsDoubleRoundRobin g) (main rounds sides : ℕ) where
@@ -80,7 +81,7 @@ module _ (g : Games) (rr : IsDoubleRoundRobin g) (main rounds sides : ℕ) where
 
   no_part : (body : RuleBody) → IsBodyFor g.teams body → IsQuiet body → deviation_part g main rounds sides body ≡ 0
   unfolding deviation_part
-  no_part body is quiet = at (looks_at_round body (has rounds)) _ (none_changes body is quiet)
+  no_part body is quiet = at (can_alter body (has rounds)) _ (none_changes body is quiet)
     where
       at : (b : Bool) (x : ℕ) → x ≡ 0 → ◌≡◌ {A = ℕ} (if b then x else 0) 0
       at true x none = none
@@ -195,9 +196,11 @@ pub untouched_part : (g : Games) (main rounds sides : ℕ) (touched : ℕ → Bo
     ((t : ℕ) → has sides t ≡ true → has main t ≡ true) →
     ((t : ℕ) → t < g.teams → (has main t || is_guest g (has main) (has rounds) t) ≡ true → touched t ≡ true) →
     touches body touched (has rounds) ≡ false → deviation_part g main rounds sides body ≡ 0
-unfolding touches deviation_part
+unfolding touches deviation_part can_alter
 untouched_part g main rounds sides touched body rr is sides_in all none =
     elim (and_cases (looks_at_team body touched) (looks_at_round body (has rounds)) none) [
       | inl team ↦ no_part g rr main rounds sides body is (quiet_untouched g rr main rounds sides sides_in touched all body is team)
-      | inr round ↦ cond-false {A = ℕ} (looks_at_round body (has rounds)) (changing_terms g main rounds sides body) 0 round
+      | inr round ↦
+          cond-false {A = ℕ} (can_alter body (has rounds)) (changing_terms g main rounds sides body) 0
+          (and_left (looks_at_round body (has rounds)) (tells_apart body (has rounds)) round)
     ]

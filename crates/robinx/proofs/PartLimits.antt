@@ -11,8 +11,8 @@ use Rattle.league.proofs.ForCallers.{sum_below_le_each}
 use Rattle.fixtures.specs.Games.{Games, round_count}
 use Rattle.robinx.specs.Deviations.{over, games_of_team, games_in_window, games_in_round, breaks, rounds_between, over_in_windows}
 use Rattle.robinx.specs.Deviations.{short_pairs, worst_gap, worst_gaps, deviation}
-use Rattle.robinx.specs.Touches.{looks_at_round}
-use Rattle.robinx.specs.Parts.{counts_otherwise, over_in_met_windows, meets_window, is_pair_with, changing_terms, deviation_part}
+use Rattle.robinx.specs.Parts.{counts_otherwise, over_in_met_windows, meets_window, is_pair_with, changing_terms, can_alter}
+use Rattle.robinx.specs.Parts.{deviation_part}
 use Rattle.robinx.proofs.Limits.{deviation_below}
 
 fewer : (test inside : Bool) (x y : ℕ) → x ≤ y → (if test && inside then x else 0) ≤ (if test then y else 0)
@@ -75,4 +75,4 @@ terms_below g main rounds sides body forty is = omega (arith, terms_le g main ro
 
 pub part_le : (g : Games) (main rounds sides : ℕ) (body : RuleBody) → deviation_part g main rounds sides body ≤ deviation g body
 unfolding deviation_part
-part_le g main rounds sides body = or_none (looks_at_round body (has rounds)) _ _ (terms_le g main rounds sides body)
+part_le g main rounds sides body = or_none (can_alter body (has rounds)) _ _ (terms_le g main rounds sides body)

@@ -2,7 +2,7 @@
 use Rattle.std.proofs.Common.{◌≡◌, ℕ, ◌+◌, ◌-◌, ◌<◌, ◌≤◌, ◌&&◌, ◌||◌, ◌⊎◌, not, Bool, true, false, List, [], ◌∷◌, inl, inr, refl, sym, ◌∙◌}
 use Rattle.std.proofs.Common.{ap, arith}
 use Rattle.std.specs.List.{AllByRecursion, list_any}
-use Rattle.std.proofs.lemmas.Bool.{cases_Bool, cases_lt, false≢true, and_cases, and_right, or_parts, not_from_false, not-false, not-true}
+use Rattle.std.proofs.lemmas.Bool.{cases_Bool, cases_lt, false≢true, and_cases, or_parts, not_from_false, not-false, not-true}
 use Rattle.league.specs.Sets.{has, IsBelow}
 use Rattle.league.specs.Sums.{any_below}
 use Rattle.league.specs.Games.{IsGameFor}
@@ -15,25 +15,20 @@ use Rattle.league.specs.declared.rule.Side.TheVariants.{Any}
 use Rattle.league.proofs.ForCallers.{any_below_fails, any_below_same, count_where_same, has_beyond}
 use Rattle.fixtures.specs.declared.game.Cell.{Cell}
 use Rattle.fixtures.specs.Games.{Games, round_count, round_of, cell, is_home, IsPair, IsDoubleRoundRobin}
-use Rattle.fixtures.specs.Changes.{DiffersOnlyAt, DiffersOnlyAround, box}
+use Rattle.fixtures.specs.Changes.{DiffersOnlyIn, DiffersOnlyAt, DiffersOnlyAround, box}
 use Rattle.fixtures.proofs.ForCallers.{is_cell, round_of_kept, round_of_kept_around}
 use Rattle.robinx.specs.Deviations.{over, is_on_side, is_counted, games_of_team, games_in_window, games_in_round, breaks, rounds_between}
 use Rattle.robinx.specs.Deviations.{over_in_windows, short_pairs, worst_gap, worst_gaps, deviation}
 use Rattle.robinx.specs.LooksPast.{takes_all_or_none}
-use Rattle.robinx.specs.Touches.{has_touched_team, looks_at_round, touches}
+use Rattle.robinx.specs.Touches.{has_touched_team}
 use Rattle.robinx.specs.Parts.{is_guest, counts_otherwise, has_moved_game, meets_window, over_in_met_windows, changing_terms}
-use Rattle.robinx.specs.Parts.{deviation_part}
+use Rattle.robinx.specs.Parts.{can_alter, deviation_part}
 use Rattle.robinx.proofs.LookedPast.{TakesAllOrNone-tested}
 use Rattle.robinx.proofs.PartSums.{where_balance, whole_terms_balance, pairs_balance, whole_balance, part_balance}
 use Rattle.robinx.proofs.SeesSame.{SeesSame, SeesSameBreaks, SeesSameUntil, games_of_team-same, games_in_round-same, over_in_windows-same}
 use Rattle.robinx.proofs.SeesSame.{breaks-same, worst_gap-same, together-same, each-same, breaks_of_all-same, listed_games_in-same}
-use Rattle.robinx.proofs.Untouched.{untouched_deviation}
-
-other_fails : (p q : Bool) → (p && q) ≡ false → p ≡ true → q ≡ false
-other_fails p q fails passes = elim (and_cases p q fails) [
-  | inl fails_here ↦ absurd (false≢true (sym fails_here ∙ passes))
-  | inr fails_there ↦ fails_there
-]
+use Rattle.robinx.proofs.Untouched.{other_fails}
+use Rattle.robinx.proofs.ToldApart.{stays_inside, unaltered_deviation}
 
 module _ (g g' : Games) (rr : IsDoubleRoundRobin g) (rr' : IsDoubleRoundRobin g') (main rounds : ℕ)
     (differs : DiffersOnlyAround g g' (has main) (has rounds)) where
@@ -146,15 +141,6 @@ module _ (g g' : Games) (rr : IsDoubleRoundRobin g) (rr' : IsDoubleRoundRobin g'
     opponent = λ t r in_t in_r team out. ap (λ (c : Cell). opponents c.opponent) (differs.same_cells t r in_t in_r (not-true _ out));
   }
 
-  -- the whole stays where the rule looks at none of the rounds
-  none_looked_at : (body : RuleBody) → IsBodyFor g.teams body → looks_at_round body (has rounds) ≡ false →
-      deviation g' body ≡ deviation g body
-  unfolding touches
-  none_looked_at body is none =
-      untouched_deviation g g' (λ _. true) (has rounds) body rr rr' is
-      (record { same_size = differs.same_size; same_cells = λ t r in_t in_r out. differs.same_cells t r in_t in_r out })
-      (and_right _ (looks_at_round body (has rounds)) none)
-
   -- windows that have none of the rounds
   window_same : (side : Side) (opponents : ℕ → Bool) (window t first : ℕ) → t < g.teams → first + window ≤ round_count g.teams →
       meets_window (has rounds) window first ≡ false →
@@ -252,6 +238,9 @@ neither p q fails = let parts = or_parts p q fails in (not_from_false p parts.0,
 module _ (g g' : Games) (rr : IsDoubleRoundRobin g) (rr' : IsDoubleRoundRobin g') (main rounds sides : ℕ)
     (differs : DiffersOnlyAround g g' (has main) (has rounds))
     (turned : DiffersOnlyAt is_home g g' (box (has sides) (has rounds))) where
+  outside : DiffersOnlyIn g g' (λ _. true) (has rounds)
+  outside = record { same_size = differs.same_size; same_cells = differs.same_cells }
+
   -- a game of the list in the rounds is one in both schedules
   moved_game_same : (games : List Pairing) → AllByRecursion (IsGameFor g.teams) games →
       has_moved_game g' (has main) (has rounds) games ≡ has_moved_game g (has main) (has rounds) games
@@ -262,30 +251,8 @@ module _ (g g' : Games) (rr : IsDoubleRoundRobin g) (rr' : IsDoubleRoundRobin g'
       here : (game : Pairing) → IsGameFor g.teams game →
           ((has main game.home || has main game.away) && has rounds (round_of g' game.home game.away)) ≡
           ((has main game.home || has main game.away) && has rounds (round_of g game.home game.away))
-      here game is = at (has rounds (round_of g game.home game.away)) refl (has rounds (round_of g' game.home game.away)) refl
-        where
-          pair : IsPair g.teams game.home game.away
-          pair = record { home_in = is.home; away_in = is.away; distinct = is.distinct }
-
-          pair' : IsPair g'.teams game.home game.away
-          pair' = rw differs.same_size pair
-
-          at : (b : Bool) → has rounds (round_of g game.home game.away) ≡ b → (c : Bool) →
-              has rounds (round_of g' game.home game.away) ≡ c →
-              ((has main game.home || has main game.away) && c) ≡ ((has main game.home || has main game.away) && b)
-          at true inside true inside' = refl
-          at false outside false outside' = refl
-          at false outside true inside' =
-              let kept : round_of g' game.home game.away ≡ round_of g game.home game.away =
-              round_of_kept g g' rr rr' differs.same_size game.home game.away pair
-              (differs.same_cells game.home (round_of g game.home game.away) is.home (rr.in_range game.home game.away pair) outside) in
-              absurd (false≢true (sym outside ∙ ap (has rounds) (sym kept) ∙ inside'))
-          at true inside false outside' =
-              let kept : round_of g game.home game.away ≡ round_of g' game.home game.away =
-              round_of_kept g' g rr' rr (sym differs.same_size) game.home game.away pair'
-              (sym (differs.same_cells game.home (round_of g' game.home game.away) is.home
-              (rw differs.same_size at (rr'.in_range game.home game.away pair')) outside')) in
-              absurd (false≢true (sym outside' ∙ ap (has rounds) (sym kept) ∙ inside))
+      here game is =
+          ap (λ (b : Bool). (has main game.home || has main game.away) && b) (stays_inside g g' rr rr' (has rounds) outside game is)
 
   terms_balance : (body : RuleBody) → IsBodyFor g.teams body →
       deviation g' body + changing_terms g main rounds sides body ≡ deviation g body + changing_terms g' main rounds sides body
@@ -383,5 +350,5 @@ module _ (g g' : Games) (rr : IsDoubleRoundRobin g) (rr' : IsDoubleRoundRobin g'
       deviation g' body + deviation_part g main rounds sides body ≡ deviation g body + deviation_part g' main rounds sides body
   unfolding deviation_part
   deviation_balance body is =
-      part_balance (looks_at_round body (has rounds)) (looks_at_round body (has rounds)) _ _ _ _ refl (terms_balance body is)
-      (none_looked_at g g' rr rr' main rounds differs body is)
+      part_balance (can_alter body (has rounds)) (can_alter body (has rounds)) _ _ _ _ refl (terms_balance body is)
+      (unaltered_deviation g g' rr rr' (has rounds) outside body is)

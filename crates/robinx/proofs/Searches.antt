@@ -9,6 +9,7 @@ use Rattle.league.specs.Sets.{has, IsBelow, IsWithoutLowest}
 use Rattle.league.specs.Sums.{any_below}
 use Rattle.league.proofs.ForCallers.{any_below_found, any_below_from_none, any_below_same, lowest_below, has_empty}
 use Rattle.robinx.specs.Touches.{has_touched_round, has_touched_until, or_before}
+use Rattle.robinx.specs.Parts.{lacks_one}
 
 -- no number of the set that isn't left passes the test
 pub record NoneBefore (n set left : ℕ) (test : ℕ → Bool) : Type 0 where
@@ -79,6 +80,19 @@ touched_break slots around touched members =
     any_below_same 78 (λ r. has slots r && has around r) (λ r. has slots r && or_before touched r)
     (λ r below. ap (λ (b : Bool). has slots r && b)
     (members r ∙ ap (λ (b : Bool). b && (touched r || (not (r == 0) && touched (r - 1)))) (lt-ltb r 78 below)))
+
+-- one that isn't a slot
+pub touched_lacked : (slots lacked : ℕ) (touched : ℕ → Bool) → ((r : ℕ) → has lacked r ≡ (touched r && not (has slots r))) →
+    any_below 78 (λ r. has lacked r && touched r) ≡ lacks_one slots touched
+unfolding lacks_one
+touched_lacked slots lacked touched members =
+    any_below_same 78 (λ r. has lacked r && touched r) (λ r. touched r && not (has slots r))
+    (λ r below. ap (λ (b : Bool). b && touched r) (members r) ∙ again (touched r) (not (has slots r)))
+  where
+    again : (a b : Bool) → ((a && b) && a) ≡ (a && b)
+    again true true = refl
+    again true false = refl
+    again false b = refl
 
 -- a round up to one of the slots, where the first is the lowest touched one
 pub touched_until : (slots touched first rest from : ℕ) → IsWithoutLowest touched first rest →

@@ -51,7 +51,7 @@ if_same false x y same = refl
 sum_below_sized : (m n : ℕ) (f g : ℕ → ℕ) → m ≡ n → ((k : ℕ) → k < n → f k ≡ g k) → sum_below m f ≡ sum_below n g
 sum_below_sized m n f g size same = ap (λ (k : ℕ). sum_below k f) size ∙ sum_below_same n f g same
 
-sum_where_sized : (m n : ℕ) (test : ℕ → Bool) (f g : ℕ → ℕ) → m ≡ n → ((k : ℕ) → k < n → test k ≡ true → f k ≡ g k) →
+pub sum_where_sized : (m n : ℕ) (test : ℕ → Bool) (f g : ℕ → ℕ) → m ≡ n → ((k : ℕ) → k < n → test k ≡ true → f k ≡ g k) →
     sum_where m test f ≡ sum_where n test g
 sum_where_sized m n test f g size same =
     ap (λ (k : ℕ). sum_where k test f) size ∙ sum_where_same n test test f g (λ k below. refl) same

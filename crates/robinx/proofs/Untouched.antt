@@ -22,7 +22,7 @@ use Rattle.fixtures.proofs.ForCallers.{round_of_kept}
 use Rattle.robinx.proofs.SeesSame.{SeesSame, SeesSameBreaks, SeesSameUntil, limited-same, together-same, each-same, windows-same}
 use Rattle.robinx.proofs.SeesSame.{breaks_of_each-same, breaks_of_all-same, separation-same, gaps-same, listed_games_in-same}
 
-other_fails : (p q : Bool) → (p && q) ≡ false → p ≡ true → q ≡ false
+pub other_fails : (p q : Bool) → (p && q) ≡ false → p ≡ true → q ≡ false
 other_fails p q fails passes =
     elim (and_cases p q fails) [ inl fails_here ↦ absurd (false≢true (sym fails_here ∙ passes)) | inr fails_there ↦ fails_there ]
 
@@ -145,37 +145,41 @@ module _ (g g' : Games) (rr : IsDoubleRoundRobin g) (in_teams in_rounds : ℕ �
       round_of_kept g g' rr rr' differs.same_size i j pair
       (stays teams untouched i (round_of g i j) pair.home_in (rr.in_range i j pair) team)
 
+  pair : (game : Pairing) → IsGameFor g.teams game → IsPair g.teams game.home game.away
+  pair game is = record { home_in = is.home; away_in = is.away; distinct = is.distinct }
+
+  pub in_season : (game : Pairing) → IsGameFor g.teams game → round_of g game.home game.away < round_count g.teams
+  in_season game is = rr.in_range game.home game.away (pair game is)
+
+  module _ (rr' : IsDoubleRoundRobin g') where
+    pub in_season' : (game : Pairing) → IsGameFor g.teams game → round_of g' game.home game.away < round_count g.teams
+    in_season' game is = rw differs.same_size at (rr'.in_range game.home game.away (rw differs.same_size (pair game is)))
+
+    -- a game of a list stays in its round, where that isn't touched before or after
+    pub game_stays : (game : Pairing) → IsGameFor g.teams game →
+        (in_teams game.home && in_rounds (round_of g game.home game.away)) ≡ false →
+        round_of g' game.home game.away ≡ round_of g game.home game.away
+    game_stays game is out =
+        round_of_kept g g' rr rr' differs.same_size game.home game.away (pair game is)
+        (differs.same_cells _ _ is.home (in_season game is) out)
+
+    pub game_stayed : (game : Pairing) → IsGameFor g.teams game →
+        (in_teams game.home && in_rounds (round_of g' game.home game.away)) ≡ false →
+        round_of g' game.home game.away ≡ round_of g game.home game.away
+    game_stayed game is out =
+        sym (round_of_kept g' g rr' rr (sym differs.same_size) game.home game.away (rw differs.same_size (pair game is))
+        (sym (differs.same_cells _ _ is.home (in_season' game is) out)))
+
   -- a game of a list is in the slots in both schedules or in neither
   game_kept : IsDoubleRoundRobin g' → (slots : ℕ) (game : Pairing) → IsGameFor g.teams game →
       (in_teams game.home ≡ false) ⊎ (has_touched_slot slots in_rounds ≡ false) →
       has slots (round_of g' game.home game.away) ≡ has slots (round_of g game.home game.away)
   unfolding has_touched_slot
   game_kept rr' slots game is untouched = elim untouched [
-    | inl home ↦ ap (has slots) (kept (fails_left _ _ home))
+    | inl home ↦ ap (has slots) (game_stays rr' game is (fails_left _ _ home))
     | inr none ↦ by_tests none (has slots (round_of g game.home game.away)) refl (has slots (round_of g' game.home game.away)) refl
   ]
     where
-      pair : IsPair g.teams game.home game.away
-      pair = record { home_in = is.home; away_in = is.away; distinct = is.distinct }
-
-      in_r : round_of g game.home game.away < round_count g.teams
-      in_r = rr.in_range game.home game.away pair
-
-      kept : (in_teams game.home && in_rounds (round_of g game.home game.away)) ≡ false →
-          round_of g' game.home game.away ≡ round_of g game.home game.away
-      kept out = round_of_kept g g' rr rr' differs.same_size game.home game.away pair (differs.same_cells _ _ is.home in_r out)
-
-      pair' : IsPair g'.teams game.home game.away
-      pair' = rw differs.same_size pair
-
-      in_r' : round_of g' game.home game.away < round_count g.teams
-      in_r' = rw differs.same_size at (rr'.in_range game.home game.away pair')
-
-      kept_back : (in_teams game.home && in_rounds (round_of g' game.home game.away)) ≡ false →
-          round_of g game.home game.away ≡ round_of g' game.home game.away
-      kept_back out = round_of_kept g' g rr' rr (sym differs.same_size) game.home game.away pair'
-          (sym (differs.same_cells _ _ is.home in_r' out))
-
       slot_kept : any_below 78 (λ r. has slots r && in_rounds r) ≡ false → (r : ℕ) → r < round_count g.teams → has slots r ≡ true →
           in_rounds r ≡ false
       slot_kept none r below slot =
@@ -185,9 +189,9 @@ module _ (g g' : Games) (rr : IsDoubleRoundRobin g) (in_teams in_rounds : ℕ �
       by_tests : any_below 78 (λ r. has slots r && in_rounds r) ≡ false → (b : Bool) → has slots (round_of g game.home game.away) ≡ b →
           (c : Bool) → has slots (round_of g' game.home game.away) ≡ c → c ≡ b
       by_tests none true slot c slot' =
-          sym slot' ∙ ap (has slots) (kept (fails_right _ _ (slot_kept none _ in_r slot))) ∙ slot
+          sym slot' ∙ ap (has slots) (game_stays rr' game is (fails_right _ _ (slot_kept none _ (in_season game is) slot))) ∙ slot
       by_tests none false slot true slot' =
-          sym slot' ∙ sym (ap (has slots) (kept_back (fails_right _ _ (slot_kept none _ in_r' slot')))) ∙ slot
+          sym slot' ∙ ap (has slots) (game_stayed rr' game is (fails_right _ _ (slot_kept none _ (in_season' rr' game is) slot'))) ∙ slot
       by_tests none false slot false slot' = refl
 
   games_kept : IsDoubleRoundRobin g' → (slots : ℕ) (games : List Pairing) → AllByRecursion (IsGameFor g.teams) games →

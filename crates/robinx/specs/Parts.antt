@@ -2,6 +2,7 @@
 -- which may meet another main team there than before. Only side teams change their sides.
 use Rattle.std.specs.Prelude.{ℕ, ◌+◌, ◌-◌, ◌&&◌, ◌||◌, not, Bool, true, false, if◌then◌else◌, List}
 use Rattle.std.specs.List.{list_any}
+use Rattle.league.specs.Limits.{max_rounds}
 use Rattle.league.specs.Sets.{has}
 use Rattle.league.specs.Sums.{sum_where, sum_of_pairs, any_below}
 use Rattle.league.specs.declared.rule.Pairing.{Pairing}
@@ -42,7 +43,7 @@ over_in_met_windows g side opponents window most rounds team =
 abbrev pub is_pair_with : ℕ → ℕ → ℕ → ℕ → Bool
 is_pair_with teams set i j = (has teams i && has teams j) && (has set i || has set j)
 
--- the terms of a deviation that a change can alter, for a rule that looks at one of the rounds
+-- the terms of a deviation that a change can alter, where it can alter the deviation
 unfoldable pub changing_terms : Games → ℕ → ℕ → ℕ → RuleBody → ℕ
 changing_terms g main rounds sides (Ca1 teams side slots most) =
     sum_where g.teams (λ t. has teams t && has sides t)
@@ -71,7 +72,28 @@ changing_terms g main rounds sides (Se1 teams least) =
 changing_terms g main rounds sides (Fa2 teams slots most) =
     sum_of_pairs g.teams (λ i j. if is_pair_with teams sides i j then worst_gap g (has slots) most i j else 0)
 
--- the part of a deviation that a change can alter: none unless the rule looks at one of the rounds
+-- whether the slots lack one of the rounds
+unfoldable pub lacks_one : ℕ → (ℕ → Bool) → Bool
+lacks_one slots rounds = any_below max_rounds (λ r. rounds r && not (has slots r))
+
+-- whether the rule tells the rounds apart: one that counts games in all slots together does if the slots lack one of the
+-- rounds, since each team has the same games in each season
+unfoldable pub tells_apart : RuleBody → (ℕ → Bool) → Bool
+tells_apart (Ca1 teams side slots most) rounds = lacks_one slots rounds
+tells_apart (Ca2 teams1 side teams2 slots most) rounds = lacks_one slots rounds
+tells_apart (Ca3 teams1 side teams2 window most) rounds = true
+tells_apart (Ca4 teams1 side teams2 slots each most) rounds = each || lacks_one slots rounds
+tells_apart (Ga1 games slots least most) rounds = lacks_one slots rounds
+tells_apart (Br1 teams side slots most) rounds = true
+tells_apart (Br2 teams slots most) rounds = true
+tells_apart (Se1 teams least) rounds = true
+tells_apart (Fa2 teams slots most) rounds = true
+
+-- whether a change in the rounds can alter a deviation from the rule
+unfoldable pub can_alter : RuleBody → (ℕ → Bool) → Bool
+can_alter body rounds = looks_at_round body rounds && tells_apart body rounds
+
+-- the part of a deviation that a change can alter
 unfoldable pub deviation_part : Games → ℕ → ℕ → ℕ → RuleBody → ℕ
 deviation_part g main rounds sides body =
-    if looks_at_round body (has rounds) then changing_terms g main rounds sides body else 0
+    if can_alter body (has rounds) then changing_terms g main rounds sides body else 0

@@ -12,7 +12,7 @@ use crate::fairness_rules::fa2_with;
 use crate::game_rules::ga1_part;
 use crate::guests::teams_otherwise;
 use crate::separation_rules::se1_with;
-use crate::touched_rules::looks_at_round;
+use crate::touched_rules::can_alter;
 use fixtures::{Schedule, Touched};
 use league::{Rule, RuleBody, SlotSet, TeamSet};
 
@@ -26,14 +26,14 @@ pub fn deviation_part(schedule: &Schedule, rule: &Rule, main: Touched, sides: Te
     ensures value { result ≡ deviation_part schedule.now main.teams main.rounds sides rule.now.body }
     ensures below { result < deviation_limit }
 {
-    if looks_at_round(rule, main.rounds) {
+    if can_alter(rule, main.rounds) {
         changing_terms(schedule, rule, main.teams, main.rounds, sides)
     } else {
         0
     }
 }
 
-/// The part for a rule that looks at one of the rounds.
+/// The part for a rule whose deviation a change in the rounds can alter.
 fn changing_terms(
     schedule: &Schedule,
     rule: &Rule,

@@ -4,6 +4,7 @@ ghost use Rattle.std.specs.Prelude.{◌≡◌};
 ghost use Rattle.league.specs.Sets.{has};
 ghost use Rattle.robinx.specs.Touches.{has_touched_slot, has_touched_round, has_touched_game, has_touched_until};
 ghost use Rattle.robinx.specs.Touches.{or_before, looks_at_team, looks_at_round, touches};
+ghost use Rattle.robinx.specs.Parts.{lacks_one, tells_apart, can_alter};
 
 use fixtures::Touched;
 use league::limits::MAX_ROUNDS;
@@ -39,7 +40,7 @@ fn looks_at_team(rule: &Rule, teams: TeamSet) -> bool
 
 /// Whether the rule looks at one of the rounds.
 #[tactic(auto, unfolding(crate::specs::Touches::looks_at_round, crate::specs::Touches::has_touched_slot))]
-pub(crate) fn looks_at_round(rule: &Rule, rounds: SlotSet) -> bool
+fn looks_at_round(rule: &Rule, rounds: SlotSet) -> bool
     ensures { result ≡ looks_at_round rule.now.body (has rounds) }
 {
     match &rule.body {
@@ -53,6 +54,40 @@ pub(crate) fn looks_at_round(rule: &Rule, rounds: SlotSet) -> bool
         RuleBody::Se1 { .. } => has_touched_round(rounds),
         RuleBody::Fa2 { slots, .. } => has_touched_until(*slots, rounds),
     }
+}
+
+/// Whether a change in the rounds can alter how far a schedule is from the rule.
+#[tactic(auto, unfolding(crate::specs::Parts::can_alter))]
+pub(crate) fn can_alter(rule: &Rule, rounds: SlotSet) -> bool
+    ensures { result ≡ can_alter rule.now.body (has rounds) }
+{
+    looks_at_round(rule, rounds) && tells_apart(rule, rounds)
+}
+
+/// Whether the rule tells the rounds apart: one that counts games in all slots together does if the slots lack one of them.
+#[tactic(auto, unfolding(crate::specs::Parts::tells_apart))]
+fn tells_apart(rule: &Rule, rounds: SlotSet) -> bool
+    ensures { result ≡ tells_apart rule.now.body (has rounds) }
+{
+    match &rule.body {
+        RuleBody::Ca1 { slots, .. } => lacks_one(*slots, rounds),
+        RuleBody::Ca2 { slots, .. } => lacks_one(*slots, rounds),
+        RuleBody::Ca4 { slots, each, .. } => *each || lacks_one(*slots, rounds),
+        RuleBody::Ga1 { slots, .. } => lacks_one(*slots, rounds),
+        RuleBody::Ca3 { .. } => true,
+        RuleBody::Br1 { .. } => true,
+        RuleBody::Br2 { .. } => true,
+        RuleBody::Se1 { .. } => true,
+        RuleBody::Fa2 { .. } => true,
+    }
+}
+
+/// Whether the slots lack one of the rounds.
+fn lacks_one(slots: SlotSet, rounds: SlotSet) -> bool
+    ensures { result ≡ lacks_one slots (has rounds) }
+{
+    let lacked = rounds.difference(slots);
+    lacked.intersects(rounds)
 }
 
 /// Whether any round is touched.

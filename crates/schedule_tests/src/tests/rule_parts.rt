@@ -19,14 +19,19 @@ const OF_HOMES: &[(&str, &str, u64)] = &[
         4,
     ),
     (
-        r#""class":"CA2","teams1":[1,2,3,4,5,6],"mode":"A","teams2":[1,2,5],"max":0"#,
-        r#""class":"CA2","teams1":[1,2],"mode":"A","teams2":[1,2,5],"max":0"#,
-        4,
+        r#""class":"CA2","teams1":[1,2,3,4,5,6],"mode":"A","teams2":[1,2,5],"slots":[1,2,3,4,5,6],"max":0"#,
+        r#""class":"CA2","teams1":[1,2],"mode":"A","teams2":[1,2,5],"slots":[1,2,3,4,5,6],"max":0"#,
+        3,
+    ),
+    (
+        r#""class":"CA2","teams1":[1,2,3,4,5,6],"mode":"A","teams2":[1,5],"slots":[2,3,4,5,6,10],"max":0"#,
+        r#""class":"CA2","teams1":[1,2],"mode":"A","teams2":[1,5],"slots":[2,3,4,5,6,10],"max":0"#,
+        3,
     ),
     (
         r#""class":"CA2","teams1":[1,2,3,4,5,6],"mode":"A","teams2":[1,5],"max":0"#,
-        r#""class":"CA2","teams1":[1,2],"mode":"A","teams2":[1,5],"max":0"#,
-        3,
+        r#""class":"CA2","teams1":[],"mode":"A","teams2":[1,5],"max":0"#,
+        0,
     ),
     (
         r#""class":"CA3","teams1":[1,2,3],"mode":"HA","intp":10,"max":4"#,
@@ -39,24 +44,50 @@ const OF_HOMES: &[(&str, &str, u64)] = &[
         0,
     ),
     (
+        r#""class":"CA4","teams1":[1,4],"mode":"HA","teams2":[2,6],"mode2":"GLOBAL","slots":[2,4,8,9],"max":0"#,
+        r#""class":"CA4","teams1":[1,4],"mode":"HA","teams2":[2,6],"mode2":"GLOBAL","slots":[2,4,8,9],"max":0"#,
+        2,
+    ),
+    (
+        r#""class":"CA4","teams1":[1,4],"mode":"HA","teams2":[2,6],"mode2":"GLOBAL","slots":[2,4,7,9],"max":0"#,
+        r#""class":"CA4","teams1":[],"mode":"HA","teams2":[2,6],"mode2":"GLOBAL","slots":[2,4,7,9],"max":0"#,
+        0,
+    ),
+    (
+        r#""class":"GA1","games":[[1,2],[3,1],[5,6]],"slots":[1,2,9,10],"min":2,"max":0"#,
+        r#""class":"GA1","games":[[1,2],[3,1],[5,6]],"slots":[1,2,9,10],"min":2,"max":0"#,
+        2,
+    ),
+    (
+        r#""class":"GA1","games":[[1,2],[3,1],[5,6]],"slots":[1,2,7],"min":2,"max":2"#,
+        r#""class":"GA1","games":[],"slots":[1,2,7],"min":0,"max":0"#,
+        0,
+    ),
+    (
         r#""class":"BR1","teams":[1,2,3,4],"mode":"HA","intp":0"#,
         r#""class":"BR1","teams":[1,2],"mode":"HA","intp":0"#,
         6,
     ),
 ];
 
-/// Rules of each class: with opponents that hold all, none and one of teams 1 and 2, slots of the last round, and a
-/// window as long as the season.
+/// Rules of each class: with opponents that hold all, none and one of teams 1 and 2, slots that hold all, some and none of
+/// the rounds in which a move changes anything, slots of the last round, and a window as long as the season.
 const RULES: &[&str] = &[
     r#""class":"CA1","teams":[1,3],"mode":"A","slots":[1,2,10],"max":0"#,
+    r#""class":"CA1","teams":[1,3],"mode":"H","slots":[2,5,7],"max":0"#,
     r#""class":"CA2","teams1":[1,4,5],"mode":"HA","teams2":[1,2,3],"slots":[2,7,9],"max":0"#,
     r#""class":"CA2","teams1":[1,4,5],"mode":"H","teams2":[2,6],"max":1"#,
     r#""class":"CA2","teams1":[2,3,6],"mode":"A","teams2":[4,5],"slots":[10],"max":0"#,
+    r#""class":"CA2","teams1":[1,2,3],"mode":"A","slots":[2,3,4],"max":0"#,
     r#""class":"CA3","teams1":[1,2,3,4],"mode":"HA","teams2":[1,5],"intp":3,"max":0"#,
     r#""class":"CA3","teams1":[2,6],"mode":"H","intp":10,"max":3"#,
     r#""class":"CA4","teams1":[3,4],"mode":"H","teams2":[1],"mode2":"GLOBAL","max":1"#,
+    r#""class":"CA4","teams1":[1,4],"mode":"A","teams2":[2,6],"mode2":"GLOBAL","slots":[2,4,8,9],"max":0"#,
+    r#""class":"CA4","teams1":[1,2],"mode":"H","mode2":"GLOBAL","slots":[2,5,7],"max":0"#,
     r#""class":"CA4","teams1":[1,4],"mode":"HA","teams2":[2,6],"mode2":"EVERY","max":0"#,
     r#""class":"GA1","games":[[1,2],[3,1],[5,6]],"slots":[1,2,10],"min":1,"max":1"#,
+    r#""class":"GA1","games":[[1,2],[2,1],[4,3]],"slots":[2,5,7],"min":3,"max":3"#,
+    r#""class":"GA1","games":[[1,2],[6,4],[2,3]],"slots":[3,4,8],"min":2,"max":2"#,
     r#""class":"BR1","teams":[1,2,5],"mode":"H","slots":[2,3,10],"intp":0"#,
     r#""class":"BR2","teams":[2,3,4],"slots":[5,10],"intp":0"#,
     r#""class":"SE1","teams":[1,3,4,6],"min":6"#,
@@ -73,13 +104,17 @@ const MOVES: &[(Move, bool)] = &[
     (Move::PartTeams { i: 0, j: 1, k: 2 }, true),
 ];
 
-/// The part of the deviation from a league's only rule that a change of these cells can alter, whose teams may change sides.
-fn part(schedule: &Schedule, league: &League, main: Touched) -> Option<u64> {
+/// The part of the deviation from a league's only rule that a change of these cells can alter, if these teams may change sides.
+fn part(
+    schedule: &Schedule,
+    league: &League,
+    (main, sides): (Touched, TeamSet),
+) -> Option<u64> {
     if league.teams() != schedule.teams() || league.rule_count() != 1 {
         return None;
     }
     let rule = league.rule(0);
-    Some(deviation_part(schedule, rule, main, main.teams))
+    Some(deviation_part(schedule, rule, main, sides))
 }
 
 /// The part that an exchange of the homes of teams 1 and 2 can alter.
@@ -94,7 +129,8 @@ fn check_part(
         teams: TeamSet::below(2),
         rounds: SlotSet::empty().with(1).with(6),
     };
-    check_same_of(rt, &rule, &part(start, &league, main), &Some(count));
+    let found = part(start, &league, (main, main.teams));
+    check_same_of(rt, &rule, &found, &Some(count));
     Ok(())
 }
 
@@ -121,9 +157,20 @@ fn made(schedule: &mut Schedule, (mv, two): (Move, bool)) -> Result<Touched, Fai
     Ok(main)
 }
 
+/// The teams that are on different sides in a round of the two schedules.
+fn turned(before: &Schedule, after: &Schedule) -> TeamSet {
+    let mut sides = TeamSet::empty();
+    for team in 0..before.teams().min(after.teams()) {
+        if before.home_rounds(team) != after.home_rounds(team) {
+            sides = sides.with(team);
+        }
+    }
+    sides
+}
+
 /// What of the deviation isn't in the part.
-fn rest(schedule: &Schedule, league: &League, main: Touched) -> Option<u64> {
-    only_deviation(schedule, league)?.checked_sub(part(schedule, league, main)?)
+fn rest(schedule: &Schedule, league: &League, change: (Touched, TeamSet)) -> Option<u64> {
+    only_deviation(schedule, league)?.checked_sub(part(schedule, league, change)?)
 }
 
 /// The rest before the move and after it.
@@ -135,7 +182,8 @@ fn rests(
 ) -> Result<(Option<u64>, Option<u64>), Fail> {
     let mut after = start.duplicate(alloc)?;
     let main = made(&mut after, mv)?;
-    Ok((rest(start, league, main), rest(&after, league, main)))
+    let change = (main, turned(start, &after));
+    Ok((rest(start, league, change), rest(&after, league, change)))
 }
 
 fn check_rest(
