@@ -54,13 +54,13 @@ const OF_HOMES: &[(&str, &str, u64)] = &[
         0,
     ),
     (
-        r#""class":"GA1","games":[[1,2],[3,1],[5,6]],"slots":[1,2,9,10],"min":2,"max":0"#,
-        r#""class":"GA1","games":[[1,2],[3,1],[5,6]],"slots":[1,2,9,10],"min":2,"max":0"#,
+        r#""class":"GA1","games":[[1,2],[3,1],[5,6]],"slots":[1,2,9,10],"min":0,"max":0"#,
+        r#""class":"GA1","games":[[1,2],[3,1],[5,6]],"slots":[1,2,9,10],"min":0,"max":0"#,
         2,
     ),
     (
         r#""class":"GA1","games":[[1,2],[3,1],[5,6]],"slots":[1,2,7],"min":2,"max":2"#,
-        r#""class":"GA1","games":[],"slots":[1,2,7],"min":0,"max":0"#,
+        r#""class":"GA1","games":[[1,2]],"slots":[1,2,7],"min":1,"max":1"#,
         0,
     ),
     (
