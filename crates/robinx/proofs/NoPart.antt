@@ -1,10 +1,10 @@
 -- Of a rule that isn't touched, or that looks past the main teams, a change can alter nothing.
-use Rattle.std.proofs.Common.{◌≡◌, ℕ, ◌<◌, ◌^◌, ◌&&◌, ◌||◌, not, Bool, true, false, if◌then◌else◌, List, [], ◌∷◌, inl, inr, refl, sym, ◌∙◌}
+use Rattle.std.proofs.Common.{◌≡◌, ℕ, ◌<◌, ◌^◌, ◌&&◌, ◌||◌, ◌==◌, not, Bool, true, false, if◌then◌else◌, List, [], ◌∷◌, inl, inr, refl, sym, ◌∙◌}
 use Rattle.std.proofs.Common.{ap, arith}
 use Rattle.std.specs.List.{AllByRecursion, list_any}
 use Rattle.std.proofs.lemmas.Bool.{cases_lt, cond-false, false≢true, false_from_ne_true, and_cases, and_parts, and_left, and_right, or_from}
 use Rattle.std.proofs.lemmas.Bool.{or_parts, not-true}
-use Rattle.league.specs.Sets.{has}
+use Rattle.league.specs.Sets.{has, all_numbers}
 use Rattle.league.specs.Games.{IsGameFor}
 use Rattle.league.specs.RuleLimits.{IsBodyFor}
 use Rattle.league.specs.declared.rule.Pairing.{Pairing}
@@ -16,8 +16,8 @@ use Rattle.fixtures.specs.Games.{Games, round_count, round_of, cell, IsPair, IsD
 use Rattle.fixtures.proofs.ForCallers.{cell_home}
 use Rattle.robinx.specs.LooksPast.{takes_all_or_none, looks_past}
 use Rattle.robinx.specs.Touches.{has_touched_team, has_touched_game, looks_at_team, looks_at_round, touches}
-use Rattle.robinx.specs.Parts.{is_guest, counts_otherwise, has_moved_game, is_pair_with, changing_terms, tells_apart, can_alter}
-use Rattle.robinx.specs.Parts.{deviation_part}
+use Rattle.robinx.specs.Parts.{is_guest, meets_otherwise, counts_otherwise, has_moved_game, is_pair_with, changing_terms, tells_apart}
+use Rattle.robinx.specs.Parts.{can_alter, deviation_part}
 use Rattle.robinx.proofs.LookedPast.{AreApart-tested, others-tested}
 
 module _ (g : Games) (rr : IsDoubleRoundRobin g) (main rounds sides : ℕ) where
@@ -28,9 +28,9 @@ module _ (g : Games) (rr : IsDoubleRoundRobin g) (main rounds sides : ℕ) where
   -- none of what a rule looks at can change
   abbrev IsQuiet : RuleBody → Type 0
   IsQuiet (Ca1 teams side slots most) = NonePasses teams (has sides)
-  IsQuiet (Ca2 teams1 side teams2 slots most) = NonePasses teams1 (counts_otherwise g main rounds teams2)
-  IsQuiet (Ca3 teams1 side teams2 window most) = NonePasses teams1 (counts_otherwise g main rounds teams2)
-  IsQuiet (Ca4 teams1 side teams2 slots each most) = NonePasses teams1 (counts_otherwise g main rounds teams2)
+  IsQuiet (Ca2 teams1 side teams2 slots most) = NonePasses teams1 (counts_otherwise g main rounds sides teams2)
+  IsQuiet (Ca3 teams1 side teams2 window most) = NonePasses teams1 (counts_otherwise g main rounds sides teams2)
+  IsQuiet (Ca4 teams1 side teams2 slots each most) = NonePasses teams1 (counts_otherwise g main rounds sides teams2)
   IsQuiet (Ga1 games slots least most) = has_moved_game g (has main) (has rounds) games ≡ false
   IsQuiet (Br1 teams side slots most) = NonePasses teams (has sides)
   IsQuiet (Br2 teams slots most) = NonePasses teams (has sides)
@@ -63,13 +63,13 @@ module _ (g : Games) (rr : IsDoubleRoundRobin g) (main rounds sides : ℕ) where
   none_changes (Ca1 teams side slots most) is quiet =
       sum_where_none g.teams (λ t. has teams t && has sides t) _ (λ t in_t. not_both _ _ (quiet t in_t))
   none_changes (Ca2 teams1 side teams2 slots most) is quiet =
-      sum_where_none g.teams (λ t. has teams1 t && counts_otherwise g main rounds teams2 t) _ (λ t in_t. not_both _ _ (quiet t in_t))
+      sum_where_none g.teams (λ t. has teams1 t && counts_otherwise g main rounds sides teams2 t) _ (λ t in_t. not_both _ _ (quiet t in_t))
   none_changes (Ca3 teams1 side teams2 window most) is quiet =
-      sum_where_none g.teams (λ t. has teams1 t && counts_otherwise g main rounds teams2 t) _ (λ t in_t. not_both _ _ (quiet t in_t))
+      sum_where_none g.teams (λ t. has teams1 t && counts_otherwise g main rounds sides teams2 t) _ (λ t in_t. not_both _ _ (quiet t in_t))
   none_changes (Ca4 teams1 side teams2 slots false most) is quiet =
-      cond-false {A = ℕ} _ _ 0 (none_of_all teams1 (counts_otherwise g main rounds teams2) is.0 quiet)
+      cond-false {A = ℕ} _ _ 0 (none_of_all teams1 (counts_otherwise g main rounds sides teams2) is.0 quiet)
   none_changes (Ca4 teams1 side teams2 slots true most) is quiet =
-      cond-false {A = ℕ} _ _ 0 (none_of_all teams1 (counts_otherwise g main rounds teams2) is.0 quiet)
+      cond-false {A = ℕ} _ _ 0 (none_of_all teams1 (counts_otherwise g main rounds sides teams2) is.0 quiet)
   none_changes (Ga1 games slots least most) is quiet = cond-false {A = ℕ} _ _ 0 quiet
   none_changes (Br1 teams side slots most) is quiet =
       sum_where_none g.teams (λ t. has teams t && has sides t) _ (λ t in_t. not_both _ _ (quiet t in_t))
@@ -87,6 +87,15 @@ module _ (g : Games) (rr : IsDoubleRoundRobin g) (main rounds sides : ℕ) where
       at true x none = none
       at false x none = refl
 
+  neither_counts : (opponents t : ℕ) → has sides t ≡ false → meets_otherwise g main rounds opponents t ≡ false →
+      counts_otherwise g main rounds sides opponents t ≡ false
+  unfolding counts_otherwise
+  neither_counts opponents t stays meets = at (opponents == all_numbers g.teams)
+    where
+      at : (b : Bool) → (if b then has sides t else meets_otherwise g main rounds opponents t) ≡ false
+      at true = stays
+      at false = meets
+
   -- the side teams are among the main teams
   module _ (sides_in : (t : ℕ) → has sides t ≡ true → has main t ≡ true) where
     not_side : (t : ℕ) → has main t ≡ false → has sides t ≡ false
@@ -98,11 +107,13 @@ module _ (g : Games) (rr : IsDoubleRoundRobin g) (main rounds sides : ℕ) where
     apart teams tested t in_t is = AreApart-tested teams main tested t (omega (arith, rr.most)) is
 
     apart_and_all : (teams opponents : ℕ) → (not (has_touched_team teams (has main)) && takes_all_or_none main opponents) ≡ true →
-        NonePasses teams (counts_otherwise g main rounds opponents)
-    unfolding counts_otherwise
+        NonePasses teams (counts_otherwise g main rounds sides opponents)
+    unfolding meets_otherwise
     apart_and_all teams opponents tested t in_t is =
         let both = and_parts (not (has_touched_team teams (has main))) (takes_all_or_none main opponents) tested in
-        or_from (has main t) _ (apart teams both.0 t in_t is) (ap (λ b. not b && is_guest g (has main) (has rounds) t) both.1)
+        let out = apart teams both.0 t in_t is in
+        neither_counts opponents t (not_side t out)
+        (or_from (has main t) _ out (ap (λ b. not b && is_guest g (has main) (has rounds) t) both.1))
 
     no_moved_game : (games : List Pairing) →
         AllByRecursion (λ (game : Pairing). (has main game.home ≡ false) × (has main game.away ≡ false)) games →
@@ -141,11 +152,11 @@ module _ (g : Games) (rr : IsDoubleRoundRobin g) (main rounds sides : ℕ) where
           ]
 
       uncounted : (teams opponents : ℕ) → has_touched_team teams touched ≡ false →
-          NonePasses teams (counts_otherwise g main rounds opponents)
-      unfolding counts_otherwise
+          NonePasses teams (counts_otherwise g main rounds sides opponents)
+      unfolding meets_otherwise
       uncounted teams opponents none t in_t is =
           let out = neither t in_t (untouched teams none t in_t is) in
-          or_from (has main t) _ out.0 (and_right _ _ out.1)
+          neither_counts opponents t (not_side t out.0) (or_from (has main t) _ out.0 (and_right _ _ out.1))
 
       unmoved : (games : List Pairing) → AllByRecursion (IsGameFor g.teams) games → has_touched_game games touched ≡ false →
           has_moved_game g (has main) (has rounds) games ≡ false

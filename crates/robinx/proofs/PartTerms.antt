@@ -1,6 +1,6 @@
 -- The terms of a deviation that a change can alter, as loops over some of the teams count them.
-use Rattle.std.proofs.Common.{◌≡◌, ℕ, ◌<◌, ◌&&◌, ◌||◌, not, nat_lt, Bool, true, false, if◌then◌else◌, refl, sym, ◌∙◌, ap}
-use Rattle.league.specs.Sets.{has}
+use Rattle.std.proofs.Common.{◌≡◌, ℕ, ◌<◌, ◌&&◌, ◌||◌, ◌==◌, not, nat_lt, Bool, true, false, if◌then◌else◌, refl, sym, ◌∙◌, ap}
+use Rattle.league.specs.Sets.{has, all_numbers}
 use Rattle.std.proofs.lemmas.Bool.{cond-true, cond-false, lt-ltb}
 use Rattle.league.specs.Sums.{sum_below, sum_where, sum_of_pairs, any_below}
 use Rattle.league.specs.declared.rule.RuleBody.TheVariants.{Ca1, Ca2, Ca3, Ca4, Br1}
@@ -10,7 +10,7 @@ use Rattle.fixtures.specs.Games.{Games, round_count, cell}
 use Rattle.robinx.specs.Deviations.{over, games_in_round, deviation}
 use Rattle.robinx.specs.Touches.{has_touched_team}
 use Rattle.robinx.specs.LooksPast.{takes_all_or_none}
-use Rattle.robinx.specs.Parts.{is_guest, counts_otherwise, over_in_met_windows, is_pair_with, changing_terms}
+use Rattle.robinx.specs.Parts.{is_guest, meets_otherwise, counts_otherwise, over_in_met_windows, is_pair_with, changing_terms}
 
 pub Ca1-terms : (g : Games) (main rounds sides teams : ℕ) (side : Side) (slots most both : ℕ) →
     ((t : ℕ) → has both t ≡ (has teams t && has sides t)) →
@@ -20,20 +20,20 @@ Ca1-terms g main rounds sides teams side slots most both members =
     sum_where_same g.teams (has both) (λ t. has teams t && has sides t) _ _ (λ t in_t. members t) (λ t in_t is. refl)
 
 pub Ca2-terms : (g : Games) (main rounds sides teams : ℕ) (side : Side) (opponents slots most both : ℕ) →
-    ((t : ℕ) → has both t ≡ (has teams t && counts_otherwise g main rounds opponents t)) →
+    ((t : ℕ) → has both t ≡ (has teams t && counts_otherwise g main rounds sides opponents t)) →
     deviation g (Ca2 both side opponents slots most) ≡ changing_terms g main rounds sides (Ca2 teams side opponents slots most)
 unfolding deviation changing_terms
 Ca2-terms g main rounds sides teams side opponents slots most both members =
-    sum_where_same g.teams (has both) (λ t. has teams t && counts_otherwise g main rounds opponents t) _ _ (λ t in_t. members t)
+    sum_where_same g.teams (has both) (λ t. has teams t && counts_otherwise g main rounds sides opponents t) _ _ (λ t in_t. members t)
     (λ t in_t is. refl)
 
 pub Ca3-terms : (g : Games) (main rounds sides teams : ℕ) (side : Side) (opponents window most both : ℕ) →
-    ((t : ℕ) → has both t ≡ (has teams t && counts_otherwise g main rounds opponents t)) →
+    ((t : ℕ) → has both t ≡ (has teams t && counts_otherwise g main rounds sides opponents t)) →
     sum_where g.teams (has both) (over_in_met_windows g side (has opponents) window most (has rounds)) ≡
     changing_terms g main rounds sides (Ca3 teams side opponents window most)
 unfolding changing_terms
 Ca3-terms g main rounds sides teams side opponents window most both members =
-    sum_where_same g.teams (has both) (λ t. has teams t && counts_otherwise g main rounds opponents t) _ _ (λ t in_t. members t)
+    sum_where_same g.teams (has both) (λ t. has teams t && counts_otherwise g main rounds sides opponents t) _ _ (λ t in_t. members t)
     (λ t in_t is. refl)
 
 pub Br1-terms : (g : Games) (main rounds sides teams : ℕ) (side : Side) (slots most both : ℕ) →
@@ -77,32 +77,44 @@ one_is_met teams both test members =
     again false b = refl
 
 module _ (g : Games) (main rounds sides teams : ℕ) (side : Side) (opponents slots most : ℕ) where
-  pub Ca4-none : (each : Bool) → has_touched_team teams (counts_otherwise g main rounds opponents) ≡ false →
+  pub Ca4-none : (each : Bool) → has_touched_team teams (counts_otherwise g main rounds sides opponents) ≡ false →
       0 ≡ changing_terms g main rounds sides (Ca4 teams side opponents slots each most)
   unfolding changing_terms
-  Ca4-none true none = sym (cond-false {A = ℕ} (has_touched_team teams (counts_otherwise g main rounds opponents)) _ 0 none)
-  Ca4-none false none = sym (cond-false {A = ℕ} (has_touched_team teams (counts_otherwise g main rounds opponents)) _ 0 none)
+  Ca4-none true none = sym (cond-false {A = ℕ} (has_touched_team teams (counts_otherwise g main rounds sides opponents)) _ 0 none)
+  Ca4-none false none = sym (cond-false {A = ℕ} (has_touched_team teams (counts_otherwise g main rounds sides opponents)) _ 0 none)
 
-  pub Ca4-all : has_touched_team teams (counts_otherwise g main rounds opponents) ≡ true →
+  pub Ca4-all : has_touched_team teams (counts_otherwise g main rounds sides opponents) ≡ true →
       over (sum_where (round_count g.teams) (has slots) (games_in_round g side (has teams) (has opponents))) most ≡
       changing_terms g main rounds sides (Ca4 teams side opponents slots false most)
   unfolding deviation changing_terms
-  Ca4-all one = sym (cond-true {A = ℕ} (has_touched_team teams (counts_otherwise g main rounds opponents)) _ 0 one)
+  Ca4-all one = sym (cond-true {A = ℕ} (has_touched_team teams (counts_otherwise g main rounds sides opponents)) _ 0 one)
 
   pub Ca4-each : (both : ℕ) → ((r : ℕ) → has both r ≡ (has slots r && has rounds r)) →
-      has_touched_team teams (counts_otherwise g main rounds opponents) ≡ true →
+      has_touched_team teams (counts_otherwise g main rounds sides opponents) ≡ true →
       sum_where (round_count g.teams) (has both) (λ r. over (games_in_round g side (has teams) (has opponents) r) most) ≡
       changing_terms g main rounds sides (Ca4 teams side opponents slots true most)
   unfolding changing_terms
   Ca4-each both members one =
       sum_where_same (round_count g.teams) (has both) (λ r. has slots r && has rounds r) _ _ (λ r in_r. members r) (λ r in_r is. refl) ∙
-      sym (cond-true {A = ℕ} (has_touched_team teams (counts_otherwise g main rounds opponents)) _ 0 one)
+      sym (cond-true {A = ℕ} (has_touched_team teams (counts_otherwise g main rounds sides opponents)) _ 0 one)
 
 -- the teams of which other games may count
 
-pub otherwise_main : (g : Games) (main rounds opponents teams t : ℕ) → takes_all_or_none main opponents ≡ true →
-    (has teams t && has main t) ≡ (has teams t && counts_otherwise g main rounds opponents t)
+pub otherwise_turned : (g : Games) (main rounds sides opponents teams t : ℕ) → (opponents == all_numbers g.teams) ≡ true →
+    (has teams t && has sides t) ≡ (has teams t && counts_otherwise g main rounds sides opponents t)
 unfolding counts_otherwise
+otherwise_turned g main rounds sides opponents teams t all =
+    ap (λ b. has teams t && b) (sym (cond-true (opponents == all_numbers g.teams) _ (meets_otherwise g main rounds opponents t) all))
+
+pub otherwise_met : (g : Games) (main rounds sides opponents teams t : ℕ) → (opponents == all_numbers g.teams) ≡ false →
+    (has teams t && meets_otherwise g main rounds opponents t) ≡ (has teams t && counts_otherwise g main rounds sides opponents t)
+unfolding counts_otherwise
+otherwise_met g main rounds sides opponents teams t some =
+    ap (λ b. has teams t && b) (sym (cond-false (opponents == all_numbers g.teams) (has sides t) _ some))
+
+pub otherwise_main : (g : Games) (main rounds opponents teams t : ℕ) → takes_all_or_none main opponents ≡ true →
+    (has teams t && has main t) ≡ (has teams t && meets_otherwise g main rounds opponents t)
+unfolding meets_otherwise
 otherwise_main g main rounds opponents teams t all =
     ap (λ b. has teams t && b) (sym (ap (λ b. has main t || (not b && is_guest g (has main) (has rounds) t)) all ∙ or_false (has main t)))
   where
@@ -111,8 +123,8 @@ otherwise_main g main rounds opponents teams t all =
     or_false false = refl
 
 pub otherwise_around : (g : Games) (main rounds opponents teams t : ℕ) → takes_all_or_none main opponents ≡ false →
-    (has teams t && (has main t || is_guest g (has main) (has rounds) t)) ≡ (has teams t && counts_otherwise g main rounds opponents t)
-unfolding counts_otherwise
+    (has teams t && (has main t || is_guest g (has main) (has rounds) t)) ≡ (has teams t && meets_otherwise g main rounds opponents t)
+unfolding meets_otherwise
 otherwise_around g main rounds opponents teams t some =
     ap (λ b. has teams t && (has main t || (not b && is_guest g (has main) (has rounds) t))) (sym some)
 

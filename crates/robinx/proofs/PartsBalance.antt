@@ -1,9 +1,9 @@
 -- What a change around some teams adds to the part of a deviation, it adds to the whole.
-use Rattle.std.proofs.Common.{◌≡◌, ℕ, ◌+◌, ◌-◌, ◌<◌, ◌≤◌, ◌&&◌, ◌||◌, ◌⊎◌, not, Bool, true, false, List, [], ◌∷◌, inl, inr, refl, sym, ◌∙◌}
-use Rattle.std.proofs.Common.{ap, arith}
+use Rattle.std.proofs.Common.{◌≡◌, ℕ, ◌+◌, ◌-◌, ◌<◌, ◌≤◌, ◌&&◌, ◌||◌, ◌⊎◌, ◌==◌, not, Bool, true, false, List, [], ◌∷◌, inl, inr, refl, sym, ◌∙◌}
+use Rattle.std.proofs.Common.{if◌then◌else◌, ap, arith}
 use Rattle.std.specs.List.{AllByRecursion, list_any}
-use Rattle.std.proofs.lemmas.Bool.{cases_Bool, cases_lt, false≢true, and_cases, or_parts, not_from_false, not-false, not-true}
-use Rattle.league.specs.Sets.{has, IsBelow}
+use Rattle.std.proofs.lemmas.Bool.{cases_Bool, cases_eq, cases_lt, cond-true, cond-false, eq-eqb, ne_eqb, lt-ltb, false≢true, and_cases, or_parts, not_from_false, not-false, not-true}
+use Rattle.league.specs.Sets.{has, all_numbers, IsBelow}
 use Rattle.league.specs.Sums.{any_below}
 use Rattle.league.specs.Games.{IsGameFor}
 use Rattle.league.specs.RuleLimits.{IsBodyFor}
@@ -12,7 +12,7 @@ use Rattle.league.specs.declared.rule.RuleBody.{RuleBody}
 use Rattle.league.specs.declared.rule.RuleBody.TheVariants.{Ca1, Ca2, Ca3, Ca4, Ga1, Br1, Br2, Se1, Fa2}
 use Rattle.league.specs.declared.rule.Side.{Side}
 use Rattle.league.specs.declared.rule.Side.TheVariants.{Any}
-use Rattle.league.proofs.ForCallers.{any_below_fails, any_below_same, count_where_same, has_beyond}
+use Rattle.league.proofs.ForCallers.{any_below_fails, any_below_same, count_where_same, has_beyond, has_all_numbers}
 use Rattle.fixtures.specs.declared.game.Cell.{Cell}
 use Rattle.fixtures.specs.Games.{Games, round_count, round_of, cell, is_home, IsPair, IsDoubleRoundRobin}
 use Rattle.fixtures.specs.Changes.{DiffersOnlyIn, DiffersOnlyAt, DiffersOnlyAround, box}
@@ -21,7 +21,7 @@ use Rattle.robinx.specs.Deviations.{over, is_on_side, is_counted, games_of_team,
 use Rattle.robinx.specs.Deviations.{over_in_windows, short_pairs, worst_gap, worst_gaps, deviation}
 use Rattle.robinx.specs.LooksPast.{takes_all_or_none}
 use Rattle.robinx.specs.Touches.{has_touched_team}
-use Rattle.robinx.specs.Parts.{is_guest, counts_otherwise, has_moved_game, meets_window, over_in_met_windows, changing_terms}
+use Rattle.robinx.specs.Parts.{is_guest, meets_otherwise, counts_otherwise, has_moved_game, meets_window, over_in_met_windows, changing_terms}
 use Rattle.robinx.specs.Parts.{can_alter, deviation_part}
 use Rattle.robinx.proofs.LookedPast.{TakesAllOrNone-tested}
 use Rattle.robinx.proofs.PartSums.{where_balance, whole_terms_balance, pairs_balance, whole_balance, part_balance}
@@ -30,11 +30,50 @@ use Rattle.robinx.proofs.SeesSame.{breaks-same, worst_gap-same, together-same, e
 use Rattle.robinx.proofs.Untouched.{other_fails}
 use Rattle.robinx.proofs.ToldApart.{stays_inside, unaltered_deviation}
 
-module _ (g g' : Games) (rr : IsDoubleRoundRobin g) (rr' : IsDoubleRoundRobin g') (main rounds : ℕ)
-    (differs : DiffersOnlyAround g g' (has main) (has rounds)) where
+module _ (g g' : Games) (size : g'.teams ≡ g.teams) (sides rounds : ℕ)
+    (turned : DiffersOnlyAt is_home g g' (box (has sides) (has rounds))) where
+  -- a team that isn't a side team keeps its sides
+  home_kept : (t r : ℕ) → t < g.teams → r < round_count g.teams → has sides t ≡ false → (cell g' t r).home ≡ (cell g t r).home
+  unfolding is_home
+  home_kept t r in_t in_r other = turned.same t r in_t in_r (ap (λ (b : Bool). b && has rounds r) other)
+
+  SeesSame-unturned : (slots : ℕ → Bool) → SeesSame g g' (λ t. not (has sides t)) slots (λ _. true)
+  SeesSame-unturned slots = record {
+    same_size = size;
+    side = λ t r in_t in_r team slot. home_kept t r in_t in_r (not-true _ team);
+    opponent = λ t r in_t in_r team slot. refl;
+  }
+
+  SeesSameBreaks-unturned : (teams slots : ℕ → Bool) → ((t : ℕ) → t < g.teams → teams t ≡ true → has sides t ≡ false) →
+      SeesSameBreaks g g' teams slots
+  SeesSameBreaks-unturned teams slots others = record {
+    same_size = size;
+    side = λ t r in_t in_r team slot. home_kept t r in_t in_r (others t in_t team);
+    before = λ t r in_t in_r team slot. home_kept t (r - 1) in_t (omega arith) (others t in_t team);
+  }
+
+  SeesSameUntil-unturned : (slots : ℕ → Bool) → SeesSameUntil g g' (λ t. not (has sides t)) slots
+  unfolding is_home
+  SeesSameUntil-unturned slots = record {
+    same_size = size;
+    side = λ t r k in_t in_r team slot until. home_kept t k in_t (omega arith) (not-true _ team);
+  }
+
+  none_turns : (teams : ℕ) → g.teams ≤ 40 → has_touched_team teams (has sides) ≡ false → (t : ℕ) → t < g.teams → has teams t ≡ true →
+      has sides t ≡ false
+  unfolding has_touched_team
+  none_turns teams forty none t in_t team =
+      other_fails (has teams t) (has sides t) (any_below_fails 40 (λ t. has teams t && has sides t) none t (omega arith)) team
+
+module _ (g g' : Games) (rr : IsDoubleRoundRobin g) (rr' : IsDoubleRoundRobin g') (main rounds sides : ℕ)
+    (differs : DiffersOnlyAround g g' (has main) (has rounds))
+    (turned : DiffersOnlyAt is_home g g' (box (has sides) (has rounds))) where
+  opponent_in' : (t r : ℕ) → t < g.teams → r < round_count g.teams → (cell g' t r).opponent < g.teams
+  opponent_in' t r in_t in_r =
+      omega (arith, differs.same_size, (is_cell g' rr' t r (rw differs.same_size in_t) (rw differs.same_size in_r)).pair.away_in)
+
   below' : (t r : ℕ) → t < g.teams → r < round_count g.teams → (cell g' t r).opponent < 40
-  below' t r in_t in_r =
-      omega (arith, rr'.most, (is_cell g' rr' t r (rw differs.same_size in_t) (rw differs.same_size in_r)).pair.away_in)
+  below' t r in_t in_r = omega (arith, rr.most, opponent_in' t r in_t in_r)
 
   below_before : (t r : ℕ) → t < g.teams → r < round_count g.teams → (cell g t r).opponent < 40
   below_before t r in_t in_r = omega (arith, rr.most, (is_cell g rr t r in_t in_r).pair.away_in)
@@ -55,29 +94,36 @@ module _ (g g' : Games) (rr : IsDoubleRoundRobin g) (rr' : IsDoubleRoundRobin g'
       (λ r. has rounds r && has main (cell g t r).opponent)
       (λ r in_r. ap (λ (b : Bool). has rounds r && b) (meets_main t r in_t in_r other))
 
-  counts_same : (opponents t : ℕ) → t < g.teams → counts_otherwise g' main rounds opponents t ≡ counts_otherwise g main rounds opponents t
-  unfolding counts_otherwise
-  counts_same opponents t in_t = elim (cases_Bool (has main t)) [
+  meets_same : (opponents t : ℕ) → t < g.teams → meets_otherwise g' main rounds opponents t ≡ meets_otherwise g main rounds opponents t
+  unfolding meets_otherwise
+  meets_same opponents t in_t = elim (cases_Bool (has main t)) [
     | inl is ↦ rw is refl
     | inr other ↦ rw (other, guest_same t in_t other) refl
   ]
 
+  counts_same : (opponents t : ℕ) → t < g.teams →
+      counts_otherwise g' main rounds sides opponents t ≡ counts_otherwise g main rounds sides opponents t
+  unfolding counts_otherwise
+  counts_same opponents t in_t =
+      ap (λ (n : ℕ). if opponents == all_numbers n then has sides t else meets_otherwise g' main rounds opponents t) differs.same_size ∙
+      ap (λ (b : Bool). if opponents == all_numbers g.teams then has sides t else b) (meets_same opponents t in_t)
+
   one_counts_same : (opponents teams : ℕ) → IsBelow g.teams teams →
-      has_touched_team teams (counts_otherwise g' main rounds opponents) ≡ has_touched_team teams (counts_otherwise g main rounds opponents)
+      has_touched_team teams (counts_otherwise g' main rounds sides opponents) ≡ has_touched_team teams (counts_otherwise g main rounds sides opponents)
   unfolding has_touched_team
   one_counts_same opponents teams below =
-      any_below_same 40 (λ t. has teams t && counts_otherwise g' main rounds opponents t)
-      (λ t. has teams t && counts_otherwise g main rounds opponents t)
+      any_below_same 40 (λ t. has teams t && counts_otherwise g' main rounds sides opponents t)
+      (λ t. has teams t && counts_otherwise g main rounds sides opponents t)
       (λ t in_t. elim (cases_lt t g.teams) [
         | inl lt ↦ ap (λ (b : Bool). has teams t && b) (counts_same opponents t lt)
         | inr past ↦ rw (has_beyond g.teams teams t below past) refl
       ])
 
-  -- the games of a team that doesn't count otherwise are on the same side, against an opponent of the rule before and after or neither
-  opponent_kept : (opponents t r : ℕ) → t < g.teams → r < round_count g.teams → counts_otherwise g main rounds opponents t ≡ false →
+  -- a team that doesn't meet otherwise meets an opponent of the rule before and after, or neither
+  met_kept : (opponents t r : ℕ) → t < g.teams → r < round_count g.teams → meets_otherwise g main rounds opponents t ≡ false →
       has opponents (cell g' t r).opponent ≡ has opponents (cell g t r).opponent
-  unfolding counts_otherwise is_guest
-  opponent_kept opponents t r in_t in_r out =
+  unfolding meets_otherwise is_guest
+  met_kept opponents t r in_t in_r out =
       let parts = or_parts (has main t) (not (takes_all_or_none main opponents) && is_guest g (has main) (has rounds) t) out in
       elim (and_cases (not (takes_all_or_none main opponents)) (is_guest g (has main) (has rounds) t) parts.1) [
         | inl all_or_none ↦ elim (differs.others t r in_t in_r parts.0).same_or_in [
@@ -100,15 +146,40 @@ module _ (g g' : Games) (rr : IsDoubleRoundRobin g) (rr' : IsDoubleRoundRobin g'
             absurd (false≢true (sym fails ∙ rw (inside, both.0) refl))
       ]
 
-  side_kept : (opponents t r : ℕ) → t < g.teams → r < round_count g.teams → counts_otherwise g main rounds opponents t ≡ false →
+  side_met_kept : (opponents t r : ℕ) → t < g.teams → r < round_count g.teams → meets_otherwise g main rounds opponents t ≡ false →
       (cell g' t r).home ≡ (cell g t r).home
-  unfolding counts_otherwise is_home
-  side_kept opponents t r in_t in_r out =
+  unfolding meets_otherwise is_home
+  side_met_kept opponents t r in_t in_r out =
       (differs.others t r in_t in_r
       (or_parts (has main t) (not (takes_all_or_none main opponents) && is_guest g (has main) (has rounds) t) out).0).same_side
 
+  -- against all teams each opponent counts
+  in_all : (opponents o : ℕ) → opponents ≡ all_numbers g.teams → o < g.teams → has opponents o ≡ true
+  in_all opponents o all in_o = ap (λ (s : ℕ). has s o) all ∙ has_all_numbers g.teams o ∙ lt-ltb o g.teams in_o
+
+  -- the games of a team that doesn't count otherwise are on the same side, against an opponent of the rule before and after or neither
+  opponent_kept : (opponents t r : ℕ) → t < g.teams → r < round_count g.teams →
+      counts_otherwise g main rounds sides opponents t ≡ false → has opponents (cell g' t r).opponent ≡ has opponents (cell g t r).opponent
+  unfolding counts_otherwise
+  opponent_kept opponents t r in_t in_r out = elim (cases_eq opponents (all_numbers g.teams)) [
+    | inl all ↦ in_all opponents (cell g' t r).opponent all (opponent_in' t r in_t in_r) ∙
+        sym (in_all opponents (cell g t r).opponent all (is_cell g rr t r in_t in_r).pair.away_in)
+    | inr some ↦ met_kept opponents t r in_t in_r
+        (sym (cond-false (opponents == all_numbers g.teams) (has sides t) (meets_otherwise g main rounds opponents t) (ne_eqb _ _ some)) ∙ out)
+  ]
+
+  side_kept : (opponents t r : ℕ) → t < g.teams → r < round_count g.teams →
+      counts_otherwise g main rounds sides opponents t ≡ false → (cell g' t r).home ≡ (cell g t r).home
+  unfolding counts_otherwise
+  side_kept opponents t r in_t in_r out = elim (cases_eq opponents (all_numbers g.teams)) [
+    | inl all ↦ home_kept g g' differs.same_size sides rounds turned t r in_t in_r
+        (sym (cond-true (opponents == all_numbers g.teams) (has sides t) (meets_otherwise g main rounds opponents t) (eq-eqb _ _ all)) ∙ out)
+    | inr some ↦ side_met_kept opponents t r in_t in_r
+        (sym (cond-false (opponents == all_numbers g.teams) (has sides t) (meets_otherwise g main rounds opponents t) (ne_eqb _ _ some)) ∙ out)
+  ]
+
   SeesSame-others : (opponents : ℕ) (teams slots : ℕ → Bool) →
-      ((t : ℕ) → t < g.teams → teams t ≡ true → counts_otherwise g main rounds opponents t ≡ false) →
+      ((t : ℕ) → t < g.teams → teams t ≡ true → counts_otherwise g main rounds sides opponents t ≡ false) →
       SeesSame g g' teams slots (has opponents)
   SeesSame-others opponents teams slots others = record {
     same_size = differs.same_size;
@@ -118,20 +189,20 @@ module _ (g g' : Games) (rr : IsDoubleRoundRobin g) (rr' : IsDoubleRoundRobin g'
 
   -- those that don't count otherwise
   abbrev others : ℕ → ℕ → Bool
-  others opponents t = not (counts_otherwise g main rounds opponents t)
+  others opponents t = not (counts_otherwise g main rounds sides opponents t)
 
   SeesSame-counted : (opponents : ℕ) (slots : ℕ → Bool) → SeesSame g g' (others opponents) slots (has opponents)
   SeesSame-counted opponents slots = SeesSame-others opponents (others opponents) slots (λ t in_t is. not-true _ is)
 
   -- none of a rule's teams counts otherwise
-  SeesSame-none : (opponents teams : ℕ) (slots : ℕ → Bool) → has_touched_team teams (counts_otherwise g main rounds opponents) ≡ false →
+  SeesSame-none : (opponents teams : ℕ) (slots : ℕ → Bool) → has_touched_team teams (counts_otherwise g main rounds sides opponents) ≡ false →
       SeesSame g g' (has teams) slots (has opponents)
   unfolding has_touched_team
   SeesSame-none opponents teams slots none =
       SeesSame-others opponents (has teams) slots
       (λ t in_t team.
       other_fails (has teams t) _
-      (any_below_fails 40 (λ t. has teams t && counts_otherwise g main rounds opponents t) none t (omega (arith, rr.most))) team)
+      (any_below_fails 40 (λ t. has teams t && counts_otherwise g main rounds sides opponents t) none t (omega (arith, rr.most))) team)
 
   -- all teams in the rounds outside
   SeesSame-outside : (teams opponents : ℕ → Bool) → SeesSame g g' teams (λ r. not (has rounds r)) opponents
@@ -197,41 +268,6 @@ module _ (g g' : Games) (rr : IsDoubleRoundRobin g) (rr' : IsDoubleRoundRobin g'
           pair : (game : Pairing) → IsGameFor g.teams game → IsPair g.teams game.home game.away
           pair game is = record { home_in = is.home; away_in = is.away; distinct = is.distinct }
 
-module _ (g g' : Games) (size : g'.teams ≡ g.teams) (sides rounds : ℕ)
-    (turned : DiffersOnlyAt is_home g g' (box (has sides) (has rounds))) where
-  -- a team that isn't a side team keeps its sides
-  home_kept : (t r : ℕ) → t < g.teams → r < round_count g.teams → has sides t ≡ false → (cell g' t r).home ≡ (cell g t r).home
-  unfolding is_home
-  home_kept t r in_t in_r other = turned.same t r in_t in_r (ap (λ (b : Bool). b && has rounds r) other)
-
-  SeesSame-unturned : (slots : ℕ → Bool) → SeesSame g g' (λ t. not (has sides t)) slots (λ _. true)
-  SeesSame-unturned slots = record {
-    same_size = size;
-    side = λ t r in_t in_r team slot. home_kept t r in_t in_r (not-true _ team);
-    opponent = λ t r in_t in_r team slot. refl;
-  }
-
-  SeesSameBreaks-unturned : (teams slots : ℕ → Bool) → ((t : ℕ) → t < g.teams → teams t ≡ true → has sides t ≡ false) →
-      SeesSameBreaks g g' teams slots
-  SeesSameBreaks-unturned teams slots others = record {
-    same_size = size;
-    side = λ t r in_t in_r team slot. home_kept t r in_t in_r (others t in_t team);
-    before = λ t r in_t in_r team slot. home_kept t (r - 1) in_t (omega arith) (others t in_t team);
-  }
-
-  SeesSameUntil-unturned : (slots : ℕ → Bool) → SeesSameUntil g g' (λ t. not (has sides t)) slots
-  unfolding is_home
-  SeesSameUntil-unturned slots = record {
-    same_size = size;
-    side = λ t r k in_t in_r team slot until. home_kept t k in_t (omega arith) (not-true _ team);
-  }
-
-  none_turns : (teams : ℕ) → g.teams ≤ 40 → has_touched_team teams (has sides) ≡ false → (t : ℕ) → t < g.teams → has teams t ≡ true →
-      has sides t ≡ false
-  unfolding has_touched_team
-  none_turns teams forty none t in_t team =
-      other_fails (has teams t) (has sides t) (any_below_fails 40 (λ t. has teams t && has sides t) none t (omega arith)) team
-
 neither : (p q : Bool) → (p || q) ≡ false → (not p ≡ true) × (not q ≡ true)
 neither p q fails = let parts = or_parts p q fails in (not_from_false p parts.0, not_from_false q parts.1)
 
@@ -265,45 +301,45 @@ module _ (g g' : Games) (rr : IsDoubleRoundRobin g) (rr' : IsDoubleRoundRobin g'
       (games_of_team-same g g' (λ t. not (has sides t)) (has slots) (λ _. true)
       (SeesSame-unturned g g' differs.same_size sides rounds turned (has slots)) side t in_t (not_from_false _ out)))
   terms_balance (Ca2 teams1 side teams2 slots most) is =
-      whole_terms_balance g.teams g'.teams (has teams1) (counts_otherwise g main rounds teams2) (counts_otherwise g' main rounds teams2)
+      whole_terms_balance g.teams g'.teams (has teams1) (counts_otherwise g main rounds sides teams2) (counts_otherwise g' main rounds sides teams2)
       (λ t. over (games_of_team g' side (has teams2) (has slots) t) most) (λ t. over (games_of_team g side (has teams2) (has slots) t) most)
-      differs.same_size (counts_same g g' rr rr' main rounds differs teams2)
+      differs.same_size (counts_same g g' rr rr' main rounds sides differs turned teams2)
       (λ t in_t team out. ap (λ (count : ℕ). over count most)
-      (games_of_team-same g g' (others g g' rr rr' main rounds differs teams2) (has slots) (has teams2)
-      (SeesSame-counted g g' rr rr' main rounds differs teams2 (has slots)) side t in_t (not_from_false _ out)))
+      (games_of_team-same g g' (others g g' rr rr' main rounds sides differs turned teams2) (has slots) (has teams2)
+      (SeesSame-counted g g' rr rr' main rounds sides differs turned teams2 (has slots)) side t in_t (not_from_false _ out)))
   terms_balance (Ca3 teams1 side teams2 window most) is =
-      where_balance g.teams g'.teams (has teams1) (counts_otherwise g main rounds teams2) (counts_otherwise g' main rounds teams2)
+      where_balance g.teams g'.teams (has teams1) (counts_otherwise g main rounds sides teams2) (counts_otherwise g' main rounds sides teams2)
       (over_in_windows g' side (has teams2) window most) (over_in_windows g side (has teams2) window most)
       (over_in_met_windows g' side (has teams2) window most (has rounds)) (over_in_met_windows g side (has teams2) window most (has rounds))
-      differs.same_size (counts_same g g' rr rr' main rounds differs teams2)
-      (λ t in_t inside. windows_balance g g' rr rr' main rounds differs side (has teams2) window most t in_t is.3)
+      differs.same_size (counts_same g g' rr rr' main rounds sides differs turned teams2)
+      (λ t in_t inside. windows_balance g g' rr rr' main rounds sides differs turned side (has teams2) window most t in_t is.3)
       (λ t in_t team out.
-      over_in_windows-same g g' (others g g' rr rr' main rounds differs teams2) (has teams2)
-      (SeesSame-counted g g' rr rr' main rounds differs teams2 (λ _. true)) side window most t in_t (not_from_false _ out) is.3)
+      over_in_windows-same g g' (others g g' rr rr' main rounds sides differs turned teams2) (has teams2)
+      (SeesSame-counted g g' rr rr' main rounds sides differs turned teams2 (λ _. true)) side window most t in_t (not_from_false _ out) is.3)
   terms_balance (Ca4 teams1 side teams2 slots false most) is =
-      whole_balance (has_touched_team teams1 (counts_otherwise g main rounds teams2))
-      (has_touched_team teams1 (counts_otherwise g' main rounds teams2)) _ _
-      (one_counts_same g g' rr rr' main rounds differs teams2 teams1 is.0)
+      whole_balance (has_touched_team teams1 (counts_otherwise g main rounds sides teams2))
+      (has_touched_team teams1 (counts_otherwise g' main rounds sides teams2)) _ _
+      (one_counts_same g g' rr rr' main rounds sides differs turned teams2 teams1 is.0)
       (λ none. together-same g g' (has teams1) (has slots) (has teams2)
-      (SeesSame-none g g' rr rr' main rounds differs teams2 teams1 (has slots) none) side most)
+      (SeesSame-none g g' rr rr' main rounds sides differs turned teams2 teams1 (has slots) none) side most)
   terms_balance (Ca4 teams1 side teams2 slots true most) is =
-      part_balance (has_touched_team teams1 (counts_otherwise g main rounds teams2))
-      (has_touched_team teams1 (counts_otherwise g' main rounds teams2)) _ _ _ _
-      (one_counts_same g g' rr rr' main rounds differs teams2 teams1 is.0)
+      part_balance (has_touched_team teams1 (counts_otherwise g main rounds sides teams2))
+      (has_touched_team teams1 (counts_otherwise g' main rounds sides teams2)) _ _ _ _
+      (one_counts_same g g' rr rr' main rounds sides differs turned teams2 teams1 is.0)
       (whole_terms_balance (round_count g.teams) (round_count g'.teams) (has slots) (has rounds) (has rounds)
       (λ r. over (games_in_round g' side (has teams1) (has teams2) r) most)
       (λ r. over (games_in_round g side (has teams1) (has teams2) r) most)
       (ap round_count differs.same_size) (λ r in_r. refl)
       (λ r in_r slot out. ap (λ (count : ℕ). over count most)
       (games_in_round-same g g' (has teams1) (λ r. not (has rounds r)) (has teams2)
-      (SeesSame-outside g g' rr rr' main rounds differs (has teams1) (has teams2)) side r in_r (not_from_false _ out))))
+      (SeesSame-outside g g' rr rr' main rounds sides differs turned (has teams1) (has teams2)) side r in_r (not_from_false _ out))))
       (λ none. each-same g g' (has teams1) (has slots) (has teams2)
-      (SeesSame-none g g' rr rr' main rounds differs teams2 teams1 (has slots) none) side most)
+      (SeesSame-none g g' rr rr' main rounds sides differs turned teams2 teams1 (has slots) none) side most)
   terms_balance (Ga1 games slots least most) is =
       whole_balance (has_moved_game g (has main) (has rounds) games) (has_moved_game g' (has main) (has rounds) games) _ _
       (moved_game_same games is.0)
       (λ none. ap (λ (count : ℕ). over count most + over least count)
-      (listed_games_in-same g g' (has slots) games (in_slots games (moved_game_kept g g' rr rr' main rounds differs games is.0 none))))
+      (listed_games_in-same g g' (has slots) games (in_slots games (moved_game_kept g g' rr rr' main rounds sides differs turned games is.0 none))))
     where
       in_slots : (games : List Pairing) →
           AllByRecursion (λ (game : Pairing). round_of g' game.home game.away ≡ round_of g game.home game.away) games →

@@ -1,9 +1,9 @@
 -- The part of a deviation that a change can alter: games of the main teams change, in some rounds, and of their guests,
 -- which may meet another main team there than before. Only side teams change their sides.
-use Rattle.std.specs.Prelude.{ℕ, ◌+◌, ◌-◌, ◌&&◌, ◌||◌, not, Bool, true, false, if◌then◌else◌, List}
+use Rattle.std.specs.Prelude.{ℕ, ◌+◌, ◌-◌, ◌&&◌, ◌||◌, ◌==◌, not, Bool, true, false, if◌then◌else◌, List}
 use Rattle.std.specs.List.{list_any}
 use Rattle.league.specs.Limits.{max_rounds}
-use Rattle.league.specs.Sets.{has}
+use Rattle.league.specs.Sets.{has, all_numbers}
 use Rattle.league.specs.Sums.{sum_where, sum_of_pairs, any_below}
 use Rattle.league.specs.declared.rule.Pairing.{Pairing}
 use Rattle.league.specs.declared.rule.RuleBody.{RuleBody}
@@ -18,11 +18,16 @@ use Rattle.robinx.specs.Touches.{has_touched_team, looks_at_round}
 unfoldable pub is_guest : Games → (ℕ → Bool) → (ℕ → Bool) → ℕ → Bool
 is_guest g main rounds t = any_below (round_count g.teams) (λ r. rounds r && main (cell g t r).opponent)
 
--- whether other games of a team may count: those of a main team, and unless the opponents have all main teams or none
--- those of a guest
-unfoldable pub counts_otherwise : Games → ℕ → ℕ → ℕ → ℕ → Bool
-counts_otherwise g main rounds opponents t =
+-- whether a team may meet other opponents of a rule: a main team, and unless the opponents have all main teams or none a
+-- guest
+unfoldable pub meets_otherwise : Games → ℕ → ℕ → ℕ → ℕ → Bool
+meets_otherwise g main rounds opponents t =
     has main t || (not (takes_all_or_none main opponents) && is_guest g (has main) (has rounds) t)
+
+-- whether other games of a team may count: against all teams only its sides tell which do
+unfoldable pub counts_otherwise : Games → ℕ → ℕ → ℕ → ℕ → ℕ → Bool
+counts_otherwise g main rounds sides opponents t =
+    if opponents == all_numbers g.teams then has sides t else meets_otherwise g main rounds opponents t
 
 -- whether a game of the list is one of a main team in a round of the set
 unfoldable pub has_moved_game : Games → (ℕ → Bool) → (ℕ → Bool) → List Pairing → Bool
@@ -49,15 +54,15 @@ changing_terms g main rounds sides (Ca1 teams side slots most) =
     sum_where g.teams (λ t. has teams t && has sides t)
     (λ t. over (games_of_team g side (λ _. true) (has slots) t) most)
 changing_terms g main rounds sides (Ca2 teams1 side teams2 slots most) =
-    sum_where g.teams (λ t. has teams1 t && counts_otherwise g main rounds teams2 t)
+    sum_where g.teams (λ t. has teams1 t && counts_otherwise g main rounds sides teams2 t)
     (λ t. over (games_of_team g side (has teams2) (has slots) t) most)
 changing_terms g main rounds sides (Ca3 teams1 side teams2 window most) =
-    sum_where g.teams (λ t. has teams1 t && counts_otherwise g main rounds teams2 t)
+    sum_where g.teams (λ t. has teams1 t && counts_otherwise g main rounds sides teams2 t)
     (over_in_met_windows g side (has teams2) window most (has rounds))
 changing_terms g main rounds sides (Ca4 teams1 side teams2 slots false most) =
-    if has_touched_team teams1 (counts_otherwise g main rounds teams2) then deviation g (Ca4 teams1 side teams2 slots false most) else 0
+    if has_touched_team teams1 (counts_otherwise g main rounds sides teams2) then deviation g (Ca4 teams1 side teams2 slots false most) else 0
 changing_terms g main rounds sides (Ca4 teams1 side teams2 slots true most) =
-    if has_touched_team teams1 (counts_otherwise g main rounds teams2) then
+    if has_touched_team teams1 (counts_otherwise g main rounds sides teams2) then
     sum_where (round_count g.teams) (λ r. has slots r && has rounds r)
     (λ r. over (games_in_round g side (has teams1) (has teams2) r) most)
     else 0

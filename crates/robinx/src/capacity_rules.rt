@@ -12,7 +12,7 @@ ghost use Rattle.robinx.specs.Parts.{over_in_met_windows, changing_terms};
 use crate::counts::{
     CountedGames, counted_rounds, games_in_round, games_of_team, games_on_side, opponents_of, over,
 };
-use crate::guests::teams_otherwise;
+use crate::guests::{Around, teams_otherwise};
 use crate::windows::{over_in_row, over_in_windows_of};
 use fixtures::Schedule;
 use league::{SlotSet, TeamSet};
@@ -137,12 +137,11 @@ pub(crate) fn ca4(
     }
 }
 
-/// The part of `ca4` that a change around the main teams can alter.
+/// The part of `ca4` that the change can alter.
 pub(crate) fn ca4_part(
     schedule: &Schedule,
     games: &CountedGames,
-    main: TeamSet,
-    rounds: SlotSet,
+    change: &Around,
     slots: SlotSet,
     each: bool,
     most: u32,
@@ -150,15 +149,15 @@ pub(crate) fn ca4_part(
     requires round_robin { IsDoubleRoundRobin schedule.now }
     requires teams { IsBelow schedule.now.teams games.now.teams }
     requires slots { IsBelow (round_count schedule.now.teams) slots }
-    ensures { (sides : ℕ) → result ≡ changing_terms schedule.now main rounds sides
+    ensures { result ≡ changing_terms schedule.now change.now.main change.now.rounds change.now.sides
         (RuleBody.Ca4 games.now.teams games.now.side games.now.opponents slots each most) }
 {
-    let otherwise = teams_otherwise(schedule, main, rounds, games.teams, games.opponents);
+    let otherwise = teams_otherwise(schedule, change, games.teams, games.opponents);
     if !otherwise.intersects(games.teams) {
         return 0;
     }
     if each {
-        over_in_slots(schedule, games, slots.intersection(rounds), most)
+        over_in_slots(schedule, games, slots.intersection(change.rounds), most)
     } else {
         over(games_of_all(schedule, games, slots), most)
     }

@@ -1,6 +1,6 @@
 //! Rules on a list of games: at least and at most so many of them in some rounds.
 
-ghost use Rattle.std.specs.Prelude.{◌≡◌, ℕ, ◌≤◌, ◌&&◌, ◌||◌};
+ghost use Rattle.std.specs.Prelude.{◌≡◌, ◌≤◌, ◌&&◌, ◌||◌};
 ghost use Rattle.std.specs.List.{AllByRecursion};
 ghost use Rattle.league.specs.Sets.{has};
 ghost use Rattle.league.specs.Games.{IsGameFor};
@@ -10,6 +10,7 @@ ghost use Rattle.robinx.specs.Deviations.{listed_games_in, deviation};
 ghost use Rattle.robinx.specs.Parts.{has_moved_game, changing_terms};
 
 use crate::counts::over;
+use crate::guests::Around;
 use fixtures::Schedule;
 use league::{GameList, Pairing, SlotSet, TeamSet};
 
@@ -46,21 +47,20 @@ fn listed_games_in(schedule: &Schedule, slots: SlotSet, games: &GameList) -> u32
     count
 }
 
-/// The part of `ga1` that a change around the main teams can alter.
+/// The part of `ga1` that the change can alter.
 pub(crate) fn ga1_part(
     schedule: &Schedule,
     games: &GameList,
-    main: TeamSet,
-    rounds: SlotSet,
+    change: &Around,
     slots: SlotSet,
     least: u32,
     most: u32,
 ) -> u64
     requires { AllByRecursion (IsGameFor schedule.now.teams) games.now }
-    ensures { (sides : ℕ) → result ≡ changing_terms schedule.now main rounds sides
+    ensures { result ≡ changing_terms schedule.now change.now.main change.now.rounds change.now.sides
         (RuleBody.Ga1 games.now slots least most) }
 {
-    if has_moved_game(schedule, games, main, rounds) {
+    if has_moved_game(schedule, games, change.main, change.rounds) {
         ga1(schedule, games, slots, least, most)
     } else {
         0

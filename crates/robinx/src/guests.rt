@@ -10,23 +10,32 @@ use crate::unaffected_rules::takes_all_or_none;
 use fixtures::Schedule;
 use league::{SlotSet, TeamSet};
 
+/// A change around some teams: in the rounds the main teams get other games, and only side teams may change their sides.
+#[derive(Clone, Copy, Drop)]
+pub(crate) struct Around {
+    pub main: TeamSet,
+    pub rounds: SlotSet,
+    pub sides: TeamSet,
+}
+
 /// Those of the teams of which other games may count, against the opponents.
 pub(crate) fn teams_otherwise(
     schedule: &Schedule,
-    main: TeamSet,
-    rounds: SlotSet,
+    change: &Around,
     teams: TeamSet,
     opponents: TeamSet,
 ) -> TeamSet
     requires { IsBelow schedule.now.teams teams }
-    ensures members { (t : ℕ) → has result t ≡
-        (has teams t && counts_otherwise schedule.now main rounds opponents t) }
+    ensures members { (t : ℕ) → has result t ≡ (has teams t &&
+        counts_otherwise schedule.now change.now.main change.now.rounds change.now.sides opponents t) }
     ensures below { IsBelow schedule.now.teams result }
 {
-    if takes_all_or_none(main, opponents) {
-        teams.intersection(main)
+    if opponents == TeamSet::below(schedule.teams()) {
+        teams.intersection(change.sides)
+    } else if takes_all_or_none(change.main, opponents) {
+        teams.intersection(change.main)
     } else {
-        teams_around(schedule, main, rounds, teams)
+        teams_around(schedule, change.main, change.rounds, teams)
     }
 }
 

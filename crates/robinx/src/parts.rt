@@ -10,7 +10,7 @@ use crate::capacity_rules::{ca2, ca3_part, ca4_part};
 use crate::counts::CountedGames;
 use crate::fairness_rules::fa2_with;
 use crate::game_rules::ga1_part;
-use crate::guests::teams_otherwise;
+use crate::guests::{Around, teams_otherwise};
 use crate::separation_rules::se1_with;
 use crate::touched_rules::can_alter;
 use fixtures::{Schedule, Touched};
@@ -46,6 +46,11 @@ fn changing_terms(
     ensures most { schedule.now.teams ≤ max_teams }
 {
     let all_teams = TeamSet::below(schedule.teams());
+    let change = Around {
+        main,
+        rounds,
+        sides,
+    };
     match &rule.body {
         RuleBody::Ca1 {
             teams,
@@ -65,7 +70,7 @@ fn changing_terms(
             slots,
             max,
         } => {
-            let teams = teams_otherwise(schedule, main, rounds, *teams1, *teams2);
+            let teams = teams_otherwise(schedule, &change, *teams1, *teams2);
             ca2(
                 schedule,
                 &CountedGames::new(teams, *side, *teams2),
@@ -80,7 +85,7 @@ fn changing_terms(
             window,
             max,
         } => {
-            let teams = teams_otherwise(schedule, main, rounds, *teams1, *teams2);
+            let teams = teams_otherwise(schedule, &change, *teams1, *teams2);
             ca3_part(
                 schedule,
                 &CountedGames::new(teams, *side, *teams2),
@@ -99,8 +104,7 @@ fn changing_terms(
         } => ca4_part(
             schedule,
             &CountedGames::new(*teams1, *side, *teams2),
-            main,
-            rounds,
+            &change,
             *slots,
             *each,
             *max,
@@ -110,7 +114,7 @@ fn changing_terms(
             slots,
             min,
             max,
-        } => ga1_part(schedule, games, main, rounds, *slots, *min, *max),
+        } => ga1_part(schedule, games, &change, *slots, *min, *max),
         RuleBody::Br1 {
             teams,
             side,

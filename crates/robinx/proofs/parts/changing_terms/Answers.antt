@@ -32,12 +32,12 @@ returns-in-Ca3-clause-value c =
 
 pub returns-in-Ca4-clause-value : goal.returns-in-Ca4-clause-value
 returns-in-Ca4-clause-value c =
-    rw (c.new-in-Ca4.ensures.teams, c.new-in-Ca4.ensures.side, c.new-in-Ca4.ensures.opponents) at (c.ca4_part.ensures c.args.sides) ∙
+    rw (c.new-in-Ca4.ensures.teams, c.new-in-Ca4.ensures.side, c.new-in-Ca4.ensures.opponents) at c.ca4_part.ensures ∙
     ap (changing_terms c.args.schedule.now c.args.main c.args.rounds c.args.sides) (sym c.in-Ca4.is)
 
 pub returns-in-Ga1-clause-value : goal.returns-in-Ga1-clause-value
 returns-in-Ga1-clause-value c =
-    c.ga1_part.ensures c.args.sides ∙ ap (changing_terms c.args.schedule.now c.args.main c.args.rounds c.args.sides) (sym c.in-Ga1.is)
+    c.ga1_part.ensures ∙ ap (changing_terms c.args.schedule.now c.args.main c.args.rounds c.args.sides) (sym c.in-Ga1.is)
 
 pub returns-in-Br1-clause-value : goal.returns-in-Br1-clause-value
 returns-in-Br1-clause-value c =
