@@ -1,8 +1,9 @@
 -- The rounds in which a team's game counts, and those in which it has a break, as sets.
-use Rattle.std.proofs.Common.{◌≡◌, ℕ, ◌+◌, ◌-◌, ◌<◌, ◌&&◌, ◌||◌, ◌==◌, not, nat_lt, Bool, true, false, if◌then◌else◌, sym, inl, inr, refl}
+use Rattle.std.proofs.Common.{◌≡◌, ℕ, ◌+◌, ◌-◌, ◌<◌, ◌≤◌, ◌&&◌, not, nat_lt, Bool, true, false, if◌then◌else◌, sym, inl, inr, refl}
 use Rattle.std.proofs.Common.{◌∙◌, ap, arith}
 use Rattle.std.specs.Bool.{beq}
-use Rattle.std.proofs.lemmas.Bool.{cases_eq, cases_lt, lt-ltb, le-ltb, ne_eqb}
+use Rattle.std.proofs.Math.Bool.{and-false}
+use Rattle.std.proofs.lemmas.Bool.{cases_eq, lt-ltb, ne_eqb}
 use Rattle.league.specs.Sets.{has}
 use Rattle.league.specs.Sums.{sum_below, sum_where, count_where, any_below}
 use Rattle.league.specs.declared.rule.Side.{Side}
@@ -11,7 +12,7 @@ use Rattle.fixtures.specs.Games.{Games, round_count, cell, is_home}
 use Rattle.robinx.specs.Deviations.{over, is_on_side, is_counted, games_of_team, games_in_window, games_in_round, over_in_windows, is_break}
 use Rattle.robinx.specs.Deviations.{breaks}
 use Rattle.robinx.specs.Parts.{meets_window, over_in_met_windows}
-use Rattle.robinx.proofs.Sets.{sum_of_counts_swap}
+use Rattle.robinx.proofs.Sets.{sum_of_counts_swap, count_after_first}
 
 -- a game on the side in a slot, against one of the opponents
 pub counted_from : (g : Games) (side : Side) (opponents : ℕ → Bool) (t r : ℕ) (slot : Bool) →
@@ -112,62 +113,61 @@ unfolding games_of_team games_in_round
 together_by_teams g side teams opponents slots =
     sum_of_counts_swap g.teams (round_count g.teams) teams slots (is_counted g side opponents)
 
--- whether a team is on the same side as before, where turns are rounds such that it or the one before is at home, and away
-pub without_turn : (n r : ℕ) (at : ℕ → Bool) →
-    ((nat_lt r n && not (nat_lt r 1)) &&
-    not ((nat_lt r n && ((nat_lt r n && at r) || (not (r == 0) && (nat_lt (r - 1) n && at (r - 1))))) &&
-    (nat_lt r n && ((nat_lt r n && not (at r)) || (not (r == 0) && (nat_lt (r - 1) n && not (at (r - 1)))))))) ≡
-    (nat_lt r n && (not (r == 0) && beq (at (r - 1)) (at r)))
-without_turn n r at = elim (cases_eq r 0) [
-  | inl first ↦ rw first (none (nat_lt 0 n) _)
-  | inr later ↦ elim (cases_lt r n) [
-    | inl in_r ↦ rw (lt-ltb r n in_r, le-ltb r 1 (omega arith), ne_eqb r 0 later, lt-ltb (r - 1) n (omega arith)) (same (at r) (at (r - 1)))
-    | inr past ↦ rw (le-ltb r n past) refl
-  ]
-]
+-- the breaks that begin with one of some rounds: with such rounds a set has those after which the team stays on its side
+module _ (g : Games) (t firsts home alike stays : ℕ) (most : round_count g.teams ≤ 78)
+    (homes : (r : ℕ) → has home r ≡ (nat_lt r (round_count g.teams) && is_home g t r))
+    (all_alike : (r : ℕ) → has alike r ≡ (nat_lt (r + 1) 78 && beq (has home r) (has home (r + 1))))
+    (all_stays : (r : ℕ) → has stays r ≡ (has firsts r && has alike r)) where
+  at_home : (r : ℕ) → r < round_count g.teams → has home r ≡ is_home g t r
+  at_home r in_r = homes r ∙ ap (λ b. b && is_home g t r) (lt-ltb r (round_count g.teams) in_r)
+
+  either_round : (side : Side) (first x y : Bool) →
+      ((first && (true && beq x y)) && is_on_side side x) ≡ (first && (true && beq x y && is_on_side side y))
+  either_round side true true true = refl
+  either_round side true true false = refl
+  either_round side true false true = refl
+  either_round side true false false = refl
+  either_round side false x y = refl
+
+  begins : (side : Side) (counted r : ℕ) → has counted r ≡ (has stays r && is_on_side side (has home r)) →
+      r < round_count g.teams - 1 → has counted r ≡ (has firsts (1 + r - 1) && is_break g side t (1 + r))
+  unfolding is_break is_home
+  begins side counted r members below =
+      let first : 1 + r - 1 ≡ r = omega arith in
+      let second : 1 + r ≡ r + 1 = omega arith in
+      members ∙
+      rw (
+        all_stays r,
+        all_alike r,
+        at_home r (omega arith),
+        at_home (r + 1) (omega arith),
+        lt-ltb (r + 1) 78 (omega (arith, most)),
+        first,
+        second,
+        ne_eqb (r + 1) 0 (omega arith),
+      )
+      (either_round side (has firsts r) (cell g t r).home (cell g t (r + 1)).home)
+
+  pub breaks_of_firsts : (side : Side) (counted : ℕ) → ((r : ℕ) → has counted r ≡ (has stays r && is_on_side side (has home r))) →
+      count_where (round_count g.teams - 1) (has counted) ≡ breaks g t (λ r. has firsts (r - 1)) side
+  unfolding breaks is_break
+  breaks_of_firsts side counted members =
+      count_where_same (round_count g.teams - 1) (has counted) (λ r. has firsts (1 + r - 1) && is_break g side t (1 + r))
+      (λ r below. begins side counted r (members r) below) ∙
+      sym (count_after_first (round_count g.teams) (λ r. has firsts (r - 1) && is_break g side t r) (and-false (has firsts (0 - 1))))
+
+-- those in the slots begin with the rounds before them
+pub breaks_in_slots : (g : Games) (side : Side) (t firsts slots : ℕ) →
+    ((r : ℕ) → has firsts r ≡ (nat_lt (r + 1) (round_count g.teams) && has slots (r + 1))) →
+    breaks g t (λ r. has firsts (r - 1)) side ≡ breaks g t (has slots) side
+unfolding breaks is_break
+breaks_in_slots g side t firsts slots members =
+    count_where_same (round_count g.teams) (λ r. has firsts (r - 1) && is_break g side t r) (λ r. has slots r && is_break g side t r) here
   where
-    none : (b c : Bool) → ((b && false) && c) ≡ (b && false)
-    none true c = refl
-    none false c = refl
-
-    same : (a b : Bool) → not ((a || b) && (not a || not b)) ≡ beq b a
-    same true true = refl
-    same true false = refl
-    same false true = refl
-    same false false = refl
-
--- a break in a slot
-pub break_in_slot : (g : Games) (side : Side) (t r : ℕ) (slot : Bool) → r < round_count g.teams →
-    (((nat_lt r (round_count g.teams) && is_on_side side (is_home g t r)) &&
-    (nat_lt r (round_count g.teams) && (not (r == 0) && beq (is_home g t (r - 1)) (is_home g t r)))) && slot) ≡
-    (slot && is_break g side t r)
-unfolding is_break is_home
-break_in_slot g side t r slot in_r =
-    rw (lt-ltb r (round_count g.teams) in_r)
-    (regrouped (is_on_side side (cell g t r).home) (not (r == 0)) (beq (cell g t (r - 1)).home (cell g t r).home) slot)
-  where
-    regrouped : (a b c d : Bool) → ((a && (b && c)) && d) ≡ (d && (b && c && a))
-    regrouped true true true true = refl
-    regrouped true true true false = refl
-    regrouped true true false true = refl
-    regrouped true true false false = refl
-    regrouped true false c true = refl
-    regrouped true false c false = refl
-    regrouped false true true true = refl
-    regrouped false true true false = refl
-    regrouped false true false true = refl
-    regrouped false true false false = refl
-    regrouped false false c true = refl
-    regrouped false false c false = refl
-
-pub breaks_of_members : (g : Games) (side : Side) (t on_side stays both slots counted : ℕ) →
-    ((r : ℕ) → has on_side r ≡ (nat_lt r (round_count g.teams) && is_on_side side (is_home g t r))) →
-    ((r : ℕ) → has stays r ≡ (nat_lt r (round_count g.teams) && (not (r == 0) && beq (is_home g t (r - 1)) (is_home g t r)))) →
-    ((r : ℕ) → has both r ≡ (has on_side r && has stays r)) → ((r : ℕ) → has counted r ≡ (has both r && has slots r)) →
-    count_where (round_count g.teams) (has counted) ≡ breaks g t (has slots) side
-unfolding breaks
-breaks_of_members g side t on_side stays both slots counted on_sides all_stays boths members =
-    count_where_same (round_count g.teams) (has counted) (λ r. has slots r && is_break g side t r)
-    (λ r in_r. members r ∙ ap (λ b. b && has slots r) (boths r) ∙ ap (λ b. (b && has stays r) && has slots r) (on_sides r) ∙
-    ap (λ b. ((nat_lt r (round_count g.teams) && is_on_side side (is_home g t r)) && b) && has slots r) (all_stays r) ∙
-    break_in_slot g side t r (has slots r) in_r)
+    here : (r : ℕ) → r < round_count g.teams → (has firsts (r - 1) && is_break g side t r) ≡ (has slots r && is_break g side t r)
+    here r in_r = elim (cases_eq r 0) [
+      | inl first ↦ rw first (and-false (has firsts (0 - 1)) ∙ sym (and-false (has slots 0)))
+      | inr later ↦
+          let back : r - 1 + 1 ≡ r = omega arith in
+          ap (λ b. b && is_break g side t r) (members (r - 1) ∙ rw (back, lt-ltb r (round_count g.teams) in_r) refl)
+    ]

@@ -8,6 +8,7 @@ mod HomeRows
 mod Largest
 mod Limits
 mod LookedPast
+mod MetPairs
 mod NoPart
 mod OpponentRounds
 mod PartLimits

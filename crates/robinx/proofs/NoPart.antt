@@ -50,13 +50,11 @@ module _ (g : Games) (rr : IsDoubleRoundRobin g) (main rounds sides : ℕ) where
         | inr past ↦ absurd (false≢true (sym (has_beyond g.teams teams t below past) ∙ is))
       ]))
 
-  no_pair : (teams set i j : ℕ) (x : ℕ) → i < g.teams → j < g.teams → NonePasses teams (has set) →
-      ◌≡◌ {A = ℕ} (if is_pair_with teams set i j then x else 0) 0
-  no_pair teams set i j x in_i in_j none =
-      cond-false (is_pair_with teams set i j) x 0
-      (not_both (has teams i && has teams j) (has set i || has set j)
+  no_pair : (teams set i j : ℕ) → i < g.teams → j < g.teams → NonePasses teams (has set) → is_pair_with teams set i j ≡ false
+  no_pair teams set i j in_i in_j none =
+      not_both (has teams i && has teams j) (has set i || has set j)
       (λ both. let parts = and_parts (has teams i) (has teams j) both in or_from (has set i) (has set j) (none i in_i parts.0)
-      (none j in_j parts.1)))
+      (none j in_j parts.1))
 
   none_changes : (body : RuleBody) → IsBodyFor g.teams body → IsQuiet body → changing_terms g main rounds sides body ≡ 0
   unfolding changing_terms
@@ -75,9 +73,11 @@ module _ (g : Games) (rr : IsDoubleRoundRobin g) (main rounds sides : ℕ) where
       sum_where_none g.teams (λ t. has teams t && has sides t) _ (λ t in_t. not_both _ _ (quiet t in_t))
   none_changes (Br2 teams slots most) is quiet = cond-false {A = ℕ} _ _ 0 (none_of_all teams (has sides) is.0 quiet)
   none_changes (Se1 teams least) is quiet =
-      sum_below_zero g.teams _ (λ j in_j. sum_below_zero j _ (λ i lower. no_pair teams main i j _ (omega arith) in_j quiet))
+      sum_below_zero g.teams _ (λ j in_j. sum_below_zero j _ (λ i lower. cond-false {A = ℕ} _ _ 0
+      (and_left _ _ (no_pair teams main i j (omega arith) in_j quiet))))
   none_changes (Fa2 teams slots most) is quiet =
-      sum_below_zero g.teams _ (λ j in_j. sum_below_zero j _ (λ i lower. no_pair teams sides i j _ (omega arith) in_j quiet))
+      sum_below_zero g.teams _ (λ j in_j. sum_below_zero j _ (λ i lower. cond-false {A = ℕ} _ _ 0
+      (no_pair teams sides i j (omega arith) in_j quiet)))
 
   no_part : (body : RuleBody) → IsBodyFor g.teams body → IsQuiet body → deviation_part g main rounds sides body ≡ 0
   unfolding deviation_part

@@ -11,7 +11,7 @@ use Rattle.league.proofs.ForCallers.{sum_below_le_each}
 use Rattle.fixtures.specs.Games.{Games, round_count}
 use Rattle.robinx.specs.Deviations.{over, games_of_team, games_in_window, games_in_round, breaks, rounds_between, over_in_windows}
 use Rattle.robinx.specs.Deviations.{short_pairs, worst_gap, worst_gaps, deviation}
-use Rattle.robinx.specs.Parts.{counts_otherwise, over_in_met_windows, meets_window, is_pair_with, changing_terms, can_alter}
+use Rattle.robinx.specs.Parts.{counts_otherwise, over_in_met_windows, meets_window, is_pair_with, meet_in, changing_terms, can_alter}
 use Rattle.robinx.specs.Parts.{deviation_part}
 use Rattle.robinx.proofs.Limits.{deviation_below}
 
@@ -61,9 +61,15 @@ terms_le g main rounds sides (Br1 teams side slots most) =
     some_of g.teams (has teams) (has sides) (λ t. over (breaks g t (has slots) side) most)
 terms_le g main rounds sides (Br2 teams slots most) = or_none _ _ _ (le_self _)
 terms_le g main rounds sides (Se1 teams least) =
-    sum_below_le_each g.teams (λ j. sum_below j (λ i. if is_pair_with teams main i j then over least (rounds_between g i j) else 0))
+    sum_below_le_each g.teams
+    (λ j. sum_below j (λ i.
+    if is_pair_with teams main i j && meet_in g (has rounds) i j then over least (rounds_between g i j) else 0))
     (λ j. sum_below j (λ i. if has teams i && has teams j then over least (rounds_between g i j) else 0))
-    (λ j below. some_of j (λ i. has teams i && has teams j) (λ i. has main i || has main j) (λ i. over least (rounds_between g i j)))
+    (λ j below. omega (
+      arith,
+      some_of j (λ i. is_pair_with teams main i j) (λ i. meet_in g (has rounds) i j) (λ i. over least (rounds_between g i j)),
+      some_of j (λ i. has teams i && has teams j) (λ i. has main i || has main j) (λ i. over least (rounds_between g i j)),
+    ))
 terms_le g main rounds sides (Fa2 teams slots most) =
     sum_below_le_each g.teams (λ j. sum_below j (λ i. if is_pair_with teams sides i j then worst_gap g (has slots) most i j else 0))
     (λ j. sum_below j (λ i. if has teams i && has teams j then worst_gap g (has slots) most i j else 0))

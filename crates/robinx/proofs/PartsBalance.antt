@@ -24,6 +24,7 @@ use Rattle.robinx.specs.Touches.{has_touched_team}
 use Rattle.robinx.specs.Parts.{is_guest, meets_otherwise, counts_otherwise, has_moved_game, meets_window, over_in_met_windows, changing_terms}
 use Rattle.robinx.specs.Parts.{can_alter, deviation_part}
 use Rattle.robinx.proofs.LookedPast.{TakesAllOrNone-tested}
+use Rattle.robinx.proofs.MetPairs.{short_pairs_balance}
 use Rattle.robinx.proofs.PartSums.{where_balance, whole_terms_balance, pairs_balance, whole_balance, part_balance}
 use Rattle.robinx.proofs.SeesSame.{SeesSame, SeesSameBreaks, SeesSameUntil, games_of_team-same, games_in_round-same, over_in_windows-same}
 use Rattle.robinx.proofs.SeesSame.{breaks-same, worst_gap-same, together-same, each-same, breaks_of_all-same, listed_games_in-same}
@@ -359,24 +360,11 @@ module _ (g g' : Games) (rr : IsDoubleRoundRobin g) (rr' : IsDoubleRoundRobin g'
       (λ none. breaks_of_all-same g g' (has teams) (has slots)
       (SeesSameBreaks-unturned g g' differs.same_size sides rounds turned (has teams) (has slots)
       (none_turns g g' differs.same_size sides rounds turned teams rr.most none)) Any most)
-  terms_balance (Se1 teams least) is =
-      pairs_balance g.teams g'.teams (λ i j. has teams i && has teams j) (λ i j. has main i || has main j)
-      (λ i j. over least (rounds_between g' i j)) (λ i j. over least (rounds_between g i j)) differs.same_size
-      (λ i j lower in_j both out. ap (over least) (rounds_kept i j lower in_j (or_parts (has main i) (has main j) out)))
-    where
-      rounds_kept : (i j : ℕ) → i < j → j < g.teams → (has main i ≡ false) × (has main j ≡ false) →
-          rounds_between g' i j ≡ rounds_between g i j
-      rounds_kept i j lower in_j out =
-          let there : round_of g' i j ≡ round_of g i j =
-          round_of_kept_around g g' (has main) (has rounds) rr rr' differs i j
-          (record { home_in = omega arith; away_in = in_j; distinct = omega arith }) out.0 out.1 in
-          let back : round_of g' j i ≡ round_of g j i =
-          round_of_kept_around g g' (has main) (has rounds) rr rr' differs j i
-          (record { home_in = in_j; away_in = omega arith; distinct = omega arith }) out.1 out.0 in
-          rw (there, back) refl
+  terms_balance (Se1 teams least) is = short_pairs_balance g g' rr rr' main rounds differs teams least
   terms_balance (Fa2 teams slots most) is =
       pairs_balance g.teams g'.teams (λ i j. has teams i && has teams j) (λ i j. has sides i || has sides j)
-      (λ i j. worst_gap g' (has slots) most i j) (λ i j. worst_gap g (has slots) most i j) differs.same_size
+      (λ i j. has sides i || has sides j) (λ i j. worst_gap g' (has slots) most i j) (λ i j. worst_gap g (has slots) most i j) differs.same_size
+      (λ i j lower in_j. refl)
       (λ i j lower in_j both out.
       let parts = neither (has sides i) (has sides j) out in
       worst_gap-same g g' (λ t. not (has sides t)) (has slots)

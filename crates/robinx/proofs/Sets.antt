@@ -1,9 +1,9 @@
 -- How many numbers there are in the sets that counting makes.
-use Rattle.std.proofs.Common.{◌≡◌, ℕ, zero, suc, ◌+◌, ◌<◌, ◌≤◌, ◌&&◌, not, nat_lt, Bool, true, false, if◌then◌else◌, refl, sym, ◌∙◌, ap}
-use Rattle.std.proofs.Common.{arith}
+use Rattle.std.proofs.Common.{◌≡◌, ℕ, zero, suc, ◌+◌, ◌-◌, ◌<◌, ◌≤◌, ◌&&◌, not, nat_lt, Bool, true, false, if◌then◌else◌, refl, sym, ◌∙◌, ap}
+use Rattle.std.proofs.Common.{inl, inr, arith}
 use mir.Val.{bool_byte}
 use Rattle.std.proofs.Math.Nat.{add-zero, add-suc}
-use Rattle.std.proofs.lemmas.Bool.{lt-ltb, le-ltb}
+use Rattle.std.proofs.lemmas.Bool.{cases_eq, cond-false, lt-ltb, le-ltb}
 use Rattle.league.specs.Sets.{has}
 use Rattle.league.specs.Sums.{sum_below, sum_where, count_where}
 use Rattle.league.proofs.ForCallers.{sum_below_none, sum_below_more, sum_below_zero, sum_below_swap, sum_below_same, count_where_same}
@@ -20,6 +20,23 @@ sum_below_append : (m n : ℕ) (f : ℕ → ℕ) → sum_below (m + n) f ≡ sum
 unfolding sum_below
 sum_below_append m zero f = rw (add-zero m) (omega arith)
 sum_below_append m (suc n) f = rw (add-suc m n) (omega (arith, sum_below_append m n f))
+
+-- where 0 doesn't pass
+pub count_after_first : (n : ℕ) (test : ℕ → Bool) → test 0 ≡ false → count_where n test ≡ count_where (n - 1) (λ k. test (1 + k))
+unfolding sum_below
+count_after_first n test none = elim (cases_eq n 0) [
+  | inl empty ↦ rw empty refl
+  | inr some ↦
+      let size : n ≡ 1 + (n - 1) = omega arith in
+      omega (
+        arith,
+        ap {B = ℕ} (λ m. count_where m test) size,
+        sum_below_append 1 (n - 1) (λ k. if test k then 1 else 0),
+        sum_below_more 0 (λ k. if test k then 1 else 0),
+        sum_below_none (λ k. if test k then 1 else 0),
+        cond-false {A = ℕ} (test 0) 1 0 none,
+      )
+]
 
 -- a set of those below n that pass a test
 pub count_of_members : (n set : ℕ) (test : ℕ → Bool) → ((k : ℕ) → has set k ≡ (nat_lt k n && test k)) →

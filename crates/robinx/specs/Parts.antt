@@ -48,6 +48,10 @@ over_in_met_windows g side opponents window most rounds team =
 abbrev pub is_pair_with : ℕ → ℕ → ℕ → ℕ → Bool
 is_pair_with teams set i j = (has teams i && has teams j) && (has set i || has set j)
 
+-- whether one of the two games of a pair is in a round of the set
+unfoldable pub meet_in : Games → (ℕ → Bool) → ℕ → ℕ → Bool
+meet_in g rounds i j = rounds (round_of g i j) || rounds (round_of g j i)
+
 -- the terms of a deviation that a change can alter, where it can alter the deviation
 unfoldable pub changing_terms : Games → ℕ → ℕ → ℕ → RuleBody → ℕ
 changing_terms g main rounds sides (Ca1 teams side slots most) =
@@ -73,7 +77,8 @@ changing_terms g main rounds sides (Br1 teams side slots most) =
 changing_terms g main rounds sides (Br2 teams slots most) =
     if has_touched_team teams (has sides) then deviation g (Br2 teams slots most) else 0
 changing_terms g main rounds sides (Se1 teams least) =
-    sum_of_pairs g.teams (λ i j. if is_pair_with teams main i j then over least (rounds_between g i j) else 0)
+    sum_of_pairs g.teams (λ i j.
+    if is_pair_with teams main i j && meet_in g (has rounds) i j then over least (rounds_between g i j) else 0)
 changing_terms g main rounds sides (Fa2 teams slots most) =
     sum_of_pairs g.teams (λ i j. if is_pair_with teams sides i j then worst_gap g (has slots) most i j else 0)
 

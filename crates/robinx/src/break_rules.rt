@@ -1,16 +1,17 @@
 //! Breaks, and the rules on them: at most so many rounds in which a team stays on its side.
 
-ghost use Rattle.std.specs.Prelude.{◌≡◌, ℕ, ◌-◌, ◌<◌, ◌≤◌, ◌&&◌, ◌==◌, not, nat_lt};
-ghost use Rattle.std.specs.Bool.{beq};
+ghost use Rattle.std.specs.Prelude.{◌≡◌, ℕ, ◌+◌, ◌-◌, ◌<◌, ◌≤◌, ◌&&◌, nat_lt};
 ghost use Rattle.league.specs.Limits.{max_rounds};
 ghost use Rattle.league.specs.Sets.{has, IsBelow};
 ghost use Rattle.league.specs.declared.rule.RuleBody.TheVariants as RuleBody;
-ghost use Rattle.fixtures.specs.Games.{round_count, is_home, IsDoubleRoundRobin};
+ghost use Rattle.fixtures.specs.Games.{round_count, IsDoubleRoundRobin};
 ghost use Rattle.robinx.specs.Deviations.{breaks, deviation};
 ghost use Rattle.robinx.specs.Parts.{changing_terms};
 
-use crate::counts::{over, rounds_on_side};
+use crate::counts::over;
+use crate::windows::before;
 use fixtures::Schedule;
+use league::limits::MAX_ROUNDS;
 use league::{Side, SlotSet, TeamSet};
 
 /// How many breaks the team has in the slots: rounds in which it is at home as in the round before, or away as
@@ -21,26 +22,35 @@ pub fn breaks(schedule: &Schedule, team: u8, slots: SlotSet, side: Side) -> u32
     ensures value { result ≡ breaks schedule.now team (has slots) side }
     ensures most { result ≤ max_rounds }
 {
-    let on_side = rounds_on_side(schedule, side, team);
-    let stays = rounds_without_turn(schedule, team);
-    on_side.intersection(stays).intersection(slots).len()
+    breaks_from(schedule, team, rounds_before(schedule, slots), side)
 }
 
-/// The rounds in which the team is on the same side as in the round before.
-fn rounds_without_turn(schedule: &Schedule, team: u8) -> SlotSet
-    requires { team < schedule.now.teams }
-    ensures { (r : ℕ) → has result r ≡
-        (nat_lt r (round_count schedule.now.teams) && (not (r == 0) &&
-        beq (is_home schedule.now team (r - 1)) (is_home schedule.now team r))) }
+/// The rounds of the season after which one of the slots comes: with them the breaks in the slots begin.
+fn rounds_before(schedule: &Schedule, slots: SlotSet) -> SlotSet
+    ensures members { (r : ℕ) → has result r ≡
+        (nat_lt (r + 1) (round_count schedule.now.teams) && has slots (r + 1)) }
+    ensures below { IsBelow (round_count schedule.now.teams - 1) result }
+    ensures season { round_count schedule.now.teams ≤ max_rounds }
 {
-    let rounds = schedule.rounds();
-    let home = rounds_on_side(schedule, Side::Home, team);
-    let away = rounds_on_side(schedule, Side::Away, team);
-    let turns = home
-        .with_next_below(rounds)
-        .intersection(away.with_next_below(rounds));
-    let later = SlotSet::below(rounds).difference(SlotSet::below(1));
-    later.difference(turns)
+    SlotSet::below(schedule.rounds() - 1).intersection(before(slots))
+}
+
+/// How many breaks the team has that begin with one of these rounds.
+#[inline]
+fn breaks_from(schedule: &Schedule, team: u8, firsts: SlotSet, side: Side) -> u32
+    requires team { team < schedule.now.teams }
+    requires firsts { IsBelow (round_count schedule.now.teams - 1) firsts }
+    requires season { round_count schedule.now.teams ≤ max_rounds }
+    ensures value { result ≡ breaks schedule.now team (λ r. has firsts (r - 1)) side }
+    ensures most { result ≤ max_rounds }
+{
+    let home = schedule.home_rounds(team);
+    let stays = firsts.intersection(home.like_next_below(MAX_ROUNDS));
+    match side {
+        Side::Home => stays.intersection(home).len(),
+        Side::Away => stays.difference(home).len(),
+        Side::Any => stays.len(),
+    }
 }
 
 /// The breaks of each team in the slots, over the most.
@@ -50,9 +60,10 @@ pub(crate) fn br1(schedule: &Schedule, teams: TeamSet, side: Side, slots: SlotSe
     requires teams { IsBelow schedule.now.teams teams }
     ensures { result ≡ deviation schedule.now (RuleBody.Br1 teams side slots most) }
 {
+    let firsts = rounds_before(schedule, slots);
     let mut total = 0;
     for team in teams {
-        total += over(breaks(schedule, team, slots, side), most);
+        total += over(breaks_from(schedule, team, firsts, side), most);
     }
     total
 }
@@ -64,9 +75,10 @@ pub(crate) fn br2(schedule: &Schedule, teams: TeamSet, slots: SlotSet, most: u32
     requires teams { IsBelow schedule.now.teams teams }
     ensures { result ≡ deviation schedule.now (RuleBody.Br2 teams slots most) }
 {
+    let firsts = rounds_before(schedule, slots);
     let mut count = 0;
     for team in teams {
-        count += breaks(schedule, team, slots, Side::Any);
+        count += breaks_from(schedule, team, firsts, Side::Any);
     }
     over(count, most)
 }

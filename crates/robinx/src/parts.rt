@@ -11,7 +11,7 @@ use crate::counts::CountedGames;
 use crate::fairness_rules::fa2_with;
 use crate::game_rules::ga1_part;
 use crate::guests::{Around, teams_otherwise};
-use crate::separation_rules::se1_with;
+use crate::separation_rules::se1_part;
 use crate::touched_rules::can_alter;
 use fixtures::{Schedule, Touched};
 use league::{Rule, RuleBody, SlotSet, TeamSet};
@@ -122,7 +122,7 @@ fn changing_terms(
             most,
         } => br1(schedule, teams.intersection(sides), *side, *slots, *most),
         RuleBody::Br2 { teams, slots, most } => { br2_with(schedule, *teams, sides, *slots, *most) }
-        RuleBody::Se1 { teams, min } => se1_with(schedule, *teams, main, *min),
+        RuleBody::Se1 { teams, min } => se1_part(schedule, *teams, main, rounds, *min),
         RuleBody::Fa2 { teams, slots, most } => { fa2_with(schedule, *teams, sides, *slots, *most) }
     }
 }

@@ -1,18 +1,17 @@
 //! Separation rules: at least so many rounds between the two games of a pair.
 
-ghost use Rattle.std.specs.Prelude.{◌≡◌, ◌*◌, ◌<◌, ◌≤◌, if◌then◌else◌};
+ghost use Rattle.std.specs.Prelude.{◌≡◌, ℕ, ◌*◌, ◌<◌, ◌≤◌, ◌&&◌, ◌||◌, not, nat_lt, true};
 ghost use Rattle.league.specs.Limits.{max_teams, max_count};
 ghost use Rattle.league.specs.Sets.{has, IsBelow};
-ghost use Rattle.league.specs.Sums.{sum_where, sum_of_pairs};
+ghost use Rattle.league.specs.Sums.{sum_where};
 ghost use Rattle.league.specs.declared.rule.RuleBody.TheVariants as RuleBody;
-ghost use Rattle.fixtures.specs.Games.{IsPair, IsDoubleRoundRobin};
+ghost use Rattle.fixtures.specs.Games.{round_count, IsPair, IsDoubleRoundRobin};
 ghost use Rattle.robinx.specs.Deviations.{over, rounds_between, deviation};
-ghost use Rattle.robinx.specs.Parts.{is_pair_with};
+ghost use Rattle.robinx.specs.Parts.{meet_in, changing_terms};
 
 use crate::counts::over;
-use crate::pairs::partners;
 use fixtures::Schedule;
-use league::TeamSet;
+use league::{SlotSet, TeamSet};
 
 /// The rounds between the two games of each pair of the teams, under the least.
 pub(crate) fn se1(schedule: &Schedule, teams: TeamSet, least: u32) -> u64
@@ -21,39 +20,81 @@ pub(crate) fn se1(schedule: &Schedule, teams: TeamSet, least: u32) -> u64
     requires least { least ≤ max_count }
     ensures { result ≡ deviation schedule.now (RuleBody.Se1 teams least) }
 {
-    se1_with(schedule, teams, teams, least)
+    let mut total = 0;
+    for team in teams {
+        total += short_with(schedule, teams, teams, least, team);
+    }
+    total
 }
 
-/// Those of each pair with a team of the set.
-pub(crate) fn se1_with(schedule: &Schedule, teams: TeamSet, set: TeamSet, least: u32) -> u64
+/// Those of each pair with a main team that meets in one of the rounds.
+pub(crate) fn se1_part(
+    schedule: &Schedule,
+    teams: TeamSet,
+    main: TeamSet,
+    rounds: SlotSet,
+    least: u32,
+) -> u64
     requires round_robin { IsDoubleRoundRobin schedule.now }
     requires teams { IsBelow schedule.now.teams teams }
     requires least { least ≤ max_count }
-    ensures { result ≡ sum_of_pairs schedule.now.teams (λ i j.
-        if is_pair_with teams set i j then over least (rounds_between schedule.now i j) else 0) }
+    ensures { (sides : ℕ) →
+        result ≡ changing_terms schedule.now main rounds sides (RuleBody.Se1 teams least) }
 {
+    let in_season = SlotSet::below(schedule.rounds()).intersection(rounds);
+    let counting = teams.intersection(main);
     let mut total = 0;
-    for team in teams {
-        let lower = partners(teams, set, team);
-        total += short_with(schedule, lower, least, team);
+    for team in counting {
+        let met = opponents_in(schedule, in_season, team).intersection(teams);
+        total += short_with(schedule, met, main, least, team);
     }
     total
 }
 
-/// The rounds between the two games of the team and of each of these lower teams, under the least.
-fn short_with(schedule: &Schedule, lower: TeamSet, least: u32, team: u8) -> u64
+/// The teams that the team meets in these rounds.
+fn opponents_in(schedule: &Schedule, rounds: SlotSet, team: u8) -> TeamSet
+    requires team { team < schedule.now.teams }
+    requires round_robin { IsDoubleRoundRobin schedule.now }
+    requires rounds { IsBelow (round_count schedule.now.teams) rounds }
+    ensures members { (t : ℕ) → IsPair schedule.now.teams t team →
+        has result t ≡ meet_in schedule.now (has rounds) t team }
+    ensures below { IsBelow schedule.now.teams result }
+{
+    let mut met = TeamSet::empty();
+    for round in rounds {
+        met = met.with(schedule.game_at(team, round).opponent);
+    }
+    met
+}
+
+/// The rounds between the two games of the main team and of each of these others, under the least: of main teams among
+/// them the lower ones alone, so that no pair counts twice.
+fn short_with(schedule: &Schedule, others: TeamSet, main: TeamSet, least: u32, team: u8) -> u64
     requires round_robin { IsDoubleRoundRobin schedule.now }
     requires team { team < schedule.now.teams }
-    requires lower { IsBelow team lower }
+    requires others { IsBelow schedule.now.teams others }
     requires least { least ≤ max_count }
-    ensures value { result ≡ sum_where team (has lower) (λ other. over least (rounds_between schedule.now other team)) }
+    requires main { has main team ≡ true }
+    ensures value { result ≡ sum_where schedule.now.teams
+        (λ t. has others t && (nat_lt t team || not (has main t)))
+        (λ t. over least (rounds_between schedule.now t team)) }
     ensures most { result ≤ max_teams * max_count }
 {
     let mut total = 0;
-    for other in lower {
-        total += over(least, rounds_between(schedule, other, team));
+    for other in others {
+        if counts_pair(main, team, other) {
+            total += over(least, rounds_between(schedule, other, team));
+        }
     }
     total
+}
+
+/// Whether a main team counts its pair with the other: a pair of two main teams counts at the higher.
+fn counts_pair(main: TeamSet, team: u8, other: u8) -> bool
+    requires { other < max_teams }
+    ensures { result ≡ (nat_lt other team || not (has main other)) }
+{
+    other < team || !main.has(other)
 }
 
 /// How many rounds lie strictly between the two games of the pair.

@@ -89,7 +89,7 @@ fn full_windows(set: SlotSet, starts: SlotSet, window: u8) -> Windows
 }
 
 /// The rounds after which the next one is in the set, but for the last round of the longest season.
-fn before(set: SlotSet) -> SlotSet
+pub(crate) fn before(set: SlotSet) -> SlotSet
     ensures { (s : ℕ) → s + 1 < max_rounds → has result s ≡ has set (s + 1) }
 {
     let alike = set.like_next_below(MAX_ROUNDS);

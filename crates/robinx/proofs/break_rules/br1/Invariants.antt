@@ -6,4 +6,4 @@ use Rattle.robinx.proofs.break_rules.br1.Given as goal
 abbrev pub invariant-loop-team : goal.invariant-loop-team
 invariant-loop-team l =
     IsSumWithout l.schedule.teams l.fn.teams l.team-iterator l.total 78
-    (λ t. over (breaks l.schedule t (has l.slots) l.side) l.most)
+    (λ t. over (breaks l.schedule t (has l.fn.slots) l.side) l.most)

@@ -7,4 +7,4 @@ use Rattle.robinx.proofs.break_rules.br2.Given as goal
 abbrev pub invariant-loop-team : goal.invariant-loop-team
 invariant-loop-team l =
     IsSumWithout l.schedule.teams l.fn.teams l.team-iterator l.count 78
-    (λ t. breaks l.schedule t (has l.slots) Any)
+    (λ t. breaks l.schedule t (has l.fn.slots) Any)

@@ -53,9 +53,8 @@ returns-in-Br2-clause-value c =
     ap (changing_terms c.args.schedule.now c.args.main c.args.rounds c.args.sides) (sym c.in-Br2.is)
 
 pub returns-in-Se1-clause-value : goal.returns-in-Se1-clause-value
-unfolding changing_terms
 returns-in-Se1-clause-value c =
-    c.se1_with.ensures ∙ ap (changing_terms c.args.schedule.now c.args.main c.args.rounds c.args.sides) (sym c.in-Se1.is)
+    c.se1_part.ensures c.args.sides ∙ ap (changing_terms c.args.schedule.now c.args.main c.args.rounds c.args.sides) (sym c.in-Se1.is)
 
 pub returns-in-Fa2-clause-value : goal.returns-in-Fa2-clause-value
 unfolding changing_terms
