@@ -13,7 +13,7 @@ use crate::counts::{
     CountedGames, counted_rounds, games_in_round, games_of_team, games_on_side, opponents_of, over,
 };
 use crate::guests::{Around, teams_otherwise};
-use crate::windows::{over_in_row, over_in_windows_of};
+use crate::windows::{over_in_row, over_in_windows_of, rounds_of_windows};
 use fixtures::Schedule;
 use league::{SlotSet, TeamSet};
 
@@ -43,9 +43,10 @@ pub(crate) fn ca3(schedule: &Schedule, games: &CountedGames, window: u32, most: 
     ensures { result ≡
         deviation schedule.now (RuleBody.Ca3 games.now.teams games.now.side games.now.opponents window most) }
 {
+    let opponents = opponents_of(schedule, games);
     let mut total = 0;
     for team in games.teams {
-        total += over_in_windows(schedule, games, window as u8, most, team);
+        total += over_in_windows(schedule, games, opponents, window as u8, most, team);
     }
     total
 }
@@ -54,6 +55,7 @@ pub(crate) fn ca3(schedule: &Schedule, games: &CountedGames, window: u32, most: 
 fn over_in_windows(
     schedule: &Schedule,
     games: &CountedGames,
+    opponents: u32,
     window: u8,
     most: u32,
     team: u8,
@@ -65,7 +67,7 @@ fn over_in_windows(
     ensures most { result ≤ max_rounds * max_rounds }
 {
     let season = SlotSet::below(schedule.rounds());
-    let counted = counted_rounds(schedule, games, season, team);
+    let counted = counted_rounds(schedule, games, opponents, season, team);
     over_in_row(counted, schedule.rounds(), window, most)
 }
 
@@ -87,33 +89,14 @@ pub(crate) fn ca3_part(
     let length = window as u8;
     let windows = schedule.rounds() + 1 - length;
     let starts = SlotSet::below(windows).intersection(rounds.starts_meeting(length));
+    let near = rounds_of_windows(starts, schedule.rounds(), length);
+    let opponents = opponents_of(schedule, games);
     let mut total = 0;
     for team in games.teams {
-        total += over_from_starts(schedule, games, starts, length, most, team);
+        let counted = counted_rounds(schedule, games, opponents, near, team);
+        total += over_in_windows_of(counted, schedule.rounds(), starts, length, most);
     }
     total
-}
-
-/// The games of the team that count in each window that begins with one of the starts, over the most.
-fn over_from_starts(
-    schedule: &Schedule,
-    games: &CountedGames,
-    starts: SlotSet,
-    window: u8,
-    most: u32,
-    team: u8,
-) -> u64
-    requires team { team < schedule.now.teams }
-    requires least { 1 ≤ window }
-    requires window { window ≤ round_count schedule.now.teams }
-    requires starts { IsBelow (round_count schedule.now.teams + 1 - window) starts }
-    ensures value { result ≡ sum_where (round_count schedule.now.teams + 1 - window) (has starts)
-        (λ first. over (games_in_window schedule.now games.now.side (has games.now.opponents) window team first) most) }
-    ensures most { result ≤ max_rounds * max_rounds }
-{
-    let season = SlotSet::below(schedule.rounds());
-    let counted = counted_rounds(schedule, games, season, team);
-    over_in_windows_of(counted, schedule.rounds(), starts, window, most)
 }
 
 /// The games of all the teams that count, over the most: in each of the slots, or in all of them together.

@@ -1,6 +1,6 @@
 //! Windows of consecutive rounds: how many rounds of a set each of them has.
 
-ghost use Rattle.std.specs.Prelude.{◌≡◌, ℕ, ◌+◌, ◌-◌, ◌*◌, ◌<◌, ◌≤◌, ◌&&◌, ◌==◌, not, nat_lt};
+ghost use Rattle.std.specs.Prelude.{◌≡◌, ℕ, ◌+◌, ◌-◌, ◌*◌, ◌<◌, ◌≤◌, ◌&&◌, ◌==◌, not, nat_lt, true};
 ghost use Rattle.league.specs.Limits.{max_rounds};
 ghost use Rattle.league.specs.Sets.{has, IsBelow};
 ghost use Rattle.league.specs.Sums.{sum_below, sum_where, count_where};
@@ -57,6 +57,19 @@ pub(crate) fn over_in_windows_of(
         }
         _ => over_from(set, rounds + 1 - window, starts, window, most),
     }
+}
+
+/// All rounds of the windows that begin with one of the starts.
+pub(crate) fn rounds_of_windows(starts: SlotSet, rounds: u8, window: u8) -> SlotSet
+    requires season { rounds ≤ max_rounds }
+    requires starts { IsBelow (rounds + 1 - window) starts }
+    ensures { (s k : ℕ) → has starts s ≡ true → k < window → has result (s + k) ≡ true }
+{
+    let mut reached = starts;
+    for _ in 1..window {
+        reached = reached.with_next_below(rounds);
+    }
+    reached
 }
 
 /// Windows by the rounds with which they begin.

@@ -71,7 +71,8 @@ const OF_HOMES: &[(&str, &str, u64)] = &[
 ];
 
 /// Rules of each class: with opponents that hold all, none and one of teams 1 and 2, slots that hold all, some and none of
-/// the rounds in which a move changes anything, slots of the last round, and a window as long as the season.
+/// the rounds in which a move changes anything, slots of the last round, a window as long as
+/// the season, and windows shorter and longer than two exchanged rounds are apart.
 const RULES: &[&str] = &[
     r#""class":"CA1","teams":[1,3],"mode":"A","slots":[1,2,10],"max":0"#,
     r#""class":"CA1","teams":[1,3],"mode":"H","slots":[2,5,7],"max":0"#,
@@ -81,6 +82,12 @@ const RULES: &[&str] = &[
     r#""class":"CA2","teams1":[1,2,3],"mode":"A","slots":[2,3,4],"max":0"#,
     r#""class":"CA3","teams1":[1,2,3,4],"mode":"HA","teams2":[1,5],"intp":3,"max":0"#,
     r#""class":"CA3","teams1":[2,6],"mode":"H","intp":10,"max":3"#,
+    r#""class":"CA3","teams1":[1,2,3,4,5,6],"mode":"HA","teams2":[2,4,6],"intp":2,"max":0"#,
+    r#""class":"CA3","teams1":[1,3,4,5],"mode":"A","teams2":[1,5],"intp":2,"max":1"#,
+    r#""class":"CA3","teams1":[1,2,4,6],"mode":"H","teams2":[2,3,6],"intp":4,"max":1"#,
+    r#""class":"CA3","teams1":[1,2,5],"mode":"A","teams2":[2,4],"intp":5,"max":0"#,
+    r#""class":"CA3","teams1":[2,3,5],"mode":"HA","teams2":[6],"intp":4,"max":0"#,
+    r#""class":"CA3","teams1":[1,2,3,4,5,6],"mode":"HA","teams2":[1,3,4,5],"intp":9,"max":1"#,
     r#""class":"CA4","teams1":[3,4],"mode":"H","teams2":[1],"mode2":"GLOBAL","max":1"#,
     r#""class":"CA4","teams1":[1,4],"mode":"A","teams2":[2,6],"mode2":"GLOBAL","slots":[2,4,8,9],"max":0"#,
     r#""class":"CA4","teams1":[1,2],"mode":"H","mode2":"GLOBAL","slots":[2,5,7],"max":0"#,
