@@ -6,11 +6,6 @@ import time
 TOP = os.path.dirname(os.path.dirname(os.path.abspath(__file__)))
 
 
-def program(words):
-    """The program that the words of a command line name, or the one that ./build makes."""
-    return os.path.realpath(words[0] if words else f"{TOP}/crates/ttp/out/ttp")
-
-
 def league(kind, teams, weight=100, extras=()):
     """The text of a league of scripts/made-league. The phases of `improve` have hard weights of their own."""
     words = [f"{TOP}/scripts/made-league", kind, str(teams), str(weight), *extras]
