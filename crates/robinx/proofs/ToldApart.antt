@@ -59,9 +59,6 @@ module _ (g g' : Games) (rr : IsDoubleRoundRobin g) (rr' : IsDoubleRoundRobin g'
         not-false _ (other_fails (rounds r) (not (has slots r))
         (any_below_fails 78 (λ r. rounds r && not (has slots r)) whole r (omega (arith, rr.most))) is)
 
-    outside : (r : ℕ) → r < round_count g.teams → not (has slots r) ≡ true → rounds r ≡ false
-    outside r in_r out = false_from_ne_true (rounds r) (λ is. absurd (false≢true (sym (not-true _ out) ∙ slot_of r in_r is)))
-
     games_of_team-whole : (side : Side) (opponents : ℕ → Bool) (t : ℕ) → t < g.teams →
         games_of_team g' side opponents (has slots) t ≡ games_of_team g side opponents (has slots) t
     unfolding games_of_team
@@ -72,7 +69,8 @@ module _ (g g' : Games) (rr : IsDoubleRoundRobin g) (rr' : IsDoubleRoundRobin g'
           counted_in_and_out (round_count g.teams) (has slots) (is_counted g side opponents t),
           season_same side opponents t in_t,
           games_of_team-same g g' (λ _. true) (λ r. not (has slots r)) opponents
-              (SeesSame-outside (λ _. true) (λ r. not (has slots r)) opponents outside) side t in_t refl,
+              (SeesSame-outside (λ _. true) (λ r. not (has slots r)) opponents (λ r in_r out.
+              false_from_ne_true (rounds r) (λ is. absurd (false≢true (sym (not-true _ out) ∙ slot_of r in_r is))))) side t in_t refl,
         )
 
     games-whole : (games : List Pairing) → AllByRecursion (IsGameFor g.teams) games →
