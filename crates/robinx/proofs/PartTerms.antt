@@ -11,6 +11,7 @@ use Rattle.robinx.specs.Deviations.{over, games_in_round, deviation}
 use Rattle.robinx.specs.Touches.{has_touched_team}
 use Rattle.robinx.specs.LooksPast.{takes_all_or_none}
 use Rattle.robinx.specs.Parts.{is_guest, meets_otherwise, counts_otherwise, over_in_met_windows, is_pair_with, changing_terms}
+use Rattle.robinx.proofs.Searches.{and_again}
 
 pub Ca1-terms : (g : Games) (main rounds sides teams : ℕ) (side : Side) (slots most both : ℕ) →
     ((t : ℕ) → has both t ≡ (has teams t && has sides t)) →
@@ -69,12 +70,7 @@ pub one_is_met : (teams both : ℕ) (test : ℕ → Bool) → ((t : ℕ) → has
 unfolding has_touched_team
 one_is_met teams both test members =
     any_below_same 40 (λ t. has both t && has teams t) (λ t. has teams t && test t)
-    (λ t below. ap (λ b. b && has teams t) (members t) ∙ again (has teams t) (test t))
-  where
-    again : (a b : Bool) → ((a && b) && a) ≡ (a && b)
-    again true true = refl
-    again true false = refl
-    again false b = refl
+    (λ t below. ap (λ b. b && has teams t) (members t) ∙ and_again (has teams t) (test t))
 
 module _ (g : Games) (main rounds sides teams : ℕ) (side : Side) (opponents slots most : ℕ) where
   pub Ca4-none : (each : Bool) → has_touched_team teams (counts_otherwise g main rounds sides opponents) ≡ false →

@@ -14,9 +14,9 @@ use Rattle.league.specs.declared.rule.Side.{Side}
 use Rattle.league.specs.declared.rule.Side.TheVariants.{Any}
 use Rattle.league.proofs.ForCallers.{any_below_fails, any_below_same, count_where_same, has_beyond, has_all_numbers}
 use Rattle.fixtures.specs.declared.game.Cell.{Cell}
-use Rattle.fixtures.specs.Games.{Games, round_count, round_of, cell, is_home, IsPair, IsDoubleRoundRobin}
+use Rattle.fixtures.specs.Games.{Games, round_count, round_of, cell, is_home, IsDoubleRoundRobin}
 use Rattle.fixtures.specs.Changes.{DiffersOnlyIn, DiffersOnlyAt, DiffersOnlyAround, box}
-use Rattle.fixtures.proofs.ForCallers.{is_cell, round_of_kept, round_of_kept_around}
+use Rattle.fixtures.proofs.ForCallers.{is_cell, round_of_kept_around}
 use Rattle.robinx.specs.Deviations.{over, is_on_side, is_counted, games_of_team, games_in_window, games_in_round, breaks, rounds_between}
 use Rattle.robinx.specs.Deviations.{over_in_windows, short_pairs, worst_gap, worst_gaps, deviation}
 use Rattle.robinx.specs.LooksPast.{takes_all_or_none}
@@ -28,8 +28,11 @@ use Rattle.robinx.proofs.MetPairs.{short_pairs_balance}
 use Rattle.robinx.proofs.PartSums.{where_balance, whole_terms_balance, pairs_balance, whole_balance, part_balance}
 use Rattle.robinx.proofs.SeesSame.{SeesSame, SeesSameBreaks, SeesSameUntil, games_of_team-same, games_in_round-same, over_in_windows-same}
 use Rattle.robinx.proofs.SeesSame.{breaks-same, worst_gap-same, together-same, each-same, breaks_of_all-same, listed_games_in-same}
-use Rattle.robinx.proofs.Untouched.{other_fails}
-use Rattle.robinx.proofs.ToldApart.{stays_inside, unaltered_deviation}
+use Rattle.robinx.proofs.Untouched.{other_fails, game_stays}
+use Rattle.robinx.proofs.ToldApart.{SeesSame-outside, stays_inside, unaltered_deviation}
+
+neither : (p q : Bool) → (p || q) ≡ false → (not p ≡ true) × (not q ≡ true)
+neither p q fails = let parts = or_parts p q fails in (not_from_false p parts.0, not_from_false q parts.1)
 
 module _ (g g' : Games) (size : g'.teams ≡ g.teams) (sides rounds : ℕ)
     (turned : DiffersOnlyAt is_home g g' (box (has sides) (has rounds))) where
@@ -69,15 +72,12 @@ module _ (g g' : Games) (size : g'.teams ≡ g.teams) (sides rounds : ℕ)
 module _ (g g' : Games) (rr : IsDoubleRoundRobin g) (rr' : IsDoubleRoundRobin g') (main rounds sides : ℕ)
     (differs : DiffersOnlyAround g g' (has main) (has rounds))
     (turned : DiffersOnlyAt is_home g g' (box (has sides) (has rounds))) where
+  outside : DiffersOnlyIn g g' (λ _. true) (has rounds)
+  outside = record { same_size = differs.same_size; same_cells = differs.same_cells }
+
   opponent_in' : (t r : ℕ) → t < g.teams → r < round_count g.teams → (cell g' t r).opponent < g.teams
   opponent_in' t r in_t in_r =
       omega (arith, differs.same_size, (is_cell g' rr' t r (rw differs.same_size in_t) (rw differs.same_size in_r)).pair.away_in)
-
-  below' : (t r : ℕ) → t < g.teams → r < round_count g.teams → (cell g' t r).opponent < 40
-  below' t r in_t in_r = omega (arith, rr.most, opponent_in' t r in_t in_r)
-
-  below_before : (t r : ℕ) → t < g.teams → r < round_count g.teams → (cell g t r).opponent < 40
-  below_before t r in_t in_r = omega (arith, rr.most, (is_cell g rr t r in_t in_r).pair.away_in)
 
   -- a team that isn't main meets a main team in a round of the change before it and after it, or neither
   meets_main : (t r : ℕ) → t < g.teams → r < round_count g.teams → has main t ≡ false →
@@ -130,8 +130,8 @@ module _ (g g' : Games) (rr : IsDoubleRoundRobin g) (rr' : IsDoubleRoundRobin g'
         | inl all_or_none ↦ elim (differs.others t r in_t in_r parts.0).same_or_in [
           | inl same ↦ ap (has opponents) same
           | inr both ↦
-              TakesAllOrNone-tested main opponents (not-false _ all_or_none) _ _ (below' t r in_t in_r) (below_before t r in_t in_r) both.1
-              both.0
+              TakesAllOrNone-tested main opponents (not-false _ all_or_none) _ _ (omega (arith, rr.most, opponent_in' t r in_t in_r))
+              (omega (arith, rr.most, (is_cell g rr t r in_t in_r).pair.away_in)) both.1 both.0
         ]
         | inr no_guest ↦ by_round parts.0 no_guest (has rounds r) refl
       ]
@@ -146,13 +146,6 @@ module _ (g g' : Games) (rr : IsDoubleRoundRobin g) (rr' : IsDoubleRoundRobin g'
             any_below_fails (round_count g.teams) (λ r. has rounds r && has main (cell g t r).opponent) no_guest r in_r in
             absurd (false≢true (sym fails ∙ rw (inside, both.0) refl))
       ]
-
-  side_met_kept : (opponents t r : ℕ) → t < g.teams → r < round_count g.teams → meets_otherwise g main rounds opponents t ≡ false →
-      (cell g' t r).home ≡ (cell g t r).home
-  unfolding meets_otherwise is_home
-  side_met_kept opponents t r in_t in_r out =
-      (differs.others t r in_t in_r
-      (or_parts (has main t) (not (takes_all_or_none main opponents) && is_guest g (has main) (has rounds) t) out).0).same_side
 
   -- against all teams each opponent counts
   in_all : (opponents o : ℕ) → opponents ≡ all_numbers g.teams → o < g.teams → has opponents o ≡ true
@@ -171,12 +164,13 @@ module _ (g g' : Games) (rr : IsDoubleRoundRobin g) (rr' : IsDoubleRoundRobin g'
 
   side_kept : (opponents t r : ℕ) → t < g.teams → r < round_count g.teams →
       counts_otherwise g main rounds sides opponents t ≡ false → (cell g' t r).home ≡ (cell g t r).home
-  unfolding counts_otherwise
+  unfolding counts_otherwise meets_otherwise is_home
   side_kept opponents t r in_t in_r out = elim (cases_eq opponents (all_numbers g.teams)) [
     | inl all ↦ home_kept g g' differs.same_size sides rounds turned t r in_t in_r
         (sym (cond-true (opponents == all_numbers g.teams) (has sides t) (meets_otherwise g main rounds opponents t) (eq-eqb _ _ all)) ∙ out)
-    | inr some ↦ side_met_kept opponents t r in_t in_r
-        (sym (cond-false (opponents == all_numbers g.teams) (has sides t) (meets_otherwise g main rounds opponents t) (ne_eqb _ _ some)) ∙ out)
+    | inr some ↦
+        let met = sym (cond-false (opponents == all_numbers g.teams) (has sides t) _ (ne_eqb _ _ some)) ∙ out in
+        (differs.others t r in_t in_r (or_parts (has main t) _ met).0).same_side
   ]
 
   SeesSame-others : (opponents : ℕ) (teams slots : ℕ → Bool) →
@@ -204,14 +198,6 @@ module _ (g g' : Games) (rr : IsDoubleRoundRobin g) (rr' : IsDoubleRoundRobin g'
       (λ t in_t team.
       other_fails (has teams t) _
       (any_below_fails 40 (λ t. has teams t && counts_otherwise g main rounds sides opponents t) none t (omega (arith, rr.most))) team)
-
-  -- all teams in the rounds outside
-  SeesSame-outside : (teams opponents : ℕ → Bool) → SeesSame g g' teams (λ r. not (has rounds r)) opponents
-  SeesSame-outside teams opponents = record {
-    same_size = differs.same_size;
-    side = λ t r in_t in_r team out. ap (λ (c : Cell). c.home) (differs.same_cells t r in_t in_r (not-true _ out));
-    opponent = λ t r in_t in_r team out. ap (λ (c : Cell). opponents c.opponent) (differs.same_cells t r in_t in_r (not-true _ out));
-  }
 
   -- windows that have none of the rounds
   window_same : (side : Side) (opponents : ℕ → Bool) (window t first : ℕ) → t < g.teams → first + window ≤ round_count g.teams →
@@ -260,36 +246,17 @@ module _ (g g' : Games) (rr : IsDoubleRoundRobin g) (rr' : IsDoubleRoundRobin g'
       kept game is untouched = elim untouched [
         | inl others ↦
             let parts = or_parts (has main game.home) (has main game.away) others in
-            round_of_kept_around g g' (has main) (has rounds) rr rr' differs game.home game.away (pair game is) parts.0 parts.1
-        | inr outside ↦
-            round_of_kept g g' rr rr' differs.same_size game.home game.away (pair game is)
-            (differs.same_cells game.home (round_of g game.home game.away) is.home (rr.in_range game.home game.away (pair game is)) outside)
+            round_of_kept_around g g' (has main) (has rounds) rr rr' differs game.home game.away
+            (record { home_in = is.home; away_in = is.away; distinct = is.distinct }) parts.0 parts.1
+        | inr out ↦ game_stays g g' rr (λ _. true) (has rounds) outside rr' game is out
       ]
-        where
-          pair : (game : Pairing) → IsGameFor g.teams game → IsPair g.teams game.home game.away
-          pair game is = record { home_in = is.home; away_in = is.away; distinct = is.distinct }
-
-neither : (p q : Bool) → (p || q) ≡ false → (not p ≡ true) × (not q ≡ true)
-neither p q fails = let parts = or_parts p q fails in (not_from_false p parts.0, not_from_false q parts.1)
-
-module _ (g g' : Games) (rr : IsDoubleRoundRobin g) (rr' : IsDoubleRoundRobin g') (main rounds sides : ℕ)
-    (differs : DiffersOnlyAround g g' (has main) (has rounds))
-    (turned : DiffersOnlyAt is_home g g' (box (has sides) (has rounds))) where
-  outside : DiffersOnlyIn g g' (λ _. true) (has rounds)
-  outside = record { same_size = differs.same_size; same_cells = differs.same_cells }
 
   -- a game of the list in the rounds is one in both schedules
   moved_game_same : (games : List Pairing) → AllByRecursion (IsGameFor g.teams) games →
       has_moved_game g' (has main) (has rounds) games ≡ has_moved_game g (has main) (has rounds) games
   unfolding has_moved_game
   moved_game_same [] all = refl
-  moved_game_same (game ∷ games) all = rw (here game all.0, moved_game_same games all.1) refl
-    where
-      here : (game : Pairing) → IsGameFor g.teams game →
-          ((has main game.home || has main game.away) && has rounds (round_of g' game.home game.away)) ≡
-          ((has main game.home || has main game.away) && has rounds (round_of g game.home game.away))
-      here game is =
-          ap (λ (b : Bool). (has main game.home || has main game.away) && b) (stays_inside g g' rr rr' (has rounds) outside game is)
+  moved_game_same (game ∷ games) all = rw (stays_inside g g' rr rr' (has rounds) outside game all.0, moved_game_same games all.1) refl
 
   terms_balance : (body : RuleBody) → IsBodyFor g.teams body →
       deviation g' body + changing_terms g main rounds sides body ≡ deviation g body + changing_terms g' main rounds sides body
@@ -304,43 +271,43 @@ module _ (g g' : Games) (rr : IsDoubleRoundRobin g) (rr' : IsDoubleRoundRobin g'
   terms_balance (Ca2 teams1 side teams2 slots most) is =
       whole_terms_balance g.teams g'.teams (has teams1) (counts_otherwise g main rounds sides teams2) (counts_otherwise g' main rounds sides teams2)
       (λ t. over (games_of_team g' side (has teams2) (has slots) t) most) (λ t. over (games_of_team g side (has teams2) (has slots) t) most)
-      differs.same_size (counts_same g g' rr rr' main rounds sides differs turned teams2)
+      differs.same_size (counts_same teams2)
       (λ t in_t team out. ap (λ (count : ℕ). over count most)
-      (games_of_team-same g g' (others g g' rr rr' main rounds sides differs turned teams2) (has slots) (has teams2)
-      (SeesSame-counted g g' rr rr' main rounds sides differs turned teams2 (has slots)) side t in_t (not_from_false _ out)))
+      (games_of_team-same g g' (others teams2) (has slots) (has teams2)
+      (SeesSame-counted teams2 (has slots)) side t in_t (not_from_false _ out)))
   terms_balance (Ca3 teams1 side teams2 window most) is =
       where_balance g.teams g'.teams (has teams1) (counts_otherwise g main rounds sides teams2) (counts_otherwise g' main rounds sides teams2)
       (over_in_windows g' side (has teams2) window most) (over_in_windows g side (has teams2) window most)
       (over_in_met_windows g' side (has teams2) window most (has rounds)) (over_in_met_windows g side (has teams2) window most (has rounds))
-      differs.same_size (counts_same g g' rr rr' main rounds sides differs turned teams2)
-      (λ t in_t inside. windows_balance g g' rr rr' main rounds sides differs turned side (has teams2) window most t in_t is.3)
+      differs.same_size (counts_same teams2)
+      (λ t in_t inside. windows_balance side (has teams2) window most t in_t is.3)
       (λ t in_t team out.
-      over_in_windows-same g g' (others g g' rr rr' main rounds sides differs turned teams2) (has teams2)
-      (SeesSame-counted g g' rr rr' main rounds sides differs turned teams2 (λ _. true)) side window most t in_t (not_from_false _ out) is.3)
+      over_in_windows-same g g' (others teams2) (has teams2)
+      (SeesSame-counted teams2 (λ _. true)) side window most t in_t (not_from_false _ out) is.3)
   terms_balance (Ca4 teams1 side teams2 slots false most) is =
       whole_balance (has_touched_team teams1 (counts_otherwise g main rounds sides teams2))
       (has_touched_team teams1 (counts_otherwise g' main rounds sides teams2)) _ _
-      (one_counts_same g g' rr rr' main rounds sides differs turned teams2 teams1 is.0)
+      (one_counts_same teams2 teams1 is.0)
       (λ none. together-same g g' (has teams1) (has slots) (has teams2)
-      (SeesSame-none g g' rr rr' main rounds sides differs turned teams2 teams1 (has slots) none) side most)
+      (SeesSame-none teams2 teams1 (has slots) none) side most)
   terms_balance (Ca4 teams1 side teams2 slots true most) is =
       part_balance (has_touched_team teams1 (counts_otherwise g main rounds sides teams2))
       (has_touched_team teams1 (counts_otherwise g' main rounds sides teams2)) _ _ _ _
-      (one_counts_same g g' rr rr' main rounds sides differs turned teams2 teams1 is.0)
+      (one_counts_same teams2 teams1 is.0)
       (whole_terms_balance (round_count g.teams) (round_count g'.teams) (has slots) (has rounds) (has rounds)
       (λ r. over (games_in_round g' side (has teams1) (has teams2) r) most)
       (λ r. over (games_in_round g side (has teams1) (has teams2) r) most)
       (ap round_count differs.same_size) (λ r in_r. refl)
       (λ r in_r slot out. ap (λ (count : ℕ). over count most)
       (games_in_round-same g g' (has teams1) (λ r. not (has rounds r)) (has teams2)
-      (SeesSame-outside g g' rr rr' main rounds sides differs turned (has teams1) (has teams2)) side r in_r (not_from_false _ out))))
+      (SeesSame-outside g g' rr rr' (has rounds) outside (has teams1) (λ r. not (has rounds r)) (has teams2) (λ r in_r out. not-true _ out)) side r in_r (not_from_false _ out))))
       (λ none. each-same g g' (has teams1) (has slots) (has teams2)
-      (SeesSame-none g g' rr rr' main rounds sides differs turned teams2 teams1 (has slots) none) side most)
+      (SeesSame-none teams2 teams1 (has slots) none) side most)
   terms_balance (Ga1 games slots least most) is =
       whole_balance (has_moved_game g (has main) (has rounds) games) (has_moved_game g' (has main) (has rounds) games) _ _
       (moved_game_same games is.0)
       (λ none. ap (λ (count : ℕ). over count most + over least count)
-      (listed_games_in-same g g' (has slots) games (in_slots games (moved_game_kept g g' rr rr' main rounds sides differs turned games is.0 none))))
+      (listed_games_in-same g g' (has slots) games (in_slots games (moved_game_kept games is.0 none))))
     where
       in_slots : (games : List Pairing) →
           AllByRecursion (λ (game : Pairing). round_of g' game.home game.away ≡ round_of g game.home game.away) games →

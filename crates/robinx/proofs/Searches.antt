@@ -81,18 +81,18 @@ touched_break slots around touched members =
     (λ r below. ap (λ (b : Bool). has slots r && b)
     (members r ∙ ap (λ (b : Bool). b && (touched r || (not (r == 0) && touched (r - 1)))) (lt-ltb r 78 below)))
 
+pub and_again : (a b : Bool) → ((a && b) && a) ≡ (a && b)
+and_again true true = refl
+and_again true false = refl
+and_again false b = refl
+
 -- one that isn't a slot
 pub touched_lacked : (slots lacked : ℕ) (touched : ℕ → Bool) → ((r : ℕ) → has lacked r ≡ (touched r && not (has slots r))) →
     any_below 78 (λ r. has lacked r && touched r) ≡ lacks_one slots touched
 unfolding lacks_one
 touched_lacked slots lacked touched members =
     any_below_same 78 (λ r. has lacked r && touched r) (λ r. touched r && not (has slots r))
-    (λ r below. ap (λ (b : Bool). b && touched r) (members r) ∙ again (touched r) (not (has slots r)))
-  where
-    again : (a b : Bool) → ((a && b) && a) ≡ (a && b)
-    again true true = refl
-    again true false = refl
-    again false b = refl
+    (λ r below. ap (λ (b : Bool). b && touched r) (members r) ∙ and_again (touched r) (not (has slots r)))
 
 -- a round up to one of the slots, where the first is the lowest touched one
 pub touched_until : (slots touched first rest from : ℕ) → IsWithoutLowest touched first rest →

@@ -13,7 +13,7 @@ use Rattle.league.specs.declared.rule.RuleBody.TheVariants.{Ca1, Ca2, Ca3, Ca4, 
 use Rattle.league.specs.declared.rule.Side.{Side}
 use Rattle.league.proofs.ForCallers.{any_below_fails}
 use Rattle.fixtures.specs.declared.game.Cell.{Cell}
-use Rattle.fixtures.specs.Games.{Games, round_count, round_of, cell, IsDoubleRoundRobin}
+use Rattle.fixtures.specs.Games.{Games, round_count, round_of, IsDoubleRoundRobin}
 use Rattle.fixtures.specs.Changes.{DiffersOnlyIn}
 use Rattle.robinx.specs.Deviations.{over, is_counted, games_of_team, deviation}
 use Rattle.robinx.specs.Touches.{looks_at_round, touches}
@@ -33,6 +33,15 @@ module _ (g g' : Games) (rr : IsDoubleRoundRobin g) (rr' : IsDoubleRoundRobin g'
       (ap (λ (n : ℕ). count_where n opponents) (sym differs.same_size))) ∙
       games_of_season g rr t in_t side opponents (count_where g.teams opponents) refl
 
+  -- all teams, in rounds outside
+  pub SeesSame-outside : (teams others opponents : ℕ → Bool) →
+      ((r : ℕ) → r < round_count g.teams → others r ≡ true → rounds r ≡ false) → SeesSame g g' teams others opponents
+  SeesSame-outside teams others opponents outside = record {
+    same_size = differs.same_size;
+    side = λ t r in_t in_r team other. ap (λ (c : Cell). c.home) (differs.same_cells t r in_t in_r (outside r in_r other));
+    opponent = λ t r in_t in_r team other. ap (λ (c : Cell). opponents c.opponent) (differs.same_cells t r in_t in_r (outside r in_r other));
+  }
+
   -- a game in one of the rounds is in one of them after the change, and no other game is
   pub stays_inside : (game : Pairing) → IsGameFor g.teams game →
       rounds (round_of g' game.home game.away) ≡ rounds (round_of g game.home game.away)
@@ -50,16 +59,6 @@ module _ (g g' : Games) (rr : IsDoubleRoundRobin g) (rr' : IsDoubleRoundRobin g'
         not-false _ (other_fails (rounds r) (not (has slots r))
         (any_below_fails 78 (λ r. rounds r && not (has slots r)) whole r (omega (arith, rr.most))) is)
 
-    outside : (r : ℕ) → r < round_count g.teams → not (has slots r) ≡ true → rounds r ≡ false
-    outside r in_r out = false_from_ne_true (rounds r) (λ is. absurd (false≢true (sym (not-true _ out) ∙ slot_of r in_r is)))
-
-    SeesSame-lacked : (opponents : ℕ → Bool) → SeesSame g g' (λ _. true) (λ r. not (has slots r)) opponents
-    SeesSame-lacked opponents = record {
-      same_size = differs.same_size;
-      side = λ t r in_t in_r team out. ap (λ (c : Cell). c.home) (differs.same_cells t r in_t in_r (outside r in_r out));
-      opponent = λ t r in_t in_r team out. ap (λ (c : Cell). opponents c.opponent) (differs.same_cells t r in_t in_r (outside r in_r out));
-    }
-
     games_of_team-whole : (side : Side) (opponents : ℕ → Bool) (t : ℕ) → t < g.teams →
         games_of_team g' side opponents (has slots) t ≡ games_of_team g side opponents (has slots) t
     unfolding games_of_team
@@ -69,7 +68,9 @@ module _ (g g' : Games) (rr : IsDoubleRoundRobin g) (rr' : IsDoubleRoundRobin g'
           counted_in_and_out (round_count g'.teams) (has slots) (is_counted g' side opponents t),
           counted_in_and_out (round_count g.teams) (has slots) (is_counted g side opponents t),
           season_same side opponents t in_t,
-          games_of_team-same g g' (λ _. true) (λ r. not (has slots r)) opponents (SeesSame-lacked opponents) side t in_t refl,
+          games_of_team-same g g' (λ _. true) (λ r. not (has slots r)) opponents
+              (SeesSame-outside (λ _. true) (λ r. not (has slots r)) opponents (λ r in_r out.
+              false_from_ne_true (rounds r) (λ is. absurd (false≢true (sym (not-true _ out) ∙ slot_of r in_r is))))) side t in_t refl,
         )
 
     games-whole : (games : List Pairing) → AllByRecursion (IsGameFor g.teams) games →

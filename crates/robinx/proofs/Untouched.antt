@@ -2,7 +2,7 @@
 use Rattle.std.proofs.Common.{◌≡◌, ℕ, ◌-◌, ◌<◌, ◌+◌, ◌&&◌, ◌||◌, ◌⊎◌, ◌==◌, not, Bool, true, false, List, [], ◌∷◌, inl, inr, refl, sym, ◌∙◌}
 use Rattle.std.proofs.Common.{ap, arith}
 use Rattle.std.specs.List.{AllByRecursion, list_any}
-use Rattle.std.proofs.lemmas.Bool.{and_cases, or_parts, cases_eq, ne_eqb, false≢true}
+use Rattle.std.proofs.lemmas.Bool.{and_cases, and_left, and_right, or_parts, cases_eq, ne_eqb, false≢true}
 use Rattle.league.specs.Sets.{has}
 use Rattle.league.specs.Sums.{any_below}
 use Rattle.league.specs.Games.{IsGameFor}
@@ -26,21 +26,13 @@ pub other_fails : (p q : Bool) → (p && q) ≡ false → p ≡ true → q ≡ f
 other_fails p q fails passes =
     elim (and_cases p q fails) [ inl fails_here ↦ absurd (false≢true (sym fails_here ∙ passes)) | inr fails_there ↦ fails_there ]
 
-fails_right : (p q : Bool) → q ≡ false → (p && q) ≡ false
-fails_right true q fails = fails
-fails_right false q fails = refl
-
-fails_left : (p q : Bool) → p ≡ false → (p && q) ≡ false
-fails_left true q fails = absurd (false≢true (sym fails))
-fails_left false q fails = refl
-
 -- where one of two searches below m and n finds nothing, no two numbers pass both
 not_both : (m n : ℕ) (p P q Q : ℕ → Bool) → (any_below m (λ t. p t && P t) && any_below n (λ r. q r && Q r)) ≡ false →
     (t r : ℕ) → t < m → r < n → p t ≡ true → q r ≡ true → (P t && Q r) ≡ false
 not_both m n p P q Q fails t r in_t in_r is_t is_r =
     elim (and_cases (any_below m (λ t. p t && P t)) (any_below n (λ r. q r && Q r)) fails) [
-      | inl none ↦ fails_left (P t) (Q r) (other_fails (p t) (P t) (any_below_fails m (λ t. p t && P t) none t in_t) is_t)
-      | inr none ↦ fails_right (P t) (Q r) (other_fails (q r) (Q r) (any_below_fails n (λ r. q r && Q r) none r in_r) is_r)
+      | inl none ↦ and_left (P t) (Q r) (other_fails (p t) (P t) (any_below_fails m (λ t. p t && P t) none t in_t) is_t)
+      | inr none ↦ and_right (P t) (Q r) (other_fails (q r) (Q r) (any_below_fails n (λ r. q r && Q r) none r in_r) is_r)
     ]
 
 module _ (g g' : Games) (rr : IsDoubleRoundRobin g) (in_teams in_rounds : ℕ → Bool) (differs : DiffersOnlyIn g g' in_teams in_rounds) where
@@ -93,14 +85,14 @@ module _ (g g' : Games) (rr : IsDoubleRoundRobin g) (in_teams in_rounds : ℕ �
     where
       here : (p q x : Bool) → (p && (q || x)) ≡ false → (p && q) ≡ false
       here p q x fails = elim (and_cases p (q || x) fails) [
-        | inl fails_here ↦ fails_left p q fails_here
-        | inr fails_there ↦ fails_right p q (or_parts q x fails_there).0
+        | inl fails_here ↦ and_left p q fails_here
+        | inr fails_there ↦ and_right p q (or_parts q x fails_there).0
       ]
 
       later : (p q x y : Bool) → x ≡ true → (p && (q || (x && y))) ≡ false → (p && y) ≡ false
       later p q x y is fails = elim (and_cases p (q || (x && y)) fails) [
-        | inl fails_here ↦ fails_left p y fails_here
-        | inr fails_there ↦ fails_right p y (other_fails x y (or_parts q (x && y) fails_there).1 is)
+        | inl fails_here ↦ and_left p y fails_here
+        | inr fails_there ↦ and_right p y (other_fails x y (or_parts q (x && y) fails_there).1 is)
       ]
 
       before : (r : ℕ) → (in_teams t && (in_rounds r || (not (r == 0) && in_rounds (r - 1)))) ≡ false →
@@ -134,8 +126,8 @@ module _ (g g' : Games) (rr : IsDoubleRoundRobin g) (in_teams in_rounds : ℕ �
     where
       one_fails : (t r k : ℕ) → k < r + 1 → (in_teams t && any_below (r + 1) in_rounds) ≡ false → (in_teams t && in_rounds k) ≡ false
       one_fails t r k until neither = elim (and_cases (in_teams t) (any_below (r + 1) in_rounds) neither) [
-        | inl fails_here ↦ fails_left (in_teams t) (in_rounds k) fails_here
-        | inr none ↦ fails_right (in_teams t) (in_rounds k) (any_below_fails (r + 1) in_rounds none k until)
+        | inl fails_here ↦ and_left (in_teams t) (in_rounds k) fails_here
+        | inr none ↦ and_right (in_teams t) (in_rounds k) (any_below_fails (r + 1) in_rounds none k until)
       ]
 
   -- each two teams of a rule keep the rounds of their games
@@ -176,7 +168,7 @@ module _ (g g' : Games) (rr : IsDoubleRoundRobin g) (in_teams in_rounds : ℕ �
       has slots (round_of g' game.home game.away) ≡ has slots (round_of g game.home game.away)
   unfolding has_touched_slot
   game_kept rr' slots game is untouched = elim untouched [
-    | inl home ↦ ap (has slots) (game_stays rr' game is (fails_left _ _ home))
+    | inl home ↦ ap (has slots) (game_stays rr' game is (and_left _ _ home))
     | inr none ↦ by_tests none (has slots (round_of g game.home game.away)) refl (has slots (round_of g' game.home game.away)) refl
   ]
     where
@@ -189,9 +181,9 @@ module _ (g g' : Games) (rr : IsDoubleRoundRobin g) (in_teams in_rounds : ℕ �
       by_tests : any_below 78 (λ r. has slots r && in_rounds r) ≡ false → (b : Bool) → has slots (round_of g game.home game.away) ≡ b →
           (c : Bool) → has slots (round_of g' game.home game.away) ≡ c → c ≡ b
       by_tests none true slot c slot' =
-          sym slot' ∙ ap (has slots) (game_stays rr' game is (fails_right _ _ (slot_kept none _ (in_season game is) slot))) ∙ slot
+          sym slot' ∙ ap (has slots) (game_stays rr' game is (and_right _ _ (slot_kept none _ (in_season game is) slot))) ∙ slot
       by_tests none false slot true slot' =
-          sym slot' ∙ ap (has slots) (game_stayed rr' game is (fails_right _ _ (slot_kept none _ (in_season' rr' game is) slot'))) ∙ slot
+          sym slot' ∙ ap (has slots) (game_stayed rr' game is (and_right _ _ (slot_kept none _ (in_season' rr' game is) slot'))) ∙ slot
       by_tests none false slot false slot' = refl
 
   games_kept : IsDoubleRoundRobin g' → (slots : ℕ) (games : List Pairing) → AllByRecursion (IsGameFor g.teams) games →

@@ -18,13 +18,13 @@ use Rattle.robinx.specs.Touches.{has_touched_team, looks_at_round}
 unfoldable pub is_guest : Games → (ℕ → Bool) → (ℕ → Bool) → ℕ → Bool
 is_guest g main rounds t = any_below (round_count g.teams) (λ r. rounds r && main (cell g t r).opponent)
 
--- whether a team may meet other opponents of a rule: a main team, and unless the opponents have all main teams or none a
--- guest
+-- whether a team may meet other opponents of a rule: a main team may, and a guest unless the opponents have all main teams
+-- or none
 unfoldable pub meets_otherwise : Games → ℕ → ℕ → ℕ → ℕ → Bool
 meets_otherwise g main rounds opponents t =
     has main t || (not (takes_all_or_none main opponents) && is_guest g (has main) (has rounds) t)
 
--- whether other games of a team may count: against all teams only its sides tell which do
+-- whether other games of a team may count: where all teams are opponents, if its sides may change
 unfoldable pub counts_otherwise : Games → ℕ → ℕ → ℕ → ℕ → ℕ → Bool
 counts_otherwise g main rounds sides opponents t =
     if opponents == all_numbers g.teams then has sides t else meets_otherwise g main rounds opponents t
@@ -86,8 +86,8 @@ changing_terms g main rounds sides (Fa2 teams slots most) =
 unfoldable pub lacks_one : ℕ → (ℕ → Bool) → Bool
 lacks_one slots rounds = any_below max_rounds (λ r. rounds r && not (has slots r))
 
--- whether the rule tells the rounds apart: one that counts games in all slots together does if the slots lack one of the
--- rounds, since each team has the same games in each season
+-- whether the rule tells the rounds apart: one that counts games in all slots together does if the slots lack one of them,
+-- since a team has the same games in each season
 unfoldable pub tells_apart : RuleBody → (ℕ → Bool) → Bool
 tells_apart (Ca1 teams side slots most) rounds = lacks_one slots rounds
 tells_apart (Ca2 teams1 side teams2 slots most) rounds = lacks_one slots rounds

@@ -112,16 +112,20 @@ const MOVES: &[(Move, bool)] = &[
 ];
 
 /// The part of the deviation from a league's only rule that a change of these cells can alter, if these teams may change sides.
-fn part(
-    schedule: &Schedule,
-    league: &League,
-    (main, sides): (Touched, TeamSet),
-) -> Option<u64> {
+fn part(schedule: &Schedule, league: &League, (main, sides): (Touched, TeamSet)) -> Option<u64> {
     if league.teams() != schedule.teams() || league.rule_count() != 1 {
         return None;
     }
     let rule = league.rule(0);
     Some(deviation_part(schedule, rule, main, sides))
+}
+
+/// The games of teams 1 and 2 with each other.
+fn their_games() -> Touched {
+    Touched {
+        teams: TeamSet::below(2),
+        rounds: SlotSet::empty().with(1).with(6),
+    }
 }
 
 /// The part that an exchange of the homes of teams 1 and 2 can alter.
@@ -132,10 +136,7 @@ fn check_part(
     (rule, count): (&str, u64),
 ) -> Result<(), Fail> {
     let league = league_with(alloc, 6, rule)?;
-    let main = Touched {
-        teams: TeamSet::below(2),
-        rounds: SlotSet::empty().with(1).with(6),
-    };
+    let main = their_games();
     let found = part(start, &league, (main, main.teams));
     check_same_of(rt, &rule, &found, &Some(count));
     Ok(())
@@ -152,6 +153,17 @@ fn check_parts(rt: &impl Abort, alloc: Global, start: &Schedule) -> Result<(), F
 #[test]
 fn parts_of_an_exchange_of_homes(rt: HostRuntime) -> Result<(), Fail> {
     check_parts(&rt, rt.alloc(), &berger(rt.alloc(), 6)?)
+}
+
+#[test]
+fn part_against_all_teams_is_of_sides(rt: HostRuntime) -> Result<(), Fail> {
+    let rule = r#""class":"CA2","teams1":[1,2,3,4,5,6],"mode":"H","slots":[1,2,3],"max":0"#;
+    let league = league_with(rt.alloc(), 6, rule)?;
+    let start = berger(rt.alloc(), 6)?;
+    let main = their_games();
+    let found = part(&start, &league, (main, TeamSet::empty().with(0)));
+    check_same_of(&rt, &rule, &found, &Some(2));
+    Ok(())
 }
 
 /// Makes the move, and returns its main cells.
