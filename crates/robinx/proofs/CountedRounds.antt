@@ -160,7 +160,7 @@ module _ (g : Games) (t firsts home alike stays : ℕ) (most : round_count g.tea
 
 -- those in the slots begin with the rounds before them
 pub breaks_in_slots : (g : Games) (side : Side) (t firsts slots : ℕ) →
-    ((r : ℕ) → has firsts r ≡ (nat_lt (r + 1) (round_count g.teams) && has slots (r + 1))) →
+    ((r : ℕ) → r + 1 < round_count g.teams → has firsts r ≡ has slots (r + 1)) →
     breaks g t (λ r. has firsts (r - 1)) side ≡ breaks g t (has slots) side
 unfolding breaks is_break
 breaks_in_slots g side t firsts slots members =
@@ -171,5 +171,5 @@ breaks_in_slots g side t firsts slots members =
       | inl first ↦ rw first (and-false (has firsts (0 - 1)) ∙ sym (and-false (has slots 0)))
       | inr later ↦
           let back : r - 1 + 1 ≡ r = omega arith in
-          ap (λ b. b && is_break g side t r) (members (r - 1) ∙ rw (back, lt-ltb r (round_count g.teams) in_r) refl)
+          ap (λ b. b && is_break g side t r) (members (r - 1) (omega arith) ∙ ap (has slots) back)
     ]

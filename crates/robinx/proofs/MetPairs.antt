@@ -1,20 +1,22 @@
 -- Pairs that meet in some rounds: which they are, and their sums, counted at the main teams.
-use Rattle.std.proofs.Common.{◌≡◌, ◌≢◌, ℕ, zero, suc, ◌+◌, ◌<◌, ◌&&◌, ◌||◌, ◌==◌, not, nat_lt, Bool, true, false, if◌then◌else◌}
+use Rattle.std.proofs.Common.{◌≡◌, ◌≢◌, ℕ, zero, suc, ◌+◌, ◌<◌, ◌&&◌, ◌||◌, ◌==◌, not, Bool, true, false, if◌then◌else◌}
 use Rattle.std.proofs.Common.{inl, inr, refl, sym, subst, ◌∙◌, ap, arith}
-use Rattle.std.proofs.Math.Bool.{and_assoc, and_comm, or_comm, and-true, and-false, or-false}
+use Rattle.std.proofs.Math.Bool.{or_assoc, or_comm, and-true, and-false, or-false}
 use Rattle.std.proofs.Math.Nat.{add-zero, max_comm, min_comm}
-use Rattle.std.proofs.lemmas.Bool.{cases_Bool, cases_eq, eq-eqb, ne_eqb, lt-ltb, le-ltb, and_parts, and_cases, or_from, or_parts, false≢true}
+use Rattle.std.proofs.lemmas.Bool.{cases_Bool, cases_eq, eq-eqb, ne_eqb, lt-ltb, le-ltb, and_cases, and_right, or_from, or_parts}
+use Rattle.std.proofs.lemmas.Bool.{cond-false, false≢true}
 use Rattle.league.specs.Sets.{has, IsBelow, IsWithoutLowest}
 use Rattle.league.specs.Sums.{sum_below, sum_where, sum_of_pairs}
-use Rattle.league.proofs.ForCallers.{sum_below_add, sum_below_same, sum_below_zero, sum_of_pairs_same, sum_where_same}
-use Rattle.league.proofs.ForCallers.{lowest_gone, others_kept, has_empty, IsSumWithout, sum_without_more}
+use Rattle.league.proofs.ForCallers.{sum_below_add, sum_below_same, sum_below_zero, sum_of_pairs_same, sum_of_pairs_balance}
+use Rattle.league.proofs.ForCallers.{sum_where_same, others_kept, has_empty, IsSumWithout, sum_without_more}
 use Rattle.fixtures.specs.Games.{Games, round_count, round_of, cell, IsPair, IsDoubleRoundRobin}
 use Rattle.fixtures.specs.Changes.{DiffersOnlyAround}
 use Rattle.fixtures.proofs.ForCallers.{pair_swapped, round_of_kept, round_of_kept_around}
 use Rattle.robinx.specs.Deviations.{over, rounds_between, short_pairs}
 use Rattle.robinx.specs.Parts.{is_pair_with, meet_in}
+use Rattle.robinx.specs.Walked.{counts_pair}
 use Rattle.robinx.proofs.OpponentRounds.{met_any}
-use Rattle.robinx.proofs.PartSums.{pairs_balance}
+use Rattle.robinx.proofs.PartSums.{whole_balance}
 
 -- a change around main teams in some rounds
 module _ (g g' : Games) (rr : IsDoubleRoundRobin g) (rr' : IsDoubleRoundRobin g') (main rounds : ℕ)
@@ -42,10 +44,6 @@ module _ (g g' : Games) (rr : IsDoubleRoundRobin g) (rr' : IsDoubleRoundRobin g'
     | inr outside ↦ ap (has rounds) (kept_outside h a pair outside)
   ]
 
-  meet_in_same : (i j : ℕ) → IsPair g.teams i j → meet_in g' (has rounds) i j ≡ meet_in g (has rounds) i j
-  unfolding meet_in
-  meet_in_same i j pair = rw (game_in_same i j pair, game_in_same j i (pair_swapped _ _ _ pair)) refl
-
   rounds_between_kept : (i j : ℕ) → IsPair g.teams i j → ((has main i || has main j) && meet_in g (has rounds) i j) ≡ false →
       rounds_between g' i j ≡ rounds_between g i j
   unfolding meet_in rounds_between
@@ -61,16 +59,6 @@ module _ (g g' : Games) (rr : IsDoubleRoundRobin g) (rr' : IsDoubleRoundRobin g'
       around : (h a : ℕ) → IsPair g.teams h a → has main h ≡ false → has main a ≡ false → round_of g' h a ≡ round_of g h a
       around = round_of_kept_around g g' (has main) (has rounds) rr rr' differs
 
-  -- the tests of a pair, grouped in another way
-  grouped : (h : Games) (teams : ℕ) (f : ℕ → ℕ → ℕ) →
-      sum_of_pairs h.teams (λ i j. if is_pair_with teams main i j && meet_in h (has rounds) i j then f i j else 0) ≡
-      sum_of_pairs h.teams
-      (λ i j. if (has teams i && has teams j) && ((has main i || has main j) && meet_in h (has rounds) i j) then f i j else 0)
-  grouped h teams f =
-      sum_of_pairs_same h.teams _ _
-      (λ i j lower in_j. ap (λ b. if b then f i j else 0)
-      (and_assoc (has teams i && has teams j) (has main i || has main j) (meet_in h (has rounds) i j)))
-
   pub short_pairs_balance : (teams least : ℕ) →
       sum_below g'.teams (short_pairs g' (has teams) least) +
       sum_of_pairs g.teams (λ i j.
@@ -78,71 +66,65 @@ module _ (g g' : Games) (rr : IsDoubleRoundRobin g) (rr' : IsDoubleRoundRobin g'
       sum_below g.teams (short_pairs g (has teams) least) +
       sum_of_pairs g'.teams (λ i j.
       if is_pair_with teams main i j && meet_in g' (has rounds) i j then over least (rounds_between g' i j) else 0)
-  unfolding short_pairs
+  unfolding short_pairs meet_in rounds_between
   short_pairs_balance teams least =
-      ap (λ (part : ℕ). sum_below g'.teams (short_pairs g' (has teams) least) + part)
-      (grouped g teams (λ i j. over least (rounds_between g i j))) ∙
-      pairs_balance g.teams g'.teams (λ i j. has teams i && has teams j)
-      (λ i j. (has main i || has main j) && meet_in g (has rounds) i j)
-      (λ i j. (has main i || has main j) && meet_in g' (has rounds) i j)
-      (λ i j. over least (rounds_between g' i j)) (λ i j. over least (rounds_between g i j)) differs.same_size
-      (λ i j lower in_j. ap (λ b. (has main i || has main j) && b) (meet_in_same i j (is_pair i j lower in_j)))
-      (λ i j lower in_j both out. ap (over least) (rounds_between_kept i j (is_pair i j lower in_j) out)) ∙
-      ap (λ (part : ℕ). sum_below g.teams (short_pairs g (has teams) least) + part)
-      (sym (grouped g' teams (λ i j. over least (rounds_between g' i j))))
+      rw differs.same_size
+      (sum_of_pairs_balance g.teams _ _ _ _
+      (λ i j lower in_j.
+      let pair : IsPair g.teams i j = record { home_in = omega arith; away_in = in_j; distinct = omega arith } in
+      at (has teams i && has teams j) (has main i || has main j) (meet_in g (has rounds) i j) (meet_in g' (has rounds) i j) _ _
+      (rw (game_in_same i j pair, game_in_same j i (pair_swapped _ _ _ pair)) refl)
+      (λ out. ap (over least) (rounds_between_kept i j pair out))))
     where
-      is_pair : (i j : ℕ) → i < j → j < g.teams → IsPair g.teams i j
-      is_pair i j lower in_j = record { home_in = omega arith; away_in = in_j; distinct = omega arith }
+      at : (both one meet meet' : Bool) (new old : ℕ) → meet' ≡ meet → ((one && meet) ≡ false → new ≡ old) →
+          (if both then new else 0) + (if (both && one) && meet then old else 0) ≡
+          (if both then old else 0) + (if (both && one) && meet' then new else 0)
+      at true true meet meet' new old same stays = whole_balance meet meet' new old same stays
+      at true false meet meet' new old same stays = ap (λ n. n + 0) (stays refl)
+      at false one meet meet' new old same stays = refl
 
--- the numbers of a set that aren't left
-abbrev taken_of : ℕ → ℕ → ℕ → Bool
-taken_of set left r = has set r && not (has left r)
-
--- a loop over rounds has found the opponents in those that aren't left
-pub record HasMetIn (g : Games) (team set left met : ℕ) : Type 0 where
+-- a loop over rounds has found the opponents but for those in the rounds that are left
+pub record HasMetIn (g : Games) (team rounds left met : ℕ) : Type 0 where
   pub below : IsBelow (round_count g.teams) left
-  pub within : (r : ℕ) → has left r ≡ true → has set r ≡ true
   pub in_teams : IsBelow g.teams met
-  pub members : (t : ℕ) → IsPair g.teams t team → has met t ≡ meet_in g (taken_of set left) t team
+  pub members : (t : ℕ) → IsPair g.teams t team → (has met t || meet_in g (has left) t team) ≡ meet_in g (has rounds) t team
 
-pub met_in_none : (g : Games) (team set left met : ℕ) → IsBelow (round_count g.teams) left → left ≡ set → IsBelow g.teams met →
-    ((t : ℕ) → has met t ≡ false) → HasMetIn g team set left met
+pub met_in_none : (g : Games) (rr : IsDoubleRoundRobin g) (team rounds left met : ℕ) → IsBelow (round_count g.teams) left →
+    ((r : ℕ) → r < round_count g.teams → has left r ≡ has rounds r) → IsBelow g.teams met → ((t : ℕ) → has met t ≡ false) →
+    HasMetIn g team rounds left met
 unfolding meet_in
-met_in_none g team set left met below whole in_teams empty = record {
+met_in_none g rr team rounds left met below in_season in_teams empty = record {
   below = below;
-  within = λ r is. sym (ap (λ s. has s r) whole) ∙ is;
-  in_teams = in_teams;
-  members = λ t pair. empty t ∙ none (round_of g t team) (round_of g team t);
-}
-  where
-    never : (r : ℕ) → taken_of set left r ≡ false
-    never r = ap (λ s. has set r && not (has s r)) whole ∙ not_both (has set r)
-      where
-        not_both : (b : Bool) → (b && not b) ≡ false
-        not_both true = refl
-        not_both false = refl
-
-    none : (r s : ℕ) → false ≡ (taken_of set left r || taken_of set left s)
-    none r s = sym (or_from (taken_of set left r) (taken_of set left s) (never r) (never s))
-
-pub met_in_more : (g : Games) (rr : IsDoubleRoundRobin g) (team set left lowest rest met new : ℕ) → team < g.teams →
-    lowest < round_count g.teams → HasMetIn g team set left met → IsWithoutLowest left lowest rest → IsBelow g.teams new →
-    ((t : ℕ) → has new t ≡ (t == (cell g team lowest).opponent || has met t)) → HasMetIn g team set rest new
-unfolding meet_in
-met_in_more g rr team set left lowest rest met new in_team in_r so_far taken in_teams members = record {
-  below = omega (arith, so_far.below, taken.fewer);
-  within = λ r is. so_far.within r (and_parts (has left r) (not (r == lowest)) (sym (taken.others r) ∙ is)).0;
   in_teams = in_teams;
   members = λ t pair.
-      members t ∙ ap (λ b. t == (cell g team lowest).opponent || b) (so_far.members t pair) ∙
-      rw (here t pair, in_one (round_of g t team), in_one (round_of g team t))
-      (regrouped (taken_of set left (round_of g t team)) (taken_of set left (round_of g team t)) (lowest == round_of g t team)
-      (lowest == round_of g team t));
+      rw (
+        empty t,
+        in_season (round_of g t team) (rr.in_range t team pair),
+        in_season (round_of g team t) (rr.in_range team t (pair_swapped _ _ _ pair)),
+      )
+      refl;
+}
+
+pub met_in_more : (g : Games) (rr : IsDoubleRoundRobin g) (team rounds left lowest rest met new : ℕ) → team < g.teams →
+    lowest < round_count g.teams → HasMetIn g team rounds left met → IsWithoutLowest left lowest rest → IsBelow g.teams new →
+    ((t : ℕ) → has new t ≡ (t == (cell g team lowest).opponent || has met t)) → HasMetIn g team rounds rest new
+unfolding meet_in
+met_in_more g rr team rounds left lowest rest met new in_team in_r so_far taken in_teams members = record {
+  below = omega (arith, so_far.below, taken.fewer);
+  in_teams = in_teams;
+  members = λ t pair.
+      ap (λ b. b || (has rest (round_of g t team) || has rest (round_of g team t)))
+      (members t ∙ ap (λ b. b || has met t) (here t pair)) ∙
+      ap (λ b. b || (has rest (round_of g t team) || has rest (round_of g team t))) (or_comm _ (has met t)) ∙
+      or_assoc (has met t) _ _ ∙
+      ap (λ b. has met t || b)
+      (regrouped (lowest == round_of g t team) (lowest == round_of g team t) (has rest (round_of g t team)) (has rest (round_of g team t))) ∙
+      rw (sym (was_left (round_of g t team)), sym (was_left (round_of g team t))) (so_far.members t pair);
 }
   where
-    in_one : (r : ℕ) → taken_of set rest r ≡ (lowest == r || taken_of set left r)
-    in_one r = elim (cases_eq r lowest) [
-      | inl same ↦ rw (same, eq-eqb lowest lowest refl, so_far.within lowest taken.in_set, lowest_gone left lowest rest taken) refl
+    was_left : (r : ℕ) → has left r ≡ (lowest == r || has rest r)
+    was_left r = elim (cases_eq r lowest) [
+      | inl same ↦ rw (same, eq-eqb lowest lowest refl, taken.in_set) refl
       | inr other ↦ rw (ne_eqb lowest r (λ same. other (sym same)), others_kept left lowest rest r taken other) refl
     ]
 
@@ -160,55 +142,38 @@ met_in_more g rr team set left lowest rest met new in_team in_r so_far taken in_
           | inr other ↦ ne_eqb a b other ∙ sym (ne_eqb b a (λ same. other (sym same)))
         ]
 
-    regrouped : (a b x y : Bool) → ((y || x) || (a || b)) ≡ ((x || a) || (y || b))
-    regrouped a b true true = refl
-    regrouped a b true false = refl
-    regrouped true b false true = refl
-    regrouped false b false true = refl
-    regrouped a b false false = refl
+    regrouped : (x y a b : Bool) → ((y || x) || (a || b)) ≡ ((x || a) || (y || b))
+    regrouped true true a b = refl
+    regrouped true false a b = refl
+    regrouped false true true b = refl
+    regrouped false true false b = refl
+    regrouped false false a b = refl
 
-pub met_in_all : (g : Games) (team set left met : ℕ) → HasMetIn g team set left met → left ≡ 0 → (t : ℕ) → IsPair g.teams t team →
-    has met t ≡ meet_in g (has set) t team
+pub met_in_all : (g : Games) (team rounds left met : ℕ) → HasMetIn g team rounds left met → left ≡ 0 → (t : ℕ) →
+    IsPair g.teams t team → has met t ≡ meet_in g (has rounds) t team
 unfolding meet_in
-met_in_all g team set left met so_far none_left t pair =
-    so_far.members t pair ∙ rw (all (round_of g t team), all (round_of g team t)) refl
+met_in_all g team rounds left met so_far none_left t pair =
+    sym (or-false (has met t)) ∙ ap (λ b. has met t || b) (sym (or_from _ _ (none (round_of g t team)) (none (round_of g team t)))) ∙
+    so_far.members t pair
   where
-    all : (r : ℕ) → taken_of set left r ≡ has set r
-    all r = ap (λ b. has set r && not b) (ap (λ s. has s r) none_left ∙ has_empty r) ∙ and-true (has set r)
-
--- among the rounds of the season and some teams
-pub met_in_season : (g : Games) (rr : IsDoubleRoundRobin g) (team teams all rounds season met both : ℕ) →
-    ((r : ℕ) → has all r ≡ nat_lt r (round_count g.teams)) → ((r : ℕ) → has season r ≡ (has all r && has rounds r)) →
-    ((t : ℕ) → IsPair g.teams t team → has met t ≡ meet_in g (has season) t team) →
-    ((t : ℕ) → has both t ≡ (has met t && has teams t)) → (t : ℕ) → IsPair g.teams t team →
-    has both t ≡ (has teams t && meet_in g (has rounds) t team)
-unfolding meet_in
-met_in_season g rr team teams all rounds season met both is_all seasons mets members t pair =
-    members t ∙ ap (λ b. b && has teams t) (mets t pair) ∙
-    rw (
-      in_season (round_of g t team) (rr.in_range t team pair),
-      in_season (round_of g team t) (rr.in_range team t (pair_swapped _ _ _ pair)),
-    )
-    (and_comm (has rounds (round_of g t team) || has rounds (round_of g team t)) (has teams t))
-  where
-    in_season : (r : ℕ) → r < round_count g.teams → has season r ≡ has rounds r
-    in_season r in_r = seasons r ∙ ap (λ b. b && has rounds r) (is_all r ∙ lt-ltb r (round_count g.teams) in_r)
+    none : (r : ℕ) → has left r ≡ false
+    none r = ap (λ s. has s r) none_left ∙ has_empty r
 
 -- a main team doesn't count a pair with itself
-pub counted_same : (g : Games) (main team : ℕ) (some others : ℕ → Bool) → team < g.teams → has main team ≡ true →
-    ((t : ℕ) → IsPair g.teams t team → some t ≡ others t) → (t : ℕ) → t < g.teams →
-    (some t && (nat_lt t team || not (has main t))) ≡ (others t && (nat_lt t team || not (has main t)))
-counted_same g main team some others in_team is_main same t in_t = elim (cases_eq t team) [
-  | inl itself ↦ rw (itself, le-ltb team team (omega arith), is_main) (and-false (some team) ∙ sym (and-false (others team)))
-  | inr other ↦
-      ap (λ b. b && (nat_lt t team || not (has main t))) (same t (record { home_in = in_t; away_in = in_team; distinct = other }))
-]
+not_alone : (main team : ℕ) → counts_pair main team team ≡ false
+not_alone main team = rw (le-ltb team team (omega arith)) refl
 
-pub counted_distinct : (main team other : ℕ) → has main team ≡ true → (nat_lt other team || not (has main other)) ≡ true →
-    other ≢ team
-counted_distinct main team other is_main counts same =
-    let none : (nat_lt other team || not (has main other)) ≡ false = rw (same, le-ltb team team (omega arith), is_main) refl in
-    false≢true (sym none ∙ counts)
+pub counted_distinct : (main team other : ℕ) → counts_pair main team other ≡ true → other ≢ team
+counted_distinct main team other counts same =
+    false≢true (sym (not_alone main team) ∙ ap (counts_pair main team) (sym same) ∙ counts)
+
+pub counted_same : (g : Games) (main team : ℕ) (some others : ℕ → Bool) → team < g.teams →
+    ((t : ℕ) → IsPair g.teams t team → some t ≡ others t) → (t : ℕ) → t < g.teams →
+    (some t && counts_pair main team t) ≡ (others t && counts_pair main team t)
+counted_same g main team some others in_team same t in_t = elim (cases_eq t team) [
+  | inl itself ↦ rw (itself, not_alone main team) (and-false (some team) ∙ sym (and-false (others team)))
+  | inr other ↦ ap (λ b. b && counts_pair main team t) (same t (record { home_in = in_t; away_in = in_team; distinct = other }))
+]
 
 -- a term of 0
 pub sum_without_same : (n set left lowest rest total most : ℕ) (f : ℕ → ℕ) → IsSumWithout n set left total most f →
@@ -216,15 +181,6 @@ pub sum_without_same : (n set left lowest rest total most : ℕ) (f : ℕ → �
 sum_without_same n set left lowest rest total most f so_far taken none =
     subst (λ (sum : ℕ). IsSumWithout n set rest sum most f) (add-zero total)
     (sum_without_more n set left lowest rest total 0 most f so_far taken (sym none) (omega arith))
-
--- those that pass a second test
-pub sum_of_both : (n : ℕ) (test other : ℕ → Bool) (f : ℕ → ℕ) →
-    sum_where n test (λ k. if other k then f k else 0) ≡ sum_where n (λ k. test k && other k) f
-sum_of_both n test other f = sum_below_same n _ _ (λ k below. at (test k) (other k) (f k))
-  where
-    at : (b c : Bool) (x : ℕ) → ◌≡◌ {A = ℕ} (if b then (if c then x else 0) else 0) (if b && c then x else 0)
-    at true c x = refl
-    at false c x = refl
 
 -- a sum over all ordered pairs
 both_orders : (n : ℕ) (h : ℕ → ℕ → ℕ) → ((k : ℕ) → h k k ≡ 0) →
@@ -240,69 +196,59 @@ both_orders (suc n) h none =
       none n,
     )
 
--- a test of pairs and a term of each, whichever team is named first
-module _ (n teams main : ℕ) (test : ℕ → ℕ → Bool) (f : ℕ → ℕ → ℕ) (same_test : (i j : ℕ) → test j i ≡ test i j)
-    (same_term : (i j : ℕ) → f j i ≡ f i j) where
-  -- what a main team counts of its pair with another
-  abbrev counted : ℕ → ℕ → ℕ
-  counted m p =
-      if has teams m && has main m then (if (has teams p && test p m) && (nat_lt p m || not (has main p)) then f p m else 0) else 0
+-- what a main team counts of its pair with another
+abbrev counted : ℕ → ℕ → (ℕ → ℕ → Bool) → (ℕ → ℕ → ℕ) → ℕ → ℕ → ℕ
+counted teams main test f m p = if (has teams m && has main m) && ((has teams p && test p m) && counts_pair main m p) then f p m else 0
 
-  none_alone : (k : ℕ) → counted k k ≡ 0
-  none_alone k = rw (le-ltb k k (omega arith)) (alone (has teams k) (has main k) (test k k) (f k k))
-    where
-      alone : (t m e : Bool) (x : ℕ) →
-          ◌≡◌ {A = ℕ} (if t && m then (if (t && e) && (false || not m) then x else 0) else 0) 0
-      alone true true true x = refl
-      alone true true false x = refl
-      alone true false e x = refl
-      alone false m e x = refl
+-- the pairs with a main team that pass a test, counted at the main teams
+pub pairs_at_main : (n teams main : ℕ) (test : ℕ → ℕ → Bool) (f : ℕ → ℕ → ℕ) → ((i j : ℕ) → test j i ≡ test i j) →
+    ((i j : ℕ) → f j i ≡ f i j) →
+    sum_where n (λ m. has teams m && has main m)
+    (λ m. sum_where n (λ p. (has teams p && test p m) && counts_pair main m p) (λ p. f p m)) ≡
+    sum_of_pairs n (λ i j. if is_pair_with teams main i j && test i j then f i j else 0)
+pairs_at_main n teams main test f same_test same_term =
+    sum_below_same n _ (λ m. sum_below n (counted teams main test f m)) (λ m below. inside (has teams m && has main m) m) ∙
+    both_orders n (counted teams main test f)
+    (λ k. cond-false {A = ℕ} _ (f k k) 0 (and_right _ _ (and_right _ _ (not_alone main k)))) ∙
+    sum_of_pairs_same n _ _ (λ i j lower below. once i j lower)
+  where
+    inside : (b : Bool) (m : ℕ) →
+        (if b then sum_where n (λ p. (has teams p && test p m) && counts_pair main m p) (λ p. f p m) else 0) ≡
+        sum_below n (λ p. if b && ((has teams p && test p m) && counts_pair main m p) then f p m else 0)
+    inside true m = refl
+    inside false m = sym (sum_below_zero n _ (λ p below. refl))
 
-  once : (i j : ℕ) → i < j → counted i j + counted j i ≡ (if is_pair_with teams main i j && test i j then f i j else 0)
-  once i j lower =
-      rw (same_test i j, same_term i j, le-ltb j i (omega arith), lt-ltb i j lower)
-      (at (has teams i) (has teams j) (has main i) (has main j) (test i j) (f i j))
-    where
-      at : (a b m l e : Bool) (x : ℕ) →
-          (if a && m then (if (b && e) && (false || not l) then x else 0) else 0) +
-          (if b && l then (if (a && e) && (true || not m) then x else 0) else 0) ≡
-          (if ((a && b) && (m || l)) && e then x else 0)
-      at true true true true true x = omega arith
-      at true true true true false x = refl
-      at true true true false true x = omega arith
-      at true true true false false x = refl
-      at true true false true true x = omega arith
-      at true true false true false x = refl
-      at true true false false e x = refl
-      at true false true l e x = refl
-      at true false false l e x = refl
-      at false true m true e x = refl
-      at false true m false e x = refl
-      at false false m l e x = refl
+    once : (i j : ℕ) → i < j → counted teams main test f i j + counted teams main test f j i ≡
+        (if is_pair_with teams main i j && test i j then f i j else 0)
+    once i j lower =
+        rw (same_test i j, same_term i j, le-ltb j i (omega arith), lt-ltb i j lower)
+        (at (has teams i) (has teams j) (has main i) (has main j) (test i j) (f i j))
+      where
+        at : (a b m l e : Bool) (x : ℕ) →
+            (if (a && m) && ((b && e) && (false || (true && not l))) then x else 0) +
+            (if (b && l) && ((a && e) && (true || (false && not m))) then x else 0) ≡
+            (if ((a && b) && (m || l)) && e then x else 0)
+        at true true true true true x = omega arith
+        at true true true true false x = refl
+        at true true true false true x = omega arith
+        at true true true false false x = refl
+        at true true false true true x = omega arith
+        at true true false true false x = refl
+        at true true false false e x = refl
+        at true false true l e x = refl
+        at true false false l e x = refl
+        at false true m true e x = refl
+        at false true m false e x = refl
+        at false false m l e x = refl
 
-  -- the pairs with a main team, counted at the main teams
-  pub pairs_at_main : sum_where n (λ m. has teams m && has main m)
-      (λ m. sum_where n (λ p. (has teams p && test p m) && (nat_lt p m || not (has main p))) (λ p. f p m)) ≡
-      sum_of_pairs n (λ i j. if is_pair_with teams main i j && test i j then f i j else 0)
-  pairs_at_main =
-      sum_below_same n _ (λ m. sum_below n (counted m)) (λ m below. inside (has teams m && has main m) m) ∙
-      both_orders n counted none_alone ∙ sum_of_pairs_same n _ _ (λ i j lower below. once i j lower)
-    where
-      inside : (b : Bool) (m : ℕ) →
-          (if b then sum_where n (λ p. (has teams p && test p m) && (nat_lt p m || not (has main p))) (λ p. f p m) else 0) ≡
-          sum_below n
-          (λ p. if b then (if (has teams p && test p m) && (nat_lt p m || not (has main p)) then f p m else 0) else 0)
-      inside true m = refl
-      inside false m = sym (sum_below_zero n _ (λ p below. refl))
-
--- the same of all pairs of a rule's teams
+-- all pairs of a rule's teams, counted in the same way
 pub pairs_at_all : (n teams : ℕ) (f : ℕ → ℕ → ℕ) → ((i j : ℕ) → f j i ≡ f i j) →
-    sum_where n (has teams) (λ m. sum_where n (λ p. has teams p && (nat_lt p m || not (has teams p))) (λ p. f p m)) ≡
+    sum_where n (has teams) (λ m. sum_where n (λ p. has teams p && counts_pair teams m p) (λ p. f p m)) ≡
     sum_of_pairs n (λ i j. if has teams i && has teams j then f i j else 0)
 pairs_at_all n teams f same_term =
     sum_where_same n (has teams) (λ m. has teams m && has teams m) _ _ (λ m below. sym (both (has teams m)))
     (λ m below is. sum_where_same n _ _ _ _
-    (λ p p_below. ap (λ b. b && (nat_lt p m || not (has teams p))) (sym (and-true (has teams p)))) (λ p p_below is. refl)) ∙
+    (λ p p_below. ap (λ b. b && counts_pair teams m p) (sym (and-true (has teams p)))) (λ p p_below is. refl)) ∙
     pairs_at_main n teams teams (λ _ _. true) f (λ i j. refl) same_term ∙
     sum_of_pairs_same n _ _ (λ i j lower below. ap (λ b. if b then f i j else 0) (at (has teams i) (has teams j)))
   where

@@ -330,8 +330,7 @@ module _ (g g' : Games) (rr : IsDoubleRoundRobin g) (rr' : IsDoubleRoundRobin g'
   terms_balance (Se1 teams least) is = short_pairs_balance g g' rr rr' main rounds differs teams least
   terms_balance (Fa2 teams slots most) is =
       pairs_balance g.teams g'.teams (λ i j. has teams i && has teams j) (λ i j. has sides i || has sides j)
-      (λ i j. has sides i || has sides j) (λ i j. worst_gap g' (has slots) most i j) (λ i j. worst_gap g (has slots) most i j) differs.same_size
-      (λ i j lower in_j. refl)
+      (λ i j. worst_gap g' (has slots) most i j) (λ i j. worst_gap g (has slots) most i j) differs.same_size
       (λ i j lower in_j both out.
       let parts = neither (has sides i) (has sides j) out in
       worst_gap-same g g' (λ t. not (has sides t)) (has slots)

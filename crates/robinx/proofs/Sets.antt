@@ -90,13 +90,18 @@ count_next set first window count comes goes in_next in_first is_next is_first i
     omega (arith, count_moved_on set first window, comes_is, goes_is, is)
 
 -- those that pass a second test
+
+pub sum_of_both : (n : ℕ) (test other : ℕ → Bool) (f : ℕ → ℕ) →
+    sum_where n test (λ k. if other k then f k else 0) ≡ sum_where n (λ k. test k && other k) f
+sum_of_both n test other f = sum_below_same n _ _ (λ k below. at (test k) (other k) (f k))
+  where
+    at : (b c : Bool) (x : ℕ) → ◌≡◌ {A = ℕ} (if b then (if c then x else 0) else 0) (if b && c then x else 0)
+    at true c x = refl
+    at false c x = refl
+
 pub count_of_both : (n : ℕ) (test other : ℕ → Bool) →
     sum_where n test (λ k. if other k then 1 else 0) ≡ count_where n (λ k. test k && other k)
-count_of_both n test other = sum_below_same n _ _ (λ k below. at (test k) (other k))
-  where
-    at : (b c : Bool) → ◌≡◌ {A = ℕ} (if b then (if c then 1 else 0) else 0) (if b && c then 1 else 0)
-    at true c = refl
-    at false c = refl
+count_of_both n test other = sum_of_both n test other (λ _. 1)
 
 -- those of a window
 pub count_in_window : (rounds set first window : ℕ) →

@@ -1,5 +1,5 @@
 -- What private functions count on the way: words of theirs alone.
-use Rattle.std.specs.Prelude.{◌≡◌, ℕ, ◌+◌, ◌-◌, ◌*◌, Bool, if◌then◌else◌, ◌<◌, not, min, List, [], length, slice_index, slice_index_or}
+use Rattle.std.specs.Prelude.{◌≡◌, ℕ, ◌+◌, ◌-◌, ◌*◌, Bool, if◌then◌else◌, ◌<◌, ◌&&◌, ◌||◌, not, nat_lt, min, List, [], length, slice_index, slice_index_or}
 use Rattle.std.specs.Int.{abs_diff}
 use Rattle.league.specs.Sets.{has}
 use Rattle.league.specs.Sums.{count_where}
@@ -21,6 +21,10 @@ lacks set first window = count_where window (λ k. not (has set (first + k)))
 -- the places of a row, one for each round and some more
 abbrev pub row_places : ℕ
 row_places = 80
+
+-- whether a main team counts its pair with another: one of two main teams counts at the higher
+abbrev pub counts_pair : ℕ → ℕ → ℕ → Bool
+counts_pair main team other = nat_lt other team || (nat_lt team other && not (has main other))
 
 -- a row has a team's home games up to and with each round
 pub record IsRowOf (g : Games) (team : ℕ) (row : List ℕ) : Type 0 where

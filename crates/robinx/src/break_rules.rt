@@ -1,6 +1,6 @@
 //! Breaks, and the rules on them: at most so many rounds in which a team stays on its side.
 
-ghost use Rattle.std.specs.Prelude.{◌≡◌, ℕ, ◌+◌, ◌-◌, ◌<◌, ◌≤◌, ◌&&◌, nat_lt};
+ghost use Rattle.std.specs.Prelude.{◌≡◌, ℕ, ◌+◌, ◌-◌, ◌<◌, ◌≤◌};
 ghost use Rattle.league.specs.Limits.{max_rounds};
 ghost use Rattle.league.specs.Sets.{has, IsBelow};
 ghost use Rattle.league.specs.declared.rule.RuleBody.TheVariants as RuleBody;
@@ -27,8 +27,7 @@ pub fn breaks(schedule: &Schedule, team: u8, slots: SlotSet, side: Side) -> u32
 
 /// The rounds of the season after which one of the slots comes: with them the breaks in the slots begin.
 fn rounds_before(schedule: &Schedule, slots: SlotSet) -> SlotSet
-    ensures members { (r : ℕ) → has result r ≡
-        (nat_lt (r + 1) (round_count schedule.now.teams) && has slots (r + 1)) }
+    ensures members { (r : ℕ) → r + 1 < round_count schedule.now.teams → has result r ≡ has slots (r + 1) }
     ensures below { IsBelow (round_count schedule.now.teams - 1) result }
     ensures season { round_count schedule.now.teams ≤ max_rounds }
 {

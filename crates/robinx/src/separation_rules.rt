@@ -1,13 +1,14 @@
 //! Separation rules: at least so many rounds between the two games of a pair.
 
-ghost use Rattle.std.specs.Prelude.{◌≡◌, ℕ, ◌*◌, ◌<◌, ◌≤◌, ◌&&◌, ◌||◌, not, nat_lt, true};
+ghost use Rattle.std.specs.Prelude.{◌≡◌, ℕ, ◌*◌, ◌<◌, ◌≤◌, ◌&&◌};
 ghost use Rattle.league.specs.Limits.{max_teams, max_count};
 ghost use Rattle.league.specs.Sets.{has, IsBelow};
 ghost use Rattle.league.specs.Sums.{sum_where};
 ghost use Rattle.league.specs.declared.rule.RuleBody.TheVariants as RuleBody;
-ghost use Rattle.fixtures.specs.Games.{round_count, IsPair, IsDoubleRoundRobin};
+ghost use Rattle.fixtures.specs.Games.{IsPair, IsDoubleRoundRobin};
 ghost use Rattle.robinx.specs.Deviations.{over, rounds_between, deviation};
 ghost use Rattle.robinx.specs.Parts.{meet_in, changing_terms};
+ghost use Rattle.robinx.specs.Walked.{counts_pair};
 
 use crate::counts::over;
 use fixtures::Schedule;
@@ -41,27 +42,27 @@ pub(crate) fn se1_part(
     ensures { (sides : ℕ) →
         result ≡ changing_terms schedule.now main rounds sides (RuleBody.Se1 teams least) }
 {
-    let in_season = SlotSet::below(schedule.rounds()).intersection(rounds);
     let counting = teams.intersection(main);
     let mut total = 0;
     for team in counting {
-        let met = opponents_in(schedule, in_season, team).intersection(teams);
+        let met = opponents_in(schedule, rounds, team).intersection(teams);
         total += short_with(schedule, met, main, least, team);
     }
     total
 }
 
-/// The teams that the team meets in these rounds.
+/// The teams that the team meets in one of the rounds.
+#[inline]
 fn opponents_in(schedule: &Schedule, rounds: SlotSet, team: u8) -> TeamSet
     requires team { team < schedule.now.teams }
     requires round_robin { IsDoubleRoundRobin schedule.now }
-    requires rounds { IsBelow (round_count schedule.now.teams) rounds }
     ensures members { (t : ℕ) → IsPair schedule.now.teams t team →
         has result t ≡ meet_in schedule.now (has rounds) t team }
     ensures below { IsBelow schedule.now.teams result }
 {
+    let in_season = SlotSet::below(schedule.rounds()).intersection(rounds);
     let mut met = TeamSet::empty();
-    for round in rounds {
+    for round in in_season {
         met = met.with(schedule.game_at(team, round).opponent);
     }
     met
@@ -74,9 +75,8 @@ fn short_with(schedule: &Schedule, others: TeamSet, main: TeamSet, least: u32, t
     requires team { team < schedule.now.teams }
     requires others { IsBelow schedule.now.teams others }
     requires least { least ≤ max_count }
-    requires main { has main team ≡ true }
     ensures value { result ≡ sum_where schedule.now.teams
-        (λ t. has others t && (nat_lt t team || not (has main t)))
+        (λ t. has others t && counts_pair main team t)
         (λ t. over least (rounds_between schedule.now t team)) }
     ensures most { result ≤ max_teams * max_count }
 {
@@ -89,12 +89,12 @@ fn short_with(schedule: &Schedule, others: TeamSet, main: TeamSet, least: u32, t
     total
 }
 
-/// Whether a main team counts its pair with the other: a pair of two main teams counts at the higher.
+/// Whether a main team counts its pair with the other: one of two main teams counts at the higher.
 fn counts_pair(main: TeamSet, team: u8, other: u8) -> bool
     requires { other < max_teams }
-    ensures { result ≡ (nat_lt other team || not (has main other)) }
+    ensures { result ≡ counts_pair main team other }
 {
-    other < team || !main.has(other)
+    other < team || team < other && !main.has(other)
 }
 
 /// How many rounds lie strictly between the two games of the pair.

@@ -68,6 +68,16 @@ const OF_HOMES: &[(&str, &str, u64)] = &[
         r#""class":"BR1","teams":[1,2],"mode":"HA","intp":0"#,
         6,
     ),
+    (
+        r#""class":"SE1","teams":[1,2,3,4,5,6],"min":10"#,
+        r#""class":"SE1","teams":[1,2],"min":10"#,
+        6,
+    ),
+    (
+        r#""class":"SE1","teams":[2,3,4],"min":10"#,
+        r#""class":"SE1","teams":[],"min":10"#,
+        0,
+    ),
 ];
 
 /// Rules of each class: with opponents that hold all, none and one of teams 1 and 2, slots that hold all, some and none of
@@ -96,8 +106,12 @@ const RULES: &[&str] = &[
     r#""class":"GA1","games":[[1,2],[2,1],[4,3]],"slots":[2,5,7],"min":3,"max":3"#,
     r#""class":"GA1","games":[[1,2],[6,4],[2,3]],"slots":[3,4,8],"min":2,"max":2"#,
     r#""class":"BR1","teams":[1,2,5],"mode":"H","slots":[2,3,10],"intp":0"#,
+    r#""class":"BR1","teams":[1,3,6],"mode":"A","intp":0"#,
     r#""class":"BR2","teams":[2,3,4],"slots":[5,10],"intp":0"#,
+    r#""class":"BR2","teams":[1,2,3,4,5,6],"slots":[1,2,3,6],"intp":0"#,
     r#""class":"SE1","teams":[1,3,4,6],"min":6"#,
+    r#""class":"SE1","teams":[1,2,3,4,5,6],"min":10"#,
+    r#""class":"SE1","teams":[2,5],"min":5"#,
     r#""class":"FA2","teams":[1,2,4,5],"slots":[2,5,10],"intp":0"#,
     r#""class":"FA2","teams":[],"intp":0"#,
 ];

@@ -1,4 +1,5 @@
-use Rattle.std.proofs.Common.{◌||◌, ◌==◌, ap, arith, ◌∙◌}
+use Rattle.std.proofs.Common.{◌&&◌, ◌||◌, ◌==◌, ap, arith, ◌∙◌}
+use Rattle.std.proofs.lemmas.Bool.{lt-ltb}
 use Rattle.league.specs.Sets.{has}
 use Rattle.league.proofs.ForCallers.{lowest_below}
 use Rattle.fixtures.specs.declared.game.Cell.{Cell}
@@ -7,8 +8,15 @@ use Rattle.robinx.proofs.separation_rules.opponents_in.Goals as goal
 
 pub loop-round-init : goal.loop-round-init
 loop-round-init c =
-    met_in_none _ _ _ _ _ (omega (arith, c.requires.rounds, c.into_iter-round-iterator.ensures.into_iter_gives))
-    c.into_iter-round-iterator.ensures.into_iter_gives (c.empty-met.ensures.below _) c.empty-met.ensures.members
+    met_in_none c.args.schedule.now c.requires.round_robin c.args.team _ _ _
+    (omega (
+      arith,
+      c.into_iter-round-iterator.ensures.into_iter_gives,
+      rw c.rounds.ensures.number at (c.intersection-in_season.ensures.below _ c.below.ensures.below),
+    ))
+    (λ r in_r. ap (λ s. has s r) c.into_iter-round-iterator.ensures.into_iter_gives ∙ c.intersection-in_season.ensures.members r ∙
+    ap (λ b. b && has c.args.rounds r) (c.below.ensures.members r ∙ lt-ltb r _ (omega (arith, in_r, c.rounds.ensures.number))))
+    (c.empty-met.ensures.below _) c.empty-met.ensures.members
 
 pub game_at-requires-clause-round : goal.game_at-requires-clause-round
 game_at-requires-clause-round c = lowest_below _ _ _ _ c.loop-round.invariant.below c.in-Some.ensures.steps

@@ -1,16 +1,15 @@
-use Rattle.std.proofs.Common.{◌≡◌, ℕ, true, ◌&&◌, ◌||◌, not, nat_lt}
+use Rattle.std.proofs.Common.{◌&&◌}
 use Rattle.league.specs.Sets.{has}
 use Rattle.league.specs.Sums.{sum_where}
 use Rattle.league.proofs.ForCallers.{IsSumWithout}
 use Rattle.robinx.specs.Deviations.{over, rounds_between}
 use Rattle.robinx.specs.Parts.{meet_in}
+use Rattle.robinx.specs.Walked.{counts_pair}
 use Rattle.robinx.proofs.separation_rules.se1_part.Given as goal
 
 abbrev pub invariant-loop-team : goal.invariant-loop-team
-invariant-loop-team l = record {
-  sums : IsSumWithout l.schedule.teams l.initial.team-iterator l.team-iterator l.total 400000
-      (λ t. sum_where l.schedule.teams
-      (λ p. (has l.teams p && meet_in l.schedule (has l.fn.rounds) p t) && (nat_lt p t || not (has l.main p)))
-      (λ p. over l.least (rounds_between l.schedule p t)));
-  within : (k : ℕ) → has l.team-iterator k ≡ true → has l.initial.team-iterator k ≡ true;
-}
+invariant-loop-team l =
+    IsSumWithout l.schedule.teams l.initial.team-iterator l.team-iterator l.total 400000
+    (λ t. sum_where l.schedule.teams
+    (λ p. (has l.teams p && meet_in l.schedule (has l.rounds) p t) && counts_pair l.main t p)
+    (λ p. over l.least (rounds_between l.schedule p t)))

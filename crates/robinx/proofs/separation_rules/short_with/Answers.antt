@@ -2,7 +2,8 @@ use Rattle.std.proofs.Common.{ℕ, sym, arith, refl, ◌∙◌}
 use Rattle.std.proofs.lemmas.Bool.{cond-true, cond-false}
 use Rattle.league.specs.Sets.{has}
 use Rattle.league.proofs.ForCallers.{sum_without_none, sum_without_more, sum_without_all, lowest_below}
-use Rattle.robinx.proofs.MetPairs.{counted_distinct, sum_without_same, sum_of_both}
+use Rattle.robinx.proofs.MetPairs.{counted_distinct, sum_without_same}
+use Rattle.robinx.proofs.Sets.{sum_of_both}
 use Rattle.robinx.proofs.separation_rules.short_with.Goals as goal
 
 pub loop-other-init : goal.loop-other-init
@@ -16,8 +17,7 @@ pub rounds_between-requires : goal.rounds_between-requires
 rounds_between-requires c = record {
   home_in = lowest_below _ _ _ _ c.loop-other.invariant.below c.in-Some.ensures.steps;
   away_in = c.requires.team;
-  distinct =
-      counted_distinct c.args.main c.args.team c.in-Some.other c.requires.main (sym c.counts_pair.ensures ∙ c.if-counts_pair.true);
+  distinct = counted_distinct c.args.main c.args.team c.in-Some.other (sym c.counts_pair.ensures ∙ c.if-counts_pair.true);
 }
 
 pub loop-other-preserved-then-counts_pair : goal.loop-other-preserved-then-counts_pair
