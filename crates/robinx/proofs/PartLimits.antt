@@ -48,10 +48,11 @@ unfolding deviation changing_terms short_pairs worst_gaps
 terms_le g main rounds sides (Ca1 teams side slots most) =
     some_of g.teams (has teams) (has sides) (λ t. over (games_of_team g side (λ _. true) (has slots) t) most)
 terms_le g main rounds sides (Ca2 teams1 side teams2 slots most) =
-    some_of g.teams (has teams1) (counts_otherwise g main rounds sides teams2) (λ t. over (games_of_team g side (has teams2) (has slots) t) most)
+    some_of g.teams (has teams1) (counts_otherwise g main rounds sides teams2)
+    (λ t. over (games_of_team g side (has teams2) (has slots) t) most)
 terms_le g main rounds sides (Ca3 teams1 side teams2 window most) =
-    some_le g.teams (has teams1) (counts_otherwise g main rounds sides teams2) (over_in_met_windows g side (has teams2) window most (has rounds))
-    (over_in_windows g side (has teams2) window most) (windows_le g side (has teams2) window most (has rounds))
+    some_le g.teams (has teams1) (counts_otherwise g main rounds sides teams2) _ (over_in_windows g side (has teams2) window most)
+    (windows_le g side (has teams2) window most (has rounds))
 terms_le g main rounds sides (Ca4 teams1 side teams2 slots false most) = or_none _ _ _ (le_self _)
 terms_le g main rounds sides (Ca4 teams1 side teams2 slots true most) =
     or_none _ _ _

@@ -1,8 +1,9 @@
 -- What a change around some teams adds to the part of a deviation, it adds to the whole.
-use Rattle.std.proofs.Common.{◌≡◌, ℕ, ◌+◌, ◌-◌, ◌<◌, ◌≤◌, ◌&&◌, ◌||◌, ◌⊎◌, ◌==◌, not, Bool, true, false, List, [], ◌∷◌, inl, inr, refl, sym, ◌∙◌}
-use Rattle.std.proofs.Common.{if◌then◌else◌, ap, arith}
+use Rattle.std.proofs.Common.{◌≡◌, ℕ, ◌+◌, ◌-◌, ◌<◌, ◌≤◌, ◌&&◌, ◌||◌, ◌⊎◌, ◌==◌, not, Bool, true, false, List, [], ◌∷◌, inl, inr, refl, sym}
+use Rattle.std.proofs.Common.{◌∙◌, if◌then◌else◌, ap, arith}
 use Rattle.std.specs.List.{AllByRecursion, list_any}
-use Rattle.std.proofs.lemmas.Bool.{cases_Bool, cases_eq, cases_lt, cond-true, cond-false, eq-eqb, ne_eqb, lt-ltb, false≢true, and_cases, or_parts, not_from_false, not-false, not-true}
+use Rattle.std.proofs.lemmas.Bool.{cases_Bool, cases_eq, cases_lt, cond-true, cond-false, eq-eqb, ne_eqb, lt-ltb, false≢true}
+use Rattle.std.proofs.lemmas.Bool.{and_cases, or_parts, not_from_false, not-false, not-true}
 use Rattle.league.specs.Sets.{has, all_numbers, IsBelow}
 use Rattle.league.specs.Sums.{any_below}
 use Rattle.league.specs.Games.{IsGameFor}
@@ -21,8 +22,8 @@ use Rattle.robinx.specs.Deviations.{over, is_on_side, is_counted, games_of_team,
 use Rattle.robinx.specs.Deviations.{over_in_windows, short_pairs, worst_gap, worst_gaps, deviation}
 use Rattle.robinx.specs.LooksPast.{takes_all_or_none}
 use Rattle.robinx.specs.Touches.{has_touched_team}
-use Rattle.robinx.specs.Parts.{is_guest, meets_otherwise, counts_otherwise, has_moved_game, meets_window, over_in_met_windows, changing_terms}
-use Rattle.robinx.specs.Parts.{can_alter, deviation_part}
+use Rattle.robinx.specs.Parts.{is_guest, meets_otherwise, counts_otherwise, has_moved_game, meets_window, over_in_met_windows}
+use Rattle.robinx.specs.Parts.{changing_terms, can_alter, deviation_part}
 use Rattle.robinx.proofs.LookedPast.{TakesAllOrNone-tested}
 use Rattle.robinx.proofs.MetPairs.{short_pairs_balance}
 use Rattle.robinx.proofs.PartSums.{where_balance, whole_terms_balance, pairs_balance, whole_balance, part_balance}
@@ -110,7 +111,8 @@ module _ (g g' : Games) (rr : IsDoubleRoundRobin g) (rr' : IsDoubleRoundRobin g'
       ap (λ (b : Bool). if opponents == all_numbers g.teams then has sides t else b) (meets_same opponents t in_t)
 
   one_counts_same : (opponents teams : ℕ) → IsBelow g.teams teams →
-      has_touched_team teams (counts_otherwise g' main rounds sides opponents) ≡ has_touched_team teams (counts_otherwise g main rounds sides opponents)
+      has_touched_team teams (counts_otherwise g' main rounds sides opponents) ≡
+      has_touched_team teams (counts_otherwise g main rounds sides opponents)
   unfolding has_touched_team
   one_counts_same opponents teams below =
       any_below_same 40 (λ t. has teams t && counts_otherwise g' main rounds sides opponents t)
@@ -159,7 +161,7 @@ module _ (g g' : Games) (rr : IsDoubleRoundRobin g) (rr' : IsDoubleRoundRobin g'
     | inl all ↦ in_all opponents (cell g' t r).opponent all (opponent_in' t r in_t in_r) ∙
         sym (in_all opponents (cell g t r).opponent all (is_cell g rr t r in_t in_r).pair.away_in)
     | inr some ↦ met_kept opponents t r in_t in_r
-        (sym (cond-false (opponents == all_numbers g.teams) (has sides t) (meets_otherwise g main rounds opponents t) (ne_eqb _ _ some)) ∙ out)
+        (sym (cond-false (opponents == all_numbers g.teams) (has sides t) _ (ne_eqb _ _ some)) ∙ out)
   ]
 
   side_kept : (opponents t r : ℕ) → t < g.teams → r < round_count g.teams →
@@ -167,7 +169,7 @@ module _ (g g' : Games) (rr : IsDoubleRoundRobin g) (rr' : IsDoubleRoundRobin g'
   unfolding counts_otherwise meets_otherwise is_home
   side_kept opponents t r in_t in_r out = elim (cases_eq opponents (all_numbers g.teams)) [
     | inl all ↦ home_kept g g' differs.same_size sides rounds turned t r in_t in_r
-        (sym (cond-true (opponents == all_numbers g.teams) (has sides t) (meets_otherwise g main rounds opponents t) (eq-eqb _ _ all)) ∙ out)
+        (sym (cond-true (opponents == all_numbers g.teams) _ (meets_otherwise g main rounds opponents t) (eq-eqb _ _ all)) ∙ out)
     | inr some ↦
         let met = sym (cond-false (opponents == all_numbers g.teams) (has sides t) _ (ne_eqb _ _ some)) ∙ out in
         (differs.others t r in_t in_r (or_parts (has main t) _ met).0).same_side
@@ -190,8 +192,8 @@ module _ (g g' : Games) (rr : IsDoubleRoundRobin g) (rr' : IsDoubleRoundRobin g'
   SeesSame-counted opponents slots = SeesSame-others opponents (others opponents) slots (λ t in_t is. not-true _ is)
 
   -- none of a rule's teams counts otherwise
-  SeesSame-none : (opponents teams : ℕ) (slots : ℕ → Bool) → has_touched_team teams (counts_otherwise g main rounds sides opponents) ≡ false →
-      SeesSame g g' (has teams) slots (has opponents)
+  SeesSame-none : (opponents teams : ℕ) (slots : ℕ → Bool) →
+      has_touched_team teams (counts_otherwise g main rounds sides opponents) ≡ false → SeesSame g g' (has teams) slots (has opponents)
   unfolding has_touched_team
   SeesSame-none opponents teams slots none =
       SeesSame-others opponents (has teams) slots
@@ -269,15 +271,17 @@ module _ (g g' : Games) (rr : IsDoubleRoundRobin g) (rr' : IsDoubleRoundRobin g'
       (games_of_team-same g g' (λ t. not (has sides t)) (has slots) (λ _. true)
       (SeesSame-unturned g g' differs.same_size sides rounds turned (has slots)) side t in_t (not_from_false _ out)))
   terms_balance (Ca2 teams1 side teams2 slots most) is =
-      whole_terms_balance g.teams g'.teams (has teams1) (counts_otherwise g main rounds sides teams2) (counts_otherwise g' main rounds sides teams2)
+      whole_terms_balance g.teams g'.teams (has teams1) (counts_otherwise g main rounds sides teams2)
+      (counts_otherwise g' main rounds sides teams2)
       (λ t. over (games_of_team g' side (has teams2) (has slots) t) most) (λ t. over (games_of_team g side (has teams2) (has slots) t) most)
       differs.same_size (counts_same teams2)
       (λ t in_t team out. ap (λ (count : ℕ). over count most)
       (games_of_team-same g g' (others teams2) (has slots) (has teams2)
       (SeesSame-counted teams2 (has slots)) side t in_t (not_from_false _ out)))
   terms_balance (Ca3 teams1 side teams2 window most) is =
-      where_balance g.teams g'.teams (has teams1) (counts_otherwise g main rounds sides teams2) (counts_otherwise g' main rounds sides teams2)
-      (over_in_windows g' side (has teams2) window most) (over_in_windows g side (has teams2) window most)
+      where_balance g.teams g'.teams (has teams1) (counts_otherwise g main rounds sides teams2)
+      (counts_otherwise g' main rounds sides teams2) (over_in_windows g' side (has teams2) window most)
+      (over_in_windows g side (has teams2) window most)
       (over_in_met_windows g' side (has teams2) window most (has rounds)) (over_in_met_windows g side (has teams2) window most (has rounds))
       differs.same_size (counts_same teams2)
       (λ t in_t inside. windows_balance side (has teams2) window most t in_t is.3)
@@ -286,23 +290,20 @@ module _ (g g' : Games) (rr : IsDoubleRoundRobin g) (rr' : IsDoubleRoundRobin g'
       (SeesSame-counted teams2 (λ _. true)) side window most t in_t (not_from_false _ out) is.3)
   terms_balance (Ca4 teams1 side teams2 slots false most) is =
       whole_balance (has_touched_team teams1 (counts_otherwise g main rounds sides teams2))
-      (has_touched_team teams1 (counts_otherwise g' main rounds sides teams2)) _ _
-      (one_counts_same teams2 teams1 is.0)
-      (λ none. together-same g g' (has teams1) (has slots) (has teams2)
-      (SeesSame-none teams2 teams1 (has slots) none) side most)
+      (has_touched_team teams1 (counts_otherwise g' main rounds sides teams2)) _ _ (one_counts_same teams2 teams1 is.0)
+      (λ none. together-same g g' (has teams1) (has slots) (has teams2) (SeesSame-none teams2 teams1 (has slots) none) side most)
   terms_balance (Ca4 teams1 side teams2 slots true most) is =
       part_balance (has_touched_team teams1 (counts_otherwise g main rounds sides teams2))
-      (has_touched_team teams1 (counts_otherwise g' main rounds sides teams2)) _ _ _ _
-      (one_counts_same teams2 teams1 is.0)
+      (has_touched_team teams1 (counts_otherwise g' main rounds sides teams2)) _ _ _ _ (one_counts_same teams2 teams1 is.0)
       (whole_terms_balance (round_count g.teams) (round_count g'.teams) (has slots) (has rounds) (has rounds)
       (λ r. over (games_in_round g' side (has teams1) (has teams2) r) most)
       (λ r. over (games_in_round g side (has teams1) (has teams2) r) most)
       (ap round_count differs.same_size) (λ r in_r. refl)
       (λ r in_r slot out. ap (λ (count : ℕ). over count most)
       (games_in_round-same g g' (has teams1) (λ r. not (has rounds r)) (has teams2)
-      (SeesSame-outside g g' rr rr' (has rounds) outside (has teams1) (λ r. not (has rounds r)) (has teams2) (λ r in_r out. not-true _ out)) side r in_r (not_from_false _ out))))
-      (λ none. each-same g g' (has teams1) (has slots) (has teams2)
-      (SeesSame-none teams2 teams1 (has slots) none) side most)
+      (SeesSame-outside g g' rr rr' (has rounds) outside (has teams1) (λ r. not (has rounds r)) (has teams2)
+      (λ r in_r out. not-true _ out)) side r in_r (not_from_false _ out))))
+      (λ none. each-same g g' (has teams1) (has slots) (has teams2) (SeesSame-none teams2 teams1 (has slots) none) side most)
   terms_balance (Ga1 games slots least most) is =
       whole_balance (has_moved_game g (has main) (has rounds) games) (has_moved_game g' (has main) (has rounds) games) _ _
       (moved_game_same games is.0)

@@ -27,7 +27,8 @@ module _ (g g' : Games) (rr : IsDoubleRoundRobin g) (rr' : IsDoubleRoundRobin g'
     (differs : DiffersOnlyIn g g' (λ _. true) rounds) where
   -- as many games of a team count in each season
   season_same : (side : Side) (opponents : ℕ → Bool) (t : ℕ) → t < g.teams →
-      count_where (round_count g'.teams) (is_counted g' side opponents t) ≡ count_where (round_count g.teams) (is_counted g side opponents t)
+      count_where (round_count g'.teams) (is_counted g' side opponents t) ≡
+      count_where (round_count g.teams) (is_counted g side opponents t)
   season_same side opponents t in_t =
       sym (games_of_season g' rr' t (rw differs.same_size in_t) side opponents (count_where g.teams opponents)
       (ap (λ (n : ℕ). count_where n opponents) (sym differs.same_size))) ∙
@@ -38,8 +39,8 @@ module _ (g g' : Games) (rr : IsDoubleRoundRobin g) (rr' : IsDoubleRoundRobin g'
       ((r : ℕ) → r < round_count g.teams → others r ≡ true → rounds r ≡ false) → SeesSame g g' teams others opponents
   SeesSame-outside teams others opponents outside = record {
     same_size = differs.same_size;
-    side = λ t r in_t in_r team other. ap (λ (c : Cell). c.home) (differs.same_cells t r in_t in_r (outside r in_r other));
-    opponent = λ t r in_t in_r team other. ap (λ (c : Cell). opponents c.opponent) (differs.same_cells t r in_t in_r (outside r in_r other));
+    side = λ t r in_t in_r team out. ap (λ (c : Cell). c.home) (differs.same_cells t r in_t in_r (outside r in_r out));
+    opponent = λ t r in_t in_r team out. ap (λ (c : Cell). opponents c.opponent) (differs.same_cells t r in_t in_r (outside r in_r out));
   }
 
   -- a game in one of the rounds is in one of them after the change, and no other game is

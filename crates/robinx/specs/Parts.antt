@@ -24,7 +24,7 @@ unfoldable pub meets_otherwise : Games → ℕ → ℕ → ℕ → ℕ → Bool
 meets_otherwise g main rounds opponents t =
     has main t || (not (takes_all_or_none main opponents) && is_guest g (has main) (has rounds) t)
 
--- whether other games of a team may count: where all teams are opponents, if its sides may change
+-- whether other games of a team may count: if its sides may change where all teams are opponents, else if it may meet others
 unfoldable pub counts_otherwise : Games → ℕ → ℕ → ℕ → ℕ → ℕ → Bool
 counts_otherwise g main rounds sides opponents t =
     if opponents == all_numbers g.teams then has sides t else meets_otherwise g main rounds opponents t
@@ -64,7 +64,9 @@ changing_terms g main rounds sides (Ca3 teams1 side teams2 window most) =
     sum_where g.teams (λ t. has teams1 t && counts_otherwise g main rounds sides teams2 t)
     (over_in_met_windows g side (has teams2) window most (has rounds))
 changing_terms g main rounds sides (Ca4 teams1 side teams2 slots false most) =
-    if has_touched_team teams1 (counts_otherwise g main rounds sides teams2) then deviation g (Ca4 teams1 side teams2 slots false most) else 0
+    if has_touched_team teams1 (counts_otherwise g main rounds sides teams2) then
+    deviation g (Ca4 teams1 side teams2 slots false most)
+    else 0
 changing_terms g main rounds sides (Ca4 teams1 side teams2 slots true most) =
     if has_touched_team teams1 (counts_otherwise g main rounds sides teams2) then
     sum_where (round_count g.teams) (λ r. has slots r && has rounds r)

@@ -6,8 +6,7 @@ use Rattle.robinx.proofs.capacity_rules.ca4_part.Goals as goal
 pub returns-then-not-intersects : goal.returns-then-not-intersects
 returns-then-not-intersects c =
     let none : c.intersects.result ≡ false = cc in
-    Ca4-none c.args.schedule.now c.args.change.now.main c.args.change.now.rounds c.args.change.now.sides c.args.games.now.teams c.args.games.now.side c.args.games.now.opponents
-    c.args.slots c.args.most c.args.each (sym (one_is_met _ _ _ c.teams_otherwise-otherwise.ensures.members) ∙ sym c.intersects.ensures ∙
+    Ca4-none _ _ _ _ _ _ _ _ _ c.args.each (sym (one_is_met _ _ _ c.teams_otherwise-otherwise.ensures.members) ∙ sym c.intersects.ensures ∙
     none)
 
 pub returns-then-each : goal.returns-then-each
@@ -15,8 +14,7 @@ returns-then-each c =
     let one : c.intersects.result ≡ true = cc in
     rw c.if-each.true
     (c.over_in_slots.ensures ∙
-    Ca4-each c.args.schedule.now c.args.change.now.main c.args.change.now.rounds c.args.change.now.sides c.args.games.now.teams c.args.games.now.side c.args.games.now.opponents
-    c.args.slots c.args.most _ c.intersection.ensures.members (sym (one_is_met _ _ _ c.teams_otherwise-otherwise.ensures.members) ∙
+    Ca4-each _ _ _ _ _ _ _ _ _ _ c.intersection.ensures.members (sym (one_is_met _ _ _ c.teams_otherwise-otherwise.ensures.members) ∙
     sym c.intersects.ensures ∙ one))
 
 pub returns-else-each : goal.returns-else-each
@@ -24,5 +22,4 @@ returns-else-each c =
     let one : c.intersects.result ≡ true = cc in
     rw c.if-each.false
     (c.over.ensures.value ∙ ap (λ n. over n c.args.most) c.games_of_all.ensures ∙
-    Ca4-all c.args.schedule.now c.args.change.now.main c.args.change.now.rounds c.args.change.now.sides c.args.games.now.teams c.args.games.now.side c.args.games.now.opponents
-    c.args.slots c.args.most (sym (one_is_met _ _ _ c.teams_otherwise-otherwise.ensures.members) ∙ sym c.intersects.ensures ∙ one))
+    Ca4-all _ _ _ _ _ _ _ _ _ (sym (one_is_met _ _ _ c.teams_otherwise-otherwise.ensures.members) ∙ sym c.intersects.ensures ∙ one))
