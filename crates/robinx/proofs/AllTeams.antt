@@ -1,5 +1,6 @@
 -- Games against any team are games against the set of all teams.
-use Rattle.std.proofs.Common.{◌≡◌, ℕ, ◌<◌, nat_lt, Bool, true, false, ◌&&◌, inl, inr, refl, sym, ◌∙◌, ap}
+use Rattle.std.proofs.Common.{◌≡◌, ℕ, ◌<◌, nat_lt, Bool, true, ◌&&◌, inl, inr, refl, sym, ◌∙◌, ap}
+use Rattle.std.proofs.Math.Bool.{and-true}
 use Rattle.std.proofs.lemmas.Bool.{cases_lt, lt-ltb, le-ltb}
 use Rattle.league.specs.Sets.{has}
 use Rattle.league.specs.declared.rule.Side.{Side}
@@ -35,12 +36,8 @@ module _ (g : Games) (rr : IsDoubleRoundRobin g) (side : Side) (all : ℕ) (memb
       (nat_lt r (round_count g.teams) && (slot && is_counted g side (has all) t r))
   counted_from-all t r slot in_t = elim (cases_lt r (round_count g.teams)) [
     | inl in_r ↦
-        sym (and_true ((nat_lt r (round_count g.teams) && is_on_side side (is_home g t r)) && slot)) ∙
+        sym (and-true ((nat_lt r (round_count g.teams) && is_on_side side (is_home g t r)) && slot)) ∙
         counted_from g side (λ _. true) t r slot ∙
         ap (λ (b : Bool). nat_lt r (round_count g.teams) && (slot && b)) (sym (is_counted-all t r in_t in_r))
     | inr past ↦ rw (le-ltb r (round_count g.teams) past) refl
   ]
-    where
-      and_true : (b : Bool) → (b && true) ≡ b
-      and_true true = refl
-      and_true false = refl

@@ -1,5 +1,6 @@
 -- A loop that keeps those numbers of a set that pass a test.
 use Rattle.std.proofs.Common.{◌≡◌, ◌≢◌, ℕ, ◌&&◌, ◌||◌, ◌==◌, not, Bool, true, false, refl, sym, ◌∙◌, ap, inl, inr}
+use Rattle.std.proofs.Math.Bool.{and-true, and-false}
 use Rattle.std.proofs.lemmas.Bool.{cases_eq, eq-eqb, ne_eqb, and_parts}
 use Rattle.league.specs.Sets.{has, IsWithoutLowest}
 
@@ -7,14 +8,6 @@ use Rattle.league.specs.Sets.{has, IsWithoutLowest}
 pub record HasPassing (set left kept : ℕ) (test : ℕ → Bool) : Type 0 where
   pub within : (k : ℕ) → has left k ≡ true → has set k ≡ true
   pub members : (k : ℕ) → has kept k ≡ (has set k && not (has left k) && test k)
-
-and_true : (b : Bool) → (b && true) ≡ b
-and_true true = refl
-and_true false = refl
-
-and_false : (b : Bool) → (b && false) ≡ false
-and_false true = refl
-and_false false = refl
 
 fails_all : (a b : Bool) → (a && b && false) ≡ false
 fails_all true true = refl
@@ -43,10 +36,10 @@ passing_none set left kept test whole empty = record {
 module _ (set left lowest rest kept : ℕ) (test : ℕ → Bool) (so_far : HasPassing set left kept test)
     (taken : IsWithoutLowest left lowest rest) where
   gone : has rest lowest ≡ false
-  gone = taken.others lowest ∙ ap (λ b. has left lowest && not b) (eq-eqb lowest lowest refl) ∙ and_false (has left lowest)
+  gone = taken.others lowest ∙ ap (λ b. has left lowest && not b) (eq-eqb lowest lowest refl) ∙ and-false (has left lowest)
 
   stays : (k : ℕ) → k ≢ lowest → has rest k ≡ has left k
-  stays k other = taken.others k ∙ ap (λ b. has left k && not b) (ne_eqb k lowest other) ∙ and_true (has left k)
+  stays k other = taken.others k ∙ ap (λ b. has left k && not b) (ne_eqb k lowest other) ∙ and-true (has left k)
 
   within_rest : (k : ℕ) → has rest k ≡ true → has set k ≡ true
   within_rest k here = so_far.within k (and_parts (has left k) (not (k == lowest)) (sym (taken.others k) ∙ here)).0

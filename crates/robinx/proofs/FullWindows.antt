@@ -2,6 +2,7 @@
 use Rattle.std.proofs.Common.{◌≡◌, ◌≢◌, ℕ, ◌+◌, ◌-◌, ◌<◌, ◌≤◌, ◌&&◌, ◌||◌, ◌==◌, not, nat_lt, Bool, true, false, if◌then◌else◌, inl, inr}
 use Rattle.std.proofs.Common.{refl, sym, ◌∙◌, ap, arith}
 use Rattle.std.proofs.lemmas.Bool.{cases_eq, cases_lt, eq-eqb, ne_eqb, lt-ltb, le-ltb, cond-true, cond-false}
+use Rattle.std.proofs.Math.Bool.{and-true, and-false}
 use Rattle.std.proofs.Math.Nat.{add-zero}
 use Rattle.league.specs.Sets.{has, IsBelow}
 use Rattle.league.specs.Sums.{sum_where, count_where}
@@ -14,18 +15,10 @@ use Rattle.robinx.proofs.Sets.{ones}
 -- one round more
 full_step : (start bit : Bool) (m more : ℕ) → more ≡ m + (if not bit then 1 else 0) → ((start && m == 0) && bit) ≡ (start && more == 0)
 full_step false bit m more is = refl
-full_step true true m more is = let same : more ≡ m = omega (arith, is) in rw same (and_true (m == 0))
-  where
-    and_true : (b : Bool) → (b && true) ≡ b
-    and_true true = refl
-    and_true false = refl
+full_step true true m more is = let same : more ≡ m = omega (arith, is) in rw same (and-true (m == 0))
 full_step true false m more is =
     let some : more ≢ 0 = omega (arith, is) in
-    rw (ne_eqb more 0 some) (and_false (m == 0))
-  where
-    and_false : (b : Bool) → (b && false) ≡ false
-    and_false true = refl
-    and_false false = refl
+    rw (ne_eqb more 0 some) (and-false (m == 0))
 
 nearly_step : (start bit : Bool) (m more : ℕ) → more ≡ m + (if not bit then 1 else 0) →
     (((start && nat_lt m 2) && bit) || (start && m == 0)) ≡ (start && nat_lt more 2)

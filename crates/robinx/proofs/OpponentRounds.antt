@@ -1,5 +1,6 @@
 -- The rounds in which a team meets some opponents, found opponent by opponent.
 use Rattle.std.proofs.Common.{◌≡◌, ◌≢◌, ℕ, ◌<◌, ◌≤◌, ◌&&◌, ◌||◌, ◌==◌, not, nat_lt, Bool, true, false, inl, inr, refl, sym, ◌∙◌, ap, arith}
+use Rattle.std.proofs.Math.Bool.{and-true, or-false}
 use Rattle.std.proofs.lemmas.Bool.{cases_eq, cases_lt, eq-eqb, ne_eqb, eqb-true, lt-ltb, le-ltb, and_parts}
 use Rattle.league.specs.Sets.{has, IsBelow, IsWithoutLowest}
 use Rattle.league.specs.declared.rule.Side.{Side}
@@ -91,24 +92,16 @@ module _ (g : Games) (rr : IsDoubleRoundRobin g) (t : ℕ) (in_t : t < g.teams) 
 
     pub met_home : (r : ℕ) → (r == round_of g t o || false) ≡ meets_on Home o r
     met_home r = elim (cases_lt r (round_count g.teams)) [
-      | inl in_r ↦ rw (home_round o r pair in_r, lt-ltb r (round_count g.teams) in_r) (same (is_home g t r && (cell g t r).opponent == o))
+      | inl in_r ↦ rw (home_round o r pair in_r, lt-ltb r (round_count g.teams) in_r) (or-false (is_home g t r && (cell g t r).opponent == o))
       | inr past ↦ rw (not_past t o r pair past, le-ltb r (round_count g.teams) past) refl
     ]
-      where
-        same : (b : Bool) → (b || false) ≡ b
-        same true = refl
-        same false = refl
 
     pub met_away : (r : ℕ) → (r == round_of g o t || false) ≡ meets_on Away o r
     met_away r = elim (cases_lt r (round_count g.teams)) [
       | inl in_r ↦ rw (away_round o r pair in_r, lt-ltb r (round_count g.teams) in_r)
-          (same (not (is_home g t r) && (cell g t r).opponent == o))
+          (or-false (not (is_home g t r) && (cell g t r).opponent == o))
       | inr past ↦ rw (not_past o t r swapped past, le-ltb r (round_count g.teams) past) refl
     ]
-      where
-        same : (b : Bool) → (b || false) ≡ b
-        same true = refl
-        same false = refl
 
     pub met_any : (r : ℕ) → ((r == round_of g t o || false) || (r == round_of g o t || false)) ≡ meets_on Any o r
     met_any r = elim (cases_lt r (round_count g.teams)) [
@@ -182,11 +175,7 @@ module _ (g : Games) (rr : IsDoubleRoundRobin g) (t : ℕ) (in_t : t < g.teams) 
       so_far.members r ∙
       ap (λ b. nat_lt r (round_count g.teams) && (is_on_side side (cell g t r).home && (has set (cell g t r).opponent && not b)))
       (ap (λ s. has s (cell g t r).opponent) none_left ∙ has_empty (cell g t r).opponent) ∙
-      ap (λ b. nat_lt r (round_count g.teams) && (is_on_side side (cell g t r).home && b)) (and_true (has set (cell g t r).opponent))
-    where
-      and_true : (b : Bool) → (b && true) ≡ b
-      and_true true = refl
-      and_true false = refl
+      ap (λ b. nat_lt r (round_count g.teams) && (is_on_side side (cell g t r).home && b)) (and-true (has set (cell g t r).opponent))
 
   -- in the slots, against those of all teams that are opponents
   pub met_in_slots : (side : Side) (all opponents both : ℕ) → ((k : ℕ) → has all k ≡ nat_lt k g.teams) →
