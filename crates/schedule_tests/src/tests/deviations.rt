@@ -213,8 +213,7 @@ const FORTY_TEAMS: Expected = &[
     ),
 ];
 
-/// In more slots than are counted one by one: all teams, of which 20 are at home in each round; half of them; and some of
-/// them against some.
+/// In all rounds of the longest season: all teams, of which 20 are at home in each round, half of them, and some against some.
 const IN_MANY_SLOTS: Expected = &[
     (
         r#""class":"CA4","teams1":[1,2,3,4,5,6,7,8,9,10,11,12,13,14,15,16,17,18,19,20,
