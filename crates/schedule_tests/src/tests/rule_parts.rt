@@ -112,11 +112,7 @@ const MOVES: &[(Move, bool)] = &[
 ];
 
 /// The part of the deviation from a league's only rule that a change of these cells can alter, if these teams may change sides.
-fn part(
-    schedule: &Schedule,
-    league: &League,
-    (main, sides): (Touched, TeamSet),
-) -> Option<u64> {
+fn part(schedule: &Schedule, league: &League, (main, sides): (Touched, TeamSet)) -> Option<u64> {
     if league.teams() != schedule.teams() || league.rule_count() != 1 {
         return None;
     }
