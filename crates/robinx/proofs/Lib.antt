@@ -15,6 +15,8 @@ mod PartLimits
 mod PartSums
 mod PartTerms
 mod PartsBalance
+mod RoundCounts
+mod RoundNumbers
 pub mod Searches
 mod SeasonCounts
 mod SeesSame

@@ -7,6 +7,7 @@ use Rattle.league.specs.declared.rule.Side.{Side}
 use Rattle.league.specs.declared.rule.Side.TheVariants.{Home, Away, Any}
 use Rattle.fixtures.specs.Games.{Games, round_count}
 use Rattle.robinx.specs.Deviations.{home_games, largest_below}
+use Rattle.robinx.specs.declared.round_numbers.RoundNumbers.{RoundNumbers}
 
 -- how many games of a team count in a season against so many opponents, one of which may be the team itself
 abbrev pub season_games : Side → ℕ → Bool → ℕ
@@ -42,3 +43,13 @@ apart_within first second limits r = min (abs_diff (slice_index first r) (slice_
 -- the largest of these
 unfoldable pub worst_apart : List ℕ → List ℕ → List ℕ → ℕ
 worst_apart first second limits = largest_below row_places (apart_within first second limits)
+
+-- 1 in each round of a set, and 0 in the others
+abbrev pub one_in : ℕ → ℕ → ℕ
+one_in set r = if has set r then 1 else 0
+
+-- the number of a round, by its bits
+unfoldable pub number_at : RoundNumbers → ℕ → ℕ
+number_at numbers r =
+    one_in numbers.ones r + 2 * one_in numbers.twos r + 4 * one_in numbers.fours r + 8 * one_in numbers.eights r +
+    16 * one_in numbers.sixteens r + 32 * one_in numbers.thirty_twos r + 64 * one_in numbers.sixty_fours r

@@ -11,11 +11,16 @@ ghost use Rattle.robinx.specs.Parts.{over_in_met_windows, changing_terms};
 
 use crate::counts::{
     CountedGames, counted_rounds, games_in_round, games_of_team, games_on_side, opponents_of, over,
+    rounds_on_side,
 };
 use crate::guests::{Around, teams_otherwise};
+use crate::round_numbers::RoundNumbers;
 use crate::windows::{over_in_row, over_in_windows_of, rounds_of_windows};
 use fixtures::Schedule;
 use league::{SlotSet, TeamSet};
+
+/// Up to so many slots are counted one by one, which takes fewer instructions there.
+const FEW_SLOTS: u32 = 6;
 
 /// The games of each team that count in the slots, over the most.
 #[tactic(auto, unfolding(crate::specs::Deviations::deviation))]
@@ -156,11 +161,36 @@ fn over_in_slots(schedule: &Schedule, games: &CountedGames, slots: SlotSet, most
         (λ r. over (games_in_round schedule.now games.now.side (has games.now.teams)
         (has games.now.opponents) r) most) }
 {
+    if slots.len() > FEW_SLOTS && games.opponents == TeamSet::below(schedule.teams()) {
+        return over_in_many_slots(schedule, games, slots, most);
+    }
     let mut total = 0;
     for round in slots {
         total += over(games_in_round(schedule, games, round), most);
     }
     total
+}
+
+/// The same where all teams are opponents, counted in all the slots at once, team by team.
+fn over_in_many_slots(schedule: &Schedule, games: &CountedGames, slots: SlotSet, most: u32) -> u64
+    requires round_robin { IsDoubleRoundRobin schedule.now }
+    requires teams { IsBelow schedule.now.teams games.now.teams }
+    requires slots { IsBelow (round_count schedule.now.teams) slots }
+    requires opponents { (t : ℕ) → has games.now.opponents t ≡ nat_lt t schedule.now.teams }
+    ensures { result ≡
+        sum_where (round_count schedule.now.teams) (has slots)
+        (λ r. over (games_in_round schedule.now games.now.side (has games.now.teams)
+        (has games.now.opponents) r) most) }
+{
+    if most >= schedule.teams().into() {
+        return 0;
+    }
+    // a slot's number is over 64 by as much as its games are over the most
+    let mut numbers = RoundNumbers::new(slots, 64 - most as u8);
+    for team in games.teams {
+        numbers.add(rounds_on_side(schedule, games.side, team).intersection(slots));
+    }
+    numbers.over_64()
 }
 
 /// How many games of the teams count in the slots.

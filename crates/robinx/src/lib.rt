@@ -14,6 +14,7 @@ mod guests;
 mod laws;
 mod pairs;
 mod parts;
+mod round_numbers;
 mod separation_rules;
 mod touched_rules;
 mod unaffected_rules;

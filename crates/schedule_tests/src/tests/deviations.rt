@@ -213,6 +213,37 @@ const FORTY_TEAMS: Expected = &[
     ),
 ];
 
+/// In all rounds of the longest season: all teams, of which 20 are at home in each round, half of them, and some against some.
+const IN_MANY_SLOTS: Expected = &[
+    (
+        r#""class":"CA4","teams1":[1,2,3,4,5,6,7,8,9,10,11,12,13,14,15,16,17,18,19,20,
+        21,22,23,24,25,26,27,28,29,30,31,32,33,34,35,36,37,38,39,40],"mode":"HA","mode2":"EVERY","max":0"#,
+        3120,
+    ),
+    (
+        r#""class":"CA4","teams1":[1,2,3,4,5,6,7,8,9,10,11,12,13,14,15,16,17,18,19,20,
+        21,22,23,24,25,26,27,28,29,30,31,32,33,34,35,36,37,38,39,40],"mode":"HA","mode2":"EVERY","max":40"#,
+        0,
+    ),
+    (
+        r#""class":"CA4","teams1":[1,2,3,4,5,6,7,8,9,10,11,12,13,14,15,16,17,18,19,20,
+        21,22,23,24,25,26,27,28,29,30,31,32,33,34,35,36,37,38,39,40],"mode":"H","mode2":"EVERY","max":19"#,
+        78,
+    ),
+    (
+        r#""class":"CA4","teams1":[1,2,3,4,5,6,7,8,9,10,11,12,13,14,15,16,17,18,19,20],"mode":"H","mode2":"EVERY","max":9"#,
+        231,
+    ),
+    (
+        r#""class":"CA4","teams1":[1,2,3,4,5,6,7,8,9,10,11,12,13,14,15,16,17,18,19,20],"mode":"A","mode2":"EVERY","max":10"#,
+        190,
+    ),
+    (
+        r#""class":"CA4","teams1":[1,4,7,10,13,16,19,22,25,28,31,34,37,40],"mode":"A","teams2":[1,2,3,5,7,9],"mode2":"EVERY","max":1"#,
+        32,
+    ),
+];
+
 type Cases = &'static [(Plan, Expected)];
 
 const OF_THE_START: Cases = &[(Plan::Berger(4), START), (Plan::Berger(4), BOTH_SIDES)];
@@ -241,6 +272,7 @@ const MORE_TEAMS: Cases = &[
     (Plan::Berger(10), TEN_TEAMS),
     (Plan::Berger(10), EDGES),
     (Plan::Berger(40), FORTY_TEAMS),
+    (Plan::Berger(40), IN_MANY_SLOTS),
 ];
 
 #[test]
