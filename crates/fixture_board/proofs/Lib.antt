@@ -3,6 +3,7 @@ pub mod Least
 pub mod Scores
 pub mod ShareLimits
 pub mod Shares
+pub mod Partial
 pub mod Fitting
 pub mod Stand
 pub mod Next

@@ -1,20 +1,23 @@
 -- What an exchange can change of a cost is at most all of it.
-use Rattle.std.proofs.Common.{◌≡◌, ℕ, ◌+◌, ◌≤◌, ◌&&◌, ◌||◌, Bool, true, false, if◌then◌else◌, List, length, slice_get}
-use Rattle.std.proofs.Common.{Option, Some, None, refl, ap, le_refl, arith}
+use Rattle.std.proofs.Common.{◌≡◌, ℕ, zero, suc, ◌+◌, ◌<◌, ◌≤◌, ◌&&◌, ◌||◌, Bool, true, false, if◌then◌else◌, inl, inr, List, length, slice_get}
+use Rattle.std.proofs.Common.{Option, Some, None, refl, sym, ◌∙◌, ap, le_refl, arith}
 use Rattle.std.proofs.Math.Nat.{mul-le-mul_left}
+use Rattle.std.proofs.lemmas.Bool.{cases_eq, ltb-false}
 use Rattle.league.specs.League.{LeagueData}
 use Rattle.league.specs.Sets.{has}
 use Rattle.league.specs.declared.rule.Rule.{Rule}
 use Rattle.league.specs.declared.rule.Weight.{Weight}
 use Rattle.league.specs.declared.rule.Weight.TheVariants.{Hard, Soft}
-use Rattle.league.proofs.ForCallers.{sum_below_le_each}
+use Rattle.league.specs.Sums.{sum_below}
+use Rattle.league.proofs.ForCallers.{sum_below_le_each, sum_below_more}
 use Rattle.fixtures.specs.Games.{Games}
 use Rattle.fixtures.specs.TouchedCells.{TouchedCells}
 use Rattle.tours.specs.Phased.{is_unphased, unphased, unphased_part}
 use Rattle.moves.specs.declared.exchanges.Exchange.{Exchange}
+use Rattle.robinx.specs.Parts.{deviation_part}
 use Rattle.robinx.proofs.ForCallers.{part_le}
-use Rattle.fixture_board.specs.Costs.{hard_share, soft_share, share_of, sum_over_rules, cost_of}
-use Rattle.fixture_board.specs.CostShares.{games_cost, rule_share, rules_share, penalties_share, IsRest, IsTold}
+use Rattle.fixture_board.specs.Costs.{hard_share, soft_share, share_of, sum_over_rules, where_phased, cost_of}
+use Rattle.fixture_board.specs.CostShares.{breakable_part, games_cost, may_break, rule_share, rules_share, penalties_share, IsRest, IsTold}
 use Rattle.fixture_board.specs.declared.cost.Cost.{Cost}
 use Rattle.fixture_board.specs.declared.scope.Scope.{Scope}
 
@@ -55,6 +58,17 @@ unfolding rules_share sum_over_rules
 rules_share_le share grows rules main sides g =
     sum_below_le_each (length rules) _ _ (λ i under. rule_share_le share grows main sides g (slice_get rules i))
 
+-- the two figures of the penalties
+module _ (l : LeagueData) (scope : Scope) (g : Games) where
+  pub penalties_hard : (penalties_share l scope g).hard ≡
+      where_phased l (unphased_part g (has scope.main.teams)) + rules_share hard_share l.rules scope.main scope.turning g
+  unfolding penalties_share
+  penalties_hard = refl
+
+  pub penalties_soft : (penalties_share l scope g).soft ≡ rules_share soft_share l.rules scope.main scope.turning g
+  unfolding penalties_share
+  penalties_soft = refl
+
 hard_le : (l : LeagueData) (scope : Scope) (g : Games) → (penalties_share l scope g).hard + games_cost l g ≤ (cost_of l g).hard
 unfolding penalties_share cost_of
 hard_le l scope g = omega (
@@ -66,6 +80,83 @@ hard_le l scope g = omega (
 soft_le : (l : LeagueData) (scope : Scope) (g : Games) → (penalties_share l scope g).soft ≤ (cost_of l g).soft
 unfolding penalties_share cost_of
 soft_le l scope g = rules_share_le soft_share soft_grows l.rules scope.main scope.turning g
+
+-- A sum has its first terms, and each of its terms.
+
+pub sum_below_grows : (m n : ℕ) (f : ℕ → ℕ) → m ≤ n → sum_below m f ≤ sum_below n f
+unfolding sum_below
+sum_below_grows m zero f le = let none : m ≡ 0 = omega arith in rw none (le_refl _)
+sum_below_grows m (suc n) f le = elim (cases_eq m (suc n)) [
+  | inl same ↦ rw same (le_refl _)
+  | inr other ↦ omega (arith, sum_below_grows m n f (omega arith))
+]
+
+term_le_sum : (n k : ℕ) (f : ℕ → ℕ) → k < n → f k ≤ sum_below n f
+term_le_sum n k f below = omega (arith, sum_below_more k f, sum_below_grows (k + 1) n f (omega arith))
+
+-- A rule that a schedule of this cost can't break has nothing to alter.
+
+hard_nothing : (weight : Weight) → hard_share weight 0 ≡ 0
+hard_nothing Hard = refl
+hard_nothing (Soft weight) = refl
+
+soft_nothing : (weight : Weight) → soft_share weight 0 ≡ 0
+soft_nothing Hard = refl
+soft_nothing (Soft weight) = omega arith
+
+none_of_weight : (cost : Cost) (weight : Weight) (part : ℕ) → hard_share weight part ≤ cost.hard → soft_share weight part ≤ cost.soft →
+    may_break cost weight ≡ false → (hard_share weight part ≡ 0) × (soft_share weight part ≡ 0)
+none_of_weight cost Hard part hard soft unbroken = (omega (arith, hard, ltb-false 0 cost.hard unbroken), refl)
+none_of_weight cost (Soft weight) part hard soft unbroken = (refl, omega (arith, soft, ltb-false 0 cost.soft unbroken))
+
+rule_share_within : (share : Weight → ℕ → ℕ) → Grows share → (rules : List Rule) (main : TouchedCells) (sides : ℕ) (g : Games)
+    (i : ℕ) (rule : Rule) → i < length rules → slice_get rules i ≡ Some rule →
+    share rule.weight (deviation_part g main.teams main.rounds sides rule.body) ≤ sum_over_rules share rules g
+unfolding sum_over_rules
+rule_share_within share grows rules main sides g i rule below at =
+    omega (
+      arith,
+      rule_share_le share grows main sides g (Some rule),
+      ap (share_of share g) at,
+      term_le_sum (length rules) i (λ i. share_of share g (slice_get rules i)) below,
+    )
+
+-- So it needn't be counted.
+module _ (l : LeagueData) (g : Games) (main : TouchedCells) (sides : ℕ) (known : Cost) (is : known ≡ cost_of l g) (i : ℕ) (rule : Rule)
+    (below : i < length l.rules) (at : slice_get l.rules i ≡ Some rule) where
+  share_where : (share : Weight → ℕ → ℕ) → share rule.weight 0 ≡ 0 →
+      (may_break known rule.weight ≡ false → share rule.weight (deviation_part g main.teams main.rounds sides rule.body) ≡ 0) →
+      share rule.weight (breakable_part g main sides known rule) ≡ rule_share share main sides g (slice_get l.rules i)
+  share_where share nothing none = by_kind (may_break known rule.weight) none ∙ ap (rule_share share main sides g) (sym at)
+    where
+      by_kind : (breaks : Bool) → (breaks ≡ false → share rule.weight (deviation_part g main.teams main.rounds sides rule.body) ≡ 0) →
+          share rule.weight (if breaks then deviation_part g main.teams main.rounds sides rule.body else 0) ≡
+          share rule.weight (deviation_part g main.teams main.rounds sides rule.body)
+      by_kind true none = refl
+      by_kind false none = nothing ∙ sym (none refl)
+
+  none_of_kind : may_break known rule.weight ≡ false →
+      (hard_share rule.weight (deviation_part g main.teams main.rounds sides rule.body) ≡ 0) ×
+      (soft_share rule.weight (deviation_part g main.teams main.rounds sides rule.body) ≡ 0)
+  unfolding cost_of
+  none_of_kind =
+      none_of_weight known rule.weight _
+      (omega (
+        arith,
+        rule_share_within hard_share hard_grows l.rules main sides g i rule below at,
+        ap (λ (cost : Cost). cost.hard) is,
+      ))
+      (omega (
+        arith,
+        rule_share_within soft_share soft_grows l.rules main sides g i rule below at,
+        ap (λ (cost : Cost). cost.soft) is,
+      ))
+
+  pub breakable_hard : hard_share rule.weight (breakable_part g main sides known rule) ≡ rule_share hard_share main sides g (slice_get l.rules i)
+  breakable_hard = share_where hard_share (hard_nothing rule.weight) (λ unbroken. (none_of_kind unbroken).0)
+
+  pub breakable_soft : soft_share rule.weight (breakable_part g main sides known rule) ≡ rule_share soft_share main sides g (slice_get l.rules i)
+  breakable_soft = share_where soft_share (soft_nothing rule.weight) (λ unbroken. (none_of_kind unbroken).1)
 
 -- what is left of a told cost without penalties
 module _ (l : LeagueData) (scope : Scope) (g : Games) (exchange : Exchange) (told : Cost) (is : IsTold l g exchange told) where

@@ -1,6 +1,6 @@
 -- An exchange changes no more of the costs than their shares.
 use Rattle.std.proofs.Common.{◌≡◌, ℕ, ◌+◌, ◌*◌, ◌<◌, ◌≤◌, Bool, true, false, if◌then◌else◌, length, slice_get, Option, Some, None}
-use Rattle.std.proofs.Common.{refl, sym, ◌∙◌, ap, subst, arith, rules}
+use Rattle.std.proofs.Common.{IfSome, refl, sym, ◌∙◌, ap, subst, arith, rules}
 use Rattle.std.specs.Option.{IsSome}
 use Rattle.std.proofs.Math.Nat.{mul-add, mul-le-mul_left}
 use Rattle.std.proofs.Math.Path.{fun_ext}
@@ -28,11 +28,11 @@ use Rattle.robinx.proofs.ForCallers.{deviation_balance}
 use Rattle.fixture_board.specs.Costs.{hard_share, soft_share, share_of, sum_over_rules, where_phased, cost_of, score_of}
 use Rattle.fixture_board.specs.Costs.{score_limit, IsCostWithin}
 use Rattle.fixture_board.specs.CostShares.{games_cost, rule_share, rules_share, penalties_share}
-use Rattle.fixture_board.specs.CostShares.{with_penalties, IsRest, IsScope, IsSmall, IsTold}
+use Rattle.fixture_board.specs.CostShares.{with_penalties, IsRest, IsScope, IsTold, IsWholeWithin}
 use Rattle.fixture_board.specs.declared.scope.Scope.{Scope}
 use Rattle.fixture_board.specs.declared.cost.Cost.{Cost}
 use Rattle.fixture_board.specs.declared.penalties.Penalties.{Penalties}
-use Rattle.fixture_board.proofs.Scores.{cost_small, cost_travel, exchanged-teams, score_below}
+use Rattle.fixture_board.proofs.Scores.{cost_travel, exchanged-teams, score_below}
 
 -- what differs
 
@@ -130,7 +130,7 @@ penalties_balance l g scope is same are = record {
   soft = rules_balance soft_share soft_even l g scope is same are;
 }
 
-same_cost : (one other : Cost) → one.travel ≡ other.travel → one.hard ≡ other.hard → one.soft ≡ other.soft → one ≡ other
+pub same_cost : (one other : Cost) → one.travel ≡ other.travel → one.hard ≡ other.hard → one.soft ≡ other.soft → one ≡ other
 same_cost one other travel hard soft = rw (travel, hard, soft) refl
 
 -- the rest with the penalties after is the cost after
@@ -205,17 +205,26 @@ module _ (l : LeagueData) (g : Games) (exchange : Exchange) (scope : Scope) (tol
       ap (with_penalties rest) counted ∙
       whole_after l g g' scope told rest is same are known_scope left (made ∙ ap (exchanged_by g) (sym of)) ∙ ap (cost_of l) made
 
-  pub whole_small : (g' : Games) (after : Penalties) → g' ≡ exchanged_by g exchange → after ≡ penalties_share l scope g' →
-      IsSmall (with_penalties rest after)
-  whole_small g' after made counted =
-      subst IsSmall (sym (whole_cost g' after made counted))
-      (cost_small l (exchanged_by g exchange) is (same ∙ sym (exchanged-teams g exchange)))
-
   pub rest_scores : score_of l rest ≤ score_of l (cost_of l (exchanged_by g exchange))
   rest_scores =
       subst (λ cost. score_of l rest ≤ score_of l cost)
       (whole_cost (exchanged_by g exchange) (penalties_share l scope (exchanged_by g exchange)) refl refl)
       (score_grows l rest (penalties_share l scope (exchanged_by g exchange)))
+
+  -- what is within a limit with the penalties of after is the cost after within it
+  pub cost_within : (g' : Games) (most : ℕ) (whole : Option Cost) → g' ≡ exchanged_by g exchange →
+      IsWholeWithin l scope g' rest most whole → IsCostWithin l most (exchanged_by g exchange) whole
+  cost_within g' most None made over = subst (λ cost. most < score_of l cost) (whole_cost g' _ made refl) over
+  cost_within g' most (Some cost) made within = (within.0 ∙ whole_cost g' _ made refl, within.1)
+
+  pub whole_scores : (g' : Games) → g' ≡ exchanged_by g exchange → score_of l (with_penalties rest (penalties_share l scope g')) < score_limit
+  whole_scores g' made = subst (λ cost. score_of l cost < score_limit) (sym (whole_cost g' _ made refl)) (score_after l g exchange is same)
+
+-- a cost within a limit is a small one
+pub within_is_small : (l : LeagueData) (g : Games) (most : ℕ) (cost : Option Cost) → IsCostWithin l most g cost →
+    score_of l (cost_of l g) < score_limit → IfSome cost (λ cost. score_of l cost < score_limit)
+within_is_small l g most (Some cost) within below = subst (λ cost. score_of l cost < score_limit) (sym within.0) below
+within_is_small l g most None within below = tt
 
 -- no score is above the greatest limit
 pub within_greatest : (l : LeagueData) (g : Games) (result : Option Cost) → IsCostWithin l 18446744073709551615 g result →

@@ -1,11 +1,12 @@
 -- What of the costs an exchange can change, counted on the schedule before it or after it. `main` has its main teams and
 -- their rounds.
-use Rattle.std.specs.Prelude.{◌≡◌, ℕ, ◌+◌, ◌<◌, List, length, slice_get, Option, Some, None}
+use Rattle.std.specs.Prelude.{◌≡◌, ℕ, ◌+◌, ◌<◌, ◌≤◌, nat_lt, Bool, if◌then◌else◌, List, length, slice_get, Option, Some, None}
 use Rattle.league.specs.League.{LeagueData}
 use Rattle.league.specs.Sets.{has}
 use Rattle.league.specs.Sums.{sum_below}
 use Rattle.league.specs.declared.rule.Rule.{Rule}
 use Rattle.league.specs.declared.rule.Weight.{Weight}
+use Rattle.league.specs.declared.rule.Weight.TheVariants.{Hard, Soft}
 use Rattle.fixtures.specs.Games.{Games}
 use Rattle.fixtures.specs.TouchedCells.{TouchedCells}
 use Rattle.moves.specs.declared.exchanges.Exchange.{Exchange}
@@ -15,7 +16,7 @@ use Rattle.tours.specs.Runs.{runs_over}
 use Rattle.tours.specs.Repeats.{repeats}
 use Rattle.tours.specs.Phased.{unphased_part}
 use Rattle.robinx.specs.Parts.{deviation_part}
-use Rattle.fixture_board.specs.Costs.{cost_of, hard_share, soft_share, score_limit, where_phased}
+use Rattle.fixture_board.specs.Costs.{cost_of, hard_share, soft_share, score_limit, score_of, where_phased}
 use Rattle.fixture_board.specs.declared.cost.Cost.{Cost}
 use Rattle.fixture_board.specs.declared.penalties.Penalties.{Penalties}
 use Rattle.fixture_board.specs.declared.scope.Scope.{Scope}
@@ -29,6 +30,16 @@ pub record IsScope (g : Games) (scope : Scope) : Type 0 where
 -- the hard costs of every league: runs and repeats
 abbrev pub games_cost : LeagueData → Games → ℕ
 games_cost l g = runs_over g l.at_most + repeats g
+
+-- whether a schedule of this cost may break a rule of this weight: no rule of a kind that costs nothing
+abbrev pub may_break : Cost → Weight → Bool
+may_break cost Hard = nat_lt 0 cost.hard
+may_break cost (Soft weight) = nat_lt 0 cost.soft
+
+-- the part of the deviation from a rule that a schedule of this cost may break
+abbrev pub breakable_part : Games → TouchedCells → ℕ → Cost → Rule → ℕ
+breakable_part g main sides cost rule =
+    if may_break cost rule.weight then deviation_part g main.teams main.rounds sides rule.body else 0
 
 -- of what one rule adds, where there is one
 abbrev pub rule_share : (Weight → ℕ → ℕ) → TouchedCells → ℕ → Games → Option Rule → ℕ
@@ -53,6 +64,12 @@ abbrev pub with_penalties : Cost → Penalties → Cost
 with_penalties rest penalties =
     record { travel = rest.travel; hard = rest.hard + penalties.hard; soft = rest.soft + penalties.soft }
 
+-- the rest with the penalties that the exchange can change where their score is at most this, and none where it is more
+abbrev pub IsWholeWithin : LeagueData → Scope → Games → Cost → ℕ → Option Cost → Type 0
+IsWholeWithin l scope g rest most None = most < score_of l (with_penalties rest (penalties_share l scope g))
+IsWholeWithin l scope g rest most (Some cost) =
+    (cost ≡ with_penalties rest (penalties_share l scope g)) × (score_of l cost ≤ most)
+
 -- travel, runs and repeats as they are after the exchange, and all else as it is before it
 pub record IsTold (l : LeagueData) (g : Games) (exchange : Exchange) (told : Cost) : Type 0 where
   pub travel_is : told.travel ≡ travel l (exchanged_by g exchange)
@@ -70,7 +87,3 @@ pub record IsSmall (cost : Cost) : Type 0 where
   pub travel : cost.travel < score_limit
   pub hard : cost.hard < score_limit
   pub soft : cost.soft < score_limit
-
-pub record AreSmall (penalties : Penalties) : Type 0 where
-  pub hard : penalties.hard < score_limit
-  pub soft : penalties.soft < score_limit

@@ -1,6 +1,6 @@
 //! What a schedule costs, and the best total.
 
-use league::League;
+use league::{League, Weight};
 
 /// What a schedule costs in a league. It is feasible where `hard` is 0.
 #[derive(Clone, Copy, Debug, PartialEq, Eq)]
@@ -17,6 +17,7 @@ pub struct Cost {
 impl Cost {
     ghost use Rattle.std.specs.Prelude.{◌≡◌, ◌^◌, ◌<◌, ◌==◌};
     ghost use Rattle.fixture_board.specs.Costs.{score_of, total_of};
+    ghost use Rattle.fixture_board.specs.CostShares.{may_break};
 
     /// What is compared where hard limits may be broken: travel and soft, and the league's hard weight for each
     /// breach of a hard limit.
@@ -40,6 +41,17 @@ impl Cost {
         ensures { result ≡ (self.hard == 0) }
     {
         self.hard == 0
+    }
+
+    /// Whether a schedule of this cost may break a rule of this weight: no hard one where nothing is hard, no soft one where
+    /// nothing is soft.
+    pub(crate) fn may_break(self, weight: Weight) -> bool
+        ensures { result ≡ may_break self weight }
+    {
+        match weight {
+            Weight::Hard => self.hard > 0,
+            Weight::Soft(_) => self.soft > 0,
+        }
     }
 }
 

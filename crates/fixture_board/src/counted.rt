@@ -1,13 +1,13 @@
 //! What an exchange can change of a cost that has to be counted, before it and after it: of the rules, and in a phased league of
 //! the pairs with both games in one half.
 
-ghost use Rattle.std.specs.Prelude.{◌≡◌, ◌*◌, ◌≤◌};
+ghost use Rattle.std.specs.Prelude.{◌≡◌, ◌*◌, ◌<◌, ◌≤◌};
 ghost use Rattle.league.specs.League.{teams};
 ghost use Rattle.league.specs.Limits.{max_teams};
 ghost use Rattle.league.specs.Sets.{has};
 ghost use Rattle.tours.specs.Phased.{unphased_part};
-ghost use Rattle.fixture_board.specs.Costs.{cost_of, where_phased};
-ghost use Rattle.fixture_board.specs.CostShares.{penalties_share, AreSmall, IsRest, IsTold};
+ghost use Rattle.fixture_board.specs.Costs.{cost_of, score_of, score_limit, where_phased};
+ghost use Rattle.fixture_board.specs.CostShares.{penalties_share, with_penalties, IsRest, IsTold, IsWholeWithin};
 
 use crate::cost::Cost;
 use crate::penalties::Penalties;
@@ -15,6 +15,7 @@ use crate::rule_costs::shares_of_rules;
 use crate::scope::Scope;
 use fixtures::{Schedule, Touched};
 use league::League;
+use robinx::deviation_part;
 use tours::unphased_part;
 
 /// A told cost without the penalties that the exchange can change. None of them is counted where the known cost has none.
@@ -33,26 +34,46 @@ pub(crate) fn rest_of(
     if known.hard == 0 && known.soft == 0 {
         return told;
     }
-    let before = penalties(schedule, league, scope);
+    let rules = shares_of_rules(schedule, league, scope.main, scope.turning, known);
     Cost {
         travel: told.travel,
-        hard: told.hard - before.hard,
-        soft: told.soft - before.soft,
+        hard: told.hard - phases_share(schedule, league, scope.main) - rules.hard,
+        soft: told.soft - rules.soft,
     }
 }
 
-/// The penalties that the exchange can change.
-#[tactic(auto, unfolding(crate::specs::CostShares::penalties_share))]
-pub(crate) fn penalties(schedule: &Schedule, league: &League, scope: &Scope) -> Penalties
+/// The rest with the penalties that the exchange can change, where their score is at most `most`. The rules are counted one after
+/// another, until the score is above it.
+pub(crate) fn whole_within(
+    schedule: &Schedule,
+    league: &League,
+    scope: &Scope,
+    rest: Cost,
+    most: u64,
+) -> Option<Cost>
     requires same_size { teams league.now ≡ schedule.now.teams }
-    ensures value { result ≡ penalties_share league.now scope.now schedule.now }
-    ensures small { AreSmall result }
+    requires small { score_of league.now (with_penalties rest (penalties_share league.now scope.now schedule.now)) < score_limit }
+    ensures { IsWholeWithin league.now scope.now schedule.now rest most result }
 {
-    let rules = shares_of_rules(schedule, league, scope.main, scope.turning);
-    Penalties {
-        hard: phases_share(schedule, league, scope.main) + rules.hard,
-        soft: rules.soft,
+    prove_eq!(league.teams(), schedule.teams());
+    let mut cost = Cost {
+        hard: rest.hard + phases_share(schedule, league, scope.main),
+        ..rest
+    };
+    for i in 0..league.rule_count() {
+        if cost.score(league) > most {
+            return None;
+        }
+        let rule = league.rule(i);
+        let part = deviation_part(schedule, rule, scope.main, scope.turning);
+        let share = Penalties::of_rule(rule.weight, part);
+        cost.hard += share.hard;
+        cost.soft += share.soft;
     }
+    if cost.score(league) > most {
+        return None;
+    }
+    Some(cost)
 }
 
 /// Those of the pairs that the exchange can change, where the league is phased.

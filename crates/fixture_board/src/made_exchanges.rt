@@ -7,7 +7,7 @@ ghost use Rattle.fixture_board.specs.Costs.{cost_of, score_of, score_limit, IsCo
 ghost use Rattle.fixture_board.specs.CostShares.{IsTold};
 
 use crate::cost::Cost;
-use crate::counted::{penalties, rest_of};
+use crate::counted::{rest_of, whole_within};
 use crate::scope::Scope;
 use crate::told_cost::{runs_of, told_cost, travel_after};
 use fixtures::Schedule;
@@ -107,15 +107,9 @@ fn make_counted(
         return None;
     }
     exchange.make(schedule);
-    let after = penalties(schedule, league, &scope);
-    let cost = Cost {
-        travel: rest.travel,
-        hard: rest.hard + after.hard,
-        soft: rest.soft + after.soft,
-    };
-    if cost.score(league) > most {
+    let cost = whole_within(schedule, league, &scope, rest, most);
+    if cost.is_none() {
         exchange.make(schedule);
-        return None;
     }
-    Some(cost)
+    cost
 }

@@ -1,14 +1,16 @@
 //! What the rules of a league add to a schedule's cost.
 
-ghost use Rattle.std.specs.Prelude.{◌≡◌, ◌*◌, ◌≤◌};
+ghost use Rattle.std.specs.Prelude.{◌≡◌, ◌*◌, ◌<◌, ◌≤◌};
 ghost use Rattle.league.specs.League.{teams};
 ghost use Rattle.league.specs.Limits.{deviation_limit, max_rules, max_weight};
-ghost use Rattle.fixture_board.specs.Costs.{hard_share, soft_share, sum_over_rules};
-ghost use Rattle.fixture_board.specs.CostShares.{rules_share};
+ghost use Rattle.league.specs.RuleLimits.{IsBodyFor};
+ghost use Rattle.fixture_board.specs.Costs.{cost_of, hard_share, soft_share, sum_over_rules};
+ghost use Rattle.fixture_board.specs.CostShares.{breakable_part, rules_share};
 
+use crate::cost::Cost;
 use crate::penalties::Penalties;
 use fixtures::{Schedule, Touched};
-use league::{League, TeamSet};
+use league::{League, Rule, TeamSet};
 use robinx::{deviation, deviation_part};
 
 /// What the rules add to the cost of a schedule.
@@ -30,15 +32,18 @@ pub(crate) fn costs_of_rules(schedule: &Schedule, league: &League) -> Penalties
     costs
 }
 
-/// What of that a change around the main teams can alter, where `sides` has the teams whose sides it may change.
+/// What of that a change around the main teams can alter, where `sides` has the teams whose sides it may change. A rule isn't counted
+/// if the known cost has nothing of its kind.
 #[tactic(auto, using(league::proofs::ForCallers::sums), unfolding(crate::specs::CostShares::rules_share))]
 pub(crate) fn shares_of_rules(
     schedule: &Schedule,
     league: &League,
     main: Touched,
     sides: TeamSet,
+    known: Cost,
 ) -> Penalties
-    requires { teams league.now ≡ schedule.now.teams }
+    requires same_size { teams league.now ≡ schedule.now.teams }
+    requires known { known ≡ cost_of league.now schedule.now }
     ensures hard { result.hard ≡ rules_share hard_share league.now.rules main sides schedule.now }
     ensures soft { result.soft ≡ rules_share soft_share league.now.rules main sides schedule.now }
     ensures hard_most { result.hard ≤ max_rules * deviation_limit }
@@ -47,9 +52,29 @@ pub(crate) fn shares_of_rules(
     let mut costs = Penalties { hard: 0, soft: 0 };
     for i in 0..league.rule_count() {
         let rule = league.rule(i);
-        let share = Penalties::of_rule(rule.weight, deviation_part(schedule, rule, main, sides));
+        let part = breakable_part(schedule, rule, main, sides, known);
+        let share = Penalties::of_rule(rule.weight, part);
         costs.hard += share.hard;
         costs.soft += share.soft;
     }
     costs
+}
+
+/// The part of the rule's deviation, where a schedule of the known cost may break it.
+fn breakable_part(
+    schedule: &Schedule,
+    rule: &Rule,
+    main: Touched,
+    sides: TeamSet,
+    known: Cost,
+) -> u64
+    requires { IsBodyFor schedule.now.teams rule.now.body }
+    ensures value { result ≡ breakable_part schedule.now main sides known rule.now }
+    ensures below { result < deviation_limit }
+{
+    if known.may_break(rule.weight) {
+        deviation_part(schedule, rule, main, sides)
+    } else {
+        0
+    }
 }

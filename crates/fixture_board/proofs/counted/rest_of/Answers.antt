@@ -1,6 +1,5 @@
-use Rattle.std.proofs.Common.{ap, refl, arith}
-use Rattle.fixture_board.specs.declared.penalties.Penalties.{Penalties}
-use Rattle.fixture_board.proofs.ShareLimits.{hard_fits, soft_fits, none_taken}
+use Rattle.std.proofs.Common.{refl, arith}
+use Rattle.fixture_board.proofs.ShareLimits.{hard_fits, none_taken, penalties_hard, penalties_soft, soft_fits}
 use Rattle.fixture_board.proofs.counted.rest_of.Goals as goal
 
 pub returns-then-known-eq0-2 : goal.returns-then-known-eq0-2
@@ -13,15 +12,27 @@ overflow_sub-result c =
     omega (
       arith,
       hard_fits c.args.league.now c.args.scope.now c.args.schedule.now _ _ c.requires.told,
-      ap (λ (p : Penalties). p.hard) c.penalties-before.ensures.value,
+      penalties_hard c.args.league.now c.args.scope.now c.args.schedule.now,
+      c.phases_share.ensures.value,
     )
 
 pub overflow_sub-result-2 : goal.overflow_sub-result-2
 overflow_sub-result-2 c =
     omega (
       arith,
+      hard_fits c.args.league.now c.args.scope.now c.args.schedule.now _ _ c.requires.told,
+      penalties_hard c.args.league.now c.args.scope.now c.args.schedule.now,
+      c.phases_share.ensures.value,
+      c.shares_of_rules-rules.ensures.hard,
+    )
+
+pub overflow_sub-result-3 : goal.overflow_sub-result-3
+overflow_sub-result-3 c =
+    omega (
+      arith,
       soft_fits c.args.league.now c.args.scope.now c.args.schedule.now _ _ c.requires.told,
-      ap (λ (p : Penalties). p.soft) c.penalties-before.ensures.value,
+      penalties_soft c.args.league.now c.args.scope.now c.args.schedule.now,
+      c.shares_of_rules-rules.ensures.soft,
     )
 
 pub returns : goal.returns
@@ -30,11 +41,14 @@ returns c = record {
   hard = omega (
     arith,
     hard_fits c.args.league.now c.args.scope.now c.args.schedule.now _ _ c.requires.told,
-    ap (λ (p : Penalties). p.hard) c.penalties-before.ensures.value,
+    penalties_hard c.args.league.now c.args.scope.now c.args.schedule.now,
+    c.phases_share.ensures.value,
+    c.shares_of_rules-rules.ensures.hard,
   );
   soft = omega (
     arith,
     soft_fits c.args.league.now c.args.scope.now c.args.schedule.now _ _ c.requires.told,
-    ap (λ (p : Penalties). p.soft) c.penalties-before.ensures.value,
+    penalties_soft c.args.league.now c.args.scope.now c.args.schedule.now,
+    c.shares_of_rules-rules.ensures.soft,
   );
 }
