@@ -13,7 +13,7 @@ mod crew;
 mod threads;
 
 use crate::gates::{Hearing, HearingGate};
-use crate::workers::{Measure, Report};
+use crate::workers::{Means, Measure, Report};
 use crate::{Gate, NoGate, SlackCourse};
 use crew::Crew;
 use fixture_board::Board;
@@ -24,7 +24,7 @@ use std::marker::Model;
 use std::sync::Wait;
 use std::thread::Threads;
 use thiserror::Error;
-use threads::{Handle, accepted_in, gather, launch, seat_all};
+use threads::{Handle, Run, accepted_in, gather, launch, seat_all};
 
 /// The most workers of a run.
 pub const MAX_WORKERS: u32 = 16;
@@ -194,7 +194,9 @@ pub fn resume_with<R: Threads + Wait + Sync, G: Gate + Sync>(
         let why = RunFault::Memory;
         return Err(RunRefused { why, board: None });
     };
-    search(rt, &Hearing { gate }, measure, shared, seat, crew, phase)
+    let gate = &Hearing { gate };
+    let means = Means { rt, gate, measure };
+    search(means, shared, seat, crew, phase)
 }
 
 /// The crew of a plan, beside the board. If there is none, the board comes back as it was.
@@ -227,22 +229,21 @@ fn crew_for<H: Drop>(
 /// Has the workers search on a shared board that has no other seat yet, and closes it. Each report counts the replies that the
 /// gate heard to all proposals of one of the workers.
 fn search<R: Threads + Wait + Sync, G: HearingGate + Sync>(
-    rt: &R,
-    gate: &G,
-    measure: Measure<'_>,
+    means: Means<'_, R, G>,
     shared: Shared,
     mut seat: Seat,
     crew: Crew<Handle<G>>,
     phase: PhasePlan,
 ) -> Result<Outcome, RunRefused>
     requires seat { IsFresh shared seat }
-    requires measured { IsTrue measure.of_boards → seat.setting.league ≡ measure.league.now }
+    requires measured { IsTrue means.measure.of_boards → seat.setting.league ≡ means.measure.league.now }
     requires crew { HasRoom phase.search.workers crew }
     requires workers { IsWorkers phase.search }
     ensures done { IfOk result (IsResumed phase.search (board_at seat.setting seat.seen)) }
-    ensures heard { IfOk result (λ o. All (IsOfWorker (G.heard gate.now) phase.search.steps) o.reports) }
+    ensures heard { IfOk result (λ o. All (IsOfWorker (G.heard means.entry.gate.now) phase.search.steps) o.reports) }
     ensures refused { IfErr result (IsRefusal phase.search (board_at seat.setting seat.seen)) }
 {
+    let rt = means.rt;
     let before = seat.seen();
     let Crew {
         copies,
@@ -255,9 +256,13 @@ fn search<R: Threads + Wait + Sync, G: HearingGate + Sync>(
         let board = Some(shared.close(rt, seat).board);
         return Err(RunRefused { why, board });
     };
-    let (all, handles) = launch(rt, &shared, gate, measure, phase, jobs, handles);
-    let steps = phase.search.steps;
-    let reports = gather(rt, &shared, gate, &mut seat, handles, reports, steps);
+    let run = Run {
+        means,
+        shared: &shared,
+        phase,
+    };
+    let (all, handles) = launch(run, jobs, handles);
+    let reports = gather(run, &mut seat, handles, reports);
     let closed = shared.close(rt, seat);
     if !all {
         let why = RunFault::Spawn;

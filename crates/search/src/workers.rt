@@ -14,7 +14,7 @@ use fixtures::Schedule;
 use league::League;
 use rand_pcg::Lcg64Xsh32;
 use std::sync::Wait;
-pub(crate) use steps::Measure;
+pub(crate) use steps::{Means, Measure};
 use steps::{Told, Trial, least_with, refresh, step};
 
 /// What a worker is to do.
@@ -102,27 +102,26 @@ pub fn worker<R: Wait, D: Door, G: Gate>(
         league,
         of_boards: false,
     };
-    let course = SlackCourse::Falls;
-    take_steps(rt, door, &Hearing { gate }, measure, plan, course, copy)
+    let gate = &Hearing { gate };
+    let means = Means { rt, gate, measure };
+    take_steps(means, door, plan, SlackCourse::Falls, copy)
 }
 
 /// What a worker does, with a slack that falls or stays. Its report counts the replies that the gate heard.
 pub(crate) fn take_steps<R: Wait, D: Door, G: HearingGate>(
-    rt: &R,
+    means: Means<'_, R, G>,
     door: &mut D,
-    gate: &G,
-    measure: Measure<'_>,
     plan: WorkerPlan,
     course: SlackCourse,
     copy: &mut Schedule,
 ) -> Report
     requires few { D.granted door.old < 2 ^ 62 }
-    requires measured { IsMeasured measure.of_boards measure.league.now (D.may_have door.old) }
+    requires measured { IsMeasured means.measure.of_boards means.measure.league.now (D.may_have door.old) }
     ensures report { IsReport plan.steps result }
-    ensures heard { IsHeard (G.heard gate.now plan.worker) result }
+    ensures heard { IsHeard (G.heard means.entry.gate.now plan.worker) result }
     ensures counted { D.granted door.new ≡ D.granted door.old + result.accepted }
     ensures stays { D.stays door.old door.new }
-    ensures other_size { ¬ (copy.old.teams ≡ teams measure.entry.league.now) →
+    ensures other_size { ¬ (copy.old.teams ≡ teams means.entry.measure.league.now) →
         (result.made ≡ 0) × (copy.new ≡ copy.old) × (door.new ≡ door.old) }
 {
     let mut report = Report {
@@ -130,16 +129,16 @@ pub(crate) fn take_steps<R: Wait, D: Door, G: HearingGate>(
         accepted: 0,
         refused: 0,
     };
-    let teams = measure.league.teams();
+    let teams = means.measure.league.teams();
     if copy.teams() == teams {
         let mut generator = Lcg64Xsh32::new(plan.seed, u64::from(plan.worker));
-        let mut known = refresh(rt, door, measure, copy);
+        let mut known = refresh(means.rt, door, means.measure, copy);
         let mut progress = Progress {
             steps: 0,
             version: known.version,
             least: least_with(None, known.cost),
         };
-        gate.begun(rt, plan.worker);
+        means.gate.begun(means.rt, plan.worker);
         for s in 0..plan.steps {
             let trial = Trial {
                 worker: plan.worker,
@@ -147,7 +146,7 @@ pub(crate) fn take_steps<R: Wait, D: Door, G: HearingGate>(
                 slack: slack_at(plan, course, s),
                 mv: draw(&mut generator, teams),
             };
-            let told = step(rt, door, gate, measure, copy, &mut known, trial);
+            let told = step(means, door, copy, &mut known, trial);
             report = report.with(told);
             match told {
                 Told::Nothing | Told::Refused => {}
@@ -155,17 +154,21 @@ pub(crate) fn take_steps<R: Wait, D: Door, G: HearingGate>(
                 Told::Full => break,
             }
             progress.version = known.version;
-            tell(rt, gate, plan.worker, &mut progress);
+            tell(means, plan.worker, &mut progress);
         }
     }
     report
 }
 
 /// Counts a step, and tells the gate how far the worker is once its pause is over.
-fn tell<R: Wait, G: HearingGate>(rt: &R, gate: &G, worker: u32, progress: &mut Progress) {
+fn tell<R: Wait, G: HearingGate>(
+    means: Means<'_, R, G>,
+    worker: u32,
+    progress: &mut Progress,
+) {
     progress.steps = progress.steps.saturating_add(1);
-    if gate.pause() <= progress.steps {
-        gate.told(rt, worker, *progress);
+    if means.gate.pause() <= progress.steps {
+        means.gate.told(means.rt, worker, *progress);
         progress.steps = 0;
     }
 }

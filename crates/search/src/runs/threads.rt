@@ -10,13 +10,21 @@ ghost use Rattle.search.specs.Heard.{IsOfWorker};
 use super::PhasePlan;
 use crate::SeatDoor;
 use crate::gates::HearingGate;
-use crate::workers::{Measure, Report, WorkerPlan, take_steps};
+use crate::workers::{Means, Measure, Report, WorkerPlan, take_steps};
 use fixtures::Schedule;
 use shared_board::{Seat, Shared, SplitFault};
 use std::snapshot::Snapshot;
 use std::sync::Wait;
 use std::thread::{Promise, PromisedHandle, Scope, Threads};
 use std::{mem, thread};
+
+/// What the threads of a run share.
+#[derive_where(Clone, Copy)]
+pub(crate) struct Run<'a, R, G> {
+    pub(crate) means: Means<'a, R, G>,
+    pub(crate) shared: &'a Shared,
+    pub(crate) phase: PhasePlan,
+}
 
 /// What a worker's thread is given.
 #[derive(Drop)]
@@ -97,47 +105,35 @@ pub(crate) fn seat_all<R: Wait>(
 /// Starts a thread for each job, until one can't be started, and waits until all that were started have ended. Tells
 /// whether all were.
 pub(crate) fn launch<R: Threads + Wait + Sync, G: HearingGate + Sync>(
-    rt: &R,
-    shared: &Shared,
-    gate: &G,
-    measure: Measure<'_>,
-    phase: PhasePlan,
+    run: Run<'_, R, G>,
     jobs: Vec<Job>,
     handles: Vec<Handle<G>>,
 ) -> (bool, Vec<Handle<G>>)
-    requires { CanStart measure.of_boards measure.league.now shared.now jobs handles }
-    ensures { AreStarted gate.now phase.search.steps shared.now jobs result.0 result.1 }
+    requires { CanStart run.means.measure.of_boards run.means.measure.league.now run.shared.now jobs handles }
+    ensures { AreStarted run.entry.means.gate.now run.entry.phase.search.steps run.entry.shared.now jobs result.0 result.1 }
 {
-    let Measure { league, of_boards } = measure;
     thread::scope(
         thread::scope_env(),
-        rt,
+        run.means.rt,
         move |scope| -> (bool, Vec<Handle<G>>)
-            requires { CanStart of_boards league.now shared.now jobs handles }
-            ensures { AreStarted gate.entry.now phase.search.steps shared.entry.now jobs result.0 result.1 }
-        {
-            let measure = Measure { league, of_boards };
-            start_all(scope, rt, shared, gate, measure, phase, jobs, handles)
-        },
+            requires { CanStart run.means.measure.of_boards run.means.measure.league.now run.shared.now jobs handles }
+            ensures { AreStarted run.entry.means.gate.now run.entry.phase.search.steps run.entry.shared.now jobs result.0 result.1 }
+        { start_all(scope, run, jobs, handles) },
     )
 }
 
 /// Starts a thread for each job, until one can't be started. Tells whether all were.
 fn start_all<'s, E, R: Wait + Sync, G: HearingGate + Sync>(
     scope: &Scope<'s, E>,
-    rt: &'s R,
-    shared: &'s Shared,
-    gate: &'s G,
-    measure: Measure<'s>,
-    phase: PhasePlan,
+    run: Run<'s, R, G>,
     jobs: Vec<Job>,
     mut handles: Vec<Handle<G>>,
 ) -> (bool, Vec<Handle<G>>)
-    requires { CanStart measure.of_boards measure.league.now shared.now jobs handles }
-    ensures { AreStarted gate.now phase.search.steps shared.now jobs result.0 result.1 }
+    requires { CanStart run.means.measure.of_boards run.means.measure.league.now run.shared.now jobs handles }
+    ensures { AreStarted run.entry.means.gate.now run.entry.phase.search.steps run.entry.shared.now jobs result.0 result.1 }
 {
     for job in jobs {
-        let Some(handle) = start(scope, rt, shared, gate, measure, phase, job) else {
+        let Some(handle) = start(scope, run, job) else {
             return (false, handles);
         };
         handles.push_reserved(handle);
@@ -148,24 +144,27 @@ fn start_all<'s, E, R: Wait + Sync, G: HearingGate + Sync>(
 /// Starts a worker's thread. If that fails, its seat is lost.
 fn start<'s, E, R: Wait + Sync, G: HearingGate + Sync>(
     scope: &Scope<'s, E>,
-    rt: &'s R,
-    shared: &'s Shared,
-    gate: &'s G,
-    measure: Measure<'s>,
-    phase: PhasePlan,
+    run: Run<'s, R, G>,
     job: Job,
 ) -> Option<Handle<G>>
-    requires fresh { IsJob shared.now job }
-    requires measured { JobMeasured measure.of_boards measure.league.now job }
-    ensures handle { IfSome result (IsHandle gate.now phase.search.steps shared.now) }
+    requires fresh { IsJob run.shared.now job }
+    requires measured { JobMeasured run.means.measure.of_boards run.means.measure.league.now job }
+    ensures handle { IfSome result (IsHandle run.entry.means.gate.now run.entry.phase.search.steps run.entry.shared.now) }
     ensures seat { IfSome result (λ h. h.promise.seat.value ≡ job.seat) }
 {
+    let Run {
+        means,
+        shared,
+        phase,
+    } = run;
+    let Means { rt, gate, measure } = means;
+    let Measure { league, of_boards } = measure;
     let given = Given {
         steps: phase.search.steps,
         seat: Snapshot::of(&job.seat),
         gate: Snapshot::of(gate),
     };
-    let Measure { league, of_boards } = measure;
+    // what the thread promises is proved of captured references, not of a captured record of them
     scope
         .spawn_with(
             given,
@@ -175,25 +174,29 @@ fn start<'s, E, R: Wait + Sync, G: HearingGate + Sync>(
                 ensures { IsBack (G.heard gate.entry.now) phase.search.steps job.seat result.report result.seat }
             {
                 let measure = Measure { league, of_boards };
-                work(rt, shared, gate, measure, phase, job)
+                let means = Means { rt, gate, measure };
+                let run = Run {
+                    means,
+                    shared,
+                    phase,
+                };
+                work(run, job)
             },
         )
         .ok()
 }
 
 /// What a worker's thread does.
-fn work<R: Wait, G: HearingGate>(
-    rt: &R,
-    shared: &Shared,
-    gate: &G,
-    measure: Measure<'_>,
-    phase: PhasePlan,
-    job: Job,
-) -> Ended
-    requires fresh { IsJob shared.now job }
-    requires measured { JobMeasured measure.of_boards measure.league.now job }
-    ensures { IsBack (G.heard gate.now) phase.search.steps job.seat result.report result.seat }
+fn work<R: Wait, G: HearingGate>(run: Run<'_, R, G>, job: Job) -> Ended
+    requires fresh { IsJob run.shared.now job }
+    requires measured { JobMeasured run.means.measure.of_boards run.means.measure.league.now job }
+    ensures { IsBack (G.heard run.entry.means.gate.now) run.entry.phase.search.steps job.seat result.report result.seat }
 {
+    let Run {
+        means,
+        shared,
+        phase,
+    } = run;
     let Job {
         worker: number,
         seat,
@@ -207,39 +210,36 @@ fn work<R: Wait, G: HearingGate>(
         slack: search.slack,
     };
     let mut door = SeatDoor { shared, seat };
-    let report = take_steps(rt, &mut door, gate, measure, plan, course, &mut copy);
+    let report = take_steps(means, &mut door, plan, course, &mut copy);
     let SeatDoor { shared: _, seat } = door;
     Ended { report, seat }
 }
 
 /// Takes in the seats of the threads, tells the gate that all have ended, and gives their reports, in order.
 pub(crate) fn gather<R: Threads + Wait, G: HearingGate>(
-    rt: &R,
-    shared: &Shared,
-    gate: &G,
+    run: Run<'_, R, G>,
     seat: &mut Seat,
     handles: Vec<Handle<G>>,
     mut reports: Vec<Report>,
-    steps: u32,
 ) -> Vec<Report>
-    requires table { seat.old.table ≡ shared.now }
-    requires handles { All (IsHandle gate.now steps shared.now) handles.items }
+    requires table { seat.old.table ≡ run.shared.now }
+    requires handles { All (IsHandle run.means.gate.now run.phase.search.steps run.shared.now) handles.items }
     requires saw { All (HandleSaw seat.old.seen) handles.items }
     requires none { reports.items ≡ [] }
     requires room { vec_len handles ≤ vec_capacity reports }
-    ensures table { seat.new.table ≡ shared.now }
+    ensures table { seat.new.table ≡ run.entry.shared.now }
     ensures setting { seat.new.setting ≡ seat.old.setting }
     ensures many { vec_len result ≡ vec_len handles }
-    ensures each { All (IsOfWorker (G.heard gate.now) steps) result.items }
+    ensures each { All (IsOfWorker (G.heard run.entry.means.gate.now) run.entry.phase.search.steps) result.items }
     ensures credits { AreCredited seat.old.seen (map handle_number handles.items) result.items seat.new.seen }
 {
     for handle in handles {
-        let ended = handle.join(rt);
-        prove!(ended.report.made <= steps);
-        shared.absorb(seat, ended.seat);
+        let ended = handle.join(run.means.rt);
+        prove!(ended.report.made <= run.phase.search.steps);
+        run.shared.absorb(seat, ended.seat);
         reports.push_reserved(ended.report);
     }
-    gate.ended(rt);
+    run.means.gate.ended(run.means.rt);
     reports
 }
 

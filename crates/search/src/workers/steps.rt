@@ -23,6 +23,15 @@ pub(crate) struct Measure<'a> {
     pub(crate) of_boards: bool,
 }
 
+/// What a worker works with.
+#[derive_where(Clone, Copy)]
+pub(crate) struct Means<'a, R, G> {
+    pub(crate) rt: &'a R,
+    /// What its proposals pass.
+    pub(crate) gate: &'a G,
+    pub(crate) measure: Measure<'a>,
+}
+
 /// What a worker knows of its copy.
 #[derive(Clone, Copy)]
 pub(crate) struct Known {
@@ -52,12 +61,13 @@ pub(crate) enum Told {
     Full,
 }
 
-/// An exchange that is made on the copy, and what the copy is with it.
+/// An exchange that is made on the copy, what the copy is with it, and the board's reply to its proposal.
 #[derive(Clone, Copy)]
 struct Made {
     exchange: Exchange,
     cost: Cost,
     score: u64,
+    reply: Reply,
 }
 
 /// Looks. What the copy costs is what the look told if the board is of this league, and is counted otherwise.
@@ -91,25 +101,24 @@ pub(crate) fn refresh<R: Wait, D: Door>(
 
 /// Tries a move, and proposes it if the slack lets it pass and the copy is still the board's schedule.
 pub(crate) fn step<R: Wait, D: Door, G: HearingGate>(
-    rt: &R,
+    means: Means<'_, R, G>,
     door: &mut D,
-    gate: &G,
-    measure: Measure<'_>,
     copy: &mut Schedule,
     known: &mut Known,
     trial: Trial,
 ) -> Told
-    requires same_size { teams measure.league.now ≡ copy.old.teams }
-    requires measured { IsMeasured measure.of_boards measure.league.now (D.may_have door.old) }
-    requires known { IsKnown measure.league.now copy.old known.old.cost known.old.score }
+    requires same_size { teams means.measure.league.now ≡ copy.old.teams }
+    requires measured { IsMeasured means.measure.of_boards means.measure.league.now (D.may_have door.old) }
+    requires known { IsKnown means.measure.league.now copy.old known.old.cost known.old.score }
     requires granted { D.granted door.old < 2 ^ 63 }
     ensures same_size { copy.new.teams ≡ copy.old.teams }
-    ensures known { IsKnown measure.entry.league.now copy.new known.new.cost known.new.score }
+    ensures known { IsKnown means.entry.measure.league.now copy.new known.new.cost known.new.score }
     ensures counted { D.granted door.new ≡ D.granted door.old + accepted_count result }
     ensures heard { IsProposed result → (reply : Reply)
-        × G.heard gate.now trial.worker trial.made reply × (done_count reply ≡ accepted_count result) }
+        × G.heard means.entry.gate.now trial.worker trial.made reply × (done_count reply ≡ accepted_count result) }
     ensures stays { D.stays door.old door.new }
 {
+    let Means { rt, gate, measure } = means;
     let mv = trial.mv;
     if let Err(_) = check(copy, mv) {
         return Told::Nothing;
@@ -138,33 +147,33 @@ pub(crate) fn step<R: Wait, D: Door, G: HearingGate>(
         exchange,
         cost,
         score,
+        reply,
     };
-    settle(rt, door, measure, copy, known, made, reply)
+    settle(means, door, copy, known, made)
 }
 
 /// Keeps the move that was proposed, or withdraws it, and looks if the board has gone on.
-fn settle<R: Wait, D: Door>(
-    rt: &R,
+fn settle<R: Wait, D: Door, G>(
+    means: Means<'_, R, G>,
     door: &mut D,
-    measure: Measure<'_>,
     copy: &mut Schedule,
     known: &mut Known,
     made: Made,
-    reply: Reply,
 ) -> Told
-    requires same_size { teams measure.league.now ≡ copy.old.teams }
-    requires measured { IsMeasured measure.of_boards measure.league.now (D.may_have door.old) }
+    requires same_size { teams means.measure.league.now ≡ copy.old.teams }
+    requires measured { IsMeasured means.measure.of_boards means.measure.league.now (D.may_have door.old) }
     requires again { IsExchange copy.old made.exchange }
-    requires made { IsKnown measure.league.now copy.old made.cost made.score }
-    requires before { IsKnown measure.league.now (exchanged_by copy.old made.exchange) known.old.cost known.old.score }
+    requires made { IsKnown means.measure.league.now copy.old made.cost made.score }
+    requires before { IsKnown means.measure.league.now (exchanged_by copy.old made.exchange) known.old.cost known.old.score }
     ensures same_size { copy.new.teams ≡ copy.old.teams }
-    ensures known { IsKnown measure.entry.league.now copy.new known.new.cost known.new.score }
-    ensures told { accepted_count result ≡ done_count reply }
+    ensures known { IsKnown means.entry.measure.league.now copy.new known.new.cost known.new.score }
+    ensures told { accepted_count result ≡ done_count made.reply }
     ensures proposed { IsProposed result }
     ensures counted { D.granted door.new ≡ D.granted door.old }
     ensures stays { D.stays door.old door.new }
 {
-    match reply {
+    let Means { rt, measure, .. } = means;
+    match made.reply {
         Reply::Done { at, cost } => {
             if known.version.checked_add(1) == Some(at) {
                 *known = Known {

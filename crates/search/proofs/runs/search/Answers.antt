@@ -40,7 +40,7 @@ returns-clause-done g c =
     let reports = c.gather-reports.result.items in
     let P : List Entry → Type 0 = λ h. AreCredited h
     (map handle_number c.launch-all.result.1.items) reports c.gather-reports.new.seat.seen in
-    resumed_of _ c.args.gate.now c.args.phase.search c.args.shared c.launch-all.result.0 _ _ reports c.args.seat
+    resumed_of _ c.args.means.gate.now c.args.phase.search c.args.shared c.launch-all.result.0 _ _ reports c.args.seat
     c.gather-reports.new.seat c.close-closed.result c.seen-before.result _
     c.gather-reports.ensures.each c.launch-all.ensures (search rules) c.in-Ok.ensures.rising
     (subst P c.seat_all.ensures.seen c.gather-reports.ensures.credits) c.close-closed.ensures
@@ -49,7 +49,7 @@ returns-clause-done g c =
 pub launch-all-requires-after_bounds : goal.launch-all-requires-after_bounds
 launch-all-requires-after_bounds g c = λ _ _. record {
   jobs_are = c.in-Ok.ensures.jobs;
-  measured = All-weaker (JobIn c.args.seat.setting) (JobMeasured c.args.measure.of_boards c.args.measure.league.now)
+  measured = All-weaker (JobIn c.args.seat.setting) (JobMeasured c.args.means.measure.of_boards c.args.means.measure.league.now)
       (λ j here on. ap (λ (s : Setting). s.league) here ∙ c.requires.measured on) c.in-Ok.jobs.items c.in-Ok.ensures.in_setting;
   no_handle = c.requires.crew.no_handle;
   room = omega (arith, c.in-Ok.ensures.many, c.requires.crew.copies, c.requires.crew.handles);

@@ -36,6 +36,6 @@ returns-in-Full-clause-heard g c =
 
 pub step-told-requires-clause-measured : goal.step-told-requires-clause-measured
 step-told-requires-clause-measured g c =
-    measured_still c.args.measure.of_boards c.args.measure.league.now (g.D.Door.may_have c.args.door.now)
+    measured_still c.args.means.measure.of_boards c.args.means.measure.league.now (g.D.Door.may_have c.args.door.now)
     (g.D.Door.may_have c.loop-s.door) (g.met.D.Door.stays_boards c.args.door.now c.loop-s.door c.loop-s.invariant.stays)
     c.requires.measured

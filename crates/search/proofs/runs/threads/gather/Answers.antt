@@ -15,9 +15,11 @@ loop-handle-preserved g c =
     let gone = c.in-Some.ensures.steps.1 in
     let short = ap length steps in
     let pushed = c.push_reserved.ensures in
-    let given : IsHandle c.args.gate.now c.args.steps c.args.shared.now handle =
-    All-head (IsHandle c.args.gate.now c.args.steps c.args.shared.now) handle rest
-    (All-same (IsHandle c.args.gate.now c.args.steps c.args.shared.now) (handle ∷ rest) all (sym steps) was.handles)
+    let most = c.args.run.phase.search.steps in
+    let is_handle = IsHandle c.args.run.means.gate.now most c.args.run.shared.now in
+    let given : is_handle handle =
+    All-head is_handle handle rest
+    (All-same is_handle (handle ∷ rest) all (sym steps) was.handles)
     in
     let saw : HandleSaw c.args.seat.now.seen handle =
     All-head (HandleSaw c.args.seat.now.seen) handle rest
@@ -25,13 +27,13 @@ loop-handle-preserved g c =
     in
     record {
       saw = All-rest (HandleSaw c.args.seat.now.seen) handle rest all steps was.saw;
-      handles = All-rest (IsHandle c.args.gate.now c.args.steps c.args.shared.now) handle rest all steps was.handles;
+      handles = All-rest is_handle handle rest all steps was.handles;
       left = omega (arith, was.left, gone, short);
       all = append_assoc c.loop-handle.yielded (handle ∷ []) _ ∙ rw (← steps) was.all;
       count = omega (arith, gone, pushed.len, was.count);
       room = omega (arith, pushed.capacity, was.room);
-      gathered = gathered_more g.G.HearingGate.heard c.args.gate.now c.args.steps c.args.shared.now c.args.seat.now c.loop-handle.seat
-          c.join-ended.result.seat c.absorb.new.seat
+      gathered = gathered_more g.G.HearingGate.heard c.args.run.means.gate.now most c.args.run.shared.now c.args.seat.now
+          c.loop-handle.seat c.join-ended.result.seat c.absorb.new.seat
           c.loop-handle.yielded handle c.loop-handle.reports.items c.push_reserved.new.self.items c.join-ended.result.report
           was.gathered given saw c.join-ended.ensures c.absorb.ensures pushed.items;
     }

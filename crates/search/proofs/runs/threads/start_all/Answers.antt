@@ -20,7 +20,8 @@ loop-job-preserved g c =
     let handle = c.in-Some-start.handle in
     let given : handle.promise.seat.value ≡ c.in-Some.job.seat = c.in-Some-start.ensures.seat in
     let left : List Job = into_iter_items c.loop-job.job-iterator in
-    let measured_job = JobMeasured c.args.measure.of_boards c.args.measure.league.now in
+    let is_handle = IsHandle c.args.run.means.gate.now c.args.run.phase.search.steps c.args.run.shared.now in
+    let measured_job = JobMeasured c.args.run.means.measure.of_boards c.args.run.means.measure.league.now in
     record {
       left_saw = λ start saw. All-rest (JobSaw start) c.in-Some.job rest left steps (was.left_saw start saw);
       saw = λ start saw. All-same (HandleSaw start) c.push_reserved.new.self.items (old ++ handle ∷ []) pushed.items
@@ -28,12 +29,12 @@ loop-job-preserved g c =
           (ap (λ (s : SeatValue). s.seen) given
           ∙ All-head (JobSaw start) c.in-Some.job rest
           (All-same (JobSaw start) (c.in-Some.job ∷ rest) left (sym steps) (was.left_saw start saw))));
-      jobs = All-rest (IsJob c.args.shared.now) c.in-Some.job rest (into_iter_items c.loop-job.job-iterator) steps was.jobs;
+      jobs = All-rest (IsJob c.args.run.shared.now) c.in-Some.job rest (into_iter_items c.loop-job.job-iterator) steps was.jobs;
       measured = All-rest measured_job c.in-Some.job rest left steps was.measured;
       left = omega (arith, was.left, gone, short);
-      handles = All-same (IsHandle c.args.gate.now c.args.phase.search.steps c.args.shared.now) c.push_reserved.new.self.items
+      handles = All-same is_handle c.push_reserved.new.self.items
           (old ++ handle ∷ []) pushed.items
-          (All-push (IsHandle c.args.gate.now c.args.phase.search.steps c.args.shared.now) old handle was.handles
+          (All-push is_handle old handle was.handles
           c.in-Some-start.ensures.handle);
       count = omega (arith, gone, pushed.len, was.count);
       room = omega (arith, pushed.capacity, was.room);

@@ -7,12 +7,12 @@ use Rattle.search.proofs.runs.threads.start_all.Given as goal
 
 abbrev pub invariant-loop-job : goal.invariant-loop-job
 invariant-loop-job g l = record {
-  jobs : All (IsJob l.shared) (into_iter_items l.job-iterator);
-  measured : All (JobMeasured l.measure.of_boards l.measure.league.now) (into_iter_items l.job-iterator);
+  jobs : All (IsJob l.run.shared.now) (into_iter_items l.job-iterator);
+  measured : All (JobMeasured l.run.means.measure.of_boards l.run.means.measure.league.now) (into_iter_items l.job-iterator);
   left_saw : (start : List Entry) → All (JobSaw start) l.fn.jobs.items → All (JobSaw start) (into_iter_items l.job-iterator);
   saw : (start : List Entry) → All (JobSaw start) l.fn.jobs.items → All (HandleSaw start) l.handles.items;
   left : into_iter_len l.job-iterator ≡ length (into_iter_items l.job-iterator);
-  handles : All (IsHandle l.gate l.phase.search.steps l.shared) l.handles.items;
+  handles : All (IsHandle l.run.means.gate.now l.run.phase.search.steps l.run.shared.now) l.handles.items;
   count : vec_len l.handles + into_iter_len l.job-iterator ≡ vec_len l.fn.jobs;
   room : vec_len l.fn.jobs ≤ vec_capacity l.handles;
   numbers : map handle_number l.handles.items ++ map job_number (into_iter_items l.job-iterator) ≡ map job_number l.fn.jobs.items;
