@@ -161,11 +161,7 @@ pub(crate) fn take_steps<R: Wait, D: Door, G: HearingGate>(
 }
 
 /// Counts a step, and tells the gate how far the worker is once its pause is over.
-fn tell<R: Wait, G: HearingGate>(
-    means: Means<'_, R, G>,
-    worker: u32,
-    progress: &mut Progress,
-) {
+fn tell<R: Wait, G: HearingGate>(means: Means<'_, R, G>, worker: u32, progress: &mut Progress) {
     progress.steps = progress.steps.saturating_add(1);
     if means.gate.pause() <= progress.steps {
         means.gate.told(means.rt, worker, *progress);
