@@ -8,6 +8,7 @@ mod HomeRows
 mod Largest
 mod Limits
 mod LookedPast
+mod MarkedGames
 mod NoPart
 mod OpponentRounds
 mod PartLimits

@@ -6,6 +6,7 @@
 
 mod break_rules;
 mod capacity_rules;
+mod columns;
 mod counts;
 mod deviations;
 mod fairness_rules;
