@@ -54,40 +54,43 @@ counted_in_and_out n slots test =
     at false true = refl
     at false false = refl
 
--- the windows of the counted rounds of the season
-module _ (g : Games) (side : Side) (opponents : ℕ → Bool) (window most t season counted : ℕ)
-    (all : (r : ℕ) → has season r ≡ nat_lt r (round_count g.teams))
-    (members : (r : ℕ) → has counted r ≡ (nat_lt r (round_count g.teams) && (has season r && is_counted g side opponents t r))) where
-  over_in_window : (first : ℕ) → first < round_count g.teams + 1 - window →
+-- the windows of the counted rounds of some slots, which have all rounds of these windows
+module _ (g : Games) (side : Side) (opponents : ℕ → Bool) (window most t slots counted : ℕ)
+    (members : (r : ℕ) → has counted r ≡ (nat_lt r (round_count g.teams) && (has slots r && is_counted g side opponents t r))) where
+  over_in_window : (first : ℕ) → first < round_count g.teams + 1 - window → ((k : ℕ) → k < window → has slots (first + k) ≡ true) →
       over (count_where window (λ k. has counted (first + k))) most ≡ over (games_in_window g side opponents window t first) most
   unfolding games_in_window
-  over_in_window first below =
+  over_in_window first below all =
       ap (λ n. over n most)
       (count_where_same window (λ k. has counted (first + k)) (λ k. is_counted g side opponents t (first + k))
-      (λ k k_below. in_season (first + k) (omega arith)))
+      (λ k k_below. in_slots (first + k) (omega arith) (all k k_below)))
     where
-      in_season : (r : ℕ) → r < round_count g.teams → has counted r ≡ is_counted g side opponents t r
-      in_season r in_r =
-          members r ∙ ap (λ b. nat_lt r (round_count g.teams) && (b && is_counted g side opponents t r)) (all r) ∙
-          ap (λ b. b && (b && is_counted g side opponents t r)) (lt-ltb r (round_count g.teams) in_r)
+      in_slots : (r : ℕ) → r < round_count g.teams → has slots r ≡ true → has counted r ≡ is_counted g side opponents t r
+      in_slots r in_r here =
+          members r ∙ ap (λ b. nat_lt r (round_count g.teams) && (b && is_counted g side opponents t r)) here ∙
+          ap (λ b. b && is_counted g side opponents t r) (lt-ltb r (round_count g.teams) in_r)
 
-  pub windows_of_counted : sum_below (round_count g.teams + 1 - window)
-      (λ first. over (count_where window (λ k. has counted (first + k))) most) ≡
+  -- those of a season
+  pub windows_of_counted : ((r : ℕ) → has slots r ≡ nat_lt r (round_count g.teams)) →
+      sum_below (round_count g.teams + 1 - window) (λ first. over (count_where window (λ k. has counted (first + k))) most) ≡
       over_in_windows g side opponents window most t
   unfolding over_in_windows
-  windows_of_counted =
+  windows_of_counted season =
       sum_below_same (round_count g.teams + 1 - window) (λ first. over (count_where window (λ k. has counted (first + k))) most)
-      (λ first. over (games_in_window g side opponents window t first) most) over_in_window
+      (λ first. over (games_in_window g side opponents window t first) most)
+      (λ first below. over_in_window first below
+      (λ k k_below. season (first + k) ∙ lt-ltb (first + k) (round_count g.teams) (omega arith)))
 
   -- those that begin with one of some starts
   pub starts_of_counted : (starts : ℕ) →
+      ((s k : ℕ) → s < round_count g.teams + 1 - window → has starts s ≡ true → k < window → has slots (s + k) ≡ true) →
       sum_where (round_count g.teams + 1 - window) (has starts) (λ first. over (count_where window (λ k. has counted (first + k))) most) ≡
       sum_where (round_count g.teams + 1 - window) (has starts) (λ first. over (games_in_window g side opponents window t first) most)
-  starts_of_counted starts =
+  starts_of_counted starts all =
       sum_where_same (round_count g.teams + 1 - window) (has starts) (has starts)
       (λ first. over (count_where window (λ k. has counted (first + k))) most)
       (λ first. over (games_in_window g side opponents window t first) most)
-      (λ s below. refl) (λ s below passes. over_in_window s below)
+      (λ s below. refl) (λ s below passes. over_in_window s below (λ k. all s k below passes))
 
 -- the windows that have a round of a set
 pub met_starts : (g : Games) (side : Side) (opponents rounds : ℕ → Bool) (window most t whole meeting starts windows : ℕ) →

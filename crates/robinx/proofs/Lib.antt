@@ -8,7 +8,6 @@ mod HomeRows
 mod Largest
 mod Limits
 mod LookedPast
-mod MarkedGames
 mod NoPart
 mod OpponentRounds
 mod PartLimits
@@ -16,6 +15,7 @@ mod PartSums
 mod PartTerms
 mod PartsBalance
 pub mod Searches
+mod RowsByRounds
 mod SeasonCounts
 mod SeesSame
 mod Sets

@@ -1,12 +1,12 @@
 -- What private functions count on the way: words of theirs alone.
-use Rattle.std.specs.Prelude.{◌≡◌, ℕ, ◌+◌, ◌-◌, ◌*◌, Bool, if◌then◌else◌, ◌&&◌, ◌<◌, not, min, List, [], length, slice_index, slice_index_or}
+use Rattle.std.specs.Prelude.{◌≡◌, ℕ, ◌+◌, ◌-◌, ◌*◌, Bool, if◌then◌else◌, ◌<◌, not, min, List, [], length, slice_index, slice_index_or}
 use Rattle.std.specs.Int.{abs_diff}
 use Rattle.league.specs.Sets.{has}
 use Rattle.league.specs.Sums.{count_where}
 use Rattle.league.specs.declared.rule.Side.{Side}
 use Rattle.league.specs.declared.rule.Side.TheVariants.{Home, Away, Any}
 use Rattle.fixtures.specs.Games.{Games, round_count}
-use Rattle.robinx.specs.Deviations.{is_counted, home_games, largest_below}
+use Rattle.robinx.specs.Deviations.{home_games, largest_below}
 
 -- how many games of a team count in a season against so many opponents, one of which may be the team itself
 abbrev pub season_games : Side → ℕ → Bool → ℕ
@@ -26,11 +26,6 @@ row_places = 80
 pub record IsRowOf (g : Games) (team : ℕ) (row : List ℕ) : Type 0 where
   pub places : length row ≡ row_places
   pub counts : (r : ℕ) → r < round_count g.teams → slice_index row r ≡ home_games g team r
-
--- a column has a place for each team and some more, with 1 for each of the teams whose game in the round counts
-pub record IsColumnOf (g : Games) (side : Side) (teams opponents round : ℕ) (column : List ℕ) : Type 0 where
-  pub places : length column ≡ 48
-  pub marks : (t : ℕ) → slice_index column t ≡ (if has teams t && is_counted g side (has opponents) t round then 1 else 0)
 
 -- the row of a team
 abbrev pub row_of : List (List ℕ) → ℕ → List ℕ

@@ -9,7 +9,7 @@ ghost use Rattle.fixtures.specs.Games.{round_count, IsDoubleRoundRobin};
 ghost use Rattle.robinx.specs.Deviations.{over, games_in_round, games_in_window, over_in_windows, deviation};
 ghost use Rattle.robinx.specs.Parts.{over_in_met_windows, changing_terms};
 
-use crate::columns::over_in_columns;
+use crate::counted_rows::rows_of_rounds;
 use crate::counts::{
     CountedGames, counted_rounds, games_in_round, games_of_team, games_on_side, number_of, over,
 };
@@ -88,19 +88,18 @@ pub(crate) fn ca3_part(
     let length = window as u8;
     let windows = schedule.rounds() + 1 - length;
     let starts = SlotSet::below(windows).intersection(rounds.starts_meeting(length));
-    let near = rounds_of_windows(starts, schedule.rounds(), length);
-    if goes_by_rounds(schedule, games, near) {
-        over_in_columns(schedule, games, near, starts, length, most)
+    if goes_by_rounds(schedule, games, starts) {
+        over_by_rounds(schedule, games, starts, length, most)
     } else {
         over_by_teams(schedule, games, starts, length, most)
     }
 }
 
-/// Whether it takes less to go through the games of the opponents in each of the rounds than through those of each team: with
-/// all teams as opponents it doesn't, since then the sides tell enough.
-fn goes_by_rounds(schedule: &Schedule, games: &CountedGames, rounds: SlotSet) -> bool {
+/// Whether it takes less to go through the opponents in the rounds of these windows than through the opponents of each team.
+/// With all teams as opponents it doesn't: the sides tell enough.
+fn goes_by_rounds(schedule: &Schedule, games: &CountedGames, starts: SlotSet) -> bool {
     let some = games.opponents != TeamSet::below(schedule.teams());
-    some && rounds.len() / 4 <= number_of(schedule, games.teams)
+    some && starts.len() / 2 <= number_of(schedule, games.teams)
 }
 
 /// The games of each team that count in each window that begins with one of the starts, over the most.
@@ -123,6 +122,33 @@ fn over_by_teams(
     let mut total = 0;
     for team in games.teams {
         total += over_from_starts(schedule, games, starts, window, most, team);
+    }
+    total
+}
+
+/// The same, by what is found round by round.
+fn over_by_rounds(
+    schedule: &Schedule,
+    games: &CountedGames,
+    starts: SlotSet,
+    window: u8,
+    most: u32,
+) -> u64
+    requires round_robin { IsDoubleRoundRobin schedule.now }
+    requires teams { IsBelow schedule.now.teams games.now.teams }
+    requires least { 1 ≤ window }
+    requires window { window ≤ round_count schedule.now.teams }
+    requires starts { IsBelow (round_count schedule.now.teams + 1 - window) starts }
+    ensures { result ≡ sum_where schedule.now.teams (has games.now.teams) (λ t.
+        sum_where (round_count schedule.now.teams + 1 - window) (has starts)
+        (λ first. over (games_in_window schedule.now games.now.side (has games.now.opponents) window t first) most)) }
+{
+    let near = rounds_of_windows(starts, schedule.rounds(), window);
+    let rows = rows_of_rounds(schedule, games, near);
+    let mut total = 0;
+    for team in games.teams {
+        let counted = rows[usize::from(team)];
+        total += over_in_windows_of(counted, schedule.rounds(), starts, window, most);
     }
     total
 }

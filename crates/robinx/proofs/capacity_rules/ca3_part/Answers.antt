@@ -1,17 +1,12 @@
-use Rattle.std.proofs.Common.{ℕ, ◌+◌, ◌-◌, refl, ◌∙◌, ap}
-use Rattle.league.specs.Sets.{has}
+use Rattle.std.proofs.Common.{ℕ, ◌+◌, ◌-◌, refl, ◌∙◌, ap, subst}
+use Rattle.league.specs.Sets.{has, IsBelow}
 use Rattle.league.proofs.ForCallers.{sum_where_same}
-use Rattle.robinx.specs.Deviations.{over, games_in_window}
 use Rattle.robinx.proofs.CountedRounds.{met_starts}
-use Rattle.robinx.proofs.MarkedGames.{sums_swapped}
 use Rattle.robinx.proofs.capacity_rules.ca3_part.Goals as goal
 
 pub returns-then-goes_by_rounds : goal.returns-then-goes_by_rounds
 returns-then-goes_by_rounds c =
-    c.over_in_columns.ensures ∙
-    sums_swapped _ c.args.schedule.now.teams (has c.intersection-starts.result) (has c.args.games.now.teams)
-    (λ first t. over (games_in_window c.args.schedule.now c.args.games.now.side (has c.args.games.now.opponents) c.args.window t first)
-    c.args.most) ∙
+    c.over_by_rounds.ensures ∙
     sum_where_same _ _ _ _ _ (λ t below. refl)
     (λ t below is.
     met_starts c.args.schedule.now c.args.games.now.side (has c.args.games.now.opponents) (has c.args.rounds) c.args.window c.args.most t

@@ -1,4 +1,5 @@
-use Rattle.std.proofs.Common.{ℕ, ◌+◌, ◌-◌, nat_lt, ◌∙◌, ap, subst, sym}
+use Rattle.std.proofs.Common.{ℕ, ◌+◌, ◌-◌, nat_lt, ◌∙◌, ◌<◌, ap, subst, sym, arith}
+use Rattle.std.proofs.lemmas.Bool.{lt-ltb}
 use Rattle.league.specs.Sets.{has, IsBelow}
 use Rattle.league.specs.Sums.{sum_where, count_where}
 use Rattle.robinx.specs.Deviations.{over}
@@ -16,5 +17,6 @@ returns-clause-value c =
     (λ first. over (count_where c.args.window (λ k. has c.counted_rounds-counted.result (first + k))) c.args.most))
     c.rounds-2.ensures.number ∙
     starts_of_counted c.args.schedule.now c.args.games.now.side (has c.args.games.now.opponents) c.args.window c.args.most c.args.team
-    c.below-season.result c.counted_rounds-counted.result (λ r. c.below-season.ensures.members r ∙ ap (nat_lt r) c.rounds.ensures.number)
-    c.counted_rounds-counted.ensures.members c.args.starts
+    c.below-season.result c.counted_rounds-counted.result c.counted_rounds-counted.ensures.members c.args.starts
+    (λ s k s_below here k_below.
+    c.below-season.ensures.members (s + k) ∙ ap (nat_lt (s + k)) c.rounds.ensures.number ∙ lt-ltb (s + k) _ (omega arith))

@@ -12,5 +12,5 @@ returns-clause-value c =
     (λ first. over (count_where c.args.window (λ k. has c.counted_rounds-counted.result (first + k))) c.args.most))
     c.rounds-2.ensures.number ∙
     windows_of_counted c.args.schedule.now c.args.games.now.side (has c.args.games.now.opponents) c.args.window c.args.most c.args.team
-    c.below-season.result c.counted_rounds-counted.result (λ r. c.below-season.ensures.members r ∙ ap (nat_lt r) c.rounds.ensures.number)
-    c.counted_rounds-counted.ensures.members
+    c.below-season.result c.counted_rounds-counted.result c.counted_rounds-counted.ensures.members
+    (λ r. c.below-season.ensures.members r ∙ ap (nat_lt r) c.rounds.ensures.number)
