@@ -83,14 +83,15 @@ module _ (g : Games) (side : Side) (opponents : ℕ → Bool) (window most t slo
       (λ k k_below. season (first + k) ∙ lt-ltb (first + k) (round_count g.teams) (omega arith)))
 
   -- those that begin with one of some starts
-  pub starts_of_counted : (starts : ℕ) → ((s k : ℕ) → has starts s ≡ true → k < window → has slots (s + k) ≡ true) →
+  pub starts_of_counted : (starts : ℕ) →
+      ((s k : ℕ) → s < round_count g.teams + 1 - window → has starts s ≡ true → k < window → has slots (s + k) ≡ true) →
       sum_where (round_count g.teams + 1 - window) (has starts) (λ first. over (count_where window (λ k. has counted (first + k))) most) ≡
       sum_where (round_count g.teams + 1 - window) (has starts) (λ first. over (games_in_window g side opponents window t first) most)
   starts_of_counted starts all =
       sum_where_same (round_count g.teams + 1 - window) (has starts) (has starts)
       (λ first. over (count_where window (λ k. has counted (first + k))) most)
       (λ first. over (games_in_window g side opponents window t first) most)
-      (λ s below. refl) (λ s below passes. over_in_window s below (λ k. all s k passes))
+      (λ s below. refl) (λ s below passes. over_in_window s below (λ k. all s k below passes))
 
 -- the windows that have a round of a set
 pub met_starts : (g : Games) (side : Side) (opponents rounds : ℕ → Bool) (window most t whole meeting starts windows : ℕ) →

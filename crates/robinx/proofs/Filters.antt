@@ -69,6 +69,21 @@ module _ (set left lowest rest kept : ℕ) (test : ℕ → Bool) (so_far : HasPa
     ];
   }
 
+  -- whether it passes or not
+  pub passing_either : (new : ℕ) → ((k : ℕ) → has new k ≡ (has kept k || (k == lowest && test lowest))) → HasPassing set rest new test
+  passing_either new members = record {
+    within = within_rest;
+    members = λ k. members k ∙ elim (cases_eq k lowest) [
+      | inl same ↦
+          rw (same, eq-eqb lowest lowest refl, so_far.members lowest, so_far.within lowest taken.in_set, taken.in_set, gone) refl
+      | inr other ↦ ap (λ b. has kept k || (b && test lowest)) (ne_eqb k lowest other) ∙ or_false (has kept k) ∙ others k other
+    ];
+  }
+    where
+      or_false : (b : Bool) → (b || false) ≡ b
+      or_false true = refl
+      or_false false = refl
+
 pub passing_all : (set left kept : ℕ) (test : ℕ → Bool) → HasPassing set left kept test → (k : ℕ) → has left k ≡ false →
     has kept k ≡ (has set k && test k)
 passing_all set left kept test so_far k none =

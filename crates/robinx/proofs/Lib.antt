@@ -18,6 +18,7 @@ mod PartsBalance
 mod RoundCounts
 mod RoundNumbers
 pub mod Searches
+mod RowsByRounds
 mod SeasonCounts
 mod SeesSame
 mod Sets

@@ -9,8 +9,9 @@ ghost use Rattle.fixtures.specs.Games.{round_count, IsDoubleRoundRobin};
 ghost use Rattle.robinx.specs.Deviations.{over, games_in_round, games_in_window, over_in_windows, deviation};
 ghost use Rattle.robinx.specs.Parts.{over_in_met_windows, changing_terms};
 
+use crate::counted_rows::rows_of_rounds;
 use crate::counts::{
-    CountedGames, counted_rounds, games_in_round, games_of_team, games_on_side, opponents_of, over,
+    CountedGames, counted_rounds, games_in_round, games_of_team, games_on_side, number_of, over,
     rounds_on_side,
 };
 use crate::guests::{Around, teams_otherwise};
@@ -30,7 +31,7 @@ pub(crate) fn ca2(schedule: &Schedule, games: &CountedGames, slots: SlotSet, mos
     ensures { result ≡
         deviation schedule.now (RuleBody.Ca2 games.now.teams games.now.side games.now.opponents slots most) }
 {
-    let opponents = opponents_of(schedule, games);
+    let opponents = number_of(schedule, games.opponents);
     let mut total = 0;
     for team in games.teams {
         total += over(games_of_team(schedule, games, opponents, slots, team), most);
@@ -48,10 +49,9 @@ pub(crate) fn ca3(schedule: &Schedule, games: &CountedGames, window: u32, most: 
     ensures { result ≡
         deviation schedule.now (RuleBody.Ca3 games.now.teams games.now.side games.now.opponents window most) }
 {
-    let opponents = opponents_of(schedule, games);
     let mut total = 0;
     for team in games.teams {
-        total += over_in_windows(schedule, games, opponents, window as u8, most, team);
+        total += over_in_windows(schedule, games, window as u8, most, team);
     }
     total
 }
@@ -60,7 +60,6 @@ pub(crate) fn ca3(schedule: &Schedule, games: &CountedGames, window: u32, most: 
 fn over_in_windows(
     schedule: &Schedule,
     games: &CountedGames,
-    opponents: u32,
     window: u8,
     most: u32,
     team: u8,
@@ -72,7 +71,7 @@ fn over_in_windows(
     ensures most { result ≤ max_rounds * max_rounds }
 {
     let season = SlotSet::below(schedule.rounds());
-    let counted = counted_rounds(schedule, games, opponents, season, team);
+    let counted = counted_rounds(schedule, games, season, team);
     over_in_row(counted, schedule.rounds(), window, most)
 }
 
@@ -94,14 +93,91 @@ pub(crate) fn ca3_part(
     let length = window as u8;
     let windows = schedule.rounds() + 1 - length;
     let starts = SlotSet::below(windows).intersection(rounds.starts_meeting(length));
-    let near = rounds_of_windows(starts, schedule.rounds(), length);
-    let opponents = opponents_of(schedule, games);
+    if goes_by_rounds(schedule, games, starts) {
+        over_by_rounds(schedule, games, starts, length, most)
+    } else {
+        over_by_teams(schedule, games, starts, length, most)
+    }
+}
+
+/// Whether it takes less to go through the opponents in the rounds of these windows than through the opponents of each team.
+/// With all teams as opponents it doesn't: the sides tell enough.
+fn goes_by_rounds(schedule: &Schedule, games: &CountedGames, starts: SlotSet) -> bool {
+    let some = games.opponents != TeamSet::below(schedule.teams());
+    some && starts.len() / 2 <= number_of(schedule, games.teams)
+}
+
+/// The games of each team that count in each window that begins with one of the starts, over the most.
+fn over_by_teams(
+    schedule: &Schedule,
+    games: &CountedGames,
+    starts: SlotSet,
+    window: u8,
+    most: u32,
+) -> u64
+    requires round_robin { IsDoubleRoundRobin schedule.now }
+    requires teams { IsBelow schedule.now.teams games.now.teams }
+    requires least { 1 ≤ window }
+    requires window { window ≤ round_count schedule.now.teams }
+    requires starts { IsBelow (round_count schedule.now.teams + 1 - window) starts }
+    ensures { result ≡ sum_where schedule.now.teams (has games.now.teams) (λ t.
+        sum_where (round_count schedule.now.teams + 1 - window) (has starts)
+        (λ first. over (games_in_window schedule.now games.now.side (has games.now.opponents) window t first) most)) }
+{
     let mut total = 0;
     for team in games.teams {
-        let counted = counted_rounds(schedule, games, opponents, near, team);
-        total += over_in_windows_of(counted, schedule.rounds(), starts, length, most);
+        total += over_from_starts(schedule, games, starts, window, most, team);
     }
     total
+}
+
+/// The same, by what is found round by round.
+fn over_by_rounds(
+    schedule: &Schedule,
+    games: &CountedGames,
+    starts: SlotSet,
+    window: u8,
+    most: u32,
+) -> u64
+    requires round_robin { IsDoubleRoundRobin schedule.now }
+    requires teams { IsBelow schedule.now.teams games.now.teams }
+    requires least { 1 ≤ window }
+    requires window { window ≤ round_count schedule.now.teams }
+    requires starts { IsBelow (round_count schedule.now.teams + 1 - window) starts }
+    ensures { result ≡ sum_where schedule.now.teams (has games.now.teams) (λ t.
+        sum_where (round_count schedule.now.teams + 1 - window) (has starts)
+        (λ first. over (games_in_window schedule.now games.now.side (has games.now.opponents) window t first) most)) }
+{
+    let near = rounds_of_windows(starts, schedule.rounds(), window);
+    let rows = rows_of_rounds(schedule, games, near);
+    let mut total = 0;
+    for team in games.teams {
+        let counted = rows[usize::from(team)];
+        total += over_in_windows_of(counted, schedule.rounds(), starts, window, most);
+    }
+    total
+}
+
+/// The games of the team that count in each window that begins with one of the starts, over the most.
+fn over_from_starts(
+    schedule: &Schedule,
+    games: &CountedGames,
+    starts: SlotSet,
+    window: u8,
+    most: u32,
+    team: u8,
+) -> u64
+    requires team { team < schedule.now.teams }
+    requires least { 1 ≤ window }
+    requires window { window ≤ round_count schedule.now.teams }
+    requires starts { IsBelow (round_count schedule.now.teams + 1 - window) starts }
+    ensures value { result ≡ sum_where (round_count schedule.now.teams + 1 - window) (has starts)
+        (λ first. over (games_in_window schedule.now games.now.side (has games.now.opponents) window team first) most) }
+    ensures most { result ≤ max_rounds * max_rounds }
+{
+    let season = SlotSet::below(schedule.rounds());
+    let counted = counted_rounds(schedule, games, season, team);
+    over_in_windows_of(counted, schedule.rounds(), starts, window, most)
 }
 
 /// The games of all the teams that count, over the most: in each of the slots, or in all of them together.
@@ -204,7 +280,7 @@ fn games_of_all(schedule: &Schedule, games: &CountedGames, slots: SlotSet) -> u3
     if games.opponents == TeamSet::below(schedule.teams()) {
         return games_on_sides(schedule, games, slots);
     }
-    let opponents = opponents_of(schedule, games);
+    let opponents = number_of(schedule, games.opponents);
     let mut count = 0;
     for team in games.teams {
         count += games_of_team(schedule, games, opponents, slots, team);

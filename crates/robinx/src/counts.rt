@@ -59,13 +59,11 @@ pub(crate) fn rounds_on_side(schedule: &Schedule, side: Side, team: u8) -> SlotS
     }
 }
 
-/// The rounds of the slots in which a team's game counts, where the team does and there are so many opponents. It looks at the
-/// slots on the side or at the opponents, whichever are fewer: each opponent has up to two rounds.
+/// The rounds of the slots in which a team's game counts, where the team does.
 #[inline]
 pub(crate) fn counted_rounds(
     schedule: &Schedule,
     games: &CountedGames,
-    opponents: u32,
     slots: SlotSet,
     team: u8,
 ) -> SlotSet
@@ -75,33 +73,12 @@ pub(crate) fn counted_rounds(
         is_counted schedule.now games.now.side (has games.now.opponents) team r)) }
     ensures below { IsBelow (round_count schedule.now.teams) result }
 {
-    let within = rounds_on_side(schedule, games.side, team).intersection(slots);
     let all = TeamSet::below(schedule.teams());
     if games.opponents == all {
-        return within;
-    }
-    if within.len() / 2 <= opponents {
-        return rounds_with_one_of(schedule, games.opponents, within, team);
+        return rounds_on_side(schedule, games.side, team).intersection(slots);
     }
     let opponents = all.intersection(games.opponents);
     rounds_against(schedule, games.side, opponents, team).intersection(slots)
-}
-
-/// Those of the rounds in which the team meets one of the opponents.
-fn rounds_with_one_of(schedule: &Schedule, opponents: TeamSet, rounds: SlotSet, team: u8) -> SlotSet
-    requires team { team < schedule.now.teams }
-    requires most { schedule.now.teams ≤ max_teams }
-    requires rounds { IsBelow (round_count schedule.now.teams) rounds }
-    ensures members { (r : ℕ) → has result r ≡ (has rounds r && has opponents (cell schedule.now team r).opponent) }
-    ensures below { IsBelow (round_count schedule.now.teams) result }
-{
-    let mut with_one = SlotSet::empty();
-    for round in rounds {
-        if meets_one_of(schedule, opponents, team, round) {
-            with_one = with_one.with(round);
-        }
-    }
-    with_one
 }
 
 /// The rounds in which the team meets one of the opponents on this side.
@@ -141,16 +118,16 @@ fn rounds_with(schedule: &Schedule, side: Side, opponent: u8, team: u8) -> SlotS
     }
 }
 
-/// How many of the teams are opponents.
-pub(crate) fn opponents_of(schedule: &Schedule, games: &CountedGames) -> u32
-    ensures { result ≡ count_where schedule.now.teams (has games.now.opponents) }
+/// How many teams there are in the set.
+pub(crate) fn number_of(schedule: &Schedule, teams: TeamSet) -> u32
+    ensures { result ≡ count_where schedule.now.teams (has teams) }
 {
     let all = TeamSet::below(schedule.teams());
-    if games.opponents == all {
+    if teams == all {
         return schedule.teams().into();
     }
     let mut count = 0;
-    for _ in all.intersection(games.opponents) {
+    for _ in all.intersection(teams) {
         count += 1;
     }
     count
@@ -261,7 +238,7 @@ fn is_counted(schedule: &Schedule, games: &CountedGames, team: u8, round: u8) ->
 }
 
 /// Whether a game counts on this side, for a team that is at home in it or not.
-fn is_on_side(side: Side, home: bool) -> bool
+pub(crate) fn is_on_side(side: Side, home: bool) -> bool
     ensures { result ≡ is_on_side side home }
 {
     match side {

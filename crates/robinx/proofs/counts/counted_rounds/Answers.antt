@@ -1,9 +1,7 @@
 use Rattle.std.proofs.Common.{◌≡◌, ℕ, ◌&&◌, nat_lt, ◌∙◌, ap, sym}
 use Rattle.std.proofs.lemmas.Bool.{eqb-true}
 use Rattle.league.specs.Sets.{has}
-use Rattle.fixtures.specs.Games.{cell}
 use Rattle.robinx.proofs.AllTeams.{counted_from-all}
-use Rattle.robinx.proofs.CountedRounds.{counted_from}
 use Rattle.robinx.proofs.OpponentRounds.{met_in_slots}
 use Rattle.robinx.proofs.counts.counted_rounds.Goals as goal
 
@@ -13,24 +11,14 @@ returns-then-eq-clause-members c =
     let members : (t : ℕ) → has c.args.games.now.opponents t ≡ nat_lt t c.args.schedule.now.teams =
     λ t. ap (λ s. has s t) all ∙ c.below-all.ensures.members t ∙ ap (nat_lt t) c.teams.ensures.number in
     λ r.
-    c.intersection-within.ensures.members r ∙
+    c.intersection.ensures.members r ∙
     ap (λ b. b && has c.args.slots r) (c.rounds_on_side.ensures.members r) ∙
     counted_from-all c.args.schedule.now c.teams.ensures.round_robin c.args.games.now.side c.args.games.now.opponents members c.args.team r
     (has c.args.slots r) c.requires
 
-pub rounds_with_one_of-requires-clause-rounds : goal.rounds_with_one_of-requires-clause-rounds
-rounds_with_one_of-requires-clause-rounds c = c.intersection-within.ensures.below _ c.rounds_on_side.ensures.below
-
-pub returns-then-len-opponents-clause-members : goal.returns-then-len-opponents-clause-members
-returns-then-len-opponents-clause-members c = λ r.
-    c.rounds_with_one_of.ensures.members r ∙
-    ap (λ b. b && has c.args.games.now.opponents (cell c.args.schedule.now c.args.team r).opponent)
-    (c.intersection-within.ensures.members r ∙ ap (λ b. b && has c.args.slots r) (c.rounds_on_side.ensures.members r)) ∙
-    counted_from c.args.schedule.now c.args.games.now.side (has c.args.games.now.opponents) c.args.team r (has c.args.slots r)
-
 pub returns-clause-members : goal.returns-clause-members
 returns-clause-members c = λ r.
-    c.intersection.ensures.members r ∙
+    c.intersection-2.ensures.members r ∙
     ap (λ b. b && has c.args.slots r) (c.rounds_against.ensures.members r) ∙
     met_in_slots c.args.schedule.now c.teams.ensures.round_robin c.args.team c.requires c.args.games.now.side _ c.args.games.now.opponents _
     (λ t. c.below-all.ensures.members t ∙ ap (nat_lt t) c.teams.ensures.number) c.intersection-opponents.ensures.members r

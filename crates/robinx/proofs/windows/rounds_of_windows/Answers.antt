@@ -1,4 +1,5 @@
-use Rattle.std.proofs.Common.{◌≡◌, ℕ, ◌+◌, ◌-◌, ◌<◌, ◌≤◌, ◌&&◌, ◌||◌, ◌==◌, not, nat_lt, Bool, true, false, inl, inr, refl, sym, ◌∙◌, ap, arith}
+use Rattle.std.proofs.Common.{◌≡◌, ℕ, ◌+◌, ◌-◌, ◌^◌, ◌<◌, ◌≤◌, ◌&&◌, ◌||◌, ◌==◌, not, nat_lt, Bool, true, false, inl, inr, refl, sym, ◌∙◌, ap, arith}
+use Rattle.std.proofs.Math.Nat.{pow-le-pow_right}
 use Rattle.std.proofs.lemmas.Bool.{cases_lt, lt-ltb, ne_eqb, true≢false}
 use Rattle.league.specs.Sets.{has, has_or_follows, IsBelow}
 use Rattle.league.proofs.ForCallers.{has_beyond}
@@ -34,15 +35,25 @@ one_more starts reached next rounds window count below some left members so_far 
           rw after (follows reached (s + (k - 1)) (so_far s (k - 1) here (omega arith)))
     ]
 
+shorter_below : (m n set : ℕ) → m ≤ n → IsBelow m set → IsBelow n set
+shorter_below m n set le below = let grows : 2 ^ m ≤ 2 ^ n = pow-le-pow_right (omega arith) le in omega (arith, grows)
+
 pub loop-init : goal.loop-init
-loop-init c = λ s k here below.
-    let first : s + k ≡ s = omega arith in
-    ap (has c.args.starts) first ∙ here
+loop-init c = record {
+  first = λ s k here below. let first : s + k ≡ s = omega arith in ap (has c.args.starts) first ∙ here;
+  below = shorter_below _ _ _ (omega (arith, c.requires.least)) c.requires.starts;
+}
 
 pub loop-preserved : goal.loop-preserved
-loop-preserved c =
-    one_more c.args.starts _ _ c.args.rounds c.args.window _ c.requires.starts (omega arith) (omega arith)
-    c.with_next_below-reached.ensures.members c.loop.invariant
+loop-preserved c = record {
+  first =
+      one_more c.args.starts _ _ c.args.rounds c.args.window _ c.requires.starts (omega arith) (omega arith)
+      c.with_next_below-reached.ensures.members c.loop.invariant.first;
+  below = c.with_next_below-reached.ensures.below;
+}
 
-pub returns : goal.returns
-returns c = λ s k here below. c.loop.invariant s k here (omega arith)
+pub returns-clause-members : goal.returns-clause-members
+returns-clause-members c = λ s k here below. c.loop.invariant.first s k here (omega arith)
+
+pub returns-clause-below : goal.returns-clause-below
+returns-clause-below c = c.loop.invariant.below
