@@ -100,11 +100,11 @@ pub(crate) fn ca3_part(
     }
 }
 
-/// Whether it takes less to go through the opponents in the rounds of these windows than through the opponents of each team.
-/// With all teams as opponents it doesn't: the sides tell enough.
+/// Whether it takes less to go through the opponents in the rounds of these windows than through the opponents of each team: it does
+/// if there are a few windows. With all teams as opponents it doesn't, since the sides tell enough.
 fn goes_by_rounds(schedule: &Schedule, games: &CountedGames, starts: SlotSet) -> bool {
     let some = games.opponents != TeamSet::below(schedule.teams());
-    some && starts.len() / 2 <= number_of(schedule, games.teams)
+    some && starts.len() <= number_of(schedule, games.teams) / 2
 }
 
 /// The games of each team that count in each window that begins with one of the starts, over the most.
