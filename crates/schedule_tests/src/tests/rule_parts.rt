@@ -126,7 +126,7 @@ const MOVES: &[(Move, bool)] = &[
 ];
 
 /// The part of the deviation from a league's only rule that a change of these cells can alter, if these teams may change sides.
-fn part(schedule: &Schedule, league: &League, (main, sides): (Touched, TeamSet)) -> Option<u64> {
+fn part(schedule: &Schedule, league: &League, main: Touched, sides: TeamSet) -> Option<u64> {
     if league.teams() != schedule.teams() || league.rule_count() != 1 {
         return None;
     }
@@ -151,7 +151,7 @@ fn check_part(
 ) -> Result<(), Fail> {
     let league = league_with(alloc, 6, rule)?;
     let main = their_games();
-    let found = part(start, &league, (main, main.teams));
+    let found = part(start, &league, main, main.teams);
     check_same_of(rt, &rule, &found, &Some(count));
     Ok(())
 }
@@ -175,7 +175,7 @@ fn part_against_all_teams_is_of_sides(rt: HostRuntime) -> Result<(), Fail> {
     let league = league_with(rt.alloc(), 6, rule)?;
     let start = berger(rt.alloc(), 6)?;
     let main = their_games();
-    let found = part(&start, &league, (main, TeamSet::empty().with(0)));
+    let found = part(&start, &league, main, TeamSet::empty().with(0));
     check_same_of(&rt, &rule, &found, &Some(2));
     Ok(())
 }
@@ -202,8 +202,8 @@ fn turned(before: &Schedule, after: &Schedule) -> TeamSet {
 }
 
 /// What of the deviation isn't in the part.
-fn rest(schedule: &Schedule, league: &League, change: (Touched, TeamSet)) -> Option<u64> {
-    only_deviation(schedule, league)?.checked_sub(part(schedule, league, change)?)
+fn rest(schedule: &Schedule, league: &League, main: Touched, sides: TeamSet) -> Option<u64> {
+    only_deviation(schedule, league)?.checked_sub(part(schedule, league, main, sides)?)
 }
 
 /// The rest before the move and after it.
@@ -215,8 +215,9 @@ fn rests(
 ) -> Result<(Option<u64>, Option<u64>), Fail> {
     let mut after = start.duplicate(alloc)?;
     let main = made(&mut after, mv)?;
-    let change = (main, turned(start, &after));
-    Ok((rest(start, league, change), rest(&after, league, change)))
+    let sides = turned(start, &after);
+    let before = rest(start, league, main, sides);
+    Ok((before, rest(&after, league, main, sides)))
 }
 
 fn check_rest(
