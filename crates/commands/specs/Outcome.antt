@@ -4,7 +4,7 @@ use Rattle.std.specs.Io.KnownBytes.{Consumes, IsAtEnd, Appends}
 use Rattle.streams.specs.Limits.{input_limit, read_limit, write_limit}
 use Rattle.streams.specs.declared.tally.Tally.{Tally}
 use Rattle.streams.specs.Reading.{StopsPast, StopsWithin}
-use Rattle.streams.specs.Sending.{AppendsFront}
+use Rattle.streams.specs.Sending.{AppendsPrefix}
 use Rattle.streams.specs.Tally.{FailsWriting}
 use Rattle.commands.specs.declared.fault.ProgramFault.{ProgramFault}
 use Rattle.commands.specs.declared.fault.ProgramFault.TheVariants.{Read, TooLong, League, LeagueAt, NoSheet, Room}
@@ -25,12 +25,12 @@ module _ {R W : Type 0} (left : R → Option (List ℕ)) (pulls : R → Tally) (
     pub within : length bytes ≤ input_limit
     pub answer_is : answers bytes answer
 
-  -- the text went out whole on success, and a front of it before a failed write; before every other fault nothing
+  -- the text went out whole on success, and a prefix of it before a failed write; before every other fault nothing
   abbrev pub EndsBy : R → R → W → W → Result Unit ProgramFault → Type 0
   EndsBy old new before after (Ok done) =
       (text : List ℕ) × IsAnswered old new (Ok text) × Appends (held before) (held after) text
   EndsBy old new before after (Err Write) =
-      (text : List ℕ) × IsAnswered old new (Ok text) × AppendsFront (held before) (held after) text
+      (text : List ℕ) × IsAnswered old new (Ok text) × AppendsPrefix (held before) (held after) text
       × FailsWriting write_limit (pushes before) (pushes after)
   EndsBy old new before after (Err Read) = StopsWithin left pulls input_limit read_limit old new × (after ≡ before)
   EndsBy old new before after (Err TooLong) = StopsPast left pulls input_limit old new × (after ≡ before)

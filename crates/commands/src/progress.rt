@@ -2,7 +2,7 @@
 
 ghost use Rattle.std.specs.Prelude.{◌≡◌, ◌||◌, OnOk, OnErr, Some, true, false};
 ghost use Rattle.std.specs.Io.KnownBytes.{Appends};
-ghost use Rattle.streams.specs.Sending.{AppendsFront};
+ghost use Rattle.streams.specs.Sending.{AppendsPrefix};
 ghost use Rattle.texts.specs.SearchText.{progress_line};
 ghost use Rattle.commands.specs.Progress.{first, is_due, last_after, line_to_clear, pause_after, reached_with};
 
@@ -190,7 +190,7 @@ impl<W: Sink> Line<W> {
     fn show(&mut self, reached: Reached) -> Result<(), WriteFault>
         ensures ok { OnOk result (Appends (W.held self.old.terminal) (W.held self.new.terminal)
             (progress_line reached.steps self.old.all reached.version reached.least)) }
-        ensures front { OnErr result (AppendsFront (W.held self.old.terminal) (W.held self.new.terminal)
+        ensures prefix { OnErr result (AppendsPrefix (W.held self.old.terminal) (W.held self.new.terminal)
             (progress_line reached.steps self.old.all reached.version reached.least)) }
         ensures shown { self.new.shown ≡ true }
         ensures taken { self.new.taken ≡ false }
@@ -212,7 +212,7 @@ impl<W: Sink> Line<W> {
     fn clear(&mut self) -> Result<(), WriteFault>
         ensures ok { OnOk result (Appends (W.held self.old.terminal) (W.held self.new.terminal)
             (line_to_clear self.old.shown)) }
-        ensures front { OnErr result (AppendsFront (W.held self.old.terminal) (W.held self.new.terminal)
+        ensures prefix { OnErr result (AppendsPrefix (W.held self.old.terminal) (W.held self.new.terminal)
             (line_to_clear self.old.shown)) }
         ensures shown { self.new.shown ≡ false }
         ensures taken { self.new.taken ≡ (self.old.shown || self.old.taken) }

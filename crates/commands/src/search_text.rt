@@ -3,7 +3,7 @@
 ghost use Rattle.std.specs.Prelude.{OnOk, OnErr};
 ghost use Rattle.std.specs.Io.KnownBytes.{Appends};
 ghost use Rattle.streams.specs.Limits.{write_limit};
-ghost use Rattle.streams.specs.Sending.{AppendsFront};
+ghost use Rattle.streams.specs.Sending.{AppendsPrefix};
 ghost use Rattle.streams.specs.Tally.{FailsWriting};
 ghost use Rattle.streams.specs.Writing.{Writes};
 ghost use Rattle.commands.specs.Find.{search_text, worker_lines};
@@ -15,7 +15,7 @@ use texts::{write_found, write_plan, write_worker};
 /// Writes the search text of an outcome. Takes no memory. After a fault a prefix of the text went out.
 pub fn search_report<W: Sink>(outcome: &Outcome, sink: &mut W) -> Result<(), WriteFault>
     ensures ok { OnOk result (Appends (W.held sink.old) (W.held sink.new) (search_text outcome.now)) }
-    ensures front { OnErr result (AppendsFront (W.held sink.old) (W.held sink.new) (search_text outcome.now)) }
+    ensures prefix { OnErr result (AppendsPrefix (W.held sink.old) (W.held sink.new) (search_text outcome.now)) }
     ensures cause { OnErr result (FailsWriting write_limit (W.tally sink.old) (W.tally sink.new)) }
 {
     let mut out = BufferedSink::new(sink);

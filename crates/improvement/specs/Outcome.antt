@@ -6,7 +6,7 @@ use Rattle.phases.specs.Stages.{phase_count}
 use Rattle.search.specs.declared.runs.RunFault.{RunFault}
 use Rattle.search.specs.declared.runs.RunFault.TheVariants as run
 use Rattle.streams.specs.Limits.{write_limit}
-use Rattle.streams.specs.Sending.{AppendsFront}
+use Rattle.streams.specs.Sending.{AppendsPrefix}
 use Rattle.streams.specs.Tally.{FailsWriting}
 use Rattle.streams.specs.declared.tally.Tally.{Tally}
 use Rattle.texts.specs.SearchText.{PlaysBack}
@@ -49,7 +49,7 @@ module _ {W : Type 0} (held : W → Option (List ℕ)) (pushes : W → Tally) (l
   abbrev pub StopsEarly : Type 0
   StopsEarly = IsWorkers plan × (text : List ℕ) × ArePhaseTexts league plan text × Appends (held before) (held after) text
 
-  -- The text went out whole on success, and a front of it before a failed write. Before every other fault exactly the texts of
+  -- The text went out whole on success, and a prefix of it before a failed write. Before every other fault exactly the texts of
   -- the phases that had ended went out, and nothing where the number of workers is wrong
   abbrev pub Improves : Result Unit ImproveFault → Type 0
   Improves (Ok done) = IsWorkers plan × (text : List ℕ) × IsImproveText league plan text × Appends (held before) (held after) text
@@ -57,5 +57,5 @@ module _ {W : Type 0} (held : W → Option (List ℕ)) (pushes : W → Tally) (l
   Improves (Err Spawn) = StopsEarly
   Improves (Err Receipts) = StopsEarly
   Improves (Err Write) = IsWorkers plan × (text : List ℕ) × IsTextSoFar league plan text
-      × AppendsFront (held before) (held after) text × FailsWriting write_limit (pushes before) (pushes after)
+      × AppendsPrefix (held before) (held after) text × FailsWriting write_limit (pushes before) (pushes after)
   Improves (Err Memory) = StopsEarly

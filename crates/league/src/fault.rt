@@ -72,10 +72,10 @@ pub enum LeagueFault {
     #[error("more than 256 rules")]
     TooManyRules,
     /// The rule at this index names no known class.
-    #[error("rule {} has no known class", place(.0))]
+    #[error("rule {} has no known class", rule_number(.0))]
     RuleClass(u8),
     /// The rule at this index has a known class, and lacks a member or has one that is not of its form.
-    #[error("rule {} has a wrong value", place(.0))]
+    #[error("rule {} has a wrong value", rule_number(.0))]
     RuleValue(u8),
     /// Memory ran out.
     #[error("out of memory")]
@@ -113,8 +113,8 @@ impl fmt::Display for Wrong {
     }
 }
 
-// A rule's place, counted from 1.
-fn place(index: &u8) -> u16
+// The number of a rule, counted from 1.
+fn rule_number(index: &u8) -> u16
     ensures { result ≡ index.now + 1 }
 {
     u16::from(*index) + 1

@@ -5,7 +5,7 @@ ghost use Rattle.std.specs.Io.KnownBytes.{Appends};
 ghost use Rattle.std.specs.Str.Lines.{lines};
 ghost use Rattle.league.specs.League.{teams};
 ghost use Rattle.streams.specs.Limits.{write_limit};
-ghost use Rattle.streams.specs.Sending.{AppendsFront};
+ghost use Rattle.streams.specs.Sending.{AppendsPrefix};
 ghost use Rattle.streams.specs.Tally.{FailsWriting};
 ghost use Rattle.reports.specs.Report.{report_text, IsJudgedBy};
 ghost use Rattle.report_formats.specs.Format.{prepared_of, text_with, IsPrepared};
@@ -74,7 +74,7 @@ fn prepare_schedule(
 }
 
 /// Writes what was prepared, or else the report of what was judged as text, where this is the text that it was read from, and
-/// the remarks. Takes no memory. After a fault a front of it went out.
+/// the remarks. Takes no memory. After a fault a prefix of it went out.
 pub fn write_prepared<W: Sink>(
     league: &League,
     text: &[u8],
@@ -85,7 +85,7 @@ pub fn write_prepared<W: Sink>(
     requires { IsJudgedBy league.now (lines text.now) judged.now }
     ensures ok { OnOk result (Appends (W.held sink.old) (W.held sink.new)
         (text_with prepared.now (report_text league.now (lines text.now) judged.now.schedule))) }
-    ensures front { OnErr result (AppendsFront (W.held sink.old) (W.held sink.new)
+    ensures prefix { OnErr result (AppendsPrefix (W.held sink.old) (W.held sink.new)
         (text_with prepared.now (report_text league.now (lines text.now) judged.now.schedule))) }
     ensures cause { OnErr result (FailsWriting write_limit (W.tally sink.old) (W.tally sink.new)) }
 {

@@ -5,7 +5,7 @@ ghost use Rattle.std.specs.Io.KnownBytes.{Appends};
 ghost use Rattle.std.specs.Str.Lines.{lines};
 ghost use Rattle.league.specs.League.{teams};
 ghost use Rattle.streams.specs.Limits.{write_limit};
-ghost use Rattle.streams.specs.Sending.{AppendsFront};
+ghost use Rattle.streams.specs.Sending.{AppendsPrefix};
 ghost use Rattle.streams.specs.Tally.{FailsWriting};
 ghost use Rattle.streams.specs.Writing.{Writes};
 ghost use Rattle.texts.specs.Sheet.{sheet_of};
@@ -21,7 +21,7 @@ use streams::{BufferedSink, Sink, WriteFault};
 use texts::write_sheet;
 
 /// Writes the report of what was judged, where this is the text that it was read from, and behind it the remarks. Takes no
-/// memory. After a fault a front of both went out.
+/// memory. After a fault a prefix of both went out.
 pub fn write_report<W: Sink>(
     league: &League,
     text: &[u8],
@@ -32,7 +32,7 @@ pub fn write_report<W: Sink>(
     requires { IsJudgedBy league.now (lines text.now) judged.now }
     ensures ok { OnOk result (Appends (W.held sink.old) (W.held sink.new)
         (report_text league.now (lines text.now) judged.now.schedule ++ remarks.now)) }
-    ensures front { OnErr result (AppendsFront (W.held sink.old) (W.held sink.new)
+    ensures prefix { OnErr result (AppendsPrefix (W.held sink.old) (W.held sink.new)
         (report_text league.now (lines text.now) judged.now.schedule ++ remarks.now)) }
     ensures cause { OnErr result (FailsWriting write_limit (W.tally sink.old) (W.tally sink.new)) }
 {

@@ -8,13 +8,13 @@ use Rattle.streams.specs.declared.tally.Tally.{Tally}
 use Rattle.streams.specs.declared.buffered.BufferedSink.{BufferedSink}
 use Rattle.streams.specs.declared.writing.TheConstants.{WRITE_LIMIT}
 use Rattle.streams.specs.Pieces.{pieces_below}
-use Rattle.streams.specs.Sending.{AppendsAllBut, AppendsFront}
+use Rattle.streams.specs.Sending.{AppendsAllBut, AppendsPrefix}
 use Rattle.streams.specs.Tally.{NotBelow, FailsWriting}
 use Rattle.streams.specs.Writing.{Adds, Stops, Writes, IsFreshOver, waiting_in}
 use Rattle.streams.proofs.Counts.{NotBelow-refl, NotBelow-trans, FailsWriting-after}
 use Rattle.streams.proofs.Sendings.{AppendsAllBut-refl, AppendsAllBut-trans, AppendsAllBut-more, AppendsAllBut-all}
 
--- a front of what waited and the first piece, and then of the rest and the second
+-- a prefix of what waited and the first piece, and then of the rest and the second
 joined : (a b c : Option (List ℕ)) (waiting p q rest left : List ℕ) → AppendsAllBut a b (waiting ++ p) rest →
     AppendsAllBut b c (rest ++ q) left
     → AppendsAllBut a c (waiting ++ (p ++ q)) left
@@ -68,7 +68,7 @@ module _ {S : Type 0} {held : S → Option (List ℕ)} {tally : S → Tally} whe
   -- nothing waited, and the piece went past the buffer
   pub Writes-passed : {T E : Type 0} (a b : BufferedSink S) (r : Result T E) (p : List ℕ) → b.sink.ghost_name ≡ a.sink.ghost_name
       → waiting_in a ≡ [] → waiting_in b ≡ [] → OnOk r (Appends (held a.sink.now) (held b.sink.now) p)
-      → OnErr r (AppendsFront (held a.sink.now) (held b.sink.now) p) →
+      → OnErr r (AppendsPrefix (held a.sink.now) (held b.sink.now) p) →
       OnErr r (FailsWriting WRITE_LIMIT (tally a.sink.now) (tally b.sink.now))
       → NotBelow (tally a.sink.now) (tally b.sink.now) → Writes held tally a b r p
   Writes-passed a b (Ok x) p name before after ok prefix cause counts =
@@ -96,7 +96,7 @@ module _ {S : Type 0} {held : S → Option (List ℕ)} {tally : S → Tally} whe
 pub record Delivers {S T E : Type 0} (held : S → Option (List ℕ)) (tally : S → Tally) (old new : S) (result : Result T E)
     (text : List ℕ) : Type 0 where
   pub ok : OnOk result (Appends (held old) (held new) text)
-  pub prefix : OnErr result (AppendsFront (held old) (held new) text)
+  pub prefix : OnErr result (AppendsPrefix (held old) (held new) text)
   pub cause : OnErr result (FailsWriting WRITE_LIMIT (tally old) (tally new))
   pub counts : NotBelow (tally old) (tally new)
 

@@ -8,13 +8,13 @@ use Rattle.std.specs.declared.io.ErrorKind.TheVariants.{Interrupted}
 use Rattle.streams.specs.declared.ends.Step.{Step}
 use Rattle.streams.specs.declared.ends.Step.TheVariants.{Moved, Again, Failed}
 
--- the call took the bytes that it put at the front of the buffer, none only at the end; another call took nothing
+-- the call took the bytes that it put at the start of the buffer, none only at the end; another call took nothing
 abbrev pub StepTakes : Option (List ℕ) → Option (List ℕ) → Step → List ℕ → Type 0
 StepTakes old new (Moved n) buffer = (n ≤ length buffer) × Consumes old new (take n buffer) × (n ≡ 0 → IsAtEnd new)
 StepTakes old new Again buffer = Keeps old new
 StepTakes old new Failed buffer = Keeps old new
 
--- the call added the bytes that it took from the front of the piece; another call added nothing
+-- the call added the bytes that it took from the start of the piece; another call added nothing
 abbrev pub StepGives : Option (List ℕ) → Option (List ℕ) → Step → List ℕ → Type 0
 StepGives old new (Moved n) piece = (n ≤ length piece) × Appends old new (take n piece)
 StepGives old new Again piece = Keeps old new

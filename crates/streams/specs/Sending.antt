@@ -8,6 +8,6 @@ pub record AppendsAllBut (old new : Option (List ℕ)) (text left : List ℕ) : 
   pub parts : text ≡ sent ++ left
   pub appended : Appends old new sent
 
--- the known bytes grew by a front of the text
-abbrev pub AppendsFront : Option (List ℕ) → Option (List ℕ) → List ℕ → Type 0
-AppendsFront old new text = (left : List ℕ) × AppendsAllBut old new text left
+-- the known bytes grew by a prefix of the text
+abbrev pub AppendsPrefix : Option (List ℕ) → Option (List ℕ) → List ℕ → Type 0
+AppendsPrefix old new text = (left : List ℕ) × AppendsAllBut old new text left

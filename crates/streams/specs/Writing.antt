@@ -4,7 +4,7 @@ use Rattle.std.specs.Borrow.{MutBor}
 use Rattle.streams.specs.declared.tally.Tally.{Tally}
 use Rattle.streams.specs.declared.buffered.BufferedSink.{BufferedSink}
 use Rattle.streams.specs.Limits.{write_limit}
-use Rattle.streams.specs.Sending.{AppendsAllBut, AppendsFront}
+use Rattle.streams.specs.Sending.{AppendsAllBut, AppendsPrefix}
 use Rattle.streams.specs.Tally.{NotBelow, FailsWriting}
 
 -- the bytes that wait
@@ -31,10 +31,10 @@ module _ {S : Type 0} (held : S → Option (List ℕ)) (tally : S → Tally) (ol
     pub sent : AppendsAllBut (held old.sink.now) (held new.sink.now) (waiting_in old ++ piece) (waiting_in new)
     pub counts : NotBelow (tally old.sink.now) (tally new.sink.now)
 
-  -- a write failed: the sink got a front of what waited and the piece, and nothing waits
+  -- a write failed: the sink got a prefix of what waited and the piece, and nothing waits
   pub record Stops (piece : List ℕ) : Type 0 where
     pub same_sink : new.sink.ghost_name ≡ old.sink.ghost_name
-    pub prefix : AppendsFront (held old.sink.now) (held new.sink.now) (waiting_in old ++ piece)
+    pub prefix : AppendsPrefix (held old.sink.now) (held new.sink.now) (waiting_in old ++ piece)
     pub dropped : waiting_in new ≡ []
     pub cause : FailsWriting write_limit (tally old.sink.now) (tally new.sink.now)
     pub counts : NotBelow (tally old.sink.now) (tally new.sink.now)

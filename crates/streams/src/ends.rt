@@ -23,7 +23,7 @@ pub trait Source {
     // The calls so far.
     ghost tally: { Self → Tally };
 
-    /// Puts bytes at the front of the buffer, which isn't empty. `Moved(0)` is the end of the input.
+    /// Puts bytes at the start of the buffer, which isn't empty. `Moved(0)` is the end of the input.
     fn pull(&mut self, buffer: &mut [u8]) -> Step
         requires { 0 < length buffer.old }
         ensures bytes { StepTakes (left self.old) (left self.new) result buffer.new }
@@ -38,7 +38,7 @@ pub trait Sink {
     // The calls so far.
     ghost tally: { Self → Tally };
 
-    /// Takes bytes from the front of the piece, which isn't empty. `Moved(0)` says that there is no room.
+    /// Takes bytes from the start of the piece, which isn't empty. `Moved(0)` says that there is no room.
     fn push(&mut self, piece: &[u8]) -> Step
         requires { 0 < length piece.now }
         ensures bytes { StepGives (held self.old) (held self.new) result piece.now }

@@ -2,7 +2,7 @@
 ghost use Rattle.std.specs.Prelude.{◌≡◌, ◌+◌, ◌*◌, ◌≤◌, length, OnOk, OnErr};
 ghost use Rattle.std.specs.Io.KnownBytes.{Appends};
 ghost use Rattle.streams.specs.Limits.{write_limit};
-ghost use Rattle.streams.specs.Sending.{AppendsFront};
+ghost use Rattle.streams.specs.Sending.{AppendsPrefix};
 ghost use Rattle.streams.specs.Tally.{NotBelow, FailsWriting};
 
 use super::ends::{Sink, Step};
@@ -16,10 +16,10 @@ pub const WRITE_LIMIT: u64 = 1_000;
 #[error("output cannot be written")]
 pub struct WriteFault;
 
-/// Writes the whole text. An interrupted write is tried again. At an `Err` a front of the text went out.
+/// Writes the whole text. An interrupted write is tried again. At an `Err` a prefix of the text went out.
 pub fn write_all<W: Sink>(sink: &mut W, text: &[u8]) -> Result<(), WriteFault>
     ensures ok { OnOk result (Appends (W.held sink.old) (W.held sink.new) text.now) }
-    ensures prefix { OnErr result (AppendsFront (W.held sink.old) (W.held sink.new) text.now) }
+    ensures prefix { OnErr result (AppendsPrefix (W.held sink.old) (W.held sink.new) text.now) }
     ensures cause { OnErr result (FailsWriting write_limit (W.tally sink.old) (W.tally sink.new)) }
     ensures counts { NotBelow (W.tally sink.old) (W.tally sink.new) }
 

@@ -3,7 +3,7 @@ use Rattle.std.proofs.Common.{◌≡◌, ℕ, ◌+◌, ◌<◌, add-one, List, [
 use Rattle.std.proofs.Common.{OnErr, refl, sym, subst, ◌∙◌, append_assoc, append-nil, drop-cons}
 use Rattle.streams.specs.declared.tally.Tally.{Tally}
 use Rattle.streams.specs.declared.buffered.BufferedSink.{BufferedSink}
-use Rattle.streams.specs.Sending.{AppendsFront}
+use Rattle.streams.specs.Sending.{AppendsPrefix}
 use Rattle.streams.specs.Writing.{Adds, Stops}
 use Rattle.streams.proofs.Pieces.{Adds-nothing, Adds-then, Adds-stops, Stops-more}
 use Rattle.fixture_board.specs.declared.change.Entry.{Entry}
@@ -59,6 +59,6 @@ pieces_from pieces i p within =
     rw here refl
 
 -- what an `Err` says of a sink, at another name of it
-pub front_at : {S T E : Type 0} (held : S → Option (List ℕ)) (r : Result T E) (old : Option (List ℕ)) (text : List ℕ) (x y : S)
-    → OnErr r (AppendsFront old (held x) text) → x ≡ y → OnErr r (AppendsFront old (held y) text)
-front_at held r old text x y front same = subst (λ s. OnErr r (AppendsFront old (held s) text)) same front
+pub prefix_at : {S T E : Type 0} (held : S → Option (List ℕ)) (r : Result T E) (old : Option (List ℕ)) (text : List ℕ) (x y : S)
+    → OnErr r (AppendsPrefix old (held x) text) → x ≡ y → OnErr r (AppendsPrefix old (held y) text)
+prefix_at held r old text x y prefix same = subst (λ s. OnErr r (AppendsPrefix old (held s) text)) same prefix

@@ -14,13 +14,13 @@ use Rattle.fixture_board.specs.declared.change.Change.TheVariants as change
 use Rattle.fixture_board.specs.declared.change.Entry.{Entry}
 use Rattle.texts.specs.Command.{numbers_of, command_with, line_of, line_of_words}
 use Rattle.texts.specs.Input.{is_line_end}
-use Rattle.texts.specs.Number.{number_of, place_of}
+use Rattle.texts.specs.Number.{number_of, index_of}
 use Rattle.texts.specs.PlayText.{change_line, change_lines}
 use Rattle.texts.specs.declared.script_line.ScriptLine.TheVariants.{Asks}
 use Rattle.texts.specs.declared.script_line.Keyword.TheVariants as key
 use Rattle.texts.proofs.Splitting.{parts_of}
 use Rattle.texts.proofs.WrittenWords.{AllFrom, AllFrom-plain, AllFrom-with_two, AllFrom-with_three, IsPlain}
-use Rattle.texts.proofs.WrittenWords.{IsPlain-decimal, IsPlain-tested, number_of-decimal, place_of-more, with_two}
+use Rattle.texts.proofs.WrittenWords.{IsPlain-decimal, IsPlain-tested, number_of-decimal, index_of-more, with_two}
 use Rattle.texts.proofs.WrittenWords.{with_three, words_with_two, words_with_three}
 
 -- teams and rounds that can be numbered from 1 within a byte
@@ -178,11 +178,11 @@ lines-change_lines (e ∷ h) small =
 -- the keyword takes what two numbers make of it
 abbrev ReadsTwo : List ℕ → (ℕ → ℕ → Change) → Type 0
 ReadsTwo word f = (arguments : List (List ℕ)) (x y : ℕ) → numbers_of arguments ≡ Some (x ∷ y ∷ []) →
-    line_of_words (word ∷ arguments) ≡ Asks (f (place_of x) (place_of y))
+    line_of_words (word ∷ arguments) ≡ Asks (f (index_of x) (index_of y))
 
 abbrev ReadsThree : List ℕ → (ℕ → ℕ → ℕ → Change) → Type 0
 ReadsThree word f = (arguments : List (List ℕ)) (x y z : ℕ) → numbers_of arguments ≡ Some (x ∷ y ∷ z ∷ []) →
-    line_of_words (word ∷ arguments) ≡ Asks (f (place_of x) (place_of y) (place_of z))
+    line_of_words (word ∷ arguments) ≡ Asks (f (index_of x) (index_of y) (index_of z))
 
 place_read : (n : ℕ) → n < 255 → number_of (decimal (n + 1)) ≡ Some (n + 1)
 place_read n small = number_of-decimal (n + 1) (omega arith)
@@ -194,8 +194,8 @@ two_read word f a b plain reads small =
     rw (place_read a small.0, place_read b small.1) refl in
     ap line_of_words (words_with_two word (decimal (a + 1)) (decimal (b + 1)) plain (plain_place a small.0) (plain_place b small.1)) ∙
     reads (decimal (a + 1) ∷ decimal (b + 1) ∷ []) (a + 1) (b + 1) numbers ∙
-    ap (λ x. Asks (f x (place_of (b + 1)))) (place_of-more a small.0) ∙
-    ap (λ y. Asks (f a y)) (place_of-more b small.1)
+    ap (λ x. Asks (f x (index_of (b + 1)))) (index_of-more a small.0) ∙
+    ap (λ y. Asks (f a y)) (index_of-more b small.1)
 
 three_read : (word : List ℕ) (f : ℕ → ℕ → ℕ → Change) (a b c : ℕ) → IsPlain word → ReadsThree word f → (a < 255) × (b < 255) × (c < 255)
     → line_of (bare_three word a b c) ≡ Asks (f a b c)
@@ -205,9 +205,9 @@ three_read word f a b c plain reads small =
     ap line_of_words (words_with_three word (decimal (a + 1)) (decimal (b + 1)) (decimal (c + 1)) plain (plain_place a small.0)
     (plain_place b small.1) (plain_place c small.2)) ∙
     reads (decimal (a + 1) ∷ decimal (b + 1) ∷ decimal (c + 1) ∷ []) (a + 1) (b + 1) (c + 1) numbers ∙
-    ap (λ x. Asks (f x (place_of (b + 1)) (place_of (c + 1)))) (place_of-more a small.0) ∙
-    ap (λ y. Asks (f a y (place_of (c + 1)))) (place_of-more b small.1) ∙
-    ap (λ z. Asks (f a b z)) (place_of-more c small.2)
+    ap (λ x. Asks (f x (index_of (b + 1)) (index_of (c + 1)))) (index_of-more a small.0) ∙
+    ap (λ y. Asks (f a y (index_of (c + 1)))) (index_of-more b small.1) ∙
+    ap (λ z. Asks (f a b z)) (index_of-more c small.2)
 
 move_read : (mv : Move) → IsSmallMove mv → line_of (bare_move mv) ≡ Asks (change.Shift mv)
 move_read (Homes i j) small = two_read (codes "homes") (λ a b. change.Shift (Homes a b)) i j homes

@@ -11,7 +11,7 @@ use Rattle.std.proofs.lemmas.Fmt.{decimal_nonempty, digits_decimal, digits_value
 use Rattle.std.proofs.lemmas.List.Elements.{All-append, All-cons, All-from_recursion, All-weaker}
 use Rattle.std.proofs.lemmas.List.Splits.{slice_split_at, slice_split_none}
 use Rattle.std.proofs.lemmas.Str.Parse.{IsNumeralModel, numerals_by_value, tells_all_ascii_digits}
-use Rattle.texts.specs.Number.{number_of, fitting, place_of}
+use Rattle.texts.specs.Number.{number_of, fitting, index_of}
 use Rattle.texts.specs.Words.{is_blank, is_word, words_of}
 use Rattle.texts.proofs.Digits.{some_number}
 use Rattle.texts.proofs.Splitting.{word_kept}
@@ -36,9 +36,9 @@ number_of-decimal n small =
     (digits_decimal all_digits n fits) value) ∙
     fitting_small n small
 
--- a place is written one higher
-pub place_of-more : (n : ℕ) → n < 255 → place_of (n + 1) ≡ n
-place_of-more n small =
+-- an index is written one higher
+pub index_of-more : (n : ℕ) → n < 255 → index_of (n + 1) ≡ n
+index_of-more n small =
     let some : (n + 1 == 0) ≡ false = ne_eqb (n + 1) 0 (λ none. omega arith) in
     let within : nat_lt 255 (n + 1) ≡ false = le-ltb 255 (n + 1) (omega arith) in
     let same : (n + 1) - 1 ≡ n = omega arith in

@@ -3,7 +3,7 @@ use Rattle.std.specs.Prelude.{ℕ, ◌==◌, List, [], ◌∷◌, Option, Some, 
 use Rattle.std.specs.Str.{bytes_eq}
 use Rattle.fixtures.specs.declared.game.Game.{Game}
 use Rattle.moves.specs.declared.moves.Move.TheVariants as move
-use Rattle.texts.specs.Number.{number_of, place_of}
+use Rattle.texts.specs.Number.{number_of, index_of}
 use Rattle.texts.specs.Words.{words_of}
 use Rattle.fixture_board.specs.declared.change.Change.TheVariants as change
 use Rattle.texts.specs.declared.script_line.ScriptLine.{ScriptLine}
@@ -36,17 +36,17 @@ keyword_of word =
 
 -- the game of a round, home team and away team
 abbrev pub game_of : ℕ → ℕ → ℕ → Game
-game_of r h a = record { round = place_of r; home = place_of h; away = place_of a }
+game_of r h a = record { round = index_of r; home = index_of h; away = index_of a }
 
 -- a command has as many numbers as it needs
 abbrev pub command_of : Keyword → List ℕ → ScriptLine
-command_of key.Homes (i ∷ j ∷ []) = Asks (change.Shift (move.Homes (place_of i) (place_of j)))
-command_of key.Rounds (k ∷ l ∷ []) = Asks (change.Shift (move.Rounds (place_of k) (place_of l)))
-command_of key.Teams (i ∷ j ∷ []) = Asks (change.Shift (move.Teams (place_of i) (place_of j)))
+command_of key.Homes (i ∷ j ∷ []) = Asks (change.Shift (move.Homes (index_of i) (index_of j)))
+command_of key.Rounds (k ∷ l ∷ []) = Asks (change.Shift (move.Rounds (index_of k) (index_of l)))
+command_of key.Teams (i ∷ j ∷ []) = Asks (change.Shift (move.Teams (index_of i) (index_of j)))
 command_of key.PartRounds (i ∷ k ∷ l ∷ []) =
-    Asks (change.Shift (move.PartRounds (place_of i) (place_of k) (place_of l)))
+    Asks (change.Shift (move.PartRounds (index_of i) (index_of k) (index_of l)))
 command_of key.PartTeams (i ∷ j ∷ k ∷ []) =
-    Asks (change.Shift (move.PartTeams (place_of i) (place_of j) (place_of k)))
+    Asks (change.Shift (move.PartTeams (index_of i) (index_of j) (index_of k)))
 command_of key.Pin (r ∷ h ∷ a ∷ []) = Asks (change.Pin (game_of r h a))
 command_of key.Unpin (r ∷ h ∷ a ∷ []) = Asks (change.Unpin (game_of r h a))
 command_of key.Undo [] = Asks change.Undo

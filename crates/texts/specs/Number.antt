@@ -13,5 +13,5 @@ number_of word = if (length word == 0) || nat_lt 20 (length word) || not (all_as
     (digits_value 10 word)
 
 -- a team or round as it is handed on: from 0, or 255 where it can't be one
-abbrev pub place_of : ℕ → ℕ
-place_of n = if (n == 0) || nat_lt 255 n then 255 else n - 1
+abbrev pub index_of : ℕ → ℕ
+index_of n = if (n == 0) || nat_lt 255 n then 255 else n - 1

@@ -3,7 +3,7 @@
 ghost use Rattle.std.specs.Prelude.{◌≡◌, ◌<◌, IfNone, IfSome, Some, length};
 ghost use Rattle.std.specs.Str.{all_ascii_digits};
 ghost use Rattle.texts.specs.Command.{numbers_of};
-ghost use Rattle.texts.specs.Number.{fitting, number_of, place_of};
+ghost use Rattle.texts.specs.Number.{fitting, number_of, index_of};
 ghost use Rattle.texts.specs.Words.{words_of};
 
 use crate::words::next_word;
@@ -60,8 +60,8 @@ fn are_digits(word: &[u8]) -> bool
 
 /// The number from 0 of a team or a round, which texts count from 1. If it can't be one it is 255, which no team and no
 /// round has.
-pub fn place(number: u64) -> u8
-    ensures { result ≡ place_of number }
+pub fn index(number: u64) -> u8
+    ensures { result ≡ index_of number }
 {
     match number {
         1..=255 => (number - 1) as u8,

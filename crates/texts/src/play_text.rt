@@ -4,7 +4,7 @@ ghost use Rattle.std.specs.Prelude.{◌≡◌, [], OnOk, OnErr};
 ghost use Rattle.std.specs.Io.KnownBytes.{Appends};
 ghost use Rattle.std.specs.Str.Lines.{lines};
 ghost use Rattle.streams.specs.Limits.{write_limit};
-ghost use Rattle.streams.specs.Sending.{AppendsFront};
+ghost use Rattle.streams.specs.Sending.{AppendsPrefix};
 ghost use Rattle.streams.specs.Tally.{FailsWriting};
 ghost use Rattle.streams.specs.Writing.{Writes};
 ghost use Rattle.fixture_board.specs.History.{best_of};
@@ -28,7 +28,7 @@ pub fn play_script<W: Sink>(
     requires { board.old.history ≡ [] }
     ensures ok { OnOk result (Appends (W.held sink.old) (W.held sink.new)
         (play_text board.old.league board.old.room (lines script.now))) }
-    ensures front { OnErr result (AppendsFront (W.held sink.old) (W.held sink.new)
+    ensures prefix { OnErr result (AppendsPrefix (W.held sink.old) (W.held sink.new)
         (play_text board.old.league board.old.room (lines script.now))) }
     ensures cause { OnErr result
         (FailsWriting write_limit (W.tally sink.old) (W.tally sink.new)) }

@@ -5,7 +5,7 @@ ghost use Rattle.fixture_board.specs.declared.change.Change.TheVariants.{Shift};
 ghost use Rattle.texts.specs.declared.script_line.ScriptLine.TheVariants.{Asks};
 ghost use Rattle.texts.specs.Command.{command_of, game_of, keyword_of, line_of};
 
-use crate::numerals::{numbers, place};
+use crate::numerals::{index, numbers};
 use crate::words::next_word;
 use fixture_board::Change;
 use fixtures::Game;
@@ -89,26 +89,26 @@ fn command(keyword: Keyword, numbers: &[u64]) -> ScriptLine
 {
     match (keyword, numbers) {
         (Keyword::Homes, &[i, j]) => shift(Move::Homes {
-            i: place(i),
-            j: place(j),
+            i: index(i),
+            j: index(j),
         }),
         (Keyword::Rounds, &[k, l]) => shift(Move::Rounds {
-            k: place(k),
-            l: place(l),
+            k: index(k),
+            l: index(l),
         }),
         (Keyword::Teams, &[i, j]) => shift(Move::Teams {
-            i: place(i),
-            j: place(j),
+            i: index(i),
+            j: index(j),
         }),
         (Keyword::PartRounds, &[i, k, l]) => shift(Move::PartRounds {
-            i: place(i),
-            k: place(k),
-            l: place(l),
+            i: index(i),
+            k: index(k),
+            l: index(l),
         }),
         (Keyword::PartTeams, &[i, j, k]) => shift(Move::PartTeams {
-            i: place(i),
-            j: place(j),
-            k: place(k),
+            i: index(i),
+            j: index(j),
+            k: index(k),
         }),
         (Keyword::Pin, &[round, home, away]) => {
             ScriptLine::Asks(Change::Pin(game(round, home, away)))
@@ -132,8 +132,8 @@ fn game(round: u64, home: u64, away: u64) -> Game
     ensures { result ≡ game_of round home away }
 {
     Game {
-        round: place(round),
-        home: place(home),
-        away: place(away),
+        round: index(round),
+        home: index(home),
+        away: index(away),
     }
 }

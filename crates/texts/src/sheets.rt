@@ -5,7 +5,7 @@ ghost use Rattle.std.specs.Io.KnownBytes.{Appends};
 ghost use Rattle.fixtures.specs.Games.{round_count};
 ghost use Rattle.league.specs.League.{teams};
 ghost use Rattle.streams.specs.Limits.{write_limit};
-ghost use Rattle.streams.specs.Sending.{AppendsFront};
+ghost use Rattle.streams.specs.Sending.{AppendsPrefix};
 ghost use Rattle.streams.specs.Tally.{FailsWriting};
 ghost use Rattle.streams.specs.Writing.{Writes};
 ghost use Rattle.streams.specs.Pieces.{pieces_below};
@@ -22,7 +22,7 @@ pub fn sheet<W: Sink>(schedule: &Schedule, league: &League, sink: &mut W) -> Res
     requires { schedule.now.teams ≡ teams league.now }
     ensures ok { OnOk result (Appends (W.held sink.old) (W.held sink.new)
         (sheet_of schedule.now league.now)) }
-    ensures front { OnErr result (AppendsFront (W.held sink.old) (W.held sink.new)
+    ensures prefix { OnErr result (AppendsPrefix (W.held sink.old) (W.held sink.new)
         (sheet_of schedule.now league.now)) }
     ensures cause { OnErr result
         (FailsWriting write_limit (W.tally sink.old) (W.tally sink.new)) }

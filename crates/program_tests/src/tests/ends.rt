@@ -214,7 +214,7 @@ fn writing_of(alloc: Global, case: &Case<'_>) -> Result<Writing, AllocError> {
     })
 }
 
-/// A command whose writes take so many single bytes of its text and then go by these steps leaves a front of as many.
+/// A command whose writes take so many single bytes of its text and then go by these steps leaves a prefix of as many.
 fn check_front<T: Threads + Wait + Sync + Abort>(
     rt: &T,
     alloc: Global,

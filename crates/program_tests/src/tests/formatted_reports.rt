@@ -127,7 +127,7 @@ fn names_stay_names_on_a_page(rt: HostRuntime) -> Result<(), Fail> {
     Ok(())
 }
 
-/// A page whose sink takes so many bytes and then fails leaves a front of it.
+/// A page whose sink takes so many bytes and then fails leaves a prefix of it.
 fn check_front(
     rt: &impl Abort,
     alloc: Global,

@@ -18,7 +18,7 @@ returns-in_err-play_script g c =
             (rw text_len at c.in_ok-input.ensures.within)
             (rw (c.split_input.ensures.league, c.deref.ensures.value) at c.in_ok-league.ensures.exact) c.in_ok-league.ensures.limits
             (c.in-Ok.ensures).within,
-        rw ((c.in-Ok.ensures).ok, c.split_input.ensures.script, c.deref.ensures.value) at c.in_err-play_script.ensures.front,
+        rw ((c.in-Ok.ensures).ok, c.split_input.ensures.script, c.deref.ensures.value) at c.in_err-play_script.ensures.prefix,
         c.in_err-play_script.ensures.cause,
       );
       failed_read = λ rose. let read = c.in_ok-input.ensures.failed rose in cc;

@@ -31,7 +31,7 @@ returns-in_err-write_prepared g c =
           c.in_ok-remarks_on.ensures,
           c.split_at_line.ensures.before,
           c.deref.ensures.value,
-        ) at c.in_err-write_prepared.ensures.front,
+        ) at c.in_err-write_prepared.ensures.prefix,
         c.in_err-write_prepared.ensures.cause,
       );
       failed_read = λ rose. let read = c.in_ok-input.ensures.failed rose in cc;

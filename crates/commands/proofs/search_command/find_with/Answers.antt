@@ -35,7 +35,7 @@ returns-in_err-search_report g c =
             c.in_ok-input.ensures.taken c.in_ok-input.ensures.end (rw text_len at c.in_ok-input.ensures.within)
             (rw c.deref.ensures.value at c.in_ok-league.ensures.exact) (c.in-Ok.ensures).within
             c.in-Ok-run_with.outcome c.in_ok-league.ensures.limits (rw board_is at (c.in-Ok-run_with.ensures).done),
-        c.in_err-search_report.ensures.front,
+        c.in_err-search_report.ensures.prefix,
         c.in_err-search_report.ensures.cause,
       );
       failed_read = λ rose. let read = c.in_ok-input.ensures.failed rose in cc;

@@ -1,17 +1,17 @@
 use Rattle.std.proofs.lemmas.Grind.{common_steps}
 use Rattle.std.proofs.Common.{arith, rules}
 use Rattle.streams.proofs.Pieces.{Adds-delivers, Stops-delivers}
-use Rattle.texts.proofs.Parts.{front_at}
+use Rattle.texts.proofs.Parts.{prefix_at}
 use Rattle.texts.proofs.play_text.play_script.Goals as goal
 
-pub returns-in_err-write_play-clause-front : goal.returns-in_err-write_play-clause-front
-returns-in_err-write_play-clause-front g c =
-    front_at g.W.Sink.held _ _ _ _ _
+pub returns-in_err-write_play-clause-prefix : goal.returns-in_err-write_play-clause-prefix
+returns-in_err-write_play-clause-prefix g c =
+    prefix_at g.W.Sink.held _ _ _ _ _
     (Stops-delivers c.new-out.ensures c.from_residual.ensures.0 c.in_err-write_play.ensures.writes.err).prefix (grind arith)
 
-pub returns-clause-front : goal.returns-clause-front
-returns-clause-front g c =
-    front_at g.W.Sink.held _ _ _ _ _
+pub returns-clause-prefix : goal.returns-clause-prefix
+returns-clause-prefix g c =
+    prefix_at g.W.Sink.held _ _ _ _ _
     (Adds-delivers c.new-out.ensures c.in_ok-write_play.ensures.writes.ok c.flush.ensures.writes c.flush.ensures.waiting).prefix
     (grind arith)
 

@@ -1,27 +1,27 @@
 use Rattle.std.proofs.lemmas.Grind.{common_steps}
 use Rattle.std.proofs.Common.{◌≡◌, true, arith, rules}
 use Rattle.streams.proofs.Pieces.{Adds-delivers, Stops-delivers}
-use Rattle.texts.proofs.ForCallers.{front_at}
+use Rattle.texts.proofs.ForCallers.{prefix_at}
 use Rattle.commands.proofs.progress.Line.clear.Goals as goal
 
-pub returns-in_err-write_clear-clause-front : goal.returns-in_err-write_clear-clause-front
-returns-in_err-write_clear-clause-front g c =
+pub returns-in_err-write_clear-clause-prefix : goal.returns-in_err-write_clear-clause-prefix
+returns-in_err-write_clear-clause-prefix g c =
     let stands : c.args.self.now.shown ≡ true = search rules in
-    rw stands (front_at g.W.Sink.held _ _ _ _ _
+    rw stands (prefix_at g.W.Sink.held _ _ _ _ _
     (Stops-delivers c.new-out.ensures c.from_residual.ensures.0 c.in_err-write_clear.ensures.err).prefix (grind arith))
 
-pub returns-clause-front : goal.returns-clause-front
-returns-clause-front g c =
+pub returns-clause-prefix : goal.returns-clause-prefix
+returns-clause-prefix g c =
     let stands : c.args.self.now.shown ≡ true = search rules in
-    rw stands (front_at g.W.Sink.held _ _ _ _ _
+    rw stands (prefix_at g.W.Sink.held _ _ _ _ _
     (Adds-delivers c.new-out.ensures c.in_ok-write_clear.ensures.ok c.flush.ensures.writes c.flush.ensures.waiting).prefix
     (grind arith))
 
 pub returns-then-not-self-clause-ok : goal.returns-then-not-self-clause-ok
 returns-then-not-self-clause-ok g c = search rules
 
-pub returns-then-not-self-clause-front : goal.returns-then-not-self-clause-front
-returns-then-not-self-clause-front g c = search rules
+pub returns-then-not-self-clause-prefix : goal.returns-then-not-self-clause-prefix
+returns-then-not-self-clause-prefix g c = search rules
 
 pub returns-then-not-self-clause-shown : goal.returns-then-not-self-clause-shown
 returns-then-not-self-clause-shown g c = search rules

@@ -1,15 +1,15 @@
 use Rattle.std.proofs.Common.{arith}
 use Rattle.streams.proofs.Pieces.{Adds-delivers, Stops-delivers}
-use Rattle.texts.proofs.ForCallers.{front_at}
+use Rattle.texts.proofs.ForCallers.{prefix_at}
 use Rattle.commands.proofs.progress.Line.show.Goals as goal
 
-pub returns-in_err-write_progress-clause-front : goal.returns-in_err-write_progress-clause-front
-returns-in_err-write_progress-clause-front g c =
-    front_at g.W.Sink.held _ _ _ _ _
+pub returns-in_err-write_progress-clause-prefix : goal.returns-in_err-write_progress-clause-prefix
+returns-in_err-write_progress-clause-prefix g c =
+    prefix_at g.W.Sink.held _ _ _ _ _
     (Stops-delivers c.new-out.ensures c.from_residual.ensures.0 c.in_err-write_progress.ensures.err).prefix (grind arith)
 
-pub returns-clause-front : goal.returns-clause-front
-returns-clause-front g c =
-    front_at g.W.Sink.held _ _ _ _ _
+pub returns-clause-prefix : goal.returns-clause-prefix
+returns-clause-prefix g c =
+    prefix_at g.W.Sink.held _ _ _ _ _
     (Adds-delivers c.new-out.ensures c.in_ok-write_progress.ensures.ok c.flush.ensures.writes c.flush.ensures.waiting).prefix
     (grind arith)
