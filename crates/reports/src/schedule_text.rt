@@ -10,7 +10,7 @@ ghost use Rattle.reports.specs.ScheduleText.{line_of, round_line, round_of_word,
 
 use fixtures::Game;
 use std::alloc::{AllocError, Global};
-use texts::{next_line, next_word, number, place};
+use texts::{index, next_line, next_word, number};
 
 /// A game as it is written: teams and rounds are numbered from 1, and may be any numbers.
 #[derive(Clone, Copy, Debug, PartialEq, Eq)]
@@ -26,9 +26,9 @@ impl WrittenGame {
         ensures { result ≡ placed self }
     {
         Game {
-            round: place(self.round),
-            home: place(self.home),
-            away: place(self.away),
+            round: index(self.round),
+            home: index(self.home),
+            away: index(self.away),
         }
     }
 }
