@@ -1,4 +1,3 @@
 mod Added
 mod Firsts
-mod Items
 mod Texts

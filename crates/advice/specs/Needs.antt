@@ -10,12 +10,12 @@ use Rattle.advice.specs.declared.hint.RuleMember.{RuleMember}
 use Rattle.advice.specs.declared.hint.RuleMember.TheVariants as member
 use Rattle.advice.specs.declared.needs.Need.{Need}
 use Rattle.advice.specs.declared.needs.Need.TheVariants as need
+use Rattle.advice.specs.Lines.{rule_member_name}
 
 abbrev pub member_of : Need → RuleMember
 member_of need.Kind = member.Kind
 member_of need.Weight = member.Weight
-member_of need.Teams = member.Teams
-member_of need.Teams1 = member.Teams1
+member_of (need.Teams m) = m
 member_of need.Opponents = member.Teams2
 member_of need.Slots = member.Slots
 member_of need.HomeOrAway = member.Mode
@@ -23,9 +23,7 @@ member_of need.Side = member.Mode
 member_of need.SlotChoice = member.Mode2
 member_of need.Games = member.Games
 member_of need.Window = member.Intp
-member_of need.Most = member.Intp
-member_of need.Min = member.Min
-member_of need.Max = member.Max
+member_of (need.Count m) = m
 member_of need.MaxFromMin = member.Max
 
 -- a kind that there is
@@ -46,8 +44,7 @@ are_in_order None max = true
 abbrev pub is_met : ℕ → Data → Need → Bool
 is_met n d need.Kind = is_kind (text_member (codes "kind") d)
 is_met n d need.Weight = is_some (weight_of d)
-is_met n d need.Teams = is_some (teams_member n (codes "teams") d)
-is_met n d need.Teams1 = is_some (teams_member n (codes "teams1") d)
+is_met n d (need.Teams m) = is_some (teams_member n (rule_member_name m) d)
 is_met n d need.Opponents = is_some (opponents_member n d)
 is_met n d need.Slots = is_some (slots_member n d)
 is_met n d need.HomeOrAway = is_some (one_side_member d)
@@ -55,7 +52,5 @@ is_met n d need.Side = is_some (any_side_member d)
 is_met n d need.SlotChoice = is_some (each_member d)
 is_met n d need.Games = is_some (games_member n d)
 is_met n d need.Window = is_some (window_member n d)
-is_met n d need.Most = is_some (count_member (codes "intp") d)
-is_met n d need.Min = is_some (count_member (codes "min") d)
-is_met n d need.Max = is_some (count_member (codes "max") d)
+is_met n d (need.Count m) = is_some (count_member (rule_member_name m) d)
 is_met n d need.MaxFromMin = are_in_order (count_member (codes "min") d) (count_member (codes "max") d)

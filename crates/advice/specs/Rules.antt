@@ -20,18 +20,35 @@ abbrev pub first_unmet : ℕ → Data → List Need → Option Need
 first_unmet n d [] = None
 first_unmet n d (x ∷ xs) = if is_met n d x then first_unmet n d xs else Some x
 
+-- what the classes ask of members by these names
+
+abbrev pub teams : Need
+teams = need.Teams member.Teams
+
+abbrev pub teams1 : Need
+teams1 = need.Teams member.Teams1
+
+abbrev pub min : Need
+min = need.Count member.Min
+
+abbrev pub max : Need
+max = need.Count member.Max
+
+abbrev pub intp : Need
+intp = need.Count member.Intp
+
 -- what the class of this name asks for, besides kind and weight
 abbrev pub needs_of : List ℕ → Option (List Need)
 needs_of name =
-    if bytes_eq name (codes "CA1") then Some (need.Teams ∷ need.HomeOrAway ∷ need.Slots ∷ need.Max ∷ []) else
-    (if bytes_eq name (codes "CA2") then Some (need.Teams1 ∷ need.Side ∷ need.Opponents ∷ need.Slots ∷ need.Max ∷ []) else
-    (if bytes_eq name (codes "CA3") then Some (need.Teams1 ∷ need.Side ∷ need.Opponents ∷ need.Window ∷ need.Max ∷ []) else
-    (if bytes_eq name (codes "CA4") then Some (need.Teams1 ∷ need.Side ∷ need.Opponents ∷ need.Slots ∷ need.SlotChoice ∷ need.Max ∷ []) else
-    (if bytes_eq name (codes "GA1") then Some (need.Games ∷ need.Slots ∷ need.Min ∷ need.Max ∷ need.MaxFromMin ∷ []) else
-    (if bytes_eq name (codes "BR1") then Some (need.Teams ∷ need.Side ∷ need.Slots ∷ need.Most ∷ []) else
-    (if bytes_eq name (codes "BR2") then Some (need.Teams ∷ need.Slots ∷ need.Most ∷ []) else
-    (if bytes_eq name (codes "SE1") then Some (need.Teams ∷ need.Min ∷ []) else
-    (if bytes_eq name (codes "FA2") then Some (need.Teams ∷ need.Slots ∷ need.Most ∷ []) else None))))))))
+    if bytes_eq name (codes "CA1") then Some (teams ∷ need.HomeOrAway ∷ need.Slots ∷ max ∷ []) else
+    (if bytes_eq name (codes "CA2") then Some (teams1 ∷ need.Side ∷ need.Opponents ∷ need.Slots ∷ max ∷ []) else
+    (if bytes_eq name (codes "CA3") then Some (teams1 ∷ need.Side ∷ need.Opponents ∷ need.Window ∷ max ∷ []) else
+    (if bytes_eq name (codes "CA4") then Some (teams1 ∷ need.Side ∷ need.Opponents ∷ need.Slots ∷ need.SlotChoice ∷ max ∷ []) else
+    (if bytes_eq name (codes "GA1") then Some (need.Games ∷ need.Slots ∷ min ∷ max ∷ need.MaxFromMin ∷ []) else
+    (if bytes_eq name (codes "BR1") then Some (teams ∷ need.Side ∷ need.Slots ∷ intp ∷ []) else
+    (if bytes_eq name (codes "BR2") then Some (teams ∷ need.Slots ∷ intp ∷ []) else
+    (if bytes_eq name (codes "SE1") then Some (teams ∷ min ∷ []) else
+    (if bytes_eq name (codes "FA2") then Some (teams ∷ need.Slots ∷ intp ∷ []) else None))))))))
 
 -- the first need that isn't met: of kind and weight, and then of what the class asks for
 abbrev pub unmet_of : ℕ → Data → List Need → Option Need

@@ -9,7 +9,7 @@ ghost use Rattle.advice.specs.Places.{item_count};
 use serde_json::Value;
 
 /// How many items an array has; 0 where the value is no array.
-#[tactic(auto, using(crate::proofs::Items::items_len_same))]
+#[tactic(auto, using(league::proofs::Items::items_len_same))]
 pub(crate) fn item_count(value: &Value) -> usize
     ensures { result ≡ item_count (view value.now) }
 {
@@ -78,7 +78,7 @@ fn are_games(items: &[Value], teams: u64) -> bool
 }
 
 /// Whether the value is an array of two distinct numbers from 1 to `teams`.
-#[tactic(auto, using(crate::proofs::Items::game_of_items_none))]
+#[tactic(auto, using(league::proofs::Items::game_of_items_none))]
 fn is_game(value: &Value, teams: u64) -> bool
     ensures { result ≡ is_some (game_of teams (view value.now)) }
 {

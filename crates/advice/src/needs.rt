@@ -20,11 +20,9 @@ pub(crate) enum Need {
     Kind,
     /// A soft rule has a `weight`.
     Weight,
-    /// `teams` are numbers of teams.
-    Teams,
-    /// `teams1` are.
-    Teams1,
-    /// `teams2` are, if they are there.
+    /// This member is numbers of teams.
+    Teams(RuleMember),
+    /// `teams2` are numbers of teams, if they are there.
     Opponents,
     /// `slots` are numbers of rounds, if they are there.
     Slots,
@@ -38,12 +36,8 @@ pub(crate) enum Need {
     Games,
     /// `intp` is a number of rounds.
     Window,
-    /// `intp` is a count.
-    Most,
-    /// `min` is a count.
-    Min,
-    /// `max` is a count.
-    Max,
+    /// This member is a count.
+    Count(RuleMember),
     /// `max` isn't below `min`.
     MaxFromMin,
 }
@@ -54,18 +48,16 @@ impl Need {
         ensures { result ≡ member_of self }
     {
         match self {
+            Need::Teams(member) | Need::Count(member) => member,
             Need::Kind => RuleMember::Kind,
             Need::Weight => RuleMember::Weight,
-            Need::Teams => RuleMember::Teams,
-            Need::Teams1 => RuleMember::Teams1,
             Need::Opponents => RuleMember::Teams2,
             Need::Slots => RuleMember::Slots,
             Need::HomeOrAway | Need::Side => RuleMember::Mode,
             Need::SlotChoice => RuleMember::Mode2,
             Need::Games => RuleMember::Games,
-            Need::Window | Need::Most => RuleMember::Intp,
-            Need::Min => RuleMember::Min,
-            Need::Max | Need::MaxFromMin => RuleMember::Max,
+            Need::Window => RuleMember::Intp,
+            Need::MaxFromMin => RuleMember::Max,
         }
     }
 
@@ -80,8 +72,7 @@ impl Need {
         match self {
             Need::Kind => has_kind(rule),
             Need::Weight => has_weight(rule),
-            Need::Teams => has_teams(rule, "teams", most),
-            Need::Teams1 => has_teams(rule, "teams1", most),
+            Need::Teams(member) => has_teams(rule, member.name(), most),
             Need::Opponents => has_set_or_none(rule, "teams2", most),
             Need::Slots => has_set_or_none(rule, "slots", rounds),
             Need::HomeOrAway => has_home_or_away(rule),
@@ -89,9 +80,7 @@ impl Need {
             Need::SlotChoice => has_slot_choice(rule),
             Need::Games => has_games(rule, most),
             Need::Window => has_number(rule, "intp", 1, rounds),
-            Need::Most => has_number(rule, "intp", 0, MAX_COUNT.into()),
-            Need::Min => has_number(rule, "min", 0, MAX_COUNT.into()),
-            Need::Max => has_number(rule, "max", 0, MAX_COUNT.into()),
+            Need::Count(member) => has_number(rule, member.name(), 0, MAX_COUNT.into()),
             Need::MaxFromMin => has_max_from_min(rule),
         }
     }

@@ -10,6 +10,18 @@ use crate::hint::{Hint, RuleMember};
 use crate::needs::Need;
 use serde_json::Value;
 
+// what the classes ask of members by these names
+
+const TEAMS: Need = Need::Teams(RuleMember::Teams);
+
+const TEAMS1: Need = Need::Teams(RuleMember::Teams1);
+
+const MIN: Need = Need::Count(RuleMember::Min);
+
+const MAX: Need = Need::Count(RuleMember::Max);
+
+const INTP: Need = Need::Count(RuleMember::Intp);
+
 /// Where the rule at an index lacks a class that is known.
 pub(crate) fn class_hint(rule: &Value, index: u8) -> Hint
     ensures { result ≡ class_hint index (view rule.now) }
@@ -55,39 +67,21 @@ fn needs_of(class: &str) -> Option<&'static [Need]>
     ensures { option_map (λ needs. needs.now) result ≡ needs_of class.now }
 {
     match class {
-        "CA1" => Some(&[Need::Teams, Need::HomeOrAway, Need::Slots, Need::Max]),
-        "CA2" => Some(&[
-            Need::Teams1,
-            Need::Side,
-            Need::Opponents,
-            Need::Slots,
-            Need::Max,
-        ]),
-        "CA3" => Some(&[
-            Need::Teams1,
-            Need::Side,
-            Need::Opponents,
-            Need::Window,
-            Need::Max,
-        ]),
+        "CA1" => Some(&[TEAMS, Need::HomeOrAway, Need::Slots, MAX]),
+        "CA2" => Some(&[TEAMS1, Need::Side, Need::Opponents, Need::Slots, MAX]),
+        "CA3" => Some(&[TEAMS1, Need::Side, Need::Opponents, Need::Window, MAX]),
         "CA4" => Some(&[
-            Need::Teams1,
+            TEAMS1,
             Need::Side,
             Need::Opponents,
             Need::Slots,
             Need::SlotChoice,
-            Need::Max,
+            MAX,
         ]),
-        "GA1" => Some(&[
-            Need::Games,
-            Need::Slots,
-            Need::Min,
-            Need::Max,
-            Need::MaxFromMin,
-        ]),
-        "BR1" => Some(&[Need::Teams, Need::Side, Need::Slots, Need::Most]),
-        "BR2" | "FA2" => Some(&[Need::Teams, Need::Slots, Need::Most]),
-        "SE1" => Some(&[Need::Teams, Need::Min]),
+        "GA1" => Some(&[Need::Games, Need::Slots, MIN, MAX, Need::MaxFromMin]),
+        "BR1" => Some(&[TEAMS, Need::Side, Need::Slots, INTP]),
+        "BR2" | "FA2" => Some(&[TEAMS, Need::Slots, INTP]),
+        "SE1" => Some(&[TEAMS, MIN]),
         _ => None,
     }
 }

@@ -1,7 +1,7 @@
 pub mod ForCallers
 mod Equality
 mod GameLists
-mod Items
+pub mod Items
 mod MadeLeagues
 pub mod OnLiterals
 mod Rows

@@ -53,8 +53,7 @@ fn class_of(rule: &Value, format: u64) -> Option<Class>
 
 #[tactic(auto, unfolding(crate::specs::RuleClasses::ca1_of))]
 fn ca1_of(rule: &Value, teams: u8) -> Option<RuleBody>
-    requires least { 1 ≤ teams }
-    requires most { teams ≤ max_teams }
+    requires { teams ≤ max_teams }
     ensures value { result ≡ ca1_of teams (view rule.now) }
     ensures range { IfSome result (IsBodyFor teams) }
 {
@@ -68,8 +67,7 @@ fn ca1_of(rule: &Value, teams: u8) -> Option<RuleBody>
 
 #[tactic(auto, unfolding(crate::specs::RuleClasses::ca2_of))]
 fn ca2_of(rule: &Value, teams: u8) -> Option<RuleBody>
-    requires least { 1 ≤ teams }
-    requires most { teams ≤ max_teams }
+    requires { teams ≤ max_teams }
     ensures value { result ≡ ca2_of teams (view rule.now) }
     ensures range { IfSome result (IsBodyFor teams) }
 {
@@ -84,8 +82,7 @@ fn ca2_of(rule: &Value, teams: u8) -> Option<RuleBody>
 
 #[tactic(auto, unfolding(crate::specs::RuleClasses::ca3_of))]
 fn ca3_of(rule: &Value, teams: u8) -> Option<RuleBody>
-    requires least { 1 ≤ teams }
-    requires most { teams ≤ max_teams }
+    requires { teams ≤ max_teams }
     ensures value { result ≡ ca3_of teams (view rule.now) }
     ensures range { IfSome result (IsBodyFor teams) }
 {
@@ -100,8 +97,7 @@ fn ca3_of(rule: &Value, teams: u8) -> Option<RuleBody>
 
 #[tactic(auto, unfolding(crate::specs::RuleClasses::ca4_of))]
 fn ca4_of(rule: &Value, teams: u8) -> Option<RuleBody>
-    requires least { 1 ≤ teams }
-    requires most { teams ≤ max_teams }
+    requires { teams ≤ max_teams }
     ensures value { result ≡ ca4_of teams (view rule.now) }
     ensures range { IfSome result (IsBodyFor teams) }
 {
@@ -117,8 +113,7 @@ fn ca4_of(rule: &Value, teams: u8) -> Option<RuleBody>
 
 #[tactic(auto, unfolding(crate::specs::RuleClasses::ga1_of))]
 fn ga1_of(alloc: Global, rule: &Value, teams: u8) -> Result<Option<RuleBody>, AllocError>
-    requires least { 1 ≤ teams }
-    requires most { teams ≤ max_teams }
+    requires { teams ≤ max_teams }
     ensures value { IfOk result (λ body. body ≡ ga1_of teams (view rule.now)) }
     ensures range { IfOk result (λ body. IfSome body (IsBodyFor teams)) }
 {
@@ -144,8 +139,7 @@ fn ga1_of(alloc: Global, rule: &Value, teams: u8) -> Result<Option<RuleBody>, Al
 
 #[tactic(auto, unfolding(crate::specs::RuleClasses::br1_of))]
 fn br1_of(rule: &Value, teams: u8) -> Option<RuleBody>
-    requires least { 1 ≤ teams }
-    requires most { teams ≤ max_teams }
+    requires { teams ≤ max_teams }
     ensures value { result ≡ br1_of teams (view rule.now) }
     ensures range { IfSome result (IsBodyFor teams) }
 {
@@ -159,8 +153,7 @@ fn br1_of(rule: &Value, teams: u8) -> Option<RuleBody>
 
 #[tactic(auto, unfolding(crate::specs::RuleClasses::br2_of))]
 fn br2_of(rule: &Value, teams: u8) -> Option<RuleBody>
-    requires least { 1 ≤ teams }
-    requires most { teams ≤ max_teams }
+    requires { teams ≤ max_teams }
     ensures value { result ≡ br2_of teams (view rule.now) }
     ensures range { IfSome result (IsBodyFor teams) }
 {
@@ -185,8 +178,7 @@ fn se1_of(rule: &Value, teams: u8) -> Option<RuleBody>
 
 #[tactic(auto, unfolding(crate::specs::RuleClasses::fa2_of))]
 fn fa2_of(rule: &Value, teams: u8) -> Option<RuleBody>
-    requires least { 1 ≤ teams }
-    requires most { teams ≤ max_teams }
+    requires { teams ≤ max_teams }
     ensures value { result ≡ fa2_of teams (view rule.now) }
     ensures range { IfSome result (IsBodyFor teams) }
 {
@@ -203,8 +195,7 @@ fn body_of(
     teams: u8,
     class: Class,
 ) -> Result<Option<RuleBody>, AllocError>
-    requires least { 1 ≤ teams }
-    requires most { teams ≤ max_teams }
+    requires { teams ≤ max_teams }
     ensures value { IfOk result (λ body. body ≡ body_of teams (view rule.now) class) }
     ensures range { IfOk result (λ body. IfSome body (IsBodyFor teams)) }
 {
@@ -227,8 +218,7 @@ fn rule_of_class(
     teams: u8,
     class: Class,
 ) -> Result<Option<Rule>, AllocError>
-    requires least { 1 ≤ teams }
-    requires most { teams ≤ max_teams }
+    requires { teams ≤ max_teams }
     ensures value { IfOk result (λ rule'. rule' ≡ rule_of_class teams (view rule.now) class) }
     ensures range { IfOk result (λ rule'. IfSome rule' (IsRuleFor teams)) }
 {
@@ -247,8 +237,7 @@ fn rule_of(
     teams: u8,
     index: u8,
 ) -> Result<Rule, LeagueFault>
-    requires least { 1 ≤ teams }
-    requires most { teams ≤ max_teams }
+    requires { teams ≤ max_teams }
     ensures exact { Gives (λ r. r) result (rule_of format teams index (view rule.now)) }
     ensures range { IfOk result (IsRuleFor teams) }
 {

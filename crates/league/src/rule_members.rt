@@ -78,12 +78,11 @@ pub fn opponents_member(rule: &Value, teams: u8) -> Option<TeamSet>
 
 /// The rounds that count: all rounds where the member is absent.
 pub fn slots_member(rule: &Value, teams: u8) -> Option<SlotSet>
-    requires least { 1 ≤ teams }
-    requires most { teams ≤ max_teams }
+    requires { teams ≤ max_teams }
     ensures value { result ≡ slots_member teams (view rule.now) }
     ensures range { IfSome result (λ set. IsBelow (round_count teams) set) }
 {
-    let rounds = 2 * (teams - 1);
+    let rounds = 2 * teams.saturating_sub(1);
     match rule.get("slots") {
         Some(member) => slot_set(member, rounds),
         None => Some(SlotSet::below(rounds)),
@@ -101,13 +100,12 @@ pub fn count_member(rule: &Value, name: &str) -> Option<u32>
 
 /// A number of rounds in a row, from 1 to all.
 pub fn window_member(rule: &Value, teams: u8) -> Option<u32>
-    requires least { 1 ≤ teams }
-    requires most { teams ≤ max_teams }
+    requires { teams ≤ max_teams }
     ensures value { result ≡ window_member teams (view rule.now) }
     ensures least { IfSome result (λ window. 1 ≤ window) }
     ensures most { IfSome result (λ window. window ≤ round_count teams) }
 {
-    let rounds = 2 * (teams - 1);
+    let rounds = 2 * teams.saturating_sub(1);
     let number = number_within(rule.get("intp")?, 1, rounds.into())?;
     Some(number as u32)
 }

@@ -6,7 +6,7 @@ use Rattle.std.proofs.Math.Nat.{eq-or-lt_of_le}
 use Rattle.std.proofs.Math.Seq.{take-append_seam}
 use Rattle.std.specs.List.{slice_split, position_or_len}
 use Rattle.std.specs.Option.{unwrap_or}
-use Rattle.std.specs.Str.Lines.{lines, strip_carriage_return}
+use Rattle.std.specs.Str.Lines.{strip_carriage_return}
 use Rattle.std.proofs.lemmas.Bool.{cases_Bool}
 use Rattle.std.proofs.lemmas.Bool.Decides.{nat_tests}
 use Rattle.std.proofs.lemmas.List.{take_all, drop_all, length-take-le}
@@ -17,10 +17,10 @@ use Rattle.std.specs.Str.{bytes_eq}
 use Rattle.texts.specs.Input.{TakesLine, is_line_end, lines_after, text_before}
 use Rattle.texts.specs.Words.{is_blank, is_word, words_of}
 
--- the place that was found, or the length
-pub place_or_length : {X : Type 0} (p : X → Bool) (xs : List X) (r : Option ℕ)
+-- the index that was found, or the length
+pub index_or_length : {X : Type 0} (p : X → Bool) (xs : List X) (r : Option ℕ)
     → r ≡ cond (ltb (position_or_len p xs) (length xs)) (Some (position_or_len p xs)) None → unwrap_or r (length xs) ≡ position_or_len p xs
-place_or_length p xs r e = rw e (grind (arith, nat_tests, prefix_len-le-length (λ x. not (p x)) xs))
+index_or_length p xs r e = rw e (grind (arith, nat_tests, prefix_len-le-length (λ x. not (p x)) xs))
 
 -- the first part of a list that has one
 first_part : {X : Type 0} (parts : List X) → 0 < length parts → (part : X) × (more : List X) × (parts ≡ part ∷ more)

@@ -85,17 +85,17 @@ line_ended change.Undo = refl
 
 -- ---- the lines of a history
 
-plain_place : (n : ℕ) → n < 255 → IsPlain (decimal (n + 1))
-plain_place n small = IsPlain-decimal (n + 1) (omega arith)
+plain_index : (n : ℕ) → n < 255 → IsPlain (decimal (n + 1))
+plain_index n small = IsPlain-decimal (n + 1) (omega arith)
 
 two_high : (word : List ℕ) (a b : ℕ) → IsPlain word → a < 255 → b < 255 → AllFrom 32 (bare_two word a b)
 two_high word a b plain small_a small_b =
-    AllFrom-with_two word (decimal (a + 1)) (decimal (b + 1)) plain (plain_place a small_a) (plain_place b small_b)
+    AllFrom-with_two word (decimal (a + 1)) (decimal (b + 1)) plain (plain_index a small_a) (plain_index b small_b)
 
 three_high : (word : List ℕ) (a b c : ℕ) → IsPlain word → a < 255 → b < 255 → c < 255 → AllFrom 32 (bare_three word a b c)
 three_high word a b c plain small_a small_b small_c =
-    AllFrom-with_three word (decimal (a + 1)) (decimal (b + 1)) (decimal (c + 1)) plain (plain_place a small_a) (plain_place b small_b)
-    (plain_place c small_c)
+    AllFrom-with_three word (decimal (a + 1)) (decimal (b + 1)) (decimal (c + 1)) plain (plain_index a small_a) (plain_index b small_b)
+    (plain_index c small_c)
 
 -- each keyword is one word
 
@@ -184,15 +184,15 @@ abbrev ReadsThree : List ℕ → (ℕ → ℕ → ℕ → Change) → Type 0
 ReadsThree word f = (arguments : List (List ℕ)) (x y z : ℕ) → numbers_of arguments ≡ Some (x ∷ y ∷ z ∷ []) →
     line_of_words (word ∷ arguments) ≡ Asks (f (index_of x) (index_of y) (index_of z))
 
-place_read : (n : ℕ) → n < 255 → number_of (decimal (n + 1)) ≡ Some (n + 1)
-place_read n small = number_of-decimal (n + 1) (omega arith)
+index_read : (n : ℕ) → n < 255 → number_of (decimal (n + 1)) ≡ Some (n + 1)
+index_read n small = number_of-decimal (n + 1) (omega arith)
 
 two_read : (word : List ℕ) (f : ℕ → ℕ → Change) (a b : ℕ) → IsPlain word → ReadsTwo word f → (a < 255) × (b < 255) →
     line_of (bare_two word a b) ≡ Asks (f a b)
 two_read word f a b plain reads small =
     let numbers : numbers_of (decimal (a + 1) ∷ decimal (b + 1) ∷ []) ≡ Some ((a + 1) ∷ (b + 1) ∷ []) =
-    rw (place_read a small.0, place_read b small.1) refl in
-    ap line_of_words (words_with_two word (decimal (a + 1)) (decimal (b + 1)) plain (plain_place a small.0) (plain_place b small.1)) ∙
+    rw (index_read a small.0, index_read b small.1) refl in
+    ap line_of_words (words_with_two word (decimal (a + 1)) (decimal (b + 1)) plain (plain_index a small.0) (plain_index b small.1)) ∙
     reads (decimal (a + 1) ∷ decimal (b + 1) ∷ []) (a + 1) (b + 1) numbers ∙
     ap (λ x. Asks (f x (index_of (b + 1)))) (index_of-more a small.0) ∙
     ap (λ y. Asks (f a y)) (index_of-more b small.1)
@@ -201,9 +201,9 @@ three_read : (word : List ℕ) (f : ℕ → ℕ → ℕ → Change) (a b c : ℕ
     → line_of (bare_three word a b c) ≡ Asks (f a b c)
 three_read word f a b c plain reads small =
     let numbers : numbers_of (decimal (a + 1) ∷ decimal (b + 1) ∷ decimal (c + 1) ∷ []) ≡ Some ((a + 1) ∷ (b + 1) ∷ (c + 1) ∷ []) =
-    rw (place_read a small.0, place_read b small.1, place_read c small.2) refl in
-    ap line_of_words (words_with_three word (decimal (a + 1)) (decimal (b + 1)) (decimal (c + 1)) plain (plain_place a small.0)
-    (plain_place b small.1) (plain_place c small.2)) ∙
+    rw (index_read a small.0, index_read b small.1, index_read c small.2) refl in
+    ap line_of_words (words_with_three word (decimal (a + 1)) (decimal (b + 1)) (decimal (c + 1)) plain (plain_index a small.0)
+    (plain_index b small.1) (plain_index c small.2)) ∙
     reads (decimal (a + 1) ∷ decimal (b + 1) ∷ decimal (c + 1) ∷ []) (a + 1) (b + 1) (c + 1) numbers ∙
     ap (λ x. Asks (f x (index_of (b + 1)) (index_of (c + 1)))) (index_of-more a small.0) ∙
     ap (λ y. Asks (f a y (index_of (c + 1)))) (index_of-more b small.1) ∙
@@ -211,17 +211,17 @@ three_read word f a b c plain reads small =
 
 move_read : (mv : Move) → IsSmallMove mv → line_of (bare_move mv) ≡ Asks (change.Shift mv)
 move_read (Homes i j) small = two_read (codes "homes") (λ a b. change.Shift (Homes a b)) i j homes
-    (λ arguments x y is. ap (command_with key.Homes) is) small
+    (λ arguments x y is. ap (command_with (Some key.Homes)) is) small
 move_read (Rounds k l) small = two_read (codes "rounds") (λ a b. change.Shift (Rounds a b)) k l rounds
-    (λ arguments x y is. ap (command_with key.Rounds) is) small
+    (λ arguments x y is. ap (command_with (Some key.Rounds)) is) small
 move_read (Teams i j) small = two_read (codes "teams") (λ a b. change.Shift (Teams a b)) i j teams
-    (λ arguments x y is. ap (command_with key.Teams) is) small
+    (λ arguments x y is. ap (command_with (Some key.Teams)) is) small
 move_read (PartRounds i k l) small =
     three_read (codes "part-rounds") (λ a b c. change.Shift (PartRounds a b c)) i k l part_rounds
-    (λ arguments x y z is. ap (command_with key.PartRounds) is) small
+    (λ arguments x y z is. ap (command_with (Some key.PartRounds)) is) small
 move_read (PartTeams i j k) small =
     three_read (codes "part-teams") (λ a b c. change.Shift (PartTeams a b c)) i j k part_teams
-    (λ arguments x y z is. ap (command_with key.PartTeams) is) small
+    (λ arguments x y z is. ap (command_with (Some key.PartTeams)) is) small
 
 abbrev game_at : ℕ → ℕ → ℕ → Game
 game_at r h a = record { round = r; home = h; away = a }
@@ -230,8 +230,8 @@ pub line_read : (c : Change) → IsSmall c → line_of (bare_line c) ≡ Asks c
 line_read (change.Shift mv) small = move_read mv small
 line_read (change.Pin game) small =
     three_read (codes "pin") (λ r h a. change.Pin (game_at r h a)) game.round game.home game.away pin
-    (λ arguments x y z is. ap (command_with key.Pin) is) small
+    (λ arguments x y z is. ap (command_with (Some key.Pin)) is) small
 line_read (change.Unpin game) small =
     three_read (codes "unpin") (λ r h a. change.Unpin (game_at r h a)) game.round game.home game.away unpin
-    (λ arguments x y z is. ap (command_with key.Unpin) is) small
+    (λ arguments x y z is. ap (command_with (Some key.Unpin)) is) small
 line_read change.Undo small = refl

@@ -21,18 +21,18 @@ abbrev pub numbers_of : List (List ℕ) → Option (List ℕ)
 numbers_of [] = Some []
 numbers_of (word ∷ words) = one_more (number_of word) (numbers_of words)
 
-abbrev pub keyword_of : List ℕ → Keyword
+abbrev pub keyword_of : List ℕ → Option Keyword
 keyword_of word =
-    if bytes_eq word (codes "homes") then key.Homes
-    else if bytes_eq word (codes "rounds") then key.Rounds
-    else if bytes_eq word (codes "teams") then key.Teams
-    else if bytes_eq word (codes "part-rounds") then key.PartRounds
-    else if bytes_eq word (codes "part-teams") then key.PartTeams
-    else if bytes_eq word (codes "pin") then key.Pin
-    else if bytes_eq word (codes "unpin") then key.Unpin
-    else if bytes_eq word (codes "undo") then key.Undo
-    else if bytes_eq word (codes "slack") then key.Slack
-    else key.Unknown
+    if bytes_eq word (codes "homes") then Some key.Homes
+    else if bytes_eq word (codes "rounds") then Some key.Rounds
+    else if bytes_eq word (codes "teams") then Some key.Teams
+    else if bytes_eq word (codes "part-rounds") then Some key.PartRounds
+    else if bytes_eq word (codes "part-teams") then Some key.PartTeams
+    else if bytes_eq word (codes "pin") then Some key.Pin
+    else if bytes_eq word (codes "unpin") then Some key.Unpin
+    else if bytes_eq word (codes "undo") then Some key.Undo
+    else if bytes_eq word (codes "slack") then Some key.Slack
+    else None
 
 -- the game of a round, home team and away team
 abbrev pub game_of : ℕ → ℕ → ℕ → Game
@@ -53,10 +53,11 @@ command_of key.Undo [] = Asks change.Undo
 command_of key.Slack (s ∷ []) = Slack s
 command_of _ _ = Bad
 
--- words that aren't all numbers are no command's
-abbrev pub command_with : Keyword → Option (List ℕ) → ScriptLine
-command_with keyword (Some numbers) = command_of keyword numbers
-command_with keyword None = Bad
+-- a command begins with a keyword, and its other words are numbers
+abbrev pub command_with : Option Keyword → Option (List ℕ) → ScriptLine
+command_with (Some keyword) (Some numbers) = command_of keyword numbers
+command_with (Some keyword) None = Bad
+command_with None numbers = Bad
 
 -- a line with no words, or whose first begins with `#`, says nothing
 abbrev pub line_of_words : List (List ℕ) → ScriptLine

@@ -36,24 +36,10 @@ pub fn play_script<W: Sink>(
         (played board.old.league board.old.room (lines script.now))) }
 {
     let mut out = BufferedSink::new(sink);
-    write_play(&mut out, board, script)?;
+    write_start(&mut out, board.cost())?;
+    write_answers(&mut out, board, script)?;
+    write_closing(&mut out, board)?;
     out.flush()
-}
-
-fn write_play<W: Sink>(
-    out: &mut BufferedSink<'_, W>,
-    board: &mut Board,
-    script: &[u8],
-) -> Result<(), WriteFault>
-    requires { board.old.history ≡ [] }
-    ensures writes { Writes W.held W.tally out.old out.new result
-        (play_text board.old.league board.old.room (lines script.now)) }
-    ensures board { OnOk result (board.new ≡ book board.old.league board.old.room
-        (played board.old.league board.old.room (lines script.now))) }
-{
-    write_start(out, board.cost())?;
-    write_answers(out, board, script)?;
-    write_closing(out, board)
 }
 
 fn write_start<W: Sink>(out: &mut BufferedSink<'_, W>, cost: Cost) -> Result<(), WriteFault>

@@ -24,7 +24,7 @@ pub enum ScriptLine {
     Bad,
 }
 
-/// The first word of a line.
+/// The first word of a command.
 #[derive(Clone, Copy, Debug, PartialEq, Eq)]
 enum Keyword {
     Homes,
@@ -36,33 +36,32 @@ enum Keyword {
     Unpin,
     Undo,
     Slack,
-    Unknown,
 }
 
 impl Keyword {
-    fn of_word(word: &[u8]) -> Keyword
+    fn of_word(word: &[u8]) -> Option<Keyword>
         ensures { result ≡ keyword_of word.now }
     {
         if word == b"homes".as_slice() {
-            Keyword::Homes
+            Some(Keyword::Homes)
         } else if word == b"rounds".as_slice() {
-            Keyword::Rounds
+            Some(Keyword::Rounds)
         } else if word == b"teams".as_slice() {
-            Keyword::Teams
+            Some(Keyword::Teams)
         } else if word == b"part-rounds".as_slice() {
-            Keyword::PartRounds
+            Some(Keyword::PartRounds)
         } else if word == b"part-teams".as_slice() {
-            Keyword::PartTeams
+            Some(Keyword::PartTeams)
         } else if word == b"pin".as_slice() {
-            Keyword::Pin
+            Some(Keyword::Pin)
         } else if word == b"unpin".as_slice() {
-            Keyword::Unpin
+            Some(Keyword::Unpin)
         } else if word == b"undo".as_slice() {
-            Keyword::Undo
+            Some(Keyword::Undo)
         } else if word == b"slack".as_slice() {
-            Keyword::Slack
+            Some(Keyword::Slack)
         } else {
-            Keyword::Unknown
+            None
         }
     }
 }
@@ -78,10 +77,10 @@ pub fn parse_line(line: &[u8]) -> ScriptLine
     if word[0] == b'#' {
         return ScriptLine::Skip;
     }
-    match numbers(rest) {
-        Some(numbers) => command(Keyword::of_word(word), numbers.as_slice()),
-        None => ScriptLine::Bad,
-    }
+    let (Some(keyword), Some(numbers)) = (Keyword::of_word(word), numbers(rest)) else {
+        return ScriptLine::Bad;
+    };
+    command(keyword, numbers.as_slice())
 }
 
 fn command(keyword: Keyword, numbers: &[u64]) -> ScriptLine

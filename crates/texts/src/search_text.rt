@@ -6,7 +6,7 @@ ghost use Rattle.league.specs.League.{teams};
 ghost use Rattle.streams.specs.Writing.{Writes};
 ghost use Rattle.fixture_board.specs.History.{best_prefix};
 ghost use Rattle.texts.specs.SearchText.{best_sheet, found_text, games_at_best, plan_line, worker_line};
-ghost use Rattle.texts.specs.SearchText.{clear_line, least_text, progress_line, reached_text};
+ghost use Rattle.texts.specs.SearchText.{clear_line, least_text, progress_line};
 
 use crate::history::write_history;
 use crate::lines::{write_counted, write_numbered};
@@ -65,18 +65,6 @@ pub fn write_progress<W: Sink>(
     ensures { Writes W.held W.tally out.old out.new result (progress_line steps all version least) }
 {
     write_clear(out)?;
-    write_reached(out, steps, all, version, least)
-}
-
-fn write_reached<W: Sink>(
-    out: &mut BufferedSink<'_, W>,
-    steps: u64,
-    all: u64,
-    version: u64,
-    least: Option<u64>,
-) -> Result<(), WriteFault>
-    ensures { Writes W.held W.tally out.old out.new result (reached_text steps all version least) }
-{
     write_counted(out, b"steps ", steps)?;
     write_counted(out, b" of ", all)?;
     write_counted(out, b" version ", version)?;

@@ -21,44 +21,8 @@ loop-rest-preserved-in-Moved g c =
       none_failed = rw counted (empty_moved c.in-Moved.n _ _ _ c.if-n-eq0.false i.none_failed);
     }
 
-pub returns-in-Failed-clause-ok : goal.returns-in-Failed-clause-ok
-returns-in-Failed-clause-ok g c = search rules
+pub returns-in-Failed : goal.returns-in-Failed
+returns-in-Failed g c = search rules
 
-pub returns-in-Failed-clause-prefix : goal.returns-in-Failed-clause-prefix
-returns-in-Failed-clause-prefix g c = search rules
-
-pub returns-in-Failed-clause-cause : goal.returns-in-Failed-clause-cause
-returns-in-Failed-clause-cause g c = search rules
-
-pub returns-in-Failed-clause-counts : goal.returns-in-Failed-clause-counts
-returns-in-Failed-clause-counts g c = search rules
-
-pub returns-in-Failed-clause-calls : goal.returns-in-Failed-clause-calls
-returns-in-Failed-clause-calls g c = search rules
-
-pub returns-in-Failed-clause-at_once : goal.returns-in-Failed-clause-at_once
-returns-in-Failed-clause-at_once g c = search rules
-
-pub returns-in-Failed-clause-none_failed : goal.returns-in-Failed-clause-none_failed
-returns-in-Failed-clause-none_failed g c = search rules
-
-pub returns-clause-ok : goal.returns-clause-ok
-returns-clause-ok g c = grind (arith, common_steps)
-
-pub returns-clause-prefix : goal.returns-clause-prefix
-returns-clause-prefix g c = search rules
-
-pub returns-clause-cause : goal.returns-clause-cause
-returns-clause-cause g c = search rules
-
-pub returns-clause-counts : goal.returns-clause-counts
-returns-clause-counts g c = search rules
-
-pub returns-clause-calls : goal.returns-clause-calls
-returns-clause-calls g c = search rules
-
-pub returns-clause-at_once : goal.returns-clause-at_once
-returns-clause-at_once g c = search rules
-
-pub returns-clause-none_failed : goal.returns-clause-none_failed
-returns-clause-none_failed g c = search rules
+pub returns : goal.returns
+returns g c = grind (arith, common_steps)

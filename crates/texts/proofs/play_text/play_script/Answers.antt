@@ -1,34 +1,47 @@
 use Rattle.std.proofs.lemmas.Grind.{common_steps}
-use Rattle.std.proofs.Common.{arith, rules}
-use Rattle.streams.proofs.Pieces.{Adds-delivers, Stops-delivers}
+use Rattle.std.proofs.Common.{arith}
+use Rattle.std.specs.Str.Lines.{lines}
+use Rattle.streams.proofs.Pieces.{Adds-delivers, Adds-stops, Adds-then, Stops-delivers, Stops-more}
+use Rattle.texts.specs.PlayText.{answers, closing_text, play_text, played}
 use Rattle.texts.proofs.Parts.{prefix_at}
 use Rattle.texts.proofs.play_text.play_script.Goals as goal
 
-pub returns-in_err-write_play-clause-prefix : goal.returns-in_err-write_play-clause-prefix
-returns-in_err-write_play-clause-prefix g c =
+pub returns-in_err-write_start-clause-prefix : goal.returns-in_err-write_start-clause-prefix
+unfolding play_text
+returns-in_err-write_start-clause-prefix g c =
+    let b = c.args.board.now in let script = lines c.args.script.now in
+    let stopped = Stops-more (closing_text b.league (played b.league b.room script))
+    (Stops-more (answers b.league b.room script) (rw (c.cost.ensures.value, c.requires) at c.in_err-write_start.ensures.err)) in
+    prefix_at g.W.Sink.held _ _ _ _ _ (Stops-delivers c.new-out.ensures c.from_residual.ensures.0 stopped).prefix (grind arith)
+
+pub returns-in_err-write_answers-clause-prefix : goal.returns-in_err-write_answers-clause-prefix
+unfolding play_text
+returns-in_err-write_answers-clause-prefix g c =
+    let b = c.args.board.now in
+    let stopped = Stops-more (closing_text b.league (played b.league b.room (lines c.args.script.now)))
+    (Adds-stops (rw (c.cost.ensures.value, c.requires) at c.in_ok-write_start.ensures.ok) c.in_err-write_answers.ensures.writes.err) in
     prefix_at g.W.Sink.held _ _ _ _ _
-    (Stops-delivers c.new-out.ensures c.from_residual.ensures.0 c.in_err-write_play.ensures.writes.err).prefix (grind arith)
+    (Stops-delivers c.new-out.ensures c.from_residual-in_err-write_answers.ensures.0 stopped).prefix (grind arith)
 
-pub returns-clause-prefix : goal.returns-clause-prefix
-returns-clause-prefix g c =
+pub returns-in_err-write_closing-clause-prefix : goal.returns-in_err-write_closing-clause-prefix
+unfolding play_text
+returns-in_err-write_closing-clause-prefix g c =
+    let stopped = Adds-stops
+    (Adds-then (rw (c.cost.ensures.value, c.requires) at c.in_ok-write_start.ensures.ok) c.in_ok-write_answers.ensures.writes.ok)
+    (rw c.in_ok-write_answers.ensures.board at c.in_err-write_closing.ensures.err) in
     prefix_at g.W.Sink.held _ _ _ _ _
-    (Adds-delivers c.new-out.ensures c.in_ok-write_play.ensures.writes.ok c.flush.ensures.writes c.flush.ensures.waiting).prefix
-    (grind arith)
+    (Stops-delivers c.new-out.ensures c.from_residual-in_err-write_closing.ensures.0 stopped).prefix (grind arith)
 
-pub returns-in_err-write_play-clause-ok : goal.returns-in_err-write_play-clause-ok
-returns-in_err-write_play-clause-ok g c = search rules
-
-pub returns-in_err-write_play-clause-cause : goal.returns-in_err-write_play-clause-cause
-returns-in_err-write_play-clause-cause g c = search rules
-
-pub returns-in_err-write_play-clause-board : goal.returns-in_err-write_play-clause-board
-returns-in_err-write_play-clause-board g c = search rules
-
-pub returns-clause-ok : goal.returns-clause-ok
-returns-clause-ok g c = grind (arith, common_steps)
-
-pub returns-clause-cause : goal.returns-clause-cause
-returns-clause-cause g c = search rules
-
-pub returns-clause-board : goal.returns-clause-board
-returns-clause-board g c = search rules
+pub returns : goal.returns
+unfolding play_text
+returns g c =
+    let added = Adds-then
+    (Adds-then (rw (c.cost.ensures.value, c.requires) at c.in_ok-write_start.ensures.ok) c.in_ok-write_answers.ensures.writes.ok)
+    (rw c.in_ok-write_answers.ensures.board at c.in_ok-write_closing.ensures.ok) in
+    let delivered = Adds-delivers c.new-out.ensures added c.flush.ensures.writes c.flush.ensures.waiting in
+    record {
+      ok = grind (arith, common_steps, delivered.ok);
+      prefix = prefix_at g.W.Sink.held _ _ _ _ _ delivered.prefix (grind arith);
+      cause = grind (arith, common_steps, delivered.cause);
+      board = grind (arith, common_steps);
+    }

@@ -8,8 +8,5 @@ returns-in_default c = search rules
 pub returns-then-word-eq35 : goal.returns-then-word-eq35
 returns-then-word-eq35 c = search rules
 
-pub returns-in-Some-numbers : goal.returns-in-Some-numbers
-returns-in-Some-numbers c = grind (arith, common_steps)
-
-pub returns-in-None : goal.returns-in-None
-returns-in-None c = search rules
+pub returns : goal.returns
+returns c = grind (arith, common_steps)

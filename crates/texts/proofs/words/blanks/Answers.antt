@@ -2,12 +2,12 @@ use Rattle.std.proofs.Common.{◌∙◌, not, rules, tests}
 use Rattle.std.proofs.lemmas.Iterator.{YieldsList-from_slice}
 use Rattle.std.proofs.lemmas.Iterator.Search.{position_from_yields_List}
 use Rattle.texts.specs.Words.{is_blank}
-use Rattle.texts.proofs.Splitting.{place_or_length}
+use Rattle.texts.proofs.Splitting.{index_or_length}
 use Rattle.texts.proofs.words.blanks.Goals as goal
 
 pub returns : goal.returns
 returns c =
     let xs = c.args.line.now in
-    c.unwrap_or.ensures ∙ place_or_length (λ b. not (is_blank b)) xs _
+    c.unwrap_or.ensures ∙ index_or_length (λ b. not (is_blank b)) xs _
     (position_from_yields_List (λ b. not (is_blank b)) _ _ _ c.position.ensures.ran (YieldsList-from_slice xs cc)
     (λ x b q k. search (rules, tests)))

@@ -20,8 +20,5 @@ returns-then-length-eq0-clause-members c = λ s. rw (c.empty.ensures.members s, 
 pub returns-then-length-eq0-clause-below : goal.returns-then-length-eq0-clause-below
 returns-then-length-eq0-clause-below c = search rules
 
-pub returns-clause-members : goal.returns-clause-members
-returns-clause-members c = search rules
-
-pub returns-clause-below : goal.returns-clause-below
-returns-clause-below c = search rules
+pub returns : goal.returns
+returns c = search rules

@@ -12,8 +12,5 @@ loop-preserved c = record {
   below = λ m below. IsBelow_common m c.loop.starts _ (c.loop.invariant.below m below);
 }
 
-pub returns-clause-members : goal.returns-clause-members
-returns-clause-members c = search rules
-
-pub returns-clause-below : goal.returns-clause-below
-returns-clause-below c = search rules
+pub returns : goal.returns
+returns c = search rules

@@ -3,8 +3,5 @@ use Rattle.std.proofs.lemmas.Grind.{common_steps}
 use Rattle.sets.proofs.SetWords.{slots_of_either}
 use Rattle.sets.proofs.slots.SlotSet.union.Goals as goal
 
-pub returns-clause-members : goal.returns-clause-members
-returns-clause-members c = grind (arith, common_steps, slots_of_either)
-
-pub returns-clause-below : goal.returns-clause-below
-returns-clause-below c = grind (arith, common_steps, slots_of_either)
+pub returns : goal.returns
+returns c = grind (arith, common_steps, slots_of_either)

@@ -18,11 +18,8 @@ returns-clause-steps c =
     ] in
     rw left.2 (earliest_taken now.low now.high now.base left.0 left.1)
 
-pub returns-then-self-eq0-2-clause-steps : goal.returns-then-self-eq0-2-clause-steps
-returns-then-self-eq0-2-clause-steps c = search rules
-
-pub returns-then-self-eq0-2-clause-goes : goal.returns-then-self-eq0-2-clause-goes
-returns-then-self-eq0-2-clause-goes c = search rules
+pub returns-then-self-eq0-2 : goal.returns-then-self-eq0-2
+returns-then-self-eq0-2 c = search rules
 
 pub returns-clause-goes : goal.returns-clause-goes
 returns-clause-goes c = search rules

@@ -1,11 +1,5 @@
 use Rattle.std.proofs.Common.{rules}
 use Rattle.sets.proofs.teams.TeamSet.empty.Goals as goal
 
-pub returns-clause-value : goal.returns-clause-value
-returns-clause-value c = search rules
-
-pub returns-clause-members : goal.returns-clause-members
-returns-clause-members c = search rules
-
-pub returns-clause-below : goal.returns-clause-below
-returns-clause-below c = search rules
+pub returns : goal.returns
+returns c = search rules

@@ -10,11 +10,8 @@ returns-clause-steps c =
     let fits = IsBelow_more max_teams 64 c.self.inside.left (omega arith) c.self.invariant in
     rw (← c.self.view_is) (lowest_taken w64 c.self.inside.left (omega arith) fits)
 
-pub returns-then-self-eq0-clause-steps : goal.returns-then-self-eq0-clause-steps
-returns-then-self-eq0-clause-steps c = search rules
-
-pub returns-then-self-eq0-clause-goes : goal.returns-then-self-eq0-clause-goes
-returns-then-self-eq0-clause-goes c = search rules
+pub returns-then-self-eq0 : goal.returns-then-self-eq0
+returns-then-self-eq0 c = search rules
 
 pub returns-clause-goes : goal.returns-clause-goes
 returns-clause-goes c = search rules

@@ -16,20 +16,14 @@ returns-clause-writes g c =
     rw kept (Adds-writes (rw same at (c.in_ok-flush.ensures).writes.ok)
     (Writes-passed _ _ _ _ refl none none e.ok e.prefix e.cause e.counts))
 
-pub returns-then-is_ok-clause-waits : goal.returns-then-is_ok-clause-waits
-returns-then-is_ok-clause-waits g c = search rules
-
-pub returns-then-is_ok-clause-writes : goal.returns-then-is_ok-clause-writes
-returns-then-is_ok-clause-writes g c = search rules
+pub returns-then-is_ok : goal.returns-then-is_ok
+returns-then-is_ok g c = search rules
 
 pub returns-in_err-flush-clause-waits : goal.returns-in_err-flush-clause-waits
 returns-in_err-flush-clause-waits g c = search rules
 
-pub returns-then-is_ok-2-clause-waits : goal.returns-then-is_ok-2-clause-waits
-returns-then-is_ok-2-clause-waits g c = search rules
-
-pub returns-then-is_ok-2-clause-writes : goal.returns-then-is_ok-2-clause-writes
-returns-then-is_ok-2-clause-writes g c = search rules
+pub returns-then-is_ok-2 : goal.returns-then-is_ok-2
+returns-then-is_ok-2 g c = search rules
 
 pub returns-clause-waits : goal.returns-clause-waits
 returns-clause-waits g c = search rules

@@ -1,8 +1,5 @@
 use Rattle.std.proofs.Common.{rules}
 use Rattle.streams.proofs.writer_sink.WriterSink.new.Goals as goal
 
-pub returns-clause-held : goal.returns-clause-held
-returns-clause-held g c = search rules
-
-pub returns-clause-tally : goal.returns-clause-tally
-returns-clause-tally g c = search rules
+pub returns : goal.returns
+returns g c = search rules
