@@ -153,3 +153,28 @@ sum_of_counts_swap m n rows columns test =
     count_where_same m (λ i. rows i && (columns j && test i j)) (λ i. columns j && (rows i && test i j))
     (λ i i_below. exchanged (rows i) (columns j) (test i j)) ∙
     sym (if_count (columns j) m (λ i. rows i && test i j)))
+
+-- a sum by rows or by columns
+
+if_sum : (b : Bool) (n : ℕ) (f : ℕ → ℕ) → (if b then sum_below n f else 0) ≡ sum_below n (λ k. if b then f k else 0)
+if_sum true n f = refl
+if_sum false n f = sym (sum_below_zero n (λ k. if false then f k else 0) (λ k below. refl))
+
+if_exchanged : (a b : Bool) (x : ℕ) → (if a then (if b then x else 0) else 0) ≡ (if b then (if a then x else 0) else 0)
+if_exchanged true b x = refl
+if_exchanged false true x = refl
+if_exchanged false false x = refl
+
+pub sum_where_swap : (m n : ℕ) (rows columns : ℕ → Bool) (f : ℕ → ℕ → ℕ) →
+    sum_where m rows (λ i. sum_where n columns (λ j. f i j)) ≡ sum_where n columns (λ j. sum_where m rows (λ i. f i j))
+sum_where_swap m n rows columns f =
+    sum_below_same m (λ i. if rows i then sum_where n columns (f i) else 0)
+    (λ i. sum_below n (λ j. if rows i then (if columns j then f i j else 0) else 0))
+    (λ i below. if_sum (rows i) n (λ j. if columns j then f i j else 0)) ∙
+    sum_below_swap m n (λ i j. if rows i then (if columns j then f i j else 0) else 0) ∙
+    sum_below_same n (λ j. sum_below m (λ i. if rows i then (if columns j then f i j else 0) else 0))
+    (λ j. if columns j then sum_where m rows (λ i. f i j) else 0)
+    (λ j j_below.
+    sum_below_same m (λ i. if rows i then (if columns j then f i j else 0) else 0)
+    (λ i. if columns j then (if rows i then f i j else 0) else 0) (λ i below. if_exchanged (rows i) (columns j) (f i j)) ∙
+    sym (if_sum (columns j) m (λ i. if rows i then f i j else 0)))

@@ -59,21 +59,6 @@ pub(crate) fn over_in_windows_of(
     }
 }
 
-/// All rounds of the windows that begin with one of the starts.
-pub(crate) fn rounds_of_windows(starts: SlotSet, rounds: u8, window: u8) -> SlotSet
-    requires season { rounds ≤ max_rounds }
-    requires least { 1 ≤ window }
-    requires starts { IsBelow (rounds + 1 - window) starts }
-    ensures members { (s k : ℕ) → has starts s ≡ true → k < window → has result (s + k) ≡ true }
-    ensures below { IsBelow rounds result }
-{
-    let mut reached = starts;
-    for _ in 1..window {
-        reached = reached.with_next_below(rounds);
-    }
-    reached
-}
-
 /// Windows by the rounds with which they begin.
 #[derive(Clone, Copy, Drop)]
 struct Windows {
