@@ -116,13 +116,17 @@ around_all g rr main rounds whole all left around teams so_far none_left wholes 
     here in_t (inl is_main) = so_far.main_in t is_main
     here in_t (inr guest) = is_found in_t guest
 
--- where all the teams are main teams
-pub all_main : (teams main both t : ℕ) (guest : Bool) → both ≡ teams → has both t ≡ (has teams t && has main t) →
-    has teams t ≡ (has teams t && (has main t || guest))
-all_main teams main both t guest same members =
-    at (has teams t) (has main t) (sym (ap (λ s. has s t) same) ∙ members)
+-- where all the teams are found
+pub all_around : (g : Games) (main rounds all left around teams both : ℕ) → HasAround g main rounds all left around → IsBelow g.teams teams →
+    both ≡ teams → ((t : ℕ) → has both t ≡ (has teams t && has around t)) → (t : ℕ) →
+    has teams t ≡ (has teams t && (has main t || is_guest g (has main) (has rounds) t))
+all_around g main rounds all left around teams both so_far below same members t = elim (cases_lt t g.teams) [
+  | inl in_t ↦ at (has teams t) (has around t) (sym (ap (λ s. has s t) same) ∙ members t) (so_far.only t in_t)
+  | inr past ↦ rw (has_beyond g.teams teams t below past) refl
+]
   where
-    at : (a b : Bool) → a ≡ (a && b) → a ≡ (a && (b || guest))
-    at true true is = refl
-    at true false is = absurd (false≢true (sym is))
-    at false b is = refl
+    at : (a b : Bool) → a ≡ (a && b) → (b ≡ true → (has main t || is_guest g (has main) (has rounds) t) ≡ true) →
+        a ≡ (a && (has main t || is_guest g (has main) (has rounds) t))
+    at true true is one = sym (one refl)
+    at true false is one = absurd (false≢true (sym is))
+    at false b is one = refl

@@ -53,42 +53,6 @@ pub byte_le : (b : Bool) → bool_byte b ≤ 1
 byte_le true = omega arith
 byte_le false = omega arith
 
--- a window moved on by one: one number comes, and one goes
-pub count_moved_on : (set first window : ℕ) →
-    count_where window (λ k. has set (first + 1 + k)) + (if has set first then 1 else 0) ≡
-    count_where window (λ k. has set (first + k)) + (if has set (first + window) then 1 else 0)
-count_moved_on set first window =
-    omega (
-      arith,
-      sum_below_more window (λ k. if has set (first + k) then 1 else 0),
-      longer,
-      ap {B = ℕ} (λ n. if has set n then 1 else 0) (add-zero first),
-      count_where_same window (λ k. has set (first + 1 + k)) (λ k. has set (first + (1 + k))) (λ k below. ap (has set) (omega arith)),
-    )
-  where
-    longer : sum_below (window + 1) (λ k. if has set (first + k) then 1 else 0) ≡
-        (if has set (first + 0) then 1 else 0) + count_where window (λ k. has set (first + (1 + k)))
-    longer =
-        let turned : window + 1 ≡ 1 + window = omega arith in
-        omega (
-          arith,
-          ap (λ n. sum_below n (λ k. if has set (first + k) then 1 else 0)) turned,
-          sum_below_append 1 window (λ k. if has set (first + k) then 1 else 0),
-          sum_below_more 0 (λ k. if has set (first + k) then 1 else 0),
-          sum_below_none (λ k. if has set (first + k) then 1 else 0),
-        )
-
--- the same as a loop has it
-pub count_next : (set first window count comes goes : ℕ) (in_next in_first : Bool) → in_next ≡ has set (first + window) →
-    in_first ≡ has set first → comes ≡ bool_byte in_next → goes ≡ bool_byte in_first →
-    count ≡ count_where window (λ k. has set (first + k)) →
-    count_where window (λ k. has set (first + 1 + k)) + goes ≡ count + comes
-count_next set first window count comes goes in_next in_first is_next is_first is_comes is_goes is =
-    let comes_is : comes ≡ (if has set (first + window) then 1 else 0) = is_comes ∙ byte_is in_next ∙
-    ap {B = ℕ} (λ b. if b then 1 else 0) is_next in
-    let goes_is : goes ≡ (if has set first then 1 else 0) = is_goes ∙ byte_is in_first ∙ ap {B = ℕ} (λ b. if b then 1 else 0) is_first in
-    omega (arith, count_moved_on set first window, comes_is, goes_is, is)
-
 -- those that pass a second test
 
 pub sum_of_both : (n : ℕ) (test other : ℕ → Bool) (f : ℕ → ℕ) →

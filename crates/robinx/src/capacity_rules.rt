@@ -6,7 +6,7 @@ ghost use Rattle.league.specs.Sets.{has, IsBelow};
 ghost use Rattle.league.specs.Sums.{sum_below, sum_where, count_where};
 ghost use Rattle.league.specs.declared.rule.RuleBody.TheVariants as RuleBody;
 ghost use Rattle.fixtures.specs.Games.{round_count, IsDoubleRoundRobin};
-ghost use Rattle.robinx.specs.Deviations.{over, games_in_round, over_in_windows, deviation};
+ghost use Rattle.robinx.specs.Deviations.{over, games_in_round, deviation};
 ghost use Rattle.robinx.specs.Parts.{over_in_met_windows, changing_terms};
 ghost use Rattle.robinx.specs.Walked.{over_from_starts};
 
@@ -18,7 +18,7 @@ use crate::counts::{
 use crate::guests::{Around, teams_otherwise};
 use crate::round_numbers::RoundNumbers;
 use crate::team_windows::over_in_rows;
-use crate::windows::{over_in_row, over_in_windows_of};
+use crate::windows::over_in_windows_of;
 use fixtures::Schedule;
 use league::{SlotSet, TeamSet};
 
@@ -51,30 +51,9 @@ pub(crate) fn ca3(schedule: &Schedule, games: &CountedGames, window: u32, most: 
     ensures { result ≡
         deviation schedule.now (RuleBody.Ca3 games.now.teams games.now.side games.now.opponents window most) }
 {
-    let mut total = 0;
-    for team in games.teams {
-        total += over_in_windows(schedule, games, window as u8, most, team);
-    }
-    total
-}
-
-/// The games of the team that count in each window of consecutive rounds, over the most.
-fn over_in_windows(
-    schedule: &Schedule,
-    games: &CountedGames,
-    window: u8,
-    most: u32,
-    team: u8,
-) -> u64
-    requires team { team < schedule.now.teams }
-    requires least { 1 ≤ window }
-    requires window { window ≤ round_count schedule.now.teams }
-    ensures value { result ≡ over_in_windows schedule.now games.now.side (has games.now.opponents) window most team }
-    ensures most { result ≤ max_rounds * max_rounds }
-{
-    let season = SlotSet::below(schedule.rounds());
-    let counted = counted_rounds(schedule, games, season, team);
-    over_in_row(counted, schedule.rounds(), window, most)
+    let length = window as u8;
+    let windows = schedule.rounds() + 1 - length;
+    over_by_teams(schedule, games, SlotSet::below(windows), length, most)
 }
 
 /// Those windows of `ca3` that have one of the rounds.

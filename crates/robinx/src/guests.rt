@@ -47,12 +47,12 @@ fn teams_around(schedule: &Schedule, main: TeamSet, rounds: SlotSet, teams: Team
         (has teams t && (has main t || is_guest schedule.now (has main) (has rounds) t)) }
     ensures below { IsBelow schedule.now.teams result }
 {
-    if teams.intersection(main) == teams {
-        return teams;
-    }
     let playing = TeamSet::below(schedule.teams()).intersection(main);
     let mut around = main;
     for team in playing {
+        if teams.intersection(around) == teams {
+            return teams;
+        }
         around = around.union(opponents_in(schedule, rounds, team));
     }
     teams.intersection(around)

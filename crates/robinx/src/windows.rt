@@ -11,27 +11,6 @@ use crate::counts::over;
 use league::SlotSet;
 use league::limits::MAX_ROUNDS;
 
-/// The rounds of the set in each window of consecutive rounds of a season, over the most.
-#[tactic(auto, using(league::proofs::ForCallers::sums))]
-pub(crate) fn over_in_row(set: SlotSet, rounds: u8, window: u8, most: u32) -> u64
-    requires least { 1 ≤ window }
-    requires window { window ≤ rounds }
-    requires season { rounds ≤ max_rounds }
-    ensures value { result ≡
-        sum_below (rounds + 1 - window) (λ first. over (count_where window (λ k. has set (first + k))) most) }
-    ensures most { result ≤ max_rounds * max_rounds }
-{
-    let mut count = rounds_in_window(set, 0, window);
-    let mut total = over(count, most);
-    for first in 0..rounds - window {
-        // the window moves on by a round: one comes, and one goes
-        count += u32::from(set.has(first + window));
-        count -= u32::from(set.has(first));
-        total += over(count, most);
-    }
-    total
-}
-
 /// The rounds of the set in each window that begins with one of the starts, over the most.
 pub(crate) fn over_in_windows_of(
     set: SlotSet,

@@ -2,13 +2,13 @@ use Rattle.std.proofs.Common.{ℕ, nat_lt, ◌∙◌, ap, subst, sym, arith}
 use Rattle.std.proofs.lemmas.Bool.{eqb-true}
 use Rattle.league.specs.Sets.{has, IsBelow}
 use Rattle.league.proofs.ForCallers.{lowest_below}
-use Rattle.robinx.proofs.AroundMain.{around_none, around_more, around_all, all_main}
+use Rattle.robinx.proofs.AroundMain.{around_none, around_more, around_all, all_around}
 use Rattle.robinx.proofs.guests.teams_around.Goals as goal
 
 pub returns-then-eq-clause-members : goal.returns-then-eq-clause-members
-returns-then-eq-clause-members c = λ t.
-    all_main c.args.teams c.args.main c.intersection.result t _ (eqb-true _ _ (sym c.eq.ensures ∙ c.if-eq.true))
-    (c.intersection.ensures.members t)
+returns-then-eq-clause-members c =
+    all_around c.args.schedule.now _ _ _ _ _ _ _ c.loop-team.invariant c.requires.teams (eqb-true _ _ (sym c.eq.ensures ∙ c.if-eq.true))
+    c.intersection.ensures.members
 
 pub loop-team-init : goal.loop-team-init
 loop-team-init c =
