@@ -5,13 +5,14 @@ use Rattle.std.specs.Bool.{beq}
 use Rattle.std.proofs.Math.Bool.{and-false}
 use Rattle.std.proofs.lemmas.Bool.{cases_eq, lt-ltb, ne_eqb}
 use Rattle.league.specs.Sets.{has}
-use Rattle.league.specs.Sums.{sum_below, sum_where, count_where, any_below}
+use Rattle.league.specs.Sums.{sum_where, count_where, any_below}
 use Rattle.league.specs.declared.rule.Side.{Side}
-use Rattle.league.proofs.ForCallers.{sum_below_same, sum_below_add, sum_where_same, count_where_same}
+use Rattle.league.proofs.ForCallers.{sum_below_same, sum_below_add, sum_where_same, sum_where_all, count_where_same}
 use Rattle.fixtures.specs.Games.{Games, round_count, cell, is_home}
 use Rattle.robinx.specs.Deviations.{over, is_on_side, is_counted, games_of_team, games_in_window, games_in_round, over_in_windows, is_break}
 use Rattle.robinx.specs.Deviations.{breaks}
 use Rattle.robinx.specs.Parts.{meets_window, over_in_met_windows}
+use Rattle.robinx.specs.Walked.{over_from_starts}
 use Rattle.robinx.proofs.Sets.{sum_of_counts_swap, count_after_first}
 
 -- a game on the side in a slot, against one of the opponents
@@ -71,17 +72,6 @@ module _ (g : Games) (side : Side) (opponents : ℕ → Bool) (window most t slo
           members r ∙ ap (λ b. nat_lt r (round_count g.teams) && (b && is_counted g side opponents t r)) here ∙
           ap (λ b. b && is_counted g side opponents t r) (lt-ltb r (round_count g.teams) in_r)
 
-  -- those of a season
-  pub windows_of_counted : ((r : ℕ) → has slots r ≡ nat_lt r (round_count g.teams)) →
-      sum_below (round_count g.teams + 1 - window) (λ first. over (count_where window (λ k. has counted (first + k))) most) ≡
-      over_in_windows g side opponents window most t
-  unfolding over_in_windows
-  windows_of_counted season =
-      sum_below_same (round_count g.teams + 1 - window) (λ first. over (count_where window (λ k. has counted (first + k))) most)
-      (λ first. over (games_in_window g side opponents window t first) most)
-      (λ first below. over_in_window first below
-      (λ k k_below. season (first + k) ∙ lt-ltb (first + k) (round_count g.teams) (omega arith)))
-
   -- those that begin with one of some starts
   pub starts_of_counted : (starts : ℕ) →
       ((s k : ℕ) → s < round_count g.teams + 1 - window → has starts s ≡ true → k < window → has slots (s + k) ≡ true) →
@@ -92,6 +82,16 @@ module _ (g : Games) (side : Side) (opponents : ℕ → Bool) (window most t slo
       (λ first. over (count_where window (λ k. has counted (first + k))) most)
       (λ first. over (games_in_window g side opponents window t first) most)
       (λ s below. refl) (λ s below passes. over_in_window s below (λ k. all s k below passes))
+
+-- all windows of a season
+pub all_windows : (g : Games) (side : Side) (opponents window most starts windows t : ℕ) → windows ≡ round_count g.teams + 1 - window →
+    ((s : ℕ) → has starts s ≡ nat_lt s windows) →
+    over_from_starts g side opponents window most starts t ≡ over_in_windows g side (has opponents) window most t
+unfolding over_in_windows
+all_windows g side opponents window most starts windows t size members =
+    sum_where_all (round_count g.teams + 1 - window) (has starts)
+    (λ first. over (games_in_window g side (has opponents) window t first) most)
+    (λ s below. members s ∙ lt-ltb s windows (omega (arith, size, below)))
 
 -- the windows that have a round of a set
 pub met_starts : (g : Games) (side : Side) (opponents rounds : ℕ → Bool) (window most t whole meeting starts windows : ℕ) →

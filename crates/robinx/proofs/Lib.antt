@@ -1,6 +1,6 @@
 mod AllTeams
+mod AroundMain
 mod CountedRounds
-mod Filters
 mod FullWindows
 pub mod ForCallers
 mod GameCounts

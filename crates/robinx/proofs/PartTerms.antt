@@ -6,7 +6,7 @@ use Rattle.league.specs.Sums.{sum_below, sum_where, sum_of_pairs, any_below}
 use Rattle.league.specs.declared.rule.RuleBody.TheVariants.{Ca1, Ca2, Ca3, Ca4, Br1}
 use Rattle.league.specs.declared.rule.Side.{Side}
 use Rattle.league.proofs.ForCallers.{sum_below_same, sum_below_zero, sum_where_same, any_below_same}
-use Rattle.fixtures.specs.Games.{Games, round_count, cell}
+use Rattle.fixtures.specs.Games.{Games, round_count}
 use Rattle.robinx.specs.Deviations.{over, games_in_round, deviation}
 use Rattle.robinx.specs.Touches.{has_touched_team}
 use Rattle.robinx.specs.LooksPast.{takes_all_or_none}
@@ -123,15 +123,6 @@ pub otherwise_around : (g : Games) (main rounds opponents teams t : ℕ) → tak
 unfolding meets_otherwise
 otherwise_around g main rounds opponents teams t some =
     ap (λ b. has teams t && (has main t || (not b && is_guest g (has main) (has rounds) t))) (sym some)
-
-pub guest_in_season : (g : Games) (main : ℕ → Bool) (all rounds both t : ℕ) → ((r : ℕ) → has all r ≡ nat_lt r (round_count g.teams)) →
-    ((r : ℕ) → has both r ≡ (has all r && has rounds r)) → is_guest g main (has both) t ≡ is_guest g main (has rounds) t
-unfolding is_guest
-guest_in_season g main all rounds both t is_all members =
-    any_below_same (round_count g.teams) (λ r. has both r && main (cell g t r).opponent) (λ r. has rounds r && main (cell g t r).opponent)
-    (λ r in_r.
-    ap (λ b. b && main (cell g t r).opponent)
-    (members r ∙ ap (λ b. b && has rounds r) (is_all r ∙ lt-ltb r (round_count g.teams) in_r)))
 
 -- the lower teams of pairs
 

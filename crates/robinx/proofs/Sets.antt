@@ -53,42 +53,6 @@ pub byte_le : (b : Bool) → bool_byte b ≤ 1
 byte_le true = omega arith
 byte_le false = omega arith
 
--- a window moved on by one: one number comes, and one goes
-pub count_moved_on : (set first window : ℕ) →
-    count_where window (λ k. has set (first + 1 + k)) + (if has set first then 1 else 0) ≡
-    count_where window (λ k. has set (first + k)) + (if has set (first + window) then 1 else 0)
-count_moved_on set first window =
-    omega (
-      arith,
-      sum_below_more window (λ k. if has set (first + k) then 1 else 0),
-      longer,
-      ap {B = ℕ} (λ n. if has set n then 1 else 0) (add-zero first),
-      count_where_same window (λ k. has set (first + 1 + k)) (λ k. has set (first + (1 + k))) (λ k below. ap (has set) (omega arith)),
-    )
-  where
-    longer : sum_below (window + 1) (λ k. if has set (first + k) then 1 else 0) ≡
-        (if has set (first + 0) then 1 else 0) + count_where window (λ k. has set (first + (1 + k)))
-    longer =
-        let turned : window + 1 ≡ 1 + window = omega arith in
-        omega (
-          arith,
-          ap (λ n. sum_below n (λ k. if has set (first + k) then 1 else 0)) turned,
-          sum_below_append 1 window (λ k. if has set (first + k) then 1 else 0),
-          sum_below_more 0 (λ k. if has set (first + k) then 1 else 0),
-          sum_below_none (λ k. if has set (first + k) then 1 else 0),
-        )
-
--- the same as a loop has it
-pub count_next : (set first window count comes goes : ℕ) (in_next in_first : Bool) → in_next ≡ has set (first + window) →
-    in_first ≡ has set first → comes ≡ bool_byte in_next → goes ≡ bool_byte in_first →
-    count ≡ count_where window (λ k. has set (first + k)) →
-    count_where window (λ k. has set (first + 1 + k)) + goes ≡ count + comes
-count_next set first window count comes goes in_next in_first is_next is_first is_comes is_goes is =
-    let comes_is : comes ≡ (if has set (first + window) then 1 else 0) = is_comes ∙ byte_is in_next ∙
-    ap {B = ℕ} (λ b. if b then 1 else 0) is_next in
-    let goes_is : goes ≡ (if has set first then 1 else 0) = is_goes ∙ byte_is in_first ∙ ap {B = ℕ} (λ b. if b then 1 else 0) is_first in
-    omega (arith, count_moved_on set first window, comes_is, goes_is, is)
-
 -- those that pass a second test
 
 pub sum_of_both : (n : ℕ) (test other : ℕ → Bool) (f : ℕ → ℕ) →
@@ -153,3 +117,28 @@ sum_of_counts_swap m n rows columns test =
     count_where_same m (λ i. rows i && (columns j && test i j)) (λ i. columns j && (rows i && test i j))
     (λ i i_below. exchanged (rows i) (columns j) (test i j)) ∙
     sym (if_count (columns j) m (λ i. rows i && test i j)))
+
+-- a sum by rows or by columns
+
+if_sum : (b : Bool) (n : ℕ) (f : ℕ → ℕ) → (if b then sum_below n f else 0) ≡ sum_below n (λ k. if b then f k else 0)
+if_sum true n f = refl
+if_sum false n f = sym (sum_below_zero n (λ k. if false then f k else 0) (λ k below. refl))
+
+if_exchanged : (a b : Bool) (x : ℕ) → (if a then (if b then x else 0) else 0) ≡ (if b then (if a then x else 0) else 0)
+if_exchanged true b x = refl
+if_exchanged false true x = refl
+if_exchanged false false x = refl
+
+pub sum_where_swap : (m n : ℕ) (rows columns : ℕ → Bool) (f : ℕ → ℕ → ℕ) →
+    sum_where m rows (λ i. sum_where n columns (λ j. f i j)) ≡ sum_where n columns (λ j. sum_where m rows (λ i. f i j))
+sum_where_swap m n rows columns f =
+    sum_below_same m (λ i. if rows i then sum_where n columns (f i) else 0)
+    (λ i. sum_below n (λ j. if rows i then (if columns j then f i j else 0) else 0))
+    (λ i below. if_sum (rows i) n (λ j. if columns j then f i j else 0)) ∙
+    sum_below_swap m n (λ i j. if rows i then (if columns j then f i j else 0) else 0) ∙
+    sum_below_same n (λ j. sum_below m (λ i. if rows i then (if columns j then f i j else 0) else 0))
+    (λ j. if columns j then sum_where m rows (λ i. f i j) else 0)
+    (λ j j_below.
+    sum_below_same m (λ i. if rows i then (if columns j then f i j else 0) else 0)
+    (λ i. if columns j then (if rows i then f i j else 0) else 0) (λ i below. if_exchanged (rows i) (columns j) (f i j)) ∙
+    sym (if_sum (columns j) m (λ i. if rows i then f i j else 0)))

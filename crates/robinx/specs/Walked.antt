@@ -1,12 +1,12 @@
 -- What private functions count on the way: words of theirs alone.
-use Rattle.std.specs.Prelude.{◌≡◌, ℕ, ◌+◌, ◌-◌, ◌*◌, Bool, if◌then◌else◌, ◌<◌, ◌&&◌, ◌||◌, not, nat_lt, min, List, [], length, slice_index, slice_index_or}
+use Rattle.std.specs.Prelude.{◌≡◌, ℕ, ◌+◌, ◌-◌, ◌*◌, Bool, true, if◌then◌else◌, ◌<◌, ◌&&◌, ◌||◌, not, nat_lt, min, List, [], length, slice_index, slice_index_or}
 use Rattle.std.specs.Int.{abs_diff}
 use Rattle.league.specs.Sets.{has}
-use Rattle.league.specs.Sums.{count_where}
+use Rattle.league.specs.Sums.{sum_where, count_where}
 use Rattle.league.specs.declared.rule.Side.{Side}
 use Rattle.league.specs.declared.rule.Side.TheVariants.{Home, Away, Any}
 use Rattle.fixtures.specs.Games.{Games, round_count}
-use Rattle.robinx.specs.Deviations.{home_games, largest_below}
+use Rattle.robinx.specs.Deviations.{over, is_counted, games_in_window, home_games, largest_below}
 use Rattle.robinx.specs.declared.round_numbers.RoundNumbers.{RoundNumbers}
 
 -- how many games of a team count in a season against so many opponents, one of which may be the team itself
@@ -18,6 +18,17 @@ season_games Any opponents own = 2 * (opponents - (if own then 1 else 0))
 -- how many rounds of a window, which begins with its first, aren't in a set
 abbrev pub lacks : ℕ → ℕ → ℕ → ℕ
 lacks set first window = count_where window (λ k. not (has set (first + k)))
+
+-- by how much the windows of a team that begin with one of the starts are over the most
+abbrev pub over_from_starts : Games → Side → ℕ → ℕ → ℕ → ℕ → ℕ → ℕ
+over_from_starts g side opponents window most starts team =
+    sum_where (round_count g.teams + 1 - window) (has starts)
+    (λ first. over (games_in_window g side (has opponents) window team first) most)
+
+-- each row, one for each round, has only teams whose games in it count
+abbrev pub HaveCounted : Games → Side → ℕ → List ℕ → Type 0
+HaveCounted g side opponents rows =
+    (t r : ℕ) → r < round_count g.teams → has (slice_index rows r) t ≡ true → is_counted g side (has opponents) t r ≡ true
 
 -- the places of a row, one for each round and some more
 abbrev pub row_places : ℕ

@@ -1,22 +1,24 @@
 //! Capacity rules: at most so many games of a side, against some opponents, in some rounds.
 
-ghost use Rattle.std.specs.Prelude.{◌≡◌, ℕ, ◌+◌, ◌-◌, ◌*◌, ◌<◌, ◌≤◌, nat_lt};
+ghost use Rattle.std.specs.Prelude.{◌≡◌, ℕ, ◌+◌, ◌-◌, ◌*◌, ◌<◌, ◌≤◌, nat_lt, true};
 ghost use Rattle.league.specs.Limits.{max_rounds};
 ghost use Rattle.league.specs.Sets.{has, IsBelow};
 ghost use Rattle.league.specs.Sums.{sum_below, sum_where, count_where};
 ghost use Rattle.league.specs.declared.rule.RuleBody.TheVariants as RuleBody;
 ghost use Rattle.fixtures.specs.Games.{round_count, IsDoubleRoundRobin};
-ghost use Rattle.robinx.specs.Deviations.{over, games_in_round, games_in_window, over_in_windows, deviation};
+ghost use Rattle.robinx.specs.Deviations.{over, games_in_round, deviation};
 ghost use Rattle.robinx.specs.Parts.{over_in_met_windows, changing_terms};
+ghost use Rattle.robinx.specs.Walked.{over_from_starts};
 
-use crate::counted_rows::rows_of_rounds;
+use crate::counted_rows::rows_near;
 use crate::counts::{
     CountedGames, counted_rounds, games_in_round, games_of_team, games_on_side, number_of, over,
     rounds_on_side,
 };
 use crate::guests::{Around, teams_otherwise};
 use crate::round_numbers::RoundNumbers;
-use crate::windows::{over_in_row, over_in_windows_of, rounds_of_windows};
+use crate::team_windows::over_in_rows;
+use crate::windows::over_in_windows_of;
 use fixtures::Schedule;
 use league::{SlotSet, TeamSet};
 
@@ -49,30 +51,9 @@ pub(crate) fn ca3(schedule: &Schedule, games: &CountedGames, window: u32, most: 
     ensures { result ≡
         deviation schedule.now (RuleBody.Ca3 games.now.teams games.now.side games.now.opponents window most) }
 {
-    let mut total = 0;
-    for team in games.teams {
-        total += over_in_windows(schedule, games, window as u8, most, team);
-    }
-    total
-}
-
-/// The games of the team that count in each window of consecutive rounds, over the most.
-fn over_in_windows(
-    schedule: &Schedule,
-    games: &CountedGames,
-    window: u8,
-    most: u32,
-    team: u8,
-) -> u64
-    requires team { team < schedule.now.teams }
-    requires least { 1 ≤ window }
-    requires window { window ≤ round_count schedule.now.teams }
-    ensures value { result ≡ over_in_windows schedule.now games.now.side (has games.now.opponents) window most team }
-    ensures most { result ≤ max_rounds * max_rounds }
-{
-    let season = SlotSet::below(schedule.rounds());
-    let counted = counted_rounds(schedule, games, season, team);
-    over_in_row(counted, schedule.rounds(), window, most)
+    let length = window as u8;
+    let windows = schedule.rounds() + 1 - length;
+    over_by_teams(schedule, games, SlotSet::below(windows), length, most)
 }
 
 /// Those windows of `ca3` that have one of the rounds.
@@ -93,18 +74,29 @@ pub(crate) fn ca3_part(
     let length = window as u8;
     let windows = schedule.rounds() + 1 - length;
     let starts = SlotSet::below(windows).intersection(rounds.starts_meeting(length));
-    if goes_by_rounds(schedule, games, starts) {
-        over_by_rounds(schedule, games, starts, length, most)
+    if goes_by_rounds(schedule, games, starts, window, most) {
+        let rows = rows_near(schedule, games, rounds, length);
+        over_in_rows(&rows, games.teams, starts, length, most)
     } else {
         over_by_teams(schedule, games, starts, length, most)
     }
 }
 
-/// Whether it takes less to go through the opponents in the rounds of these windows than through the opponents of each team: it does
-/// if there are a few windows. With all teams as opponents it doesn't, since the sides tell enough.
-fn goes_by_rounds(schedule: &Schedule, games: &CountedGames, starts: SlotSet) -> bool {
+/// Whether it takes less to find in each round the teams that count than for each team the rounds that count: it does if there are
+/// few windows for so many teams. With all teams as opponents it doesn't, since the sides tell enough.
+fn goes_by_rounds(
+    schedule: &Schedule,
+    games: &CountedGames,
+    starts: SlotSet,
+    window: u32,
+    most: u32,
+) -> bool
+    ensures room { result ≡ true → most < window }
+    ensures told { result ≡ true → window ≤ most + 2 }
+{
+    let told = most < window && window - most <= 2;
     let some = games.opponents != TeamSet::below(schedule.teams());
-    some && starts.len() <= number_of(schedule, games.teams) / 2
+    told && some && starts.len() < 2 * games.teams.len()
 }
 
 /// The games of each team that count in each window that begins with one of the starts, over the most.
@@ -120,40 +112,12 @@ fn over_by_teams(
     requires least { 1 ≤ window }
     requires window { window ≤ round_count schedule.now.teams }
     requires starts { IsBelow (round_count schedule.now.teams + 1 - window) starts }
-    ensures { result ≡ sum_where schedule.now.teams (has games.now.teams) (λ t.
-        sum_where (round_count schedule.now.teams + 1 - window) (has starts)
-        (λ first. over (games_in_window schedule.now games.now.side (has games.now.opponents) window t first) most)) }
+    ensures { result ≡ sum_where schedule.now.teams (has games.now.teams)
+        (over_from_starts schedule.now games.now.side games.now.opponents window most starts) }
 {
     let mut total = 0;
     for team in games.teams {
         total += over_from_starts(schedule, games, starts, window, most, team);
-    }
-    total
-}
-
-/// The same, by what is found round by round.
-fn over_by_rounds(
-    schedule: &Schedule,
-    games: &CountedGames,
-    starts: SlotSet,
-    window: u8,
-    most: u32,
-) -> u64
-    requires round_robin { IsDoubleRoundRobin schedule.now }
-    requires teams { IsBelow schedule.now.teams games.now.teams }
-    requires least { 1 ≤ window }
-    requires window { window ≤ round_count schedule.now.teams }
-    requires starts { IsBelow (round_count schedule.now.teams + 1 - window) starts }
-    ensures { result ≡ sum_where schedule.now.teams (has games.now.teams) (λ t.
-        sum_where (round_count schedule.now.teams + 1 - window) (has starts)
-        (λ first. over (games_in_window schedule.now games.now.side (has games.now.opponents) window t first) most)) }
-{
-    let near = rounds_of_windows(starts, schedule.rounds(), window);
-    let rows = rows_of_rounds(schedule, games, near);
-    let mut total = 0;
-    for team in games.teams {
-        let counted = rows[usize::from(team)];
-        total += over_in_windows_of(counted, schedule.rounds(), starts, window, most);
     }
     total
 }
@@ -171,8 +135,7 @@ fn over_from_starts(
     requires least { 1 ≤ window }
     requires window { window ≤ round_count schedule.now.teams }
     requires starts { IsBelow (round_count schedule.now.teams + 1 - window) starts }
-    ensures value { result ≡ sum_where (round_count schedule.now.teams + 1 - window) (has starts)
-        (λ first. over (games_in_window schedule.now games.now.side (has games.now.opponents) window team first) most) }
+    ensures value { result ≡ over_from_starts schedule.now games.now.side games.now.opponents window most starts team }
     ensures most { result ≤ max_rounds * max_rounds }
 {
     let season = SlotSet::below(schedule.rounds());

@@ -3,8 +3,8 @@
 ghost use Rattle.std.specs.Prelude.{◌≡◌, ℕ, ◌<◌, ◌≤◌, ◌&&◌, ◌||◌};
 ghost use Rattle.league.specs.Limits.{max_teams};
 ghost use Rattle.league.specs.Sets.{has, IsBelow};
-ghost use Rattle.fixtures.specs.Games.{round_count, cell};
-ghost use Rattle.robinx.specs.Parts.{is_guest, counts_otherwise};
+ghost use Rattle.fixtures.specs.Games.{round_count, cell, IsPair, IsDoubleRoundRobin};
+ghost use Rattle.robinx.specs.Parts.{is_guest, meet_in, counts_otherwise};
 
 use crate::unaffected_rules::takes_all_or_none;
 use fixtures::Schedule;
@@ -39,46 +39,40 @@ pub(crate) fn teams_otherwise(
     }
 }
 
-/// Those of the teams that are main teams or guests.
+/// Those of the teams that are main teams or guests, found by the games of the main teams.
 fn teams_around(schedule: &Schedule, main: TeamSet, rounds: SlotSet, teams: TeamSet) -> TeamSet
-    requires { IsBelow schedule.now.teams teams }
+    requires round_robin { IsDoubleRoundRobin schedule.now }
+    requires teams { IsBelow schedule.now.teams teams }
     ensures members { (t : ℕ) → has result t ≡
         (has teams t && (has main t || is_guest schedule.now (has main) (has rounds) t)) }
     ensures below { IsBelow schedule.now.teams result }
 {
+    let playing = TeamSet::below(schedule.teams()).intersection(main);
+    let mut around = main;
+    for team in playing {
+        if teams.intersection(around) == teams {
+            return teams;
+        }
+        around = around.union(opponents_in(schedule, rounds, team));
+    }
+    teams.intersection(around)
+}
+
+/// The teams that the team meets in one of the rounds.
+#[inline]
+pub(crate) fn opponents_in(schedule: &Schedule, rounds: SlotSet, team: u8) -> TeamSet
+    requires team { team < schedule.now.teams }
+    requires round_robin { IsDoubleRoundRobin schedule.now }
+    ensures members { (t : ℕ) → IsPair schedule.now.teams t team →
+        has result t ≡ meet_in schedule.now (has rounds) t team }
+    ensures below { IsBelow schedule.now.teams result }
+{
     let in_season = SlotSet::below(schedule.rounds()).intersection(rounds);
-    let mut around = TeamSet::empty();
-    for team in teams {
-        if is_around(schedule, main, in_season, team) {
-            around = around.with(team);
-        }
+    let mut met = TeamSet::empty();
+    for round in in_season {
+        met = met.with(schedule.game_at(team, round).opponent);
     }
-    around
-}
-
-/// Whether the team is a main team, or meets one in one of the rounds.
-fn is_around(schedule: &Schedule, main: TeamSet, rounds: SlotSet, team: u8) -> bool
-    requires team { team < schedule.now.teams }
-    requires most { schedule.now.teams ≤ max_teams }
-    requires rounds { IsBelow (round_count schedule.now.teams) rounds }
-    ensures { result ≡ (has main team || is_guest schedule.now (has main) (has rounds) team) }
-{
-    main.has(team) || is_guest(schedule, main, rounds, team)
-}
-
-/// Whether the team meets a main team in one of the rounds.
-fn is_guest(schedule: &Schedule, main: TeamSet, rounds: SlotSet, team: u8) -> bool
-    requires team { team < schedule.now.teams }
-    requires most { schedule.now.teams ≤ max_teams }
-    requires rounds { IsBelow (round_count schedule.now.teams) rounds }
-    ensures { result ≡ is_guest schedule.now (has main) (has rounds) team }
-{
-    for round in rounds {
-        if meets_one_of(schedule, main, team, round) {
-            return true;
-        }
-    }
-    false
+    met
 }
 
 /// Whether the team meets one of the teams in the round.

@@ -17,6 +17,7 @@ mod pairs;
 mod parts;
 mod round_numbers;
 mod separation_rules;
+mod team_windows;
 mod touched_rules;
 mod unaffected_rules;
 mod windows;

@@ -7,10 +7,11 @@ ghost use Rattle.league.specs.Sums.{sum_where};
 ghost use Rattle.league.specs.declared.rule.RuleBody.TheVariants as RuleBody;
 ghost use Rattle.fixtures.specs.Games.{IsPair, IsDoubleRoundRobin};
 ghost use Rattle.robinx.specs.Deviations.{over, rounds_between, deviation};
-ghost use Rattle.robinx.specs.Parts.{meet_in, changing_terms};
+ghost use Rattle.robinx.specs.Parts.{changing_terms};
 ghost use Rattle.robinx.specs.Walked.{counts_pair};
 
 use crate::counts::over;
+use crate::guests::opponents_in;
 use fixtures::Schedule;
 use league::{SlotSet, TeamSet};
 
@@ -49,23 +50,6 @@ pub(crate) fn se1_part(
         total += short_with(schedule, met, main, least, team);
     }
     total
-}
-
-/// The teams that the team meets in one of the rounds.
-#[inline]
-fn opponents_in(schedule: &Schedule, rounds: SlotSet, team: u8) -> TeamSet
-    requires team { team < schedule.now.teams }
-    requires round_robin { IsDoubleRoundRobin schedule.now }
-    ensures members { (t : ℕ) → IsPair schedule.now.teams t team →
-        has result t ≡ meet_in schedule.now (has rounds) t team }
-    ensures below { IsBelow schedule.now.teams result }
-{
-    let in_season = SlotSet::below(schedule.rounds()).intersection(rounds);
-    let mut met = TeamSet::empty();
-    for round in in_season {
-        met = met.with(schedule.game_at(team, round).opponent);
-    }
-    met
 }
 
 /// The rounds between the two games of the main team and of each of these others, under the least: of main teams among

@@ -11,27 +11,6 @@ use crate::counts::over;
 use league::SlotSet;
 use league::limits::MAX_ROUNDS;
 
-/// The rounds of the set in each window of consecutive rounds of a season, over the most.
-#[tactic(auto, using(league::proofs::ForCallers::sums))]
-pub(crate) fn over_in_row(set: SlotSet, rounds: u8, window: u8, most: u32) -> u64
-    requires least { 1 ≤ window }
-    requires window { window ≤ rounds }
-    requires season { rounds ≤ max_rounds }
-    ensures value { result ≡
-        sum_below (rounds + 1 - window) (λ first. over (count_where window (λ k. has set (first + k))) most) }
-    ensures most { result ≤ max_rounds * max_rounds }
-{
-    let mut count = rounds_in_window(set, 0, window);
-    let mut total = over(count, most);
-    for first in 0..rounds - window {
-        // the window moves on by a round: one comes, and one goes
-        count += u32::from(set.has(first + window));
-        count -= u32::from(set.has(first));
-        total += over(count, most);
-    }
-    total
-}
-
 /// The rounds of the set in each window that begins with one of the starts, over the most.
 pub(crate) fn over_in_windows_of(
     set: SlotSet,
@@ -57,21 +36,6 @@ pub(crate) fn over_in_windows_of(
         }
         _ => over_from(set, rounds + 1 - window, starts, window, most),
     }
-}
-
-/// All rounds of the windows that begin with one of the starts.
-pub(crate) fn rounds_of_windows(starts: SlotSet, rounds: u8, window: u8) -> SlotSet
-    requires season { rounds ≤ max_rounds }
-    requires least { 1 ≤ window }
-    requires starts { IsBelow (rounds + 1 - window) starts }
-    ensures members { (s k : ℕ) → has starts s ≡ true → k < window → has result (s + k) ≡ true }
-    ensures below { IsBelow rounds result }
-{
-    let mut reached = starts;
-    for _ in 1..window {
-        reached = reached.with_next_below(rounds);
-    }
-    reached
 }
 
 /// Windows by the rounds with which they begin.

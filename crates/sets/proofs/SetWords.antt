@@ -26,6 +26,12 @@ pub IsBelow_team_added : (set team : ℕ) → IsBelow max_teams set → team < m
     → IsBelow max_teams (with_number set team)
 IsBelow_team_added set team = IsBelow_with_number max_teams set team
 
+pub teams_len : (set : ℕ) → IsBelow max_teams set → count_ones set ≤ max_teams
+teams_len set below = ones-le max_teams set below
+
+pub IsBelow_teams_union : (a b : ℕ) → IsBelow max_teams a → IsBelow max_teams b → IsBelow max_teams (bit_or a b)
+IsBelow_teams_union a b = IsBelow_union max_teams a b
+
 pub teams_meet : (a b : ℕ) → IsBelow max_teams a
     → not (bit_and a b == 0) ≡ any_below max_teams (λ t. has a t && has b t)
 teams_meet a b below = meets_of_bits w64 max_teams a b (omega arith) below
@@ -98,6 +104,8 @@ pub ruleset teams_and_one = (team_added, IsBelow_team_added, has_with_number, Is
 pub ruleset all_slots_below = (slots_below, IsBelow_slots_below, has_all_numbers, IsBelow_all_numbers)
 
 pub ruleset slots_and_one = (slot_added, IsBelow_slot_added, has_with_number, IsBelow_with_number)
+
+pub ruleset teams_of_either = (has_union, IsBelow_union, IsBelow_teams_union)
 
 pub ruleset slots_of_either = (has_union, IsBelow_union, IsBelow_slots_union)
 

@@ -3,7 +3,7 @@
 ghost use Rattle.std.specs.Prelude.{◌≡◌, ℕ, ◌-◌, ◌<◌, ◌≤◌, ◌&&◌, ◌||◌, ◌==◌, nat_lt, false};
 ghost use Rattle.std.specs.Iterator.{at_most};
 ghost use Rattle.sets.specs.Limits.{max_teams};
-ghost use Rattle.sets.specs.Sums.{any_below};
+ghost use Rattle.sets.specs.Sums.{count_where, any_below};
 ghost use Rattle.sets.specs.Sets.{has, IsBelow, with_number, all_numbers, TakesLowest};
 
 use std::marker::Model;
@@ -66,6 +66,28 @@ impl TeamSet {
         ensures { result ≡ has self team }
     {
         self.bits >> team & 1 == 1
+    }
+
+    /// How many teams there are.
+    #[inline]
+    #[tactic(auto, using(crate::proofs::SetBits::ones_count, crate::proofs::SetWords::teams_len))]
+    pub fn len(self) -> u32
+        ensures value { result ≡ count_where max_teams (has self) }
+        ensures among { (m : ℕ) → IsBelow m self → result ≡ count_where m (has self) }
+        ensures most { result ≤ max_teams }
+    {
+        self.bits.count_ones()
+    }
+
+    /// The teams that are in one of the sets, or in both.
+    #[tactic(auto, using(crate::proofs::SetWords::teams_of_either))]
+    pub fn union(self, teams: TeamSet) -> Self
+        ensures members { (t : ℕ) → has result t ≡ (has self t || has teams t) }
+        ensures below { (m : ℕ) → IsBelow m self → IsBelow m teams → IsBelow m result }
+    {
+        TeamSet {
+            bits: self.bits | teams.bits,
+        }
     }
 
     /// The teams that are in both sets.

@@ -1,19 +1,19 @@
-use Rattle.std.proofs.Common.{arith, refl}
-use Rattle.robinx.specs.Deviations.{deviation}
-use Rattle.league.proofs.ForCallers.{sum_without_none, sum_without_more, sum_without_all, lowest_below}
+use Rattle.std.proofs.Common.{◌+◌, ◌-◌, refl, ◌∙◌, ap}
+use Rattle.league.specs.Sets.{has}
+use Rattle.league.proofs.ForCallers.{sum_where_same}
+use Rattle.robinx.specs.Deviations.{deviation, over_in_windows}
+use Rattle.robinx.specs.Walked.{over_from_starts}
+use Rattle.robinx.proofs.CountedRounds.{all_windows}
 use Rattle.robinx.proofs.capacity_rules.ca3.Goals as goal
-
-pub loop-team-init : goal.loop-team-init
-loop-team-init c = sum_without_none _ _ _ _ _ (omega arith) c.into_iter-team-iterator.ensures.into_iter_gives
-
-pub over_in_windows-total-requires-clause-team : goal.over_in_windows-total-requires-clause-team
-over_in_windows-total-requires-clause-team c = lowest_below _ _ _ _ c.loop-team.invariant.below c.in-Some.ensures.steps
-
-pub loop-team-preserved : goal.loop-team-preserved
-loop-team-preserved c =
-    sum_without_more _ _ _ _ _ _ _ _ _ c.loop-team.invariant c.in-Some.ensures.steps c.over_in_windows-total.ensures.value
-    c.over_in_windows-total.ensures.most
 
 pub returns : goal.returns
 unfolding deviation
-returns c = sum_without_all _ _ _ _ _ _ _ c.loop-team.invariant c.in-None.ensures.steps.0 (λ k below. refl)
+returns c =
+    c.over_by_teams.ensures ∙
+    sum_where_same c.args.schedule.now.teams (has c.args.games.now.teams) (has c.args.games.now.teams)
+    (over_from_starts c.args.schedule.now c.args.games.now.side c.args.games.now.opponents c.args.window c.args.most c.below.result)
+    (over_in_windows c.args.schedule.now c.args.games.now.side (has c.args.games.now.opponents) c.args.window c.args.most)
+    (λ t below. refl)
+    (λ t below is.
+    all_windows c.args.schedule.now c.args.games.now.side c.args.games.now.opponents c.args.window c.args.most c.below.result _ t
+    (ap (λ n. n + 1 - c.args.window) c.rounds.ensures.number) c.below.ensures.members)

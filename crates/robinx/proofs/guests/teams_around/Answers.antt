@@ -1,43 +1,35 @@
-use Rattle.std.proofs.Common.{◌<◌, ◌&&◌, ◌||◌, nat_lt, sym, ◌∙◌, ap, arith}
-use Rattle.league.specs.Sets.{has}
-use Rattle.league.proofs.ForCallers.{lowest_below, has_empty}
-use Rattle.robinx.proofs.Filters.{passing_none, passing_more, passing_same, passing_all}
-use Rattle.robinx.proofs.PartTerms.{guest_in_season}
+use Rattle.std.proofs.Common.{ℕ, nat_lt, ◌∙◌, ap, subst, sym, arith}
+use Rattle.std.proofs.lemmas.Bool.{eqb-true}
+use Rattle.league.specs.Sets.{has, IsBelow}
+use Rattle.league.proofs.ForCallers.{lowest_below}
+use Rattle.robinx.proofs.AroundMain.{around_none, around_more, around_all, all_around}
 use Rattle.robinx.proofs.guests.teams_around.Goals as goal
 
+pub returns-then-eq-clause-members : goal.returns-then-eq-clause-members
+returns-then-eq-clause-members c =
+    all_around c.args.schedule.now _ _ _ _ _ _ _ c.loop-team.invariant c.requires.teams (eqb-true _ _ (sym c.eq.ensures ∙ c.if-eq.true))
+    c.intersection.ensures.members
+
 pub loop-team-init : goal.loop-team-init
-loop-team-init c = record {
-  left = omega (arith, c.into_iter-team-iterator.ensures.into_iter_gives);
-  below = c.empty-around.ensures.below _;
-  passing = passing_none _ _ _ _ c.into_iter-team-iterator.ensures.into_iter_gives c.empty-around.ensures.members;
-}
+loop-team-init c =
+    around_none c.args.schedule.now _ _ c.below.result _
+    (subst (λ (n : ℕ). IsBelow n c.into_iter-team-iterator.result) c.teams.ensures.number
+    (omega (arith, c.into_iter-team-iterator.ensures.into_iter_gives, c.intersection-playing.ensures.below _ c.below.ensures.below)))
+    (λ k. ap (λ s. has s k) c.into_iter-team-iterator.ensures.into_iter_gives ∙ c.intersection-playing.ensures.members k)
 
-pub is_around-requires-clause-team : goal.is_around-requires-clause-team
-is_around-requires-clause-team c = lowest_below _ _ _ _ c.loop-team.invariant.left c.in-Some.ensures.steps
-
-pub with-around-requires : goal.with-around-requires
-with-around-requires c = omega (arith, lowest_below _ _ _ _ c.loop-team.invariant.left c.in-Some.ensures.steps)
-
-pub loop-team-preserved-then-is_around : goal.loop-team-preserved-then-is_around
-loop-team-preserved-then-is_around c =
-    let in_range : c.in-Some.team < c.args.schedule.now.teams = lowest_below _ _ _ _ c.loop-team.invariant.left c.in-Some.ensures.steps in
-    record {
-      left = omega (arith, c.in-Some.ensures.steps.fewer);
-      below = c.with-around.ensures.below _ c.loop-team.invariant.below in_range;
-      passing = passing_more _ _ _ _ _ _ c.loop-team.invariant.passing c.in-Some.ensures.steps _
-          (sym c.is_around.ensures ∙ c.if-is_around.true) c.with-around.ensures.members;
-    }
+pub opponents_in-requires-clause-team : goal.opponents_in-requires-clause-team
+opponents_in-requires-clause-team c = lowest_below _ _ _ _ c.loop-team.invariant.below c.in-Some.ensures.steps
 
 pub loop-team-preserved : goal.loop-team-preserved
-loop-team-preserved c = record {
-  left = omega (arith, c.in-Some.ensures.steps.fewer);
-  below = c.loop-team.invariant.below;
-  passing = passing_same _ _ _ _ _ _ c.loop-team.invariant.passing c.in-Some.ensures.steps (sym c.is_around.ensures ∙ c.if-is_around.false);
-}
+loop-team-preserved c =
+    around_more c.args.schedule.now c.requires.round_robin _ _ _ _ _ _ _ _ _
+    (lowest_below _ _ _ _ c.loop-team.invariant.below c.in-Some.ensures.steps) c.loop-team.invariant c.in-Some.ensures.steps
+    c.opponents_in.ensures.members c.union-around.ensures.members
 
 pub returns-clause-members : goal.returns-clause-members
 returns-clause-members c = λ t.
-    passing_all _ _ _ _ c.loop-team.invariant.passing t (ap (λ s. has s t) c.in-None.ensures.steps.0 ∙ has_empty t) ∙
-    ap (λ b. has c.args.teams t && (has c.args.main t || b))
-    (guest_in_season c.args.schedule.now (has c.args.main) c.below.result c.args.rounds c.intersection-in_season.result t
-    (λ r. c.below.ensures.members r ∙ ap (nat_lt r) c.rounds.ensures.number) c.intersection-in_season.ensures.members)
+    c.intersection-2.ensures.members t ∙
+    around_all c.args.schedule.now c.requires.round_robin c.args.main c.args.rounds c.below.result _ _ _ c.args.teams c.loop-team.invariant
+    c.in-None.ensures.steps.0 (λ k. c.below.ensures.members k ∙ ap (nat_lt k) c.teams.ensures.number)
+    (λ k. ap (λ s. has s k) c.into_iter-team-iterator.ensures.into_iter_gives ∙ c.intersection-playing.ensures.members k)
+    c.requires.teams t

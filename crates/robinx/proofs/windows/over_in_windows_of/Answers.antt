@@ -1,5 +1,6 @@
 use Rattle.std.proofs.Common.{◌+◌, ◌-◌, ◌≤◌, ◌^◌, sym, ◌∙◌, arith}
 use Rattle.std.proofs.Math.Pow.{pow_mono}
+use Rattle.league.specs.Sets.{has}
 use Rattle.robinx.proofs.FullWindows.{over_without_room, over_by_full, over_by_both}
 use Rattle.robinx.proofs.windows.over_in_windows_of.Goals as goal
 
@@ -15,13 +16,13 @@ full_windows-windows-requires-clause-starts c =
 
 pub returns-in-0-clause-value : goal.returns-in-0-clause-value
 returns-in-0-clause-value c =
-    sym (over_without_room c.args.set c.args.starts _ c.args.window c.args.most
+    sym (over_without_room (λ s k. has c.args.set (s + k)) c.args.starts _ c.args.window c.args.most
     (omega (arith, c.from.ensures, c.saturating_sub.ensures, c.in-0.is)))
 
 pub returns-in-1-clause-value : goal.returns-in-1-clause-value
 returns-in-1-clause-value c =
     c.into.ensures ∙ c.len.ensures.among _ (c.full_windows.ensures.full_below _ c.requires.starts) ∙
-    over_by_full c.args.set c.args.starts _ c.args.window c.args.most _ (omega (arith, c.from.ensures, c.saturating_sub.ensures, c.in-1.is))
+    over_by_full (λ s k. has c.args.set (s + k)) c.args.starts _ c.args.window c.args.most _ (omega (arith, c.from.ensures, c.saturating_sub.ensures, c.in-1.is))
     c.full_windows.ensures.full
 
 pub returns-in-2-clause-value : goal.returns-in-2-clause-value
@@ -30,7 +31,7 @@ returns-in-2-clause-value c =
       arith,
       c.from-in-2.ensures ∙ c.len-in-2.ensures.among _ (c.full_windows-windows.ensures.full_below _ c.requires.starts),
       c.from-in-2-2.ensures ∙ c.len-in-2-2.ensures.among _ (c.full_windows-windows.ensures.nearly_below _ c.requires.starts),
-      over_by_both c.args.set c.args.starts (c.args.rounds + 1 - c.args.window) c.args.window c.args.most _ _
+      over_by_both (λ s k. has c.args.set (s + k)) c.args.starts (c.args.rounds + 1 - c.args.window) c.args.window c.args.most _ _
           (omega (arith, c.from.ensures, c.saturating_sub.ensures, c.in-2.is)) c.full_windows-windows.ensures.full
           c.full_windows-windows.ensures.nearly,
     )

@@ -1,9 +1,0 @@
-use Rattle.league.specs.Sets.{has}
-use Rattle.league.proofs.ForCallers.{IsSumWithout}
-use Rattle.robinx.specs.Deviations.{over_in_windows}
-use Rattle.robinx.proofs.capacity_rules.ca3.Given as goal
-
-abbrev pub invariant-loop-team : goal.invariant-loop-team
-invariant-loop-team l =
-    IsSumWithout l.schedule.teams l.games.teams l.team-iterator l.total 6084
-    (over_in_windows l.schedule l.games.side (has l.games.opponents) l.window l.most)
