@@ -17,14 +17,14 @@ use Rattle.fixture_board.proofs.PartLimits.{sum_below_grows}
 use Rattle.fixture_board.proofs.Parts.{same_cost}
 use Rattle.fixture_board.proofs.Scores.{cost_small, score_below}
 
--- the rest with the halves and the rules before this place
-pub record IsCountedTo (l : LeagueData) (scope : Scope) (g : Games) (rest : Cost) (place : ℕ) (cost : Cost) : Type 0 where
+-- the rest with the halves and the rules before this index
+pub record IsCountedTo (l : LeagueData) (scope : Scope) (g : Games) (rest : Cost) (index : ℕ) (cost : Cost) : Type 0 where
   pub travel : cost.travel ≡ rest.travel
   pub hard :
       cost.hard ≡
       rest.hard + where_phased l (unphased_part g (has scope.main.teams)) +
-      sum_below place (λ i. rule_part hard_penalty scope.main scope.turning g (slice_get l.rules i))
-  pub soft : cost.soft ≡ rest.soft + sum_below place (λ i. rule_part soft_penalty scope.main scope.turning g (slice_get l.rules i))
+      sum_below index (λ i. rule_part hard_penalty scope.main scope.turning g (slice_get l.rules i))
+  pub soft : cost.soft ≡ rest.soft + sum_below index (λ i. rule_part soft_penalty scope.main scope.turning g (slice_get l.rules i))
 
 -- a cost that the schedule's is not below, and that is small
 pub record IsNoMore (l : LeagueData) (g : Games) (cost : Cost) : Type 0 where
@@ -33,14 +33,14 @@ pub record IsNoMore (l : LeagueData) (g : Games) (cost : Cost) : Type 0 where
   pub hard : cost.hard < score_limit
   pub soft : cost.soft < score_limit
 
-pub no_more : {l : LeagueData} {scope : Scope} {g : Games} {rest cost : Cost} {place : ℕ} → IsLeague l → teams l ≡ g.teams →
-    IsRest l scope g rest → place ≤ length l.rules → IsCountedTo l scope g rest place cost → IsNoMore l g cost
+pub no_more : {l : LeagueData} {scope : Scope} {g : Games} {rest cost : Cost} {index : ℕ} → IsLeague l → teams l ≡ g.teams →
+    IsRest l scope g rest → index ≤ length l.rules → IsCountedTo l scope g rest index cost → IsNoMore l g cost
 unfolding rules_part
-no_more {l} {scope} {g} {rest} {cost} {place} league same whole within is =
+no_more {l} {scope} {g} {rest} {cost} {index} league same whole within is =
     let grown : (penalty : Weight → ℕ → ℕ) →
-    sum_below place (λ i. rule_part penalty scope.main scope.turning g (slice_get l.rules i)) ≤
+    sum_below index (λ i. rule_part penalty scope.main scope.turning g (slice_get l.rules i)) ≤
     rules_part penalty l.rules scope.main scope.turning g =
-    λ penalty. sum_below_grows place (length l.rules) _ within in
+    λ penalty. sum_below_grows index (length l.rules) _ within in
     let hard : cost.hard ≤ (cost_of l g).hard =
     omega (arith, is.hard, grown hard_penalty, ap (λ (cost : Cost). cost.hard) whole) in
     let soft : cost.soft ≤ (cost_of l g).soft =
@@ -65,25 +65,25 @@ none_counted l scope g rest cost travel hard soft = record {
   soft = omega (arith, soft, sum_below_none (λ i. rule_part soft_penalty scope.main scope.turning g (slice_get l.rules i)));
 }
 
-pub one_more_counted : (l : LeagueData) (scope : Scope) (g : Games) (rest cost next : Cost) (place : ℕ) (rule : Rule) →
-    IsCountedTo l scope g rest place cost → slice_get l.rules place ≡ Some rule → next.travel ≡ cost.travel →
+pub one_more_counted : (l : LeagueData) (scope : Scope) (g : Games) (rest cost next : Cost) (index : ℕ) (rule : Rule) →
+    IsCountedTo l scope g rest index cost → slice_get l.rules index ≡ Some rule → next.travel ≡ cost.travel →
     next.hard ≡ cost.hard + rule_part hard_penalty scope.main scope.turning g (Some rule) →
-    next.soft ≡ cost.soft + rule_part soft_penalty scope.main scope.turning g (Some rule) → IsCountedTo l scope g rest (place + 1) next
-one_more_counted l scope g rest cost next place rule is at travel hard soft = record {
+    next.soft ≡ cost.soft + rule_part soft_penalty scope.main scope.turning g (Some rule) → IsCountedTo l scope g rest (index + 1) next
+one_more_counted l scope g rest cost next index rule is at travel hard soft = record {
   travel = travel ∙ is.travel;
   hard = omega (
     arith,
     is.hard,
     hard,
     ap (rule_part hard_penalty scope.main scope.turning g) at,
-    sum_below_more place (λ i. rule_part hard_penalty scope.main scope.turning g (slice_get l.rules i)),
+    sum_below_more index (λ i. rule_part hard_penalty scope.main scope.turning g (slice_get l.rules i)),
   );
   soft = omega (
     arith,
     is.soft,
     soft,
     ap (rule_part soft_penalty scope.main scope.turning g) at,
-    sum_below_more place (λ i. rule_part soft_penalty scope.main scope.turning g (slice_get l.rules i)),
+    sum_below_more index (λ i. rule_part soft_penalty scope.main scope.turning g (slice_get l.rules i)),
   );
 }
 

@@ -46,7 +46,7 @@ abbrev pub rule_part : (Weight → ℕ → ℕ) → TouchedCells → ℕ → Gam
 rule_part penalty main sides g None = 0
 rule_part penalty main sides g (Some rule) = penalty rule.weight (deviation_part g main.teams main.rounds sides rule.body)
 
--- the sum over the rules, by their places
+-- the sum over the rules, by their indices
 unfoldable pub rules_part : (Weight → ℕ → ℕ) → List Rule → TouchedCells → ℕ → Games → ℕ
 rules_part penalty rules main sides g =
     sum_below (length rules) (λ i. rule_part penalty main sides g (slice_get rules i))

@@ -28,7 +28,7 @@ abbrev pub penalty_of : (Weight → ℕ → ℕ) → Games → Option Rule → �
 penalty_of penalty g None = 0
 penalty_of penalty g (Some rule) = penalty rule.weight (deviation g rule.body)
 
--- the sum over the rules, by their places
+-- the sum over the rules, by their indices
 unfoldable pub sum_over_rules : (Weight → ℕ → ℕ) → List Rule → Games → ℕ
 sum_over_rules penalty rules g = sum_below (length rules) (λ i. penalty_of penalty g (slice_get rules i))
 
