@@ -42,9 +42,9 @@ def phases(table, seed, effort, come_to):
         for chain in chains:
             for k in range(BOUT):
                 number += 1
-                share = 8 // count
-                steps = effort * (used + share) // 1280 - effort * used // 1280
-                used += share
+                slices = 8 // count
+                steps = effort * (used + slices) // 1280 - effort * used // 1280
+                used += slices
                 start = ("LeagueStart" if level == 0 else "Best") if k == 0 else "Last"
                 weight = max(1, rounded(chain["weight"], total, pairs))
                 slack = rounded(top * (20 - k) // 20, total, pairs)

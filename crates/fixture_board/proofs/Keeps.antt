@@ -211,22 +211,22 @@ IsGranted-shift {league} {k} p g cost kept granted moved_is cost_is =
 
 -- the change that was the last in effect, taken back
 
-record LastKept (league : LeagueData) (h : List Entry) (g : Games) (front : List Change) (change : Change) : Type 0 where
-  last : IsLastMade league front change
-  games_are : g ≡ shifted (games_after (start_of league) front) change
-  pins_are : pins_of h ≡ pinned (pins_after [] front) change
+record LastKept (league : LeagueData) (h : List Entry) (g : Games) (prefix : List Change) (change : Change) : Type 0 where
+  last : IsLastMade league prefix change
+  games_are : g ≡ shifted (games_after (start_of league) prefix) change
+  pins_are : pins_of h ≡ pinned (pins_after [] prefix) change
 
 last_kept : {league : LeagueData} {k : Kept}
-    (front : List Change) (change : Change) → IsKept league k →
-    k.changes ≡ front ++ change ∷ [] → LastKept league k.history k.games front change
-last_kept {league} {k} front change kept are =
-    let last : effective k.history ≡ front ++ change ∷ [] = sym kept.effective_is ∙ are in
+    (prefix : List Change) (change : Change) → IsKept league k →
+    k.changes ≡ prefix ++ change ∷ [] → LastKept league k.history k.games prefix change
+last_kept {league} {k} prefix change kept are =
+    let last : effective k.history ≡ prefix ++ change ∷ [] = sym kept.effective_is ∙ are in
     record {
-      last = IsLastMade-legal league k.room k.history front change kept.league_is kept.legal last;
+      last = IsLastMade-legal league k.room k.history prefix change kept.league_is kept.legal last;
       games_are = kept.games_are ∙
-          games_of-by league k.history (front ++ change ∷ []) last ∙
-          games_after-more (start_of league) front change;
-      pins_are = pins_of-by k.history (front ++ change ∷ []) last ∙ pins_after-more [] front change;
+          games_of-by league k.history (prefix ++ change ∷ []) last ∙
+          games_after-more (start_of league) prefix change;
+      pins_are = pins_of-by k.history (prefix ++ change ∷ []) last ∙ pins_after-more [] prefix change;
     }
 
 can_take_back : (g : Games) (pins : List Game) (change : Change) → IsDoubleRoundRobin g → AllStand g pins → Fits g pins change →
@@ -241,10 +241,10 @@ can_take_back g pins (Unpin game) robin stand fits =
 can_take_back g pins Undo robin stand fits = tt
 
 pub CanTakeBack-last : {league : LeagueData} {k : Kept}
-    (front : List Change) (change : Change) → IsKept league k →
-    k.changes ≡ front ++ change ∷ [] → CanTakeBack k.games change
-CanTakeBack-last front change kept are =
-    let known = last_kept front change kept are in
+    (prefix : List Change) (change : Change) → IsKept league k →
+    k.changes ≡ prefix ++ change ∷ [] → CanTakeBack k.games change
+CanTakeBack-last prefix change kept are =
+    let known = last_kept prefix change kept are in
     subst (λ x. CanTakeBack x change) (sym known.games_are)
     (can_take_back _ _ change known.last.robin known.last.stand known.last.fits)
 
@@ -274,18 +274,18 @@ ArePinsAt-taken_back g pins table (Unpin game) robin stand fits after size are =
     ArePinsAt-unpin_back g pins table game robin.most size stands.0 stands.1 stand fits are
 ArePinsAt-taken_back g pins table Undo robin stand fits after size are = are
 
-pub IsGranted-undo : {league : LeagueData} {k : Kept} (version : ℕ) (front : List Change) (change : Change) → IsKept league k →
-    refusal league k.room k.history (ask.Undo version) ≡ None → k.changes ≡ front ++ change ∷ [] →
+pub IsGranted-undo : {league : LeagueData} {k : Kept} (version : ℕ) (prefix : List Change) (change : Change) → IsKept league k →
+    refusal league k.room k.history (ask.Undo version) ≡ None → k.changes ≡ prefix ++ change ∷ [] →
     IsGranted league k (record k {
-      changes = front;
+      changes = prefix;
       games = shifted k.games change;
       pins = taken_back k.pins change;
       cost = cost_of league (shifted k.games change);
     }) (ask.Undo version)
-IsGranted-undo {league} {k} version front change kept granted are =
-    let known = last_kept front change kept are in
-    let before : Games = games_after (start_of league) front in
-    let held : List Game = pins_after [] front in
+IsGranted-undo {league} {k} version prefix change kept granted are =
+    let known = last_kept prefix change kept are in
+    let before : Games = games_after (start_of league) prefix in
+    let held : List Game = pins_after [] prefix in
     let back : shifted k.games change ≡ before =
     ap (λ x. shifted x change) known.games_are ∙ unshifted before held change known.last.robin known.last.fits in
     let stand : AllStand (shifted before change) (pinned held change) =
@@ -296,16 +296,16 @@ IsGranted-undo {league} {k} version front change kept granted are =
     (subst (λ q. ArePinsAt k.games q k.pins) known.pins_are kept.pins_are) in
     let written : ArePinsAt before held (taken_back k.pins change) =
     ArePinsAt-taken_back before held k.pins change known.last.robin known.last.stand known.last.fits stand kept.pins_length table in
-    let effective_is : (caller : ℕ) → effective (k.history ++ entry caller (ask.Undo version) ∷ []) ≡ front =
-    λ caller. effective-undo k.history caller front change (sym kept.effective_is ∙ are) in
-    IsGranted-by (ask.Undo version) front (shifted k.games change) (taken_back k.pins change) (cost_of league (shifted k.games change))
+    let effective_is : (caller : ℕ) → effective (k.history ++ entry caller (ask.Undo version) ∷ []) ≡ prefix =
+    λ caller. effective-undo k.history caller prefix change (sym kept.effective_is ∙ are) in
+    IsGranted-by (ask.Undo version) prefix (shifted k.games change) (taken_back k.pins change) (cost_of league (shifted k.games change))
     kept granted
     (sym (effective_is 0) ∙ effective-more k.history (entry 0 (ask.Undo version)) ∙ ap (λ c. effect c Undo) (sym kept.effective_is))
-    (λ caller. back ∙ sym (games_of-by league (k.history ++ entry caller (ask.Undo version) ∷ []) front (effective_is caller)))
+    (λ caller. back ∙ sym (games_of-by league (k.history ++ entry caller (ask.Undo version) ∷ []) prefix (effective_is caller)))
     (taken_back-length k.pins change ∙ kept.pins_length)
     (λ caller.
     subst (λ q. ArePinsAt (shifted k.games change) q (taken_back k.pins change))
-    (sym (pins_of-by (k.history ++ entry caller (ask.Undo version) ∷ []) front (effective_is caller)))
+    (sym (pins_of-by (k.history ++ entry caller (ask.Undo version) ∷ []) prefix (effective_is caller)))
     (subst (λ x. ArePinsAt x held (taken_back k.pins change)) (sym back) written))
     refl
 

@@ -1,8 +1,8 @@
 pub mod OneMore
 pub mod Least
 pub mod Scores
-pub mod ShareLimits
-pub mod Shares
+pub mod Parts
+pub mod PartLimits
 pub mod Partial
 pub mod Fitting
 pub mod Stand

@@ -95,15 +95,15 @@ pins_of-more h e appended =
 
 -- an entry that undoes the change that was the last in effect
 
-pub take-front : {A : Type 0} (xs : List A) (x : A) → take (length (xs ++ x ∷ []) - 1) (xs ++ x ∷ []) ≡ xs
-take-front xs x =
-    let front : length (xs ++ x ∷ []) - 1 ≡ length xs = omega (arith, length-append xs (x ∷ [])) in
-    rw front (take-append_seam xs (x ∷ []))
+pub take-prefix : {A : Type 0} (xs : List A) (x : A) → take (length (xs ++ x ∷ []) - 1) (xs ++ x ∷ []) ≡ xs
+take-prefix xs x =
+    let prefix : length (xs ++ x ∷ []) - 1 ≡ length xs = omega (arith, length-append xs (x ∷ [])) in
+    rw prefix (take-append_seam xs (x ∷ []))
 
 pub effective-undo : (h : List Entry) (caller : ℕ) (changes : List Change) (change : Change) →
     effective h ≡ changes ++ change ∷ [] → effective (h ++ record { caller = caller; change = Undo } ∷ []) ≡ changes
 effective-undo h caller changes change last =
-    effective-more h (record { caller = caller; change = Undo }) ∙ ap (λ c. effect c Undo) last ∙ take-front changes change
+    effective-more h (record { caller = caller; change = Undo }) ∙ ap (λ c. effect c Undo) last ∙ take-prefix changes change
 
 -- legality
 

@@ -31,35 +31,35 @@ use Rattle.fixture_board.proofs.PinTable.{IsPair-in_range, has_game-pinned, is_p
 
 -- tables of reasons in two parts
 
-front-if : (test : Bool) (reason w : Why) (rest whole : Option Why) → (rest ≡ Some w → whole ≡ Some w) →
+prefix-if : (test : Bool) (reason w : Why) (rest whole : Option Why) → (rest ≡ Some w → whole ≡ Some w) →
     (if test then Some reason else rest) ≡ Some w → (if test then Some reason else whole) ≡ Some w
-front-if true reason w rest whole later is = is
-front-if false reason w rest whole later is = later is
+prefix-if true reason w rest whole later is = is
+prefix-if false reason w rest whole later is = later is
 
-first_of-front : (front back : List (Bool × Why)) (w : Why) → first_of front ≡ Some w → first_of (front ++ back) ≡ Some w
-first_of-front [] back w is = absurd (true≢false (sym (ap is_some is)))
-first_of-front (row ∷ front) back w is =
-    front-if row.0 row.1 w (first_of front) (first_of (front ++ back)) (first_of-front front back w) is
+first_of-prefix : (prefix back : List (Bool × Why)) (w : Why) → first_of prefix ≡ Some w → first_of (prefix ++ back) ≡ Some w
+first_of-prefix [] back w is = absurd (true≢false (sym (ap is_some is)))
+first_of-prefix (row ∷ prefix) back w is =
+    prefix-if row.0 row.1 w (first_of prefix) (first_of (prefix ++ back)) (first_of-prefix prefix back w) is
 
 rest-if : (test : Bool) (reason : Why) (rest whole back : Option Why) → (rest ≡ None → whole ≡ back) →
     (if test then Some reason else rest) ≡ None → (if test then Some reason else whole) ≡ back
 rest-if true reason rest whole back later none = absurd (true≢false (ap is_some none))
 rest-if false reason rest whole back later none = later none
 
-first_of-rest : (front back : List (Bool × Why)) → first_of front ≡ None → first_of (front ++ back) ≡ first_of back
+first_of-rest : (prefix back : List (Bool × Why)) → first_of prefix ≡ None → first_of (prefix ++ back) ≡ first_of back
 first_of-rest [] back none = refl
-first_of-rest (row ∷ front) back none =
-    rest-if row.0 row.1 (first_of front) (first_of (front ++ back)) (first_of back) (first_of-rest front back) none
+first_of-rest (row ∷ prefix) back none =
+    rest-if row.0 row.1 (first_of prefix) (first_of (prefix ++ back)) (first_of back) (first_of-rest prefix back) none
 
 -- by what a check of the first part answered
 
-stopped : {A : Type 0} {answer : Result A Why} {reason : Why} (front back : List (Bool × Why)) →
-    result_err answer ≡ first_of front → answer ≡ Err reason → first_of (front ++ back) ≡ Some reason
-stopped {A} {answer} {reason} front back told is = first_of-front front back reason (sym told ∙ ap result_err is)
+stopped : {A : Type 0} {answer : Result A Why} {reason : Why} (prefix back : List (Bool × Why)) →
+    result_err answer ≡ first_of prefix → answer ≡ Err reason → first_of (prefix ++ back) ≡ Some reason
+stopped {A} {answer} {reason} prefix back told is = first_of-prefix prefix back reason (sym told ∙ ap result_err is)
 
-went_on : {A : Type 0} {answer : Result A Why} {value : A} (front back : List (Bool × Why)) →
-    result_err answer ≡ first_of front → answer ≡ Ok value → first_of (front ++ back) ≡ first_of back
-went_on {A} {answer} {value} front back told is = first_of-rest front back (sym told ∙ ap result_err is)
+went_on : {A : Type 0} {answer : Result A Why} {value : A} (prefix back : List (Bool × Why)) →
+    result_err answer ≡ first_of prefix → answer ≡ Ok value → first_of (prefix ++ back) ≡ first_of back
+went_on {A} {answer} {value} prefix back told is = first_of-rest prefix back (sym told ∙ ap result_err is)
 
 -- a step that stops with the reason that a check answered
 pub IsStep-stopped : (league : LeagueData) (k : Kept) (asked : Ask) {reason : Why} (result : Result (Unit {0}) Why) →
@@ -154,9 +154,9 @@ undo_told {league} {k} version kept told is none_is =
     went_on (version_rows (length k.history) k.room version) ((length k.changes == 0, why.NothingToUndo) ∷ []) told is ∙
     ap (λ (b : Bool). if b then Some why.NothingToUndo else None) none_is
 
-pub some_last : (changes front : List Change) (change : Change) → changes ≡ front ++ change ∷ [] → (length changes == 0) ≡ false
-some_last changes front change are =
-    ne_eqb (length changes) 0 (λ same. omega (arith, same, ap length are, length-append front (change ∷ [])))
+pub some_last : (changes prefix : List Change) (change : Change) → changes ≡ prefix ++ change ∷ [] → (length changes == 0) ≡ false
+some_last changes prefix change are =
+    ne_eqb (length changes) 0 (λ same. omega (arith, same, ap length are, length-append prefix (change ∷ [])))
 
 -- the rows of a proposal that come after the check of its move
 abbrev rows_after : LeagueData → Kept → Proposal → List (Bool × Why)

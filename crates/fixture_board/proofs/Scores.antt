@@ -23,9 +23,9 @@ use Rattle.tours.specs.Runs.{windows, is_run, runs_of, runs_over}
 use Rattle.tours.specs.Repeats.{repeats_after, repeats}
 use Rattle.tours.specs.Phased.{is_unphased, unphased}
 use Rattle.robinx.specs.Deviations.{deviation}
-use Rattle.fixture_board.specs.Costs.{hard_share, soft_share, share_of, sum_over_rules, where_phased, cost_of, score_of}
+use Rattle.fixture_board.specs.Costs.{hard_penalty, soft_penalty, penalty_of, sum_over_rules, where_phased, cost_of, score_of}
 use Rattle.fixture_board.specs.Costs.{score_limit}
-use Rattle.fixture_board.specs.CostShares.{IsSmall}
+use Rattle.fixture_board.specs.CostParts.{IsSmall}
 use Rattle.fixture_board.specs.declared.change.Change.{Change}
 use Rattle.fixture_board.specs.declared.change.Change.TheVariants.{Shift, Pin, Unpin, Undo}
 use Rattle.fixture_board.specs.declared.change.Entry.{Entry}
@@ -118,36 +118,36 @@ unphased_le g forty =
 where_phased_le : (l : LeagueData) (count most : ℕ) → count ≤ most → where_phased l count ≤ most
 where_phased_le l count most le = if_le l.phased count most le
 
-hard_share_le : (weight : Weight) (deviation : ℕ) → hard_share weight deviation ≤ deviation
-hard_share_le Hard deviation = omega arith
-hard_share_le (Soft weight) deviation = omega arith
+hard_penalty_le : (weight : Weight) (deviation : ℕ) → hard_penalty weight deviation ≤ deviation
+hard_penalty_le Hard deviation = omega arith
+hard_penalty_le (Soft weight) deviation = omega arith
 
-soft_share_le : (weight : Weight) (deviation : ℕ) → IsWeight weight → deviation ≤ deviation_limit →
-    soft_share weight deviation ≤ max_weight * deviation_limit
-soft_share_le Hard deviation is few = omega arith
-soft_share_le (Soft weight) deviation is few = omega (arith, mul-le-mul is.1 few)
+soft_penalty_le : (weight : Weight) (deviation : ℕ) → IsWeight weight → deviation ≤ deviation_limit →
+    soft_penalty weight deviation ≤ max_weight * deviation_limit
+soft_penalty_le Hard deviation is few = omega arith
+soft_penalty_le (Soft weight) deviation is few = omega (arith, mul-le-mul is.1 few)
 
 -- the sum over the rules, where no rule adds more than this
-share_le : (l : LeagueData) (g : Games) (share : Weight → ℕ → ℕ) (most : ℕ) → IsLeague l →
-    ((rule : Rule) → IsRuleFor (teams l) rule → share rule.weight (deviation g rule.body) ≤ most) →
-    (i : ℕ) (rule : Option Rule) → slice_get l.rules i ≡ rule → share_of share g rule ≤ most
-share_le l g share most is each i None at = omega arith
-share_le l g share most is each i (Some rule) at =
+penalty_le : (l : LeagueData) (g : Games) (penalty : Weight → ℕ → ℕ) (most : ℕ) → IsLeague l →
+    ((rule : Rule) → IsRuleFor (teams l) rule → penalty rule.weight (deviation g rule.body) ≤ most) →
+    (i : ℕ) (rule : Option Rule) → slice_get l.rules i ≡ rule → penalty_of penalty g rule ≤ most
+penalty_le l g penalty most is each i None at = omega arith
+penalty_le l g penalty most is each i (Some rule) at =
     each rule
     (subst (IsRuleFor (teams l)) (get_or_from_slice_get l.rules i rule rule at)
     (All-get_or (IsRuleFor (teams l)) l.rules i rule (slice_get_within l.rules i rule at)
     (All-from_recursion (IsRuleFor (teams l)) l.rules is.rules)))
 
-sum_over_rules_le : (l : LeagueData) (g : Games) (share : Weight → ℕ → ℕ) (most : ℕ) → IsLeague l →
-    ((rule : Rule) → IsRuleFor (teams l) rule → share rule.weight (deviation g rule.body) ≤ most) →
-    sum_over_rules share l.rules g ≤ max_rules * most
+sum_over_rules_le : (l : LeagueData) (g : Games) (penalty : Weight → ℕ → ℕ) (most : ℕ) → IsLeague l →
+    ((rule : Rule) → IsRuleFor (teams l) rule → penalty rule.weight (deviation g rule.body) ≤ most) →
+    sum_over_rules penalty l.rules g ≤ max_rules * most
 unfolding sum_over_rules
-sum_over_rules_le l g share most is each =
+sum_over_rules_le l g penalty most is each =
     omega (
       arith,
       mul-le-mul is.rule_count (le_refl most),
-      sum_below_le (length l.rules) most (λ i. share_of share g (slice_get l.rules i))
-          (λ i under. share_le l g share most is each i (slice_get l.rules i) refl),
+      sum_below_le (length l.rules) most (λ i. penalty_of penalty g (slice_get l.rules i))
+          (λ i under. penalty_le l g penalty most is each i (slice_get l.rules i) refl),
     )
 
 deviation_of : (l : LeagueData) (g : Games) (rule : Rule) → g.teams ≡ teams l → g.teams ≤ 40 → IsRuleFor (teams l) rule →
@@ -166,8 +166,8 @@ hard_le l g is same forty =
       runs_over_le g l.at_most forty,
       repeats_le g forty,
       where_phased_le l (unphased g) 1600 (unphased_le g forty),
-      sum_over_rules_le l g hard_share deviation_limit is
-          (λ rule for. omega (arith, hard_share_le rule.weight (deviation g rule.body), deviation_of l g rule same forty for)),
+      sum_over_rules_le l g hard_penalty deviation_limit is
+          (λ rule for. omega (arith, hard_penalty_le rule.weight (deviation g rule.body), deviation_of l g rule same forty for)),
     )
 
 soft_le : (l : LeagueData) (g : Games) → IsLeague l → g.teams ≡ teams l → g.teams ≤ 40 →
@@ -176,8 +176,8 @@ unfolding cost_of
 soft_le l g is same forty =
     omega (
       arith,
-      sum_over_rules_le l g soft_share (max_weight * deviation_limit) is
-          (λ rule for. soft_share_le rule.weight (deviation g rule.body) for.weight (deviation_of l g rule same forty for)),
+      sum_over_rules_le l g soft_penalty (max_weight * deviation_limit) is
+          (λ rule for. soft_penalty_le rule.weight (deviation g rule.body) for.weight (deviation_of l g rule same forty for)),
     )
 
 pub cost_travel : (l : LeagueData) (g : Games) → (cost_of l g).travel ≡ travel l g

@@ -56,15 +56,15 @@ IsSound-legal league room h is legal =
     }
 
 -- the change that was the last in effect, by the games and the pins before it
-pub record IsLastMade (league : LeagueData) (front : List Change) (change : Change) : Type 0 where
-  pub robin : IsDoubleRoundRobin (games_after (start_of league) front)
-  pub stand : AllStand (games_after (start_of league) front) (pins_after [] front)
-  pub fits : Fits (games_after (start_of league) front) (pins_after [] front) change
+pub record IsLastMade (league : LeagueData) (prefix : List Change) (change : Change) : Type 0 where
+  pub robin : IsDoubleRoundRobin (games_after (start_of league) prefix)
+  pub stand : AllStand (games_after (start_of league) prefix) (pins_after [] prefix)
+  pub fits : Fits (games_after (start_of league) prefix) (pins_after [] prefix) change
 
-Fit-front : (g : Games) (pins : List Game) (changes : List Change) (change : Change) → Fit g pins (changes ++ change ∷ []) →
+Fit-prefix : (g : Games) (pins : List Game) (changes : List Change) (change : Change) → Fit g pins (changes ++ change ∷ []) →
     Fit g pins changes
-Fit-front g pins [] change all = tt
-Fit-front g pins (x ∷ changes) change all = (all.0, Fit-front (shifted g x) (pinned pins x) changes change all.1)
+Fit-prefix g pins [] change all = tt
+Fit-prefix g pins (x ∷ changes) change all = (all.0, Fit-prefix (shifted g x) (pinned pins x) changes change all.1)
 
 Fit-last : (g : Games) (pins : List Game) (changes : List Change) (change : Change) → Fit g pins (changes ++ change ∷ []) →
     Fits (games_after g changes) (pins_after pins changes) change
@@ -72,13 +72,13 @@ unfolding games_after pins_after
 Fit-last g pins [] change all = all.0
 Fit-last g pins (x ∷ changes) change all = Fit-last (shifted g x) (pinned pins x) changes change all.1
 
-pub IsLastMade-legal : (league : LeagueData) (room : ℕ) (h : List Entry) (front : List Change) (change : Change) →
-    IsLeague league → IsLegal league room h → effective h ≡ front ++ change ∷ [] → IsLastMade league front change
-IsLastMade-legal league room h front change is legal last =
-    let all : FitFrom league (front ++ change ∷ []) = subst (FitFrom league) last (FitFrom-legal league room h legal) in
-    let before : FitFrom league front = Fit-front (start_of league) [] front change all in
+pub IsLastMade-legal : (league : LeagueData) (room : ℕ) (h : List Entry) (prefix : List Change) (change : Change) →
+    IsLeague league → IsLegal league room h → effective h ≡ prefix ++ change ∷ [] → IsLastMade league prefix change
+IsLastMade-legal league room h prefix change is legal last =
+    let all : FitFrom league (prefix ++ change ∷ []) = subst (FitFrom league) last (FitFrom-legal league room h legal) in
+    let before : FitFrom league prefix = Fit-prefix (start_of league) [] prefix change all in
     record {
-      robin = IsDoubleRoundRobin-after (start_of league) [] front (IsDoubleRoundRobin-start league is) before;
-      stand = AllStand-after (start_of league) [] front tt before;
-      fits = Fit-last (start_of league) [] front change all;
+      robin = IsDoubleRoundRobin-after (start_of league) [] prefix (IsDoubleRoundRobin-start league is) before;
+      stand = AllStand-after (start_of league) [] prefix tt before;
+      fits = Fit-last (start_of league) [] prefix change all;
     }

@@ -14,23 +14,23 @@ use Rattle.robinx.specs.Deviations.{deviation}
 use Rattle.fixture_board.specs.declared.cost.Cost.{Cost}
 
 -- what a deviation of a rule of this weight adds to hard
-abbrev pub hard_share : Weight → ℕ → ℕ
-hard_share Hard deviation = deviation
-hard_share (Soft weight) deviation = 0
+abbrev pub hard_penalty : Weight → ℕ → ℕ
+hard_penalty Hard deviation = deviation
+hard_penalty (Soft weight) deviation = 0
 
 -- what it adds to soft
-abbrev pub soft_share : Weight → ℕ → ℕ
-soft_share Hard deviation = 0
-soft_share (Soft weight) deviation = weight * deviation
+abbrev pub soft_penalty : Weight → ℕ → ℕ
+soft_penalty Hard deviation = 0
+soft_penalty (Soft weight) deviation = weight * deviation
 
 -- what one rule adds, where there is one
-abbrev pub share_of : (Weight → ℕ → ℕ) → Games → Option Rule → ℕ
-share_of share g None = 0
-share_of share g (Some rule) = share rule.weight (deviation g rule.body)
+abbrev pub penalty_of : (Weight → ℕ → ℕ) → Games → Option Rule → ℕ
+penalty_of penalty g None = 0
+penalty_of penalty g (Some rule) = penalty rule.weight (deviation g rule.body)
 
--- the sum over the rules, by their places
+-- the sum over the rules, by their indices
 unfoldable pub sum_over_rules : (Weight → ℕ → ℕ) → List Rule → Games → ℕ
-sum_over_rules share rules g = sum_below (length rules) (λ i. share_of share g (slice_get rules i))
+sum_over_rules penalty rules g = sum_below (length rules) (λ i. penalty_of penalty g (slice_get rules i))
 
 -- what is counted in a phased league alone
 abbrev pub where_phased : LeagueData → ℕ → ℕ
@@ -41,8 +41,8 @@ where_phased l count = if l.phased then count else 0
 unfoldable pub cost_of : LeagueData → Games → Cost
 cost_of l g = record {
   travel = travel l g;
-  hard = runs_over g l.at_most + repeats g + sum_over_rules hard_share l.rules g + where_phased l (unphased g);
-  soft = sum_over_rules soft_share l.rules g;
+  hard = runs_over g l.at_most + repeats g + sum_over_rules hard_penalty l.rules g + where_phased l (unphased g);
+  soft = sum_over_rules soft_penalty l.rules g;
 }
 
 -- what is compared where hard limits may be broken

@@ -1,5 +1,5 @@
 pub mod Costs
-pub mod CostShares
+pub mod CostParts
 pub mod History
 pub mod Replies
 pub mod Record

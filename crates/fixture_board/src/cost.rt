@@ -17,7 +17,7 @@ pub struct Cost {
 impl Cost {
     ghost use Rattle.std.specs.Prelude.{◌≡◌, ◌^◌, ◌<◌, ◌==◌};
     ghost use Rattle.fixture_board.specs.Costs.{score_of, total_of};
-    ghost use Rattle.fixture_board.specs.CostShares.{may_break};
+    ghost use Rattle.fixture_board.specs.CostParts.{may_break};
 
     /// What is compared where hard limits may be broken: travel and soft, and the league's hard weight for each
     /// breach of a hard limit.

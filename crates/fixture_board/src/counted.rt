@@ -1,17 +1,18 @@
 //! What an exchange can change of a cost that has to be counted, before it and after it: of the rules, and in a phased league of
 //! the pairs with both games in one half.
 
-ghost use Rattle.std.specs.Prelude.{◌≡◌, ◌*◌, ◌<◌, ◌≤◌};
+ghost use Rattle.std.specs.Prelude.{◌≡◌, ◌*◌, ◌≤◌};
 ghost use Rattle.league.specs.League.{teams};
 ghost use Rattle.league.specs.Limits.{max_teams};
 ghost use Rattle.league.specs.Sets.{has};
 ghost use Rattle.tours.specs.Phased.{unphased_part};
-ghost use Rattle.fixture_board.specs.Costs.{cost_of, score_of, score_limit, where_phased};
-ghost use Rattle.fixture_board.specs.CostShares.{penalties_share, with_penalties, IsRest, IsTold, IsWholeWithin};
+ghost use Rattle.moves.specs.Exchanges.{exchanged_by};
+ghost use Rattle.fixture_board.specs.Costs.{cost_of, where_phased, IsCostWithin};
+ghost use Rattle.fixture_board.specs.CostParts.{IsRest, IsScope, IsTold};
 
 use crate::cost::Cost;
 use crate::penalties::Penalties;
-use crate::rule_costs::shares_of_rules;
+use crate::rule_costs::parts_of_rules;
 use crate::scope::Scope;
 use fixtures::{Schedule, Touched};
 use league::League;
@@ -27,23 +28,25 @@ pub(crate) fn rest_of(
     told: Cost,
 ) -> Cost
     requires same_size { teams league.now ≡ schedule.now.teams }
+    requires scope { IsScope schedule.now scope.now }
     requires known { known ≡ cost_of league.now schedule.now }
     requires told { IsTold league.now schedule.now scope.now.exchange told }
-    ensures { IsRest league.now schedule.now scope.now told result }
+    ensures { IsRest league.now scope.now (exchanged_by schedule.now scope.now.exchange) result }
 {
+    prove_eq!(league.teams(), schedule.teams());
     if known.hard == 0 && known.soft == 0 {
         return told;
     }
-    let rules = shares_of_rules(schedule, league, scope.main, scope.turning, known);
+    let rules = parts_of_rules(schedule, league, scope.main, scope.turning, known);
     Cost {
         travel: told.travel,
-        hard: told.hard - phases_share(schedule, league, scope.main) - rules.hard,
+        hard: told.hard - phases_part(schedule, league, scope.main) - rules.hard,
         soft: told.soft - rules.soft,
     }
 }
 
-/// The rest with the penalties that the exchange can change, where their score is at most `most`. The rules are counted one after
-/// another, until the score is above it.
+/// The cost after an exchange, of which the rest is known, where its score is at most `most`. The rules are counted one after another,
+/// until the score is above it.
 pub(crate) fn whole_within(
     schedule: &Schedule,
     league: &League,
@@ -52,12 +55,12 @@ pub(crate) fn whole_within(
     most: u64,
 ) -> Option<Cost>
     requires same_size { teams league.now ≡ schedule.now.teams }
-    requires small { score_of league.now (with_penalties rest (penalties_share league.now scope.now schedule.now)) < score_limit }
-    ensures { IsWholeWithin league.now scope.now schedule.now rest most result }
+    requires rest { IsRest league.now scope.now schedule.now rest }
+    ensures { IsCostWithin league.now most schedule.now result }
 {
     prove_eq!(league.teams(), schedule.teams());
     let mut cost = Cost {
-        hard: rest.hard + phases_share(schedule, league, scope.main),
+        hard: rest.hard + phases_part(schedule, league, scope.main),
         ..rest
     };
     for i in 0..league.rule_count() {
@@ -66,9 +69,9 @@ pub(crate) fn whole_within(
         }
         let rule = league.rule(i);
         let part = deviation_part(schedule, rule, scope.main, scope.turning);
-        let share = Penalties::of_rule(rule.weight, part);
-        cost.hard += share.hard;
-        cost.soft += share.soft;
+        let added = Penalties::of_rule(rule.weight, part);
+        cost.hard += added.hard;
+        cost.soft += added.soft;
     }
     if cost.score(league) > most {
         return None;
@@ -77,7 +80,7 @@ pub(crate) fn whole_within(
 }
 
 /// Those of the pairs that the exchange can change, where the league is phased.
-fn phases_share(schedule: &Schedule, league: &League, main: Touched) -> u64
+fn phases_part(schedule: &Schedule, league: &League, main: Touched) -> u64
     ensures value { result ≡ where_phased league.now (unphased_part schedule.now (has main.teams)) }
     ensures most { result ≤ max_teams * max_teams }
 {

@@ -4,12 +4,11 @@ ghost use Rattle.std.specs.Prelude.{◌≡◌, ◌<◌, IfSome, MatchOption};
 ghost use Rattle.league.specs.League.{teams};
 ghost use Rattle.moves.specs.Exchanges.{exchanged_by, IsExchange};
 ghost use Rattle.fixture_board.specs.Costs.{cost_of, score_of, score_limit, IsCostWithin};
-ghost use Rattle.fixture_board.specs.CostShares.{IsTold};
 
 use crate::cost::Cost;
 use crate::counted::{rest_of, whole_within};
 use crate::scope::Scope;
-use crate::told_cost::{runs_of, told_cost, travel_after};
+use crate::told_cost::told_within;
 use fixtures::Schedule;
 use league::League;
 use moves::Exchange;
@@ -56,51 +55,14 @@ pub fn make_within(
     ensures small { IfSome result (λ cost. score_of league.now cost < score_limit) }
 {
     prove_eq!(league.teams(), schedule.teams());
-    let travel = travel_after(schedule, league, exchange, known.travel);
-    if travel > most {
-        return None;
+    let told = told_within(schedule, league, exchange, known, most)?;
+    if league.rule_count() == 0 && !league.phased() {
+        if told.score(league) > most {
+            return None;
+        }
+        exchange.make(schedule);
+        return Some(told);
     }
-    let runs = runs_of(schedule, league, exchange);
-    let least = Cost {
-        travel,
-        hard: runs.after,
-        soft: 0,
-    };
-    if least.score(league) > most {
-        return None;
-    }
-    let told = told_cost(schedule, league, exchange, known, travel, runs);
-    if league.rule_count() > 0 || league.phased() {
-        return make_counted(schedule, league, exchange, known, told, most);
-    }
-    if told.score(league) > most {
-        return None;
-    }
-    exchange.make(schedule);
-    Some(told)
-}
-
-/// The same in a league with rules or halves, whose penalties are counted before the exchange and after it.
-fn make_counted(
-    schedule: &mut Schedule,
-    league: &League,
-    exchange: &Exchange,
-    known: Cost,
-    told: Cost,
-    most: u64,
-) -> Option<Cost>
-    requires same_size { teams league.now ≡ schedule.old.teams }
-    requires can_be_made { IsExchange schedule.old exchange.now }
-    requires known { known ≡ cost_of league.now schedule.old }
-    requires told { IsTold league.now schedule.old exchange.now told }
-    ensures value { IsCostWithin league.now most (exchanged_by schedule.old exchange.now) result }
-    ensures schedule { MatchOption result (schedule.new ≡ schedule.old)
-        (λ cost. schedule.new ≡ exchanged_by schedule.old exchange.now) }
-    ensures again { IsExchange schedule.new exchange.now }
-    ensures back { IfSome result (λ cost. exchanged_by schedule.new exchange.now ≡ schedule.old) }
-    ensures small { IfSome result (λ cost. score_of league.now cost < score_limit) }
-{
-    prove_eq!(league.teams(), schedule.teams());
     let scope = Scope::of(exchange, schedule);
     let rest = rest_of(schedule, league, &scope, known, told);
     if rest.score(league) > most {

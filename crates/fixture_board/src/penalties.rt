@@ -3,7 +3,7 @@
 ghost use Rattle.std.specs.Prelude.{◌≡◌, ◌*◌, ◌≤◌};
 ghost use Rattle.league.specs.Limits.{deviation_limit, max_weight};
 ghost use Rattle.league.specs.RuleLimits.{IsWeight};
-ghost use Rattle.fixture_board.specs.Costs.{hard_share, soft_share};
+ghost use Rattle.fixture_board.specs.Costs.{hard_penalty, soft_penalty};
 
 use league::Weight;
 
@@ -21,8 +21,8 @@ impl Penalties {
     pub(crate) fn of_rule(weight: Weight, deviation: u64) -> Penalties
         requires weight { IsWeight weight }
         requires deviation { deviation ≤ deviation_limit }
-        ensures hard { result.hard ≡ hard_share weight deviation }
-        ensures soft { result.soft ≡ soft_share weight deviation }
+        ensures hard { result.hard ≡ hard_penalty weight deviation }
+        ensures soft { result.soft ≡ soft_penalty weight deviation }
         ensures hard_most { result.hard ≤ deviation_limit }
         ensures soft_most { result.soft ≤ max_weight * deviation_limit }
     {

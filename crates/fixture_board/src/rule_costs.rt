@@ -4,8 +4,8 @@ ghost use Rattle.std.specs.Prelude.{◌≡◌, ◌*◌, ◌<◌, ◌≤◌};
 ghost use Rattle.league.specs.League.{teams};
 ghost use Rattle.league.specs.Limits.{deviation_limit, max_rules, max_weight};
 ghost use Rattle.league.specs.RuleLimits.{IsBodyFor};
-ghost use Rattle.fixture_board.specs.Costs.{cost_of, hard_share, soft_share, sum_over_rules};
-ghost use Rattle.fixture_board.specs.CostShares.{breakable_part, rules_share};
+ghost use Rattle.fixture_board.specs.Costs.{cost_of, hard_penalty, soft_penalty, sum_over_rules};
+ghost use Rattle.fixture_board.specs.CostParts.{breakable_part, rules_part};
 
 use crate::cost::Cost;
 use crate::penalties::Penalties;
@@ -17,25 +17,25 @@ use robinx::{deviation, deviation_part};
 #[tactic(auto, using(league::proofs::ForCallers::sums), unfolding(crate::specs::Costs::sum_over_rules))]
 pub(crate) fn costs_of_rules(schedule: &Schedule, league: &League) -> Penalties
     requires { teams league.now ≡ schedule.now.teams }
-    ensures hard { result.hard ≡ sum_over_rules hard_share league.now.rules schedule.now }
-    ensures soft { result.soft ≡ sum_over_rules soft_share league.now.rules schedule.now }
+    ensures hard { result.hard ≡ sum_over_rules hard_penalty league.now.rules schedule.now }
+    ensures soft { result.soft ≡ sum_over_rules soft_penalty league.now.rules schedule.now }
     ensures hard_most { result.hard ≤ max_rules * deviation_limit }
     ensures soft_most { result.soft ≤ max_rules * (max_weight * deviation_limit) }
 {
     let mut costs = Penalties { hard: 0, soft: 0 };
     for i in 0..league.rule_count() {
         let rule = league.rule(i);
-        let share = Penalties::of_rule(rule.weight, deviation(schedule, rule));
-        costs.hard += share.hard;
-        costs.soft += share.soft;
+        let added = Penalties::of_rule(rule.weight, deviation(schedule, rule));
+        costs.hard += added.hard;
+        costs.soft += added.soft;
     }
     costs
 }
 
 /// What of that a change around the main teams can alter, where `sides` has the teams whose sides it may change. A rule isn't counted
 /// if the known cost has nothing of its kind.
-#[tactic(auto, using(league::proofs::ForCallers::sums), unfolding(crate::specs::CostShares::rules_share))]
-pub(crate) fn shares_of_rules(
+#[tactic(auto, using(league::proofs::ForCallers::sums), unfolding(crate::specs::CostParts::rules_part))]
+pub(crate) fn parts_of_rules(
     schedule: &Schedule,
     league: &League,
     main: Touched,
@@ -44,8 +44,8 @@ pub(crate) fn shares_of_rules(
 ) -> Penalties
     requires same_size { teams league.now ≡ schedule.now.teams }
     requires known { known ≡ cost_of league.now schedule.now }
-    ensures hard { result.hard ≡ rules_share hard_share league.now.rules main sides schedule.now }
-    ensures soft { result.soft ≡ rules_share soft_share league.now.rules main sides schedule.now }
+    ensures hard { result.hard ≡ rules_part hard_penalty league.now.rules main sides schedule.now }
+    ensures soft { result.soft ≡ rules_part soft_penalty league.now.rules main sides schedule.now }
     ensures hard_most { result.hard ≤ max_rules * deviation_limit }
     ensures soft_most { result.soft ≤ max_rules * (max_weight * deviation_limit) }
 {
@@ -53,9 +53,9 @@ pub(crate) fn shares_of_rules(
     for i in 0..league.rule_count() {
         let rule = league.rule(i);
         let part = breakable_part(schedule, rule, main, sides, known);
-        let share = Penalties::of_rule(rule.weight, part);
-        costs.hard += share.hard;
-        costs.soft += share.soft;
+        let added = Penalties::of_rule(rule.weight, part);
+        costs.hard += added.hard;
+        costs.soft += added.soft;
     }
     costs
 }

@@ -2,7 +2,7 @@
 
 ghost use Rattle.std.specs.Prelude.{◌≡◌};
 ghost use Rattle.moves.specs.Exchanges.{IsExchange};
-ghost use Rattle.fixture_board.specs.CostShares.{IsScope};
+ghost use Rattle.fixture_board.specs.CostParts.{IsScope};
 
 use fixtures::{Schedule, Touched};
 use league::TeamSet;

@@ -1,14 +1,14 @@
 //! What an exchange changes in a cost, told on the schedule before it.
 
-ghost use Rattle.std.specs.Prelude.{◌≡◌, ◌+◌, ◌*◌, ◌≤◌};
+ghost use Rattle.std.specs.Prelude.{◌≡◌, ◌+◌, ◌*◌, ◌<◌, ◌≤◌, MatchOption};
 ghost use Rattle.league.specs.League.{teams};
 ghost use Rattle.league.specs.Limits.{max_distance, max_rounds, max_teams};
 ghost use Rattle.tours.specs.Repeats.{repeats};
 ghost use Rattle.tours.specs.Runs.{runs_over};
 ghost use Rattle.tours.specs.Tours.{travel};
 ghost use Rattle.moves.specs.Exchanges.{exchanged_by, IsExchange};
-ghost use Rattle.fixture_board.specs.Costs.{cost_of};
-ghost use Rattle.fixture_board.specs.CostShares.{IsTold};
+ghost use Rattle.fixture_board.specs.Costs.{cost_of, score_of};
+ghost use Rattle.fixture_board.specs.CostParts.{IsTold};
 
 use crate::cost::Cost;
 use fixtures::Schedule;
@@ -19,13 +19,45 @@ use tours::{
     runs_of_rounds, runs_of_teams,
 };
 
-/// The travel after an exchange.
-pub(crate) fn travel_after(
+/// The cost with the travel, the runs and the repeats after an exchange, and all else as it is before it. None where the travel
+/// alone, or with some of the runs, scores over `most`: then the whole cost after it does so too.
+pub(crate) fn told_within(
     schedule: &Schedule,
     league: &League,
     exchange: &Exchange,
-    known: u64,
-) -> u64
+    known: Cost,
+    most: u64,
+) -> Option<Cost>
+    requires same_size { teams league.now ≡ schedule.now.teams }
+    requires can_be_made { IsExchange schedule.now exchange.now }
+    requires known { known ≡ cost_of league.now schedule.now }
+    ensures { MatchOption result (most < score_of league.now (cost_of league.now (exchanged_by schedule.now exchange.now)))
+        (λ told. IsTold league.now schedule.now exchange.now told) }
+{
+    prove_eq!(league.teams(), schedule.teams());
+    let travel = travel_after(schedule, league, exchange, known.travel);
+    if travel > most {
+        return None;
+    }
+    let runs = runs_of(schedule, league, exchange);
+    let least = Cost {
+        travel,
+        hard: runs.after,
+        soft: 0,
+    };
+    if least.score(league) > most {
+        return None;
+    }
+    let repeats = repeats_of(schedule, exchange);
+    Some(Cost {
+        travel,
+        hard: known.hard + runs.after + repeats.after - runs.before - repeats.before,
+        soft: known.soft,
+    })
+}
+
+/// The travel after an exchange.
+fn travel_after(schedule: &Schedule, league: &League, exchange: &Exchange, known: u64) -> u64
     requires same_size { teams league.now ≡ schedule.now.teams }
     requires can_be_made { IsExchange schedule.now exchange.now }
     requires known { known ≡ travel league.now schedule.now }
@@ -51,7 +83,7 @@ fn legs_of(schedule: &Schedule, league: &League, exchange: &Exchange) -> Legs
 }
 
 /// The runs that an exchange alters.
-pub(crate) fn runs_of(schedule: &Schedule, league: &League, exchange: &Exchange) -> Breaches
+fn runs_of(schedule: &Schedule, league: &League, exchange: &Exchange) -> Breaches
     requires same_size { teams league.now ≡ schedule.now.teams }
     requires can_be_made { IsExchange schedule.now exchange.now }
     ensures balance { runs_over (exchanged_by schedule.now exchange.now) league.now.at_most + result.before ≡
@@ -75,32 +107,5 @@ fn repeats_of(schedule: &Schedule, exchange: &Exchange) -> Breaches
     match *exchange {
         Exchange::Rounds { k, l, among } => repeats_of_rounds(schedule, k, l, among),
         Exchange::Teams { i, j, among } => repeats_of_teams(schedule, i, j, among),
-    }
-}
-
-/// The cost with the travel, the runs and the repeats after an exchange, and all else as it is before it.
-pub(crate) fn told_cost(
-    schedule: &Schedule,
-    league: &League,
-    exchange: &Exchange,
-    known: Cost,
-    new_travel: u64,
-    runs: Breaches,
-) -> Cost
-    requires same_size { teams league.now ≡ schedule.now.teams }
-    requires can_be_made { IsExchange schedule.now exchange.now }
-    requires known { known ≡ cost_of league.now schedule.now }
-    requires new_travel { new_travel ≡ travel league.now (exchanged_by schedule.now exchange.now) }
-    requires runs { runs_over (exchanged_by schedule.now exchange.now) league.now.at_most + runs.before ≡
-        runs_over schedule.now league.now.at_most + runs.after }
-    requires runs_most { runs.after ≤ max_teams * max_rounds }
-    ensures { IsTold league.now schedule.now exchange.now result }
-{
-    prove_eq!(league.teams(), schedule.teams());
-    let repeats = repeats_of(schedule, exchange);
-    Cost {
-        travel: new_travel,
-        hard: known.hard + runs.after + repeats.after - runs.before - repeats.before,
-        soft: known.soft,
     }
 }

@@ -8,30 +8,30 @@ use Rattle.phases.specs.declared.chain.Chain.{Chain}
 use Rattle.phases.specs.declared.chain.PhaseOutcome.{PhaseOutcome}
 use Rattle.phases.specs.Chains.{chain_with, new_chain, put, chain_at, settled}
 use Rattle.phases.specs.Policy.{PolicyData, policy_data, IsPolicy, is_chain, chains_after}
-use Rattle.phases.specs.Stages.{place_of}
-use Rattle.phases.proofs.Levels.{chains_most, place_in_level}
+use Rattle.phases.specs.Stages.{rank_of}
+use Rattle.phases.proofs.Levels.{chains_most, rank_in_level}
 use Rattle.phases.proofs.Order.{length_put, all_put}
 use Rattle.phases.proofs.Runs.{told_chains, after_inside, after_bout}
 
-length_settled : (cs : List Chain) (place : ℕ) → place < length cs → length (settled cs place) ≡ length cs
+length_settled : (cs : List Chain) (rank : ℕ) → rank < length cs → length (settled cs rank) ≡ length cs
 unfolding settled
-length_settled cs place below =
-    let c = chain_at cs place in
+length_settled cs rank below =
+    let c = chain_at cs rank in
     omega (
       arith,
-      length-append (put c (take place cs)) (drop (place + 1) cs),
-      length_put c (take place cs),
-      length-take-le place cs (omega arith),
-      length-drop (place + 1) cs,
+      length-append (put c (take rank cs)) (drop (rank + 1) cs),
+      length_put c (take rank cs),
+      length-take-le rank cs (omega arith),
+      length-drop (rank + 1) cs,
     )
 
-all_settled : (cs : List Chain) (place : ℕ) → place < length cs → All is_chain cs → All is_chain (settled cs place)
+all_settled : (cs : List Chain) (rank : ℕ) → rank < length cs → All is_chain cs → All is_chain (settled cs rank)
 unfolding settled
-all_settled cs place below all =
-    let c = chain_at cs place in
-    All-append is_chain (put c (take place cs)) (drop (place + 1) cs)
-    (all_put is_chain c (take place cs) (All-get_or is_chain cs place (new_chain 0) below all) (All-take is_chain place cs all))
-    (All-drop is_chain (place + 1) cs all)
+all_settled cs rank below all =
+    let c = chain_at cs rank in
+    All-append is_chain (put c (take rank cs)) (drop (rank + 1) cs)
+    (all_put is_chain c (take rank cs) (All-get_or is_chain cs rank (new_chain 0) below all) (All-take is_chain rank cs all))
+    (All-drop is_chain (rank + 1) cs all)
 
 -- eight chains, with numbers below 8
 pub record AreChains (cs : List Chain) : Type 0 where
@@ -40,20 +40,20 @@ pub record AreChains (cs : List Chain) : Type 0 where
 
 told_kept : (told : ℕ) (cs : List Chain) (o : PhaseOutcome) → AreChains cs → AreChains (told_chains told cs o)
 told_kept told cs o p =
-    let k = place_of told in
+    let k = rank_of told in
     let c = chain_at cs k in
-    let below : k < length cs = omega (arith, place_in_level told, chains_most told, p.count) in
+    let below : k < length cs = omega (arith, rank_in_level told, chains_most told, p.count) in
     record {
       count = length-set cs k (chain_with c o) ∙ p.count;
       all = All-set is_chain cs k (chain_with c o) (All-get_or is_chain cs k (new_chain 0) below p.all) p.all;
     }
 
-settled_kept : (told : ℕ) (cs : List Chain) → AreChains cs → AreChains (settled cs (place_of told))
+settled_kept : (told : ℕ) (cs : List Chain) → AreChains cs → AreChains (settled cs (rank_of told))
 settled_kept told cs p =
-    let below : place_of told < length cs = omega (arith, place_in_level told, chains_most told, p.count) in
+    let below : rank_of told < length cs = omega (arith, rank_in_level told, chains_most told, p.count) in
     record {
-      count = length_settled cs (place_of told) below ∙ p.count;
-      all = all_settled cs (place_of told) below p.all;
+      count = length_settled cs (rank_of told) below ∙ p.count;
+      all = all_settled cs (rank_of told) below p.all;
     }
 
 pub chains_kept : (cs : List Chain) (told : ℕ) (o : PhaseOutcome) → AreChains cs → AreChains (chains_after cs told o)

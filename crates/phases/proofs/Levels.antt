@@ -1,19 +1,19 @@
 -- Where the phases stand, as numbers.
 use Rattle.std.proofs.Common.{◌≡◌, ◌≢◌, ℕ, ◌+◌, ◌%◌, ◌<◌, ◌≤◌, refl, arith}
 use Rattle.std.proofs.lemmas.Bool.Decides.{nat_tests}
-use Rattle.phases.specs.Stages.{chain_count, place_of, parts_of, share_of}
+use Rattle.phases.specs.Stages.{chain_count, rank_of, slices_before, slices_of}
 
-pub parts_none : parts_of 0 ≡ 0
-unfolding parts_of
-parts_none = refl
+pub slices_none : slices_before 0 ≡ 0
+unfolding slices_before
+slices_none = refl
 
-pub parts_in_all : parts_of 380 ≡ 1280
-unfolding parts_of
-parts_in_all = refl
+pub slices_in_all : slices_before 380 ≡ 1280
+unfolding slices_before
+slices_in_all = refl
 
-pub parts_more : (told : ℕ) → parts_of (told + 1) ≡ parts_of told + share_of told
-unfolding parts_of share_of
-parts_more told = grind (arith, nat_tests)
+pub slices_more : (told : ℕ) → slices_before (told + 1) ≡ slices_before told + slices_of told
+unfolding slices_before slices_of
+slices_more told = grind (arith, nat_tests)
 
 pub chains_most : (told : ℕ) → chain_count told ≤ 8
 unfolding chain_count
@@ -23,25 +23,25 @@ pub chains_fall : (told : ℕ) → chain_count (told + 1) ≤ chain_count told
 unfolding chain_count
 chains_fall told = grind (arith, nat_tests)
 
-pub place_in_level : (told : ℕ) → place_of told < chain_count told
-unfolding place_of chain_count
-place_in_level told = grind (arith, nat_tests)
+pub rank_in_level : (told : ℕ) → rank_of told < chain_count told
+unfolding rank_of chain_count
+rank_in_level told = grind (arith, nat_tests)
 
-pub place_rises : (told : ℕ) → place_of (told + 1) ≤ place_of told + 1
-unfolding place_of
-place_rises told = grind (arith, nat_tests)
+pub rank_rises : (told : ℕ) → rank_of (told + 1) ≤ rank_of told + 1
+unfolding rank_of
+rank_rises told = grind (arith, nat_tests)
 
 -- within a bout
 
-pub place_in_bout : (told : ℕ) → told % 20 ≢ 19 → place_of (told + 1) ≤ place_of told
-unfolding place_of
-place_in_bout told inside = grind (arith, nat_tests)
+pub rank_in_bout : (told : ℕ) → told % 20 ≢ 19 → rank_of (told + 1) ≤ rank_of told
+unfolding rank_of
+rank_in_bout told inside = grind (arith, nat_tests)
 
 pub chains_in_bout : (told : ℕ) → told % 20 ≢ 19 → chain_count (told + 1) ≡ chain_count told
 unfolding chain_count
 chains_in_bout told inside = grind (arith, nat_tests)
 
 -- at the end of a level whose number of chains is not that of the next
-pub level_ends : (told : ℕ) → chain_count (told + 1) ≢ chain_count told → chain_count told ≡ place_of told + 1
-unfolding place_of chain_count
+pub level_ends : (told : ℕ) → chain_count (told + 1) ≢ chain_count told → chain_count told ≡ rank_of told + 1
+unfolding rank_of chain_count
 level_ends told other = grind (arith, nat_tests)

@@ -127,8 +127,8 @@ least_put_last c ds =
     least_put c ds ∙ lesser_comm c.best (least_best ds) ∙
     ap (λ b. lesser (least_best ds) b) (sym (lesser_none c.best)) ∙ sym (least_append ds (c ∷ []))
 
-pub least_same_front : (xs ys zs : List Chain) → least_best xs ≡ least_best ys → least_best (xs ++ zs) ≡ least_best (ys ++ zs)
-least_same_front xs ys zs same =
+pub least_same_prefix : (xs ys zs : List Chain) → least_best xs ≡ least_best ys → least_best (xs ++ zs) ≡ least_best (ys ++ zs)
+least_same_prefix xs ys zs same =
     least_append xs zs ∙ ap (λ b. lesser b (least_best zs)) same ∙ sym (least_append ys zs)
 
 -- one of the first n chains gets a lesser total
@@ -162,11 +162,11 @@ first_is_least c (d ∷ ds) all =
     ap (λ b. lesser b (least_best ds)) (leads c.best d.best c d (All-head (IsNotBetter c) d ds all)) ∙
     first_is_least c ds (All-tail (IsNotBetter c) d ds all)
 
-pub least_of_front : (m : ℕ) (cs : List Chain) → IsInOrder cs → 1 ≤ m → least_best (take m cs) ≡ least_best cs
+pub least_of_prefix : (m : ℕ) (cs : List Chain) → IsInOrder cs → 1 ≤ m → least_best (take m cs) ≡ least_best cs
 unfolding least_best IsInOrder
-least_of_front zero cs order some = absurd (omega arith)
-least_of_front (suc m) [] order some = refl
-least_of_front (suc m) (c ∷ cs) order some =
+least_of_prefix zero cs order some = absurd (omega arith)
+least_of_prefix (suc m) [] order some = refl
+least_of_prefix (suc m) (c ∷ cs) order some =
     first_is_least c (take m cs) (All-take (IsNotBetter c) m cs order.0) ∙ sym (first_is_least c cs order.0)
 
 pub least_of_one : (c : Chain) → least_best (c ∷ []) ≡ c.best

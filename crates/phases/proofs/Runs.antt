@@ -11,40 +11,40 @@ use Rattle.phases.specs.declared.chain.PhaseOutcome.{PhaseOutcome}
 use Rattle.phases.specs.Chains.{lesser, chain_with, new_chain, put, chain_at, settled}
 use Rattle.phases.specs.Policy.{PolicyData, policy_data, new_policy, first_chains, chains_after, policy_after}
 use Rattle.phases.specs.Laws.{policy_of, least_told, lesser_told, least_best, IsInOrder}
-use Rattle.phases.specs.Stages.{chain_count, place_of}
-use Rattle.phases.proofs.Levels.{chains_most, chains_fall, place_in_level, place_rises}
-use Rattle.phases.proofs.Levels.{place_in_bout, chains_in_bout, level_ends}
-use Rattle.phases.proofs.Order.{length_put, in_order_put, in_order_take, least_put_last, least_same_front, least_set}
-use Rattle.phases.proofs.Order.{least_of_front, least_of_one}
+use Rattle.phases.specs.Stages.{chain_count, rank_of}
+use Rattle.phases.proofs.Levels.{chains_most, chains_fall, rank_in_level, rank_rises}
+use Rattle.phases.proofs.Levels.{rank_in_bout, chains_in_bout, level_ends}
+use Rattle.phases.proofs.Order.{length_put, in_order_put, in_order_take, least_put_last, least_same_prefix, least_set}
+use Rattle.phases.proofs.Order.{least_of_prefix, least_of_one}
 
--- the first of the chains, with the one at the place put into those before it
-record IsSettled (cs : List Chain) (place n : ℕ) : Type 0 where
-  count : length (settled cs place) ≡ length cs
-  order : IsInOrder (take (place + 1) (settled cs place))
-  least : least_best (take n (settled cs place)) ≡ least_best (take n cs)
+-- the first of the chains, with the one at the rank put into those before it
+record IsSettled (cs : List Chain) (rank n : ℕ) : Type 0 where
+  count : length (settled cs rank) ≡ length cs
+  order : IsInOrder (take (rank + 1) (settled cs rank))
+  least : least_best (take n (settled cs rank)) ≡ least_best (take n cs)
 
-is_settled : (cs : List Chain) (place n : ℕ) → place < n → n ≤ length cs → IsInOrder (take place cs) → IsSettled cs place n
+is_settled : (cs : List Chain) (rank n : ℕ) → rank < n → n ≤ length cs → IsInOrder (take rank cs) → IsSettled cs rank n
 unfolding settled
-is_settled cs place n below within order =
-    let c = chain_at cs place in
-    let front = put c (take place cs) in
-    let back = drop (place + 1) cs in
-    let len : length front ≡ place + 1 = omega (arith, length_put c (take place cs), length-take-le place cs (omega arith)) in
-    let front_is : take (place + 1) (front ++ back) ≡ front = take_at front back (place + 1) len in
-    let back_is : drop (place + 1) (front ++ back) ≡ back = drop_at front back (place + 1) len in
-    let rest = n - (place + 1) in
-    let parts : place + 1 + rest ≡ n = omega arith in
-    let new_is : take n (front ++ back) ≡ front ++ take rest back =
-    ap (λ j. take j (front ++ back)) (sym parts) ∙ take-add (place + 1) rest (front ++ back) ∙
-    ap (λ xs. xs ++ take rest (drop (place + 1) (front ++ back))) front_is ∙ ap (λ xs. front ++ take rest xs) back_is in
-    let old_is : take n cs ≡ (take place cs ++ c ∷ []) ++ take rest back =
-    ap (λ j. take j cs) (sym parts) ∙ take-add (place + 1) rest cs ∙
-    ap (λ xs. xs ++ take rest back) (take_more cs place (new_chain 0) (omega arith)) in
+is_settled cs rank n below within order =
+    let c = chain_at cs rank in
+    let prefix = put c (take rank cs) in
+    let back = drop (rank + 1) cs in
+    let len : length prefix ≡ rank + 1 = omega (arith, length_put c (take rank cs), length-take-le rank cs (omega arith)) in
+    let prefix_is : take (rank + 1) (prefix ++ back) ≡ prefix = take_at prefix back (rank + 1) len in
+    let back_is : drop (rank + 1) (prefix ++ back) ≡ back = drop_at prefix back (rank + 1) len in
+    let rest = n - (rank + 1) in
+    let whole : rank + 1 + rest ≡ n = omega arith in
+    let new_is : take n (prefix ++ back) ≡ prefix ++ take rest back =
+    ap (λ j. take j (prefix ++ back)) (sym whole) ∙ take-add (rank + 1) rest (prefix ++ back) ∙
+    ap (λ xs. xs ++ take rest (drop (rank + 1) (prefix ++ back))) prefix_is ∙ ap (λ xs. prefix ++ take rest xs) back_is in
+    let old_is : take n cs ≡ (take rank cs ++ c ∷ []) ++ take rest back =
+    ap (λ j. take j cs) (sym whole) ∙ take-add (rank + 1) rest cs ∙
+    ap (λ xs. xs ++ take rest back) (take_more cs rank (new_chain 0) (omega arith)) in
     record {
-      count = omega (arith, length-append front back, length-drop (place + 1) cs, len);
-      order = rw front_is (in_order_put c (take place cs) order);
+      count = omega (arith, length-append prefix back, length-drop (rank + 1) cs, len);
+      order = rw prefix_is (in_order_put c (take rank cs) order);
       least = ap least_best new_is ∙
-          least_same_front front (take place cs ++ c ∷ []) (take rest back) (least_put_last c (take place cs)) ∙
+          least_same_prefix prefix (take rank cs ++ c ∷ []) (take rest back) (least_put_last c (take rank cs)) ∙
           ap least_best (sym old_is);
     }
 
@@ -52,12 +52,12 @@ is_settled cs place n below within order =
 -- of all that were told. As a bout ends, its chain is in order with those before it.
 pub record Holds (told : ℕ) (cs : List Chain) (least : Option ℕ) : Type 0 where
   pub count : length cs ≡ 8
-  pub order : IsInOrder (take (place_of told) cs)
+  pub order : IsInOrder (take (rank_of told) cs)
   pub least_is : least_best (take (chain_count told) cs) ≡ least
-  pub ended : (before : ℕ) → before + 1 ≡ told → before % 20 ≡ 19 → IsInOrder (take (place_of before + 1) cs)
+  pub ended : (before : ℕ) → before + 1 ≡ told → before % 20 ≡ 19 → IsInOrder (take (rank_of before + 1) cs)
 
 pub holds_first : Holds 0 first_chains None
-unfolding place_of chain_count least_best IsInOrder
+unfolding rank_of chain_count least_best IsInOrder
 holds_first = record {
   count = refl;
   order = tt;
@@ -66,29 +66,29 @@ holds_first = record {
 }
 
 abbrev pub told_chains : ℕ → List Chain → PhaseOutcome → List Chain
-told_chains told cs o = set cs (place_of told) (chain_with (chain_at cs (place_of told)) o)
+told_chains told cs o = set cs (rank_of told) (chain_with (chain_at cs (rank_of told)) o)
 
 pub after_inside : (told : ℕ) (cs : List Chain) (o : PhaseOutcome) → told % 20 ≢ 19 → chains_after cs told o ≡ told_chains told cs o
 unfolding chains_after
 after_inside told cs o inside = cond-false _ _ _ (ne_eqb (told % 20) 19 inside)
 
 pub after_bout : (told : ℕ) (cs : List Chain) (o : PhaseOutcome) → told % 20 ≡ 19 →
-    chains_after cs told o ≡ settled (told_chains told cs o) (place_of told)
+    chains_after cs told o ≡ settled (told_chains told cs o) (rank_of told)
 unfolding chains_after
 after_bout told cs o ends = cond-true _ _ _ (eq-eqb (told % 20) 19 ends)
 
--- the chains once the outcome stands at its place
+-- the chains once the outcome stands at its rank
 record IsTold (told : ℕ) (cs : List Chain) (least : Option ℕ) : Type 0 where
   count : length cs ≡ 8
-  order : IsInOrder (take (place_of told) cs)
+  order : IsInOrder (take (rank_of told) cs)
   least_is : least_best (take (chain_count told) cs) ≡ least
 
 is_told : (told : ℕ) (cs : List Chain) (least : Option ℕ) (o : PhaseOutcome) → Holds told cs least →
     IsTold told (told_chains told cs o) (lesser least o.best)
 is_told told cs least o was =
-    let k = place_of told in
+    let k = rank_of told in
     let c = chain_with (chain_at cs k) o in
-    let below : k < chain_count told = place_in_level told in
+    let below : k < chain_count told = rank_in_level told in
     let within : k < length cs = omega (arith, chains_most told, was.count, below) in
     record {
       count = length-set cs k c ∙ was.count;
@@ -96,39 +96,39 @@ is_told told cs least o was =
       least_is = least_set (chain_count told) k cs c o.best below within refl ∙ ap (λ b. lesser b o.best) was.least_is;
     }
 
-in_order_front : (m n : ℕ) (cs : List Chain) → m ≤ n → IsInOrder (take n cs) → IsInOrder (take m cs)
-in_order_front m n cs fewer order =
+in_order_prefix : (m n : ℕ) (cs : List Chain) → m ≤ n → IsInOrder (take n cs) → IsInOrder (take m cs)
+in_order_prefix m n cs fewer order =
     let P : List Chain → Type 0 = λ xs. IsInOrder xs in
     subst P (take-take m n cs fewer) (in_order_take m (take n cs) order)
 
 inside_next : (told : ℕ) (cs : List Chain) (least : Option ℕ) → told % 20 ≢ 19 → IsTold told cs least → Holds (told + 1) cs least
 inside_next told cs least inside is = record {
   count = is.count;
-  order = in_order_front (place_of (told + 1)) (place_of told) cs (place_in_bout told inside) is.order;
+  order = in_order_prefix (rank_of (told + 1)) (rank_of told) cs (rank_in_bout told inside) is.order;
   least_is = rw (chains_in_bout told inside) is.least_is;
   ended = λ before next ends. let same : told ≡ before = omega arith in absurd (inside (rw same ends));
 }
 
 -- the least total goes on to the next level
-least_onward : (told : ℕ) (cs : List Chain) → IsInOrder (take (place_of told + 1) cs) →
+least_onward : (told : ℕ) (cs : List Chain) → IsInOrder (take (rank_of told + 1) cs) →
     least_best (take (chain_count (told + 1)) cs) ≡ least_best (take (chain_count told) cs)
 least_onward told cs order = elim (cases_eq (chain_count (told + 1)) (chain_count told)) [
   | inl same ↦ ap (λ n. least_best (take n cs)) same
   | inr other ↦
       let all : IsInOrder (take (chain_count told) cs) = rw (level_ends told other) order in
       ap least_best (sym (take-take (chain_count (told + 1)) (chain_count told) cs (chains_fall told))) ∙
-      least_of_front (chain_count (told + 1)) (take (chain_count told) cs) all (omega (arith, place_in_level (told + 1)))
+      least_of_prefix (chain_count (told + 1)) (take (chain_count told) cs) all (omega (arith, rank_in_level (told + 1)))
 ]
 
 bout_next : (told : ℕ) (cs : List Chain) (least : Option ℕ) → IsTold told cs least →
-    Holds (told + 1) (settled cs (place_of told)) least
+    Holds (told + 1) (settled cs (rank_of told)) least
 bout_next told cs least is =
     let few : chain_count told ≤ length cs = omega (arith, chains_most told, is.count) in
-    let s = is_settled cs (place_of told) (chain_count told) (place_in_level told) few is.order in
-    let new = settled cs (place_of told) in
+    let s = is_settled cs (rank_of told) (chain_count told) (rank_in_level told) few is.order in
+    let new = settled cs (rank_of told) in
     record {
       count = s.count ∙ is.count;
-      order = in_order_front (place_of (told + 1)) (place_of told + 1) new (place_rises told) s.order;
+      order = in_order_prefix (rank_of (told + 1)) (rank_of told + 1) new (rank_rises told) s.order;
       least_is = least_onward told new s.order ∙ s.least ∙ is.least_is;
       ended = λ before next ends. let same : before ≡ told = omega arith in rw same s.order;
     }

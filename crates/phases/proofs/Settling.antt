@@ -14,13 +14,13 @@ pub put_behind : (c d : Chain) (ds : List Chain) → is_better c d ≡ false →
 put_behind c d ds later = rw later refl
 
 -- Of the chains that were there, those before i were met, and the next one is put into the others.
-pub record IsCarried (were : List Chain) (place : ℕ) (are : List Chain) (i : ℕ) (next : Chain) : Type 0 where
+pub record IsCarried (were : List Chain) (rank : ℕ) (are : List Chain) (i : ℕ) (next : Chain) : Type 0 where
   pub count : length are ≡ length were
   pub rest : drop i are ≡ drop i were
-  pub value : put (chain_at were place) (take place were) ≡ take i are ++ put next (drop i (take place were))
+  pub value : put (chain_at were rank) (take rank were) ≡ take i are ++ put next (drop i (take rank were))
 
-pub carried_first : (were : List Chain) (place : ℕ) → IsCarried were place were 0 (chain_at were place)
-carried_first were place = record { count = refl; rest = refl; value = refl }
+pub carried_first : (were : List Chain) (rank : ℕ) → IsCarried were rank were 0 (chain_at were rank)
+carried_first were rank = record { count = refl; rest = refl; value = refl }
 
 same_rest : (xs ys : List Chain) (i : ℕ) → drop i xs ≡ drop i ys → drop (i + 1) xs ≡ drop (i + 1) ys
 same_rest xs ys i same = sym (drop-drop 1 i xs) ∙ ap (drop 1) same ∙ drop-drop 1 i ys
@@ -34,40 +34,40 @@ same_at xs ys i same =
     sym (at xs) ∙ ap (λ zs. get_or zs 0 d) same ∙ at ys
 
 -- the chain that is met next stands first among those that were not met
-met : (were : List Chain) (place : ℕ) (are : List Chain) (i : ℕ) (next : Chain) →
-    IsCarried were place are i next → i < place → place < length were →
-    drop i (take place were) ≡ chain_at are i ∷ drop (i + 1) (take place were)
-met were place are i next p below within =
+met : (were : List Chain) (rank : ℕ) (are : List Chain) (i : ℕ) (next : Chain) →
+    IsCarried were rank are i next → i < rank → rank < length were →
+    drop i (take rank were) ≡ chain_at are i ∷ drop (i + 1) (take rank were)
+met were rank are i next p below within =
     let d = new_chain 0 in
-    let enough : i < length (take place were) = omega (arith, length-take-le place were (omega arith)) in
-    drop_more (take place were) i d enough ∙
-    ap (λ c. c ∷ drop (i + 1) (take place were)) (get_or-take place were i d below ∙ sym (same_at are were i p.rest))
+    let enough : i < length (take rank were) = omega (arith, length-take-le rank were (omega arith)) in
+    drop_more (take rank were) i d enough ∙
+    ap (λ c. c ∷ drop (i + 1) (take rank were)) (get_or-take rank were i d below ∙ sym (same_at are were i p.rest))
 
-before : (were : List Chain) (place : ℕ) (are : List Chain) (i : ℕ) (next : Chain) →
-    IsCarried were place are i next → i < place → place < length were → is_better next (chain_at are i) ≡ true →
-    IsCarried were place (set are i next) (i + 1) (chain_at are i)
-before were place are i next p below within first = record {
+before : (were : List Chain) (rank : ℕ) (are : List Chain) (i : ℕ) (next : Chain) →
+    IsCarried were rank are i next → i < rank → rank < length were → is_better next (chain_at are i) ≡ true →
+    IsCarried were rank (set are i next) (i + 1) (chain_at are i)
+before were rank are i next p below within first = record {
   count = length-set are i next ∙ p.count;
   rest = drop-set-lt (i + 1) are i next (omega arith) ∙ same_rest are were i p.rest;
   value =
-      let left = drop (i + 1) (take place were) in
+      let left = drop (i + 1) (take rank were) in
       p.value ∙
-      ap (λ xs. take i are ++ put next xs) (met were place are i next p below within) ∙
+      ap (λ xs. take i are ++ put next xs) (met were rank are i next p below within) ∙
       ap (λ xs. take i are ++ xs) (put_before next (chain_at are i) left first) ∙
       sym (append_assoc (take i are) (next ∷ []) (put (chain_at are i) left)) ∙
       ap (λ xs. xs ++ put (chain_at are i) left) (sym (take_more_set are i next (omega (arith, p.count))));
 }
 
-behind : (were : List Chain) (place : ℕ) (are : List Chain) (i : ℕ) (next : Chain) →
-    IsCarried were place are i next → i < place → place < length were → is_better next (chain_at are i) ≡ false →
-    IsCarried were place are (i + 1) next
-behind were place are i next p below within later = record {
+behind : (were : List Chain) (rank : ℕ) (are : List Chain) (i : ℕ) (next : Chain) →
+    IsCarried were rank are i next → i < rank → rank < length were → is_better next (chain_at are i) ≡ false →
+    IsCarried were rank are (i + 1) next
+behind were rank are i next p below within later = record {
   count = p.count;
   rest = same_rest are were i p.rest;
   value =
-      let left = drop (i + 1) (take place were) in
+      let left = drop (i + 1) (take rank were) in
       p.value ∙
-      ap (λ xs. take i are ++ put next xs) (met were place are i next p below within) ∙
+      ap (λ xs. take i are ++ put next xs) (met were rank are i next p below within) ∙
       ap (λ xs. take i are ++ xs) (put_behind next (chain_at are i) left later) ∙
       sym (append_assoc (take i are) (chain_at are i ∷ []) (put next left)) ∙
       ap (λ xs. xs ++ put next left) (sym (take_more are i (new_chain 0) (omega (arith, p.count))));
@@ -75,30 +75,30 @@ behind were place are i next p below within later = record {
 
 -- the same where the chain that is met is read at another default
 
-pub carried_before : (were : List Chain) (place : ℕ) (are : List Chain) (i : ℕ) (next d : Chain) →
-    IsCarried were place are i next → i < place → place < length were → is_better next (get_or are i d) ≡ true →
-    IsCarried were place (set are i next) (i + 1) (get_or are i d)
-carried_before were place are i next d p below within =
+pub carried_before : (were : List Chain) (rank : ℕ) (are : List Chain) (i : ℕ) (next d : Chain) →
+    IsCarried were rank are i next → i < rank → rank < length were → is_better next (get_or are i d) ≡ true →
+    IsCarried were rank (set are i next) (i + 1) (get_or are i d)
+carried_before were rank are i next d p below within =
     let same : get_or are i d ≡ chain_at are i = get_or_default are i d (new_chain 0) (omega (arith, p.count)) in
-    rw same (before were place are i next p below within)
+    rw same (before were rank are i next p below within)
 
-pub carried_behind : (were : List Chain) (place : ℕ) (are : List Chain) (i : ℕ) (next d : Chain) →
-    IsCarried were place are i next → i < place → place < length were → is_better next (get_or are i d) ≡ false →
-    IsCarried were place are (i + 1) next
-carried_behind were place are i next d p below within =
+pub carried_behind : (were : List Chain) (rank : ℕ) (are : List Chain) (i : ℕ) (next d : Chain) →
+    IsCarried were rank are i next → i < rank → rank < length were → is_better next (get_or are i d) ≡ false →
+    IsCarried were rank are (i + 1) next
+carried_behind were rank are i next d p below within =
     let same : get_or are i d ≡ chain_at are i = get_or_default are i d (new_chain 0) (omega (arith, p.count)) in
-    rw same (behind were place are i next p below within)
+    rw same (behind were rank are i next p below within)
 
-pub carried_all : (were : List Chain) (place : ℕ) (are : List Chain) (next : Chain) →
-    IsCarried were place are place next → place < length were → set are place next ≡ settled were place
+pub carried_all : (were : List Chain) (rank : ℕ) (are : List Chain) (next : Chain) →
+    IsCarried were rank are rank next → rank < length were → set are rank next ≡ settled were rank
 unfolding settled
-carried_all were place are next p within =
-    let none : drop place (take place were) ≡ [] = drop_all place (take place were) (omega (arith, length-take place were)) in
-    let split : set are place next ≡ take place are ++ next ∷ drop (place + 1) are =
-    rw add-one (set_split are place next (omega (arith, p.count))) in
-    let behind : drop (place + 1) are ≡ drop (place + 1) were = same_rest are were place p.rest in
-    let front : put (chain_at were place) (take place were) ≡ take place are ++ next ∷ [] =
-    p.value ∙ ap (λ xs. take place are ++ put next xs) none in
-    split ∙ ap (λ xs. take place are ++ next ∷ xs) behind ∙
-    sym (append_assoc (take place are) (next ∷ []) (drop (place + 1) were)) ∙
-    ap (λ xs. xs ++ drop (place + 1) were) (sym front)
+carried_all were rank are next p within =
+    let none : drop rank (take rank were) ≡ [] = drop_all rank (take rank were) (omega (arith, length-take rank were)) in
+    let split : set are rank next ≡ take rank are ++ next ∷ drop (rank + 1) are =
+    rw add-one (set_split are rank next (omega (arith, p.count))) in
+    let behind : drop (rank + 1) are ≡ drop (rank + 1) were = same_rest are were rank p.rest in
+    let prefix : put (chain_at were rank) (take rank were) ≡ take rank are ++ next ∷ [] =
+    p.value ∙ ap (λ xs. take rank are ++ put next xs) none in
+    split ∙ ap (λ xs. take rank are ++ next ∷ xs) behind ∙
+    sym (append_assoc (take rank are) (next ∷ []) (drop (rank + 1) were)) ∙
+    ap (λ xs. xs ++ drop (rank + 1) were) (sym prefix)

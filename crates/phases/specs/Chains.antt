@@ -42,14 +42,14 @@ comes_first None None a b = is_before a.hard a.number b.hard b.number
 unfoldable pub is_better : Chain → Chain → Bool
 is_better a b = comes_first a.best b.best a b
 
--- a chain put into a list in order: at each place the better one stays, and the other goes on
+-- a chain put into a list in order: at each rank the better one stays, and the other goes on
 abbrev pub put : Chain → List Chain → List Chain
 put c [] = c ∷ []
 put c (d ∷ ds) = if is_better c d then c ∷ put d ds else d ∷ put c ds
 
 abbrev pub chain_at : List Chain → ℕ → Chain
-chain_at chains place = slice_index_or chains place (new_chain 0)
+chain_at chains rank = slice_index_or chains rank (new_chain 0)
 
--- the chain at a place put into those before it
+-- the chain at a rank put into those before it
 unfoldable pub settled : List Chain → ℕ → List Chain
-settled chains place = put (chain_at chains place) (take place chains) ++ drop (place + 1) chains
+settled chains rank = put (chain_at chains rank) (take rank chains) ++ drop (rank + 1) chains

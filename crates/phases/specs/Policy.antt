@@ -8,7 +8,7 @@ use Rattle.phases.specs.declared.policy.Phase.{Phase}
 use Rattle.phases.specs.declared.policy.PhaseStart.{PhaseStart}
 use Rattle.phases.specs.declared.policy.PhaseStart.TheVariants.{LeagueStart, Best, Last}
 use Rattle.phases.specs.Figures.{distance_sum, pair_count, unit}
-use Rattle.phases.specs.Stages.{phase_count, place_of, steps_of, slack_of}
+use Rattle.phases.specs.Stages.{phase_count, rank_of, steps_of, slack_of}
 use Rattle.phases.specs.Chains.{new_chain, chain_with, chain_at, settled}
 
 pub record PolicyData : Type 0 where
@@ -50,7 +50,7 @@ abbrev pub start_of : ℕ → PhaseStart
 start_of told = if told % 20 == 0 then (if nat_lt told 160 then LeagueStart else Best) else Last
 
 abbrev pub phase_of : PolicyData → Phase
-phase_of p = let c = chain_at p.chains (place_of p.told) in record {
+phase_of p = let c = chain_at p.chains (rank_of p.told) in record {
   number = p.told + 1;
   chain = c.number;
   start = start_of p.told;
@@ -77,8 +77,8 @@ pub record IsInRange (p : Phase) : Type 0 where
 -- bouts in this level are over. So the first half of the chains goes on to the next level, and the others stay behind
 unfoldable pub chains_after : List Chain → ℕ → PhaseOutcome → List Chain
 chains_after chains told o =
-    let one_told = slice_set chains (place_of told) (chain_with (chain_at chains (place_of told)) o) in
-    if told % 20 == 19 then settled one_told (place_of told) else one_told
+    let one_told = slice_set chains (rank_of told) (chain_with (chain_at chains (rank_of told)) o) in
+    if told % 20 == 19 then settled one_told (rank_of told) else one_told
 
 -- after what the next phase came to
 abbrev pub policy_after : PolicyData → PhaseOutcome → PolicyData

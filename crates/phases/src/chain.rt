@@ -91,18 +91,18 @@ fn is_better(a: Chain, b: Chain) -> bool
     }
 }
 
-/// Brings the chain at a place to where it belongs among those before it, which are in order.
-pub(crate) fn settle(chains: &mut [Chain], place: usize)
-    requires { place < length chains.old }
-    ensures { chains.new ≡ settled chains.old place }
+/// Brings the chain at a rank to where it belongs among those before it, which are in order.
+pub(crate) fn settle(chains: &mut [Chain], rank: usize)
+    requires { rank < length chains.old }
+    ensures { chains.new ≡ settled chains.old rank }
 {
-    let mut next = chains[place];
-    for i in 0..place {
+    let mut next = chains[rank];
+    for i in 0..rank {
         let met = chains[i];
         if is_better(next, met) {
             chains[i] = next;
             next = met;
         }
     }
-    chains[place] = next;
+    chains[rank] = next;
 }

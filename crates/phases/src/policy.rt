@@ -97,7 +97,7 @@ impl Policy {
             return None;
         }
         let stage = stage_of(self.told);
-        let chain = self.chains[stage.place as usize];
+        let chain = self.chains[stage.rank as usize];
         let number = self.told + 1;
         Some(Phase {
             number,
@@ -128,17 +128,17 @@ impl Policy {
     }
 }
 
-/// Tells a chain what the phase came to that comes after so many and, at the end of its bout, brings it to its place.
+/// Tells a chain what the phase came to that comes after so many and, at the end of its bout, brings it to its rank.
 #[tactic(auto, unfolding(crate::specs::Policy::chains_after))]
 fn update(chains: &mut [Chain], told: u32, outcome: PhaseOutcome)
     requires told { told < PHASES }
     requires count { length chains.old ≡ 8 }
     ensures { chains.new ≡ chains_after chains.old told outcome }
 {
-    let place = stage_of(told).place as usize;
-    chains[place] = chains[place].with(outcome);
+    let rank = stage_of(told).rank as usize;
+    chains[rank] = chains[rank].with(outcome);
     if told % BOUT == BOUT - 1 {
-        settle(chains, place);
+        settle(chains, rank);
     }
 }
 

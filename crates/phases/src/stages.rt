@@ -1,40 +1,40 @@
 //! The levels, the phases in their order, and the steps of each.
 
 ghost use Rattle.std.specs.Prelude.{◌≡◌, ◌+◌, ◌<◌, ◌≤◌};
-ghost use Rattle.phases.specs.Stages.{place_of, parts_of, share_of, cut, steps_of, slack_of};
+ghost use Rattle.phases.specs.Stages.{rank_of, slices_before, slices_of, cut, steps_of, slack_of};
 
 /// How many phases there are.
 pub const PHASES: u32 = 380;
 /// How many phases in a row a chain has in each level.
 pub(crate) const BOUT: u32 = 20;
-/// Into how many parts the effort is cut.
-const PARTS: u32 = 1280;
+/// Into how many slices the effort is cut.
+const SLICES: u32 = 1280;
 /// The least number of steps in all, so that each phase has one.
-pub const MIN_EFFORT: u32 = PARTS;
+pub const MIN_EFFORT: u32 = SLICES;
 
 /// Where a phase stands.
 #[derive(Clone, Copy)]
 pub(crate) struct Stage {
-    /// The place of its chain among the chains of the level.
-    pub(crate) place: u32,
-    /// The parts of the effort that were used before it.
-    pub(crate) parts: u32,
-    /// How many parts it uses.
-    pub(crate) share: u32,
+    /// The rank of its chain among the chains of the level.
+    pub(crate) rank: u32,
+    /// How many slices of the effort were used before it.
+    pub(crate) before: u32,
+    /// How many it uses.
+    pub(crate) slices: u32,
 }
 
 /// Where the phase stands that comes after so many.
-#[tactic(auto, unfolding(crate::specs::Stages::place_of, crate::specs::Stages::parts_of, crate::specs::Stages::share_of))]
+#[tactic(auto, unfolding(crate::specs::Stages::rank_of, crate::specs::Stages::slices_before, crate::specs::Stages::slices_of))]
 pub(crate) fn stage_of(told: u32) -> Stage
     requires { told < PHASES }
-    ensures place { result.place ≡ place_of told }
-    ensures parts { result.parts ≡ parts_of told }
-    ensures share { result.share ≡ share_of told }
-    ensures place_in { result.place < 8 }
-    ensures share_least { 1 ≤ result.share }
-    ensures parts_most { result.parts + result.share ≤ 1280 }
+    ensures rank { result.rank ≡ rank_of told }
+    ensures before { result.before ≡ slices_before told }
+    ensures slices { result.slices ≡ slices_of told }
+    ensures rank_in { result.rank < 8 }
+    ensures slices_least { 1 ≤ result.slices }
+    ensures slices_most { result.before + result.slices ≤ 1280 }
 {
-    let (place, parts, share) = if told < 160 {
+    let (rank, before, slices) = if told < 160 {
         (told / BOUT, told, 1)
     } else if told < 240 {
         ((told - 160) / BOUT, 160 + 2 * (told - 160), 2)
@@ -44,9 +44,9 @@ pub(crate) fn stage_of(told: u32) -> Stage
         (0, 480 + 8 * (told - 280), 8)
     };
     Stage {
-        place,
-        parts,
-        share,
+        rank,
+        before,
+        slices,
     }
 }
 
@@ -58,15 +58,15 @@ pub(crate) fn steps_of(effort: u32, told: u32) -> u32
     ensures least { 1 ≤ result }
 {
     let stage = stage_of(told);
-    cut(effort, stage.parts + stage.share) - cut(effort, stage.parts)
+    cut(effort, stage.before + stage.slices) - cut(effort, stage.before)
 }
 
-/// How many of the steps the first parts have.
-fn cut(effort: u32, parts: u32) -> u32
-    requires { parts ≤ PARTS }
-    ensures { result ≡ cut effort parts }
+/// How many of the steps the first slices have.
+fn cut(effort: u32, slices: u32) -> u32
+    requires { slices ≤ SLICES }
+    ensures { result ≡ cut effort slices }
 {
-    (u64::from(effort) * u64::from(parts) / u64::from(PARTS)) as u32
+    (u64::from(effort) * u64::from(slices) / u64::from(SLICES)) as u32
 }
 
 /// The slack of the phase that comes after so many, in thousandths of the mean distance.

@@ -6,7 +6,7 @@ use Rattle.fixtures.specs.Games.{Games, round_count}
 use Rattle.tours.specs.Tours.{travel_of}
 use Rattle.tours.specs.Phased.{is_unphased}
 use Rattle.fixture_board.specs.declared.cost.Cost.{Cost}
-use Rattle.fixture_board.specs.Costs.{cost_of, hard_share, soft_share, sum_over_rules, where_phased}
+use Rattle.fixture_board.specs.Costs.{cost_of, hard_penalty, soft_penalty, sum_over_rules, where_phased}
 use Rattle.reports.specs.CostText.{repeats_lower}
 use Rattle.reports.specs.Runs.{is_over, ended_streak}
 
@@ -26,9 +26,9 @@ halves_told g = sum_below g.teams (λ high. count_where high (λ low. is_unphase
 unfoldable pub told_cost : LeagueData → Games → Cost
 told_cost l g = record {
   travel = sum_below g.teams (travel_of l g);
-  hard = sum_below g.teams (windows_told g l.at_most) + repeats_told g + sum_over_rules hard_share l.rules g +
+  hard = sum_below g.teams (windows_told g l.at_most) + repeats_told g + sum_over_rules hard_penalty l.rules g +
       where_phased l (halves_told g);
-  soft = sum_over_rules soft_share l.rules g;
+  soft = sum_over_rules soft_penalty l.rules g;
 }
 
 -- they are the first line

@@ -55,9 +55,9 @@ callers_append n [] b p q = q
 callers_append n (e ∷ a) b p q = (p.0, callers_append n a b p.1 q)
 
 -- the callers of a history that begins so
-pub callers_front : (n : ℕ) (a b : List Entry) → callers_below n (a ++ b) → callers_below n a
-callers_front n [] b p = tt
-callers_front n (e ∷ a) b p = (p.0, callers_front n a b p.1)
+pub callers_prefix : (n : ℕ) (a b : List Entry) → callers_below n (a ++ b) → callers_below n a
+callers_prefix n [] b p = tt
+callers_prefix n (e ∷ a) b p = (p.0, callers_prefix n a b p.1)
 
 -- the callers of what comes after
 pub callers_after : (n : ℕ) (a b : List Entry) → callers_below n (a ++ b) → callers_below n b

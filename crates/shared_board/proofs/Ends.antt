@@ -20,14 +20,14 @@ use Rattle.shared_board.specs.Setting.{Setting, board_at}
 use Rattle.shared_board.specs.Stage.{away, holds, kept}
 use Rattle.shared_board.specs.Held.{times, once_below, under, HoldsEach, callers_below}
 use Rattle.shared_board.specs.Rule.{Knows}
-use Rattle.shared_board.specs.Plays.{Place, Meets, Took, Counted, Parted, counting, drawing, newcomer, joined, longer}
+use Rattle.shared_board.specs.Plays.{Token, Meets, Took, Counted, Agreed, counting, drawing, newcomer, joined, longer}
 use Rattle.shared_board.specs.Plays.{saw, at_stage, on_board}
-use Rattle.shared_board.specs.Seats.{BoardId, SeatValue, seat_value, IsIdle, IsSeat, IsConsistent, Met, Answered, IsNew, Absorbed}
+use Rattle.shared_board.specs.Seats.{BoardId, SeatValue, seat_value, HasBoard, IsIdle, IsSeat, IsConsistent, Met, Answered, IsNew, Absorbed}
 use Rattle.shared_board.specs.Ending.{IsSeatAfter, IsOfBoth, BroughtOut, HoldsBelow}
 use Rattle.shared_board.specs.Judging.{IsJudged}
 use Rattle.shared_board.proofs.BoardLaws.{reply_tells}
 use Rattle.shared_board.proofs.Counts.{times_append, times_own, times_one, times_self, once_within, all_alike}
-use Rattle.shared_board.proofs.Counts.{under_append, under_both, under_most, under_none, under_all, callers_front}
+use Rattle.shared_board.proofs.Counts.{under_append, under_both, under_most, under_none, under_all, callers_prefix}
 use Rattle.shared_board.proofs.Counts.{once_most, once_none, all_held, held_most}
 use Rattle.shared_board.proofs.Seating.{longer_cases, begins_longer}
 
@@ -64,10 +64,10 @@ accepted_more v h g number ask own met is =
     met.single number in omega arith
 
 -- the fields of a seat that has seen a history
-pub seat_saw : (me n : Place) (number held seen accepted : ℕ) (g : List Entry) (version more : ℕ) → IsSeat me number held seen accepted
+pub seat_saw : (me n : Token) (number held seen accepted : ℕ) (g : List Entry) (version more : ℕ) → IsSeat me number held seen accepted
     → n ≡ (saw me.0 g away, []) → version ≡ length g → more ≡ under me.0.held g → IsSeat n number held version more
 seat_saw me n number held seen accepted g version more seat is long entries =
-    let P : Place → Type 0 = λ m. IsSeat m number held version more in
+    let P : Token → Type 0 = λ m. IsSeat m number held version more in
     subst P (sym is) (record {
       idle = record { live = seat.idle.live; away_is = refl; no_slot = refl };
       own = seat.own;
@@ -79,7 +79,7 @@ seat_saw me n number held seen accepted g version more seat is long entries =
       ahead = omega arith;
     })
 
-pub consistent_of : (table : BoardId) (me : Place) (number held seen accepted : ℕ) → IsSeat me number held seen accepted →
+pub consistent_of : (table : BoardId) (me : Token) (number held seen accepted : ℕ) → IsSeat me number held seen accepted →
     IsConsistent (seat_value table number me.0)
 consistent_of table me number held seen accepted seat =
     record { own = omega (arith, seat.own, seat.single number); single = seat.single; below = seat.below; ahead = seat.ahead }
@@ -88,29 +88,35 @@ pub met_of : (table : BoardId) (number : ℕ) (v : View) (h : List Entry) → Me
 met_of table number v h met = record { legal = met.legal; knows = met.knows; glanced = met.glanced; lowest = met.lowest }
 
 -- a seat knows at least of its own number
-pub some_given : (me : Place) (number held seen accepted : ℕ) → IsSeat me number held seen accepted → 0 < me.0.given
+pub some_given : (me : Token) (number held seen accepted : ℕ) → IsSeat me number held seen accepted → 0 < me.0.given
 some_given me number held seen accepted seat =
     elim (dec_le 1 me.0.given) [ yes le ↦ omega arith | no more ↦ absurd (omega (arith, seat.own, seat.below number (omega arith))) ]
 
+-- what it has out is the board
+pub board_out : (m : Token) → HasBoard m (on_board m.1) → (b : Option Book) × (m.1 ≡ (0, b) ∷ rest m.1)
+board_out m has =
+    let b : Option Book = Some (board_at m.0.setting (on_board m.1)) in
+    (b, has ∙ ap (λ (l : List (ℕ × Option Book)). (0, b) ∷ rest l) (sym has))
+
 -- a turn in which the board was asked, as its steps tell it: before, under the turn, after the board answered, and after
-pub record Asked (me taken told done : Place) (number : ℕ) (ask : Ask) (j : Judged) : Type 0 where
+pub record Asked (me taken told done : Token) (number : ℕ) (ask : Ask) (j : Judged) : Type 0 where
   pub took : Took me taken
   pub same : told.0 ≡ taken.0
   pub judged : IsJudged taken.0.setting (on_board taken.1) number ask j
   pub left : done ≡ (saw told.0 (next_of told.0.setting.league told.0.setting.room (kept told.0.stage) number ask) away, [])
 
-asked_judged : (me taken told done : Place) (number : ℕ) (ask : Ask) (j : Judged) (a : Asked me taken told done number ask j) →
+asked_judged : (me taken told done : Token) (number : ℕ) (ask : Ask) (j : Judged) (a : Asked me taken told done number ask j) →
     IsJudged me.0.setting a.took.0 number ask j
 asked_judged me taken told done number ask j a =
-    let P : Place → Type 0 = λ m. IsJudged m.0.setting (on_board m.1) number ask j in subst P a.took.2 a.judged
+    let P : Token → Type 0 = λ m. IsJudged m.0.setting (on_board m.1) number ask j in subst P a.took.2 a.judged
 
-asked_left : (me taken told done : Place) (number : ℕ) (ask : Ask) (j : Judged) (a : Asked me taken told done number ask j)
+asked_left : (me taken told done : Token) (number : ℕ) (ask : Ask) (j : Judged) (a : Asked me taken told done number ask j)
     → done ≡ (saw me.0 (next_of me.0.setting.league me.0.setting.room a.took.0 number ask) away, [])
 asked_left me taken told done number ask j a =
-    let f : View → Place = λ v. (saw v (next_of v.setting.league v.setting.room (kept v.stage) number ask) away, []) in
-    a.left ∙ ap f (a.same ∙ ap (λ (m : Place). m.0) a.took.2)
+    let f : View → Token = λ v. (saw v (next_of v.setting.league v.setting.room (kept v.stage) number ask) away, []) in
+    a.left ∙ ap f (a.same ∙ ap (λ (m : Token). m.0) a.took.2)
 
-pub seat_after : (me taken told done : Place) (number held seen accepted : ℕ) (ask : Ask) (j : Judged) (r : Reply) →
+pub seat_after : (me taken told done : Token) (number held seen accepted : ℕ) (ask : Ask) (j : Judged) (r : Reply) →
     IsSeat me number held seen accepted
     → Asked me taken told done number ask j → j.reply ≡ r → IsSeatAfter done number held accepted r
 seat_after me taken told done number held seen accepted ask j (Done at cost) seat a is =
@@ -130,7 +136,7 @@ seat_after me taken told done number held seen accepted ask j (No at why) seat a
     seat_saw me done number held seen accepted g at accepted seat (asked_left me taken told done number ask j a) t.1
     (seat.entries ∙ (sym (accepted_same me.0 h a.took.1) ∙ ap (under me.0.held) (sym t.0)))
 
-pub answered : (table : BoardId) (me taken told done : Place) (number held seen accepted : ℕ) (ask : Ask) (j : Judged) →
+pub answered : (table : BoardId) (me taken told done : Token) (number held seen accepted : ℕ) (ask : Ask) (j : Judged) →
     Asked me taken told done number ask j
     → IsSeat me number held seen accepted → Answered (seat_value table number me.0) (seat_value table number done.0) ask j.reply
 answered table me taken told done number held seen accepted ask j a seat =
@@ -140,23 +146,23 @@ answered table me taken told done number held seen accepted ask j a seat =
       history = h;
       met = met_of table number me.0 h a.took.1;
       replied = judged.reply;
-      now = ap (λ (m : Place). seat_value table number m.0) (asked_left me taken told done number ask j a);
+      now = ap (λ (m : Token). seat_value table number m.0) (asked_left me taken told done number ask j a);
     }
 
 -- a turn in which nothing was asked
-pub record Saw (me taken read done : Place) : Type 0 where
+pub record Saw (me taken read done : Token) : Type 0 where
   pub took : Took me taken
   pub same : read ≡ taken
   pub left : done ≡ (saw read.0 (kept read.0.stage) away, [])
 
-pub saw_left : (me taken read done : Place) (a : Saw me taken read done) → done ≡ (saw me.0 a.took.0 away, [])
+pub saw_left : (me taken read done : Token) (a : Saw me taken read done) → done ≡ (saw me.0 a.took.0 away, [])
 saw_left me taken read done a =
-    let f : Place → Place = λ m. (saw m.0 (kept m.0.stage) away, []) in a.left ∙ ap f (a.same ∙ a.took.2)
+    let f : Token → Token = λ m. (saw m.0 (kept m.0.stage) away, []) in a.left ∙ ap f (a.same ∙ a.took.2)
 
-pub saw_board : (me taken read done : Place) (a : Saw me taken read done) → on_board taken.1 ≡ a.took.0
-saw_board me taken read done a = ap (λ (m : Place). on_board m.1) a.took.2
+pub saw_board : (me taken read done : Token) (a : Saw me taken read done) → on_board taken.1 ≡ a.took.0
+saw_board me taken read done a = ap (λ (m : Token). on_board m.1) a.took.2
 
-pub seat_looked : (me taken read done : Place) (number held seen accepted version : ℕ) → IsSeat me number held seen accepted →
+pub seat_looked : (me taken read done : Token) (number held seen accepted version : ℕ) → IsSeat me number held seen accepted →
     Saw me taken read done → version ≡ length (on_board taken.1)
     → IsSeat done number held version accepted
 seat_looked me taken read done number held seen accepted version seat a long =
@@ -191,57 +197,57 @@ seen_by held less more h other le k l =
     ap (under held) n.begins ∙ (let u = under_append held less n.after in let z = n.none_after in omega arith)
 
 -- a seat that has read under the turn how many numbers are given out
-pub record Read (me taken counted : Place) (r : ℕ) : Type 0 where
+pub record Read (me taken counted : Token) (r : ℕ) : Type 0 where
   pub took : Took me taken
   pub count : Counted taken r counted
 
-read_taken : (me taken counted : Place) (r : ℕ) (a : Read me taken counted r) → taken.0 ≡ at_stage me.0 (holds a.took.0)
-read_taken me taken counted r a = ap (λ (m : Place). m.0) a.took.2
+read_taken : (me taken counted : Token) (r : ℕ) (a : Read me taken counted r) → taken.0 ≡ at_stage me.0 (holds a.took.0)
+read_taken me taken counted r a = ap (λ (m : Token). m.0) a.took.2
 
 -- the seat, once it has drawn one more
 abbrev pub drawn_view : View → ℕ → View
 drawn_view v r = record v { held = r ∷ v.held; given = r + 1; stage = away }
 
-pub drawn_away : (me taken counted : Place) (r : ℕ) (a : Read me taken counted r) → at_stage (drawing counted.0) away ≡ drawn_view me.0 r
+pub drawn_away : (me taken counted : Token) (r : ℕ) (a : Read me taken counted r) → at_stage (drawing counted.0) away ≡ drawn_view me.0 r
 drawn_away me taken counted r a =
-    ap (λ (m : Place). at_stage (drawing m.0) away) a.count.now ∙
+    ap (λ (m : Token). at_stage (drawing m.0) away) a.count.now ∙
     ap (λ (v : View). at_stage (drawing (counting v r)) away) (read_taken me taken counted r a)
 
-read_later : (me taken counted : Place) (r : ℕ) → Read me taken counted r → me.0.given ≤ r
+read_later : (me taken counted : Token) (r : ℕ) → Read me taken counted r → me.0.given ≤ r
 read_later me taken counted r a =
     let P : View → Type 0 = λ v. v.given ≤ r in subst P (read_taken me taken counted r a) a.count.grown
 
 -- its own number is its own still
-pub read_own : (me taken counted : Place) (r number : ℕ) → Read me taken counted r → 0 < times number me.0.held →
+pub read_own : (me taken counted : Token) (r number : ℕ) → Read me taken counted r → 0 < times number me.0.held →
     0 < times number counted.0.held
 read_own me taken counted r number a own =
-    let P : Place → Type 0 = λ m. 0 < times number m.0.held in
+    let P : Token → Type 0 = λ m. 0 < times number m.0.held in
     let Q : View → Type 0 = λ v. 0 < times number v.held in
     subst P (sym a.count.now) (subst Q (sym (read_taken me taken counted r a)) own)
 
 -- no entry that was seen is under the new number
-read_none : (me taken counted : Place) (r : ℕ) → Read me taken counted r → under (r ∷ []) me.0.seen ≡ 0
+read_none : (me taken counted : Token) (r : ℕ) → Read me taken counted r → under (r ∷ []) me.0.seen ≡ 0
 read_none me taken counted r a =
     let P : View → Type 0 = λ v. callers_below r (kept v.stage) in
     let all : callers_below r a.took.0 = subst P (read_taken me taken counted r a) a.count.callers in
     let k = a.took.1.knows in
     let Q : List Entry → Type 0 = λ l. callers_below r l in
-    under_none (r ∷ []) r me.0.seen (callers_front r me.0.seen k.after (subst Q k.begins all)) (λ x less. times_own r x less)
+    under_none (r ∷ []) r me.0.seen (callers_prefix r me.0.seen k.after (subst Q k.begins all)) (λ x less. times_own r x less)
 
 -- the view of the new seat
 abbrev new_view : View → ℕ → View
-new_view v r = record v { held = r ∷ []; parts = []; given = r + 1; stage = away }
+new_view v r = record v { held = r ∷ []; formers = []; given = r + 1; stage = away }
 
-new_is : (me taken counted drawn new : Place) (r : ℕ) → Read me taken counted r → drawn ≡ (at_stage (drawing counted.0) away, []) →
+new_is : (me taken counted drawn new : Token) (r : ℕ) → Read me taken counted r → drawn ≡ (at_stage (drawing counted.0) away, []) →
     new ≡ (newcomer drawn.0, []) → new ≡ (new_view me.0 r, [])
 new_is me taken counted drawn new r a is given_is = given_is ∙
-    ap (λ (v : View). (newcomer v, [])) (ap (λ (m : Place). m.0) is ∙ drawn_away me taken counted r a)
+    ap (λ (v : View). (newcomer v, [])) (ap (λ (m : Token). m.0) is ∙ drawn_away me taken counted r a)
 
-pub new_seat : (me taken counted drawn new : Place) (r number held seen accepted : ℕ) → IsSeat me number held seen accepted →
+pub new_seat : (me taken counted drawn new : Token) (r number held seen accepted : ℕ) → IsSeat me number held seen accepted →
     Read me taken counted r
     → drawn ≡ (at_stage (drawing counted.0) away, []) → new ≡ (newcomer drawn.0, []) → IsSeat new r 1 seen 0
 new_seat me taken counted drawn new r number held seen accepted seat a is given_is =
-    let P : Place → Type 0 = λ m. IsSeat m r 1 seen 0 in
+    let P : Token → Type 0 = λ m. IsSeat m r 1 seen 0 in
     subst P (sym (new_is me taken counted drawn new r a is given_is)) (record {
       idle = record { live = seat.idle.live; away_is = refl; no_slot = refl };
       own = omega (arith, times_self r);
@@ -253,13 +259,13 @@ new_seat me taken counted drawn new r number held seen accepted seat a is given_
       ahead = seat.ahead;
     })
 
-pub is_new : (table after : BoardId) (me taken counted drawn new : Place) (r number held seen accepted : ℕ) → after ≡ table → r < 64 →
+pub is_new : (table after : BoardId) (me taken counted drawn new : Token) (r number held seen accepted : ℕ) → after ≡ table → r < 64 →
     IsSeat me number held seen accepted → Read me taken counted r
     → drawn ≡ (at_stage (drawing counted.0) away, []) → new ≡ (newcomer drawn.0, []) →
     IsNew (seat_value table number me.0) (seat_value after r new.0)
 is_new table after me taken counted drawn new r number held seen accepted same few seat a is given_is = record {
   now = ap (λ (t : BoardId). seat_value t r new.0) same ∙
-      ap (λ (m : Place). seat_value table r m.0) (new_is me taken counted drawn new r a is given_is);
+      ap (λ (m : Token). seat_value table r m.0) (new_is me taken counted drawn new r a is given_is);
   few = few;
   later = read_later me taken counted r a;
   own = seat.below r (read_later me taken counted r a);
@@ -273,7 +279,7 @@ pub record Both (v w : View) : Type 0 where
   pub second : Knows w.held w.seen history
   pub single : (x : ℕ) → times x (v.held ++ w.held) ≤ once_below x 64
 
-told_both : (me other : Place) → Parted (joined me.0 other.0, me.1) → Both me.0 other.0
+told_both : (me other : Token) → Agreed (joined me.0 other.0, me.1) → Both me.0 other.0
 told_both me other p = record { history = p.history; first = p.each.1; second = p.each.2.1; single = p.single }
 
 -- what the longer of the two histories has under the numbers of both
@@ -295,11 +301,11 @@ longer_length : (a b : List Entry) → length (longer a b) ≡ max (length a) (l
 longer_length a b = let P : List Entry → Type 0 = λ l. length l ≡ max (length a) (length b) in
     longer_cases P a b (λ less. omega arith) (λ le. omega arith)
 
-pub of_both : (me other done : Place) → IsIdle me → done ≡ (joined me.0 other.0, me.1) → Parted done → IsOfBoth me other done
+pub of_both : (me other done : Token) → IsIdle me → done ≡ (joined me.0 other.0, me.1) → Agreed done → IsOfBoth me other done
 of_both me other done idle is told =
     let v = me.0 in let w = other.0 in
-    let both = told_both me other (subst Parted is told) in
-    let P : Place → Type 0 = λ m. IsOfBoth me other m in
+    let both = told_both me other (subst Agreed is told) in
+    let P : Token → Type 0 = λ m. IsOfBoth me other m in
     subst P (sym is) (record {
       idle = record { live = idle.live; away_is = idle.away_is; no_slot = idle.no_slot };
       own = λ x. times_append x v.held w.held;
@@ -314,12 +320,12 @@ of_both me other done idle is told =
           omega (arith, times_append x v.held w.held));
     })
 
-pub absorbed : (table table' after : BoardId) (me other done : Place) (number number' : ℕ) (a o : SeatValue) → after ≡ table →
-    done ≡ (joined me.0 other.0, me.1) → Parted done
+pub absorbed : (table table' after : BoardId) (me other done : Token) (number number' : ℕ) (a o : SeatValue) → after ≡ table →
+    done ≡ (joined me.0 other.0, me.1) → Agreed done
     → seat_value table number me.0 ≡ a → seat_value table' number' other.0 ≡ o → Absorbed a o (seat_value after number done.0)
 absorbed table table' after me other done number number' a o same is told first second =
     let v = me.0 in let w = other.0 in
-    let b = told_both me other (subst Parted is told) in
+    let b = told_both me other (subst Agreed is told) in
     let K : List Entry → Type 0 = λ l. ((l ≡ v.seen) × Knows w.held w.seen v.seen) ⊎ ((l ≡ w.seen) × Knows v.held v.seen w.seen) in
     let made : Absorbed (seat_value table number v) (seat_value table' number' w) (seat_value table number (joined v w)) = record {
       kept = longer_cases K v.seen w.seen
@@ -332,7 +338,7 @@ absorbed table table' after me other done number number' a o same is told first 
     let O : SeatValue → Type 0 = λ t. Absorbed (seat_value table number v) t (seat_value after number done.0) in
     let B : SeatValue → Type 0 = λ t. Absorbed (seat_value table number v) (seat_value table' number' w) t in
     let result : seat_value table number (joined v w) ≡ seat_value after number done.0 =
-    ap (λ (t : BoardId). seat_value t number (joined v w)) (sym same) ∙ ap (λ (m : Place). seat_value after number m.0) (sym is) in
+    ap (λ (t : BoardId). seat_value t number (joined v w)) (sym same) ∙ ap (λ (m : Token). seat_value after number m.0) (sym is) in
     subst A first (subst O second (subst B result made))
 
 -- where a seat holds each number, the history that it met is what it had seen
@@ -356,21 +362,21 @@ abbrev in_hand : Book → List (ℕ × Option Book) → Book
 in_hand none_there [] = none_there
 in_hand none_there (x ∷ xs) = board_or none_there x.1
 
-pub has_board : (me taken counted : Place) (r : ℕ) (t : Took me taken) → Counted taken r counted → me.1 ≡ [] →
+pub has_board : (me taken counted : Token) (r : ℕ) (t : Took me taken) → Counted taken r counted → me.1 ≡ [] →
     counted.1 ≡ (0, Some (board_at me.0.setting t.0)) ∷ []
 has_board me taken counted r t count nothing =
-    ap (λ (m : Place). m.1) count.now ∙
-    (ap (λ (m : Place). m.1) t.2 ∙ ap (λ (l : List (ℕ × Option Book)). (0, Some (board_at me.0.setting t.0)) ∷ l) nothing)
+    ap (λ (m : Token). m.1) count.now ∙
+    (ap (λ (m : Token). m.1) t.2 ∙ ap (λ (l : List (ℕ × Option Book)). (0, Some (board_at me.0.setting t.0)) ∷ l) nothing)
 
-pub brought_out : (me taken counted : Place) (r : ℕ) (b : Book) → me.1 ≡ [] → 0 < me.0.given → HoldsBelow me → Took me taken →
+pub brought_out : (me taken counted : Token) (r : ℕ) (b : Book) → me.1 ≡ [] → 0 < me.0.given → HoldsBelow me → Took me taken →
     Counted taken r counted → counted.1 ≡ (0, Some b) ∷ rest counted.1
     → BroughtOut me b r
 brought_out me taken counted r b nothing some_given below t count found =
     let h = t.0 in
     let c = has_board me taken counted r t count nothing in
-    let K : Place → Type 0 = λ m. callers_below r (kept m.0.stage) in
-    let O : Place → Type 0 = λ m. (x : ℕ) → times x m.0.held ≤ once_below x r in
-    let A : Place → Type 0 = λ m. 0 < m.0.given → HoldsEach m.0.given m.0.held → m.0.given ≡ r in
+    let K : Token → Type 0 = λ m. callers_below r (kept m.0.stage) in
+    let O : Token → Type 0 = λ m. (x : ℕ) → times x m.0.held ≤ once_below x r in
+    let A : Token → Type 0 = λ m. 0 < m.0.given → HoldsEach m.0.given m.0.held → m.0.given ≡ r in
     record {
       history = h;
       met = t.1;

@@ -17,7 +17,7 @@ use Rattle.shared_board.specs.Setting.{Setting}
 use Rattle.shared_board.specs.Stage.{away}
 use Rattle.shared_board.specs.Held.{times, under}
 use Rattle.shared_board.specs.Rule.{Knows, Lowest, Fits, upto, Ruled, spent_view}
-use Rattle.shared_board.specs.Plays.{Place, glanced, lowered, parted, last_drawn, drawn_before, drawer, newcomer, joined, longer}
+use Rattle.shared_board.specs.Plays.{Token, glanced, lowered, agreed, last_drawn, drawn_before, drawer, newcomer, joined, longer}
 use Rattle.shared_board.specs.Between.{Table}
 use Rattle.shared_board.proofs.BoardLaws.{least_falls_on}
 use Rattle.shared_board.proofs.Counts.{times_append, under_append, under_both, once_more, total_set}
@@ -30,7 +30,7 @@ pub fits_away : (s : Table) (r : Ruled s) (id : ℕ) (v : View) → get_elem? s.
 fits_away s r id v at live e = fits_at r.setting r.posted r.history r.posted (length r.history) r.numbers v away e refl
     (r.seats id v at live)
 
-pub glance_keeps : (slots id : ℕ) (m : Place) → m.0.live ≡ true → m.0.stage ≡ away →
+pub glance_keeps : (slots id : ℕ) (m : Token) → m.0.live ≡ true → m.0.stage ≡ away →
     Allows Ruled slots id m 1 (λ n. n) (glanced (step slots 1 0 0 none) m)
 glance_keeps slots id m live e s r sized at fits =
     let v = m.0 in
@@ -48,8 +48,8 @@ glance_keeps slots id m live e s r sized at fits =
             glanced = omega arith;
             lowest = f.lowest;
             given = f.given;
-            parts =
-                f.parts;
+            formers =
+                f.formers;
           })
           (ap (λ (l : List ℕ). set l 1 (slice_index l 1)) r.words ∙ sym r.words),
       (omega arith, refl),
@@ -73,7 +73,7 @@ lowest_falls s seen h low limits l =
     least_of s.league (seen ++ l.more) in
     let p : a ≡ b = same in let q : b ≤ c = falls in let t : low ≡ c = is in omega arith
 
-pub lower_keeps : (slots id : ℕ) (m : Place) → m.0.live ≡ true → m.0.stage ≡ away →
+pub lower_keeps : (slots id : ℕ) (m : Token) → m.0.live ≡ true → m.0.stage ≡ away →
     Allows Ruled slots id m 3 (λ n. n) (lowered (step slots 3 0 0 none) m)
 lower_keeps slots id m live e s r sized at fits =
     let v = m.0 in
@@ -94,14 +94,14 @@ lower_keeps slots id m live e s r sized at fits =
             lowest =
                 subst P (sym found) (lowest_now r.setting v.seen r.posted v.held f.knows);
             given = f.given;
-            parts = f.parts;
+            formers = f.formers;
           })
           (ap (λ (l : List ℕ). set l 3 (slice_index l 3)) r.words ∙ sym r.words),
       (omega (arith, falls), refl),
     )
 
-pub tell_keeps : (slots id : ℕ) (m : Place) → m.0.live ≡ true → m.0.stage ≡ away →
-    Allows Ruled slots id m 0 (λ n. n) (parted (step slots 0 0 0 none) m)
+pub tell_keeps : (slots id : ℕ) (m : Token) → m.0.live ≡ true → m.0.stage ≡ away →
+    Allows Ruled slots id m 0 (λ n. n) (agreed (step slots 0 0 0 none) m)
 tell_keeps slots id m live e s r sized at fits =
     let v = m.0 in (
       v,
@@ -113,7 +113,7 @@ tell_keeps slots id m live e s r sized at fits =
         refl,
         record {
           history = r.posted;
-          each = (fits_away s r id v at live e).parts;
+          each = (fits_away s r id v at live e).formers;
           single = λ x. (let a = held_once s r id v x at in let b = once_more x r.numbers 64 r.few in omega arith);
         },
       ),
@@ -160,23 +160,13 @@ knows_both held other less more h le k l =
       );
     }
 
--- the same, with the numbers the other way round
-pub knows_both_back : (held other : List ℕ) (less more h : List Entry) → length less ≤ length more → Knows held less h →
-    Knows other more h → Knows (other ++ held) more h
-knows_both_back held other less more h le k l =
-    let b = begins_longer less more k.after l.after (sym k.begins ∙ l.begins) le in
-    record {
-      after = l.after;
-      begins = l.begins;
-      none_after = omega (
-        arith,
-        under_both other held l.after,
-        under_append held b.0 l.after,
-        ap (under held) b.2,
-        k.none_after,
-        l.none_after,
-      );
-    }
+-- whose numbers come first makes no difference
+knows_swapped : (held other : List ℕ) (seen h : List Entry) → Knows (held ++ other) seen h → Knows (other ++ held) seen h
+knows_swapped held other seen h k = record {
+  after = k.after;
+  begins = k.begins;
+  none_after = omega (arith, under_both other held k.after, under_both held other k.after, k.none_after);
+}
 
 pick : (P : List Entry → Type 0) (a b : List Entry) (t : Bool) → nat_lt (length a) (length b) ≡ t → (length a < length b → P b) →
     (length b ≤ length a → P a) → P (if t then b else a)
@@ -233,7 +223,7 @@ fits_joined s h long numbers v w limits f g =
       setting_is = f.setting_is;
       knows = longer_cases K v.seen w.seen
           (λ less. knows_both v.held w.held v.seen w.seen h (omega arith) f.knows g.knows)
-          (λ less. knows_both_back w.held v.held w.seen v.seen h less g.knows f.knows);
+          (λ less. knows_swapped w.held v.held v.seen h (knows_both w.held v.held w.seen v.seen h less g.knows f.knows));
       glanced = omega arith;
       lowest = longer_cases L v.seen w.seen
           (λ less. lowest_both s v.seen w.seen w.seen g.knows.after h v.lowest w.lowest limits g.knows.begins
@@ -241,7 +231,7 @@ fits_joined s h long numbers v w limits f g =
           (λ less. lowest_both s v.seen w.seen v.seen f.knows.after h v.lowest w.lowest limits f.knows.begins
           (omega arith) f.lowest g.lowest);
       given = omega arith;
-      parts = (
+      formers = (
         (λ x. omega (arith, times_append x v.held w.held)),
         f.knows,
         ((λ x. omega (arith, times_append x v.held w.held)), g.knows, tt),

@@ -21,7 +21,7 @@ use Rattle.shared_board.specs.Setting.{Setting, board_at}
 use Rattle.shared_board.specs.Stage.{Stage, away, holds, counts, owes, kept, owed, IsSettled}
 use Rattle.shared_board.specs.Held.{times, once_below, AreOf, callers_below}
 use Rattle.shared_board.specs.Rule.{Knows, Lowest, Fits, upto, Added, IsHolder, IsDrawn, Ruled, first_view}
-use Rattle.shared_board.specs.Plays.{Place, Meets, took, committed, posted, left, quit, counted, drawn, drawing}
+use Rattle.shared_board.specs.Plays.{Token, Meets, took, committed, posted, left, quit, counted, drawn, drawing}
 use Rattle.shared_board.specs.Plays.{counting, at_stage, saw, on_board}
 use Rattle.shared_board.specs.Between.{Table}
 use Rattle.shared_board.specs.Seats.{HasBoard}
@@ -29,7 +29,7 @@ use Rattle.shared_board.proofs.BoardLaws.{least_falls}
 use Rattle.shared_board.proofs.Counts.{under_both, under_none, callers_own, callers_append, callers_after, callers_more}
 use Rattle.shared_board.proofs.Counts.{once_most, once_next, times_own, held_below, total_two}
 use Rattle.shared_board.proofs.Views.{owned, settled_not_away, settled_knows, settled_upto, fits_at, fits_stage}
-use Rattle.shared_board.proofs.Views.{fits_longer, fits_more, fits_saw, knows_all, lowest_all, parts_held, read_set}
+use Rattle.shared_board.proofs.Views.{fits_longer, fits_more, fits_saw, knows_all, lowest_all, formers_held, read_set}
 use Rattle.shared_board.proofs.Steps.{aside, drawn_still, holds_on, gives_back, takes_hold, held_once, knows_all_numbers}
 
 -- what was met under the turn
@@ -49,7 +49,7 @@ meets s r id v at same f =
     }
 
 -- the turn is taken, where it is free
-pub take_keeps : (slots id : ℕ) (m : Place) → m.0.live ≡ true → m.0.stage ≡ away
+pub take_keeps : (slots id : ℕ) (m : Token) → m.0.live ≡ true → m.0.stage ≡ away
     → Allows Ruled slots id m 0 (λ n. either (n == 0) 1 n) (took (step slots 0 0 1 none) m)
 take_keeps slots id m live e s r sized at fits =
     let v = m.0 in
@@ -98,7 +98,7 @@ added_below s r id v before after at same added =
     subst P (sym (added.one_more ∙ ap (λ l. l ++ added.entry ∷ []) same))
     (callers_append r.numbers r.history (added.entry ∷ []) r.callers (less, tt))
 
-pub commit_keeps : (slots id : ℕ) (m : Place) (version : ℕ) → m.0.live ≡ true → IsSettled m.0.stage →
+pub commit_keeps : (slots id : ℕ) (m : Token) (version : ℕ) → m.0.live ≡ true → IsSettled m.0.stage →
     Added m.0.held (kept m.0.stage) (on_board m.1)
     → IsLegal m.0.setting.league m.0.setting.room (on_board m.1) → version ≡ length (on_board m.1)
     → Allows Ruled slots id m 1 (λ _. version) (λ _. committed (step slots 1 version 0 none) m version)
@@ -139,7 +139,7 @@ held_alone s r id j v u x ne at at' own =
     let a = total_two (λ (t : View). times x t.held) s.views j id u v ne at' at in let b = r.once x in let c = once_most x r.numbers in
     omega arith
 
-pub post_keeps : (slots id : ℕ) (m : Place) (least : ℕ) → m.0.live ≡ true → m.0.stage ≡ owes (owed m.0.stage) (kept m.0.stage) →
+pub post_keeps : (slots id : ℕ) (m : Token) (least : ℕ) → m.0.live ≡ true → m.0.stage ≡ owes (owed m.0.stage) (kept m.0.stage) →
     least ≡ least_of m.0.setting.league (kept m.0.stage)
     → Allows Ruled slots id m 3 (λ n. min n least) (posted (step slots 3 least 0 none) m)
 post_keeps slots id m least live e is s r sized at fits =
@@ -192,7 +192,7 @@ home_again s r v c h setting_is same has =
     ∙ (ap (λ (t : Setting). some (Some (board_at t h)) ∷ []) setting_is ∙
     ap (λ (l : List Entry). some (Some (board_at r.setting l)) ∷ []) same))
 
-pub leave_keeps : (slots id : ℕ) (m : Place) → m.0.live ≡ true → IsSettled m.0.stage → HasBoard m (kept m.0.stage)
+pub leave_keeps : (slots id : ℕ) (m : Token) → m.0.live ≡ true → IsSettled m.0.stage → HasBoard m (kept m.0.stage)
     → Allows Ruled slots id m 0 (λ _. 0) (λ _. left (step slots 0 0 0 none) m 0)
 leave_keeps slots id m live settled has s r sized at fits =
     let v = m.0 in let h = kept v.stage in let w = saw v h away in
@@ -211,7 +211,7 @@ leave_keeps slots id m live settled has s r sized at fits =
       refl,
     )
 
-pub quit_keeps : (slots id : ℕ) (m : Place) → m.0.live ≡ true → IsSettled m.0.stage → HasBoard m (kept m.0.stage)
+pub quit_keeps : (slots id : ℕ) (m : Token) → m.0.live ≡ true → IsSettled m.0.stage → HasBoard m (kept m.0.stage)
     → Allows Ruled slots id m 0 (λ _. 0) (λ _. quit (step slots 0 0 0 none) m 0)
 quit_keeps slots id m live settled has s r sized at fits =
     let v = m.0 in let h = kept v.stage in let w = at_stage v away in
@@ -229,7 +229,7 @@ quit_keeps slots id m live settled has s r sized at fits =
       refl,
     )
 
-pub count_keeps : (slots id : ℕ) (m : Place) → m.0.live ≡ true → IsSettled m.0.stage
+pub count_keeps : (slots id : ℕ) (m : Token) → m.0.live ≡ true → IsSettled m.0.stage
     → Allows Ruled slots id m 2 (λ n. n) (counted (step slots 2 0 0 none) m)
 count_keeps slots id m live settled s r sized at fits =
     let v = m.0 in let h = kept v.stage in
@@ -261,7 +261,7 @@ count_keeps slots id m live settled s r sized at fits =
               glanced = f.glanced;
               lowest = f.lowest;
               given = omega arith;
-              parts = f.parts;
+              formers = f.formers;
             };
           })
           (ap (λ (l : List ℕ). set l 2 (slice_index l 2)) r.words)
@@ -297,7 +297,7 @@ drawn_next s r id v own at holds_own count_is n some_below less = dite (ℕ_disc
       read = read_set d.by n s.views id v (drawing v) at (λ h. omega (arith, times_own v.given d.by (omega arith))) (omega arith) d.read;
     })
 
-pub draw_keeps : (slots id : ℕ) (m : Place) (next own : ℕ) → m.0.live ≡ true → m.0.stage ≡ counts (kept m.0.stage) →
+pub draw_keeps : (slots id : ℕ) (m : Token) (next own : ℕ) → m.0.live ≡ true → m.0.stage ≡ counts (kept m.0.stage) →
     0 < times own m.0.held → next ≡ m.0.given + 1 → next ≤ 64
     → Allows Ruled slots id m 2 (λ _. next) (λ _. drawn (step slots 2 next 0 none) m next)
 draw_keeps slots id m next own live e holds_own is few s r sized at fits =
@@ -345,7 +345,7 @@ draw_keeps slots id m next own live e holds_own is few s r sized at fits =
               glanced = f.glanced;
               lowest = f.lowest;
               given = omega arith;
-              parts = parts_held v.held (v.given ∷ v.held) r.posted v.parts (λ x. omega arith) f.parts;
+              formers = formers_held v.held (v.given ∷ v.held) r.posted v.formers (λ x. omega arith) f.formers;
             };
           })
           (ap (λ (l : List ℕ). set l 2 next) r.words)
@@ -367,7 +367,7 @@ first_fits b = record {
   glanced = omega arith;
   lowest = lowest_all (record { league = b.league; room = b.room }) b.history;
   given = omega arith;
-  parts = tt;
+  formers = tt;
 }
 
 -- a board whose entries are all of caller 0, and its first seat

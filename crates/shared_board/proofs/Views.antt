@@ -13,9 +13,9 @@ use Rattle.fixture_board.specs.Record.{Book}
 use Rattle.fixture_board.specs.Laws.{least_of}
 use Rattle.shared_board.specs.declared.view.View.{View}
 use Rattle.shared_board.specs.Setting.{Setting}
-use Rattle.shared_board.specs.Stage.{Stage, Part, away, holds, counts, owes, kept, IsSettled}
+use Rattle.shared_board.specs.Stage.{Stage, Former, away, holds, counts, owes, kept, IsSettled}
 use Rattle.shared_board.specs.Held.{times, once_below, total}
-use Rattle.shared_board.specs.Rule.{Knows, Lowest, EachPart, Fits, upto, IsHolder, IsFree, IsHeld, AllRead}
+use Rattle.shared_board.specs.Rule.{Knows, Lowest, EachFormer, Fits, upto, IsHolder, IsFree, IsHeld, AllRead}
 use Rattle.shared_board.specs.Plays.{at_stage, saw}
 use Rattle.shared_board.proofs.Counts.{under_append, under_fewer, total_set}
 
@@ -48,24 +48,24 @@ lowest_more s seen h low e l = record {
   least = l.least;
 }
 
-pub parts_more : (held : List ℕ) (h : List Entry) (e : Entry) (parts : List Part) → times e.caller held ≡ 0 → EachPart held h parts →
-    EachPart held (h ++ e ∷ []) parts
-parts_more held h e [] apart each = tt
-parts_more held h e (p ∷ ps) apart each =
+pub formers_more : (held : List ℕ) (h : List Entry) (e : Entry) (formers : List Former) → times e.caller held ≡ 0 →
+    EachFormer held h formers → EachFormer held (h ++ e ∷ []) formers
+formers_more held h e [] apart each = tt
+formers_more held h e (p ∷ ps) apart each =
     let less = each.0 e.caller in
-    (each.0, knows_more p.held p.seen h e (omega arith) each.1, parts_more held h e ps apart each.2)
+    (each.0, knows_more p.held p.seen h e (omega arith) each.1, formers_more held h e ps apart each.2)
 
 -- more numbers are held
-pub parts_held : (held more : List ℕ) (h : List Entry) (parts : List Part) → ((x : ℕ) → times x held ≤ times x more) →
-    EachPart held h parts → EachPart more h parts
-parts_held held more h [] le each = tt
-parts_held held more h (p ∷ ps) le each =
-    ((λ x. let a = each.0 x in let b = le x in omega arith), each.1, parts_held held more h ps le each.2)
+pub formers_held : (held more : List ℕ) (h : List Entry) (formers : List Former) → ((x : ℕ) → times x held ≤ times x more) →
+    EachFormer held h formers → EachFormer more h formers
+formers_held held more h [] le each = tt
+formers_held held more h (p ∷ ps) le each =
+    ((λ x. let a = each.0 x in let b = le x in omega arith), each.1, formers_held held more h ps le each.2)
 
 pub fits_stage : (s : Setting) (h : List Entry) (long numbers : ℕ) (v : View) (t : Stage) → Fits s h long numbers v →
     Fits s h long numbers (at_stage v t)
 fits_stage s h long numbers v t f =
-    record { setting_is = f.setting_is; knows = f.knows; glanced = f.glanced; lowest = f.lowest; given = f.given; parts = f.parts }
+    record { setting_is = f.setting_is; knows = f.knows; glanced = f.glanced; lowest = f.lowest; given = f.given; formers = f.formers }
 
 -- the counts that all may read have grown
 pub fits_longer : (s : Setting) (h : List Entry) (long more numbers given : ℕ) (v : View) → long ≤ more → numbers ≤ given →
@@ -76,7 +76,7 @@ fits_longer s h long more numbers given v le le' f = record {
   glanced = (let g = f.glanced in omega arith);
   lowest = f.lowest;
   given = (let g = f.given in omega arith);
-  parts = f.parts;
+  formers = f.formers;
 }
 
 -- one entry more, under no number that the seat holds
@@ -88,7 +88,7 @@ fits_more s h long numbers v e apart f = record {
   glanced = f.glanced;
   lowest = lowest_more s v.seen h v.lowest e f.lowest;
   given = f.given;
-  parts = parts_more v.held h e v.parts apart f.parts;
+  formers = formers_more v.held h e v.formers apart f.formers;
 }
 
 -- the history was seen
@@ -100,7 +100,7 @@ fits_saw s h numbers v t e given = record {
   glanced = omega arith;
   lowest = (let P : Setting → Type 0 = λ r. Lowest s h h (least_of r.league h) in subst P (sym e) (lowest_all s h));
   given = given;
-  parts = tt;
+  formers = tt;
 }
 
 pub settled_not_away : (t : Stage) → IsSettled t → t ≢ away
@@ -181,7 +181,7 @@ either_read a b g k n some_held f h = dite (ℕ_discrete a 0) (λ e. omega (arit
 -- fewer numbers are held
 pub fits_fewer : (s : Setting) (h : List Entry) (long numbers : ℕ) (v : View) (held : List ℕ) →
     ((x : ℕ) → times x held ≤ times x v.held) → Fits s h long numbers v
-    → Fits s h long numbers (record v { held = held; parts = [] })
+    → Fits s h long numbers (record v { held = held; formers = [] })
 fits_fewer s h long numbers v held fewer f = record {
   setting_is = f.setting_is;
   knows = record {
@@ -193,7 +193,7 @@ fits_fewer s h long numbers v held fewer f = record {
   glanced = f.glanced;
   lowest = f.lowest;
   given = f.given;
-  parts = tt;
+  formers = tt;
 }
 
 pub once_set : (views : List View) (id : ℕ) (v w : View) (numbers more : ℕ) → get_elem? views id ≡ some v

@@ -6,25 +6,25 @@ use Rattle.fixture_board.specs.declared.reply.Reply.TheVariants.{Done, No}
 use Rattle.fixture_board.specs.Record.{Book}
 use Rattle.shared_board.specs.Setting.{board_at}
 use Rattle.shared_board.specs.Held.{times, under}
-use Rattle.shared_board.specs.Plays.{Place, Meets}
+use Rattle.shared_board.specs.Plays.{Token, Meets}
 use Rattle.shared_board.specs.Seats.{IsIdle, IsSeat}
 
 -- A seat's fields after a call: what was granted is one more of its entries, and the answer tells how long the history
 -- is then
-abbrev pub IsSeatAfter : Place → ℕ → ℕ → ℕ → Reply → Type 0
+abbrev pub IsSeatAfter : Token → ℕ → ℕ → ℕ → Reply → Type 0
 IsSeatAfter n number held accepted (Done at cost) = IsSeat n number held at (accepted + 1) × (accepted + 1 ≤ at)
 IsSeatAfter n number held accepted (No at why) = IsSeat n number held at accepted
 
 -- no number is held that the seat has not read as given out
-abbrev pub HoldsBelow : Place → Type 0
+abbrev pub HoldsBelow : Token → Type 0
 HoldsBelow m = (x : ℕ) → m.0.given ≤ x → times x m.0.held ≡ 0
 
 -- it has glanced no less than it has seen
-abbrev pub IsAhead : Place → Type 0
+abbrev pub IsAhead : Token → Type 0
 IsAhead m = length m.0.seen ≤ m.0.glanced
 
 -- Two seats were made one: it has the numbers and the entries of both, and saw the longer of the two histories
-pub record IsOfBoth (m other n : Place) : Type 0 where
+pub record IsOfBoth (m other n : Token) : Type 0 where
   pub idle : IsIdle n
   pub own : (x : ℕ) → times x n.0.held ≡ times x m.0.held + times x other.0.held
   pub single : (x : ℕ) → times x n.0.held ≤ 1
@@ -38,7 +38,7 @@ pub record IsOfBoth (m other n : Place) : Type 0 where
 
 -- The board that was met under the turn, and how many numbers were given out. The seat held as many just where it held as
 -- many as it knew of: it had then seen the whole history, and each entry is its own
-pub record BroughtOut (m : Place) (board : Book) (numbers : ℕ) : Type 0 where
+pub record BroughtOut (m : Token) (board : Book) (numbers : ℕ) : Type 0 where
   pub history : List Entry
   pub met : Meets m.0 history
   pub board_is : board ≡ board_at m.0.setting history

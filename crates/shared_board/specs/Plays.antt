@@ -9,14 +9,14 @@ use Rattle.shared_board.specs.declared.view.View.{View}
 use Rattle.shared_board.specs.Setting.{board_at}
 use Rattle.shared_board.specs.Stage.{Stage, away, holds, counts, owes, kept}
 use Rattle.shared_board.specs.Held.{times, once_below, HoldsEach, callers_below}
-use Rattle.shared_board.specs.Rule.{Knows, Lowest, EachPart}
+use Rattle.shared_board.specs.Rule.{Knows, Lowest, EachFormer}
 
--- a seat of the table: what it knows, and the slot that it has taken
-abbrev pub Place : Type 0
-Place = Me (Option Book) View
+-- what a seat has at the table: what it knows, and the slot that it has taken
+abbrev pub Token : Type 0
+Token = Me (Option Book) View
 
 abbrev pub Told : Type 1
-Told = Step (Option Book) → Place → ℕ → Place → Type 0
+Told = Step (Option Book) → Token → ℕ → Token → Type 0
 
 -- the history is legal, and stands to the view as one that was met under the turn does
 pub record Meets (v : View) (history : List Entry) : Type 0 where
@@ -32,7 +32,7 @@ at_stage v stage = record v { stage = stage }
 
 -- the view, once this history was seen
 abbrev pub saw : View → List Entry → Stage → View
-saw v h stage = record v { seen = h; glanced = length h; lowest = least_of v.setting.league h; parts = []; stage = stage }
+saw v h stage = record v { seen = h; glanced = length h; lowest = least_of v.setting.league h; formers = []; stage = stage }
 
 -- the history on the board that the seat has
 abbrev pub in_slot : Option Book → List Entry
@@ -44,7 +44,7 @@ on_board [] = []
 on_board (x ∷ xs) = in_slot x.1
 
 -- the turn was taken, and with it the board
-abbrev pub Took : Place → Place → Type 0
+abbrev pub Took : Token → Token → Type 0
 Took m n = (h : List Entry) × Meets m.0 h × (n ≡ (at_stage m.0 (holds h), (0, Some (board_at m.0.setting h)) ∷ m.1))
 
 abbrev pub took : Told
@@ -68,7 +68,7 @@ quit st m r n = n ≡ (at_stage m.0 away, rest m.1)
 abbrev pub counting : View → ℕ → View
 counting v r = record v { given = r; stage = counts (kept v.stage) }
 
-pub record Counted (m : Place) (r : ℕ) (n : Place) : Type 0 where
+pub record Counted (m : Token) (r : ℕ) (n : Token) : Type 0 where
   pub now : n ≡ (counting m.0 r, m.1)
   pub grown : m.0.given ≤ r
   pub few : r ≤ 64
@@ -103,11 +103,11 @@ drawn_before (n ∷ ns) = ns
 
 -- a new seat's view, which gets the number drawn last
 abbrev pub newcomer : View → View
-newcomer v = record v { held = last_drawn v.held; parts = [] }
+newcomer v = record v { held = last_drawn v.held; formers = [] }
 
 -- and that of the seat that drew it, which keeps the others
 abbrev pub drawer : View → View
-drawer v = record v { held = drawn_before v.held; parts = [] }
+drawer v = record v { held = drawn_before v.held; formers = [] }
 
 abbrev pub longer : List Entry → List Entry → List Entry
 longer a b = if nat_lt (length a) (length b) then b else a
@@ -120,14 +120,14 @@ joined v w = record v {
   glanced = max v.glanced w.glanced;
   lowest = min v.lowest w.lowest;
   given = max v.given w.given;
-  parts = record { held = v.held; seen = v.seen } ∷ record { held = w.held; seen = w.seen } ∷ [];
+  formers = record { held = v.held; seen = v.seen } ∷ record { held = w.held; seen = w.seen } ∷ [];
 }
 
--- the two were parts of one history, and share no number
-pub record Parted (m : Place) : Type 0 where
+-- the two saw one history, and hold no number both
+pub record Agreed (m : Token) : Type 0 where
   pub history : List Entry
-  pub each : EachPart m.0.held history m.0.parts
+  pub each : EachFormer m.0.held history m.0.formers
   pub single : (x : ℕ) → times x m.0.held ≤ once_below x 64
 
-abbrev pub parted : Told
-parted st m r n = (n ≡ m) × Parted m
+abbrev pub agreed : Told
+agreed st m r n = (n ≡ m) × Agreed m

@@ -11,7 +11,7 @@ use Rattle.fixture_board.specs.Laws.{least_of}
 use Rattle.fixture_board.specs.Record.{Book}
 use Rattle.shared_board.specs.declared.view.View.{View}
 use Rattle.shared_board.specs.Setting.{Setting, board_at}
-use Rattle.shared_board.specs.Stage.{Stage, Part, away, holds, counts, owes}
+use Rattle.shared_board.specs.Stage.{Stage, Former, away, holds, counts, owes}
 use Rattle.shared_board.specs.Held.{times, once_below, total, under, callers_below}
 
 -- the first seat of a board, which has seen its history
@@ -24,7 +24,7 @@ first_view b = record {
   glanced = length b.history;
   lowest = least_of b.league b.history;
   given = 1;
-  parts = [];
+  formers = [];
   stage = away;
 }
 
@@ -38,7 +38,7 @@ spent_view = record {
   glanced = 0;
   lowest = 0;
   given = 0;
-  parts = [];
+  formers = [];
   stage = away;
 }
 
@@ -56,10 +56,10 @@ pub record Lowest (setting : Setting) (seen history : List Entry) (lowest : ℕ)
   pub least : lowest ≡ least_of setting.league (seen ++ more)
 
 -- each of the seats that were made one held numbers that are held, and knows the history
-abbrev pub EachPart : List ℕ → List Entry → List Part → Type 0
-EachPart held history [] = Unit {0}
-EachPart held history (p ∷ ps) =
-    ((x : ℕ) → times x p.held ≤ times x held) × Knows p.held p.seen history × EachPart held history ps
+abbrev pub EachFormer : List ℕ → List Entry → List Former → Type 0
+EachFormer held history [] = Unit {0}
+EachFormer held history (p ∷ ps) =
+    ((x : ℕ) → times x p.held ≤ times x held) × Knows p.held p.seen history × EachFormer held history ps
 
 -- what a view has to do with the history. `long` is its length as all may read it
 pub record Fits (setting : Setting) (history : List Entry) (long numbers : ℕ) (v : View) : Type 0 where
@@ -68,7 +68,7 @@ pub record Fits (setting : Setting) (history : List Entry) (long numbers : ℕ) 
   pub glanced : v.glanced ≤ long
   pub lowest : Lowest setting v.seen history v.lowest
   pub given : v.given ≤ numbers
-  pub parts : EachPart v.held history v.parts
+  pub formers : EachFormer v.held history v.formers
 
 -- the history that a seat's view is a part of
 abbrev pub upto : Stage → List Entry → List Entry → List Entry

@@ -17,7 +17,7 @@ use Rattle.shared_board.specs.Setting.{Setting, board_at}
 use Rattle.shared_board.specs.Stage.{away}
 use Rattle.shared_board.specs.Held.{times, under}
 use Rattle.shared_board.specs.Rule.{Knows, Lowest}
-use Rattle.shared_board.specs.Plays.{Place}
+use Rattle.shared_board.specs.Plays.{Token}
 
 -- which board it is
 abbrev pub BoardId : Type 0
@@ -46,14 +46,14 @@ seat_value table number v = record {
 }
 
 -- between calls a seat holds neither the turn nor the board
-pub record IsIdle (me : Place) : Type 0 where
+pub record IsIdle (me : Token) : Type 0 where
   pub live : me.0.live ≡ true
   pub away_is : me.0.stage ≡ away
   pub no_slot : me.1 ≡ []
 
 -- the fields of a seat stand to what it knows: its number, how many it holds, how long the history was, and its
 -- entries in it
-pub record IsSeat (me : Place) (number held seen accepted : ℕ) : Type 0 where
+pub record IsSeat (me : Token) (number held seen accepted : ℕ) : Type 0 where
   pub idle : IsIdle me
   pub own : 0 < times number me.0.held
   pub single : (x : ℕ) → times x me.0.held ≤ 1
@@ -72,7 +72,7 @@ pub record IsConsistent (a : SeatValue) : Type 0 where
   pub ahead : length a.seen ≤ a.glanced
 
 -- the seat has the board, with this history
-abbrev pub HasBoard : Place → List Entry → Type 0
+abbrev pub HasBoard : Token → List Entry → Type 0
 HasBoard me h = me.1 ≡ (0, Some (board_at me.0.setting h)) ∷ []
 
 -- the seat, once it has seen this history

@@ -10,8 +10,8 @@ pub data Stage : Type 0 where
   counts : List Entry → Stage
   owes : List Entry → List Entry → Stage
 
--- what a seat had held and seen
-pub record Part : Type 0 where
+-- what a seat had held and seen that is now one with another
+pub record Former : Type 0 where
   pub held : List ℕ
   pub seen : List Entry
 

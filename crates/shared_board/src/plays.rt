@@ -1,7 +1,7 @@
 //! The names of the steps, and what each tells.
 
 ghost use Rattle.shared_board.specs.Plays.{took, committed, posted, left, quit, counted, drawn, glanced, lowered};
-ghost use Rattle.shared_board.specs.Plays.{drawer, newcomer, joined, parted};
+ghost use Rattle.shared_board.specs.Plays.{drawer, newcomer, joined, agreed};
 
 use crate::view::View;
 use atomic_table::{Join, Play, Split};
@@ -70,11 +70,11 @@ impl Play<Option<Board>, View> for Lower {
     ghost then = { lowered };
 }
 
-/// After a join: the two were parts of one history.
+/// After a join: the two saw one history.
 pub struct Tell;
 
 impl Play<Option<Board>, View> for Tell {
-    ghost then = { parted };
+    ghost then = { agreed };
 }
 
 /// A new seat comes from another with the number that this one drew last, and has seen what it has.

@@ -38,8 +38,8 @@ const SLOT: usize = 0;
 /// How many numbers there are.
 const MAX_SEATS: u64 = 64;
 
-/// A seat of the table.
-type Place = atomic_table::Seat<Option<Board>, View>;
+/// What a seat has at the table.
+type Token = atomic_table::Seat<Option<Board>, View>;
 
 /// A board that threads share. Contracts see which one it is.
 #[derive(Drop)]
@@ -64,7 +64,7 @@ impl Model for Shared {
 /// that it absorbed), the history as it last saw it, and what it has read without a turn.
 #[derive(Drop)]
 pub struct Seat {
-    place: Place,
+    token: Token,
     number: u32,
     held: u32,
     seen: u64,
@@ -76,9 +76,9 @@ impl Model for Seat {
 
     ghost Value = { SeatValue };
 
-    ghost view = { λ s. seat_value s.place.table_id s.number s.place.me.0 };
+    ghost view = { λ s. seat_value s.token.table_id s.number s.token.me.0 };
 
-    ghost invariant = { λ s. IsSeat s.place.me s.number s.held s.seen s.accepted };
+    ghost invariant = { λ s. IsSeat s.token.me s.number s.held s.seen s.accepted };
 }
 
 impl Seat {
@@ -162,11 +162,11 @@ impl Shared {
         let mut slots = Vec::with_capacity(alloc, 1)?;
         slots.push_reserved(Some(board));
         let words = [0, version, 1, best];
-        let Ok((table, place)) = Table::new(alloc, &words, slots, &key) else {
+        let Ok((table, token)) = Table::new(alloc, &words, slots, &key) else {
             return Err(AllocError);
         };
         let seat = Seat {
-            place,
+            token,
             number: 0,
             held: 1,
             seen: version,

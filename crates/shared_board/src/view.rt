@@ -4,7 +4,7 @@ ghost use Rattle.std.specs.Prelude.{ℕ, List, Bool};
 ghost use Rattle.std.specs.Borrow.{ftrue};
 ghost use Rattle.fixture_board.specs.declared.change.Entry.{Entry};
 ghost use Rattle.shared_board.specs.Setting.{Setting};
-ghost use Rattle.shared_board.specs.Stage.{Stage, Part};
+ghost use Rattle.shared_board.specs.Stage.{Stage, Former};
 
 use atomic_table::TableRule;
 use fixture_board::Board;
@@ -28,7 +28,7 @@ pub struct View {
     /// How many numbers it knows to be given out.
     pub ghost given: { ℕ },
     /// Of two seats that were made one, what each had held and seen.
-    pub ghost parts: { List Part },
+    pub ghost formers: { List Former },
     /// Where it is in its turn.
     pub ghost stage: { Stage },
 }

@@ -47,7 +47,7 @@ impl Shared {
         requires { seat.old.table ≡ self.now }
         ensures { Answered seat.old seat.new ask result }
     {
-        let reply = self.asked(rt, &mut seat.place, seat.number, ask);
+        let reply = self.asked(rt, &mut seat.token, seat.number, ask);
         match reply {
             Reply::Done { at, .. } => {
                 seat.seen = at;
@@ -63,9 +63,9 @@ impl Shared {
         requires { seat.old.table ≡ self.now }
         ensures { Looked seat.old seat.new copy.old copy.new result }
     {
-        self.take(rt, &mut seat.place);
-        let seen = self.read(&mut seat.place, copy);
-        self.leave(&mut seat.place);
+        self.take(rt, &mut seat.token);
+        let seen = self.read(&mut seat.token, copy);
+        self.leave(&mut seat.token);
         seat.seen = seen.version;
         seen
     }
@@ -77,7 +77,7 @@ impl Shared {
         ensures later { seat.old.glanced ≤ result }
         ensures seat { seat.new ≡ glanced_at seat.old result }
     {
-        self.table.shared.load::<Glance>(&mut seat.place, FRONT)
+        self.table.shared.load::<Glance>(&mut seat.token, FRONT)
     }
 
     /// The best total that the history has had at some point, or none. It waits for nobody.
@@ -87,7 +87,7 @@ impl Shared {
         ensures seat { seat.new ≡ lowest_at seat.old (word_of_total result) }
         ensures some { IfSome result (λ n. n < 2 ^ 64 - 1) }
     {
-        let total = self.table.shared.load::<Lower>(&mut seat.place, BEST);
+        let total = self.table.shared.load::<Lower>(&mut seat.token, BEST);
         if total == u64::MAX { None } else { Some(total) }
     }
 }

@@ -15,17 +15,17 @@ impl Shared {
         ensures { MatchResult result (λ s. (seat.new ≡ given_at seat.old (s.number + 1)) × IsNew seat.old s)
             (λ _. seat.new ≡ given_at seat.old 64) }
     {
-        self.take(rt, &mut seat.place);
-        let number = self.count(&mut seat.place);
+        self.take(rt, &mut seat.token);
+        let number = self.count(&mut seat.token);
         if number >= MAX_SEATS {
-            self.quit(&mut seat.place);
+            self.quit(&mut seat.token);
             return Err(SplitFault::TooManySeats);
         }
-        self.draw(&mut seat.place, number + 1);
-        self.quit(&mut seat.place);
-        let place = self.table.shared.split_seat::<Newcomer>(&mut seat.place);
+        self.draw(&mut seat.token, number + 1);
+        self.quit(&mut seat.token);
+        let token = self.table.shared.split_seat::<Newcomer>(&mut seat.token);
         Ok(Seat {
-            place,
+            token,
             number: number as u32,
             held: 1,
             seen: seat.seen,
@@ -40,13 +40,13 @@ impl Shared {
         ensures { Absorbed seat.old other seat.new }
     {
         let Seat {
-            place,
+            token,
             number: _,
             held,
             seen,
             accepted,
         } = other;
-        self.merge(&mut seat.place, place);
+        self.merge(&mut seat.token, token);
         seat.held += held;
         seat.seen = seat.seen.max(seen);
         seat.accepted += accepted;
@@ -58,13 +58,13 @@ impl Shared {
         ensures { ClosedBy seat result }
     {
         let Seat {
-            mut place,
+            mut token,
             number: _,
             held,
             seen: _,
             accepted: _,
         } = seat;
-        let (board, numbers) = self.bring_out(rt, &mut place);
+        let (board, numbers) = self.bring_out(rt, &mut token);
         Closed {
             board,
             whole: u64::from(held) == numbers,

@@ -14,7 +14,7 @@ ghost use Rattle.shared_board.specs.Ending.{IsSeatAfter, IsOfBoth, BroughtOut, H
 ghost use Rattle.shared_board.specs.Judging.{IsJudged};
 
 use crate::plays::{Both, Commit, Count, Draw, Leave, Post, Quit, Take, Tell};
-use crate::shared::{BEST, FRONT, Judged, NUMBERS, Place, SLOT, Shared, TURN};
+use crate::shared::{BEST, FRONT, Judged, NUMBERS, SLOT, Shared, TURN, Token};
 use fixture_board::{Ask, Best, Board, Reply, Seen};
 use fixtures::Schedule;
 use std::hint::spin_loop;
@@ -30,14 +30,14 @@ const NAP: u64 = 50;
 
 impl Shared {
     /// Takes the turn, and the board with it. Where the turn is long taken, the thread sleeps a little.
-    pub(crate) fn take<R: Wait>(&self, rt: &R, place: &mut Place)
-        requires table { place.old.table_id ≡ self.now }
-        requires idle { (place.old.me.0.live ≡ true) × (place.old.me.0.stage ≡ away) }
-        ensures same { place.new.table_id ≡ place.old.table_id }
-        ensures took { Took place.old.me place.new.me }
+    pub(crate) fn take<R: Wait>(&self, rt: &R, token: &mut Token)
+        requires table { token.old.table_id ≡ self.now }
+        requires idle { (token.old.me.0.live ≡ true) × (token.old.me.0.stage ≡ away) }
+        ensures same { token.new.table_id ≡ token.old.table_id }
+        ensures took { Took token.old.me token.new.me }
     {
         for _ in rt.forever() {
-            if self.try_take(place) {
+            if self.try_take(token) {
                 return;
             }
             let nap = Duration::from_micros(NAP);
@@ -47,63 +47,63 @@ impl Shared {
     }
 
     /// Takes the turn, asks the board, and leaves the turn.
-    pub(crate) fn asked<R: Wait>(&self, rt: &R, place: &mut Place, number: u32, ask: Ask) -> Reply
-        requires table { place.old.table_id ≡ self.now }
-        requires idle { IsIdle place.old.me }
-        requires own { 0 < times number place.old.me.0.held }
-        ensures same { place.new.table_id ≡ place.old.table_id }
-        ensures seat { (held seen accepted : ℕ) → IsSeat place.old.me number held seen accepted →
-            IsSeatAfter place.new.me number held accepted result }
-        ensures answered { (held seen accepted : ℕ) → IsSeat place.old.me number held seen accepted →
-            Answered (seat_value place.old.table_id number place.old.me.0)
-            (seat_value place.old.table_id number place.new.me.0) ask result }
+    pub(crate) fn asked<R: Wait>(&self, rt: &R, token: &mut Token, number: u32, ask: Ask) -> Reply
+        requires table { token.old.table_id ≡ self.now }
+        requires idle { IsIdle token.old.me }
+        requires own { 0 < times number token.old.me.0.held }
+        ensures same { token.new.table_id ≡ token.old.table_id }
+        ensures seat { (held seen accepted : ℕ) → IsSeat token.old.me number held seen accepted →
+            IsSeatAfter token.new.me number held accepted result }
+        ensures answered { (held seen accepted : ℕ) → IsSeat token.old.me number held seen accepted →
+            Answered (seat_value token.old.table_id number token.old.me.0)
+            (seat_value token.old.table_id number token.new.me.0) ask result }
     {
-        self.take(rt, place);
-        let judged = self.judge(place, number, ask);
-        self.conclude(place, number, ask, &judged);
+        self.take(rt, token);
+        let judged = self.judge(token, number, ask);
+        self.conclude(token, number, ask, &judged);
         judged.reply
     }
 
     /// Takes the turn for good: the board, and how many numbers are given out.
-    pub(crate) fn bring_out<R: Wait>(&self, rt: &R, place: &mut Place) -> (Board, u64)
-        requires table { place.old.table_id ≡ self.now }
-        requires idle { IsIdle place.old.me }
-        requires below { (0 < place.old.me.0.given) × HoldsBelow place.old.me }
-        ensures { BroughtOut place.old.me result.0 result.1 }
+    pub(crate) fn bring_out<R: Wait>(&self, rt: &R, token: &mut Token) -> (Board, u64)
+        requires table { token.old.table_id ≡ self.now }
+        requires idle { IsIdle token.old.me }
+        requires below { (0 < token.old.me.0.given) × HoldsBelow token.old.me }
+        ensures { BroughtOut token.old.me result.0 result.1 }
     {
-        self.take(rt, place);
-        let numbers = self.count(place);
-        match self.table.shared.exchange(place, SLOT, None) {
+        self.take(rt, token);
+        let numbers = self.count(token);
+        match self.table.shared.exchange(token, SLOT, None) {
             Some(board) => (board, numbers),
             None => unreachable!(),
         }
     }
 
     /// The first seat takes in what the other knows.
-    pub(crate) fn merge(&self, place: &mut Place, other: Place)
-        requires table { (place.old.table_id ≡ self.now) × (other.table_id ≡ self.now) }
-        requires idle { IsIdle place.old.me × IsIdle other.me }
-        ensures same { place.new.table_id ≡ place.old.table_id }
-        ensures both { IsOfBoth place.old.me other.me place.new.me }
-        ensures absorbed { (number theirs : ℕ) (a o : SeatValue) → seat_value place.old.table_id number place.old.me.0 ≡ a →
-            seat_value other.table_id theirs other.me.0 ≡ o → Absorbed a o (seat_value place.new.table_id number place.new.me.0) }
+    pub(crate) fn merge(&self, token: &mut Token, other: Token)
+        requires table { (token.old.table_id ≡ self.now) × (other.table_id ≡ self.now) }
+        requires idle { IsIdle token.old.me × IsIdle other.me }
+        ensures same { token.new.table_id ≡ token.old.table_id }
+        ensures both { IsOfBoth token.old.me other.me token.new.me }
+        ensures absorbed { (number theirs : ℕ) (a o : SeatValue) → seat_value token.old.table_id number token.old.me.0 ≡ a →
+            seat_value other.table_id theirs other.me.0 ≡ o → Absorbed a o (seat_value token.new.table_id number token.new.me.0) }
     {
-        self.table.shared.join_seat::<Both>(place, other);
-        self.table.shared.load::<Tell>(place, TURN);
+        self.table.shared.join_seat::<Both>(token, other);
+        self.table.shared.load::<Tell>(token, TURN);
     }
 
     /// Tries for the turn, a few times where it gets free, and says whether it was taken.
-    fn try_take(&self, place: &mut Place) -> bool
-        requires table { place.old.table_id ≡ self.now }
-        requires idle { (place.old.me.0.live ≡ true) × (place.old.me.0.stage ≡ away) }
-        ensures same { place.new.table_id ≡ place.old.table_id }
-        ensures took { MatchBool result (Took place.old.me place.new.me) (place.new.me ≡ place.old.me) }
+    fn try_take(&self, token: &mut Token) -> bool
+        requires table { token.old.table_id ≡ self.now }
+        requires idle { (token.old.me.0.live ≡ true) × (token.old.me.0.stage ≡ away) }
+        ensures same { token.new.table_id ≡ token.old.table_id }
+        ensures took { MatchBool result (Took token.old.me token.new.me) (token.new.me ≡ token.old.me) }
     {
         let table = &self.table.shared;
         for tried in 0..TRIES {
             // where the turn is taken, reading alone leaves the words to the seat that has it
             let may_be_free = tried == 0 || table.peek(TURN) == 0;
-            if may_be_free && table.compare_exchange::<Take>(place, TURN, 0, 1) == 0 {
+            if may_be_free && table.compare_exchange::<Take>(token, TURN, 0, 1) == 0 {
                 return true;
             }
             spin_loop();
@@ -113,16 +113,16 @@ impl Shared {
 
     /// What the board answers, and its version and its best total then.
     #[tactic(auto, unfolding(fixture_board::specs::Laws::least_of))]
-    pub(crate) fn judge(&self, place: &mut Place, number: u32, ask: Ask) -> Judged
-        requires table { place.old.table_id ≡ self.now }
-        requires board { HasBoard place.old.me (on_board place.old.me.1) }
-        ensures same { (place.new.table_id ≡ place.old.table_id) × (place.new.me.0 ≡ place.old.me.0) }
-        ensures board { HasBoard place.new.me
-            (next_of place.old.me.0.setting.league place.old.me.0.setting.room (on_board place.old.me.1) number ask) }
-        ensures judged { IsJudged place.old.me.0.setting (on_board place.old.me.1) number ask result }
+    pub(crate) fn judge(&self, token: &mut Token, number: u32, ask: Ask) -> Judged
+        requires table { token.old.table_id ≡ self.now }
+        requires board { HasBoard token.old.me (on_board token.old.me.1) }
+        ensures same { (token.new.table_id ≡ token.old.table_id) × (token.new.me.0 ≡ token.old.me.0) }
+        ensures board { HasBoard token.new.me
+            (next_of token.old.me.0.setting.league token.old.me.0.setting.room (on_board token.old.me.1) number ask) }
+        ensures judged { IsJudged token.old.me.0.setting (on_board token.old.me.1) number ask result }
         ensures small { result.version < 2 ^ 64 }
     {
-        match place.slot_mut(&self.table.shared, SLOT) {
+        match token.slot_mut(&self.table.shared, SLOT) {
             Some(board) => {
                 let reply = board.answer(number, ask);
                 Judged {
@@ -136,112 +136,112 @@ impl Shared {
     }
 
     /// Copies what the board shows.
-    pub(crate) fn read(&self, place: &mut Place, copy: &mut Schedule) -> Seen
-        requires table { place.old.table_id ≡ self.now }
-        requires board { HasBoard place.old.me (on_board place.old.me.1) }
-        ensures same { (place.new.table_id ≡ place.old.table_id) × (place.new.me ≡ place.old.me) }
-        ensures version { result.version ≡ length (on_board place.old.me.1) }
-        ensures cost { result.cost ≡ cost_at place.old.me.0.setting.league (on_board place.old.me.1) }
-        ensures copy { copy.new ≡ copied copy.old (games_of place.old.me.0.setting.league (on_board place.old.me.1)) }
+    pub(crate) fn read(&self, token: &mut Token, copy: &mut Schedule) -> Seen
+        requires table { token.old.table_id ≡ self.now }
+        requires board { HasBoard token.old.me (on_board token.old.me.1) }
+        ensures same { (token.new.table_id ≡ token.old.table_id) × (token.new.me ≡ token.old.me) }
+        ensures version { result.version ≡ length (on_board token.old.me.1) }
+        ensures cost { result.cost ≡ cost_at token.old.me.0.setting.league (on_board token.old.me.1) }
+        ensures copy { copy.new ≡ copied copy.old (games_of token.old.me.0.setting.league (on_board token.old.me.1)) }
     {
-        match place.slot_mut(&self.table.shared, SLOT) {
+        match token.slot_mut(&self.table.shared, SLOT) {
             Some(board) => board.look(copy),
             None => unreachable!(),
         }
     }
 
     /// Writes the history's new length.
-    pub(crate) fn commit(&self, place: &mut Place, version: u64)
-        requires table { place.old.table_id ≡ self.now }
-        requires turn { (place.old.me.0.live ≡ true) × IsSettled place.old.me.0.stage }
-        requires added { Added place.old.me.0.held (kept place.old.me.0.stage) (on_board place.old.me.1) }
-        requires legal { IsLegal place.old.me.0.setting.league place.old.me.0.setting.room (on_board place.old.me.1) }
-        requires version { version ≡ length (on_board place.old.me.1) }
-        ensures same { place.new.table_id ≡ place.old.table_id }
-        ensures done { let g = on_board place.old.me.1 in
-            place.new.me ≡ (saw place.old.me.0 g (owes (kept place.old.me.0.stage) g), place.old.me.1) }
+    pub(crate) fn commit(&self, token: &mut Token, version: u64)
+        requires table { token.old.table_id ≡ self.now }
+        requires turn { (token.old.me.0.live ≡ true) × IsSettled token.old.me.0.stage }
+        requires added { Added token.old.me.0.held (kept token.old.me.0.stage) (on_board token.old.me.1) }
+        requires legal { IsLegal token.old.me.0.setting.league token.old.me.0.setting.room (on_board token.old.me.1) }
+        requires version { version ≡ length (on_board token.old.me.1) }
+        ensures same { token.new.table_id ≡ token.old.table_id }
+        ensures done { let g = on_board token.old.me.1 in
+            token.new.me ≡ (saw token.old.me.0 g (owes (kept token.old.me.0.stage) g), token.old.me.1) }
     {
-        self.table.shared.store::<Commit>(place, FRONT, version);
+        self.table.shared.store::<Commit>(token, FRONT, version);
     }
 
     /// Writes the best total after a commit.
-    pub(crate) fn post(&self, place: &mut Place, least: u64)
-        requires table { place.old.table_id ≡ self.now }
-        requires turn { (place.old.me.0.live ≡ true) ×
-            (place.old.me.0.stage ≡ owes (owed place.old.me.0.stage) (kept place.old.me.0.stage)) }
-        requires least { least ≡ least_of place.old.me.0.setting.league (kept place.old.me.0.stage) }
-        ensures same { place.new.table_id ≡ place.old.table_id }
-        ensures done { place.new.me ≡ (at_stage place.old.me.0 (holds (kept place.old.me.0.stage)), place.old.me.1) }
+    pub(crate) fn post(&self, token: &mut Token, least: u64)
+        requires table { token.old.table_id ≡ self.now }
+        requires turn { (token.old.me.0.live ≡ true) ×
+            (token.old.me.0.stage ≡ owes (owed token.old.me.0.stage) (kept token.old.me.0.stage)) }
+        requires least { least ≡ least_of token.old.me.0.setting.league (kept token.old.me.0.stage) }
+        ensures same { token.new.table_id ≡ token.old.table_id }
+        ensures done { token.new.me ≡ (at_stage token.old.me.0 (holds (kept token.old.me.0.stage)), token.old.me.1) }
     {
-        self.table.shared.fetch_min::<Post>(place, BEST, least);
+        self.table.shared.fetch_min::<Post>(token, BEST, least);
     }
 
     /// Gives the turn and the board back, and has seen the history.
-    pub(crate) fn leave(&self, place: &mut Place)
-        requires table { place.old.table_id ≡ self.now }
-        requires turn { (place.old.me.0.live ≡ true) × IsSettled place.old.me.0.stage }
-        requires board { HasBoard place.old.me (kept place.old.me.0.stage) }
-        ensures same { place.new.table_id ≡ place.old.table_id }
-        ensures done { place.new.me ≡ (saw place.old.me.0 (kept place.old.me.0.stage) away, []) }
+    pub(crate) fn leave(&self, token: &mut Token)
+        requires table { token.old.table_id ≡ self.now }
+        requires turn { (token.old.me.0.live ≡ true) × IsSettled token.old.me.0.stage }
+        requires board { HasBoard token.old.me (kept token.old.me.0.stage) }
+        ensures same { token.new.table_id ≡ token.old.table_id }
+        ensures done { token.new.me ≡ (saw token.old.me.0 (kept token.old.me.0.stage) away, []) }
     {
-        self.table.shared.store::<Leave>(place, TURN, 0);
+        self.table.shared.store::<Leave>(token, TURN, 0);
     }
 
     /// Gives the turn and the board back, and has seen nothing.
-    pub(crate) fn quit(&self, place: &mut Place)
-        requires table { place.old.table_id ≡ self.now }
-        requires turn { (place.old.me.0.live ≡ true) × IsSettled place.old.me.0.stage }
-        requires board { HasBoard place.old.me (kept place.old.me.0.stage) }
-        ensures same { place.new.table_id ≡ place.old.table_id }
-        ensures done { place.new.me ≡ (at_stage place.old.me.0 away, []) }
+    pub(crate) fn quit(&self, token: &mut Token)
+        requires table { token.old.table_id ≡ self.now }
+        requires turn { (token.old.me.0.live ≡ true) × IsSettled token.old.me.0.stage }
+        requires board { HasBoard token.old.me (kept token.old.me.0.stage) }
+        ensures same { token.new.table_id ≡ token.old.table_id }
+        ensures done { token.new.me ≡ (at_stage token.old.me.0 away, []) }
     {
-        self.table.shared.store::<Quit>(place, TURN, 0);
+        self.table.shared.store::<Quit>(token, TURN, 0);
     }
 
     /// Reads under the turn how many numbers are given out.
-    pub(crate) fn count(&self, place: &mut Place) -> u64
-        requires table { place.old.table_id ≡ self.now }
-        requires turn { (place.old.me.0.live ≡ true) × IsSettled place.old.me.0.stage }
-        ensures same { place.new.table_id ≡ place.old.table_id }
-        ensures counted { Counted place.old.me result place.new.me }
+    pub(crate) fn count(&self, token: &mut Token) -> u64
+        requires table { token.old.table_id ≡ self.now }
+        requires turn { (token.old.me.0.live ≡ true) × IsSettled token.old.me.0.stage }
+        ensures same { token.new.table_id ≡ token.old.table_id }
+        ensures counted { Counted token.old.me result token.new.me }
     {
-        self.table.shared.load::<Count>(place, NUMBERS)
+        self.table.shared.load::<Count>(token, NUMBERS)
     }
 
     /// Draws the number that was counted to, and writes that one more is given out.
-    pub(crate) fn draw(&self, place: &mut Place, next: u64)
-        requires table { place.old.table_id ≡ self.now }
-        requires turn { (place.old.me.0.live ≡ true) × (place.old.me.0.stage ≡ counts (kept place.old.me.0.stage)) }
-        requires own { (n : ℕ) × (0 < times n place.old.me.0.held) }
-        requires next { (next ≡ place.old.me.0.given + 1) × (next ≤ 64) }
-        ensures same { place.new.table_id ≡ place.old.table_id }
-        ensures done { place.new.me ≡ (drawing place.old.me.0, place.old.me.1) }
+    pub(crate) fn draw(&self, token: &mut Token, next: u64)
+        requires table { token.old.table_id ≡ self.now }
+        requires turn { (token.old.me.0.live ≡ true) × (token.old.me.0.stage ≡ counts (kept token.old.me.0.stage)) }
+        requires own { (n : ℕ) × (0 < times n token.old.me.0.held) }
+        requires next { (next ≡ token.old.me.0.given + 1) × (next ≤ 64) }
+        ensures same { token.new.table_id ≡ token.old.table_id }
+        ensures done { token.new.me ≡ (drawing token.old.me.0, token.old.me.1) }
     {
-        self.table.shared.store::<Draw>(place, NUMBERS, next);
+        self.table.shared.store::<Draw>(token, NUMBERS, next);
     }
 
     /// Commits what the board granted, and leaves the turn.
-    pub(crate) fn conclude(&self, place: &mut Place, _number: u32, _ask: Ask, judged: &Judged)
-        requires table { place.old.table_id ≡ self.now }
-        requires turn { (place.old.me.0.live ≡ true) × IsSettled place.old.me.0.stage × (0 < times _number place.old.me.0.held) }
-        requires legal { IsLegal place.old.me.0.setting.league place.old.me.0.setting.room (kept place.old.me.0.stage) }
-        requires board { HasBoard place.old.me
-            (next_of place.old.me.0.setting.league place.old.me.0.setting.room (kept place.old.me.0.stage) _number _ask) }
-        requires judged { IsJudged place.old.me.0.setting (kept place.old.me.0.stage) _number _ask judged.now }
-        ensures same { place.new.table_id ≡ place.old.table_id }
-        ensures done { place.new.me ≡ (
-          saw place.old.me.0
-              (next_of place.old.me.0.setting.league place.old.me.0.setting.room (kept place.old.me.0.stage) _number _ask) away,
+    pub(crate) fn conclude(&self, token: &mut Token, _number: u32, _ask: Ask, judged: &Judged)
+        requires table { token.old.table_id ≡ self.now }
+        requires turn { (token.old.me.0.live ≡ true) × IsSettled token.old.me.0.stage × (0 < times _number token.old.me.0.held) }
+        requires legal { IsLegal token.old.me.0.setting.league token.old.me.0.setting.room (kept token.old.me.0.stage) }
+        requires board { HasBoard token.old.me
+            (next_of token.old.me.0.setting.league token.old.me.0.setting.room (kept token.old.me.0.stage) _number _ask) }
+        requires judged { IsJudged token.old.me.0.setting (kept token.old.me.0.stage) _number _ask judged.now }
+        ensures same { token.new.table_id ≡ token.old.table_id }
+        ensures done { token.new.me ≡ (
+          saw token.old.me.0
+              (next_of token.old.me.0.setting.league token.old.me.0.setting.room (kept token.old.me.0.stage) _number _ask) away,
           [],
         ) }
     {
         match judged.reply {
             Reply::Done { .. } => {
-                self.commit(place, judged.version);
-                self.post(place, judged.least);
-                self.leave(place);
+                self.commit(token, judged.version);
+                self.post(token, judged.least);
+                self.leave(token);
             }
-            Reply::No { .. } => self.leave(place),
+            Reply::No { .. } => self.leave(token),
         }
     }
 }

@@ -19,12 +19,12 @@ fn front_best_and_absorb_need_no_turn(rt: HostRuntime) -> Result<(), Fail> {
     let (shared, mut a) = Shared::new(rt.alloc(), board)?;
     let mut b = shared.split(&rt, &mut a)?;
     let c = shared.split(&rt, &mut a)?;
-    shared.take(&rt, &mut a.place);
+    shared.take(&rt, &mut a.token);
     assert_eq!(rt; shared.front(&mut b), 0);
     assert_eq!(rt; shared.best(&mut b), Some(30));
     shared.absorb(&mut b, c);
     assert_eq!(rt; b.held(), 2);
-    shared.quit(&mut a.place);
+    shared.quit(&mut a.token);
     shared.absorb(&mut a, b);
     assert!(rt; shared.close(&rt, a).whole);
     Ok(())
@@ -42,10 +42,10 @@ fn hold<R: Wait + Clock>(
 {
     sleep(rt, Duration::from_millis(after));
     let start = Instant::now(rt)?;
-    shared.take(rt, &mut seat.place);
+    shared.take(rt, &mut seat.token);
     let taken = Instant::now(rt)?;
     sleep(rt, Duration::from_millis(held));
-    shared.quit(&mut seat.place);
+    shared.quit(&mut seat.token);
     Ok(taken.duration_since(start))
 }
 

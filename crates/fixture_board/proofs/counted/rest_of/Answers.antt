@@ -1,19 +1,21 @@
 use Rattle.std.proofs.Common.{refl, arith}
-use Rattle.fixture_board.proofs.ShareLimits.{hard_fits, none_taken, penalties_hard, penalties_soft, soft_fits}
+use Rattle.fixture_board.proofs.PartLimits.{hard_fits, none_taken, soft_fits}
+use Rattle.fixture_board.proofs.Parts.{rest_after}
 use Rattle.fixture_board.proofs.counted.rest_of.Goals as goal
 
 pub returns-then-known-eq0-2 : goal.returns-then-known-eq0-2
 returns-then-known-eq0-2 c =
-    none_taken c.args.league.now c.args.scope.now c.args.schedule.now _ _ c.requires.told c.args.known c.requires.known c.if-known-eq0.true
-    c.if-known-eq0-2.true
+    rest_after c.args.league.now c.args.schedule.now c.args.scope.now _ _ c.teams.ensures.limits c.requires.same_size c.requires.scope
+    c.requires.told
+    (none_taken c.args.league.now c.args.scope.now c.args.schedule.now _ _ c.requires.told c.args.known c.requires.known c.if-known-eq0.true
+    c.if-known-eq0-2.true)
 
 pub overflow_sub-result : goal.overflow_sub-result
 overflow_sub-result c =
     omega (
       arith,
       hard_fits c.args.league.now c.args.scope.now c.args.schedule.now _ _ c.requires.told,
-      penalties_hard c.args.league.now c.args.scope.now c.args.schedule.now,
-      c.phases_share.ensures.value,
+      c.phases_part.ensures.value,
     )
 
 pub overflow_sub-result-2 : goal.overflow_sub-result-2
@@ -21,9 +23,8 @@ overflow_sub-result-2 c =
     omega (
       arith,
       hard_fits c.args.league.now c.args.scope.now c.args.schedule.now _ _ c.requires.told,
-      penalties_hard c.args.league.now c.args.scope.now c.args.schedule.now,
-      c.phases_share.ensures.value,
-      c.shares_of_rules-rules.ensures.hard,
+      c.phases_part.ensures.value,
+      c.parts_of_rules-rules.ensures.hard,
     )
 
 pub overflow_sub-result-3 : goal.overflow_sub-result-3
@@ -31,24 +32,24 @@ overflow_sub-result-3 c =
     omega (
       arith,
       soft_fits c.args.league.now c.args.scope.now c.args.schedule.now _ _ c.requires.told,
-      penalties_soft c.args.league.now c.args.scope.now c.args.schedule.now,
-      c.shares_of_rules-rules.ensures.soft,
+      c.parts_of_rules-rules.ensures.soft,
     )
 
 pub returns : goal.returns
-returns c = record {
-  travel_is = refl;
-  hard = omega (
-    arith,
-    hard_fits c.args.league.now c.args.scope.now c.args.schedule.now _ _ c.requires.told,
-    penalties_hard c.args.league.now c.args.scope.now c.args.schedule.now,
-    c.phases_share.ensures.value,
-    c.shares_of_rules-rules.ensures.hard,
-  );
-  soft = omega (
-    arith,
-    soft_fits c.args.league.now c.args.scope.now c.args.schedule.now _ _ c.requires.told,
-    penalties_soft c.args.league.now c.args.scope.now c.args.schedule.now,
-    c.shares_of_rules-rules.ensures.soft,
-  );
-}
+returns c =
+    rest_after c.args.league.now c.args.schedule.now c.args.scope.now _ _ c.teams.ensures.limits c.requires.same_size c.requires.scope
+    c.requires.told
+    (record {
+      travel_is = refl;
+      hard = omega (
+        arith,
+        hard_fits c.args.league.now c.args.scope.now c.args.schedule.now _ _ c.requires.told,
+        c.phases_part.ensures.value,
+        c.parts_of_rules-rules.ensures.hard,
+      );
+      soft = omega (
+        arith,
+        soft_fits c.args.league.now c.args.scope.now c.args.schedule.now _ _ c.requires.told,
+        c.parts_of_rules-rules.ensures.soft,
+      );
+    })

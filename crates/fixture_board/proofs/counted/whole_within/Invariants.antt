@@ -1,5 +1,8 @@
-use Rattle.fixture_board.proofs.Partial.{IsCountedTo}
+use Rattle.fixture_board.proofs.Partial.{IsCountedTo, IsNoMore}
 use Rattle.fixture_board.proofs.counted.whole_within.Given as goal
 
 abbrev pub invariant-loop-i : goal.invariant-loop-i
-invariant-loop-i l = record { counted : IsCountedTo l.league l.scope l.schedule l.fn.rest l.i l.cost }
+invariant-loop-i l = record {
+  counted : IsCountedTo l.league l.scope l.schedule l.fn.rest l.i l.cost;
+  no_more : IsNoMore l.league l.schedule l.cost;
+}

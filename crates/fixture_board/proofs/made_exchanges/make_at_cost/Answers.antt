@@ -1,6 +1,6 @@
 use Rattle.std.proofs.Common.{sym, ◌∙◌, ap}
 use Rattle.fixture_board.specs.Costs.{cost_of}
-use Rattle.fixture_board.proofs.Shares.{score_after, within_greatest}
+use Rattle.fixture_board.proofs.Parts.{score_after, within_greatest}
 use Rattle.fixture_board.proofs.made_exchanges.make_at_cost.Goals as goal
 
 pub unwrap-requires : goal.unwrap-requires

@@ -1,78 +1,52 @@
-use Rattle.std.proofs.Common.{sym, ◌∙◌, ap, arith}
+use Rattle.std.proofs.Common.{sym, ◌∙◌, subst, arith}
 use Rattle.moves.specs.Exchanges.{exchanged_by}
-use Rattle.fixture_board.specs.Costs.{score_of}
-use Rattle.fixture_board.specs.declared.cost.Cost.{Cost}
-use Rattle.fixture_board.proofs.Scores.{cost_travel}
-use Rattle.fixture_board.proofs.Shares.{least_scores, score_after, travel_scores, told_whole}
+use Rattle.moves.specs.declared.exchanges.Exchange.{Exchange}
+use Rattle.fixture_board.specs.CostParts.{IsRest, IsTold}
+use Rattle.fixture_board.proofs.Parts.{rest_scores, score_after, told_alone, within_is_small}
 use Rattle.fixture_board.proofs.made_exchanges.make_within.Goals as goal
-
-pub travel_after-travel-requires-clause-known : goal.travel_after-travel-requires-clause-known
-travel_after-travel-requires-clause-known c = ap (λ (cost : Cost). cost.travel) c.requires.known ∙ cost_travel _ _
-
-pub returns-then-travel-most-clause-value : goal.returns-then-travel-most-clause-value
-returns-then-travel-most-clause-value c =
-    omega (
-      arith,
-      travel_scores c.args.league.now (exchanged_by c.args.schedule.now c.args.exchange.now),
-      c.travel_after-travel.ensures,
-      c.if-travel-most.true,
-    )
 
 pub score-requires : goal.score-requires
 score-requires c =
-    omega (
-      arith,
-      least_scores c.args.league.now (exchanged_by c.args.schedule.now c.args.exchange.now) c.runs_of-runs.result.after
-          (omega (arith, c.runs_of-runs.ensures.balance, c.runs_of-runs.ensures.within)),
-      c.travel_after-travel.ensures,
-      score_after c.args.league.now c.args.schedule.now c.args.exchange.now c.teams.ensures.limits c.requires.same_size,
-    )
+    let whole = told_alone c.in_ok-told.ensures c.teams.ensures.limits c.requires.same_size
+    (omega (arith, c.rule_count.ensures.value, c.if-rule_count-eq0.true)) (sym c.phased.ensures ∙ c.if-not-phased.true) in
+    omega (arith, whole.small)
 
 pub returns-then-score-most-clause-value : goal.returns-then-score-most-clause-value
 returns-then-score-most-clause-value c =
-    omega (
-      arith,
-      least_scores c.args.league.now (exchanged_by c.args.schedule.now c.args.exchange.now) c.runs_of-runs.result.after
-          (omega (arith, c.runs_of-runs.ensures.balance, c.runs_of-runs.ensures.within)),
-      c.travel_after-travel.ensures,
-      c.score.ensures,
-      c.if-score-most.true,
-    )
+    let whole = told_alone c.in_ok-told.ensures c.teams.ensures.limits c.requires.same_size
+    (omega (arith, c.rule_count.ensures.value, c.if-rule_count-eq0.true)) (sym c.phased.ensures ∙ c.if-not-phased.true) in
+    omega (arith, whole.score_is, c.score.ensures, c.if-score-most.true)
+
+pub returns-then-not-phased-clause-value : goal.returns-then-not-phased-clause-value
+returns-then-not-phased-clause-value c =
+    let whole = told_alone c.in_ok-told.ensures c.teams.ensures.limits c.requires.same_size
+    (omega (arith, c.rule_count.ensures.value, c.if-rule_count-eq0.true)) (sym c.phased.ensures ∙ c.if-not-phased.true) in
+    (whole.is, omega (arith, c.score.ensures, c.if-score-most.false))
+
+pub returns-then-not-phased-clause-small : goal.returns-then-not-phased-clause-small
+returns-then-not-phased-clause-small c =
+    let whole = told_alone c.in_ok-told.ensures c.teams.ensures.limits c.requires.same_size
+    (omega (arith, c.rule_count.ensures.value, c.if-rule_count-eq0.true)) (sym c.phased.ensures ∙ c.if-not-phased.true) in
+    whole.small
+
+pub rest_of-rest-requires-clause-told : goal.rest_of-rest-requires-clause-told
+rest_of-rest-requires-clause-told c =
+    subst (λ (e : Exchange). IsTold c.args.league.now c.args.schedule.now e c.in_ok-told.told) (sym c.of-scope.ensures.exchange)
+    c.in_ok-told.ensures
 
 pub score-requires-2 : goal.score-requires-2
 score-requires-2 c =
+    let rest =
+    subst (λ (e : Exchange). IsRest c.args.league.now c.of-scope.result (exchanged_by c.args.schedule.now e) c.rest_of-rest.result)
+    c.of-scope.ensures.exchange c.rest_of-rest.ensures in
     omega (
       arith,
-      ap (score_of c.args.league.now)
-          (told_whole c.args.league.now c.args.schedule.now c.args.exchange.now c.told_cost-told.result c.told_cost-told.ensures
-          (omega (arith, c.rule_count.ensures.value, c.if-rule_count-gt0.false)) (sym c.phased.ensures ∙ c.if-phased.false)),
+      rest_scores c.args.league.now c.of-scope.result (exchanged_by c.args.schedule.now c.args.exchange.now) c.rest_of-rest.result rest,
       score_after c.args.league.now c.args.schedule.now c.args.exchange.now c.teams.ensures.limits c.requires.same_size,
     )
 
-pub returns-then-score-most-2-clause-value : goal.returns-then-score-most-2-clause-value
-returns-then-score-most-2-clause-value c =
-    omega (
-      arith,
-      ap (score_of c.args.league.now)
-          (told_whole c.args.league.now c.args.schedule.now c.args.exchange.now c.told_cost-told.result c.told_cost-told.ensures
-          (omega (arith, c.rule_count.ensures.value, c.if-rule_count-gt0.false)) (sym c.phased.ensures ∙ c.if-phased.false)),
-      c.score-2.ensures,
-      c.if-score-most-2.true,
-    )
-
-pub returns-clause-value : goal.returns-clause-value
-returns-clause-value c = (
-  told_whole c.args.league.now c.args.schedule.now c.args.exchange.now c.told_cost-told.result c.told_cost-told.ensures
-      (omega (arith, c.rule_count.ensures.value, c.if-rule_count-gt0.false)) (sym c.phased.ensures ∙ c.if-phased.false),
-  omega (arith, c.score-2.ensures, c.if-score-most-2.false),
-)
-
-pub returns-clause-small : goal.returns-clause-small
-returns-clause-small c =
-    omega (
-      arith,
-      ap (score_of c.args.league.now)
-          (told_whole c.args.league.now c.args.schedule.now c.args.exchange.now c.told_cost-told.result c.told_cost-told.ensures
-          (omega (arith, c.rule_count.ensures.value, c.if-rule_count-gt0.false)) (sym c.phased.ensures ∙ c.if-phased.false)),
-      score_after c.args.league.now c.args.schedule.now c.args.exchange.now c.teams.ensures.limits c.requires.same_size,
-    )
+pub returns-else-is_none-clause-small : goal.returns-else-is_none-clause-small
+returns-else-is_none-clause-small c =
+    within_is_small c.args.league.now _ _ _ c.whole_within-cost.ensures
+    (rw c.make-2.ensures.made
+    (score_after c.args.league.now c.args.schedule.now c.args.exchange.now c.teams.ensures.limits c.requires.same_size))

@@ -16,5 +16,5 @@ loop-i-preserved c =
 
 pub returns : goal.returns
 returns c =
-    let all : c.loop-i.i ≡ c.args.place = omega arith in
+    let all : c.loop-i.i ≡ c.args.rank = omega arith in
     carried_all _ _ _ _ (rw all at c.loop-i.invariant) c.requires

@@ -3,6 +3,3 @@ use Rattle.fixture_board.proofs.board.Board.cost.Goals as goal
 
 pub returns-clause-value : goal.returns-clause-value
 returns-clause-value c = search rules
-
-pub returns-clause-legal : goal.returns-clause-legal
-returns-clause-legal c = search rules

@@ -10,6 +10,3 @@ returns-clause-games c = search rules
 
 pub returns-clause-size : goal.returns-clause-size
 returns-clause-size c = search rules
-
-pub returns-clause-legal : goal.returns-clause-legal
-returns-clause-legal c = search rules

@@ -6,6 +6,3 @@ returns-clause-reply c = search rules
 
 pub returns-clause-history : goal.returns-clause-history
 returns-clause-history c = search rules
-
-pub returns-clause-legal : goal.returns-clause-legal
-returns-clause-legal c = search rules

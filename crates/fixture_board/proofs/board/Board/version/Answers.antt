@@ -3,9 +3,3 @@ use Rattle.fixture_board.proofs.board.Board.version.Goals as goal
 
 pub returns-clause-length : goal.returns-clause-length
 returns-clause-length c = search rules
-
-pub returns-clause-within : goal.returns-clause-within
-returns-clause-within c = search rules
-
-pub returns-clause-legal : goal.returns-clause-legal
-returns-clause-legal c = search rules

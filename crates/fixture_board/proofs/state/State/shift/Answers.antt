@@ -7,7 +7,7 @@ use Rattle.fixture_board.specs.History.{moves_pin, pins_of}
 use Rattle.fixture_board.specs.Kept.{kept_of}
 use Rattle.fixture_board.proofs.Keeps.{IsGranted-shift, IsSound-kept, known_cost}
 use Rattle.fixture_board.proofs.Reasons.{IsStep-stopped, shift_stopped, shift_told, shift_judged}
-use Rattle.fixture_board.proofs.Shares.{score_after}
+use Rattle.fixture_board.proofs.Parts.{score_after}
 use Rattle.fixture_board.proofs.state.State.shift.Goals as goal
 
 pub returns-in_err-check_move-clause-step : goal.returns-in_err-check_move-clause-step

@@ -6,7 +6,7 @@ use Rattle.shared_board.proofs.shared.Shared.bring_out.Goals as goal
 
 pub exchange-requires : goal.exchange-requires
 exchange-requires g c =
-    let b = Some (board_at c.args.place.now.me.0.setting c.take.ensures.took.0) in
+    let b = Some (board_at c.args.token.now.me.0.setting c.take.ensures.took.0) in
     let has = has_board _ _ _ _ c.take.ensures.took c.count-numbers.ensures.counted c.requires.idle.no_slot in
     (search rules, (b, has ∙ ap (λ l. (0, b) ∷ rest l) (sym has)))
 

@@ -10,7 +10,7 @@ use Rattle.shared_board.proofs.Ends.{done_adds, no_stays}
 use Rattle.shared_board.proofs.shared.Shared.conclude.Goals as goal
 
 pub commit-requires-clause-added : goal.commit-requires-clause-added
-commit-requires-clause-added c = let v = c.args.place.now.me.0 in record {
+commit-requires-clause-added c = let v = c.args.token.now.me.0 in record {
   entry = entry c.args._number c.args._ask;
   one_more = ap on_board c.requires.board ∙
       done_adds v.setting (kept v.stage) c.args._number c.args._ask c.args.judged.now c.in-Done.at c.in-Done.cost c.requires.judged
@@ -20,21 +20,21 @@ commit-requires-clause-added c = let v = c.args.place.now.me.0 in record {
 
 pub commit-requires-clause-legal : goal.commit-requires-clause-legal
 commit-requires-clause-legal c =
-    let v = c.args.place.now.me.0 in
+    let v = c.args.token.now.me.0 in
     let P : List Entry → Type 0 = λ h. IsLegal v.setting.league v.setting.room h in
     subst P (sym (ap on_board c.requires.board))
     (legal_next v.setting.league v.setting.room (kept v.stage) c.args._number c.args._ask c.requires.legal)
 
 pub leave-requires-in-No-clause-board : goal.leave-requires-in-No-clause-board
 leave-requires-in-No-clause-board c =
-    let v = c.args.place.now.me.0 in
+    let v = c.args.token.now.me.0 in
     let same = no_stays v.setting (kept v.stage) c.args._number c.args._ask c.args.judged.now c.in-No.at c.in-No.why c.requires.judged
     c.in-No.is in
     c.requires.board ∙ ap (λ (h : List Entry). (0, Some (board_at v.setting h)) ∷ []) same
 
 pub returns-in-No-clause-done : goal.returns-in-No-clause-done
 returns-in-No-clause-done c =
-    let v = c.args.place.now.me.0 in
+    let v = c.args.token.now.me.0 in
     let same = no_stays v.setting (kept v.stage) c.args._number c.args._ask c.args.judged.now c.in-No.at c.in-No.why c.requires.judged
     c.in-No.is in
     c.leave-in-No.ensures.done ∙ ap (λ (h : List Entry). (saw v h away, [])) (sym same)

@@ -1,5 +1,5 @@
 use Rattle.std.proofs.Common.{rules, ap, sym, ◌∙◌, subst}
-use Rattle.shared_board.specs.Plays.{Place, Parted}
+use Rattle.shared_board.specs.Plays.{Token, Agreed}
 use Rattle.shared_board.proofs.Seating.{join_keeps, tell_keeps}
 use Rattle.shared_board.proofs.Ends.{absorbed, of_both}
 use Rattle.shared_board.proofs.shared.Shared.merge.Goals as goal
@@ -18,18 +18,18 @@ load-requires c =
     let one = c.join_seat.ensures.2 in (
       search rules,
       search rules,
-      tell_keeps _ _ _ (ap (λ (m : Place). m.0.live) one ∙ c.requires.idle.0.live)
-          (ap (λ (m : Place). m.0.stage) one ∙ c.requires.idle.0.away_is),
+      tell_keeps _ _ _ (ap (λ (m : Token). m.0.live) one ∙ c.requires.idle.0.live)
+          (ap (λ (m : Token). m.0.stage) one ∙ c.requires.idle.0.away_is),
     )
 
 pub returns-clause-both : goal.returns-clause-both
 returns-clause-both c =
-    of_both c.args.place.now.me c.args.other.me c.load.new.seat.me c.requires.idle.0 (c.load.ensures.2.0 ∙ c.join_seat.ensures.2)
-    (subst Parted (sym c.load.ensures.2.0) c.load.ensures.2.1)
+    of_both c.args.token.now.me c.args.other.me c.load.new.seat.me c.requires.idle.0 (c.load.ensures.2.0 ∙ c.join_seat.ensures.2)
+    (subst Agreed (sym c.load.ensures.2.0) c.load.ensures.2.1)
 
 pub returns-clause-absorbed : goal.returns-clause-absorbed
 returns-clause-absorbed c = λ number theirs a o.
-    absorbed c.args.place.now.table_id c.args.other.table_id c.load.new.seat.table_id c.args.place.now.me c.args.other.me
+    absorbed c.args.token.now.table_id c.args.other.table_id c.load.new.seat.table_id c.args.token.now.me c.args.other.me
     c.load.new.seat.me number theirs a o
     (c.load.ensures.0 ∙ c.join_seat.ensures.0) (c.load.ensures.2.0 ∙ c.join_seat.ensures.2)
-    (subst Parted (sym c.load.ensures.2.0) c.load.ensures.2.1)
+    (subst Agreed (sym c.load.ensures.2.0) c.load.ensures.2.1)

@@ -1,6 +1,6 @@
 -- What of the costs an exchange can change, counted on the schedule before it or after it. `main` has its main teams and
 -- their rounds.
-use Rattle.std.specs.Prelude.{◌≡◌, ℕ, ◌+◌, ◌<◌, ◌≤◌, nat_lt, Bool, if◌then◌else◌, List, length, slice_get, Option, Some, None}
+use Rattle.std.specs.Prelude.{◌≡◌, ℕ, ◌+◌, ◌<◌, nat_lt, Bool, if◌then◌else◌, List, length, slice_get, Option, Some, None}
 use Rattle.league.specs.League.{LeagueData}
 use Rattle.league.specs.Sets.{has}
 use Rattle.league.specs.Sums.{sum_below}
@@ -16,7 +16,7 @@ use Rattle.tours.specs.Runs.{runs_over}
 use Rattle.tours.specs.Repeats.{repeats}
 use Rattle.tours.specs.Phased.{unphased_part}
 use Rattle.robinx.specs.Parts.{deviation_part}
-use Rattle.fixture_board.specs.Costs.{cost_of, hard_share, soft_share, score_limit, score_of, where_phased}
+use Rattle.fixture_board.specs.Costs.{cost_of, hard_penalty, soft_penalty, score_limit, where_phased}
 use Rattle.fixture_board.specs.declared.cost.Cost.{Cost}
 use Rattle.fixture_board.specs.declared.penalties.Penalties.{Penalties}
 use Rattle.fixture_board.specs.declared.scope.Scope.{Scope}
@@ -42,21 +42,21 @@ breakable_part g main sides cost rule =
     if may_break cost rule.weight then deviation_part g main.teams main.rounds sides rule.body else 0
 
 -- of what one rule adds, where there is one
-abbrev pub rule_share : (Weight → ℕ → ℕ) → TouchedCells → ℕ → Games → Option Rule → ℕ
-rule_share share main sides g None = 0
-rule_share share main sides g (Some rule) = share rule.weight (deviation_part g main.teams main.rounds sides rule.body)
+abbrev pub rule_part : (Weight → ℕ → ℕ) → TouchedCells → ℕ → Games → Option Rule → ℕ
+rule_part penalty main sides g None = 0
+rule_part penalty main sides g (Some rule) = penalty rule.weight (deviation_part g main.teams main.rounds sides rule.body)
 
--- the sum over the rules, by their places
-unfoldable pub rules_share : (Weight → ℕ → ℕ) → List Rule → TouchedCells → ℕ → Games → ℕ
-rules_share share rules main sides g =
-    sum_below (length rules) (λ i. rule_share share main sides g (slice_get rules i))
+-- the sum over the rules, by their indices
+unfoldable pub rules_part : (Weight → ℕ → ℕ) → List Rule → TouchedCells → ℕ → Games → ℕ
+rules_part penalty rules main sides g =
+    sum_below (length rules) (λ i. rule_part penalty main sides g (slice_get rules i))
 
 -- of all costs but travel, runs and repeats: of the rules, and in a phased league of the pairs with both games in one half
-unfoldable pub penalties_share : LeagueData → Scope → Games → Penalties
-penalties_share l scope g = record {
+abbrev pub penalties_part : LeagueData → Scope → Games → Penalties
+penalties_part l scope g = record {
   hard =
-      where_phased l (unphased_part g (has scope.main.teams)) + rules_share hard_share l.rules scope.main scope.turning g;
-  soft = rules_share soft_share l.rules scope.main scope.turning g;
+      where_phased l (unphased_part g (has scope.main.teams)) + rules_part hard_penalty l.rules scope.main scope.turning g;
+  soft = rules_part soft_penalty l.rules scope.main scope.turning g;
 }
 
 -- a cost with penalties that it lacks
@@ -64,23 +64,15 @@ abbrev pub with_penalties : Cost → Penalties → Cost
 with_penalties rest penalties =
     record { travel = rest.travel; hard = rest.hard + penalties.hard; soft = rest.soft + penalties.soft }
 
--- the rest with the penalties that the exchange can change where their score is at most this, and none where it is more
-abbrev pub IsWholeWithin : LeagueData → Scope → Games → Cost → ℕ → Option Cost → Type 0
-IsWholeWithin l scope g rest most None = most < score_of l (with_penalties rest (penalties_share l scope g))
-IsWholeWithin l scope g rest most (Some cost) =
-    (cost ≡ with_penalties rest (penalties_share l scope g)) × (score_of l cost ≤ most)
+-- with the penalties that the exchange can change, counted after it, this is the cost after it
+abbrev pub IsRest : LeagueData → Scope → Games → Cost → Type 0
+IsRest l scope after rest = with_penalties rest (penalties_part l scope after) ≡ cost_of l after
 
 -- travel, runs and repeats as they are after the exchange, and all else as it is before it
 pub record IsTold (l : LeagueData) (g : Games) (exchange : Exchange) (told : Cost) : Type 0 where
   pub travel_is : told.travel ≡ travel l (exchanged_by g exchange)
   pub hard : told.hard + games_cost l g ≡ (cost_of l g).hard + games_cost l (exchanged_by g exchange)
   pub soft : told.soft ≡ (cost_of l g).soft
-
--- a told cost without the penalties that the exchange can change
-pub record IsRest (l : LeagueData) (g : Games) (scope : Scope) (told rest : Cost) : Type 0 where
-  pub travel_is : rest.travel ≡ told.travel
-  pub hard : rest.hard + (penalties_share l scope g).hard ≡ told.hard
-  pub soft : rest.soft + (penalties_share l scope g).soft ≡ told.soft
 
 -- each of the costs is below the limit of scores
 pub record IsSmall (cost : Cost) : Type 0 where

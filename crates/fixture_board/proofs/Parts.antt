@@ -1,4 +1,4 @@
--- An exchange changes no more of the costs than their shares.
+-- An exchange changes no more of the costs than their parts.
 use Rattle.std.proofs.Common.{◌≡◌, ℕ, ◌+◌, ◌*◌, ◌<◌, ◌≤◌, Bool, true, false, if◌then◌else◌, length, slice_get, Option, Some, None}
 use Rattle.std.proofs.Common.{IfSome, refl, sym, ◌∙◌, ap, subst, arith, rules}
 use Rattle.std.specs.Option.{IsSome}
@@ -25,10 +25,10 @@ use Rattle.tours.specs.Phased.{unphased, unphased_part}
 use Rattle.tours.specs.Tours.{travel}
 use Rattle.tours.proofs.ForCallers.{unphased_balance_around}
 use Rattle.robinx.proofs.ForCallers.{deviation_balance}
-use Rattle.fixture_board.specs.Costs.{hard_share, soft_share, share_of, sum_over_rules, where_phased, cost_of, score_of}
+use Rattle.fixture_board.specs.Costs.{hard_penalty, soft_penalty, penalty_of, sum_over_rules, where_phased, cost_of, score_of}
 use Rattle.fixture_board.specs.Costs.{score_limit, IsCostWithin}
-use Rattle.fixture_board.specs.CostShares.{games_cost, rule_share, rules_share, penalties_share}
-use Rattle.fixture_board.specs.CostShares.{with_penalties, IsRest, IsScope, IsTold, IsWholeWithin}
+use Rattle.fixture_board.specs.CostParts.{games_cost, rule_part, rules_part, penalties_part}
+use Rattle.fixture_board.specs.CostParts.{with_penalties, IsRest, IsScope, IsTold}
 use Rattle.fixture_board.specs.declared.scope.Scope.{Scope}
 use Rattle.fixture_board.specs.declared.cost.Cost.{Cost}
 use Rattle.fixture_board.specs.declared.penalties.Penalties.{Penalties}
@@ -63,24 +63,24 @@ counted_balances false new old before after balance = refl
 
 -- a rule of any weight adds as much more as its deviation is more
 abbrev IsEven : (Weight → ℕ → ℕ) → Type 0
-IsEven share = (weight : Weight) (new before old after : ℕ) → new + before ≡ old + after →
-    share weight new + share weight before ≡ share weight old + share weight after
+IsEven penalty = (weight : Weight) (new before old after : ℕ) → new + before ≡ old + after →
+    penalty weight new + penalty weight before ≡ penalty weight old + penalty weight after
 
-hard_even : IsEven hard_share
+hard_even : IsEven hard_penalty
 hard_even Hard new before old after balance = balance
 hard_even (Soft weight) new before old after balance = refl
 
-soft_even : IsEven soft_share
+soft_even : IsEven soft_penalty
 soft_even Hard new before old after balance = refl
 soft_even (Soft weight) new before old after balance =
     omega (arith, mul-add weight new before, mul-add weight old after, ap (λ n. weight * n) balance)
 
-rule_balances : (share : Weight → ℕ → ℕ) → IsEven share → (g : Games) (scope : Scope) → IsScope g scope → (rule : Option Rule) →
+rule_balances : (penalty : Weight → ℕ → ℕ) → IsEven penalty → (g : Games) (scope : Scope) → IsScope g scope → (rule : Option Rule) →
     ((r : Rule) → rule ≡ Some r → IsBodyFor g.teams r.body) →
-    share_of share (exchanged_by g scope.exchange) rule + rule_share share scope.main scope.turning g rule ≡
-    share_of share g rule + rule_share share scope.main scope.turning (exchanged_by g scope.exchange) rule
-rule_balances share even g scope is None for = refl
-rule_balances share even g scope is (Some rule) for =
+    penalty_of penalty (exchanged_by g scope.exchange) rule + rule_part penalty scope.main scope.turning g rule ≡
+    penalty_of penalty g rule + rule_part penalty scope.main scope.turning (exchanged_by g scope.exchange) rule
+rule_balances penalty even g scope is None for = refl
+rule_balances penalty even g scope is (Some rule) for =
     even rule.weight _ _ _ _
     (deviation_balance g (exchanged_by g scope.exchange) is.can_be_made.round_robin (round_robin_after g scope is) scope.main.teams
     scope.main.rounds scope.turning (around g scope is) (sides g scope is) rule.body (for rule refl))
@@ -94,14 +94,14 @@ rule_for l g i is same rule at =
     (All-from_recursion (IsRuleFor (teams l)) l.rules is.rules)) in
     subst (λ n. IsBodyFor n rule.body) same for.body
 
-rules_balance : (share : Weight → ℕ → ℕ) → IsEven share → (l : LeagueData) (g : Games) (scope : Scope) →
+rules_balance : (penalty : Weight → ℕ → ℕ) → IsEven penalty → (l : LeagueData) (g : Games) (scope : Scope) →
     IsLeague l → teams l ≡ g.teams → IsScope g scope →
-    sum_over_rules share l.rules (exchanged_by g scope.exchange) + rules_share share l.rules scope.main scope.turning g ≡
-    sum_over_rules share l.rules g + rules_share share l.rules scope.main scope.turning (exchanged_by g scope.exchange)
-unfolding sum_over_rules rules_share
-rules_balance share even l g scope is same are =
+    sum_over_rules penalty l.rules (exchanged_by g scope.exchange) + rules_part penalty l.rules scope.main scope.turning g ≡
+    sum_over_rules penalty l.rules g + rules_part penalty l.rules scope.main scope.turning (exchanged_by g scope.exchange)
+unfolding sum_over_rules rules_part
+rules_balance penalty even l g scope is same are =
     sum_below_balance (length l.rules) _ _ _ _
-    (λ i under. rule_balances share even g scope are (slice_get l.rules i) (rule_for l g i is same))
+    (λ i under. rule_balances penalty even g scope are (slice_get l.rules i) (rule_for l g i is same))
 
 -- pairs with both games in one half
 
@@ -118,49 +118,52 @@ phases_balance l g scope are =
 -- the cost after an exchange is the one before it, with its games after and not before, and with the penalties that the
 -- exchange can change counted after it and not before it
 record Balances (l : LeagueData) (g g' : Games) (scope : Scope) : Type 0 where
-  hard : (cost_of l g').hard + (penalties_share l scope g).hard + games_cost l g ≡
-      (cost_of l g).hard + (penalties_share l scope g').hard + games_cost l g'
-  soft : (cost_of l g').soft + (penalties_share l scope g).soft ≡ (cost_of l g).soft + (penalties_share l scope g').soft
+  hard : (cost_of l g').hard + (penalties_part l scope g).hard + games_cost l g ≡
+      (cost_of l g).hard + (penalties_part l scope g').hard + games_cost l g'
+  soft : (cost_of l g').soft + (penalties_part l scope g).soft ≡ (cost_of l g).soft + (penalties_part l scope g').soft
 
 penalties_balance : (l : LeagueData) (g : Games) (scope : Scope) → IsLeague l → teams l ≡ g.teams → IsScope g scope →
     Balances l g (exchanged_by g scope.exchange) scope
-unfolding cost_of penalties_share
+unfolding cost_of
 penalties_balance l g scope is same are = record {
-  hard = omega (arith, rules_balance hard_share hard_even l g scope is same are, phases_balance l g scope are);
-  soft = rules_balance soft_share soft_even l g scope is same are;
+  hard = omega (arith, rules_balance hard_penalty hard_even l g scope is same are, phases_balance l g scope are);
+  soft = rules_balance soft_penalty soft_even l g scope is same are;
 }
 
 pub same_cost : (one other : Cost) → one.travel ≡ other.travel → one.hard ≡ other.hard → one.soft ≡ other.soft → one ≡ other
 same_cost one other travel hard soft = rw (travel, hard, soft) refl
 
--- the rest with the penalties after is the cost after
-pub whole_after : (l : LeagueData) (g g' : Games) (scope : Scope) (told rest : Cost) → IsLeague l → teams l ≡ g.teams →
-    IsScope g scope → IsTold l g scope.exchange told → IsRest l g scope told rest → g' ≡ exchanged_by g scope.exchange →
-    with_penalties rest (penalties_share l scope g') ≡ cost_of l g'
-whole_after l g g' scope told rest is same are known left made =
-    let balance : Balances l g g' scope = rw made (penalties_balance l g scope is same are) in
-    let of_told : told.hard + games_cost l g ≡ (cost_of l g).hard + games_cost l g' = rw made known.hard in
-    same_cost (with_penalties rest (penalties_share l scope g')) (cost_of l g')
-    (left.travel_is ∙ known.travel_is ∙ ap (travel l) (sym made) ∙ sym (cost_travel l g'))
-    (omega (arith, left.hard, of_told, balance.hard))
-    (omega (arith, left.soft, known.soft, balance.soft))
+-- a told cost without the penalties that the exchange can change, counted before it
+pub record IsWithout (l : LeagueData) (g : Games) (scope : Scope) (told rest : Cost) : Type 0 where
+  pub travel_is : rest.travel ≡ told.travel
+  pub hard : rest.hard + (penalties_part l scope g).hard ≡ told.hard
+  pub soft : rest.soft + (penalties_part l scope g).soft ≡ told.soft
+
+pub rest_after : (l : LeagueData) (g : Games) (scope : Scope) (told rest : Cost) → IsLeague l → teams l ≡ g.teams →
+    IsScope g scope → IsTold l g scope.exchange told → IsWithout l g scope told rest →
+    IsRest l scope (exchanged_by g scope.exchange) rest
+rest_after l g scope told rest is same are known without =
+    let balance : Balances l g (exchanged_by g scope.exchange) scope = penalties_balance l g scope is same are in
+    same_cost _ _ (without.travel_is ∙ known.travel_is ∙ sym (cost_travel l (exchanged_by g scope.exchange)))
+    (omega (arith, without.hard, known.hard, balance.hard))
+    (omega (arith, without.soft, known.soft, balance.soft))
 
 -- a told cost where no rule and no half is counted
 
-no_rules : (share : Weight → ℕ → ℕ) (l : LeagueData) (g : Games) → length l.rules ≡ 0 → sum_over_rules share l.rules g ≡ 0
+no_rules : (penalty : Weight → ℕ → ℕ) (l : LeagueData) (g : Games) → length l.rules ≡ 0 → sum_over_rules penalty l.rules g ≡ 0
 unfolding sum_over_rules
-no_rules share l g none = ap (λ n. sum_below n (λ i. share_of share g (slice_get l.rules i))) none ∙ sum_below_none _
+no_rules penalty l g none = ap (λ n. sum_below n (λ i. penalty_of penalty g (slice_get l.rules i))) none ∙ sum_below_none _
 
 games_alone : (l : LeagueData) (g : Games) → length l.rules ≡ 0 → l.phased ≡ false → (cost_of l g).hard ≡ games_cost l g
 unfolding cost_of
 games_alone l g none whole =
-    omega (arith, no_rules hard_share l g none, ap (λ phased. if phased then unphased g else 0) whole)
+    omega (arith, no_rules hard_penalty l g none, ap (λ phased. if phased then unphased g else 0) whole)
 
 no_soft : (l : LeagueData) (g : Games) → length l.rules ≡ 0 → (cost_of l g).soft ≡ 0
 unfolding cost_of
-no_soft l g none = no_rules soft_share l g none
+no_soft l g none = no_rules soft_penalty l g none
 
-pub told_whole : (l : LeagueData) (g : Games) (exchange : Exchange) (told : Cost) → IsTold l g exchange told → length l.rules ≡ 0 →
+told_whole : (l : LeagueData) (g : Games) (exchange : Exchange) (told : Cost) → IsTold l g exchange told → length l.rules ≡ 0 →
     l.phased ≡ false → told ≡ cost_of l (exchanged_by g exchange)
 told_whole l g exchange told is none whole =
     same_cost told (cost_of l (exchanged_by g exchange)) (is.travel_is ∙ sym (cost_travel l (exchanged_by g exchange)))
@@ -181,6 +184,22 @@ pub score_after : (l : LeagueData) (g : Games) (exchange : Exchange) → IsLeagu
     score_of l (cost_of l (exchanged_by g exchange)) < score_limit
 score_after l g exchange is same = score_below l (exchanged_by g exchange) is (exchanged-teams g exchange ∙ sym same)
 
+-- a told cost that is the cost after
+pub record IsWhole (l : LeagueData) (after : Games) (told : Cost) : Type 0 where
+  pub is : told ≡ cost_of l after
+  pub score_is : score_of l told ≡ score_of l (cost_of l after)
+  pub small : score_of l told < score_limit
+
+pub told_alone : {l : LeagueData} {g : Games} {exchange : Exchange} {told : Cost} → IsTold l g exchange told → IsLeague l →
+    teams l ≡ g.teams → length l.rules ≡ 0 → l.phased ≡ false → IsWhole l (exchanged_by g exchange) told
+told_alone {l} {g} {exchange} {told} known is same none whole =
+    let cost_is : told ≡ cost_of l (exchanged_by g exchange) = told_whole l g exchange told known none whole in
+    record {
+      is = cost_is;
+      score_is = ap (score_of l) cost_is;
+      small = omega (arith, ap (score_of l) cost_is, score_after l g exchange is same);
+    }
+
 -- the travel is no more than the score
 pub travel_scores : (l : LeagueData) (g : Games) → travel l g ≤ score_of l (cost_of l g)
 travel_scores l g = omega (arith, cost_travel l g)
@@ -193,32 +212,10 @@ least_scores l g runs some =
     mul-le-mul_left l.hard_weight (omega (arith, some, games_le l g)) in
     omega (arith, cost_travel l g, weighed)
 
--- the told cost without the penalties of before, and with those of after
-module _ (l : LeagueData) (g : Games) (exchange : Exchange) (scope : Scope) (told rest : Cost) (is : IsLeague l) (same : teams l ≡ g.teams)
-    (are : IsScope g scope) (of : scope.exchange ≡ exchange) (known : IsTold l g exchange told) (left : IsRest l g scope told rest) where
-  known_scope : IsTold l g scope.exchange told
-  known_scope = subst (λ (e : Exchange). IsTold l g e told) (sym of) known
-
-  pub whole_cost : (g' : Games) (after : Penalties) → g' ≡ exchanged_by g exchange → after ≡ penalties_share l scope g' →
-      with_penalties rest after ≡ cost_of l (exchanged_by g exchange)
-  whole_cost g' after made counted =
-      ap (with_penalties rest) counted ∙
-      whole_after l g g' scope told rest is same are known_scope left (made ∙ ap (exchanged_by g) (sym of)) ∙ ap (cost_of l) made
-
-  pub rest_scores : score_of l rest ≤ score_of l (cost_of l (exchanged_by g exchange))
-  rest_scores =
-      subst (λ cost. score_of l rest ≤ score_of l cost)
-      (whole_cost (exchanged_by g exchange) (penalties_share l scope (exchanged_by g exchange)) refl refl)
-      (score_grows l rest (penalties_share l scope (exchanged_by g exchange)))
-
-  -- what is within a limit with the penalties of after is the cost after within it
-  pub cost_within : (g' : Games) (most : ℕ) (whole : Option Cost) → g' ≡ exchanged_by g exchange →
-      IsWholeWithin l scope g' rest most whole → IsCostWithin l most (exchanged_by g exchange) whole
-  cost_within g' most None made over = subst (λ cost. most < score_of l cost) (whole_cost g' _ made refl) over
-  cost_within g' most (Some cost) made within = (within.0 ∙ whole_cost g' _ made refl, within.1)
-
-  pub whole_scores : (g' : Games) → g' ≡ exchanged_by g exchange → score_of l (with_penalties rest (penalties_share l scope g')) < score_limit
-  whole_scores g' made = subst (λ cost. score_of l cost < score_limit) (sym (whole_cost g' _ made refl)) (score_after l g exchange is same)
+pub rest_scores : (l : LeagueData) (scope : Scope) (after : Games) (rest : Cost) → IsRest l scope after rest →
+    score_of l rest ≤ score_of l (cost_of l after)
+rest_scores l scope after rest is =
+    subst (λ cost. score_of l rest ≤ score_of l cost) is (score_grows l rest (penalties_part l scope after))
 
 -- a cost within a limit is a small one
 pub within_is_small : (l : LeagueData) (g : Games) (most : ℕ) (cost : Option Cost) → IsCostWithin l most g cost →

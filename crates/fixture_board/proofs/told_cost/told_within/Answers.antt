@@ -1,0 +1,87 @@
+use Rattle.std.proofs.Common.{◌∙◌, ap, arith}
+use Rattle.moves.specs.Exchanges.{exchanged_by}
+use Rattle.fixture_board.specs.declared.cost.Cost.{Cost}
+use Rattle.fixture_board.proofs.Scores.{cost_small, cost_travel}
+use Rattle.fixture_board.proofs.Parts.{games_le, least_scores, score_after, travel_scores}
+use Rattle.fixture_board.proofs.told_cost.told_within.Goals as goal
+
+pub travel_after-travel-requires-clause-known : goal.travel_after-travel-requires-clause-known
+travel_after-travel-requires-clause-known c = ap (λ (cost : Cost). cost.travel) c.requires.known ∙ cost_travel _ _
+
+pub returns-then-travel-most : goal.returns-then-travel-most
+returns-then-travel-most c =
+    omega (
+      arith,
+      travel_scores c.args.league.now (exchanged_by c.args.schedule.now c.args.exchange.now),
+      c.travel_after-travel.ensures,
+      c.if-travel-most.true,
+    )
+
+pub score-requires : goal.score-requires
+score-requires c =
+    omega (
+      arith,
+      least_scores c.args.league.now (exchanged_by c.args.schedule.now c.args.exchange.now) c.runs_of-runs.result.after
+          (omega (arith, c.runs_of-runs.ensures.balance, c.runs_of-runs.ensures.within)),
+      c.travel_after-travel.ensures,
+      score_after c.args.league.now c.args.schedule.now c.args.exchange.now c.teams.ensures.limits c.requires.same_size,
+    )
+
+pub returns-then-score-most : goal.returns-then-score-most
+returns-then-score-most c =
+    omega (
+      arith,
+      least_scores c.args.league.now (exchanged_by c.args.schedule.now c.args.exchange.now) c.runs_of-runs.result.after
+          (omega (arith, c.runs_of-runs.ensures.balance, c.runs_of-runs.ensures.within)),
+      c.travel_after-travel.ensures,
+      c.score.ensures,
+      c.if-score-most.true,
+    )
+
+pub overflow_add-result : goal.overflow_add-result
+overflow_add-result c =
+    omega (
+      arith,
+      ap (λ (cost : Cost). cost.hard) c.requires.known,
+      (cost_small c.args.league.now c.args.schedule.now c.teams.ensures.limits c.requires.same_size).hard,
+    )
+
+pub overflow_add-result-2 : goal.overflow_add-result-2
+overflow_add-result-2 c =
+    omega (
+      arith,
+      ap (λ (cost : Cost). cost.hard) c.requires.known,
+      (cost_small c.args.league.now c.args.schedule.now c.teams.ensures.limits c.requires.same_size).hard,
+    )
+
+pub overflow_sub-result : goal.overflow_sub-result
+overflow_sub-result c =
+    omega (
+      arith,
+      ap (λ (cost : Cost). cost.hard) c.requires.known,
+      games_le c.args.league.now c.args.schedule.now,
+      c.runs_of-runs.ensures.within,
+    )
+
+pub overflow_sub-result-2 : goal.overflow_sub-result-2
+overflow_sub-result-2 c =
+    omega (
+      arith,
+      ap (λ (cost : Cost). cost.hard) c.requires.known,
+      games_le c.args.league.now c.args.schedule.now,
+      c.runs_of-runs.ensures.within,
+      c.repeats_of-repeats.ensures.balance,
+    )
+
+pub returns : goal.returns
+returns c = record {
+  travel_is = c.travel_after-travel.ensures;
+  hard = omega (
+    arith,
+    ap (λ (cost : Cost). cost.hard) c.requires.known,
+    games_le c.args.league.now c.args.schedule.now,
+    c.runs_of-runs.ensures.balance,
+    c.repeats_of-repeats.ensures.balance,
+  );
+  soft = ap (λ (cost : Cost). cost.soft) c.requires.known;
+}
