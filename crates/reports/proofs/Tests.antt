@@ -1,5 +1,6 @@
 -- What the tests of games stand for, and the cells of games.
-use Rattle.std.proofs.Common.{◌≡◌, ℕ, ◌<◌, ◌≤◌, ◌⊎◌, inl, inr, Bool, true, false, refl, arith}
+use Rattle.std.proofs.Common.{◌≡◌, ℕ, ◌<◌, ◌≤◌, ◌⊎◌, inl, inr, Bool, true, false, ◌&&◌, eqb, List, refl, arith}
+use Rattle.std.specs.Prelude.{count_by}
 use Rattle.std.proofs.lemmas.Bool.Decides.{nat_tests}
 use Rattle.league.specs.Limits.{max_rounds, max_teams}
 use Rattle.fixtures.specs.declared.game.Cell.{Cell}
@@ -7,7 +8,9 @@ use Rattle.fixtures.specs.declared.game.Game.{Game}
 use Rattle.fixtures.specs.Games.{Games, round_of, IsCell, IsPair}
 use Rattle.fixtures.specs.Draft.{game_of, IsGame}
 use Rattle.fixtures.proofs.ForCallers.{pair_swapped}
-use Rattle.reports.specs.Faults.{is_game, is_of_pair, is_of_team, plays, receives}
+use Rattle.reports.specs.declared.counts.Counted.{Counted}
+use Rattle.reports.specs.declared.counts.Counted.TheVariants.{Rounds, Guests}
+use Rattle.reports.specs.Faults.{count_in, games_in, games_of_pair, is_game, is_of_pair, is_of_team, number_of, numbers, takes}
 
 pub game_passes : (n : ℕ) (x : Game) → IsGame n x → is_game n x ≡ true
 game_passes n x is = grind (arith, nat_tests, is.pair.home_in, is.pair.away_in, is.pair.distinct, is.in_range)
@@ -37,11 +40,20 @@ pub team_passed : (n team round : ℕ) (x : Game) → is_of_team n team round x 
 team_passed n team round x passes = (grind (arith, nat_tests), grind (arith, nat_tests))
 
 -- what places the counts have
-pub round_below : (n team : ℕ) (x : Game) → n ≤ max_teams → plays n team x ≡ true → x.round < max_rounds
-round_below n team x most passes = grind (arith, nat_tests)
+pub number_below : (counted : Counted) (n team : ℕ) (x : Game) → n ≤ max_teams → takes counted n team x ≡ true
+    → number_of counted x < max_rounds
+number_below Rounds n team x most passes = grind (arith, nat_tests)
+number_below Guests n team x most passes = grind (arith, nat_tests)
 
-pub guest_below : (n home : ℕ) (x : Game) → n ≤ max_teams → receives n home x ≡ true → x.away < max_teams
-guest_below n home x most passes = grind (arith, nat_tests)
+pub numbers_below : (counted : Counted) (n number : ℕ) → 4 ≤ n → n ≤ max_teams → number < numbers counted n → number < max_rounds
+numbers_below Rounds n number least most below = omega (arith, below)
+numbers_below Guests n number least most below = omega (arith, below)
+
+pub count_is : (counted : Counted) (n : ℕ) (games : List Game) (team number : ℕ)
+    → count_by (λ x. takes counted n team x && eqb (number_of counted x) number) games ≡ count_in counted n games team number
+unfolding games_in games_of_pair
+count_is Rounds n games team number = refl
+count_is Guests n games team number = refl
 
 pub has_team : (team round opponent : ℕ) (home : Bool)
     → let x = game_of team round (record { opponent = opponent; home = home }) in (x.home ≡ team) ⊎ (x.away ≡ team)

@@ -45,19 +45,23 @@ abbrev pub repeats_lower : Games → ℕ → ℕ → Bool
 repeats_lower g round team =
     nat_lt (cell g team round).opponent team && (cell g team round).opponent == (cell g team (round + 1)).opponent
 
+-- two games of a pair, each by its round
+abbrev pub meetings_line : List ℕ → ℕ → ℕ → ℕ → ℕ → List ℕ
+meetings_line word low high first second =
+    concat (word ∷ decimal (low + 1) ∷ codes "-" ∷ decimal (high + 1) ∷ codes " rounds " ∷ decimal (first + 1) ∷ codes " " ∷
+    decimal (second + 1) ∷ codes "\n" ∷ [])
+
 abbrev pub repeat_line : Games → ℕ → ℕ → List ℕ
-repeat_line g round team = if repeats_lower g round team then
-    concat (codes "repeat " ∷ decimal ((cell g team round).opponent + 1) ∷ codes "-" ∷ decimal (team + 1) ∷ codes " rounds " ∷
-    decimal (round + 1) ∷ codes " " ∷ decimal (round + 2) ∷ codes "\n" ∷ []) else []
+repeat_line g round team =
+    if repeats_lower g round team then meetings_line (codes "repeat ") (cell g team round).opponent team round (round + 1) else []
 
 abbrev pub repeat_lines : Games → ℕ → List ℕ
 repeat_lines g round = pieces_below (repeat_line g round) g.teams
 
 -- the pair plays both its games in one half of the season
 abbrev pub half_line : Games → ℕ → ℕ → List ℕ
-half_line g high low = if is_unphased g low high then
-    concat (codes "half " ∷ decimal (low + 1) ∷ codes "-" ∷ decimal (high + 1) ∷ codes " rounds " ∷
-    decimal (round_of g low high + 1) ∷ codes " " ∷ decimal (round_of g high low + 1) ∷ codes "\n" ∷ []) else []
+half_line g high low =
+    if is_unphased g low high then meetings_line (codes "half ") low high (round_of g low high) (round_of g high low) else []
 
 abbrev pub half_lines : Games → ℕ → List ℕ
 half_lines g high = pieces_below (half_line g high) high

@@ -5,6 +5,8 @@ use Rattle.std.specs.List.{concat}
 use Rattle.streams.specs.Pieces.{pieces_below}
 use Rattle.fixtures.specs.declared.game.Game.{Game}
 use Rattle.fixtures.specs.Games.{round_count}
+use Rattle.reports.specs.declared.counts.Counted.{Counted}
+use Rattle.reports.specs.declared.counts.Counted.TheVariants.{Rounds, Guests}
 use Rattle.reports.specs.declared.schedule_text.ScheduleLine.{ScheduleLine}
 use Rattle.reports.specs.declared.schedule_text.ScheduleLine.TheVariants.{Other, Bad, Round}
 use Rattle.reports.specs.declared.schedule_text.WrittenGame.{WrittenGame}
@@ -67,13 +69,16 @@ is_of_pair n home away x = receives n home x && x.away == away
 unfoldable pub games_of_pair : ℕ → List Game → ℕ → ℕ → ℕ
 games_of_pair n games home away = count_by (is_of_pair n home away) games
 
+-- how often a game stands that should stand once
+abbrev pub times_words : ℕ → List ℕ
+times_words count =
+    if count == 0 then concat (codes " is missing\n" ∷ []) else concat (codes " stands " ∷ decimal count ∷ codes " times\n" ∷ [])
+
 -- two distinct teams have one game with this home team
 abbrev pub pair_line : ℕ → ℕ → ℕ → List ℕ
 pair_line home away count =
     if home == away || count == 1 then []
-    else if count == 0 then concat (codes "game " ∷ decimal (home + 1) ∷ codes "-" ∷ decimal (away + 1) ∷ codes " is missing\n" ∷ [])
-    else concat (codes "game " ∷ decimal (home + 1) ∷ codes "-" ∷ decimal (away + 1) ∷ codes " stands " ∷ decimal count ∷
-    codes " times\n" ∷ [])
+    else concat (codes "game " ∷ decimal (home + 1) ∷ codes "-" ∷ decimal (away + 1) ∷ []) ++ times_words count
 
 abbrev pub pair_lines : ℕ → List Game → ℕ → List ℕ
 pair_lines n games home = pieces_below (λ away. pair_line home away (games_of_pair n games home away)) n
@@ -89,3 +94,29 @@ faults n lines = bad_lines 1 lines ++ no_game_lines n (written_games lines) ++ g
 -- the faults of lines that give no double round robin
 unfoldable pub faults_text : ℕ → List (List ℕ) → List ℕ
 faults_text n lines = faults n lines ++ codes "no double round robin\n"
+
+-- ---- what the games of a team are counted by: all of them by round, or those at home by guest
+
+abbrev pub numbers : Counted → ℕ → ℕ
+numbers Rounds n = round_count n
+numbers Guests n = n
+
+abbrev pub takes : Counted → ℕ → ℕ → Game → Bool
+takes Rounds = plays
+takes Guests = receives
+
+abbrev pub number_of : Counted → Game → ℕ
+number_of Rounds x = x.round
+number_of Guests x = x.away
+
+abbrev pub count_in : Counted → ℕ → List Game → ℕ → ℕ → ℕ
+count_in Rounds = games_in
+count_in Guests = games_of_pair
+
+abbrev pub count_line : Counted → ℕ → ℕ → ℕ → List ℕ
+count_line Rounds = team_line
+count_line Guests = pair_line
+
+abbrev pub count_lines : Counted → ℕ → List Game → ℕ → List ℕ
+count_lines counted n games team =
+    pieces_below (λ number. count_line counted team number (count_in counted n games team number)) (numbers counted n)

@@ -8,7 +8,7 @@ ghost use Rattle.tours.specs.Phased.{is_unphased};
 ghost use Rattle.fixture_board.specs.Costs.{total_of};
 ghost use Rattle.streams.specs.Pieces.{pieces_below};
 ghost use Rattle.streams.specs.Writing.{Writes};
-ghost use Rattle.reports.specs.CostText.{class_name, cost_text, costs_line, half_line, half_lines, halves_text};
+ghost use Rattle.reports.specs.CostText.{class_name, cost_text, costs_line, half_line, half_lines, halves_text, meetings_line};
 ghost use Rattle.reports.specs.CostText.{repeat_line, repeat_lines, rule_line, rule_lines, total_line, tour_line};
 
 use crate::runs::write_runs;
@@ -20,7 +20,7 @@ use streams::{BufferedSink, Sink, WriteFault};
 use texts::{Piece, write_pieces};
 use tours::travel_of;
 
-/// Writes the cost of a schedule, a line for each share of it, and the total where no hard limit is broken.
+/// Writes the cost of a schedule, a line for each part of it, and the total where no hard limit is broken.
 pub(crate) fn write_costs<W: Sink>(
     out: &mut BufferedSink<'_, W>,
     league: &League,
@@ -134,24 +134,36 @@ fn write_repeat<W: Sink>(
 {
     let opponent = schedule.game_at(team, round).opponent;
     let next = schedule.game_at(team, round + 1).opponent;
-    if opponent < team && opponent == next {
-        write_pieces(
-            out,
-            &[
-                Piece::Text(b"repeat "),
-                Piece::Number(opponent as u64 + 1),
-                Piece::Text(b"-"),
-                Piece::Number(team as u64 + 1),
-                Piece::Text(b" rounds "),
-                Piece::Number(round as u64 + 1),
-                Piece::Text(b" "),
-                Piece::Number(round as u64 + 2),
-                Piece::Text(b"\n"),
-            ],
-        )
-    } else {
-        Ok(())
+    if opponent >= team || opponent != next {
+        return Ok(());
     }
+    write_meetings(out, b"repeat ", (opponent, team), (round, round + 1))
+}
+
+/// Names a pair, and the rounds of two games of it.
+fn write_meetings<W: Sink>(
+    out: &mut BufferedSink<'_, W>,
+    word: &[u8],
+    pair: (u8, u8),
+    rounds: (u8, u8),
+) -> Result<(), WriteFault>
+    ensures { Writes W.held W.tally out.old out.new result
+        (meetings_line word.now pair.0 pair.1 rounds.0 rounds.1) }
+{
+    write_pieces(
+        out,
+        &[
+            Piece::Text(word),
+            Piece::Number(pair.0 as u64 + 1),
+            Piece::Text(b"-"),
+            Piece::Number(pair.1 as u64 + 1),
+            Piece::Text(b" rounds "),
+            Piece::Number(rounds.0 as u64 + 1),
+            Piece::Text(b" "),
+            Piece::Number(rounds.1 as u64 + 1),
+            Piece::Text(b"\n"),
+        ],
+    )
 }
 
 fn write_halves<W: Sink>(
@@ -206,26 +218,11 @@ fn write_half<W: Sink>(
     requires low { low < high }
     ensures { Writes W.held W.tally out.old out.new result (half_line schedule.now high low) }
 {
-    let first = schedule.round_of(low, high);
-    let second = schedule.round_of(high, low);
-    if is_one_half(schedule, high, low) {
-        write_pieces(
-            out,
-            &[
-                Piece::Text(b"half "),
-                Piece::Number(low as u64 + 1),
-                Piece::Text(b"-"),
-                Piece::Number(high as u64 + 1),
-                Piece::Text(b" rounds "),
-                Piece::Number(first as u64 + 1),
-                Piece::Text(b" "),
-                Piece::Number(second as u64 + 1),
-                Piece::Text(b"\n"),
-            ],
-        )
-    } else {
-        Ok(())
+    if !is_one_half(schedule, high, low) {
+        return Ok(());
     }
+    let rounds = (schedule.round_of(low, high), schedule.round_of(high, low));
+    write_meetings(out, b"half ", (low, high), rounds)
 }
 
 #[tactic(auto, unfolding(tours::specs::Phased::is_unphased))]

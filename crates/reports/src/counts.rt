@@ -2,16 +2,58 @@
 
 ghost use Rattle.std.specs.Prelude.{◌≡◌, ℕ, ◌<◌, ◌≤◌, slice_index};
 ghost use Rattle.league.specs.Limits.{max_rounds, max_teams};
-ghost use Rattle.reports.specs.Faults.{games_in, games_of_pair, is_game, plays, receives};
+ghost use Rattle.reports.specs.Faults.{count_in, is_game, number_of, numbers, plays, receives, takes};
 
 use fixtures::Game;
-use league::limits::{MAX_ROUNDS, MAX_TEAMS};
+use league::limits::MAX_ROUNDS;
 
-/// A place for each round of the longest season.
-const ROUND_PLACES: usize = MAX_ROUNDS as usize;
+/// A place for each round of the longest season. No league has more teams.
+const PLACES: usize = MAX_ROUNDS as usize;
 
-/// A place for each team of the largest league.
-const TEAM_PLACES: usize = MAX_TEAMS as usize;
+/// What the games of a team are counted by.
+#[derive(Clone, Copy)]
+pub(crate) enum Counted {
+    /// All of them, by their rounds.
+    Rounds,
+    /// Those at home, by their guests.
+    Guests,
+}
+
+impl Counted {
+    /// How many rounds or teams there are.
+    pub(crate) fn numbers(self, teams: u8) -> u8
+        requires least { 4 ≤ teams }
+        requires most { teams ≤ max_teams }
+        ensures { result ≡ numbers self teams }
+    {
+        match self {
+            Counted::Rounds => 2 * (teams - 1),
+            Counted::Guests => teams,
+        }
+    }
+
+    /// Whether the game is one of the team's that are counted.
+    fn takes(self, teams: u8, team: u8, game: Game) -> bool
+        requires least { 4 ≤ teams }
+        requires most { teams ≤ max_teams }
+        ensures { result ≡ takes self teams team game }
+    {
+        match self {
+            Counted::Rounds => plays(teams, game, team),
+            Counted::Guests => receives(teams, game, team),
+        }
+    }
+
+    /// The game's round or guest.
+    fn number_of(self, game: Game) -> u8
+        ensures { result ≡ number_of self game }
+    {
+        match self {
+            Counted::Rounds => game.round,
+            Counted::Guests => game.away,
+        }
+    }
+}
 
 /// Whether the game has two distinct teams of so many, and one of their rounds.
 pub(crate) fn is_game(teams: u8, game: Game) -> bool
@@ -38,31 +80,16 @@ fn receives(teams: u8, game: Game, team: u8) -> bool
     is_game(teams, game) && game.home == team
 }
 
-/// How many games the team has in each round.
-pub(crate) fn games_by_round(teams: u8, games: &[Game], team: u8) -> [usize; ROUND_PLACES]
+/// How often the team has a game with each number: in each round, or at home against each other team.
+pub(crate) fn counts_of(counted: Counted, teams: u8, games: &[Game], team: u8) -> [usize; PLACES]
     requires least { 4 ≤ teams }
     requires most { teams ≤ max_teams }
-    ensures { (round : ℕ) → round < max_rounds → slice_index result round ≡ games_in teams games.now team round }
+    ensures { (number : ℕ) → number < max_rounds → slice_index result number ≡ count_in counted teams games.now team number }
 {
-    let mut counts = [0; ROUND_PLACES];
+    let mut counts = [0; PLACES];
     for game in games {
-        if plays(teams, *game, team) {
-            counts[usize::from(game.round)] += 1;
-        }
-    }
-    counts
-}
-
-/// How many games the team has at home against each other one.
-pub(crate) fn games_by_guest(teams: u8, games: &[Game], home: u8) -> [usize; TEAM_PLACES]
-    requires least { 4 ≤ teams }
-    requires most { teams ≤ max_teams }
-    ensures { (away : ℕ) → away < max_teams → slice_index result away ≡ games_of_pair teams games.now home away }
-{
-    let mut counts = [0; TEAM_PLACES];
-    for game in games {
-        if receives(teams, *game, home) {
-            counts[usize::from(game.away)] += 1;
+        if counted.takes(teams, team, *game) {
+            counts[usize::from(counted.number_of(*game))] += 1;
         }
     }
     counts

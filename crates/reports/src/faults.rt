@@ -4,13 +4,13 @@ ghost use Rattle.std.specs.Prelude.{◌≡◌, ◌≤◌};
 ghost use Rattle.std.specs.Str.Lines.{lines};
 ghost use Rattle.league.specs.Limits.{max_teams};
 ghost use Rattle.streams.specs.Writing.{Writes};
-ghost use Rattle.reports.specs.Faults.{bad_line, bad_lines, faults_text, game_faults};
-ghost use Rattle.reports.specs.Faults.{no_game_line, no_game_lines, pair_line, pair_lines, team_line, team_lines};
+ghost use Rattle.reports.specs.Faults.{bad_line, bad_lines, count_line, count_lines, faults_text, game_faults};
+ghost use Rattle.reports.specs.Faults.{no_game_line, no_game_lines, pair_line, team_line, times_words};
 ghost use Rattle.reports.specs.Given.{given_games};
 ghost use Rattle.reports.specs.ScheduleText.{written_games};
 ghost use Rattle.streams.specs.Pieces.{pieces_below};
 
-use crate::counts::{games_by_guest, games_by_round, is_game};
+use crate::counts::{Counted, counts_of, is_game};
 use crate::schedule_text::{ScheduleLine, WrittenGame};
 use fixtures::Game;
 use streams::{BufferedSink, Sink, WriteFault};
@@ -119,41 +119,58 @@ fn write_game_faults<W: Sink>(
     requires most { teams ≤ max_teams }
     ensures { Writes W.held W.tally out.old out.new result (game_faults teams games.now) }
 {
-    write_teams(out, teams, games)?;
-    write_pairs(out, teams, games)
+    write_counts(out, Counted::Rounds, teams, games)?;
+    write_counts(out, Counted::Guests, teams, games)
 }
 
-fn write_teams<W: Sink>(
+/// Names, for each team, the rounds or the guests with which it has another number of games than one.
+fn write_counts<W: Sink>(
     out: &mut BufferedSink<'_, W>,
+    counted: Counted,
     teams: u8,
     games: &[Game],
 ) -> Result<(), WriteFault>
     requires least { 4 ≤ teams }
     requires most { teams ≤ max_teams }
-    ensures { Writes W.held W.tally out.old out.new result (pieces_below (team_lines teams games.now) teams) }
+    ensures { Writes W.held W.tally out.old out.new result (pieces_below (count_lines counted teams games.now) teams) }
 {
     for team in 0..teams {
-        write_team(out, teams, games, team)?;
+        write_counts_of(out, counted, teams, games, team)?;
     }
     Ok(())
 }
 
-/// Names the rounds in which the team has no game or several.
-fn write_team<W: Sink>(
+fn write_counts_of<W: Sink>(
     out: &mut BufferedSink<'_, W>,
+    counted: Counted,
     teams: u8,
     games: &[Game],
     team: u8,
 ) -> Result<(), WriteFault>
     requires least { 4 ≤ teams }
     requires most { teams ≤ max_teams }
-    ensures { Writes W.held W.tally out.old out.new result (team_lines teams games.now team) }
+    ensures { Writes W.held W.tally out.old out.new result (count_lines counted teams games.now team) }
 {
-    let counts = games_by_round(teams, games, team);
-    for round in 0..2 * (teams - 1) {
-        write_team_round(out, team, round, counts[usize::from(round)])?;
+    let counts = counts_of(counted, teams, games, team);
+    for number in 0..counted.numbers(teams) {
+        write_count(out, counted, team, number, counts[usize::from(number)])?;
     }
     Ok(())
+}
+
+fn write_count<W: Sink>(
+    out: &mut BufferedSink<'_, W>,
+    counted: Counted,
+    team: u8,
+    number: u8,
+    count: usize,
+) -> Result<(), WriteFault>
+    ensures { Writes W.held W.tally out.old out.new result (count_line counted team number count) }
+{
+    match counted {
+        Counted::Rounds => write_team_round(out, team, number, count),
+        Counted::Guests => write_pair(out, team, number, count),
+    }
 }
 
 fn write_team_round<W: Sink>(
@@ -193,39 +210,6 @@ fn write_team_round<W: Sink>(
     )
 }
 
-fn write_pairs<W: Sink>(
-    out: &mut BufferedSink<'_, W>,
-    teams: u8,
-    games: &[Game],
-) -> Result<(), WriteFault>
-    requires least { 4 ≤ teams }
-    requires most { teams ≤ max_teams }
-    ensures { Writes W.held W.tally out.old out.new result (pieces_below (pair_lines teams games.now) teams) }
-{
-    for home in 0..teams {
-        write_home(out, teams, games, home)?;
-    }
-    Ok(())
-}
-
-/// Names the guests that the team receives never or several times.
-fn write_home<W: Sink>(
-    out: &mut BufferedSink<'_, W>,
-    teams: u8,
-    games: &[Game],
-    home: u8,
-) -> Result<(), WriteFault>
-    requires least { 4 ≤ teams }
-    requires most { teams ≤ max_teams }
-    ensures { Writes W.held W.tally out.old out.new result (pair_lines teams games.now home) }
-{
-    let counts = games_by_guest(teams, games, home);
-    for away in 0..teams {
-        write_pair(out, home, away, counts[usize::from(away)])?;
-    }
-    Ok(())
-}
-
 fn write_pair<W: Sink>(
     out: &mut BufferedSink<'_, W>,
     home: u8,
@@ -237,18 +221,6 @@ fn write_pair<W: Sink>(
     if home == away || count == 1 {
         return Ok(());
     }
-    if count == 0 {
-        return write_pieces(
-            out,
-            &[
-                Piece::Text(b"game "),
-                Piece::Number(home as u64 + 1),
-                Piece::Text(b"-"),
-                Piece::Number(away as u64 + 1),
-                Piece::Text(b" is missing\n"),
-            ],
-        );
-    }
     write_pieces(
         out,
         &[
@@ -256,6 +228,21 @@ fn write_pair<W: Sink>(
             Piece::Number(home as u64 + 1),
             Piece::Text(b"-"),
             Piece::Number(away as u64 + 1),
+        ],
+    )?;
+    write_times(out, count)
+}
+
+/// Tells how often a game stands that should stand once.
+fn write_times<W: Sink>(out: &mut BufferedSink<'_, W>, count: usize) -> Result<(), WriteFault>
+    ensures { Writes W.held W.tally out.old out.new result (times_words count) }
+{
+    if count == 0 {
+        return write_pieces(out, &[Piece::Text(b" is missing\n")]);
+    }
+    write_pieces(
+        out,
+        &[
             Piece::Text(b" stands "),
             Piece::Number(count as u64),
             Piece::Text(b" times\n"),

@@ -1,5 +1,5 @@
 //! Reports on schedules that a text gives: whether its games are a double round robin and what is wrong with them if not,
-//! and what a double round robin costs, with the share of each team, run, repeat, pair and rule.
+//! and what a double round robin costs, with the part of each team, run, repeat, pair and rule.
 //!
 //! Teams and rounds are numbered from 0 in calls, and from 1 in texts. Only [`judge`] takes memory.
 #![tactic(auto)]

@@ -32,6 +32,14 @@ pub(crate) fn write_runs<W: Sink>(
     Ok(())
 }
 
+/// A stretch of a team: so many windows, the last of which begins with the round before this one.
+#[derive(Clone, Copy)]
+struct Stretch {
+    team: u8,
+    round: u8,
+    windows: u8,
+}
+
 /// A stretch is written at the round with which no window of it begins any more.
 #[tactic(auto, using(crate::proofs::Streaks::streak_within))]
 fn write_runs_of<W: Sink>(
@@ -45,12 +53,17 @@ fn write_runs_of<W: Sink>(
     requires team { team < schedule.now.teams }
     ensures { Writes W.held W.tally out.old out.new result (run_lines schedule.now at_most team) }
 {
-    let windows = windows_spent(schedule, at_most + 1, team);
+    let begun = windows_spent(schedule, at_most + 1, team);
     let mut streak: u8 = 0;
     for round in 0..schedule.rounds() {
-        let goes_on = windows.has(round);
-        let count = ended(goes_on, streak);
-        write_run(out, schedule, at_most, team, round, count)?;
+        let goes_on = begun.has(round);
+        let windows = ended(goes_on, streak);
+        let stretch = Stretch {
+            team,
+            round,
+            windows,
+        };
+        write_run(out, schedule, at_most, stretch)?;
         streak = lengthened(goes_on, streak);
     }
     Ok(())
@@ -84,21 +97,25 @@ pub fn windows_spent(schedule: &Schedule, length: u8, team: u8) -> SlotSet
     like_next.starts_within(length - 1)
 }
 
-/// Writes the stretch of so many windows, the last of which begins with the round before this one.
+/// Writes the stretch, unless it has no window.
 fn write_run<W: Sink>(
     out: &mut BufferedSink<'_, W>,
     schedule: &Schedule,
     at_most: u8,
-    team: u8,
-    round: u8,
-    count: u8,
+    stretch: Stretch,
 ) -> Result<(), WriteFault>
-    requires team { team < schedule.now.teams }
-    requires round { round < round_count schedule.now.teams }
-    requires count { count ≤ round }
-    ensures { Writes W.held W.tally out.old out.new result (run_line schedule.now at_most team round count) }
+    requires team { stretch.team < schedule.now.teams }
+    requires round { stretch.round < round_count schedule.now.teams }
+    requires windows { stretch.windows ≤ stretch.round }
+    ensures { Writes W.held W.tally out.old out.new result
+        (run_line schedule.now at_most stretch.team stretch.round stretch.windows) }
 {
-    if count == 0 {
+    let Stretch {
+        team,
+        round,
+        windows,
+    } = stretch;
+    if windows == 0 {
         return Ok(());
     }
     let last = schedule.game_at(team, round - 1);
@@ -108,11 +125,11 @@ fn write_run<W: Sink>(
             Piece::Text(b"run "),
             Piece::Number(team as u64 + 1),
             Piece::Text(side_word(last.home)),
-            Piece::Number((round - count) as u64 + 1),
+            Piece::Number((round - windows) as u64 + 1),
             Piece::Text(b"-"),
             Piece::Number(round as u64 + at_most as u64),
             Piece::Text(b" windows "),
-            Piece::Number(count as u64),
+            Piece::Number(windows as u64),
             Piece::Text(b"\n"),
         ],
     )

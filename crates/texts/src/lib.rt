@@ -20,6 +20,8 @@ pub use numerals::{index, number};
 pub use pieces::{Piece, write_pieces};
 pub use play_text::play_script;
 pub use script_line::{ScriptLine, parse_line};
-pub use search_text::{write_clear, write_found, write_plan, write_progress, write_worker};
+pub use search_text::{
+    write_best_sheet, write_clear, write_found, write_plan, write_progress, write_worker,
+};
 pub use sheets::{sheet, write_sheet};
 pub use words::next_word;

@@ -91,8 +91,12 @@ pub fn write_found<W: Sink>(out: &mut BufferedSink<'_, W>, board: &Board) -> Res
     write_best(out, board)
 }
 
+/// Writes the sheet of the board's best schedule, or of the present one if none was feasible.
 #[tactic(auto, unfolding(crate::specs::SearchText::best_sheet))]
-fn write_best_sheet<W: Sink>(out: &mut BufferedSink<'_, W>, board: &Board) -> Result<(), WriteFault>
+pub fn write_best_sheet<W: Sink>(
+    out: &mut BufferedSink<'_, W>,
+    board: &Board,
+) -> Result<(), WriteFault>
     ensures { Writes W.held W.tally out.old out.new result
         (best_sheet board.now.league board.now.history) }
 {
