@@ -71,9 +71,9 @@ pub numbers_within : (n : ℕ) (numbers : List ℕ) → HasColumns n (table_of n
 numbers_within n numbers fit = length-cut n n numbers fit
 
 -- where a number of the table lies
-pub place_in_table : (n : ℕ) (numbers : List ℕ) (a b : ℕ) → HasColumns n (table_of n numbers) → a < n → b < n
+pub index_in_table : (n : ℕ) (numbers : List ℕ) (a b : ℕ) → HasColumns n (table_of n numbers) → a < n → b < n
     → a * n + b < length numbers
-place_in_table n numbers a b fit a_below b_below =
+index_in_table n numbers a b fit a_below b_below =
     omega (arith, length-cut n n numbers fit, mul-add-lt a n b n a_below b_below)
 
 pub distance_of-table_of : (n : ℕ) (numbers : List ℕ) (a b : ℕ) → a < n → b < n
@@ -93,9 +93,9 @@ table_of-all n numbers table i past is_table so_far =
 pub read_in_table : (n : ℕ) (numbers : List ℕ) (a b i x : ℕ) → HasColumns n (table_of n numbers) → a < n → b < n
     → i ≡ a * n + b → x ≡ get_or numbers i x
     → x ≡ distance_of (table_of n numbers) a b
-read_in_table n numbers a b i x fit a_below b_below place is =
-    let inside : i < length numbers = omega (arith, place, place_in_table n numbers a b fit a_below b_below) in
-    is ∙ get_or_default numbers i x 0 inside ∙ ap (λ k. get_or numbers k 0) place
+read_in_table n numbers a b i x fit a_below b_below index_is is =
+    let inside : i < length numbers = omega (arith, index_is, index_in_table n numbers a b fit a_below b_below) in
+    is ∙ get_or_default numbers i x 0 inside ∙ ap (λ k. get_or numbers k 0) index_is
     ∙ sym (distance_of-table_of n numbers a b a_below b_below)
 
 pub length-texts : (names : List (String Global)) → length (texts names) ≡ length names

@@ -2,15 +2,15 @@ use Rattle.std.proofs.Common.{◌≡◌, ◌+◌, ◌*◌, ◌<◌, length, arit
 use Rattle.league.specs.Checks.{distance_of}
 use Rattle.league.specs.Rows.{table_of}
 use Rattle.league.specs.Views.{texts}
-use Rattle.league.proofs.Rows.{place_in_table, read_in_table, length-texts}
+use Rattle.league.proofs.Rows.{index_in_table, read_in_table, length-texts}
 use Rattle.league.proofs.leagues.League.distance.Goals as goal
 use Rattle.league.proofs.leagues.League.distance.Goals.{After-from-2}
 
 -- both teams have a name, and the index is that of their distance
-placed : (c : After-from-2) → (c.args.a < length (texts c.self.inside.names.items))
+in_table : (c : After-from-2) → (c.args.a < length (texts c.self.inside.names.items))
     × ((c.args.b < length (texts c.self.inside.names.items))
     × (c.from.result * c.len.result + c.from-2.result ≡ c.args.a * length (texts c.self.inside.names.items) + c.args.b))
-placed c =
+in_table c =
     let size : c.len.result ≡ length (texts c.self.inside.names.items) =
     omega (arith, length-texts c.self.inside.names.items) in (
       rw (← c.self.view_is) at c.requires.a_in,
@@ -19,12 +19,12 @@ placed c =
 
 pub index-requires : goal.index-requires
 index-requires c =
-    let at = placed (goal.at.index-requires c).After-from-2 in
-    omega (arith, at.1.1, place_in_table _ c.self.inside.distances.items c.args.a c.args.b c.self.invariant.table.columns at.0 at.1.0)
+    let at = in_table (goal.at.index-requires c).After-from-2 in
+    omega (arith, at.1.1, index_in_table _ c.self.inside.distances.items c.args.a c.args.b c.self.invariant.table.columns at.0 at.1.0)
 
 pub returns-clause-value : goal.returns-clause-value
 returns-clause-value c =
-    let at = placed (goal.at.returns-clause-value c).After-from-2 in
+    let at = in_table (goal.at.returns-clause-value c).After-from-2 in
     rw (← c.self.view_is)
     (read_in_table _ c.self.inside.distances.items c.args.a c.args.b _ c.index.result.now c.self.invariant.table.columns at.0 at.1.0 at.1.1
     c.index.ensures)
