@@ -12,6 +12,3 @@ returns-clause-copy g c = search rules
 
 pub returns-clause-same : goal.returns-clause-same
 returns-clause-same g c = search rules
-
-pub returns-clause-legal : goal.returns-clause-legal
-returns-clause-legal g c = search rules

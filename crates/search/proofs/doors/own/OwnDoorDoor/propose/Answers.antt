@@ -7,26 +7,8 @@ returns-in-Done-clause-reply g c = search rules
 pub returns-in-Done-clause-board : goal.returns-in-Done-clause-board
 returns-in-Done-clause-board g c = search rules
 
-pub returns-in-Done-clause-legal : goal.returns-in-Done-clause-legal
-returns-in-Done-clause-legal g c = search rules
-
-pub returns-in-Done-clause-caller : goal.returns-in-Done-clause-caller
-returns-in-Done-clause-caller g c = search rules
-
-pub returns-in-Done-clause-counted : goal.returns-in-Done-clause-counted
-returns-in-Done-clause-counted g c = search rules
-
 pub returns-in_default-clause-reply : goal.returns-in_default-clause-reply
 returns-in_default-clause-reply g c = search rules
 
 pub returns-in_default-clause-board : goal.returns-in_default-clause-board
 returns-in_default-clause-board g c = search rules
-
-pub returns-in_default-clause-legal : goal.returns-in_default-clause-legal
-returns-in_default-clause-legal g c = search rules
-
-pub returns-in_default-clause-caller : goal.returns-in_default-clause-caller
-returns-in_default-clause-caller g c = search rules
-
-pub returns-in_default-clause-counted : goal.returns-in_default-clause-counted
-returns-in_default-clause-counted g c = search rules
