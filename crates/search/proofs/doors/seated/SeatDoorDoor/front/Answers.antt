@@ -10,8 +10,8 @@ returns-clause-counted g c = search rules
 pub returns-clause-seen : goal.returns-clause-seen
 returns-clause-seen g c = search rules
 
-pub returns-clause-prefix : goal.returns-clause-prefix
-returns-clause-prefix g c = search rules
+pub returns-clause-front : goal.returns-clause-front
+returns-clause-front g c = search rules
 
 pub returns-clause-later : goal.returns-clause-later
 returns-clause-later g c = search rules
