@@ -1,5 +1,5 @@
-use Rattle.std.proofs.Common.{ℕ, ◌+◌, ◌-◌, refl, ◌∙◌, ap, subst}
-use Rattle.league.specs.Sets.{has, IsBelow}
+use Rattle.std.proofs.Common.{◌+◌, ◌-◌, refl, ◌∙◌, ap}
+use Rattle.league.specs.Sets.{has}
 use Rattle.league.proofs.ForCallers.{sum_where_same}
 use Rattle.robinx.proofs.CountedRounds.{met_starts}
 use Rattle.robinx.proofs.capacity_rules.ca3_part.Goals as goal

@@ -1,4 +1,4 @@
-use Rattle.std.proofs.Common.{◌<◌, nat_lt, ℕ, not, refl, sym, ◌∙◌, ap, subst, arith}
+use Rattle.std.proofs.Common.{nat_lt, ℕ, not, refl, sym, ◌∙◌, ap, subst, arith}
 use Rattle.league.specs.Sets.{has, IsBelow}
 use Rattle.league.proofs.ForCallers.{lowest_below}
 use Rattle.fixtures.specs.declared.game.Cell.{Cell}
