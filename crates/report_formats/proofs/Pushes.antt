@@ -9,7 +9,7 @@ piece_added a b c piece n so_far next = rw (add-one, next, so_far) (append_assoc
 both_added : (a b c p q : List ℕ) → b ≡ a ++ p → c ≡ b ++ q → c ≡ a ++ (p ++ q)
 both_added a b c p q first second = rw (second, first) (append_assoc a p q)
 
--- a text that is one part, another text, and one part more
+-- a text that is one piece, another text, and one piece more
 pub added_between : {T E : Type 0} (r : Result T E) (a b c d p q s : List ℕ) → b ≡ a ++ (p ++ []) → c ≡ b ++ q →
     OnOk r (d ≡ c ++ (s ++ [])) → OnOk r (d ≡ a ++ (p ++ q ++ s))
 added_between (Ok x) a b c d p q s first second last =

@@ -5,7 +5,7 @@ use Rattle.fixtures.specs.Games.{Games, cell, round_count}
 use Rattle.league.specs.League.{LeagueData, name_of}
 use Rattle.reports.specs.Runs.{is_over}
 use Rattle.streams.specs.Pieces.{pieces_below}
-use Rattle.report_formats.specs.Parts.{escaped}
+use Rattle.report_formats.specs.Pieces.{escaped}
 
 abbrev pub word_if : Bool → List ℕ → List ℕ
 word_if wanted word = if wanted then word else []
@@ -28,10 +28,13 @@ abbrev pub cell_text : Games → ℕ → ℕ → ℕ → List ℕ
 cell_text g at_most team round =
     cell_of (cell g team round).opponent (cell g team round).home (goes_over g at_most team round) (meets_again g team round)
 
+-- how a row of a team begins
+unfoldable pub team_head : LeagueData → ℕ → List ℕ
+team_head l team = concat (codes "<tr><th>" ∷ decimal (team + 1) ∷ codes " " ∷ escaped (name_of l team) ∷ codes "</th>" ∷ [])
+
 abbrev pub grid_row : LeagueData → Games → ℕ → List ℕ
 grid_row l g team =
-    concat (codes "</tr><tr><th>" ∷ decimal (team + 1) ∷ codes " " ∷ escaped (name_of l team) ∷ codes "</th>" ∷ [])
-    ++ pieces_below (cell_text g l.at_most team) (round_count g.teams)
+    codes "</tr>" ++ team_head l team ++ pieces_below (cell_text g l.at_most team) (round_count g.teams)
 
 abbrev pub round_head : ℕ → List ℕ
 round_head round = concat (codes "<th>" ∷ decimal (round + 1) ∷ codes "</th>" ∷ [])

@@ -1,5 +1,5 @@
 pub mod Table
-pub mod Parts
+pub mod Pieces
 pub mod Style
 pub mod Grid
 pub mod Page

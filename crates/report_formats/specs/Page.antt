@@ -6,7 +6,7 @@ use Rattle.std.specs.List.{concat}
 use Rattle.fixtures.specs.Games.{Games, round_count}
 use Rattle.fixture_board.specs.declared.cost.Cost.{Cost}
 use Rattle.fixture_board.specs.Costs.{cost_of, total_of}
-use Rattle.league.specs.League.{LeagueData, name_of, teams}
+use Rattle.league.specs.League.{LeagueData, teams}
 use Rattle.league.specs.declared.rule.Rule.{Rule}
 use Rattle.league.specs.declared.rule.Weight.{Weight}
 use Rattle.league.specs.declared.rule.Weight.TheVariants.{Hard, Soft}
@@ -14,8 +14,7 @@ use Rattle.reports.specs.CostText.{class_name}
 use Rattle.robinx.specs.Deviations.{deviation}
 use Rattle.streams.specs.Pieces.{pieces_below}
 use Rattle.tours.specs.Tours.{travel_of}
-use Rattle.report_formats.specs.Grid.{grid_text}
-use Rattle.report_formats.specs.Parts.{escaped}
+use Rattle.report_formats.specs.Grid.{grid_text, team_head}
 use Rattle.report_formats.specs.Style.{style_text}
 
 -- the numbers that the style takes from the page
@@ -35,12 +34,14 @@ figures_text l cost =
     codes "</b></li><li>soft <b>" ∷ decimal cost.soft ∷ codes "</b></li>" ∷ [])
     ++ total_text cost
 
--- the travel of a team, with a bar
-abbrev pub tour_row : LeagueData → Games → ℕ → List ℕ
-tour_row l g team =
-    concat (codes "<tr><th>" ∷ decimal (team + 1) ∷ codes " " ∷ escaped (name_of l team) ∷ codes "</th><td>" ∷
-    decimal (travel_of l g team) ∷ codes "</td><td class='bar'><div style='--tour:" ∷ decimal (travel_of l g team) ∷
+-- a team that travels so far, with a bar
+abbrev pub travel_row : LeagueData → ℕ → ℕ → List ℕ
+travel_row l team travel =
+    team_head l team ++ concat (codes "<td>" ∷ decimal travel ∷ codes "</td><td class='bar'><div style='--tour:" ∷ decimal travel ∷
     codes "'></div></td></tr>" ∷ [])
+
+abbrev pub tour_row : LeagueData → Games → ℕ → List ℕ
+tour_row l g team = travel_row l team (travel_of l g team)
 
 abbrev pub travel_text : LeagueData → Games → List ℕ
 travel_text l g =

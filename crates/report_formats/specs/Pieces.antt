@@ -1,7 +1,7 @@
--- Parts of a page.
+-- Pieces of a page.
 use Rattle.std.specs.Prelude.{ℕ, ◌==◌, List, [], ◌∷◌, ◌++◌, codes, decimal, if◌then◌else◌}
-use Rattle.report_formats.specs.declared.parts.Part.{Part}
-use Rattle.report_formats.specs.declared.parts.Part.TheVariants.{Html, Name, Number}
+use Rattle.report_formats.specs.declared.pieces.Piece.{Piece}
+use Rattle.report_formats.specs.declared.pieces.Piece.TheVariants.{Html, Name, Number}
 
 -- a byte of a name, where the marks of HTML stand for themselves
 abbrev pub escape_of : ℕ → List ℕ
@@ -13,12 +13,12 @@ abbrev pub escaped : List ℕ → List ℕ
 escaped [] = []
 escaped (b ∷ bs) = escape_of b ++ escaped bs
 
-abbrev pub text_of_part : Part → List ℕ
-text_of_part (Html text) = text.now
-text_of_part (Name text) = escaped text.now
-text_of_part (Number number) = decimal number
+abbrev pub text_of_piece : Piece → List ℕ
+text_of_piece (Html text) = text.now
+text_of_piece (Name text) = escaped text.now
+text_of_piece (Number number) = decimal number
 
--- the parts, one after another
-abbrev pub text_of_parts : List Part → List ℕ
-text_of_parts [] = []
-text_of_parts (part ∷ parts) = text_of_part part ++ text_of_parts parts
+-- the pieces, one after another
+abbrev pub text_of_pieces : List Piece → List ℕ
+text_of_pieces [] = []
+text_of_pieces (piece ∷ pieces) = text_of_piece piece ++ text_of_pieces pieces

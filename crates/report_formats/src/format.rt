@@ -21,7 +21,7 @@ use streams::{Sink, WriteFault, write_all};
 /// In which form a report is written.
 #[derive(Clone, Copy, Debug, PartialEq, Eq)]
 pub enum Format {
-    /// Lines of text: the sheet, the cost and its shares.
+    /// Lines of text: the sheet, the cost and its parts.
     Text,
     /// A head line and a line for each game, as CSV.
     Csv,

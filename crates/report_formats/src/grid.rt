@@ -7,9 +7,9 @@ ghost use Rattle.league.specs.Sets.{has};
 ghost use Rattle.league.specs.Limits.{max_rounds};
 ghost use Rattle.streams.specs.Pieces.{pieces_below};
 ghost use Rattle.report_formats.specs.Grid.{cell_of, cell_text, grid_lines, grid_row, grid_text, legend_text, meets_again, round_head};
-ghost use Rattle.report_formats.specs.Grid.{word_if};
+ghost use Rattle.report_formats.specs.Grid.{team_head, word_if};
 
-use crate::parts::{Part, push_parts};
+use crate::pieces::{Piece, push_pieces};
 use fixtures::Schedule;
 use league::{League, SlotSet};
 use reports::windows_spent;
@@ -27,21 +27,21 @@ pub(crate) fn push_grid(
 {
     push_legend(page, league)?;
     push_lines(page, league, schedule)?;
-    push_parts(page, &[Part::Html(b"</tr></table></div>")])
+    push_pieces(page, &[Piece::Html(b"</tr></table></div>")])
 }
 
 /// Adds what the marks in the grid mean.
 fn push_legend(page: &mut Vec<u8>, league: &League) -> Result<(), AllocError>
     ensures { OnOk result (page.new.items ≡ page.old.items ++ legend_text league.now.at_most) }
 {
-    push_parts(
+    push_pieces(
         page,
         &[
-            Part::Html(
+            Piece::Html(
                 b"<h2>Games</h2><p><span class='h'>Shaded</span>: at home. @: away. <span class='o'>Ringed</span>: more than ",
             ),
-            Part::Number(league.at_most() as u64),
-            Part::Html(
+            Piece::Number(league.at_most() as u64),
+            Piece::Html(
                 b" in a row at home or away. <span class='r'>Dashed</span>: the opponent of the round before.</p><div class='wide'><table class='grid'><tr><th>Team</th>",
             ),
         ],
@@ -60,12 +60,12 @@ fn push_round_heads(page: &mut Vec<u8>, schedule: &Schedule) -> Result<(), Alloc
     ensures { OnOk result (page.new.items ≡ page.old.items ++ pieces_below round_head (round_count schedule.now.teams)) }
 {
     for round in 0..schedule.rounds() {
-        push_parts(
+        push_pieces(
             page,
             &[
-                Part::Html(b"<th>"),
-                Part::Number(round as u64 + 1),
-                Part::Html(b"</th>"),
+                Piece::Html(b"<th>"),
+                Piece::Number(round as u64 + 1),
+                Piece::Html(b"</th>"),
             ],
         )?;
     }
@@ -92,17 +92,30 @@ fn push_row(
     requires team { team < schedule.now.teams }
     ensures { OnOk result (page.new.items ≡ page.old.items ++ grid_row league.now schedule.now team) }
 {
-    push_parts(
+    push_pieces(page, &[Piece::Html(b"</tr>")])?;
+    push_team_head(page, league, team)?;
+    push_cells(page, schedule, league.at_most(), team)
+}
+
+/// Begins a row of the team, by its number and its name.
+pub(crate) fn push_team_head(
+    page: &mut Vec<u8>,
+    league: &League,
+    team: u8,
+) -> Result<(), AllocError>
+    requires { team < teams league.now }
+    ensures { OnOk result (page.new.items ≡ page.old.items ++ team_head league.now team) }
+{
+    push_pieces(
         page,
         &[
-            Part::Html(b"</tr><tr><th>"),
-            Part::Number(team as u64 + 1),
-            Part::Html(b" "),
-            Part::Name(league.name(team).as_bytes()),
-            Part::Html(b"</th>"),
+            Piece::Html(b"<tr><th>"),
+            Piece::Number(team as u64 + 1),
+            Piece::Html(b" "),
+            Piece::Name(league.name(team).as_bytes()),
+            Piece::Html(b"</th>"),
         ],
-    )?;
-    push_cells(page, schedule, league.at_most(), team)
+    )
 }
 
 fn push_cells(
@@ -146,17 +159,17 @@ fn push_cell(
         ++ cell_of (cell schedule.now team round).opponent (cell schedule.now team round).home over (meets_again schedule.now team round)) }
 {
     let game = schedule.game_at(team, round);
-    push_parts(
+    push_pieces(
         page,
         &[
-            Part::Html(b"<td class='"),
-            Part::Html(word_if(game.home, b"h")),
-            Part::Html(word_if(over, b" o")),
-            Part::Html(word_if(meets_again(schedule, team, round), b" r")),
-            Part::Html(b"'>"),
-            Part::Html(word_if(!game.home, b"@")),
-            Part::Number(game.opponent as u64 + 1),
-            Part::Html(b"</td>"),
+            Piece::Html(b"<td class='"),
+            Piece::Html(word_if(game.home, b"h")),
+            Piece::Html(word_if(over, b" o")),
+            Piece::Html(word_if(meets_again(schedule, team, round), b" r")),
+            Piece::Html(b"'>"),
+            Piece::Html(word_if(!game.home, b"@")),
+            Piece::Number(game.opponent as u64 + 1),
+            Piece::Html(b"</td>"),
         ],
     )
 }

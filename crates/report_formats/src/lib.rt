@@ -7,7 +7,7 @@
 mod format;
 mod grid;
 mod page;
-mod parts;
+mod pieces;
 mod style;
 mod table;
 

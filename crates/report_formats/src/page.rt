@@ -7,10 +7,10 @@ ghost use Rattle.league.specs.RuleLimits.{IsBodyFor};
 ghost use Rattle.streams.specs.Pieces.{pieces_below};
 ghost use Rattle.report_formats.specs.Page.{costs_text, figures_text, measures_text, page_text, row_head, rule_row, rule_rows, rule_table};
 ghost use Rattle.report_formats.specs.Page.{rules_text};
-ghost use Rattle.report_formats.specs.Page.{sections_text, sorted_rules, top_text, total_text, tour_row, travel_text, weight_text};
+ghost use Rattle.report_formats.specs.Page.{sections_text, sorted_rules, top_text, total_text, tour_row, travel_row, travel_text, weight_text};
 
-use crate::grid::push_grid;
-use crate::parts::{Part, push_parts};
+use crate::grid::{push_grid, push_team_head};
+use crate::pieces::{Piece, push_pieces};
 use crate::style::push_style;
 use fixture_board::{Cost, cost_of};
 use fixtures::Schedule;
@@ -33,7 +33,7 @@ pub(crate) fn page(
     let mut page = Vec::new(alloc);
     push_top(&mut page, league, schedule)?;
     push_sections(&mut page, league, schedule)?;
-    push_parts(&mut page, &[Part::Html(b"</body></html>\n")])?;
+    push_pieces(&mut page, &[Piece::Html(b"</body></html>\n")])?;
     Ok(page)
 }
 
@@ -75,15 +75,15 @@ fn push_sections(page: &mut Vec<u8>, league: &League, schedule: &Schedule) -> Re
 fn push_measures(page: &mut Vec<u8>, schedule: &Schedule, travel: u64) -> Result<(), AllocError>
     ensures { OnOk result (page.new.items ≡ page.old.items ++ measures_text schedule.now travel) }
 {
-    push_parts(
+    push_pieces(
         page,
         &[
-            Part::Number(schedule.teams() as u64),
-            Part::Html(b";--rounds:"),
-            Part::Number(schedule.rounds() as u64),
-            Part::Html(b";--travel:"),
-            Part::Number(travel),
-            Part::Html(b"'>"),
+            Piece::Number(schedule.teams() as u64),
+            Piece::Html(b";--rounds:"),
+            Piece::Number(schedule.rounds() as u64),
+            Piece::Html(b";--travel:"),
+            Piece::Number(travel),
+            Piece::Html(b"'>"),
         ],
     )
 }
@@ -93,20 +93,20 @@ fn push_figures(page: &mut Vec<u8>, league: &League, cost: Cost) -> Result<(), A
     ensures { OnOk result (page.new.items ≡ page.old.items ++ figures_text league.now cost) }
 {
     let teams = league.teams() as u64;
-    push_parts(
+    push_pieces(
         page,
         &[
-            Part::Html(b"<h1>"),
-            Part::Number(teams),
-            Part::Html(b" teams, "),
-            Part::Number(2 * (teams - 1)),
-            Part::Html(b" rounds</h1><ul><li>travel <b>"),
-            Part::Number(cost.travel),
-            Part::Html(b"</b></li><li>hard <b>"),
-            Part::Number(cost.hard),
-            Part::Html(b"</b></li><li>soft <b>"),
-            Part::Number(cost.soft),
-            Part::Html(b"</b></li>"),
+            Piece::Html(b"<h1>"),
+            Piece::Number(teams),
+            Piece::Html(b" teams, "),
+            Piece::Number(2 * (teams - 1)),
+            Piece::Html(b" rounds</h1><ul><li>travel <b>"),
+            Piece::Number(cost.travel),
+            Piece::Html(b"</b></li><li>hard <b>"),
+            Piece::Number(cost.hard),
+            Piece::Html(b"</b></li><li>soft <b>"),
+            Piece::Number(cost.soft),
+            Piece::Html(b"</b></li>"),
         ],
     )?;
     push_total(page, cost)
@@ -117,18 +117,18 @@ fn push_total(page: &mut Vec<u8>, cost: Cost) -> Result<(), AllocError>
     ensures { OnOk result (page.new.items ≡ page.old.items ++ total_text cost) }
 {
     if cost.is_feasible() {
-        push_parts(
+        push_pieces(
             page,
             &[
-                Part::Html(b"<li>total <b>"),
-                Part::Number(cost.total()),
-                Part::Html(b"</b></li></ul>"),
+                Piece::Html(b"<li>total <b>"),
+                Piece::Number(cost.total()),
+                Piece::Html(b"</b></li></ul>"),
             ],
         )
     } else {
-        push_parts(
+        push_pieces(
             page,
-            &[Part::Html(b"<li class='bad'><b>infeasible</b></li></ul>")],
+            &[Piece::Html(b"<li class='bad'><b>infeasible</b></li></ul>")],
         )
     }
 }
@@ -137,14 +137,14 @@ fn push_travel(page: &mut Vec<u8>, league: &League, schedule: &Schedule) -> Resu
     requires { schedule.now.teams ≡ teams league.now }
     ensures { OnOk result (page.new.items ≡ page.old.items ++ travel_text league.now schedule.now) }
 {
-    push_parts(
+    push_pieces(
         page,
-        &[Part::Html(
+        &[Piece::Html(
             b"<h2>Travel</h2><p>A bar that ends at the line is as long as the average.</p><table class='travel'>",
         )],
     )?;
     push_tours(page, league, schedule)?;
-    push_parts(page, &[Part::Html(b"</table>")])
+    push_pieces(page, &[Piece::Html(b"</table>")])
 }
 
 fn push_tours(page: &mut Vec<u8>, league: &League, schedule: &Schedule) -> Result<(), AllocError>
@@ -153,34 +153,24 @@ fn push_tours(page: &mut Vec<u8>, league: &League, schedule: &Schedule) -> Resul
         ++ pieces_below (tour_row league.now schedule.now) schedule.now.teams) }
 {
     for team in 0..schedule.teams() {
-        push_tour(page, league, schedule, team)?;
+        push_tour(page, league, team, travel_of(schedule, league, team))?;
     }
     Ok(())
 }
 
-fn push_tour(
-    page: &mut Vec<u8>,
-    league: &League,
-    schedule: &Schedule,
-    team: u8,
-) -> Result<(), AllocError>
-    requires same { schedule.now.teams ≡ teams league.now }
-    requires team { team < schedule.now.teams }
-    ensures { OnOk result (page.new.items ≡ page.old.items ++ tour_row league.now schedule.now team) }
+fn push_tour(page: &mut Vec<u8>, league: &League, team: u8, travel: u64) -> Result<(), AllocError>
+    requires { team < teams league.now }
+    ensures { OnOk result (page.new.items ≡ page.old.items ++ travel_row league.now team travel) }
 {
-    let travel = travel_of(schedule, league, team);
-    push_parts(
+    push_team_head(page, league, team)?;
+    push_pieces(
         page,
         &[
-            Part::Html(b"<tr><th>"),
-            Part::Number(team as u64 + 1),
-            Part::Html(b" "),
-            Part::Name(league.name(team).as_bytes()),
-            Part::Html(b"</th><td>"),
-            Part::Number(travel),
-            Part::Html(b"</td><td class='bar'><div style='--tour:"),
-            Part::Number(travel),
-            Part::Html(b"'></div></td></tr>"),
+            Piece::Html(b"<td>"),
+            Piece::Number(travel),
+            Piece::Html(b"</td><td class='bar'><div style='--tour:"),
+            Piece::Number(travel),
+            Piece::Html(b"'></div></td></tr>"),
         ],
     )
 }
@@ -206,14 +196,14 @@ fn push_rule_table(
     requires { schedule.now.teams ≡ teams league.now }
     ensures { OnOk result (page.new.items ≡ page.old.items ++ rule_table league.now schedule.now) }
 {
-    push_parts(
+    push_pieces(
         page,
-        &[Part::Html(
+        &[Piece::Html(
             b"<h2>Rules</h2><p>Broken ones first.</p><table class='rules'><tr><th>Rule</th><th>Class</th><th>Kind</th><th>Deviation</th></tr>",
         )],
     )?;
     push_sorted_rules(page, league, schedule)?;
-    push_parts(page, &[Part::Html(b"</table>")])
+    push_pieces(page, &[Piece::Html(b"</table>")])
 }
 
 /// Adds the broken rules, and then the others.
@@ -262,23 +252,23 @@ fn push_rule(
     if (deviation > 0) != broken {
         return Ok(());
     }
-    push_parts(
+    push_pieces(
         page,
         &[
-            Part::Html(row_head(broken)),
-            Part::Number(i + 1),
-            Part::Html(b"</td><td>"),
-            Part::Html(class_name(&rule.body)),
-            Part::Html(b"</td><td>"),
+            Piece::Html(row_head(broken)),
+            Piece::Number(i + 1),
+            Piece::Html(b"</td><td>"),
+            Piece::Html(class_name(&rule.body)),
+            Piece::Html(b"</td><td>"),
         ],
     )?;
     push_weight(page, rule.weight)?;
-    push_parts(
+    push_pieces(
         page,
         &[
-            Part::Html(b"</td><td>"),
-            Part::Number(deviation),
-            Part::Html(b"</td></tr>"),
+            Piece::Html(b"</td><td>"),
+            Piece::Number(deviation),
+            Piece::Html(b"</td></tr>"),
         ],
     )
 }
@@ -297,10 +287,10 @@ fn push_weight(page: &mut Vec<u8>, weight: Weight) -> Result<(), AllocError>
     ensures { OnOk result (page.new.items ≡ page.old.items ++ weight_text weight) }
 {
     match weight {
-        Weight::Hard => push_parts(page, &[Part::Html(b"hard")]),
-        Weight::Soft(weight) => push_parts(
+        Weight::Hard => push_pieces(page, &[Piece::Html(b"hard")]),
+        Weight::Soft(weight) => push_pieces(
             page,
-            &[Part::Html(b"soft "), Part::Number(weight as u64)],
+            &[Piece::Html(b"soft "), Piece::Number(weight as u64)],
         ),
     }
 }

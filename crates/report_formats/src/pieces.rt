@@ -1,13 +1,13 @@
-//! Parts of a page: markup, names and numbers.
+//! Pieces of a page: markup, names and numbers.
 
 ghost use Rattle.std.specs.Prelude.{◌≡◌, ◌++◌, decimal, OnOk};
-ghost use Rattle.report_formats.specs.Parts.{escape_of, escaped, text_of_part, text_of_parts};
+ghost use Rattle.report_formats.specs.Pieces.{escape_of, escaped, text_of_piece, text_of_pieces};
 
 use std::alloc::AllocError;
 
-/// A part of a page.
+/// A piece of a page.
 #[derive(Clone, Copy)]
-pub(crate) enum Part<'a> {
+pub(crate) enum Piece<'a> {
     /// Markup, as it is.
     Html(&'a [u8]),
     /// A text that stands for itself, whatever it holds.
@@ -16,25 +16,25 @@ pub(crate) enum Part<'a> {
     Number(u64),
 }
 
-/// Adds the parts, one after another.
-pub(crate) fn push_parts(page: &mut Vec<u8>, parts: &[Part<'_>]) -> Result<(), AllocError>
-    ensures { OnOk result (page.new.items ≡ page.old.items ++ text_of_parts parts.now) }
+/// Adds the pieces, one after another.
+pub(crate) fn push_pieces(page: &mut Vec<u8>, pieces: &[Piece<'_>]) -> Result<(), AllocError>
+    ensures { OnOk result (page.new.items ≡ page.old.items ++ text_of_pieces pieces.now) }
 {
-    let mut rest = parts;
-    while let [part, later @ ..] = rest {
-        push_part(page, *part)?;
+    let mut rest = pieces;
+    while let [piece, later @ ..] = rest {
+        push_piece(page, *piece)?;
         rest = later;
     }
     Ok(())
 }
 
-fn push_part(page: &mut Vec<u8>, part: Part<'_>) -> Result<(), AllocError>
-    ensures { OnOk result (page.new.items ≡ page.old.items ++ text_of_part part.entry) }
+fn push_piece(page: &mut Vec<u8>, piece: Piece<'_>) -> Result<(), AllocError>
+    ensures { OnOk result (page.new.items ≡ page.old.items ++ text_of_piece piece.entry) }
 {
-    match part {
-        Part::Html(text) => page.extend_from_slice(text),
-        Part::Name(text) => push_escaped(page, text),
-        Part::Number(number) => push_number(page, number),
+    match piece {
+        Piece::Html(text) => page.extend_from_slice(text),
+        Piece::Name(text) => push_escaped(page, text),
+        Piece::Number(number) => push_number(page, number),
     }
 }
 

@@ -3,86 +3,86 @@
 ghost use Rattle.std.specs.Prelude.{◌≡◌, ◌++◌, OnOk};
 ghost use Rattle.report_formats.specs.Style.{style_text};
 
-use crate::parts::{Part, push_parts};
+use crate::pieces::{Piece, push_pieces};
 use std::alloc::AllocError;
 
 /// Adds the page up to the number of teams, which its lines of style take from it.
 pub(crate) fn push_style(page: &mut Vec<u8>) -> Result<(), AllocError>
     ensures { OnOk result (page.new.items ≡ page.old.items ++ style_text) }
 {
-    push_parts(
+    push_pieces(
         page,
         &[
-            Part::Html(b"<!DOCTYPE html>\n"),
-            Part::Html(b"<html lang='en'><head><meta charset='utf-8'><title>Schedule</title>\n"),
-            Part::Html(
+            Piece::Html(b"<!DOCTYPE html>\n"),
+            Piece::Html(b"<html lang='en'><head><meta charset='utf-8'><title>Schedule</title>\n"),
+            Piece::Html(
                 b"<meta name='viewport' content='width=device-width, initial-scale=1'><style>\n",
             ),
-            Part::Html(
+            Piece::Html(
                 b":root { color-scheme: light dark; --back: #fff; --text: #1c1d21; --pale: #5d6168; --line: #d3d6db }\n",
             ),
-            Part::Html(b":root { --home: #dbe9fa; --bad: #b3261e; --bar: #3f7fbf }\n"),
-            Part::Html(
+            Piece::Html(b":root { --home: #dbe9fa; --bad: #b3261e; --bar: #3f7fbf }\n"),
+            Piece::Html(
                 b"@media (prefers-color-scheme: dark) { :root { --back: #17191d; --text: #e5e6e9; --pale: #a3a7ae }\n",
             ),
-            Part::Html(
+            Piece::Html(
                 b":root { --line: #3c4048; --home: #20405f; --bad: #ff8a80; --bar: #6aa9e9 } }\n",
             ),
-            Part::Html(
+            Piece::Html(
                 b"body { margin: 0 auto; padding: 1rem; max-width: 100rem; font: 1rem/1.4 sans-serif }\n",
             ),
-            Part::Html(
+            Piece::Html(
                 b"body { background: var(--back); color: var(--text) } p { margin: 0 0 .5rem; color: var(--pale) }\n",
             ),
-            Part::Html(
+            Piece::Html(
                 b"h1 { font-size: 1.4rem } h2 { font-size: 1.15rem; margin: 1.5rem 0 .3rem }\n",
             ),
-            Part::Html(
+            Piece::Html(
                 b"ul { display: flex; flex-wrap: wrap; gap: .5rem; margin: 0; padding: 0; list-style: none }\n",
             ),
-            Part::Html(
+            Piece::Html(
                 b"li { border: 1px solid var(--line); border-radius: .4rem; padding: .3rem .7rem }\n",
             ),
-            Part::Html(
+            Piece::Html(
                 b"table { border-collapse: collapse; font-variant-numeric: tabular-nums }\n",
             ),
-            Part::Html(
+            Piece::Html(
                 b"th, td { border: 1px solid var(--line); padding: .15rem .45rem; text-align: right }\n",
             ),
-            Part::Html(
+            Piece::Html(
                 b"th:first-child { text-align: left } .wide { overflow-x: auto } p span { padding: .1rem .4rem }\n",
             ),
-            Part::Html(
+            Piece::Html(
                 b".wide th:first-child { position: sticky; left: 0; z-index: 1; background: var(--back) }\n",
             ),
-            Part::Html(
+            Piece::Html(
                 b".wide th:first-child { max-width: min(12rem, 30vw); overflow: hidden; white-space: nowrap }\n",
             ),
-            Part::Html(b".wide th:first-child { text-overflow: ellipsis }\n"),
-            Part::Html(b".travel th { min-width: min(12rem, 30vw); overflow-wrap: anywhere }\n"),
-            Part::Html(
+            Piece::Html(b".wide th:first-child { text-overflow: ellipsis }\n"),
+            Piece::Html(b".travel th { min-width: min(12rem, 30vw); overflow-wrap: anywhere }\n"),
+            Piece::Html(
                 b".h { background: var(--home) } .o { box-shadow: inset 0 0 0 .12em var(--bad) }\n",
             ),
-            Part::Html(b".r { outline: .12em dashed var(--bad); outline-offset: -.25em }\n"),
-            Part::Html(
+            Piece::Html(b".r { outline: .12em dashed var(--bad); outline-offset: -.25em }\n"),
+            Piece::Html(
                 b".bad { color: var(--bad); font-weight: bold } .travel { width: 100% } .bar { width: 100%; padding: 0 }\n",
             ),
-            Part::Html(
+            Piece::Html(
                 b".bar { background: linear-gradient(var(--line), var(--line)) 50% / 1px 100% no-repeat }\n",
             ),
-            Part::Html(
+            Piece::Html(
                 b".bar div { width: calc(100% * var(--tour) * var(--teams) / (2 * var(--travel))) }\n",
             ),
-            Part::Html(b".bar div { height: .8em; max-width: 100%; background: var(--bar) }\n"),
-            Part::Html(
+            Piece::Html(b".bar div { height: .8em; max-width: 100%; background: var(--bar) }\n"),
+            Piece::Html(
                 b"@media print { @page { size: landscape; margin: 10mm } * { print-color-adjust: exact }\n",
             ),
-            Part::Html(
+            Piece::Html(
                 b".wide { overflow: visible } body { padding: 0; font-size: 10pt } tr { break-inside: avoid }\n",
             ),
-            Part::Html(b".grid { font-size: min(10pt, 270mm / (var(--rounds) * 2.4 + 12)) }\n"),
-            Part::Html(b".grid th, .grid td { padding: .05em .1em; min-width: 2em } }\n"),
-            Part::Html(b"</style></head><body style='--teams:"),
+            Piece::Html(b".grid { font-size: min(10pt, 270mm / (var(--rounds) * 2.4 + 12)) }\n"),
+            Piece::Html(b".grid th, .grid td { padding: .05em .1em; min-width: 2em } }\n"),
+            Piece::Html(b"</style></head><body style='--teams:"),
         ],
     )
 }

@@ -9,4 +9,4 @@ returns c =
       c.word_if-4.ensures,
       c.meets_again.ensures,
       c.game_at-game.ensures.value,
-    ) at c.push_parts.ensures
+    ) at c.push_pieces.ensures

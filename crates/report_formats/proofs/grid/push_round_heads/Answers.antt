@@ -3,4 +3,4 @@ use Rattle.report_formats.proofs.Pushes.{piece_added}
 use Rattle.report_formats.proofs.grid.push_round_heads.Goals as goal
 
 pub loop-round-preserved : goal.loop-round-preserved
-loop-round-preserved c = piece_added _ _ _ round_head c.loop-round.round c.loop-round.invariant c.in_ok-push_parts.ensures
+loop-round-preserved c = piece_added _ _ _ round_head c.loop-round.round c.loop-round.invariant c.in_ok-push_pieces.ensures

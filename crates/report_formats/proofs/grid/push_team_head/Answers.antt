@@ -1,4 +1,6 @@
-use Rattle.report_formats.proofs.page.push_tour.Goals as goal
+use Rattle.report_formats.specs.Grid.{team_head}
+use Rattle.report_formats.proofs.grid.push_team_head.Goals as goal
 
 pub returns : goal.returns
-returns c = rw (c.as_bytes.ensures.value, c.name.ensures, c.travel_of-travel.ensures.value) at c.push_parts.ensures
+unfolding team_head
+returns c = rw (c.as_bytes.ensures.value, c.name.ensures) at c.push_pieces.ensures
