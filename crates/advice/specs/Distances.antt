@@ -16,7 +16,7 @@ use Rattle.advice.specs.Places.{item_count, first_below}
 abbrev pub entry : Data → ℕ → ℕ → Option ℕ
 entry table row column = option_and_then whole_number (option_and_then (at column) (at row table))
 
--- the same, or 0 where there is none
+-- the same, or 0 if there is none
 abbrev pub distance : Data → ℕ → ℕ → ℕ
 distance table row column = unwrap_or (entry table row column) 0
 

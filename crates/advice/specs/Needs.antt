@@ -34,7 +34,7 @@ is_kind (Some kind) = bytes_eq kind (codes "hard") || bytes_eq kind (codes "soft
 abbrev pub number_member : List ℕ → ℕ → ℕ → Data → Option ℕ
 number_member name low high d = option_and_then (number_within low high) (get name d)
 
--- a least and a most number, where both are there, are in order
+-- a least and a most number, if both are there, are in order
 abbrev pub are_in_order : Option ℕ → Option ℕ → Bool
 are_in_order (Some min) (Some max) = nat_le min max
 are_in_order (Some min) None = true

@@ -3,12 +3,12 @@
 ghost use Rattle.std.specs.Prelude.{◌≡◌, is_some, option_map};
 ghost use Rattle.serde_json.specs.View.{view, items_view};
 ghost use Rattle.league.specs.Json.{all_items, array_of, number_within};
-ghost use Rattle.league.specs.RuleMembers.{text_member, number_set, game_of};
+ghost use Rattle.league.specs.RuleMembers.{text_member, number_set, pairing_from};
 ghost use Rattle.advice.specs.Places.{item_count};
 
 use serde_json::Value;
 
-/// How many items an array has; 0 where the value is no array.
+/// How many items an array has; 0 if the value is no array.
 #[tactic(auto, using(league::proofs::Items::items_len_same))]
 pub(crate) fn item_count(value: &Value) -> usize
     ensures { result ≡ item_count (view value.now) }
@@ -58,7 +58,7 @@ fn are_numbers(items: &[Value], most: u64) -> bool
 
 /// Whether the value is an array of games of so many teams.
 pub(crate) fn is_game_array(value: &Value, teams: u64) -> bool
-    ensures { result ≡ is_some (array_of (game_of teams) (view value.now)) }
+    ensures { result ≡ is_some (array_of (pairing_from teams) (view value.now)) }
 {
     match value.as_array() {
         Some(items) => are_games(items, teams),
@@ -67,7 +67,7 @@ pub(crate) fn is_game_array(value: &Value, teams: u64) -> bool
 }
 
 fn are_games(items: &[Value], teams: u64) -> bool
-    ensures { result ≡ is_some (all_items (game_of teams) (items_view items.now)) }
+    ensures { result ≡ is_some (all_items (pairing_from teams) (items_view items.now)) }
 {
     for item in items {
         if !is_game(item, teams) {
@@ -80,7 +80,7 @@ fn are_games(items: &[Value], teams: u64) -> bool
 /// Whether the value is an array of two distinct numbers from 1 to `teams`.
 #[tactic(auto, using(league::proofs::Items::game_of_items_none))]
 fn is_game(value: &Value, teams: u64) -> bool
-    ensures { result ≡ is_some (game_of teams (view value.now)) }
+    ensures { result ≡ is_some (pairing_from teams (view value.now)) }
 {
     let Some(items) = value.as_array() else {
         return false;

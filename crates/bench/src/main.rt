@@ -1,6 +1,6 @@
 //! How fast moves, tries, a worker's steps and turns are, on the starts of leagues in a circle.
 //!
-//! The first argument says how many of each are measured, 100 where it is absent. What became of them goes to standard
+//! The first argument says how many of each are measured, 100 if it is absent. What became of them goes to standard
 //! output, how fast they were to standard error.
 #![tactic(auto)]
 

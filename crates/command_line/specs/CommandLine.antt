@@ -19,7 +19,7 @@ use Rattle.report_formats.specs.declared.format.Format.{Format}
 use Rattle.report_formats.specs.declared.format.Format.TheVariants as formats
 use Rattle.search.specs.declared.runs.SearchPlan.{SearchPlan}
 
--- an option `--name VALUE`: what clap asks of the value, and what stands for it where it isn't given
+-- an option `--name VALUE`: what clap asks of the value, and what stands for it if it isn't given
 pub record OptionForm : Type 0 where
   pub name : Text
   pub parser : ValueParser

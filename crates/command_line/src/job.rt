@@ -44,7 +44,7 @@ pub enum Job {
     Report(Format),
 }
 
-/// Reads the program's words, the first of which is its name. The error is clap's, or in clap's form where no format has the
+/// Reads the program's words, the first of which is its name. The error is clap's, or in clap's form if no format has the
 /// name that is given: its text, which for `--help` and `--version` is no fault, and its exit status.
 pub fn args(alloc: Global, words: &[String]) -> Result<Job, Error>
     ensures fault { FailsBy (words_fault (map string_bytes words.now)) result }

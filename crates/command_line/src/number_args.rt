@@ -1,4 +1,4 @@
-//! The options of the commands: `--name N`, where N is a whole number.
+//! The options of the commands: `--name N`. N is a whole number.
 
 ghost use Rattle.std.specs.Prelude.{◌≡◌, ◌≤◌, Some, false};
 ghost use Rattle.clap.specs.Words.{found_of, rows_of, rule_of as rule_of_arg};
@@ -17,7 +17,7 @@ const MAX_STEPS: u64 = 1_000_000;
 /// The most millions of steps of an improvement.
 const MAX_EFFORT: u64 = 1000;
 
-/// An option: the range of its number, and what stands for it where it isn't given.
+/// An option: the range of its number, and what stands for it if it isn't given.
 #[derive(Clone, Copy)]
 pub(crate) struct NumberArg {
     name: &'static str,

@@ -30,7 +30,7 @@ pub record IsSearchText (league : LeagueData) (room : ℕ) (plan : SearchPlan) (
   pub text_is : text ≡ search_text outcome
   pub again : PlaysBack league room outcome.board.history
 
--- the league that the input stands for, where the room is that of a board and these workers can be had, or not
+-- the league that the input stands for, if the room is that of a board and these workers can be had, or not
 abbrev pub Runs : ℕ → List ℕ → Type 0 → Type 0
 Runs room input workers =
     (league : LeagueData) × (league_of input ≡ Ok league) × (room ≤ max_room) × workers

@@ -49,7 +49,7 @@ module _ {R W : Type 0} (left : R → Option (List ℕ)) (pulls : R → Tally) (
     pub failed_read : (pulls old).failed < (pulls new).failed → result ≡ Err Read
     pub reads : (pulls new).calls ≤ (pulls old).calls + read_limit
 
--- the value that a command ends with, where it does its work
+-- the value that a command ends with, if it does its work
 abbrev pub value_of : {T : Type 0} → Result T ProgramFault → Option T
 value_of (Ok value) = Some value
 value_of (Err fault) = None

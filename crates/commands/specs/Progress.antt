@@ -35,12 +35,12 @@ abbrev pub last_after : Bool → Option Instant → Instant → Option Instant
 last_after taken None now = Some now
 last_after taken (Some last) now = if is_due taken (Some last) now then Some now else Some last
 
--- the time that was noted, or this one where there was none
+-- the time that was noted, or this one if there was none
 abbrev pub first : Option Instant → Instant → Option Instant
 first None now = Some now
 first (Some noted) now = Some noted
 
--- after how many steps a worker tells, where it told after so many before. Less than 8 milliseconds since the last telling double
+-- after how many steps a worker tells, if it told after so many before. Less than 8 milliseconds since the last telling double
 -- it, up to 4096; more than 64 halve it
 abbrev pub pause_after : ℕ → Option Instant → Instant → ℕ
 pause_after pause None now = pause
@@ -49,7 +49,7 @@ pause_after pause (Some told) now =
     else if nat_lt 64 (millis told now) then max (pause / 2) 1
     else pause
 
--- what takes the line away where one stands
+-- what takes the line away if one stands
 abbrev pub line_to_clear : Bool → List ℕ
 line_to_clear false = []
 line_to_clear true = clear_line

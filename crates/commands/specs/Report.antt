@@ -20,7 +20,7 @@ abbrev pub verdict_of : Bool → Verdict
 verdict_of true = Feasible
 verdict_of false = Infeasible
 
--- the verdict on the games, where one is told
+-- the verdict on the games, if one is told
 abbrev pub IsToldOf : LeagueData → Option Games → Option Verdict → Type 0
 IsToldOf league games None = Unit {0}
 IsToldOf league games (Some verdict) = verdict ≡ verdict_of (is_feasible league games)
@@ -39,7 +39,7 @@ pub record IsRefused (bytes : List ℕ) (fault : LeagueFault) (hint : Option Hin
   pub fault_is : league_of bytes ≡ Err fault
   pub hint_is : IsHint bytes fault hint
 
--- a fault that a text has, and the hint where there is one, unless memory ran out
+-- a fault that a text has, and the hint if there is one, unless memory ran out
 abbrev pub IsRefusal : List ℕ → ProgramFault → Type 0
 IsRefusal bytes (League fault) = IsRefused bytes fault None
 IsRefusal bytes (LeagueAt fault hint) = IsRefused bytes fault (Some hint)

@@ -36,11 +36,11 @@ impl Verdict {
 }
 
 /// Reads a league, a line `sheet` and a schedule to the end of the source, and writes the report: the games and what they
-/// cost in the format where they are a double round robin of the league's teams, and else what is wrong with them, as text. Behind
+/// cost in the format if they are a double round robin of the league's teams, otherwise what is wrong with them, as text. Behind
 /// a text stands a remark on each member of the league that no format knows. A league that is refused comes with a hint.
 /// Nothing is written before all other faults are past, and no memory is taken from then on.
 ///
-/// The outcome is that of [`report_from`], where what the source became is some later state.
+/// The outcome is that of [`report_from`]. What the source became is some later state.
 pub fn report<R: Source + Drop, W: Sink>(
     alloc: Global,
     mut source: R,

@@ -16,7 +16,7 @@ use Rattle.fixture_board.specs.Credited.{credited_entry, credited, IsSameCredite
 use Rattle.fixture_board.specs.History.{effect, effective, effective_after, games_after, games_of, pins_after, pins_of}
 use Rattle.fixture_board.specs.History.{Fits, May, legal_after, IsLegal, cost_at, better, best_after, best_prefix}
 use Rattle.fixture_board.specs.History.{as_best, best_of}
-use Rattle.fixture_board.specs.Kept.{IsLeader, Kept, IsKept}
+use Rattle.fixture_board.specs.Kept.{IsLeader, Kept, FollowsHistory}
 use Rattle.fixture_board.specs.PinPlaces.{ArePinsAt}
 use Rattle.fixture_board.proofs.OneMore.{effective-more, games_of-by, pins_of-by}
 
@@ -184,9 +184,9 @@ IsLeader-credited league caller (Some p) best g leader = (
   leader.1 ∙ sym (games_of-credited league caller p),
 )
 
-pub IsKept-credited : {league : LeagueData} {k : Kept} (caller : ℕ) → IsKept league k →
-    IsKept league (record k { history = credited caller k.history })
-IsKept-credited {league} {k} caller kept = record {
+pub FollowsHistory-credited : {league : LeagueData} {k : Kept} (caller : ℕ) → FollowsHistory league k →
+    FollowsHistory league (record k { history = credited caller k.history })
+FollowsHistory-credited {league} {k} caller kept = record {
   league_is = kept.league_is;
   room_most = kept.room_most;
   within = omega (arith, length-credited caller k.history, kept.within);

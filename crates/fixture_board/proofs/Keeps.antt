@@ -18,10 +18,10 @@ use Rattle.fixture_board.specs.declared.ask.Ask.TheVariants as ask
 use Rattle.fixture_board.specs.declared.ask.Proposal.{Proposal}
 use Rattle.fixtures.specs.Start.{start_of}
 use Rattle.fixture_board.specs.History.{effect, effective, shifted, games_after, games_of, pinned, pins_after, pins_of}
-use Rattle.fixture_board.specs.History.{is_in_range, is_there, AllStand, Fits, May, IsLegal, max_room, cost_at, better}
+use Rattle.fixture_board.specs.History.{is_game_in_range, is_there, AllStand, Fits, May, IsLegal, max_room, cost_at, better}
 use Rattle.fixture_board.specs.History.{best_prefix, best_at, as_best, best_of}
 use Rattle.fixture_board.specs.PinPlaces.{ArePinsAt, taken_back}
-use Rattle.fixture_board.specs.Kept.{IsLeader, Kept, IsKept, IsGranted, entered, CanTakeBack, leads, led_by}
+use Rattle.fixture_board.specs.Kept.{IsLeader, Kept, FollowsHistory, IsGranted, entered, CanTakeBack, leads, led_by}
 use Rattle.fixture_board.specs.Laws.{IsSound}
 use Rattle.fixture_board.specs.Replies.{change_of, refusal, entry}
 use Rattle.fixture_board.proofs.OneMore.{effective-none, effective-more, games_of-none, pins_of-none, games_of-by}
@@ -78,13 +78,13 @@ effect-length changes Undo = omega (arith, length-take (length changes - 1) chan
 length-more : (h : List Entry) (e : Entry) → length (h ++ e ∷ []) ≡ length h + 1
 length-more h e = omega (arith, length-append h (e ∷ []))
 
-pub IsKept-more : {league : LeagueData} {k : Kept} (e : Entry) (changes : List Change) (g : Games) (pins : List ℕ) (cost : Cost) →
-    IsKept league k → length k.history < k.room → May league k.history e.change → changes ≡ effect k.changes e.change →
+pub FollowsHistory-more : {league : LeagueData} {k : Kept} (e : Entry) (changes : List Change) (g : Games) (pins : List ℕ) (cost : Cost) →
+    FollowsHistory league k → length k.history < k.room → May league k.history e.change → changes ≡ effect k.changes e.change →
     g ≡ games_of league (k.history ++ e ∷ []) → length pins ≡ 1600 → ArePinsAt g (pins_of (k.history ++ e ∷ [])) pins →
     cost ≡ cost_of league g →
-    IsKept league (entered (record k { changes = changes; games = g; pins = pins; cost = cost }) e)
+    FollowsHistory league (entered (record k { changes = changes; games = g; pins = pins; cost = cost }) e)
 unfolding cost_at
-IsKept-more {league} {k} e changes g pins cost kept under may changes_are games_are size pins_are cost_is =
+FollowsHistory-more {league} {k} e changes g pins cost kept under may changes_are games_are size pins_are cost_is =
     let h : List Entry = k.history ++ e ∷ [] in
     let legal : IsLegal league k.room h = IsLegal-more league k.room k.history e kept.legal under may in
     let same : g.teams ≡ teams league = ap (λ (x : Games). x.teams) games_are ∙ games_of-teams league h in
@@ -111,20 +111,20 @@ IsKept-more {league} {k} e changes g pins cost kept under may changes_are games_
 
 -- what is known of a board's schedule and its pins
 
-pub IsSound-kept : {league : LeagueData} {k : Kept} → IsKept league k → IsDoubleRoundRobin k.games × AllStand k.games (pins_of k.history)
+pub IsSound-kept : {league : LeagueData} {k : Kept} → FollowsHistory league k → IsDoubleRoundRobin k.games × AllStand k.games (pins_of k.history)
 IsSound-kept {league} {k} kept =
     let sound : IsSound league k.history = IsSound-legal league k.room k.history kept.league_is kept.legal in
     let is = sym kept.games_are in
     (subst IsDoubleRoundRobin is sound.robin, subst (λ x. AllStand x (pins_of k.history)) is sound.stand)
 
-pub known_cost : {league : LeagueData} {k : Kept} → IsKept league k → k.cost ≡ cost_of league k.games
+pub known_cost : {league : LeagueData} {k : Kept} → FollowsHistory league k → k.cost ≡ cost_of league k.games
 unfolding cost_at
 known_cost {league} kept = kept.cost_is ∙ ap (cost_of league) (sym kept.games_are)
 
 -- a granted change
 
 IsGranted-by : {league : LeagueData} {k : Kept} (asked : Ask) (changes : List Change) (g : Games) (pins : List ℕ) (cost : Cost) →
-    IsKept league k → refusal league k.room k.history asked ≡ None → changes ≡ effect k.changes (change_of asked) →
+    FollowsHistory league k → refusal league k.room k.history asked ≡ None → changes ≡ effect k.changes (change_of asked) →
     ((caller : ℕ) → g ≡ games_of league (k.history ++ entry caller asked ∷ [])) → length pins ≡ 1600 →
     ((caller : ℕ) → ArePinsAt g (pins_of (k.history ++ entry caller asked ∷ [])) pins) → cost ≡ cost_of league g →
     IsGranted league k (record k { changes = changes; games = g; pins = pins; cost = cost }) asked
@@ -136,12 +136,12 @@ IsGranted-by {league} {k} asked changes g pins cost kept granted changes_are gam
       same_history = refl;
       under = can.under;
       kept = λ caller.
-          IsKept-more (entry caller asked) changes g pins cost kept can.under can.may changes_are (games_are caller) size
+          FollowsHistory-more (entry caller asked) changes g pins cost kept can.under can.may changes_are (games_are caller) size
           (pins_are caller) cost_is;
     }
 
 -- a change of the pins alone
-IsGranted-pins : {league : LeagueData} {k : Kept} (asked : Ask) (table : List ℕ) → IsKept league k →
+IsGranted-pins : {league : LeagueData} {k : Kept} (asked : Ask) (table : List ℕ) → FollowsHistory league k →
     refusal league k.room k.history asked ≡ None →
     ((changes : List Change) → effect changes (change_of asked) ≡ changes ++ change_of asked ∷ []) →
     ((g : Games) → shifted g (change_of asked) ≡ g) → length table ≡ length k.pins →
@@ -157,21 +157,21 @@ IsGranted-pins {league} {k} asked table kept granted appended stays size are =
     subst (λ p. ArePinsAt k.games p table) (sym (pins_of-more k.history (entry caller asked) (appended (effective k.history)))) are)
     (known_cost kept)
 
-pub IsGranted-pin : {league : LeagueData} {k : Kept} (version : ℕ) (game : Game) → IsKept league k →
+pub IsGranted-pin : {league : LeagueData} {k : Kept} (version : ℕ) (game : Game) → FollowsHistory league k →
     refusal league k.room k.history (ask.Pin version game) ≡ None →
     IsGranted league k (record k { changes = k.changes ++ Pin game ∷ []; pins = slice_set k.pins (game.home * 40 + game.away) game.round })
     (ask.Pin version game)
 IsGranted-pin {league} {k} version game kept granted =
     let fits : Fits (games_of league k.history) (pins_of k.history) (Pin game) =
     (can_make league k.room k.history (ask.Pin version game) kept.within granted).may in
-    let range : is_in_range k.games game ≡ true = subst (λ x. is_in_range x game ≡ true) (sym kept.games_are) fits.0 in
+    let range : is_game_in_range k.games game ≡ true = subst (λ x. is_game_in_range x game ≡ true) (sym kept.games_are) fits.0 in
     let there : is_there k.games game ≡ true = subst (λ x. is_there x game ≡ true) (sym kept.games_are) fits.1 in
     IsGranted-pins (ask.Pin version game) (slice_set k.pins (game.home * 40 + game.away) game.round) kept granted (λ changes. refl)
     (λ g. refl)
     (length-set k.pins (game.home * 40 + game.away) game.round)
     (ArePinsAt-pin k.games (pins_of k.history) k.pins game (IsSound-kept kept).0.most kept.pins_length range there kept.pins_are)
 
-pub IsGranted-unpin : {league : LeagueData} {k : Kept} (version : ℕ) (game : Game) → IsKept league k →
+pub IsGranted-unpin : {league : LeagueData} {k : Kept} (version : ℕ) (game : Game) → FollowsHistory league k →
     refusal league k.room k.history (ask.Unpin version game) ≡ None →
     IsGranted league k (record k { changes = k.changes ++ Unpin game ∷ []; pins = slice_set k.pins (game.home * 40 + game.away) 255 })
     (ask.Unpin version game)
@@ -184,7 +184,7 @@ IsGranted-unpin {league} {k} version game kept granted =
     (length-set k.pins (game.home * 40 + game.away) 255)
     (ArePinsAt-unpin k.games (pins_of k.history) k.pins game sound.0.most kept.pins_length stands.0 stands.1 sound.1 kept.pins_are)
 
-pub IsGranted-shift : {league : LeagueData} {k : Kept} (p : Proposal) (g : Games) (cost : Cost) → IsKept league k →
+pub IsGranted-shift : {league : LeagueData} {k : Kept} (p : Proposal) (g : Games) (cost : Cost) → FollowsHistory league k →
     refusal league k.room k.history (ask.Shift p) ≡ None → g ≡ moved k.games p.mv → cost ≡ cost_of league g →
     IsGranted league k (record k { changes = k.changes ++ Shift p.mv ∷ []; games = g; cost = cost }) (ask.Shift p)
 IsGranted-shift {league} {k} p g cost kept granted moved_is cost_is =
@@ -217,7 +217,7 @@ record LastKept (league : LeagueData) (h : List Entry) (g : Games) (prefix : Lis
   pins_are : pins_of h ≡ pinned (pins_after [] prefix) change
 
 last_kept : {league : LeagueData} {k : Kept}
-    (prefix : List Change) (change : Change) → IsKept league k →
+    (prefix : List Change) (change : Change) → FollowsHistory league k →
     k.changes ≡ prefix ++ change ∷ [] → LastKept league k.history k.games prefix change
 last_kept {league} {k} prefix change kept are =
     let last : effective k.history ≡ prefix ++ change ∷ [] = sym kept.effective_is ∙ are in
@@ -241,7 +241,7 @@ can_take_back g pins (Unpin game) robin stand fits =
 can_take_back g pins Undo robin stand fits = tt
 
 pub CanTakeBack-last : {league : LeagueData} {k : Kept}
-    (prefix : List Change) (change : Change) → IsKept league k →
+    (prefix : List Change) (change : Change) → FollowsHistory league k →
     k.changes ≡ prefix ++ change ∷ [] → CanTakeBack k.games change
 CanTakeBack-last prefix change kept are =
     let known = last_kept prefix change kept are in
@@ -274,7 +274,7 @@ ArePinsAt-taken_back g pins table (Unpin game) robin stand fits after size are =
     ArePinsAt-unpin_back g pins table game robin.most size stands.0 stands.1 stand fits are
 ArePinsAt-taken_back g pins table Undo robin stand fits after size are = are
 
-pub IsGranted-undo : {league : LeagueData} {k : Kept} (version : ℕ) (prefix : List Change) (change : Change) → IsKept league k →
+pub IsGranted-undo : {league : LeagueData} {k : Kept} (version : ℕ) (prefix : List Change) (change : Change) → FollowsHistory league k →
     refusal league k.room k.history (ask.Undo version) ≡ None → k.changes ≡ prefix ++ change ∷ [] →
     IsGranted league k (record k {
       changes = prefix;
@@ -311,9 +311,9 @@ IsGranted-undo {league} {k} version prefix change kept granted are =
 
 -- a new board
 
-pub IsKept-start : (league : LeagueData) (room : ℕ) (cost : Cost) (best_g : Games) → IsLeague league → room ≤ max_room →
+pub FollowsHistory-start : (league : LeagueData) (room : ℕ) (cost : Cost) (best_g : Games) → IsLeague league → room ≤ max_room →
     cost ≡ cost_of league (start_of league) →
-    IsKept league (record {
+    FollowsHistory league (record {
       room = room;
       history = [];
       changes = [];
@@ -324,7 +324,7 @@ pub IsKept-start : (league : LeagueData) (room : ℕ) (cost : Cost) (best_g : Ga
       best_games = if leads None cost then start_of league else best_g;
     })
 unfolding cost_at
-IsKept-start league room cost best_g is most cost_is =
+FollowsHistory-start league room cost best_g is most cost_is =
     let start : start_of league ≡ games_of league [] = sym (games_of-none league) in
     let cost_here : cost ≡ cost_of league (games_of league []) = cost_is ∙ ap (cost_of league) start in
     record {

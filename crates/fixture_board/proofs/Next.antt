@@ -14,7 +14,7 @@ use Rattle.fixture_board.specs.declared.ask.Ask.{Ask}
 use Rattle.fixture_board.specs.declared.ask.Ask.TheVariants as ask
 use Rattle.fixture_board.specs.declared.reply.Why.{Why}
 use Rattle.fixture_board.specs.declared.reply.Why.TheVariants as why
-use Rattle.fixture_board.specs.History.{effect, effective, games_of, pins_of, has_game, is_in_range, is_there}
+use Rattle.fixture_board.specs.History.{effect, effective, games_of, pins_of, has_game, is_game_in_range, is_there}
 use Rattle.fixture_board.specs.History.{moves_pin, May, legal_after, IsLegal, cost_at, better, best_prefix, as_best}
 use Rattle.fixture_board.specs.History.{best_of}
 use Rattle.fixture_board.specs.Replies.{change_of, is_bad, is_meeting, first_of, version_rows, game_rows, move_rows}
@@ -67,7 +67,7 @@ can_make league room h (ask.Pin version game) within none =
     let rows = passed (game_rows (length h) room version g game ++ (has_game (pins_of h) game, why.AlreadyPinned) ∷ []) none in
     record {
       under = has_room (length h) room within rows.1.1.0;
-      may = (not-false (is_in_range g game) rows.1.1.1.0, not-false (is_there g game) rows.1.1.1.1.0, rows.1.1.1.1.1.0);
+      may = (not-false (is_game_in_range g game) rows.1.1.1.0, not-false (is_there g game) rows.1.1.1.1.0, rows.1.1.1.1.1.0);
     }
 can_make league room h (ask.Unpin version game) within none =
     let rows = passed (game_rows (length h) room version (games_of league h) game ++ (not (has_game (pins_of h) game), why.NotPinned) ∷ [])

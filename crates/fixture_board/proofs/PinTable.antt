@@ -10,7 +10,7 @@ use Rattle.std.proofs.lemmas.List.Sums.{sum_by-cons}
 use Rattle.std.proofs.lemmas.List.{get_or-set_same, get_or-set_other, get_or-replicate}
 use Rattle.fixtures.specs.declared.game.Game.{Game}
 use Rattle.fixtures.specs.Games.{Games, round_of, round_count, IsPair, IsDoubleRoundRobin}
-use Rattle.fixture_board.specs.History.{is_game, has_game, is_pinned, is_in_range, is_there, moves_pin, AllStand}
+use Rattle.fixture_board.specs.History.{is_game, has_game, is_pinned, is_game_in_range, is_there, moves_pin, AllStand}
 use Rattle.fixture_board.specs.PinPlaces.{pin_at, ArePinsAt}
 
 -- what is read after a write
@@ -69,7 +69,7 @@ is_game-pair g game pin there pin_there =
 
 -- the range of a game's numbers
 
-pub IsPair-in_range : (g : Games) (game : Game) → is_in_range g game ≡ true → IsPair g.teams game.home game.away
+pub IsPair-in_range : (g : Games) (game : Game) → is_game_in_range g game ≡ true → IsPair g.teams game.home game.away
 IsPair-in_range g game range =
     let round : Bool = nat_lt game.round (round_count g.teams) in
     let home : Bool = nat_lt game.home g.teams in
@@ -185,7 +185,7 @@ is_pinned-without_other (pin ∷ pins) game h a other =
     (is_pinned-without_other pins game h a other)
 
 module _ (g : Games) (pins : List Game) (table : List ℕ) (game : Game) (forty : g.teams ≤ 40) (size : length table ≡ 1600)
-    (range : is_in_range g game ≡ true) (there : is_there g game ≡ true) where
+    (range : is_game_in_range g game ≡ true) (there : is_there g game ≡ true) where
   home_below : game.home < 40
   home_below = omega (arith, (IsPair-in_range g game range).home_in)
 

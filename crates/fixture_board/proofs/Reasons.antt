@@ -18,10 +18,10 @@ use Rattle.fixture_board.specs.declared.ask.Proposal.{Proposal}
 use Rattle.fixture_board.specs.declared.reply.Why.{Why}
 use Rattle.fixture_board.specs.declared.reply.Why.TheVariants as why
 use Rattle.fixture_board.specs.declared.reply.Reply.TheVariants.{Done, No}
-use Rattle.fixture_board.specs.History.{games_of, pins_of, has_game, is_in_range, is_there, moves_pin, AllStand}
+use Rattle.fixture_board.specs.History.{games_of, pins_of, has_game, is_game_in_range, is_there, moves_pin, AllStand}
 use Rattle.fixture_board.specs.History.{cost_at}
 use Rattle.fixture_board.specs.PinPlaces.{pin_at, ArePinsAt}
-use Rattle.fixture_board.specs.Kept.{Kept, IsKept, IsRefused, IsGranted, IsStep, entered}
+use Rattle.fixture_board.specs.Kept.{Kept, FollowsHistory, IsRefused, IsGranted, IsStep, entered}
 use Rattle.fixture_board.specs.Replies.{first_of, version_rows, game_rows, move_rows, score_rows, refusal, entry}
 use Rattle.fixture_board.specs.Replies.{next_of, reply_of}
 use Rattle.fixture_board.specs.Record.{Book, book}
@@ -69,7 +69,7 @@ IsStep-stopped league k asked {reason} result is refused =
     rw (p.1, p.2) (record { reason = refused; same = refl })
 
 -- whether a game that is in its round is pinned, by the table
-pub has_game-told : (g : Games) (game : Game) (table : List ℕ) (has : Bool) → IsDoubleRoundRobin g → is_in_range g game ≡ true →
+pub has_game-told : (g : Games) (game : Game) (table : List ℕ) (has : Bool) → IsDoubleRoundRobin g → is_game_in_range g game ≡ true →
     is_there g game ≡ true → has ≡ not (pin_at table game.home game.away == 255) → (held : List Game) → AllStand g held →
     ArePinsAt g held table → has ≡ has_game held game
 has_game-told g game table has robin range there is held stand are =
@@ -79,7 +79,7 @@ has_game-told g game table has robin range there is held stand are =
 
 -- the reason of a call, by what its checks answered
 
-pin_rows : {league : LeagueData} {k : Kept} (version : ℕ) (game : Game) → IsKept league k →
+pin_rows : {league : LeagueData} {k : Kept} (version : ℕ) (game : Game) → FollowsHistory league k →
     refusal league k.room k.history (ask.Pin version game) ≡
     first_of (game_rows (length k.history) k.room version k.games game ++ (has_game (pins_of k.history) game, why.AlreadyPinned) ∷ [])
 unfolding refusal
@@ -88,14 +88,14 @@ pin_rows {league} {k} version game kept =
     (sym kept.games_are)
 
 pub pin_stopped : {league : LeagueData} {k : Kept} {answer : Result Bool Why} {reason : Why} (version : ℕ) (game : Game) →
-    IsKept league k → result_err answer ≡ first_of (game_rows (length k.history) k.room version k.games game) →
+    FollowsHistory league k → result_err answer ≡ first_of (game_rows (length k.history) k.room version k.games game) →
     answer ≡ Err reason → refusal league k.room k.history (ask.Pin version game) ≡ Some reason
 pin_stopped {league} {k} version game kept told is =
     pin_rows version game kept ∙
     stopped (game_rows (length k.history) k.room version k.games game) ((has_game (pins_of k.history) game, why.AlreadyPinned) ∷ []) told is
 
 pub pin_told : {league : LeagueData} {k : Kept} {answer : Result Bool Why} {has : Bool} (version : ℕ) (game : Game) →
-    IsKept league k → result_err answer ≡ first_of (game_rows (length k.history) k.room version k.games game) →
+    FollowsHistory league k → result_err answer ≡ first_of (game_rows (length k.history) k.room version k.games game) →
     answer ≡ Ok has → has ≡ has_game (pins_of k.history) game →
     refusal league k.room k.history (ask.Pin version game) ≡ (if has then Some why.AlreadyPinned else None)
 pin_told {league} {k} version game kept told is has_is =
@@ -104,7 +104,7 @@ pin_told {league} {k} version game kept told is has_is =
     ((has_game (pins_of k.history) game, why.AlreadyPinned) ∷ []) told is ∙
     ap (λ (b : Bool). if b then Some why.AlreadyPinned else None) (sym has_is)
 
-unpin_rows : {league : LeagueData} {k : Kept} (version : ℕ) (game : Game) → IsKept league k →
+unpin_rows : {league : LeagueData} {k : Kept} (version : ℕ) (game : Game) → FollowsHistory league k →
     refusal league k.room k.history (ask.Unpin version game) ≡
     first_of (game_rows (length k.history) k.room version k.games game ++ (not (has_game (pins_of k.history) game), why.NotPinned) ∷ [])
 unfolding refusal
@@ -113,7 +113,7 @@ unpin_rows {league} {k} version game kept =
     (sym kept.games_are)
 
 pub unpin_stopped : {league : LeagueData} {k : Kept} {answer : Result Bool Why} {reason : Why} (version : ℕ) (game : Game) →
-    IsKept league k → result_err answer ≡ first_of (game_rows (length k.history) k.room version k.games game) →
+    FollowsHistory league k → result_err answer ≡ first_of (game_rows (length k.history) k.room version k.games game) →
     answer ≡ Err reason → refusal league k.room k.history (ask.Unpin version game) ≡ Some reason
 unpin_stopped {league} {k} version game kept told is =
     unpin_rows version game kept ∙
@@ -121,7 +121,7 @@ unpin_stopped {league} {k} version game kept told is =
     ((not (has_game (pins_of k.history) game), why.NotPinned) ∷ []) told is
 
 pub unpin_told : {league : LeagueData} {k : Kept} {answer : Result Bool Why} {has : Bool} (version : ℕ) (game : Game) →
-    IsKept league k → result_err answer ≡ first_of (game_rows (length k.history) k.room version k.games game) →
+    FollowsHistory league k → result_err answer ≡ first_of (game_rows (length k.history) k.room version k.games game) →
     answer ≡ Ok has → has ≡ has_game (pins_of k.history) game →
     refusal league k.room k.history (ask.Unpin version game) ≡ (if not has then Some why.NotPinned else None)
 unpin_told {league} {k} version game kept told is has_is =
@@ -130,7 +130,7 @@ unpin_told {league} {k} version game kept told is has_is =
     ((not (has_game (pins_of k.history) game), why.NotPinned) ∷ []) told is ∙
     ap (λ (b : Bool). if not b then Some why.NotPinned else None) (sym has_is)
 
-undo_rows : {league : LeagueData} {k : Kept} (version : ℕ) → IsKept league k →
+undo_rows : {league : LeagueData} {k : Kept} (version : ℕ) → FollowsHistory league k →
     refusal league k.room k.history (ask.Undo version) ≡
     first_of (version_rows (length k.history) k.room version ++ (length k.changes == 0, why.NothingToUndo) ∷ [])
 unfolding refusal
@@ -139,14 +139,14 @@ undo_rows {league} {k} version kept =
     (sym kept.effective_is)
 
 pub undo_stopped : {league : LeagueData} {k : Kept} {answer : Result (Unit {0}) Why} {reason : Why} (version : ℕ) →
-    IsKept league k → result_err answer ≡ first_of (version_rows (length k.history) k.room version) →
+    FollowsHistory league k → result_err answer ≡ first_of (version_rows (length k.history) k.room version) →
     answer ≡ Err reason → refusal league k.room k.history (ask.Undo version) ≡ Some reason
 undo_stopped {league} {k} version kept told is =
     undo_rows version kept ∙
     stopped (version_rows (length k.history) k.room version) ((length k.changes == 0, why.NothingToUndo) ∷ []) told is
 
 pub undo_told : {league : LeagueData} {k : Kept} {answer : Result (Unit {0}) Why} {value : Unit {0}} {none : Bool} (version : ℕ) →
-    IsKept league k → result_err answer ≡ first_of (version_rows (length k.history) k.room version) →
+    FollowsHistory league k → result_err answer ≡ first_of (version_rows (length k.history) k.room version) →
     answer ≡ Ok value → (length k.changes == 0) ≡ none →
     refusal league k.room k.history (ask.Undo version) ≡ (if none then Some why.NothingToUndo else None)
 undo_told {league} {k} version kept told is none_is =
@@ -164,7 +164,7 @@ rows_after league k p =
     (moves_pin (moved k.games p.mv) (pins_of k.history), why.Pinned) ∷
     score_rows (length k.history) p (score_of league k.cost) (score_of league (cost_of league (moved k.games p.mv)))
 
-shift_rows : {league : LeagueData} {k : Kept} (p : Proposal) → IsKept league k →
+shift_rows : {league : LeagueData} {k : Kept} (p : Proposal) → FollowsHistory league k →
     refusal league k.room k.history (ask.Shift p) ≡
     first_of (move_rows (length k.history) k.room p.version k.games p.mv ++ rows_after league k p)
 unfolding refusal cost_at
@@ -176,13 +176,13 @@ shift_rows {league} {k} p kept =
     (sym kept.cost_is)
 
 pub shift_stopped : {league : LeagueData} {k : Kept} {answer : Result (Unit {0}) Why} {reason : Why} (p : Proposal) →
-    IsKept league k → result_err answer ≡ first_of (move_rows (length k.history) k.room p.version k.games p.mv) →
+    FollowsHistory league k → result_err answer ≡ first_of (move_rows (length k.history) k.room p.version k.games p.mv) →
     answer ≡ Err reason → refusal league k.room k.history (ask.Shift p) ≡ Some reason
 shift_stopped {league} {k} p kept told is =
     shift_rows p kept ∙ stopped (move_rows (length k.history) k.room p.version k.games p.mv) (rows_after league k p) told is
 
 pub shift_told : {league : LeagueData} {k : Kept} {answer : Result (Unit {0}) Why} {value : Unit {0}} {moves : Bool} (p : Proposal) →
-    IsKept league k → result_err answer ≡ first_of (move_rows (length k.history) k.room p.version k.games p.mv) →
+    FollowsHistory league k → result_err answer ≡ first_of (move_rows (length k.history) k.room p.version k.games p.mv) →
     answer ≡ Ok value → moves ≡ moves_pin (moved k.games p.mv) (pins_of k.history) →
     refusal league k.room k.history (ask.Shift p) ≡
     (if moves then Some why.Pinned
@@ -197,7 +197,7 @@ shift_told {league} {k} p kept told is moves_is =
 -- by the scores, where the move is tried on `g1` and leads to `g2` of this cost
 pub shift_judged : {league : LeagueData} {k : Kept} {tested : Result (Unit {0}) Why} {value : Unit {0}} (p : Proposal)
     (g1 g2 : Games) (cost : Cost) (before after : ℕ) (moves : Bool) (judged : Result (Unit {0}) Why) →
-    IsKept league k → result_err tested ≡ first_of (move_rows (length k.history) k.room p.version k.games p.mv) →
+    FollowsHistory league k → result_err tested ≡ first_of (move_rows (length k.history) k.room p.version k.games p.mv) →
     tested ≡ Ok value → moves ≡ moves_pin (moved k.games p.mv) (pins_of k.history) → moves ≡ false →
     g1 ≡ k.games → g2 ≡ moved g1 p.mv → cost ≡ cost_of league g2 → before ≡ score_of league k.cost → after ≡ score_of league cost →
     result_err judged ≡ first_of (score_rows (length k.history) p before after) →
@@ -226,7 +226,7 @@ pub granted_call : (league : LeagueData) (old new : Kept) (v : Book) (caller : �
     (Done (length new.history + 1) new.cost ≡ reply_of v.league v.room v.history asked) ×
     (book league new.room (new.history ++ entry caller asked ∷ []) ≡ book v.league v.room (next_of v.league v.room v.history caller asked))
 granted_call league old new v caller asked is view =
-    let kept : IsKept league (entered new (entry caller asked)) = is.kept caller in
+    let kept : FollowsHistory league (entered new (entry caller asked)) = is.kept caller in
     let cost : new.cost ≡ cost_at league (old.history ++ entry 0 asked ∷ []) =
     kept.cost_is ∙
     ap (λ h. cost_at league (h ++ entry caller asked ∷ [])) is.same_history ∙

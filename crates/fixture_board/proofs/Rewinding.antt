@@ -17,7 +17,7 @@ use Rattle.fixture_board.specs.History.{effect, effective, effective_after, shif
 use Rattle.fixture_board.specs.History.{pins_after, pins_of, AllStand}
 use Rattle.fixture_board.specs.History.{Fits, legal_after, IsLegal, cost_at, best_prefix, best_at, as_best, best_of}
 use Rattle.fixture_board.specs.History.{IsBestPrefix, IsBestOf}
-use Rattle.fixture_board.specs.Kept.{IsLeader, Kept, IsKept}
+use Rattle.fixture_board.specs.Kept.{IsLeader, Kept, FollowsHistory}
 use Rattle.fixture_board.specs.PinPlaces.{ArePinsAt}
 use Rattle.fixture_board.specs.Retraced.{HasPlace, written, written_after}
 use Rattle.fixture_board.specs.Rewound.{rewound, IsSameBestRewound}
@@ -126,27 +126,27 @@ written-length table (Pin game) = length-set table (game.home * 40 + game.away) 
 written-length table (Unpin game) = length-set table (game.home * 40 + game.away) 255
 written-length table Undo = refl
 
-record IsTable (g : Games) (pins : List Game) (table : List ℕ) : Type 0 where
+record IsPinTable (g : Games) (pins : List Game) (table : List ℕ) : Type 0 where
   size : length table ≡ 1600
   are : ArePinsAt g pins table
 
-IsTable-after : (g : Games) (pins : List Game) (table : List ℕ) (changes : List Change) → IsDoubleRoundRobin g → AllStand g pins →
-    Fit g pins changes → IsTable g pins table →
-    IsTable (games_after g changes) (pins_after pins changes) (written_after table changes)
+IsPinTable-after : (g : Games) (pins : List Game) (table : List ℕ) (changes : List Change) → IsDoubleRoundRobin g → AllStand g pins →
+    Fit g pins changes → IsPinTable g pins table →
+    IsPinTable (games_after g changes) (pins_after pins changes) (written_after table changes)
 unfolding games_after pins_after
-IsTable-after g pins table [] robin stand fit is = is
-IsTable-after g pins table (change ∷ changes) robin stand fit is =
-    IsTable-after (shifted g change) (pinned pins change) (written table change) changes
+IsPinTable-after g pins table [] robin stand fit is = is
+IsPinTable-after g pins table (change ∷ changes) robin stand fit is =
+    IsPinTable-after (shifted g change) (pinned pins change) (written table change) changes
     (IsDoubleRoundRobin-change g pins change robin fit.0) (AllStand-change g pins change stand fit.0) fit.1 (record {
       size = written-length table change ∙ is.size;
       are = ArePinsAt-change g pins table change robin stand fit.0 is.size is.are;
     })
 
-IsTable-legal : (league : LeagueData) (room : ℕ) (h : List Entry) → IsLeague league → IsLegal league room h →
-    IsTable (games_of league h) (pins_of h) (written_after (replicate 1600 255) (effective h))
+IsPinTable-legal : (league : LeagueData) (room : ℕ) (h : List Entry) → IsLeague league → IsLegal league room h →
+    IsPinTable (games_of league h) (pins_of h) (written_after (replicate 1600 255) (effective h))
 unfolding games_of pins_of
-IsTable-legal league room h is legal =
-    IsTable-after (start_of league) [] (replicate 1600 255) (effective h) (IsDoubleRoundRobin-start league is) tt
+IsPinTable-legal league room h is legal =
+    IsPinTable-after (start_of league) [] (replicate 1600 255) (effective h) (IsDoubleRoundRobin-start league is) tt
     (FitFrom-legal league room h legal) (record {
       size = length-replicate {A = ℕ} 1600 255;
       are = ArePinsAt-none (start_of league) is.table.most;
@@ -173,7 +173,7 @@ HavePlaces g pins (change ∷ changes) robin stand fit (suc i) d under =
     HavePlaces (shifted g change) (pinned pins change) changes (IsDoubleRoundRobin-change g pins change robin fit.0)
     (AllStand-change g pins change stand fit.0) fit.1 i d (omega arith)
 
-pub HavePlaces-kept : {league : LeagueData} {k : Kept} (n : ℕ) (changes : List Change) → IsKept league k →
+pub HavePlaces-kept : {league : LeagueData} {k : Kept} (n : ℕ) (changes : List Change) → FollowsHistory league k →
     changes ≡ effective (take n k.history) → (i : ℕ) (d : Change) → i < length changes → HasPlace (get_or changes i d)
 HavePlaces-kept {league} {k} n changes kept are =
     let fit = FitFrom-legal league k.room (take n k.history) (IsLegal-take league k.room n k.history kept.legal) in
@@ -217,7 +217,7 @@ best_known league h (Some p) best g is leader = record {
   games_are = leader.1;
 }
 
-pub best_size : {league : LeagueData} {k : Kept} (best : Best) → IsKept league k → k.best ≡ Some best →
+pub best_size : {league : LeagueData} {k : Kept} (best : Best) → FollowsHistory league k → k.best ≡ Some best →
     k.best_games.teams ≡ teams league
 best_size {league} {k} best kept best_is =
     let leader : IsLeader league (best_prefix league k.history) (Some best) k.best_games =
@@ -236,9 +236,9 @@ effective-length : (h : List Entry) → length (effective h) ≤ length h
 unfolding effective
 effective-length h = omega (arith, effective_after-length [] h)
 
-pub IsKept-rewound : {league : LeagueData} {k : Kept} (best : Best) (h : List Entry) (cost : Cost) → IsKept league k →
+pub FollowsHistory-rewound : {league : LeagueData} {k : Kept} (best : Best) (h : List Entry) (cost : Cost) → FollowsHistory league k →
     k.best ≡ Some best → h ≡ take best.at k.history → cost ≡ cost_of league k.best_games →
-    (h ≡ rewound league k.history) × IsKept league (record k {
+    (h ≡ rewound league k.history) × FollowsHistory league (record k {
       history = h;
       changes = effective h;
       games = k.best_games;
@@ -246,7 +246,7 @@ pub IsKept-rewound : {league : LeagueData} {k : Kept} (best : Best) (h : List En
       cost = cost;
     })
 unfolding cost_at
-IsKept-rewound {league} {k} best h cost kept best_is taken cost_is =
+FollowsHistory-rewound {league} {k} best h cost kept best_is taken cost_is =
     let leader : IsLeader league (best_prefix league k.history) (Some best) k.best_games =
     subst (λ b. IsLeader league (best_prefix league k.history) b k.best_games) best_is kept.leader in
     let known : Best_is league k.history best k.best_games =
@@ -258,8 +258,8 @@ IsKept-rewound {league} {k} best h cost kept best_is taken cost_is =
     subst (IsLegal league k.room) (sym taken) (IsLegal-take league k.room best.at k.history kept.legal) in
     let games_are : k.best_games ≡ games_of league h = known.games_are ∙ ap (games_of league) (sym same) in
     let size : k.best_games.teams ≡ teams league = ap (λ (g : Games). g.teams) games_are ∙ games_of-teams league h in
-    let table : IsTable (games_of league h) (pins_of h) (written_after (replicate 1600 255) (effective h)) =
-    IsTable-legal league k.room h kept.league_is legal in
+    let table : IsPinTable (games_of league h) (pins_of h) (written_after (replicate 1600 255) (effective h)) =
+    IsPinTable-legal league k.room h kept.league_is legal in
     let short : length h ≤ length k.history = rw same prefix.short in (
       same ∙ ap (λ o. unwrap_or o k.history) (sym known.is),
       record {

@@ -12,16 +12,16 @@ use Rattle.fixture_board.specs.declared.change.Change.TheVariants.{Shift, Pin, U
 use Rattle.fixture_board.specs.declared.change.Entry.{Entry}
 use Rattle.fixtures.specs.Start.{start_of}
 use Rattle.fixture_board.specs.History.{effect, effective, shifted, games_after, games_of, is_game, has_game, pinned}
-use Rattle.fixture_board.specs.History.{pins_after, pins_of, is_in_range, is_there, moves_pin, AllStand, Fits, May}
+use Rattle.fixture_board.specs.History.{pins_after, pins_of, is_game_in_range, is_there, moves_pin, AllStand, Fits, May}
 use Rattle.fixture_board.proofs.OneMore.{effective-more}
 use Rattle.fixture_board.proofs.Scores.{moved-teams}
 
 -- the game is one of the schedule
 abbrev pub Stands : Games → Game → Type 0
-Stands g game = (is_in_range g game ≡ true) × (is_there g game ≡ true)
+Stands g game = (is_game_in_range g game ≡ true) × (is_there g game ≡ true)
 
 -- a move keeps the range of numbers
-in_range-moved : (g : Games) (mv : Move) (game : Game) → is_in_range g game ≡ is_in_range (moved g mv) game
+in_range-moved : (g : Games) (mv : Move) (game : Game) → is_game_in_range g game ≡ is_game_in_range (moved g mv) game
 in_range-moved g mv game =
     ap (λ n. nat_lt game.round (round_count n) && nat_lt game.home n && nat_lt game.away n && not (game.home == game.away))
     (sym (moved-teams g mv))

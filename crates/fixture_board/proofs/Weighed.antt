@@ -19,7 +19,7 @@ use Rattle.fixture_board.specs.declared.change.Change.TheVariants.{Shift, Pin, U
 use Rattle.fixture_board.specs.declared.change.Entry.{Entry}
 use Rattle.fixture_board.specs.History.{games_of, May, legal_after, IsLegal, cost_at, better, best_after, best_prefix}
 use Rattle.fixture_board.specs.History.{as_best, best_of}
-use Rattle.fixture_board.specs.Kept.{IsLeader, Kept, IsKept}
+use Rattle.fixture_board.specs.Kept.{IsLeader, Kept, FollowsHistory}
 use Rattle.fixture_board.specs.Weights.{IsSameReweighted}
 use Rattle.fixture_board.proofs.Keeps.{known_cost}
 use Rattle.fixture_board.proofs.Scores.{score_below}
@@ -173,9 +173,9 @@ IsLeader-weight league weight (Some p) best g leader = (
   leader.1 ∙ sym (games_of-weight league weight p),
 )
 
-pub IsKept-weight : {league : LeagueData} {k : Kept} (weight : ℕ) → 1 ≤ weight → weight ≤ max_weight → IsKept league k →
-    IsKept (reweighted weight league) k
-IsKept-weight {league} {k} weight least most kept =
+pub FollowsHistory-weight : {league : LeagueData} {k : Kept} (weight : ℕ) → 1 ≤ weight → weight ≤ max_weight → FollowsHistory league k →
+    FollowsHistory (reweighted weight league) k
+FollowsHistory-weight {league} {k} weight least most kept =
     let is : IsLeague (reweighted weight league) = IsLeague-weight league weight least most kept.league_is in
     let known : k.cost ≡ cost_of (reweighted weight league) k.games =
     known_cost kept ∙ sym (cost_of-weight league weight k.games) in

@@ -41,7 +41,7 @@ abbrev pub breakable_part : Games → TouchedCells → ℕ → Cost → Rule →
 breakable_part g main sides cost rule =
     if may_break cost rule.weight then deviation_part g main.teams main.rounds sides rule.body else 0
 
--- of what one rule adds, where there is one
+-- of what one rule adds, if there is one
 abbrev pub rule_part : (Weight → ℕ → ℕ) → TouchedCells → ℕ → Games → Option Rule → ℕ
 rule_part penalty main sides g None = 0
 rule_part penalty main sides g (Some rule) = penalty rule.weight (deviation_part g main.teams main.rounds sides rule.body)

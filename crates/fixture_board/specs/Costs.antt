@@ -23,7 +23,7 @@ abbrev pub soft_penalty : Weight → ℕ → ℕ
 soft_penalty Hard deviation = 0
 soft_penalty (Soft weight) deviation = weight * deviation
 
--- what one rule adds, where there is one
+-- what one rule adds, if there is one
 abbrev pub penalty_of : (Weight → ℕ → ℕ) → Games → Option Rule → ℕ
 penalty_of penalty g None = 0
 penalty_of penalty g (Some rule) = penalty rule.weight (deviation g rule.body)
@@ -45,7 +45,7 @@ cost_of l g = record {
   soft = sum_over_rules soft_penalty l.rules g;
 }
 
--- what is compared where hard limits may be broken
+-- what is compared if hard limits may be broken
 abbrev pub score_of : LeagueData → Cost → ℕ
 score_of l cost = cost.travel + cost.soft + l.hard_weight * cost.hard
 
@@ -53,7 +53,7 @@ score_of l cost = cost.travel + cost.soft + l.hard_weight * cost.hard
 abbrev pub total_of : Cost → ℕ
 total_of cost = cost.travel + cost.soft
 
--- the cost of the games where their score is at most this, and none where it is more
+-- the cost of the games if their score is at most this, and none if it is more
 abbrev pub IsCostWithin : LeagueData → ℕ → Games → Option Cost → Type 0
 IsCostWithin l most g (Some cost) = (cost ≡ cost_of l g) × (score_of l cost ≤ most)
 IsCostWithin l most g None = most < score_of l (cost_of l g)

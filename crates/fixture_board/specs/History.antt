@@ -65,8 +65,8 @@ abbrev pub is_pinned : List Game → ℕ → ℕ → Bool
 is_pinned pins home away = list_any (λ pin. pin.home == home && pin.away == away) pins
 
 -- whether the numbers of the game are in range and its teams distinct
-abbrev pub is_in_range : Games → Game → Bool
-is_in_range g game =
+abbrev pub is_game_in_range : Games → Game → Bool
+is_game_in_range g game =
     nat_lt game.round (round_count g.teams) && nat_lt game.home g.teams && nat_lt game.away g.teams &&
     not (game.home == game.away)
 
@@ -81,12 +81,12 @@ moves_pin g pins = list_any (λ pin. not (is_there g pin)) pins
 -- the pinned games are games of the schedule
 abbrev pub AllStand : Games → List Game → Type 0
 AllStand g [] = Unit {0}
-AllStand g (pin ∷ pins) = ((is_in_range g pin ≡ true) × (is_there g pin ≡ true)) × AllStand g pins
+AllStand g (pin ∷ pins) = ((is_game_in_range g pin ≡ true) × (is_there g pin ≡ true)) × AllStand g pins
 
 -- a change that is no undo can be made of these games and pins
 abbrev pub Fits : Games → List Game → Change → Type 0
 Fits g pins (Shift mv) = (fault_of g mv ≡ Ok tt) × (moves_pin (moved g mv) pins ≡ false)
-Fits g pins (Pin game) = (is_in_range g game ≡ true) × (is_there g game ≡ true) × (has_game pins game ≡ false)
+Fits g pins (Pin game) = (is_game_in_range g game ≡ true) × (is_there g game ≡ true) × (has_game pins game ≡ false)
 Fits g pins (Unpin game) = has_game pins game ≡ true
 Fits g pins Undo = ⊥
 

@@ -62,7 +62,7 @@ pub record HasMemory (s : State) : Type 0 where
   pub changes : vec_capacity s.changes ≡ s.room
 
 -- what is kept is what follows from the history in this league
-pub record IsKept (league : LeagueData) (k : Kept) : Type 0 where
+pub record FollowsHistory (league : LeagueData) (k : Kept) : Type 0 where
   pub league_is : IsLeague league
   pub room_most : k.room ≤ max_room
   pub within : length k.history ≤ k.room
@@ -96,7 +96,7 @@ pub record IsGranted (league : LeagueData) (old new : Kept) (asked : Ask) : Type
   pub same_room : new.room ≡ old.room
   pub same_history : new.history ≡ old.history
   pub under : length new.history < new.room
-  pub kept : (caller : ℕ) → IsKept league (entered new (entry caller asked))
+  pub kept : (caller : ℕ) → FollowsHistory league (entered new (entry caller asked))
 
 abbrev pub IsStep : LeagueData → Kept → Kept → Ask → Result (Unit {0}) Why → Type 0
 IsStep league old new asked (Ok done) = IsGranted league old new asked

@@ -9,7 +9,7 @@ use Rattle.fixture_board.specs.declared.reply.Reply.TheVariants.{Done, No}
 use Rattle.fixture_board.specs.Replies.{greatest}
 use Rattle.fixture_board.specs.History.{games_of, pins_of, AllStand, cost_at, best_of}
 
--- the total of the best version as one number: the greatest of 64 bits where there is none
+-- the total of the best version as one number: the greatest of 64 bits if there is none
 abbrev pub as_number : Option Best → ℕ
 as_number None = greatest
 as_number (Some best) = best.total

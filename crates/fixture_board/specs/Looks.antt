@@ -2,6 +2,6 @@
 use Rattle.std.specs.Prelude.{◌==◌, if◌then◌else◌}
 use Rattle.fixtures.specs.Games.{Games}
 
--- the schedule, where the copy is for as many teams
+-- the schedule, if the copy is for as many teams
 abbrev pub copied : Games → Games → Games
 copied old shown = if old.teams == shown.teams then shown else old

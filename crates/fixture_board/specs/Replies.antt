@@ -19,7 +19,7 @@ use Rattle.fixture_board.specs.declared.reply.Why.{Why}
 use Rattle.fixture_board.specs.declared.reply.Why.TheVariants as why
 use Rattle.fixture_board.specs.declared.reply.Reply.{Reply}
 use Rattle.fixture_board.specs.declared.reply.Reply.TheVariants.{Done, No}
-use Rattle.fixture_board.specs.History.{effective, games_of, pins_of, has_game, is_in_range, is_there, moves_pin}
+use Rattle.fixture_board.specs.History.{effective, games_of, pins_of, has_game, is_game_in_range, is_there, moves_pin}
 use Rattle.fixture_board.specs.History.{cost_at}
 
 -- the change that is asked for
@@ -56,7 +56,7 @@ version_rows at room version =
 -- of a pin and an unpin, whatever is pinned
 abbrev pub game_rows : ℕ → ℕ → ℕ → Games → Game → List (Bool × Why)
 game_rows at room version g game =
-    version_rows at room version ++ (not (is_in_range g game), why.BadGame) ∷ (not (is_there g game), why.NotThere) ∷ []
+    version_rows at room version ++ (not (is_game_in_range g game), why.BadGame) ∷ (not (is_there g game), why.NotThere) ∷ []
 
 -- of a move, before it is tried
 abbrev pub move_rows : ℕ → ℕ → ℕ → Games → Move → List (Bool × Why)
@@ -112,7 +112,7 @@ reply_of league room h ask = reply_if league (refusal league room h ask) h (entr
 abbrev pub greatest : ℕ
 greatest = 2 ^ 64 - 1
 
--- a change as a call at the version, where a move has no claim and this slack
+-- a change as a call at the version; a move has no claim and this slack
 abbrev pub ask_with : ℕ → ℕ → Change → Ask
 ask_with version slack (Shift mv) = ask.Shift (record { version = version; mv = mv; claim = None; slack = slack })
 ask_with version slack (Pin game) = ask.Pin version game

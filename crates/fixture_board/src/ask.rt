@@ -7,11 +7,11 @@ use moves::Move;
 /// A move, and what its caller knows of the board.
 #[derive(Clone, Copy, Debug, PartialEq, Eq)]
 pub struct Proposal {
-    /// The version that the move was found for. Where it is old, the move is judged anew and the claim ignored.
+    /// The version that the move was found for. If it is old, the move is judged anew and the claim ignored.
     pub version: u64,
     /// The move that is to be made.
     pub mv: Move,
-    /// The score after the move as the caller counts it, where it tells one.
+    /// The score after the move as the caller counts it, if it tells one.
     pub claim: Option<u64>,
     /// By how much the score may rise.
     pub slack: u64,

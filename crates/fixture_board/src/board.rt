@@ -56,18 +56,18 @@ pub struct Board {
 
 impl Model for Board {
     ghost use Rattle.fixture_board.specs.Record.{Book, book};
-    ghost use Rattle.fixture_board.specs.Kept.{kept_of, HasMemory, IsKept};
+    ghost use Rattle.fixture_board.specs.Kept.{kept_of, HasMemory, FollowsHistory};
 
     ghost Value = { Book };
 
     ghost view = { λ b. book b.league b.state.room b.state.history.items };
 
-    ghost invariant = { λ b. HasMemory b.state × IsKept b.league (kept_of b.state) };
+    ghost invariant = { λ b. HasMemory b.state × FollowsHistory b.league (kept_of b.state) };
 }
 
 impl Board {
     /// A board without an entry, for at most `room` of them, on the Berger start of the league. All its memory is
-    /// taken here. Answers RoomRange where the room is over `MAX_ROOM`, and else Memory, which comes only where there
+    /// taken here. Answers RoomRange if the room is over `MAX_ROOM`, otherwise Memory, which comes only if there
     /// is none; the league comes back with each.
     pub fn new(alloc: Global, league: League, room: u32) -> Result<Board, NewRefused>
         ensures ok { IfOk result (λ b. b ≡ book league room []) }

@@ -2,7 +2,7 @@
 
 use league::{League, Weight};
 
-/// What a schedule costs in a league. It is feasible where `hard` is 0.
+/// What a schedule costs in a league. It is feasible if `hard` is 0.
 #[derive(Clone, Copy, Debug, PartialEq, Eq)]
 pub struct Cost {
     /// How far all teams travel, in the unit of the league's distances.
@@ -19,7 +19,7 @@ impl Cost {
     ghost use Rattle.fixture_board.specs.Costs.{score_of, total_of};
     ghost use Rattle.fixture_board.specs.CostParts.{may_break};
 
-    /// What is compared where hard limits may be broken: travel and soft, and the league's hard weight for each
+    /// What is compared if hard limits may be broken: travel and soft, and the league's hard weight for each
     /// breach of a hard limit.
     pub fn score(self, league: &League) -> u64
         requires { score_of league.now self < 2 ^ 64 }
@@ -43,7 +43,7 @@ impl Cost {
         self.hard == 0
     }
 
-    /// Whether a schedule of this cost may break a rule of this weight: no hard one where nothing is hard, no soft one where
+    /// Whether a schedule of this cost may break a rule of this weight: no hard one if nothing is hard, no soft one if
     /// nothing is soft.
     pub(crate) fn may_break(self, weight: Weight) -> bool
         ensures { result ≡ may_break self weight }

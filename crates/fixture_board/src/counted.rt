@@ -19,7 +19,7 @@ use league::League;
 use robinx::deviation_part;
 use tours::unphased_part;
 
-/// A told cost without the penalties that the exchange can change. None of them is counted where the known cost has none.
+/// A told cost without the penalties that the exchange can change. None of them is counted if the known cost has none.
 pub(crate) fn rest_of(
     schedule: &Schedule,
     league: &League,
@@ -45,7 +45,7 @@ pub(crate) fn rest_of(
     }
 }
 
-/// The cost after an exchange, of which the rest is known, where its score is at most `most`. The rules are counted one after another,
+/// The cost after an exchange, of which the rest is known, if its score is at most `most`. The rules are counted one after another,
 /// until the score is above it.
 pub(crate) fn whole_within(
     schedule: &Schedule,
@@ -79,7 +79,7 @@ pub(crate) fn whole_within(
     Some(cost)
 }
 
-/// Those of the pairs that the exchange can change, where the league is phased.
+/// Those of the pairs that the exchange can change, if the league is phased.
 fn phases_part(schedule: &Schedule, league: &League, main: Touched) -> u64
     ensures value { result ≡ where_phased league.now (unphased_part schedule.now (has main.teams)) }
     ensures most { result ≤ max_teams * max_teams }

@@ -1,4 +1,4 @@
-//! An exchange that is made on a schedule of known cost: always, or where the score after is within a limit.
+//! An exchange that is made on a schedule of known cost: always, or if the score after is within a limit.
 
 ghost use Rattle.std.specs.Prelude.{◌≡◌, ◌<◌, IfSome, MatchOption};
 ghost use Rattle.league.specs.League.{teams};
@@ -34,7 +34,7 @@ pub fn make_at_cost(
     make_within(schedule, league, exchange, known, u64::MAX).unwrap()
 }
 
-/// Makes an exchange as `make_at_cost` does where the score after is at most `most`, and gives the cost after. Else the
+/// Makes an exchange as `make_at_cost` does if the score after is at most `most`, and gives the cost after. Otherwise the
 /// schedule is left as it was, and what costs little to count is counted first: travel, runs and repeats, for which nothing
 /// is made, and last the rules. Takes no memory.
 pub fn make_within(

@@ -122,7 +122,7 @@ impl Pins {
         self.rounds[place] = round;
     }
 
-    /// Whether the exchange would give a pinned game another round, where pinned games stand in their rounds: whether a
+    /// Whether the exchange would give a pinned game another round, if pinned games stand in their rounds: whether a
     /// main team has one in a round of the exchange.
     pub(crate) fn would_be_moved(&self, schedule: &Schedule, exchange: &Exchange) -> bool
         requires { IsExchange schedule.now exchange.now }

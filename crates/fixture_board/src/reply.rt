@@ -2,7 +2,7 @@
 
 use crate::cost::Cost;
 
-/// Why a board refuses. Where several reasons hold, the first in this order is told.
+/// Why a board refuses. If several reasons hold, the first in this order is told.
 #[derive(Clone, Copy, Debug, PartialEq, Eq)]
 pub enum Why {
     /// The version is one that the board has not yet.

@@ -32,7 +32,7 @@ pub(crate) fn costs_of_rules(schedule: &Schedule, league: &League) -> Penalties
     costs
 }
 
-/// What of that a change around the main teams can alter, where `sides` has the teams whose sides it may change. A rule isn't counted
+/// What of that a change around the main teams can alter, if `sides` has the teams whose sides it may change. A rule isn't counted
 /// if the known cost has nothing of its kind.
 #[tactic(auto, using(league::proofs::ForCallers::sums), unfolding(crate::specs::CostParts::rules_part))]
 pub(crate) fn parts_of_rules(
@@ -60,7 +60,7 @@ pub(crate) fn parts_of_rules(
     costs
 }
 
-/// The part of the rule's deviation, where a schedule of the known cost may break it.
+/// The part of the rule's deviation, if a schedule of the known cost may break it.
 fn breakable_part(
     schedule: &Schedule,
     rule: &Rule,

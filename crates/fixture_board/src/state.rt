@@ -29,7 +29,7 @@ pub(crate) struct State {
     /// What the schedule costs.
     pub(crate) cost: Cost,
     pub(crate) best: Option<Best>,
-    /// The schedule at the best version, where there is one.
+    /// The schedule at the best version, if there is one.
     pub(crate) best_schedule: Schedule,
 }
 
@@ -38,7 +38,7 @@ impl State {
     ghost use Rattle.fixture_board.specs.Costs.{total_of};
     ghost use Rattle.fixture_board.specs.Credited.{credited};
     ghost use Rattle.fixture_board.specs.History.{max_room};
-    ghost use Rattle.fixture_board.specs.Kept.{kept_of, entered, HasMemory, IsKept};
+    ghost use Rattle.fixture_board.specs.Kept.{kept_of, entered, HasMemory, FollowsHistory};
 
     /// Without an entry, on the start of the league. All memory is taken here.
     pub(crate) fn start(alloc: Global, league: &League, room: u32) -> Result<State, AllocError>
@@ -46,7 +46,7 @@ impl State {
         ensures none { IfOk result (λ s. s.history.items ≡ []) }
         ensures room { IfOk result (λ s. s.room ≡ room) }
         ensures memory { IfOk result HasMemory }
-        ensures kept { IfOk result (λ s. IsKept league.now (kept_of s)) }
+        ensures kept { IfOk result (λ s. FollowsHistory league.now (kept_of s)) }
     {
         let history = Vec::with_capacity(alloc, room as usize)?;
         let changes = Vec::with_capacity(alloc, room as usize)?;

@@ -19,7 +19,7 @@ use tours::{
     runs_of_rounds, runs_of_teams,
 };
 
-/// The cost with the travel, the runs and the repeats after an exchange, and all else as it is before it. None where the travel
+/// The cost with the travel, the runs and the repeats after an exchange, and all else as it is before it. None if the travel
 /// alone, or with some of the runs, scores over `most`: then the whole cost after it does so too.
 pub(crate) fn told_within(
     schedule: &Schedule,

@@ -69,7 +69,7 @@ abbrev pub best_of_outcome : Option PhaseOutcome → Option ℕ
 best_of_outcome None = None
 best_of_outcome (Some outcome) = outcome.best
 
--- what is kept of the history that leads, where there is one: its outcome, and its changes up to the best version
+-- what is kept of the history that leads, if there is one: its outcome, and its changes up to the best version
 pub record IsLead (league : LeagueData) (room : ℕ) (leading : Option (List Entry)) (lead : Lead) : Type 0 where
   pub outcome_is : lead.outcome ≡ option_map (outcome_of league) leading
   pub changes_are : lead.changes.items ≡ changes_of (rewound league (unwrap_or leading []))

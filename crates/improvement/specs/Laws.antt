@@ -33,7 +33,7 @@ IsAtMost (Some least) (Some total) = least ≤ total
 -- a history that all runs together come to
 pub record IsEnd (league : LeagueData) (room : ℕ) (runs : List PhaseRun) (h : List Entry) : Type 0 where
   pub legal : IsLegal league room h
-  -- its best total is at most that of each phase, and that of the league's start where that is feasible
+  -- its best total is at most that of each phase, and that of the league's start if that is feasible
   pub phases : All (λ run. IsAtMost (least_in league h) (least_in league run.history)) runs
   pub start : (cost_of league (start_of league)).hard ≡ 0 →
       IsAtMost (least_in league h) (Some (total_of (cost_of league (start_of league))))

@@ -50,7 +50,7 @@ module _ {W : Type 0} (held : W → Option (List ℕ)) (pushes : W → Tally) (l
   StopsEarly = IsWorkers plan × (text : List ℕ) × ArePhaseTexts league plan text × Appends (held before) (held after) text
 
   -- The text went out whole on success, and a prefix of it before a failed write. Before every other fault exactly the texts of
-  -- the phases that had ended went out, and nothing where the number of workers is wrong
+  -- the phases that had ended went out, and nothing if the number of workers is wrong
   abbrev pub Improves : Result Unit ImproveFault → Type 0
   Improves (Ok done) = IsWorkers plan × (text : List ℕ) × IsImproveText league plan text × Appends (held before) (held after) text
   Improves (Err Workers) = (¬ IsWorkers plan) × (after ≡ before)

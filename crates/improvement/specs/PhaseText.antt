@@ -34,11 +34,11 @@ abbrev pub text_of : LeagueData → Option Solution → List ℕ
 text_of league None = []
 text_of league (Some s) = solution_lines league s
 
--- the best schedule of a history, where its total is below the least before
+-- the best schedule of a history, if its total is below the least before
 abbrev pub solution_text : LeagueData → Option ℕ → List Entry → List ℕ
 solution_text league least h = text_of league (below least (best_solution league h))
 
--- what is written when a phase has ended, where this is the least total before
+-- what is written when a phase has ended, if this is the least total before
 unfoldable pub phase_text : LeagueData → ℕ → Option ℕ → PhaseRun → List ℕ
 phase_text league workers least run = phase_line league workers run ++ solution_text league least run.history
 

@@ -57,12 +57,12 @@ histories_after histories run = slice_set histories run.phase.chain run.history
 unfoldable pub histories_of : List PhaseRun → List (List Entry)
 histories_of runs = fold histories_after (replicate 8 []) runs
 
--- the history up to its best version where it has used up the room, and nothing of it where that has used it up too
+-- the history up to its best version if it has used up the room, and nothing of it if that has used it up too
 abbrev pub with_room : LeagueData → ℕ → List Entry → List Entry
 with_room league room h =
     if nat_lt (length h) room then h else (if nat_lt (length (rewound league h)) room then rewound league h else [])
 
--- the history that a phase begins with, where its chain has this one
+-- the history that a phase begins with, if its chain has this one
 abbrev pub beginning : LeagueData → ℕ → PhaseStart → List Entry → List Entry
 beginning league room LeagueStart h = []
 beginning league room AtBest h = with_room league room (rewound league h)
@@ -103,7 +103,7 @@ abbrev pub is_behind : Option PhaseOutcome → PhaseOutcome → Bool
 is_behind None outcome = true
 is_behind (Some leading) outcome = leads outcome leading
 
--- the second history where its outcome is better than that of the one that leads
+-- the second history if its outcome is better than that of the one that leads
 abbrev pub ahead : LeagueData → Option (List Entry) → List Entry → List Entry
 ahead league leading h =
     if is_behind (option_map (outcome_of league) leading) (outcome_of league h) then h else unwrap_or leading []

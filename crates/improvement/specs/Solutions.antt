@@ -32,7 +32,7 @@ abbrev pub below : Option ℕ → Option Solution → Option Solution
 below least None = None
 below least (Some s) = if is_below s.total least then Some s else None
 
--- what is written of a run after those before it: its best schedule, where its total is below all before
+-- what is written of a run after those before it: its best schedule, if its total is below all before
 abbrev pub solution_after : LeagueData → List PhaseRun → PhaseRun → Option Solution
 solution_after league before run = below (least_told (outcomes_of league before)) (best_solution league run.history)
 

@@ -90,7 +90,7 @@ fn begin<T, G>(
     }
 }
 
-/// The board, taken back to its best version where its room is used up, and a new one where the room of that is too.
+/// The board, taken back to its best version if its room is used up, and a new one if the room of that is too.
 fn with_room<T, G>(setting: &Setting<'_, T, G>, mut board: Board) -> Result<Board, ImproveFault>
     requires { IsChainBoard setting.now.league.now (room_of setting.now.plan.effort) board }
     ensures kept { IfOk result (IsChainBoard setting.now.league.now (room_of setting.now.plan.effort)) }

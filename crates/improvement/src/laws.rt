@@ -20,7 +20,7 @@ pub fn totals_fall()
 {}
 
 /// The history in the end is legal, and its best version is the last schedule that was written. No phase had a lesser total,
-/// nor has the league's start where that is feasible.
+/// nor has the league's start if that is feasible.
 pub fn end_is_least()
     ensures { (league : LeagueData) (plan : ImprovePlan) (runs : List PhaseRun) →
         AreRuns league plan runs → length runs ≡ phase_count → IsEnd league (room_of plan.effort) runs (final_of league runs) }

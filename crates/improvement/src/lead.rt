@@ -18,7 +18,7 @@ use fixture_board::{Ask, Board, Change, Proposal};
 use phases::PhaseOutcome;
 use std::alloc::{AllocError, Global};
 
-/// The history that leads, where a phase has ended.
+/// The history that leads, if a phase has ended.
 #[derive(Drop)]
 pub(crate) struct Lead {
     outcome: Option<PhaseOutcome>,
@@ -138,7 +138,7 @@ fn replay(board: &mut Board, changes: &[Change])
     }
 }
 
-/// A change as a call at the version, where a move has the greatest slack.
+/// A change as a call at the version. A move has the greatest slack.
 fn asked(change: Change, version: u64) -> Ask
     ensures { result ≡ ask_of version change }
 {

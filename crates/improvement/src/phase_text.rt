@@ -15,7 +15,7 @@ use fixtures::Schedule;
 use streams::{BufferedSink, Sink, WriteFault};
 use texts::{Piece, write_pieces, write_sheet};
 
-/// Writes a phase's line, and its solution where that is better than the least total before. Nothing waits then.
+/// Writes a phase's line, and its solution if that is better than the least total before. Nothing waits then.
 pub(crate) fn write_phase<W: Sink>(
     out: &mut BufferedSink<'_, W>,
     workers: u32,
@@ -78,7 +78,7 @@ fn write_least<W: Sink>(out: &mut BufferedSink<'_, W>, least: Option<u64>) -> Re
     }
 }
 
-/// Writes the sheet of a board's best schedule and its total, where that is below the least total before.
+/// Writes the sheet of a board's best schedule and its total, if that is below the least total before.
 fn write_solution<W: Sink>(
     out: &mut BufferedSink<'_, W>,
     least: Option<u64>,

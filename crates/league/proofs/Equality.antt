@@ -21,7 +21,7 @@ use Rattle.league.specs.declared.rule.Side.{Side}
 use Rattle.league.specs.declared.rule.Side.TheVariants.{Home, Away, Any}
 use Rattle.league.specs.declared.rule.Weight.{Weight}
 use Rattle.league.specs.declared.rule.Weight.TheVariants.{Hard, Soft}
-use Rattle.league.specs.Checks.{IsTable}
+use Rattle.league.specs.Checks.{IsDistanceTable}
 use Rattle.league.specs.Games.{is_same_game, is_same_game_equiv}
 use Rattle.league.specs.League.{LeagueData, league_data}
 use Rattle.league.specs.Rows.{joined, table_of}
@@ -122,13 +122,13 @@ terms_decide t u =
     (Decides-and _ _ (booleans_Decides t.fide u.fide) (booleans_Decides t.phased u.phased)))
 
 -- tables of one size are equal where their numbers are
-same_tables : (n m : ℕ) (d e : List (List ℕ)) → IsTable n d → IsTable m e → n ≡ m → joined d ≡ joined e → d ≡ e
+same_tables : (n m : ℕ) (d e : List (List ℕ)) → IsDistanceTable n d → IsDistanceTable m e → n ≡ m → joined d ≡ joined e → d ≡ e
 same_tables n m d e d_is e_is same numbers =
     sym (table_of-joined n d d_is.rows d_is.columns) ∙ (λ i. table_of (same i) (numbers i)) ∙ table_of-joined m e e_is.rows e_is.columns
 
 -- the tests of the parts, one after another, decide whether the leagues are equal
 leagues_decide : (names others : List (String Global)) (d e : List (List ℕ)) (t u : Terms) (rules more : List Rule)
-    → IsTable (length (texts names)) d → IsTable (length (texts others)) e
+    → IsDistanceTable (length (texts names)) d → IsDistanceTable (length (texts others)) e
     → Decides (((terms_eq.eq-value.it t u && are_same_texts names others) && pointwise nat_eq (joined d) (joined e))
     && pointwise rule_eq.eq-value.it rules more)
     (league_data (texts names) d t.at_most t.hard_weight rules t.fide t.phased
@@ -159,7 +159,7 @@ leagues_decide names others d e t u rules more d_is e_is =
 
 -- the same, from what each test of a chain gave
 pub chain_decides : (l m : LeagueData) (names others : List (String Global)) (d e : List (List ℕ)) (t u : Terms) (rules more : List Rule)
-    → IsTable (length (texts names)) d → IsTable (length (texts others)) e
+    → IsDistanceTable (length (texts names)) d → IsDistanceTable (length (texts others)) e
     → league_data (texts names) d t.at_most t.hard_weight rules t.fide t.phased ≡ l
     → league_data (texts others) e u.at_most u.hard_weight more u.fide u.phased ≡ m
     → (first second third all : Bool) → first ≡ terms_eq.eq-value.it t u

@@ -9,12 +9,12 @@ use Rattle.std.specs.List.{list_all, range_with_len}
 use Rattle.league.specs.declared.made.Layout.{Layout}
 use Rattle.league.specs.declared.made.Layout.TheVariants.{Circular, Constant}
 use Rattle.league.specs.declared.rule.Rule.{Rule}
-use Rattle.league.specs.Checks.{distance_of, is_team_count, IsTable}
+use Rattle.league.specs.Checks.{distance_of, is_team_count, IsDistanceTable}
 use Rattle.league.specs.League.{league_data, IsLeague}
 use Rattle.league.specs.Limits.{min_teams, max_teams, max_distance, default_at_most, default_hard_weight}
 use Rattle.league.specs.LeagueMembers.{is_team_name}
 use Rattle.league.specs.Made.{apart, made_name, made_names, made_row, made_rows}
-use Rattle.league.proofs.Tables.{HasColumns, IsTable-from_within}
+use Rattle.league.proofs.Tables.{HasColumns, IsDistanceTable-from_within}
 
 columns : (layout : Layout) (n : ℕ) (places : List ℕ) → HasColumns n (map (made_row layout n) places)
 columns layout n [] = tt
@@ -46,9 +46,9 @@ most_teams n counted =
     leb-true n max_teams (and_parts (nat_le min_teams n) (nat_le n max_teams)
     (and_parts (n % 2 == 0) (nat_le min_teams n && nat_le n max_teams) counted).1).1
 
-IsTable-made_rows : (layout : Layout) (n : ℕ) → is_team_count n ≡ true → IsTable n (made_rows layout n)
-IsTable-made_rows layout n counted =
-    IsTable-from_within n (made_rows layout n) counted (length-map-range_with_len (made_row layout n) 0 n)
+IsDistanceTable-made_rows : (layout : Layout) (n : ℕ) → is_team_count n ≡ true → IsDistanceTable n (made_rows layout n)
+IsDistanceTable-made_rows layout n counted =
+    IsDistanceTable-from_within n (made_rows layout n) counted (length-map-range_with_len (made_row layout n) 0 n)
     (columns layout n (range_with_len 0 n))
     (λ a b a_below b_below. rw (distance_of-made_rows layout n a b a_below b_below) (near layout n a b (most_teams n counted)))
     (λ a below. distance_of-made_rows layout n a a below below ∙ diagonal layout n a)
@@ -69,7 +69,7 @@ made_names_pass (suc count) from most =
 IsLeague-made : (layout : Layout) (n : ℕ) → is_team_count n ≡ true
     → IsLeague (league_data (made_names n) (made_rows layout n) default_at_most default_hard_weight [] false false)
 IsLeague-made layout n counted = record {
-  table = rw (length-map-range_with_len made_name 0 n) (IsTable-made_rows layout n counted);
+  table = rw (length-map-range_with_len made_name 0 n) (IsDistanceTable-made_rows layout n counted);
   at_most_least = omega arith;
   at_most_most = omega arith;
   weight_least = omega arith;

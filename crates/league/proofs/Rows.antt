@@ -5,7 +5,7 @@ use Rattle.std.proofs.lemmas.List.{get_or-map, get_or-take, get_or-drop, length-
 use Rattle.std.proofs.lemmas.List.{get_or_default, drop_all, append-nil}
 use Rattle.std.proofs.lemmas.Nat.{mul-add-lt}
 use Rattle.std.proofs.Math.Seq.{take-add}
-use Rattle.league.specs.Checks.{distance_of, IsTable}
+use Rattle.league.specs.Checks.{distance_of, IsDistanceTable}
 use Rattle.league.specs.Rows.{cut, joined, table_of}
 use Rattle.league.specs.Views.{texts, rows, row_items}
 use Rattle.league.proofs.Tables.{HasColumns}
@@ -82,7 +82,7 @@ distance_of-table_of n numbers a b a_below b_below = get_or-cut n n numbers a b 
 
 -- the numbers of all rows, where none is left
 pub table_of-all : (n : ℕ) (numbers : List ℕ) (table : List (Vec ℕ Global)) (i : ℕ) → length table ≤ i
-    → IsTable n (rows table)
+    → IsDistanceTable n (rows table)
     → numbers ++ joined (rows (drop i table)) ≡ joined (rows table) → table_of n numbers ≡ rows table
 table_of-all n numbers table i past is_table so_far =
     let none_left : numbers ++ joined (rows (drop i table)) ≡ numbers =

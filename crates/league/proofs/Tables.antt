@@ -4,8 +4,8 @@ use Rattle.std.proofs.Common.{refl, sym, ◌∙◌, inl, inr, arith}
 use Rattle.std.proofs.lemmas.Bool.{and_parts, cases_lt, eqb-true, leb-true}
 use Rattle.std.proofs.lemmas.List.{get_or_past}
 use Rattle.std.specs.List.{list_all, AllByRecursion}
-use Rattle.league.specs.Checks.{distance_of, is_team_count, has_columns, is_square, is_in_range, has_zero_diagonal}
-use Rattle.league.specs.Checks.{is_mirrored_at, is_symmetric, IsTable}
+use Rattle.league.specs.Checks.{distance_of, is_team_count, has_columns, is_square, are_in_range, has_zero_diagonal}
+use Rattle.league.specs.Checks.{is_mirrored_at, is_symmetric, IsDistanceTable}
 use Rattle.league.specs.Limits.{min_teams, max_teams, max_distance}
 use Rattle.sets.proofs.ForCallers.{all_below_passes}
 
@@ -30,12 +30,12 @@ number_near (x ∷ row) zero h =
 number_near (x ∷ row) (suc b) h =
     number_near row b (and_parts (nat_le x max_distance) (list_all (λ y. nat_le y max_distance) row) h).1
 
-near : (table : List (List ℕ)) (a b : ℕ) → is_in_range table ≡ true → distance_of table a b ≤ max_distance
+near : (table : List (List ℕ)) (a b : ℕ) → are_in_range table ≡ true → distance_of table a b ≤ max_distance
 near [] a b h = number_near [] b refl
 near (row ∷ table) zero b h =
-    number_near row b (and_parts (list_all (λ x. nat_le x max_distance) row) (is_in_range table) h).0
+    number_near row b (and_parts (list_all (λ x. nat_le x max_distance) row) (are_in_range table) h).0
 near (row ∷ table) (suc a) b h =
-    near table a b (and_parts (list_all (λ x. nat_le x max_distance) row) (is_in_range table) h).1
+    near table a b (and_parts (list_all (λ x. nat_le x max_distance) row) (are_in_range table) h).1
 
 past_row : (table : List (List ℕ)) (a b : ℕ) → length table ≤ a → distance_of table a b ≡ 0
 past_row table a b past = rw (get_or_past table a [] past)
@@ -46,13 +46,13 @@ past_column n (row ∷ table) zero b h past = get_or_past row b 0 (omega (arith,
 past_column n (row ∷ table) (suc a) b h past = past_column n table a b h.1 past
 
 -- a table is one for n teams where its numbers are right within it: beyond it they are 0
-pub IsTable-from_within : (n : ℕ) (table : List (List ℕ)) → is_team_count n ≡ true → length table ≡ n
+pub IsDistanceTable-from_within : (n : ℕ) (table : List (List ℕ)) → is_team_count n ≡ true → length table ≡ n
     → HasColumns n table
     → ((a b : ℕ) → a < n → b < n → distance_of table a b ≤ max_distance)
     → ((a : ℕ) → a < n → distance_of table a a ≡ 0)
     → ((a b : ℕ) → a < n → b < n → distance_of table a b ≡ distance_of table b a)
-    → IsTable n table
-IsTable-from_within n table counted rows columns near diagonal symmetric =
+    → IsDistanceTable n table
+IsDistanceTable-from_within n table counted rows columns near diagonal symmetric =
     let count = and_parts (n % 2 == 0) (nat_le min_teams n && nat_le n max_teams) counted in
     let bounds = and_parts (nat_le min_teams n) (nat_le n max_teams) count.1 in
     record {
@@ -79,12 +79,12 @@ IsTable-from_within n table counted rows columns near diagonal symmetric =
     ]
 
 -- a table that passed the tests
-pub IsTable-from_tests : (n : ℕ) (table : List (List ℕ)) → is_team_count n ≡ true → is_square n table ≡ true
-    → is_in_range table ≡ true
-    → has_zero_diagonal n table ≡ true → is_symmetric n table ≡ true → IsTable n table
+pub IsDistanceTable-from_tests : (n : ℕ) (table : List (List ℕ)) → is_team_count n ≡ true → is_square n table ≡ true
+    → are_in_range table ≡ true
+    → has_zero_diagonal n table ≡ true → is_symmetric n table ≡ true → IsDistanceTable n table
 unfolding has_zero_diagonal is_symmetric is_mirrored_at
-IsTable-from_tests n table counted square ranged zeroed mirrored =
-    IsTable-from_within n table counted (length-is_square n table square) (columns-is_square n table square)
+IsDistanceTable-from_tests n table counted square ranged zeroed mirrored =
+    IsDistanceTable-from_within n table counted (length-is_square n table square) (columns-is_square n table square)
     (λ a b _ _. near table a b ranged)
     (λ a below. eqb-true (distance_of table a a) 0 (all_below_passes n (λ k. distance_of table k k == 0) zeroed a below))
     (λ a b a_below b_below. eqb-true (distance_of table a b) (distance_of table b a)

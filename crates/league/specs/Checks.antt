@@ -25,8 +25,8 @@ has_columns n = list_all (λ row. length row == n)
 abbrev pub is_square : ℕ → List (List ℕ) → Bool
 is_square n table = (length table == n) && has_columns n table
 
-abbrev pub is_in_range : List (List ℕ) → Bool
-is_in_range = list_all (list_all (λ x. nat_le x max_distance))
+abbrev pub are_in_range : List (List ℕ) → Bool
+are_in_range = list_all (list_all (λ x. nat_le x max_distance))
 
 -- no distance from a team to itself
 unfoldable pub has_zero_diagonal : ℕ → List (List ℕ) → Bool
@@ -44,13 +44,13 @@ unfoldable pub checked : ℕ → List (List ℕ) → ℕ → Result ⊤ LeagueFa
 checked n table rules = do
   counted ← unless (is_team_count n) TeamCount
   shaped ← unless (is_square n table) DistanceShape
-  ranged ← unless (is_in_range table) DistanceRange
+  ranged ← unless (are_in_range table) DistanceRange
   zeroed ← unless (has_zero_diagonal n table) Diagonal
   mirrored ← unless (is_symmetric n table) Asymmetric
   unless (nat_le rules max_rules) TooManyRules
 
 -- What the checks leave true of n teams and their distances. Beyond the table a distance is 0, so its facts hold of all a and b.
-pub record IsTable (n : ℕ) (table : List (List ℕ)) : Type 0 where
+pub record IsDistanceTable (n : ℕ) (table : List (List ℕ)) : Type 0 where
   pub even : n % 2 ≡ 0
   pub least : min_teams ≤ n
   pub most : n ≤ max_teams

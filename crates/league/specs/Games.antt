@@ -31,7 +31,7 @@ pub record IsGameList (games : List Pairing) : Type 0 where
 abbrev pub has_game : List Pairing → Pairing → Bool
 has_game games game = list_any (λ other. is_same_game other game) games
 
--- the games, and this one where it is new
+-- the games, and this one if it is new
 abbrev pub with_game : List Pairing → Pairing → List Pairing
 with_game games game = if has_game games game then games else games ++ game ∷ []
 

@@ -6,11 +6,11 @@ use Rattle.serde_json.specs.Data.{Data, Items, no_items, item}
 use Rattle.serde_json.specs.Read.{read}
 use Rattle.serde_json.specs.Find.{as_number, as_u64, as_array, as_object}
 
--- the value that the bytes stand for, where they are UTF-8 and JSON
+-- the value that the bytes stand for, if they are UTF-8 and JSON
 abbrev pub json_of : List ℕ → Option Data
 json_of bytes = if is_utf8 bytes then read bytes else None
 
--- x, where a test passes
+-- x, if a test passes
 abbrev pub only_if : {A : Type 0} → Bool → A → Option A
 only_if b x = if b then Some x else None
 
@@ -22,7 +22,7 @@ whole_number d = option_and_then as_u64 (as_number d)
 abbrev pub number_within : ℕ → ℕ → Data → Option ℕ
 number_within low high d = option_and_then (λ n. only_if (nat_le low n && nat_le n high) n) (whole_number d)
 
--- the items, where each has the form
+-- the items, if each has the form
 abbrev pub all_items : {A : Type 0} → (Data → Option A) → Items → Option (List A)
 all_items form no_items = Some []
 all_items form (item d ds) = option_and_then (λ x. option_map (λ xs. x ∷ xs) (all_items form ds)) (form d)

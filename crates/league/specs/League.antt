@@ -12,7 +12,7 @@ use Rattle.league.specs.Reading.{◌>>=◌, or_fault, unless}
 use Rattle.league.specs.Rows.{table_of}
 use Rattle.league.specs.LeagueMembers.{is_team_name, format_of, teams_of, distances_of}
 use Rattle.league.specs.LeagueMembers.{at_most_of, hard_weight_of, rules_of, fide_of, phased_of}
-use Rattle.league.specs.Checks.{distance_of, checked, IsTable}
+use Rattle.league.specs.Checks.{distance_of, checked, IsDistanceTable}
 use Rattle.league.specs.Limits.{max_rounds, max_weight, max_rules}
 use Rattle.league.specs.RuleLimits.{IsRuleFor}
 use Rattle.league.specs.RuleClasses.{class_of, rule_of_class}
@@ -58,7 +58,7 @@ distance l a b = distance_of l.distances a b
 
 -- what is true of every league
 pub record IsLeague (l : LeagueData) : Type 0 where
-  pub table : IsTable (length l.names) l.distances
+  pub table : IsDistanceTable (length l.names) l.distances
   pub at_most_least : 1 ≤ l.at_most
   pub at_most_most : l.at_most ≤ max_rounds
   pub weight_least : 1 ≤ l.hard_weight

@@ -15,7 +15,7 @@ member_name Rules = codes "rules"
 member_name Start = codes "start"
 member_name Phased = codes "phased"
 
--- what is said where it is not of its form
+-- what is said if it is not of its form
 abbrev pub wrong_kind_message : Field → List ℕ
 wrong_kind_message Whole = codes "league is no object"
 wrong_kind_message field = codes "league member " ++ member_name field ++ codes " is wrong"

@@ -10,12 +10,12 @@ abbrev pub ◌>>=◌ : {A B : Type 0} → Result A LeagueFault → (A → Result
 (Ok x) >>= f = f x
 (Err fault) >>= f = Err fault
 
--- the value, or this fault where there is none
+-- the value, or this fault if there is none
 abbrev pub or_fault : {A : Type 0} → LeagueFault → Option A → Result A LeagueFault
 or_fault fault (Some x) = Ok x
 or_fault fault None = Err fault
 
--- this fault where the test fails
+-- this fault if the test fails
 abbrev pub unless : Bool → LeagueFault → Result ⊤ LeagueFault
 unless true fault = Ok tt
 unless false fault = Err fault

@@ -34,11 +34,11 @@ abbrev pub set_or_all : ℕ → Option Data → Option ℕ
 set_or_all m None = Some (all_numbers m)
 set_or_all m (Some d) = number_set m d
 
--- the opponents, or all teams where none are given
+-- the opponents, or all teams if none are given
 abbrev pub opponents_member : ℕ → Data → Option ℕ
 opponents_member n d = set_or_all n (get (codes "teams2") d)
 
--- the rounds, or all rounds where none are given
+-- the rounds, or all rounds if none are given
 abbrev pub slots_member : ℕ → Data → Option ℕ
 slots_member n d = set_or_all (round_count n) (get (codes "slots") d)
 
@@ -73,21 +73,21 @@ abbrev pub each_member : Data → Option Bool
 each_member d = option_and_then is_each (text_member (codes "mode2") d)
 
 -- two numbers of distinct teams, the home team first
-abbrev pub game_of_items : ℕ → Items → Option Pairing
-game_of_items n no_items = None
-game_of_items n (item home no_items) = None
-game_of_items n (item home (item away no_items)) =
+abbrev pub pairing_from_items : ℕ → Items → Option Pairing
+pairing_from_items n no_items = None
+pairing_from_items n (item home no_items) = None
+pairing_from_items n (item home (item away no_items)) =
     option_and_then (λ h. option_and_then (λ a. only_if (not (h == a)) (record { home = h - 1; away = a - 1 })) (number_within 1 n away))
     (number_within 1 n home)
-game_of_items n (item home (item away (item more items))) = None
+pairing_from_items n (item home (item away (item more items))) = None
 
-abbrev pub game_of : ℕ → Data → Option Pairing
-game_of n d = option_and_then (game_of_items n) (as_array d)
+abbrev pub pairing_from : ℕ → Data → Option Pairing
+pairing_from n d = option_and_then (pairing_from_items n) (as_array d)
 
 -- a game given twice counts once
 abbrev pub games_member : ℕ → Data → Option (List Pairing)
 games_member n d =
-    option_and_then (λ games. option_map (with_games []) (array_of (game_of n) games)) (get (codes "games") d)
+    option_and_then (λ games. option_map (with_games []) (array_of (pairing_from n) games)) (get (codes "games") d)
 
 abbrev pub soft_weight : Data → Option Weight
 soft_weight d = option_map Soft (option_and_then (number_within 1 max_weight) (get (codes "weight") d))

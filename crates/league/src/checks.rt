@@ -2,8 +2,8 @@
 
 ghost use Rattle.std.specs.Prelude.{◌≡◌, ◌<◌, ◌≤◌, [], length, slice_index_or, nat_le, OnOk, IsTrue};
 ghost use Rattle.std.specs.List.{list_all};
-ghost use Rattle.league.specs.Checks.{distance_of, is_team_count, is_square, is_in_range, has_zero_diagonal};
-ghost use Rattle.league.specs.Checks.{is_mirrored_at, is_symmetric, checked, IsTable};
+ghost use Rattle.league.specs.Checks.{distance_of, is_team_count, is_square, are_in_range, has_zero_diagonal};
+ghost use Rattle.league.specs.Checks.{is_mirrored_at, is_symmetric, checked, IsDistanceTable};
 ghost use Rattle.league.specs.Limits.{max_distance, max_rules};
 ghost use Rattle.league.specs.Views.{rows};
 
@@ -46,8 +46,8 @@ fn is_row_in_range(row: &[u64]) -> bool
     row.iter().all(|distance| *distance <= MAX_DISTANCE)
 }
 
-fn is_in_range(table: &[Vec<u64>]) -> bool
-    ensures { result ≡ is_in_range (rows table.now) }
+fn are_in_range(table: &[Vec<u64>]) -> bool
+    ensures { result ≡ are_in_range (rows table.now) }
 {
     for row in table {
         if !is_row_in_range(row) {
@@ -101,7 +101,7 @@ fn is_symmetric(n: usize, table: &[Vec<u64>]) -> bool
 #[tactic(auto, unfolding(crate::specs::Checks::checked))]
 pub fn check(n: usize, table: &[Vec<u64>], rules: usize) -> Result<(), LeagueFault>
     ensures value { result ≡ checked n (rows table.now) rules }
-    ensures table { OnOk result (IsTable n (rows table.now)) }
+    ensures table { OnOk result (IsDistanceTable n (rows table.now)) }
     ensures count { OnOk result (rules ≤ max_rules) }
 {
     if !is_team_count(n) {
@@ -110,7 +110,7 @@ pub fn check(n: usize, table: &[Vec<u64>], rules: usize) -> Result<(), LeagueFau
     if !is_square(n, table) {
         return Err(LeagueFault::DistanceShape);
     }
-    if !is_in_range(table) {
+    if !are_in_range(table) {
         return Err(LeagueFault::DistanceRange);
     }
     if !has_zero_diagonal(n, table) {

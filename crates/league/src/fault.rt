@@ -98,7 +98,7 @@ impl<T: Drop> From<AllocFailed<T>> for LeagueFault {
     }
 }
 
-// What is wrong where a field is not of its form.
+// What is wrong if a field is not of its form.
 #[derive(Clone, Copy)]
 struct Wrong(Field);
 

@@ -1,5 +1,5 @@
-//! The members of a league's text. One that has to be there is MissingField where it is absent, and each is
-//! WrongKind where it is not of its form.
+//! The members of a league's text. One that has to be there is MissingField if it is absent, and each is
+//! WrongKind if it is not of its form.
 
 ghost use Rattle.std.specs.Prelude.{◌≡◌, ◌≤◌, IsTrue, IfOk};
 ghost use Rattle.std.specs.List.{list_all};
@@ -74,7 +74,7 @@ pub fn hard_weight_of(object: &Value) -> Result<u32, LeagueFault>
     }
 }
 
-/// The rules, none where the member is absent.
+/// The rules, none if the member is absent.
 pub fn rules_of(object: &Value) -> Result<&[Value], LeagueFault>
     ensures { seen (λ items. items_view items.now) result ≡ rules_of (view object.now) }
 {

@@ -1,7 +1,7 @@
 //! A league in memory.
 
 ghost use Rattle.std.specs.Prelude.{◌≡◌, ◌↔◌, ℕ, ◌<◌, ◌≤◌, ◌%◌, ◌++◌, Some, length, slice_get, slice_index, IfOk, IsTrue, OnOk};
-ghost use Rattle.league.specs.Checks.{IsTable};
+ghost use Rattle.league.specs.Checks.{IsDistanceTable};
 ghost use Rattle.league.specs.Limits.{min_teams, max_teams, max_rounds, max_distance, max_weight, max_rules};
 ghost use Rattle.league.specs.Rows.{joined, table_of};
 ghost use Rattle.league.specs.Views.{texts, rows};
@@ -195,7 +195,7 @@ fn one_after_another(
     teams: usize,
     table: &[Vec<u64>],
 ) -> Result<Vec<u32>, AllocError>
-    requires { IsTable teams (rows table.now) }
+    requires { IsDistanceTable teams (rows table.now) }
     ensures { IfOk result (λ numbers. table_of teams numbers.items ≡ rows table.now) }
 {
     let mut numbers = Vec::with_capacity(alloc, teams * teams)?;

@@ -86,7 +86,7 @@ fn made(alloc: Global, layout: Layout, n: u8) -> Result<League, LeagueFault>
 
 /// The league of `n` teams T1 to Tn whose homes lie in a circle, each at distance 1 from the next, with at most
 /// 3 rounds in a row at home or away and a hard weight of 100 (the circle instances of Easton, Nemhauser, Trick 2001).
-/// TeamCount where `n` is odd, below 4 or above 40.
+/// TeamCount if `n` is odd, below 4 or above 40.
 pub fn circular(alloc: Global, n: u8) -> Result<League, LeagueFault>
     ensures exact { Gives (λ l. l) result (circular_of n) }
     ensures limits { IfOk result IsLeague }

@@ -63,11 +63,11 @@ fn league_of_data(alloc: Global, value: &Value) -> Result<League, LeagueFault>
 /// - `format`: the whole number 1 or 2;
 /// - `teams`: an array of names, each of 1 to 40 bytes and none of them a control byte (0 to 31 and 127);
 /// - `distances`: an array with a row for each team, of a whole number up to 1,000,000 for each team;
-/// - `at_most`, or 3 where it is absent: a whole number from 1 to 78;
-/// - `hard_weight`, or 100 where it is absent: a whole number from 1 to 1,000,000;
-/// - `rules`, or none where it is absent: an array of at most 256 objects, each a rule;
-/// - in format 2 `start`, or `"plain"` where it is absent: `"plain"` or `"fide"`;
-/// - in format 2 `phased`, or false where it is absent: true or false.
+/// - `at_most`, or 3 if it is absent: a whole number from 1 to 78;
+/// - `hard_weight`, or 100 if it is absent: a whole number from 1 to 1,000,000;
+/// - `rules`, or none if it is absent: an array of at most 256 objects, each a rule;
+/// - in format 2 `start`, or `"plain"` if it is absent: `"plain"` or `"fide"`;
+/// - in format 2 `phased`, or false if it is absent: true or false.
 ///
 /// A rule has the members `class`, `kind` (`"hard"`, or `"soft"` with a `weight` from 1 to 1,000,000) and those of its
 /// class; docs/rules.md has them all. Teams and rounds count from 1 there.
@@ -75,7 +75,7 @@ fn league_of_data(alloc: Global, value: &Value) -> Result<League, LeagueFault>
 /// A whole number fits 64 bits and has no fraction or exponent: `3.0` is none. Other members are ignored, and of a
 /// member that is given twice the last counts.
 ///
-/// The first fault is answered, in this order: NotJson; WrongKind where the text is no object; MissingField or
+/// The first fault is answered, in this order: NotJson; WrongKind if the text is no object; MissingField or
 /// WrongKind for each member in the order above; then the others in the order of [`LeagueFault`] up to TooManyRules;
 /// then, rule by rule, RuleClass or RuleValue. Memory may come in place of any answer, but for an empty input.
 #[tactic(auto, unfolding(crate::specs::League::league_of))]

@@ -67,7 +67,7 @@ pub enum RuleBody {
         max: u32,
     },
     /// The teams of `teams1` together have at most `max` games of the side against `teams2`: in each of the slots
-    /// where `each` is true, and in all of them together where it is false.
+    /// if `each` is true, and in all of them together if it is false.
     Ca4 {
         teams1: TeamSet,
         side: Side,

@@ -1,4 +1,4 @@
-//! The members of a rule's text. Each answer is None where the member is absent or not of its form. Teams and rounds
+//! The members of a rule's text. Each answer is None if the member is absent or not of its form. Teams and rounds
 //! count from 1 in the text, and from 0 in what is read.
 
 ghost use Rattle.std.specs.Prelude.{◌≡◌, ◌≢◌, ◌≤◌, IfOk, IfSome, length, option_map};
@@ -10,7 +10,7 @@ ghost use Rattle.league.specs.Limits.{round_count, max_teams, max_rounds, max_ga
 ghost use Rattle.league.specs.RuleLimits.{IsCount, IsWeight};
 ghost use Rattle.league.specs.RuleMembers.{text_member, number_set, teams_member, opponents_member, slots_member};
 ghost use Rattle.league.specs.RuleMembers.{count_member, window_member, one_side, one_side_member, any_side_member};
-ghost use Rattle.league.specs.RuleMembers.{each_member, game_of, games_member, soft_weight, weight_of};
+ghost use Rattle.league.specs.RuleMembers.{each_member, pairing_from, games_member, soft_weight, weight_of};
 ghost use Rattle.sets.specs.Sets.{IsBelow};
 
 use crate::forms::number_within;
@@ -64,7 +64,7 @@ pub fn teams_member(rule: &Value, name: &str, teams: u8) -> Option<TeamSet>
     team_set(rule.get(name)?, teams)
 }
 
-/// The opponents that count: all teams where the member is absent.
+/// The opponents that count: all teams if the member is absent.
 pub fn opponents_member(rule: &Value, teams: u8) -> Option<TeamSet>
     requires { teams ≤ max_teams }
     ensures value { result ≡ opponents_member teams (view rule.now) }
@@ -76,7 +76,7 @@ pub fn opponents_member(rule: &Value, teams: u8) -> Option<TeamSet>
     }
 }
 
-/// The rounds that count: all rounds where the member is absent.
+/// The rounds that count: all rounds if the member is absent.
 pub fn slots_member(rule: &Value, teams: u8) -> Option<SlotSet>
     requires { teams ≤ max_teams }
     ensures value { result ≡ slots_member teams (view rule.now) }
@@ -152,9 +152,9 @@ pub fn each_member(rule: &Value) -> Option<bool>
 
 // two numbers of distinct teams, the home team first
 #[tactic(auto, using(crate::proofs::Items::game_of_items_none))]
-fn game_of(value: &Value, teams: u8) -> Option<Pairing>
+fn pairing_from(value: &Value, teams: u8) -> Option<Pairing>
     requires { teams ≤ max_teams }
-    ensures value { result ≡ game_of teams (view value.now) }
+    ensures value { result ≡ pairing_from teams (view value.now) }
     ensures range { IfSome result (IsGameFor teams) }
 {
     let [home, away] = value.as_array()?.as_slice() else {
@@ -183,7 +183,7 @@ pub fn games_member(alloc: Global, rule: &Value, teams: u8) -> Result<Option<Gam
     };
     let mut games = GameList::new(alloc);
     for item in list {
-        let Some(game) = game_of(item, teams) else {
+        let Some(game) = pairing_from(item, teams) else {
             return Ok(None);
         };
         games.add(game)?;

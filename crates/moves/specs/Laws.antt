@@ -77,7 +77,7 @@ abbrev pub SidesDifferAtTurning : Games → Exchange → Type 0
 SidesDifferAtTurning g exchange =
     DiffersOnlyAt is_home g (exchanged_by g exchange) (box (turning_team g exchange) (has (main_cells exchange).rounds))
 
--- where it is said to keep the meetings, each team meets whom it met, or whom another met, with the two exchanged
+-- if it is said to keep the meetings, each team meets whom it met, or whom another met, with the two exchanged
 abbrev pub KeepsMeetings : Games → Exchange → Type 0
 KeepsMeetings g exchange =
     same_meetings g exchange ≡ true → (i : ℕ) × (j : ℕ) × MeetingsExchanged g (exchanged_by g exchange) i j

@@ -53,7 +53,7 @@ fn touched_by(schedule: &Schedule, exchange: &Exchange) -> Touched
     }
 }
 
-/// The teams `i` and `j`, and the opponents of `i` in these rounds. Where the two can be exchanged in them, `j` has the
+/// The teams `i` and `j`, and the opponents of `i` in these rounds. If the two can be exchanged in them, `j` has the
 /// same opponents there.
 fn teams_with_opponents(schedule: &Schedule, i: u8, j: u8, rounds: SlotSet) -> TeamSet
     requires round_robin { IsDoubleRoundRobin schedule.now }

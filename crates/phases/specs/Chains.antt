@@ -27,7 +27,7 @@ chain_with c o = record {
   hard = o.hard;
 }
 
--- by the first numbers and, where they are equal, by the second
+-- by the first numbers and, if they are equal, by the second
 abbrev pub is_before : ℕ → ℕ → ℕ → ℕ → Bool
 is_before x m y n = nat_lt x y || (x == y && nat_lt m n)
 

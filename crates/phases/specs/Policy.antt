@@ -45,7 +45,7 @@ abbrev pub new_policy : LeagueData → ℕ → ℕ → PolicyData
 new_policy l seed effort = policy_data (pair_count l) (distance_sum l) seed effort 0 first_chains
 
 -- where the phase begins that comes after so many: in a bout each where the one before ended, the first of a bout at the
--- league's start in level 0, and else at the best version of its chain
+-- league's start in level 0, otherwise at the best version of its chain
 abbrev pub start_of : ℕ → PhaseStart
 start_of told = if told % 20 == 0 then (if nat_lt told 160 then LeagueStart else Best) else Last
 

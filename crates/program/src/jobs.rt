@@ -80,7 +80,7 @@ fn with_verdict(outcome: Result<Verdict, ProgramFault>) -> Result<Option<Verdict
     }
 }
 
-/// Improves, and shows how far it is where there is a terminal.
+/// Improves, and shows how far it is if there is a terminal.
 fn improve<T: Threads + Wait + Clock + Sync, E: Write + Send + Drop, R: Source + Drop, W: Sink>(
     rt: &T,
     alloc: Global,
@@ -103,7 +103,7 @@ fn improve<T: Threads + Wait + Clock + Sync, E: Write + Send + Drop, R: Source +
     }
 }
 
-/// Searches, and shows how far it is where there is a terminal.
+/// Searches, and shows how far it is if there is a terminal.
 fn search<T: Threads + Wait + Clock + Sync, E: Write + Send + Drop, R: Source + Drop, W: Sink>(
     rt: &T,
     alloc: Global,

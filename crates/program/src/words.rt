@@ -29,8 +29,8 @@ const MISUSE: u8 = 2;
 const INFEASIBLE: u8 = 3;
 
 /// Does what the program's words ask for, between standard input and output. The exit status is 0 on success, 1 after a
-/// fault, 2 where the words are wrong, and 3 after a report on a schedule that isn't feasible. A search shows how far it is
-/// where standard error is a terminal.
+/// fault, 2 if the words are wrong, and 3 after a report on a schedule that isn't feasible. A search shows how far it is
+/// if standard error is a terminal.
 pub fn run<R, E>(rt: &R, error: E) -> ExitCode
 where
     R: Runtime + AllocGlobal + Threads + Wait + Sync,
@@ -93,7 +93,7 @@ fn ended<R: Runtime>(rt: &R, outcome: Result<Option<Verdict>, ProgramFault>) -> 
     }
 }
 
-/// Names the fault on standard error. Where that can't be written either, the status still tells.
+/// Names the fault on standard error. If that can't be written either, the status still tells.
 fn failure<R: Runtime>(rt: &R, fault: ProgramFault) -> ExitCode
     ensures { exit_status result ≡ 1 }
 {

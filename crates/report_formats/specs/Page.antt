@@ -61,7 +61,7 @@ rule_row g broken i rule = if beq (nat_lt 0 (deviation g rule.body)) broken then
     concat (row_head broken ∷ decimal (i + 1) ∷ codes "</td><td>" ∷ class_name rule.body ∷ codes "</td><td>" ∷
     weight_text rule.weight ∷ codes "</td><td>" ∷ decimal (deviation g rule.body) ∷ codes "</td></tr>" ∷ []) else []
 
--- where there is one
+-- if there is one
 abbrev pub rule_row_at : Games → Bool → ℕ → Option Rule → List ℕ
 rule_row_at g broken i None = []
 rule_row_at g broken i (Some rule) = rule_row g broken i rule

@@ -3,7 +3,7 @@ use Rattle.std.specs.Prelude.{ℕ, ◌==◌, List, [], ◌∷◌, ◌++◌, code
 use Rattle.report_formats.specs.declared.pieces.Piece.{Piece}
 use Rattle.report_formats.specs.declared.pieces.Piece.TheVariants.{Html, Name, Number}
 
--- a byte of a name, where the marks of HTML stand for themselves
+-- a byte of a name in which the marks of HTML stand for themselves
 abbrev pub escape_of : ℕ → List ℕ
 escape_of b =
     if b == 38 then codes "&amp;" else if b == 60 then codes "&lt;" else if b == 62 then codes "&gt;"

@@ -39,7 +39,7 @@ pub struct Prepared {
 }
 
 /// Makes the report in the format, unless it is the text that [`write_report`] writes as it goes: in the format of text,
-/// and where the games are no double round robin. The remarks stand behind that text alone. Takes memory for the whole report.
+/// and if the games are no double round robin. The remarks stand behind that text alone. Takes memory for the whole report.
 pub fn prepare(
     alloc: Global,
     format: Format,
@@ -73,7 +73,7 @@ fn prepare_schedule(
     }
 }
 
-/// Writes what was prepared, or else the report of what was judged as text, where this is the text that it was read from, and
+/// Writes what was prepared, or else the report of what was judged as text, if this is the text that it was read from, and
 /// the remarks. Takes no memory. After a fault a prefix of it went out.
 pub fn write_prepared<W: Sink>(
     league: &League,

@@ -115,7 +115,7 @@ fn write_pairing<W: Write + Drop>(
     )
 }
 
-/// Writes a record. A writer over memory fails only where memory is refused, and rows of one length don't differ in length.
+/// Writes a record. A writer over memory fails only if memory is refused, and rows of one length don't differ in length.
 fn write_row<W: Write + Drop>(writer: &mut Writer<W>, fields: &[&[u8]]) -> Result<(), AllocError>
     requires { IsBetweenRows writer.old }
     ensures { OnOk result (AddsRows W.contents writer.old writer.new (row_of fields.now)) }

@@ -89,7 +89,7 @@ rule_line g i rule (Soft weight) =
     concat (codes "rule " ∷ decimal (i + 1) ∷ codes " " ∷ class_name rule.body ∷ codes " soft " ∷ decimal weight ∷
     codes " deviation " ∷ decimal (deviation g rule.body) ∷ codes "\n" ∷ [])
 
--- where there is one
+-- if there is one
 abbrev pub rule_at : Games → ℕ → Option Rule → List ℕ
 rule_at g i None = []
 rule_at g i (Some rule) = rule_line g i rule rule.weight

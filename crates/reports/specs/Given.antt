@@ -3,13 +3,13 @@ use Rattle.std.specs.Prelude.{◌≡◌, ℕ, false, List, map, Option, Some, No
 use Rattle.fixtures.specs.declared.game.Game.{Game}
 use Rattle.fixtures.specs.Games.{Games}
 use Rattle.fixtures.specs.GameList.{AreGamesOf}
-use Rattle.texts.specs.Command.{game_of}
+use Rattle.texts.specs.Command.{numbered_game}
 use Rattle.reports.specs.declared.schedule_text.WrittenGame.{WrittenGame}
 use Rattle.reports.specs.ScheduleText.{written_games, has_bad_line}
 
--- the game with numbers from 0, where 255 stands for one that no team and no round has
+-- the game with numbers from 0, in which 255 stands for one that no team and no round has
 abbrev pub placed : WrittenGame → Game
-placed w = game_of w.round w.home w.away
+placed w = numbered_game w.round w.home w.away
 
 abbrev pub given_games : List (List ℕ) → List Game
 given_games lines = map placed (written_games lines)

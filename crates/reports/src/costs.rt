@@ -20,7 +20,7 @@ use streams::{BufferedSink, Sink, WriteFault};
 use texts::{Piece, write_pieces};
 use tours::travel_of;
 
-/// Writes the cost of a schedule, a line for each part of it, and the total where no hard limit is broken.
+/// Writes the cost of a schedule, a line for each part of it, and the total if no hard limit is broken.
 pub(crate) fn write_costs<W: Sink>(
     out: &mut BufferedSink<'_, W>,
     league: &League,
@@ -121,7 +121,7 @@ fn write_repeats_after<W: Sink>(
     Ok(())
 }
 
-/// Names the pair where the team meets the same lower team in the round and in the next.
+/// Names the pair if the team meets the same lower team in the round and in the next.
 fn write_repeat<W: Sink>(
     out: &mut BufferedSink<'_, W>,
     schedule: &Schedule,
@@ -207,7 +207,7 @@ fn write_halves_of<W: Sink>(
     Ok(())
 }
 
-/// Names the pair where it plays both its games in one half of the season.
+/// Names the pair if it plays both its games in one half of the season.
 fn write_half<W: Sink>(
     out: &mut BufferedSink<'_, W>,
     schedule: &Schedule,

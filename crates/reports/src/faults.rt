@@ -83,7 +83,7 @@ fn write_no_games<W: Sink>(
     Ok(())
 }
 
-/// Names the game where it is none of this number of teams.
+/// Names the game if it is none of this number of teams.
 fn write_no_game<W: Sink>(
     out: &mut BufferedSink<'_, W>,
     teams: u8,

@@ -12,7 +12,7 @@ use fixtures::{FixtureFault, Game, Schedule, from_games};
 use league::League;
 use std::alloc::{AllocError, Global};
 
-/// The games that a text gives for a league, and their schedule where they are a double round robin of its teams.
+/// The games that a text gives for a league, and their schedule if they are a double round robin of its teams.
 #[derive(Drop)]
 pub struct Judged {
     pub(crate) written: Vec<WrittenGame>,
@@ -21,7 +21,7 @@ pub struct Judged {
 }
 
 /// Reads the games of a text, and finds out whether they are a double round robin of the league's teams. Takes memory for
-/// each game, and else for one schedule.
+/// each game, otherwise for one schedule.
 pub fn judge(alloc: Global, league: &League, text: &[u8]) -> Result<Judged, AllocError>
     ensures { IfOk result (IsJudgedBy league.now (lines text.now)) }
 {

@@ -13,7 +13,7 @@ pub fn figures_add_up()
     ensures { (l : LeagueData) (g : Games) → IsLeague l → IsDoubleRoundRobin g → AddsUp l g }
 {}
 
-/// A text has no fault exactly where it gives a double round robin of the league's teams: where [`judge`](crate::judge)
+/// A text has no fault exactly if it gives a double round robin of the league's teams: if [`judge`](crate::judge)
 /// finds one.
 #[tactic(auto, using(crate::proofs::Faultless::faultless_exactly))]
 pub fn faults_are_complete()

@@ -20,7 +20,7 @@ use league::League;
 use streams::{BufferedSink, Sink, WriteFault};
 use texts::write_sheet;
 
-/// Writes the report of what was judged, where this is the text that it was read from, and behind it the remarks. Takes no
+/// Writes the report of what was judged, if this is the text that it was read from, and behind it the remarks. Takes no
 /// memory. After a fault a prefix of both went out.
 pub fn write_report<W: Sink>(
     league: &League,

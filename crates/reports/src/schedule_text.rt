@@ -21,7 +21,7 @@ pub struct WrittenGame {
 }
 
 impl WrittenGame {
-    /// The game with numbers from 0, where 255 stands for one that no team and no round has.
+    /// The game with numbers from 0, in which 255 stands for one that no team and no round has.
     pub fn placed(self) -> Game
         ensures { result ≡ placed self }
     {

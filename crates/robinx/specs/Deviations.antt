@@ -82,7 +82,7 @@ largest_below (suc n) f = max (largest_below n f) (f n)
 unfoldable pub gap : Games → ℕ → ℕ → ℕ → ℕ → ℕ
 gap g most i j round = over (abs_diff (home_games g i round) (home_games g j round)) most
 
--- the largest gap of two teams in the slots, or 0 where there is no slot
+-- the largest gap of two teams in the slots, or 0 if there is no slot
 unfoldable pub worst_gap : Games → (ℕ → Bool) → ℕ → ℕ → ℕ → ℕ
 worst_gap g slots most i j = largest_below (round_count g.teams) (λ r. if slots r then gap g most i j r else 0)
 

@@ -24,7 +24,7 @@ LookedPastStays =
     IsBodyFor g.teams body → DiffersOnlyAround g g' teams rounds → LooksPast teams body →
     deviation g' body ≡ deviation g body
 
--- the test holds only where the rule looks past the teams of the set
+-- the test holds only if the rule looks past the teams of the set
 abbrev pub LooksPastWhereTested : Type 0
 LooksPastWhereTested = (teams : ℕ) (body : RuleBody) → looks_past teams body ≡ true → LooksPast (has teams) body
 
@@ -48,7 +48,7 @@ LookedPastHasNoPart =
     (g : Games) (main rounds sides : ℕ) (body : RuleBody) → IsDoubleRoundRobin g → IsBodyFor g.teams body →
     SidesAreMain main sides → looks_past main body ≡ true → deviation_part g main rounds sides body ≡ 0
 
--- nor from a rule that isn't touched, where the main teams and their guests are touched
+-- nor from a rule that isn't touched, if the main teams and their guests are touched
 abbrev pub UntouchedHasNoPart : Type 0
 UntouchedHasNoPart =
     (g : Games) (main rounds sides : ℕ) (touched : ℕ → Bool) (body : RuleBody) → IsDoubleRoundRobin g →

@@ -24,7 +24,7 @@ unfoldable pub meets_otherwise : Games → ℕ → ℕ → ℕ → ℕ → Bool
 meets_otherwise g main rounds opponents t =
     has main t || (not (takes_all_or_none main opponents) && is_guest g (has main) (has rounds) t)
 
--- whether other games of a team may count: if its sides may change where all teams are opponents, else if it may meet others
+-- whether other games of a team may count: if all teams are opponents its sides may change, otherwise it may meet others
 unfoldable pub counts_otherwise : Games → ℕ → ℕ → ℕ → ℕ → ℕ → Bool
 counts_otherwise g main rounds sides opponents t =
     if opponents == all_numbers g.teams then has sides t else meets_otherwise g main rounds opponents t
@@ -52,7 +52,7 @@ is_pair_with teams set i j = (has teams i && has teams j) && (has set i || has s
 unfoldable pub meet_in : Games → (ℕ → Bool) → ℕ → ℕ → Bool
 meet_in g rounds i j = rounds (round_of g i j) || rounds (round_of g j i)
 
--- the terms of a deviation that a change can alter, where it can alter the deviation
+-- the terms of a deviation that a change can alter, if it can alter the deviation
 unfoldable pub changing_terms : Games → ℕ → ℕ → ℕ → RuleBody → ℕ
 changing_terms g main rounds sides (Ca1 teams side slots most) =
     sum_where g.teams (λ t. has teams t && has sides t)

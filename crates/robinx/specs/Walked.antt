@@ -58,7 +58,7 @@ pub record IsRowOf (g : Games) (team : ℕ) (row : List ℕ) : Type 0 where
 abbrev pub row_of : List (List ℕ) → ℕ → List ℕ
 row_of rows team = slice_index_or rows team []
 
--- by how much two rows are apart in a round, or the limit of the round where that is less
+-- by how much two rows are apart in a round, or the limit of the round if that is less
 abbrev pub apart_within : List ℕ → List ℕ → List ℕ → ℕ → ℕ
 apart_within first second limits r = min (abs_diff (slice_index first r) (slice_index second r)) (slice_index limits r)
 

@@ -204,7 +204,7 @@ fn over_in_slots(schedule: &Schedule, games: &CountedGames, slots: SlotSet, most
     total
 }
 
-/// The same where all teams are opponents, counted in all the slots at once, team by team.
+/// The same if all teams are opponents, counted in all the slots at once, team by team.
 fn over_in_many_slots(schedule: &Schedule, games: &CountedGames, slots: SlotSet, most: u32) -> u64
     requires round_robin { IsDoubleRoundRobin schedule.now }
     requires teams { IsBelow schedule.now.teams games.now.teams }
@@ -245,7 +245,7 @@ fn games_of_all(schedule: &Schedule, games: &CountedGames, slots: SlotSet) -> u3
     count
 }
 
-/// The same where all teams are opponents.
+/// The same if all teams are opponents.
 fn games_on_sides(schedule: &Schedule, games: &CountedGames, slots: SlotSet) -> u32
     requires round_robin { IsDoubleRoundRobin schedule.now }
     requires teams { IsBelow schedule.now.teams games.now.teams }

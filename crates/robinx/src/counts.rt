@@ -106,7 +106,7 @@ pub(crate) fn rounds_on_side(schedule: &Schedule, side: Side, team: u8) -> SlotS
     }
 }
 
-/// The rounds of the slots in which a team's game counts, where the team does.
+/// The rounds of the slots in which a team's game counts, if the team does.
 #[inline]
 pub(crate) fn counted_rounds(
     schedule: &Schedule,
@@ -144,7 +144,7 @@ fn rounds_against(schedule: &Schedule, side: Side, opponents: TeamSet, team: u8)
     against
 }
 
-/// The rounds in which the team meets the opponent on this side: none where that is the team itself.
+/// The rounds in which the team meets the opponent on this side: none if that is the team itself.
 fn rounds_with(schedule: &Schedule, side: Side, opponent: u8, team: u8) -> SlotSet
     requires team { team < schedule.now.teams }
     requires opponent { opponent < schedule.now.teams }
@@ -180,7 +180,7 @@ pub(crate) fn number_of(schedule: &Schedule, teams: TeamSet) -> u32
     count
 }
 
-/// In how many rounds of the slots the team's game counts, where there are so many opponents. It looks at the slots or at the
+/// In how many rounds of the slots the team's game counts, if there are so many opponents. It looks at the slots or at the
 /// other rounds, whichever are fewer: how many games count in the whole season is known.
 pub(crate) fn games_of_team(
     schedule: &Schedule,
@@ -207,7 +207,7 @@ pub(crate) fn games_of_team(
     season - games_with(schedule, games.opponents, outside, team)
 }
 
-/// In how many rounds of the slots the team's game counts, where all teams are opponents.
+/// In how many rounds of the slots the team's game counts, if all teams are opponents.
 #[inline]
 pub(crate) fn games_on_side(
     schedule: &Schedule,
@@ -242,7 +242,7 @@ fn games_with(schedule: &Schedule, opponents: TeamSet, rounds: SlotSet, team: u8
     count
 }
 
-/// How many games of a team count in a season on this side against so many opponents, where the team itself may be one.
+/// How many games of a team count in a season on this side against so many opponents, if the team itself may be one.
 fn games_of_season(side: Side, opponents: u32, own: bool) -> u32
     requires { opponents ≤ max_teams }
     ensures { result ≡ season_games side opponents own }

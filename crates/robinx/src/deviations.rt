@@ -14,7 +14,7 @@ use crate::separation_rules::se1;
 use fixtures::Schedule;
 use league::{Rule, RuleBody};
 
-/// By how much the schedule breaks the rule, whatever the rule's weight: 0 where it keeps it. What each class
+/// By how much the schedule breaks the rule, whatever the rule's weight: 0 if it keeps it. What each class
 /// counts stands in `specs/Deviations.antt`. The numbers of the rule have to be in range for the schedule's
 /// teams, as those of each rule of a league are for the league's teams.
 #[tactic(auto, using(crate::proofs::Limits::deviation_below))]

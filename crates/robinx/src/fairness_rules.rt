@@ -76,7 +76,7 @@ fn gaps_with(rows: &[Row; TEAMS], limits: &Row, lower: TeamSet, most: u32, team:
     total
 }
 
-/// The largest number by which the rows are apart in a round, where the limits allow it.
+/// The largest number by which the rows are apart in a round, if the limits allow it.
 fn worst_apart(first: &Row, second: &Row, limits: &Row) -> u8
     ensures { result ≡ worst_apart first.now second.now limits.now }
 {

@@ -23,7 +23,7 @@ pub fn deviations_balance()
     ensures { DeviationsBalance }
 {}
 
-/// The part is 0 of a rule that looks past the main teams, and of one that isn't touched where the main teams and their
+/// The part is 0 of a rule that looks past the main teams, and of one that isn't touched if the main teams and their
 /// guests are touched in these rounds.
 pub fn nothing_to_alter()
     ensures past { LookedPastHasNoPart }

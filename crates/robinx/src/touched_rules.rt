@@ -11,7 +11,7 @@ use league::limits::MAX_ROUNDS;
 use league::{GameList, Rule, RuleBody, SlotSet, TeamSet};
 
 /// Whether a change of these cells can alter how far a schedule is from the rule: the rule looks at a touched team
-/// in a touched round. Where it is false, schedules that differ in these cells alone are equally far from the rule
+/// in a touched round. If it is false, schedules that differ in these cells alone are equally far from the rule
 /// ([`untouched_stays`](crate::untouched_stays)).
 #[tactic(auto, unfolding(crate::specs::Touches::touches))]
 pub fn touches(rule: &Rule, touched: Touched) -> bool
@@ -102,7 +102,7 @@ fn has_touched_break(slots: SlotSet, touched: SlotSet) -> bool
     slots.intersects(touched.with_next_below(MAX_ROUNDS))
 }
 
-/// Whether a round up to one of the slots is touched: where one of the slots isn't before the first touched round.
+/// Whether a round up to one of the slots is touched: if one of the slots isn't before the first touched round.
 fn has_touched_until(slots: SlotSet, touched: SlotSet) -> bool
     ensures { result ≡ has_touched_until slots (has touched) }
 {

@@ -82,7 +82,7 @@ pub record AreStarted {G : Type 0} (gate : G) (steps : ℕ) (table : BoardId) (j
   pub saw : (start : List Entry) → All (JobSaw start) jobs.items → All (HandleSaw start) handles.items
   pub numbers : IsTrue all → map handle_number handles.items ≡ map job_number jobs.items
 
--- what comes back from a thread that takes so many steps at most, with the seat that it was given, where the gate heard
+-- what comes back from a thread that takes so many steps at most, with the seat that it was given, if the gate heard
 -- these replies
 pub record IsBack (heard : ℕ → ℕ → Reply → Type 0) (steps : ℕ) (given : SeatValue) (report : Report) (seat : SeatValue) : Type 0 where
   pub report_is : IsOfWorker heard steps report

@@ -33,6 +33,6 @@ pub record IsWithoutLowest (set lowest rest : ℕ) : Type 0 where
   pub others : (k : ℕ) → has rest k ≡ (has set k && not (k == lowest))
   pub fewer : rest < set
 
--- takes the lowest number out of a set, where there is one
+-- takes the lowest number out of a set, if there is one
 abbrev pub TakesLowest : ℕ → Option ℕ → ℕ → Type 0
 TakesLowest set taken rest = MatchOption taken ((set ≡ 0) × (rest ≡ 0)) (λ lowest. IsWithoutLowest set lowest rest)

@@ -118,7 +118,7 @@ impl SlotSet {
         }
     }
 
-    /// The set with each slot of the other added where it lacks it, and taken out where it has it.
+    /// The set with each slot of the other added if it lacks it, and taken out if it has it.
     #[tactic(auto, using(crate::proofs::SetWords::slots_turned))]
     pub fn symmetric_difference(self, slots: SlotSet) -> Self
         ensures members { (s : ℕ) → has result s ≡ (if has slots s then not (has self s) else has self s) }

@@ -36,7 +36,7 @@ pub record IsOfBoth (m other n : Token) : Type 0 where
   pub below : HoldsBelow m → HoldsBelow other → HoldsBelow n
   pub ahead : IsAhead m → IsAhead other → IsAhead n
 
--- The board that was met under the turn, and how many numbers were given out. The seat held as many just where it held as
+-- The board that was met under the turn, and how many numbers were given out. The seat held as many exactly if it held as
 -- many as it knew of: it had then seen the whole history, and each entry is its own
 pub record BroughtOut (m : Token) (board : Book) (numbers : ℕ) : Type 0 where
   pub history : List Entry

@@ -7,7 +7,7 @@ abbrev pub times : ℕ → List ℕ → ℕ
 times x [] = 0
 times x (y ∷ ys) = cond (y == x) 1 0 + times x ys
 
--- 1 where x is below n, and else 0
+-- 1 if x is below n, otherwise 0
 abbrev pub once_below : ℕ → ℕ → ℕ
 once_below x n = cond (nat_lt x n) 1 0
 

@@ -83,7 +83,7 @@ pub record Added (held : List ℕ) (before after : List Entry) : Type 0 where
   pub one_more : after ≡ before ++ entry ∷ []
   pub own : 0 < times entry.caller held
 
--- what the stage of the seat that holds the turn says, where it holds these numbers and has read `given`
+-- what the stage of the seat that holds the turn says, if it holds these numbers and has read `given`
 abbrev pub IsHolder : List Entry → List Entry → ℕ → List ℕ → ℕ → Stage → Type 0
 IsHolder posted history numbers held given away = ⊥
 IsHolder posted history numbers held given (holds h) = (h ≡ history) × (posted ≡ history)

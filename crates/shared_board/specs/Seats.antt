@@ -156,7 +156,7 @@ pub record Absorbed (a other b : SeatValue) : Type 0 where
 abbrev pub holds_all : SeatValue → Bool
 holds_all a = length a.held == a.given
 
--- The board has a history that stands to the seat as one that was met under the turn. It is whole just where the seat
+-- The board has a history that stands to the seat as one that was met under the turn. It is whole exactly if the seat
 -- holds each number that was given out: the seat had then seen all of it, and each entry is the seat's
 pub record ClosedBy (a : SeatValue) (c : Closed) : Type 0 where
   pub history : List Entry

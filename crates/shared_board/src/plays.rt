@@ -7,7 +7,7 @@ use crate::view::View;
 use atomic_table::{Join, Play, Split};
 use fixture_board::Board;
 
-/// The turn is taken, where it is free.
+/// The turn is taken, if it is free.
 pub struct Take;
 
 impl Play<Option<Board>, View> for Take {

@@ -29,7 +29,7 @@ const FRONT: usize = 1;
 /// How many numbers are given out.
 const NUMBERS: usize = 2;
 
-/// The best total, or the greatest `u64` where there is none.
+/// The best total, or the greatest `u64` if there is none.
 const BEST: usize = 3;
 
 /// The slot of the board.
@@ -140,7 +140,7 @@ pub(crate) struct Judged {
 impl Shared {
     ghost use Rattle.shared_board.specs.Setting.{Setting};
 
-    /// A shared board and its first seat, number 0. The board has no entry yet. Where there is no memory the board is
+    /// A shared board and its first seat, number 0. The board has no entry yet. If there is no memory the board is
     /// dropped.
     pub fn new(alloc: Global, board: Board) -> Result<(Shared, Seat), AllocError>
         requires { board.history ≡ [] }
@@ -150,7 +150,7 @@ impl Shared {
     }
 
     /// A shared board that goes on from a history, and its first seat, number 0. Each entry has to be of caller 0: they
-    /// are the seat's, which has seen them all. Where there is no memory the board is dropped.
+    /// are the seat's, which has seen them all. If there is no memory the board is dropped.
     pub fn resume(alloc: Global, board: Board) -> Result<(Shared, Seat), AllocError>
         requires { AreOf 0 board.history }
         ensures { IfOk result (λ r. r.1 ≡

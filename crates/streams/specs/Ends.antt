@@ -1,4 +1,4 @@
--- What one call does to the bytes that a source has left and that a sink holds, where those are known.
+-- What one call does to the bytes that a source has left and that a sink holds, if those are known.
 use Rattle.std.specs.Prelude.{◌≡◌, ◌≤◌, ℕ, List, Option, Result, Ok, Err, length, take}
 use Rattle.std.specs.IoError.{error_kind}
 use Rattle.std.specs.declared.io.Error.{Error}
@@ -20,12 +20,12 @@ StepGives old new (Moved n) piece = (n ≤ length piece) × Appends old new (tak
 StepGives old new Again piece = Keeps old new
 StepGives old new Failed piece = Keeps old new
 
--- what a call of an end answers where std's reader or writer fails with an error of this kind
+-- what a call of an end answers if std's reader or writer fails with an error of this kind
 abbrev pub step_of_kind : ErrorKind → Step
 step_of_kind Interrupted = Again
 step_of_kind _ = Failed
 
--- what it answers where they answer this
+-- what it answers if they answer this
 abbrev pub step_of_answer : Result ℕ Error → Step
 step_of_answer (Ok n) = Moved n
 step_of_answer (Err error) = step_of_kind (error_kind error)

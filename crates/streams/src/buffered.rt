@@ -30,7 +30,7 @@ impl<'a, W: Sink> BufferedSink<'a, W> {
         }
     }
 
-    /// Adds the bytes to the text. Where they fit beside those that wait, they wait as well.
+    /// Adds the bytes to the text. If they fit beside those that wait, they wait as well.
     pub fn write(&mut self, bytes: &[u8]) -> Result<(), WriteFault>
         ensures waits { length (waiting_in self.old) + length bytes.now ≤ buffer_limit →
             Waits self.old self.new result bytes.now }

@@ -17,7 +17,7 @@ pub enum Step {
 
 /// Gives bytes.
 pub trait Source {
-    // The bytes that are left, where they are known.
+    // The bytes that are left, if they are known.
     ghost left: { Self → Option (List ℕ) };
 
     // The calls so far.
@@ -32,7 +32,7 @@ pub trait Source {
 
 /// Takes bytes.
 pub trait Sink {
-    // The bytes that it holds, where they are known.
+    // The bytes that it holds, if they are known.
     ghost held: { Self → Option (List ℕ) };
 
     // The calls so far.

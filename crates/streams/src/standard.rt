@@ -6,7 +6,7 @@ use super::ends::Step;
 use std::io;
 use std::io::ErrorKind;
 
-/// What an end answers where its reader or writer answers this.
+/// What an end answers if its reader or writer answers this.
 pub(crate) fn step_of(answer: &io::Result<usize>) -> Step
     ensures { result ≡ step_of_answer answer.now }
 {

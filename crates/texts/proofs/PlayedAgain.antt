@@ -14,7 +14,7 @@ use Rattle.fixture_board.specs.declared.change.Change.{Change}
 use Rattle.fixture_board.specs.declared.change.Change.TheVariants as change
 use Rattle.fixture_board.specs.declared.change.Entry.{Entry}
 use Rattle.fixture_board.specs.declared.reply.Why.{Why}
-use Rattle.fixture_board.specs.History.{best_of, effective, games_of, is_in_range, pins_of, legal_after, IsLegal, May}
+use Rattle.fixture_board.specs.History.{best_of, effective, games_of, is_game_in_range, pins_of, legal_after, IsLegal, May}
 use Rattle.fixture_board.specs.Replay.{changes_of, under_caller_0}
 use Rattle.fixture_board.specs.Replies.{ask_of, ask_with, entry, greatest, next_if, next_of, refusal, played_from as changes_played}
 use Rattle.fixture_board.proofs.ForCallers.{FitFrom, all_stand_fit, fit_from_more, games_of_teams, is_legal_next}
@@ -55,7 +55,7 @@ in_range_of g mv none = go (is_move g mv) refl
     go true is = refl
     go false is = absurd (true≢false (sym (ap is_ok (rw is at none))))
 
-IsSmallGame-in_range : (g : Games) (game : Game) → g.teams ≤ 40 → is_in_range g game ≡ true → IsSmallGame game
+IsSmallGame-in_range : (g : Games) (game : Game) → g.teams ≤ 40 → is_game_in_range g game ≡ true → IsSmallGame game
 IsSmallGame-in_range g game few in_range =
     let round : Bool = nat_lt game.round (round_count g.teams) in
     let all = and_parts (round && nat_lt game.home g.teams && nat_lt game.away g.teams) (not (game.home == game.away)) in_range in

@@ -16,7 +16,7 @@ one_more (Some number) (Some numbers) = Some (number ∷ numbers)
 one_more (Some number) None = None
 one_more None numbers = None
 
--- the numbers that the words are, where each is one
+-- the numbers that the words are, if each is one
 abbrev pub numbers_of : List (List ℕ) → Option (List ℕ)
 numbers_of [] = Some []
 numbers_of (word ∷ words) = one_more (number_of word) (numbers_of words)
@@ -35,8 +35,8 @@ keyword_of word =
     else None
 
 -- the game of a round, home team and away team
-abbrev pub game_of : ℕ → ℕ → ℕ → Game
-game_of r h a = record { round = index_of r; home = index_of h; away = index_of a }
+abbrev pub numbered_game : ℕ → ℕ → ℕ → Game
+numbered_game r h a = record { round = index_of r; home = index_of h; away = index_of a }
 
 -- a command has as many numbers as it needs
 abbrev pub command_of : Keyword → List ℕ → ScriptLine
@@ -47,8 +47,8 @@ command_of key.PartRounds (i ∷ k ∷ l ∷ []) =
     Asks (change.Shift (move.PartRounds (index_of i) (index_of k) (index_of l)))
 command_of key.PartTeams (i ∷ j ∷ k ∷ []) =
     Asks (change.Shift (move.PartTeams (index_of i) (index_of j) (index_of k)))
-command_of key.Pin (r ∷ h ∷ a ∷ []) = Asks (change.Pin (game_of r h a))
-command_of key.Unpin (r ∷ h ∷ a ∷ []) = Asks (change.Unpin (game_of r h a))
+command_of key.Pin (r ∷ h ∷ a ∷ []) = Asks (change.Pin (numbered_game r h a))
+command_of key.Unpin (r ∷ h ∷ a ∷ []) = Asks (change.Unpin (numbered_game r h a))
 command_of key.Undo [] = Asks change.Undo
 command_of key.Slack (s ∷ []) = Slack s
 command_of _ _ = Bad

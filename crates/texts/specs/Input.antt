@@ -1,4 +1,4 @@
--- How an input is cut at the first line that is a given word, and its two parts where that is `script`.
+-- How an input is cut at the first line that is a given word, and its two parts if that is `script`.
 use Rattle.std.specs.Prelude.{◌≡◌, ℕ, ◌<◌, ◌==◌, Bool, List, [], ◌∷◌, ◌++◌, length, codes, if◌then◌else◌, Option, Some, None, unwrap_or}
 use Rattle.std.specs.List.{slice_split}
 use Rattle.std.specs.Str.{bytes_eq}
@@ -24,7 +24,7 @@ lines_in_parts word (part ∷ next ∷ more) =
 unfoldable pub text_before : List ℕ → List ℕ → List ℕ
 text_before word input = text_in_parts word (slice_split is_line_end input)
 
--- the lines after it, where there is one
+-- the lines after it, if there is one
 unfoldable pub lines_after : List ℕ → List ℕ → Option (List (List ℕ))
 lines_after word input = lines_in_parts word (slice_split is_line_end input)
 

@@ -3,7 +3,7 @@ use Rattle.std.specs.Prelude.{ℕ, ◌-◌, ◌^◌, ◌==◌, ◌||◌, nat_lt,
 use Rattle.std.specs.Str.{all_ascii_digits}
 use Rattle.std.specs.Str.Parse.{digits_value}
 
--- what the digits stand for, where it is a `u64`
+-- what the digits stand for, if it is a `u64`
 abbrev pub fitting : ℕ → Option ℕ
 fitting n = if nat_lt n (2 ^ 64) then Some n else None
 
@@ -12,6 +12,6 @@ abbrev pub number_of : List ℕ → Option ℕ
 number_of word = if (length word == 0) || nat_lt 20 (length word) || not (all_ascii_digits word) then None else fitting
     (digits_value 10 word)
 
--- a team or round as it is handed on: from 0, or 255 where it can't be one
+-- a team or round as it is handed on: from 0, or 255 if it can't be one
 abbrev pub index_of : ℕ → ℕ
 index_of n = if (n == 0) || nat_lt 255 n then 255 else n - 1

@@ -35,12 +35,12 @@ reached_text steps all version least =
 abbrev pub progress_line : ℕ → ℕ → ℕ → Option ℕ → List ℕ
 progress_line steps all version least = clear_line ++ reached_text steps all version least
 
--- the games after the best prefix of a history, or after all of it where no prefix is feasible
+-- the games after the best prefix of a history, or after all of it if no prefix is feasible
 abbrev pub games_at_best : LeagueData → List Entry → Option (List Entry) → Games
 games_at_best league h None = games_of league h
 games_at_best league h (Some prefix) = games_of league prefix
 
--- the sheet of the best schedule, or of the present one where there is no best
+-- the sheet of the best schedule, or of the present one if there is no best
 unfoldable pub best_sheet : LeagueData → List Entry → List ℕ
 best_sheet league h = sheet_of (games_at_best league h (best_prefix league h)) league
 

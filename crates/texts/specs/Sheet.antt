@@ -27,12 +27,12 @@ abbrev pub pairing_of : ℕ → ℕ → List ℕ
 pairing_of home away = codes " " ++ decimal (home + 1) ++ codes "-" ++ decimal (away + 1)
 
 -- the team's game in the round, if the team is at home there
-abbrev pub game_of : Games → ℕ → ℕ → List ℕ
-game_of g round team = if (cell g team round).home then pairing_of team (cell g team round).opponent else []
+abbrev pub game_text : Games → ℕ → ℕ → List ℕ
+game_text g round team = if (cell g team round).home then pairing_of team (cell g team round).opponent else []
 
 -- the games of the round, in the order of their home teams
 abbrev pub round_line : Games → ℕ → List ℕ
-round_line g round = codes "round " ++ decimal (round + 1) ++ codes ":" ++ pieces_below (game_of g round) g.teams ++ codes "\n"
+round_line g round = codes "round " ++ decimal (round + 1) ++ codes ":" ++ pieces_below (game_text g round) g.teams ++ codes "\n"
 
 -- a head line, a line for each team and a line for each round
 unfoldable pub sheet_of : Games → LeagueData → List ℕ

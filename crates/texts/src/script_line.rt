@@ -3,7 +3,7 @@
 ghost use Rattle.std.specs.Prelude.{◌≡◌};
 ghost use Rattle.fixture_board.specs.declared.change.Change.TheVariants.{Shift};
 ghost use Rattle.texts.specs.declared.script_line.ScriptLine.TheVariants.{Asks};
-ghost use Rattle.texts.specs.Command.{command_of, game_of, keyword_of, line_of};
+ghost use Rattle.texts.specs.Command.{command_of, numbered_game, keyword_of, line_of};
 
 use crate::numerals::{index, numbers};
 use crate::words::next_word;
@@ -128,7 +128,7 @@ fn shift(mv: Move) -> ScriptLine
 }
 
 fn game(round: u64, home: u64, away: u64) -> Game
-    ensures { result ≡ game_of round home away }
+    ensures { result ≡ numbered_game round home away }
 {
     Game {
         round: index(round),

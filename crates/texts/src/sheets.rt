@@ -10,7 +10,7 @@ ghost use Rattle.streams.specs.Tally.{FailsWriting};
 ghost use Rattle.streams.specs.Writing.{Writes};
 ghost use Rattle.streams.specs.Pieces.{pieces_below};
 ghost use Rattle.texts.specs.Sheet.{head_line, place_letter, pattern_of, team_line};
-ghost use Rattle.texts.specs.Sheet.{pairing_of, game_of, round_line, sheet_of};
+ghost use Rattle.texts.specs.Sheet.{pairing_of, game_text, round_line, sheet_of};
 
 use fixtures::Schedule;
 use league::League;
@@ -147,7 +147,7 @@ fn write_games<W: Sink>(
 ) -> Result<(), WriteFault>
     requires { round < round_count schedule.now.teams }
     ensures { Writes W.held W.tally out.old out.new result
-        (pieces_below (game_of schedule.now round) schedule.now.teams) }
+        (pieces_below (game_text schedule.now round) schedule.now.teams) }
 {
     for team in 0..schedule.teams() {
         write_game(out, schedule, round, team)?;
@@ -164,7 +164,7 @@ fn write_game<W: Sink>(
 ) -> Result<(), WriteFault>
     requires team { team < schedule.now.teams }
     requires round { round < round_count schedule.now.teams }
-    ensures { Writes W.held W.tally out.old out.new result (game_of schedule.now round team) }
+    ensures { Writes W.held W.tally out.old out.new result (game_text schedule.now round team) }
 {
     let game = schedule.game_at(team, round);
     if game.home {

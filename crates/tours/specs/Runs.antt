@@ -8,7 +8,7 @@ unfoldable pub is_run : Games → ℕ → ℕ → ℕ → Bool
 is_run g team first rounds =
     all_below rounds (λ k. is_home g team (first + k)) || all_below rounds (λ k. not (is_home g team (first + k)))
 
--- how many windows of so many consecutive rounds there are: none where they are more than all rounds
+-- how many windows of so many consecutive rounds there are: none if they are more than all rounds
 abbrev pub windows : Games → ℕ → ℕ
 windows g rounds = round_count g.teams + 1 - rounds
 

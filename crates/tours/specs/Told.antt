@@ -48,7 +48,7 @@ pub record IsTurn (g : Games) (i j t s : ℕ) : Type 0 where
   pub here : is_either i j (cell g t s).opponent ≡ false
   pub there : is_either i j (cell g t (s + 1)).opponent ≡ false
 
--- the rounds of a set after which a team plays on the other side, where the next round is one of the season's
+-- the rounds of a set after which a team plays on the other side, if the next round is one of the season's
 pub record AreTurns (g : Games) (inner t set : ℕ) : Type 0 where
   pub inside : (s : ℕ) → has inner s ≡ false → has set s ≡ false
   pub turning : (s : ℕ) → s + 1 < round_count g.teams → has inner s ≡ true → has set s ≡ turns g s (s + 1) t
@@ -65,16 +65,16 @@ HasRuns g team length runs = (first : ℕ) → has runs first ≡ (nat_lt first 
 abbrev pub met : Games → ℕ → ℕ → ℕ
 met g t index = if index == 0 || nat_lt (round_count g.teams) index then t else (cell g t (index - 1)).opponent
 
--- 1 where a team meets the same lower team twice
+-- 1 if a team meets the same lower team twice
 abbrev pub same_lower : ℕ → ℕ → ℕ → ℕ
 same_lower t a b = if nat_lt a t && a == b then 1 else 0
 
 -- of the terms between two rounds that a team meets lower teams in, those around rounds k and l, of which k is the first:
--- none where it meets the same team in both
+-- none if it meets the same team in both
 abbrev pub repeats_around : (ℕ → ℕ) → (ℕ → ℕ) → ℕ → ℕ → ℕ → ℕ
 repeats_around meets stop t k l =
     if meets (k + 1) == meets (l + 1) then 0 else legs_around (λ r. same_lower t (meets (stop r)) (meets (stop (r + 1)))) k l
 
--- 1 where one team meets in a round whom another, or it itself, meets in the next
+-- 1 if one team meets in a round whom another, or it itself, meets in the next
 abbrev pub meets_next : Games → ℕ → ℕ → ℕ → ℕ
 meets_next g t u r = if (cell g t r).opponent == (cell g u (r + 1)).opponent then 1 else 0

@@ -21,7 +21,7 @@ abbrev pub there_and_on : (ℕ → ℕ → ℕ) → Games → (ℕ → Bool) →
 there_and_on f g set t r =
     f t r + (if nat_lt (r + 1) (round_count g.teams) && set (r + 1) then 0 else f t (r + 1))
 
--- the leg with this index in a tour in which the places of rounds k and m are exchanged: none where they are the same
+-- the leg with this index in a tour in which the places of rounds k and m are exchanged: none if they are the same
 abbrev pub leg_exchanged : LeagueData → Games → ℕ → ℕ → ℕ → ℕ → ℕ
 leg_exchanged l g k m t r =
     distance l (slice_index (tour g t) (exchanged (k + 1) (m + 1) r))
@@ -41,7 +41,7 @@ guest_terms f g hosts rounds host r =
 abbrev pub legs_of_guest : LeagueData → Games → (ℕ → Bool) → (ℕ → Bool) → ℕ → ℕ → ℕ
 legs_of_guest l g = guest_terms (leg l g) g
 
--- 1 where a team meets the same team in a round and in the next, and that isn't a higher team of the set
+-- 1 if a team meets the same team in a round and in the next, and that isn't a higher team of the set
 abbrev pub repeat_at : Games → (ℕ → Bool) → ℕ → ℕ → ℕ
 repeat_at g teams r t =
     if (cell g t r).opponent == (cell g t (r + 1)).opponent &&

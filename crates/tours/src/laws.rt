@@ -48,7 +48,7 @@ pub fn changes_around_balance()
         unphased g' + unphased_part g teams ≡ unphased g + unphased_part g' teams }
 {}
 
-/// Where the same pairs meet, two teams under each other's names, as many meet twice in a row.
+/// If the same pairs meet, two teams under each other's names, as many meet twice in a row.
 pub fn same_pairs_repeat_alike()
     ensures { (g g' : Games) (i j : ℕ) → IsDoubleRoundRobin g → MeetingsExchanged g g' i j → repeats g' ≡ repeats g }
 {}

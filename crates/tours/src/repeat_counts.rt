@@ -37,7 +37,7 @@ fn repeats_after(schedule: &Schedule, round: u8) -> u64
     total
 }
 
-/// 1 where a team meets the same lower team in a round and in the next, and else 0. So each pair is counted once.
+/// 1 if a team meets the same lower team in a round and in the next, otherwise 0. So each pair is counted once.
 fn repeats_of_higher(schedule: &Schedule, team: u8, round: u8) -> u64
     requires team { team < schedule.now.teams }
     requires next { round + 1 < round_count schedule.now.teams }
@@ -130,7 +130,7 @@ fn repeats_with_after(schedule: &Schedule, among: TeamSet, round: u8) -> u64
     total
 }
 
-/// 1 where a team meets the same team in a round and in the next, and else 0: 0 too where that is a higher team of
+/// 1 if a team meets the same team in a round and in the next, otherwise 0: 0 too if that is a higher team of
 /// the set, so that each pair is counted once.
 fn repeat_at(schedule: &Schedule, among: TeamSet, team: u8, round: u8) -> u64
     requires team { team < schedule.now.teams }

@@ -15,7 +15,7 @@ use crate::told::Breaches;
 use fixtures::Schedule;
 use league::{SlotSet, TeamSet};
 
-/// The repeats that change where rounds `k` and `l` are exchanged for the teams of the set, which has the opponents of its
+/// The repeats that change if rounds `k` and `l` are exchanged for the teams of the set, which has the opponents of its
 /// teams in the two rounds.
 pub fn repeats_of_rounds(schedule: &Schedule, k: u8, l: u8, among: TeamSet) -> Breaches
     requires k { k < round_count schedule.now.teams }
@@ -58,7 +58,7 @@ fn repeats_of_ordered(schedule: &Schedule, k: u8, l: u8, among: TeamSet) -> Brea
     Breaches { before, after }
 }
 
-/// Those of a team with lower teams. Where it meets the same team in both rounds, none changes.
+/// Those of a team with lower teams. If it meets the same team in both rounds, none changes.
 fn repeats_of_team(schedule: &Schedule, k: u8, l: u8, team: u8) -> Breaches
     requires team { team < schedule.now.teams }
     requires ordered { k < l }
@@ -131,7 +131,7 @@ fn times_beside(schedule: &Schedule, team: u8, opponent: u8, round: u8) -> u64
         + u64::from(opponent == met(schedule, team, round + 2))
 }
 
-/// 1 where the first opponent of a team is lower and the second is the same.
+/// 1 if the first opponent of a team is lower and the second is the same.
 fn same_lower(team: u8, first: u8, second: u8) -> u64
     ensures value { result ≡ same_lower team first second }
     ensures most { result ≤ 1 }
@@ -154,8 +154,8 @@ fn met(schedule: &Schedule, team: u8, index: u8) -> u8
     }
 }
 
-/// The repeats that change where teams `i` and `j` are exchanged in the games of the rounds of the set. In none of them the
-/// two meet, and where one of them meets a team in a round of the set, so does the other.
+/// The repeats that change if teams `i` and `j` are exchanged in the games of the rounds of the set. In none of them the
+/// two meet, and if one of them meets a team in a round of the set, so does the other.
 pub fn repeats_of_teams(schedule: &Schedule, i: u8, j: u8, among: SlotSet) -> Breaches
     requires i { i < schedule.now.teams }
     requires j { j < schedule.now.teams }

@@ -18,7 +18,7 @@ use crate::whole_travel::{stop, way};
 use fixtures::Schedule;
 use league::{League, TeamSet};
 
-/// The legs that change where rounds `k` and `l` are exchanged for the teams of the set, which has the opponents of its
+/// The legs that change if rounds `k` and `l` are exchanged for the teams of the set, which has the opponents of its
 /// teams in the two rounds.
 pub fn legs_of_rounds(schedule: &Schedule, league: &League, k: u8, l: u8, among: TeamSet) -> Legs
     requires same { teams league.now ≡ schedule.now.teams }
@@ -63,7 +63,7 @@ fn legs_of_ordered(schedule: &Schedule, league: &League, k: u8, l: u8, among: Te
     Legs { before, after }
 }
 
-/// The legs of a team that change. Where it is at one place in both rounds, at home, none does.
+/// The legs of a team that change. If it is at one place in both rounds, at home, none does.
 fn changed_legs(schedule: &Schedule, league: &League, k: u8, l: u8, team: u8) -> Legs
     requires same { teams league.now ≡ schedule.now.teams }
     requires team { team < schedule.now.teams }
@@ -101,7 +101,7 @@ fn legs_of_team(schedule: &Schedule, league: &League, k: u8, l: u8, team: u8) ->
     }
 }
 
-/// Where `l` is the round after `k`.
+/// Those legs if `l` is the round after `k`.
 fn legs_of_neighbours(schedule: &Schedule, league: &League, k: u8, l: u8, team: u8) -> Legs
     requires same { teams league.now ≡ schedule.now.teams }
     requires team { team < schedule.now.teams }
@@ -126,7 +126,7 @@ fn legs_of_neighbours(schedule: &Schedule, league: &League, k: u8, l: u8, team: 
     }
 }
 
-/// Where there are rounds between the two.
+/// Those legs if there are rounds between the two.
 fn legs_of_two(schedule: &Schedule, league: &League, k: u8, l: u8, team: u8) -> Legs
     requires same { teams league.now ≡ schedule.now.teams }
     requires team { team < schedule.now.teams }

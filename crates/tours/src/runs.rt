@@ -15,7 +15,7 @@ use fixtures::{Schedule, Touched};
 use league::{League, SlotSet, TeamSet};
 
 /// How many windows of consecutive rounds, one more than the league allows, a team spends at home throughout or
-/// away throughout, summed over the teams. There is no window where it would be longer than the season.
+/// away throughout, summed over the teams. There is no window if it would be longer than the season.
 pub fn runs_over(schedule: &Schedule, league: &League) -> u64
     requires same { teams league.now ≡ schedule.now.teams }
     ensures value { result ≡ runs_over schedule.now league.now.at_most }
@@ -102,7 +102,7 @@ pub(crate) fn runs_in(home: SlotSet, rounds: u8, at_most: u8) -> u64
     }
 }
 
-/// The first rounds of the windows of so many rounds that a team spends at home throughout or away throughout, where it is at
+/// The first rounds of the windows of so many rounds that a team spends at home throughout or away throughout, if it is at
 /// home in these rounds of a season.
 fn run_starts(home: SlotSet, rounds: u8, length: u8) -> SlotSet
     requires least { 2 ≤ length }

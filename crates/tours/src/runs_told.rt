@@ -16,7 +16,7 @@ use crate::told::Breaches;
 use fixtures::Schedule;
 use league::{League, SlotSet, TeamSet};
 
-/// The runs of the teams that change sides where rounds `k` and `l` are exchanged for the teams of the set, which has the
+/// The runs of the teams that change sides if rounds `k` and `l` are exchanged for the teams of the set, which has the
 /// opponents of its teams in the two rounds.
 pub fn runs_of_rounds(
     schedule: &Schedule,
@@ -48,7 +48,7 @@ pub fn runs_of_rounds(
     Breaches { before, after }
 }
 
-/// Those of a team, where it is on different sides in the two rounds.
+/// Those of a team, if it is on different sides in the two rounds.
 fn turned_runs(schedule: &Schedule, at_most: u8, k: u8, l: u8, team: u8) -> Breaches
     requires round_robin { IsDoubleRoundRobin schedule.now }
     requires least { 1 ≤ at_most }
@@ -78,8 +78,8 @@ fn turned_runs(schedule: &Schedule, at_most: u8, k: u8, l: u8, team: u8) -> Brea
     }
 }
 
-/// The runs of teams `i` and `j` where they are exchanged in the games of the rounds of the set. In none of them the two
-/// meet, and where one of them meets a team in a round of the set, so does the other.
+/// The runs of teams `i` and `j` if they are exchanged in the games of the rounds of the set. In none of them the two
+/// meet, and if one of them meets a team in a round of the set, so does the other.
 pub fn runs_of_teams(schedule: &Schedule, league: &League, i: u8, j: u8, among: SlotSet) -> Breaches
     requires same { teams league.now ≡ schedule.now.teams }
     requires i { i < schedule.now.teams }

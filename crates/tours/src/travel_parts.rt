@@ -16,7 +16,7 @@ use fixtures::{Schedule, Touched};
 use league::{League, SlotSet, TeamSet};
 
 /// The legs of touched teams that touch a touched round, in the unit of the league's distances: those to the place of
-/// such a round or of the next, and the way home where the last is touched.
+/// such a round or of the next, and the way home if the last is touched.
 pub fn travel_part(schedule: &Schedule, league: &League, touched: Touched) -> u64
     requires same { teams league.now ≡ schedule.now.teams }
     ensures value { result ≡ travel_part league.now schedule.now (has touched.teams) (has touched.rounds) }
@@ -71,7 +71,7 @@ fn legs_with(schedule: &Schedule, league: &League, among: TeamSet, indices: Slot
     total
 }
 
-/// The legs home of the teams of the set, where the last round is one of these.
+/// The legs home of the teams of the set, if the last round is one of these.
 fn home_legs(schedule: &Schedule, league: &League, among: TeamSet, rounds: SlotSet) -> u64
     requires same { teams league.now ≡ schedule.now.teams }
     requires round_robin { IsDoubleRoundRobin schedule.now }

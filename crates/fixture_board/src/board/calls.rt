@@ -16,7 +16,7 @@ use crate::reply::Reply;
 use fixtures::Game;
 
 impl Board {
-    /// Makes the move where nothing speaks against it. Refused, in this order: Ahead, Full, BadMove, Meet, Pinned,
+    /// Makes the move if nothing speaks against it. Refused, in this order: Ahead, Full, BadMove, Meet, Pinned,
     /// WrongClaim, Worse. A proposal for an old version is judged as one for the version that there is, but for its
     /// claim, which is ignored.
     pub fn propose(&mut self, caller: u32, proposal: Proposal) -> Reply
@@ -75,7 +75,7 @@ impl Board {
         self.state.credit(caller);
     }
 
-    /// Goes back to the best version, where there is one: the later entries are forgotten.
+    /// Goes back to the best version, if there is one: the later entries are forgotten.
     pub fn rewind_to_best(&mut self)
         ensures { self.new ≡ book self.old.league self.old.room (rewound self.old.league self.old.history) }
     {

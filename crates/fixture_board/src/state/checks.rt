@@ -4,7 +4,7 @@ ghost use Rattle.std.specs.Prelude.{◌≡◌, ◌≢◌, ℕ, ◌^◌, ◌<◌,
 ghost use Rattle.std.specs.Result.{result_err};
 ghost use Rattle.league.specs.Limits.{max_teams};
 ghost use Rattle.fixtures.specs.declared.game.Game.{Game};
-ghost use Rattle.fixture_board.specs.History.{has_game, is_in_range, AllStand};
+ghost use Rattle.fixture_board.specs.History.{has_game, is_game_in_range, AllStand};
 ghost use Rattle.fixture_board.specs.PinPlaces.{ArePinsAt};
 ghost use Rattle.fixture_board.specs.Replies.{first_of, is_wrong, version_rows, game_rows, move_rows, score_rows};
 
@@ -22,7 +22,7 @@ pub(crate) struct Limit {
 }
 
 impl State {
-    /// Refuses what may only be asked for at the board's version where that is another, or where there is no room.
+    /// Refuses what may only be asked for at the board's version if that is another, or if there is no room.
     pub(crate) fn check_version(&self, version: u64) -> Result<(), Why>
         ensures { result_err result ≡ first_of (version_rows (length self.now.history.items) self.now.room version) }
     {
@@ -49,7 +49,7 @@ impl State {
         ensures away { IfOk result (λ _. game.away < max_teams) }
     {
         self.check_version(version)?;
-        if !is_in_range(&self.schedule, game) {
+        if !is_game_in_range(&self.schedule, game) {
             return Err(Why::BadGame);
         }
         if self.schedule.round_of(game.home, game.away) != game.round {
@@ -112,8 +112,8 @@ impl State {
 }
 
 /// Whether the numbers of the game are in range and its teams distinct.
-fn is_in_range(schedule: &Schedule, game: Game) -> bool
-    ensures { result ≡ is_in_range schedule.now game }
+fn is_game_in_range(schedule: &Schedule, game: Game) -> bool
+    ensures { result ≡ is_game_in_range schedule.now game }
 {
     game.round < schedule.rounds()
         && game.home < schedule.teams()

@@ -10,18 +10,18 @@ use league::League;
 
 impl State {
     ghost use Rattle.std.specs.Prelude.{◌≡◌};
-    ghost use Rattle.fixture_board.specs.Kept.{kept_of, HasMemory, IsKept};
+    ghost use Rattle.fixture_board.specs.Kept.{kept_of, HasMemory, FollowsHistory};
     ghost use Rattle.fixture_board.specs.Rewound.{rewound};
 
-    /// Goes back to the best version, where there is one. What follows from the history is made anew, but the schedule
+    /// Goes back to the best version, if there is one. What follows from the history is made anew, but the schedule
     /// of the best version, which is kept.
     pub(crate) fn rewind(&mut self, league: &League)
         requires memory { HasMemory self.old }
-        requires kept { IsKept league.now (kept_of self.old) }
+        requires kept { FollowsHistory league.now (kept_of self.old) }
         ensures memory { HasMemory self.new }
         ensures room { self.new.room ≡ self.old.room }
         ensures history { self.new.history.items ≡ rewound league.now self.old.history.items }
-        ensures kept { IsKept league.now (kept_of self.new) }
+        ensures kept { FollowsHistory league.now (kept_of self.new) }
     {
         let Some(best) = self.best else {
             return;

@@ -1,4 +1,4 @@
-//! The steps of the calls: a change judged, and made where nothing speaks against it, but for its entry.
+//! The steps of the calls: a change judged, and made if nothing speaks against it, but for its entry.
 
 use crate::ask::{Ask, Proposal};
 use crate::change::Change;
@@ -16,12 +16,12 @@ impl State {
     ghost use Rattle.fixture_board.specs.Costs.{cost_of};
     ghost use Rattle.fixture_board.specs.History.{shifted};
     ghost use Rattle.fixture_board.specs.PinPlaces.{taken_back};
-    ghost use Rattle.fixture_board.specs.Kept.{kept_of, HasMemory, IsKept, IsStep, CanTakeBack};
+    ghost use Rattle.fixture_board.specs.Kept.{kept_of, HasMemory, FollowsHistory, IsStep, CanTakeBack};
 
-    /// Judges what is asked, and makes it where no reason speaks against it.
+    /// Judges what is asked, and makes it if no reason speaks against it.
     pub(crate) fn step(&mut self, league: &League, ask: Ask) -> Result<(), Why>
         requires memory { HasMemory self.old }
-        requires kept { IsKept league.now (kept_of self.old) }
+        requires kept { FollowsHistory league.now (kept_of self.old) }
         ensures memory { HasMemory self.new }
         ensures step { IsStep league.now (kept_of self.old) (kept_of self.new) ask result }
     {
@@ -37,7 +37,7 @@ impl State {
     /// above the limit is told by `make_within`, mostly before it is made.
     fn shift(&mut self, league: &League, proposal: Proposal) -> Result<(), Why>
         requires memory { HasMemory self.old }
-        requires kept { IsKept league.now (kept_of self.old) }
+        requires kept { FollowsHistory league.now (kept_of self.old) }
         ensures memory { HasMemory self.new }
         ensures step { IsStep league.now (kept_of self.old) (kept_of self.new) (Ask.Shift proposal) result }
     {
@@ -67,7 +67,7 @@ impl State {
         requires within { length self.old.history.items ≤ self.old.room }
         requires no_more { length self.old.changes.items ≤ length self.old.history.items }
         ensures memory { HasMemory self.new }
-        ensures step { (league : LeagueData) → IsKept league (kept_of self.old) →
+        ensures step { (league : LeagueData) → FollowsHistory league (kept_of self.old) →
             IsStep league (kept_of self.old) (kept_of self.new) (Ask.Pin version game) result }
     {
         if self.check_game(version, game)? {
@@ -84,7 +84,7 @@ impl State {
         requires within { length self.old.history.items ≤ self.old.room }
         requires no_more { length self.old.changes.items ≤ length self.old.history.items }
         ensures memory { HasMemory self.new }
-        ensures step { (league : LeagueData) → IsKept league (kept_of self.old) →
+        ensures step { (league : LeagueData) → FollowsHistory league (kept_of self.old) →
             IsStep league (kept_of self.old) (kept_of self.new) (Ask.Unpin version game) result }
     {
         if !self.check_game(version, game)? {
@@ -98,7 +98,7 @@ impl State {
     /// Drops the last change in effect.
     fn undo(&mut self, league: &League, version: u64) -> Result<(), Why>
         requires memory { HasMemory self.old }
-        requires kept { IsKept league.now (kept_of self.old) }
+        requires kept { FollowsHistory league.now (kept_of self.old) }
         ensures memory { HasMemory self.new }
         ensures step { IsStep league.now (kept_of self.old) (kept_of self.new) (Ask.Undo version) result }
     {

@@ -10,7 +10,7 @@ use fixtures::{Game, Schedule};
 use std::sync::Wait;
 
 impl Shared {
-    /// Makes the move under the seat's number where nothing speaks against it, and answers as `Board::propose` does.
+    /// Makes the move under the seat's number if nothing speaks against it, and answers as `Board::propose` does.
     pub fn propose<R: Wait>(&self, rt: &R, seat: &mut Seat, proposal: Proposal) -> Reply
         requires { seat.old.table ≡ self.now }
         ensures { Answered seat.old seat.new (Ask.Shift proposal) result }
@@ -58,7 +58,7 @@ impl Shared {
         reply
     }
 
-    /// What the board shows now. The copy becomes the board's schedule, where it is for as many teams.
+    /// What the board shows now. The copy becomes the board's schedule, if it is for as many teams.
     pub fn look<R: Wait>(&self, rt: &R, seat: &mut Seat, copy: &mut Schedule) -> Seen
         requires { seat.old.table ≡ self.now }
         ensures { Looked seat.old seat.new copy.old copy.new result }

@@ -52,7 +52,7 @@ impl Shared {
         seat.accepted += accepted;
     }
 
-    /// Ends the sharing. The board is whole just where the seat holds each number that was given out.
+    /// Ends the sharing. The board is whole exactly if the seat holds each number that was given out.
     pub fn close<R: Wait>(self, rt: &R, seat: Seat) -> Closed
         requires { seat.table ≡ self }
         ensures { ClosedBy seat result }

@@ -24,12 +24,12 @@ use std::time::Duration;
 /// How often a seat reads the turn word or tries for the turn before its thread sleeps.
 const TRIES: u32 = 64;
 
-/// How many microseconds it sleeps, where the turn is still taken. Nobody wakes it: that would cost each turn a call of the
+/// How many microseconds it sleeps, if the turn is still taken. Nobody wakes it: that would cost each turn a call of the
 /// system.
 const NAP: u64 = 50;
 
 impl Shared {
-    /// Takes the turn, and the board with it. Where the turn is long taken, the thread sleeps a little.
+    /// Takes the turn, and the board with it. If the turn is long taken, the thread sleeps a little.
     pub(crate) fn take<R: Wait>(&self, rt: &R, token: &mut Token)
         requires table { token.old.table_id ≡ self.now }
         requires idle { (token.old.me.0.live ≡ true) × (token.old.me.0.stage ≡ away) }
@@ -92,7 +92,7 @@ impl Shared {
         self.table.shared.load::<Tell>(token, TURN);
     }
 
-    /// Tries for the turn, a few times where it gets free, and says whether it was taken.
+    /// Tries for the turn, a few times if it gets free, and says whether it was taken.
     fn try_take(&self, token: &mut Token) -> bool
         requires table { token.old.table_id ≡ self.now }
         requires idle { (token.old.me.0.live ≡ true) × (token.old.me.0.stage ≡ away) }
@@ -101,7 +101,7 @@ impl Shared {
     {
         let table = &self.table.shared;
         for tried in 0..TRIES {
-            // where the turn is taken, reading alone leaves the words to the seat that has it
+            // if the turn is taken, reading alone leaves the words to the seat that has it
             let may_be_free = tried == 0 || table.peek(TURN) == 0;
             if may_be_free && table.compare_exchange::<Take>(token, TURN, 0, 1) == 0 {
                 return true;

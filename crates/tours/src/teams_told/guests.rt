@@ -57,7 +57,7 @@ impl TeamExchange<'_> {
         Legs { before, after }
     }
 
-    /// The legs around a game of the host's guest. The leg on from there is one of the next visit, where that follows.
+    /// The legs around a game of the host's guest. The leg on from there is one of the next visit, if that follows.
     fn legs_of_visit(&self, host: u8, round: u8) -> Legs
         requires host { host < self.now.schedule.now.teams }
         requires is_host { is_either self.now.i self.now.j host ≡ true }

@@ -43,7 +43,7 @@ impl TeamExchange<'_> {
         }
     }
 
-    /// The first legs of `i` and `j`, where the first round is in the set.
+    /// The first legs of `i` and `j`, if the first round is in the set.
     fn first_legs(&self) -> Legs
         ensures before { result.before ≡ (if has self.now.rounds 0
             then leg_before self.now self.now.j 0 + leg_before self.now self.now.i 0 else 0) }
@@ -83,7 +83,7 @@ impl TeamExchange<'_> {
         Legs { before, after }
     }
 
-    /// The legs of `i` and `j` after a round, where either it or the next one is in the set.
+    /// The legs of `i` and `j` after a round, if either it or the next one is in the set.
     fn legs_at_edge(&self, round: u8) -> Legs
         requires round { round < round_count self.now.schedule.now.teams }
         requires edge { has self.now.rounds (round + 1) ≡ not (has self.now.rounds round) }

@@ -2,10 +2,10 @@
 use Rattle.std.proofs.Common.{◌≡◌, drop, is_some}
 use Rattle.serde_json.specs.View.{items_view}
 use Rattle.league.specs.Json.{all_items}
-use Rattle.league.specs.RuleMembers.{game_of}
+use Rattle.league.specs.RuleMembers.{pairing_from}
 use Rattle.advice.proofs.forms.are_games.Given as goal
 
 abbrev pub invariant-loop-item : goal.invariant-loop-item
 invariant-loop-item l =
-    is_some (all_items (game_of l.teams) (items_view (drop l.item-index l.items)))
-    ≡ is_some (all_items (game_of l.teams) (items_view l.items))
+    is_some (all_items (pairing_from l.teams) (items_view (drop l.item-index l.items)))
+    ≡ is_some (all_items (pairing_from l.teams) (items_view l.items))

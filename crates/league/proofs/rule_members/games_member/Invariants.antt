@@ -5,13 +5,13 @@ use Rattle.serde_json.specs.View.{items_view}
 use Rattle.league.specs.Json.{all_items}
 use Rattle.league.specs.Games.{IsGameFor, with_games}
 use Rattle.league.specs.Limits.{max_games}
-use Rattle.league.specs.RuleMembers.{game_of}
+use Rattle.league.specs.RuleMembers.{pairing_from}
 use Rattle.league.proofs.rule_members.games_member.Given as goal
 
 abbrev pub invariant-loop-item : goal.invariant-loop-item
 invariant-loop-item l = record {
-  read : option_map (with_games l.games) (all_items (game_of l.teams) (items_view (drop l.item-index l.item-items)))
-      ≡ option_map (with_games []) (all_items (game_of l.teams) (items_view l.item-items));
+  read : option_map (with_games l.games) (all_items (pairing_from l.teams) (items_view (drop l.item-index l.item-items)))
+      ≡ option_map (with_games []) (all_items (pairing_from l.teams) (items_view l.item-items));
   range : AllByRecursion (IsGameFor l.teams) l.games;
   most : length l.games ≤ max_games;
 }

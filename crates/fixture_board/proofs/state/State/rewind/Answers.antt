@@ -3,7 +3,7 @@ use Rattle.fixtures.specs.Games.{Games}
 use Rattle.fixture_board.specs.Costs.{cost_of}
 use Rattle.fixture_board.specs.History.{effective}
 use Rattle.fixture_board.specs.Retraced.{written_after}
-use Rattle.fixture_board.proofs.Rewinding.{HavePlaces-kept, best_size, IsKept-rewound}
+use Rattle.fixture_board.proofs.Rewinding.{HavePlaces-kept, best_size, FollowsHistory-rewound}
 use Rattle.fixture_board.proofs.state.State.rewind.Goals as goal
 
 pub retrace-requires-2 : goal.retrace-requires-2
@@ -18,7 +18,7 @@ cost_of-self-requires c =
 pub returns-clause-history : goal.returns-clause-history
 returns-clause-history c =
     let cost_is = c.cost_of-self.ensures.value ∙ ap (cost_of c.args.league.now) c.copy_from.ensures in
-    (IsKept-rewound c.in-Some.best c.truncate.new.self.items _ c.requires.kept c.in-Some.is c.truncate.ensures.items cost_is).0
+    (FollowsHistory-rewound c.in-Some.best c.truncate.new.self.items _ c.requires.kept c.in-Some.is c.truncate.ensures.items cost_is).0
 
 pub returns-clause-kept : goal.returns-clause-kept
 returns-clause-kept c =
@@ -26,4 +26,4 @@ returns-clause-kept c =
     let changes_are = c.retrace.ensures.items ∙ ap effective c.deref.ensures.value in
     let pins_are = c.retrace-2.ensures ∙ ap (written_after _) (c.deref-2.ensures.value ∙ changes_are) in
     rw (changes_are, c.copy_from.ensures, pins_are)
-    (IsKept-rewound c.in-Some.best c.truncate.new.self.items _ c.requires.kept c.in-Some.is c.truncate.ensures.items cost_is).1
+    (FollowsHistory-rewound c.in-Some.best c.truncate.new.self.items _ c.requires.kept c.in-Some.is c.truncate.ensures.items cost_is).1

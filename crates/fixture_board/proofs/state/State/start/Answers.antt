@@ -1,6 +1,6 @@
 use Rattle.std.proofs.Common.{◌∙◌, ap}
 use Rattle.fixture_board.specs.Costs.{cost_of}
-use Rattle.fixture_board.proofs.Keeps.{IsKept-start}
+use Rattle.fixture_board.proofs.Keeps.{FollowsHistory-start}
 use Rattle.fixture_board.proofs.state.State.start.Goals as goal
 
 pub returns-clause-kept : goal.returns-clause-kept
@@ -14,4 +14,4 @@ returns-clause-kept c =
       c.in_ok-schedule.ensures.games,
       c.in_ok-pins.ensures,
     )
-    (IsKept-start c.args.league.now c.args.room c.cost_of-cost.result _ c.cost_of-cost.ensures.limits c.requires cost_is)
+    (FollowsHistory-start c.args.league.now c.args.room c.cost_of-cost.result _ c.cost_of-cost.ensures.limits c.requires cost_is)

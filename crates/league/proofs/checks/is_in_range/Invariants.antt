@@ -1,8 +1,0 @@
--- The rows that are left decide.
-use Rattle.std.proofs.Common.{◌≡◌, drop}
-use Rattle.league.specs.Checks.{is_in_range}
-use Rattle.league.specs.Views.{rows}
-use Rattle.league.proofs.checks.is_in_range.Given as goal
-
-abbrev pub invariant-loop-row : goal.invariant-loop-row
-invariant-loop-row l = is_in_range (rows (drop l.row-index l.table)) ≡ is_in_range (rows l.table)
