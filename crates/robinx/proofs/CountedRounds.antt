@@ -7,6 +7,7 @@ use Rattle.std.proofs.lemmas.Bool.{cases_eq, lt-ltb, ne_eqb}
 use Rattle.league.specs.Sets.{has}
 use Rattle.league.specs.Sums.{sum_below, sum_where, count_where, any_below}
 use Rattle.league.specs.declared.rule.Side.{Side}
+use Rattle.league.specs.declared.rule.Side.TheVariants.{Any}
 use Rattle.league.proofs.ForCallers.{sum_below_same, sum_below_add, sum_where_same, count_where_same}
 use Rattle.fixtures.specs.Games.{Games, round_count, cell, is_home}
 use Rattle.robinx.specs.Deviations.{over, is_on_side, is_counted, games_of_team, games_in_window, games_in_round, over_in_windows, is_break}
@@ -158,6 +159,53 @@ module _ (g : Games) (t firsts home alike stays : ℕ) (most : round_count g.tea
       count_where_same (round_count g.teams - 1) (has counted) (λ r. has firsts (1 + r - 1) && is_break g side t (1 + r))
       (λ r below. begins side counted r (members r) below) ∙
       sym (count_after_first (round_count g.teams) (λ r. has firsts (r - 1) && is_break g side t r) (and-false (has firsts (0 - 1))))
+
+-- those of some rounds after which a team doesn't change sides
+module _ (g : Games) (t firsts home next changed changes : ℕ) (most : round_count g.teams ≤ 78)
+    (homes : (r : ℕ) → has home r ≡ (nat_lt r (round_count g.teams) && is_home g t r))
+    (nexts : (r : ℕ) → r + 1 < 78 → has next r ≡ has home (r + 1))
+    (all_changed : (r : ℕ) → has changed r ≡ (if has next r then not (has home r) else has home r))
+    (all_changes : (r : ℕ) → has changes r ≡ (has firsts r && has changed r)) where
+  change_or_break : (r : ℕ) → r < round_count g.teams - 1 →
+      (if has changes r then 1 else 0) + (if has firsts (1 + r - 1) && is_break g Any t (1 + r) then 1 else 0) ≡ (if has firsts r then 1 else 0)
+  unfolding is_break is_home
+  change_or_break r below =
+      let first : 1 + r - 1 ≡ r = omega arith in
+      let second : 1 + r ≡ r + 1 = omega arith in
+      rw (
+        all_changes r,
+        all_changed r,
+        nexts r (omega (arith, most)),
+        homes r,
+        homes (r + 1),
+        lt-ltb r (round_count g.teams) (omega arith),
+        lt-ltb (r + 1) (round_count g.teams) (omega arith),
+        first,
+        second,
+        ne_eqb (r + 1) 0 (omega arith),
+      )
+      (either (has firsts r) (cell g t r).home (cell g t (r + 1)).home)
+    where
+      either : (first x y : Bool) →
+          (if first && (if true && y then not (true && x) else (true && x)) then 1 else 0) + (if first && (true && beq x y && true) then 1 else 0) ≡
+          (if first then 1 else 0)
+      either true true true = refl
+      either true true false = refl
+      either true false true = refl
+      either true false false = refl
+      either false x y = refl
+
+  pub changes_of_firsts : count_where (round_count g.teams - 1) (has changes) + breaks g t (λ r. has firsts (r - 1)) Any ≡
+      count_where (round_count g.teams - 1) (has firsts)
+  unfolding breaks is_break
+  changes_of_firsts =
+      omega (
+        arith,
+        count_after_first (round_count g.teams) (λ r. has firsts (r - 1) && is_break g Any t r) (and-false (has firsts (0 - 1))),
+        sum_below_add (round_count g.teams - 1) (λ r. if has changes r then 1 else 0)
+            (λ r. if has firsts (1 + r - 1) && is_break g Any t (1 + r) then 1 else 0),
+        sum_below_same (round_count g.teams - 1) _ (λ r. if has firsts r then 1 else 0) change_or_break,
+      )
 
 -- those in the slots begin with the rounds before them
 pub breaks_in_slots : (g : Games) (side : Side) (t firsts slots : ℕ) →

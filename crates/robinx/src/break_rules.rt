@@ -3,7 +3,9 @@
 ghost use Rattle.std.specs.Prelude.{◌≡◌, ℕ, ◌+◌, ◌-◌, ◌<◌, ◌≤◌};
 ghost use Rattle.league.specs.Limits.{max_rounds};
 ghost use Rattle.league.specs.Sets.{has, IsBelow};
+ghost use Rattle.league.specs.Sums.{sum_below, count_where};
 ghost use Rattle.league.specs.declared.rule.RuleBody.TheVariants as RuleBody;
+ghost use Rattle.league.specs.declared.rule.Side.TheVariants.{Any};
 ghost use Rattle.fixtures.specs.Games.{round_count, IsDoubleRoundRobin};
 ghost use Rattle.robinx.specs.Deviations.{breaks, deviation};
 ghost use Rattle.robinx.specs.Parts.{changing_terms};
@@ -75,11 +77,44 @@ pub(crate) fn br2(schedule: &Schedule, teams: TeamSet, slots: SlotSet, most: u32
     ensures { result ≡ deviation schedule.now (RuleBody.Br2 teams slots most) }
 {
     let firsts = rounds_before(schedule, slots);
+    if teams == TeamSet::below(schedule.teams()) {
+        return over(breaks_of_all(schedule, firsts), most);
+    }
     let mut count = 0;
     for team in teams {
         count += breaks_from(schedule, team, firsts, Side::Any);
     }
     over(count, most)
+}
+
+/// How many breaks all the teams have that begin with one of these rounds: a team has one with each round after which it doesn't
+/// change sides. To count the changes takes fewer instructions.
+fn breaks_of_all(schedule: &Schedule, firsts: SlotSet) -> u32
+    requires firsts { IsBelow (round_count schedule.now.teams - 1) firsts }
+    requires season { round_count schedule.now.teams ≤ max_rounds }
+    ensures { result ≡
+        sum_below schedule.now.teams (λ t. breaks schedule.now t (λ r. has firsts (r - 1)) Any) }
+{
+    let mut changes = 0;
+    for team in 0..schedule.teams() {
+        changes += changes_from(schedule, team, firsts);
+    }
+    u32::from(schedule.teams()) * firsts.len() - changes
+}
+
+/// After how many of these rounds the team changes sides.
+#[inline]
+fn changes_from(schedule: &Schedule, team: u8, firsts: SlotSet) -> u32
+    requires team { team < schedule.now.teams }
+    requires firsts { IsBelow (round_count schedule.now.teams - 1) firsts }
+    requires season { round_count schedule.now.teams ≤ max_rounds }
+    ensures others { result + breaks schedule.now team (λ r. has firsts (r - 1)) Any ≡
+        count_where (round_count schedule.now.teams - 1) (has firsts) }
+    ensures most { result ≤ max_rounds }
+{
+    let home = schedule.home_rounds(team);
+    let changed = home.symmetric_difference(before(home));
+    firsts.intersection(changed).len()
 }
 
 /// The part of `br2` that a change of the sides of some teams can alter.
