@@ -1,13 +1,24 @@
 -- What private functions count on the way: words of theirs alone.
 use Rattle.std.specs.Prelude.{◌≡◌, ℕ, ◌+◌, ◌-◌, ◌*◌, Bool, if◌then◌else◌, ◌<◌, ◌&&◌, ◌||◌, not, nat_lt, min, List, [], length, slice_index, slice_index_or}
 use Rattle.std.specs.Int.{abs_diff}
-use Rattle.league.specs.Sets.{has}
+use Rattle.league.specs.Sets.{has, all_numbers}
 use Rattle.league.specs.Sums.{count_where}
+use Rattle.league.specs.declared.rule.RuleBody.{RuleBody}
+use Rattle.league.specs.declared.rule.RuleBody.TheVariants.{Ca1, Ca2, Ca3, Ca4}
 use Rattle.league.specs.declared.rule.Side.{Side}
 use Rattle.league.specs.declared.rule.Side.TheVariants.{Home, Away, Any}
 use Rattle.fixtures.specs.Games.{Games, round_count}
 use Rattle.robinx.specs.Deviations.{home_games, largest_below}
+use Rattle.robinx.specs.declared.counts.CountedGames.{CountedGames}
 use Rattle.robinx.specs.declared.round_numbers.RoundNumbers.{RoundNumbers}
+
+-- the games that a capacity rule counts, and none for another rule
+abbrev pub counted_of : ℕ → RuleBody → CountedGames
+counted_of n (Ca1 teams side slots most) = record { teams = teams; side = side; opponents = all_numbers n }
+counted_of n (Ca2 teams side opponents slots most) = record { teams = teams; side = side; opponents = opponents }
+counted_of n (Ca3 teams side opponents window most) = record { teams = teams; side = side; opponents = opponents }
+counted_of n (Ca4 teams side opponents slots each most) = record { teams = teams; side = side; opponents = opponents }
+counted_of n other = record { teams = 0; side = Any; opponents = all_numbers n }
 
 -- how many games of a team count in a season against so many opponents, one of which may be the team itself
 abbrev pub season_games : Side → ℕ → Bool → ℕ

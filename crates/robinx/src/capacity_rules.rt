@@ -11,8 +11,8 @@ ghost use Rattle.robinx.specs.Parts.{over_in_met_windows, changing_terms};
 
 use crate::counted_rows::rows_of_rounds;
 use crate::counts::{
-    CountedGames, counted_rounds, games_in_round, games_of_team, games_on_side, number_of, over,
-    rounds_on_side,
+    Capacity, CountedGames, counted_rounds, games_in_round, games_of_team, games_on_side,
+    number_of, over, rounds_on_side,
 };
 use crate::guests::{Around, teams_otherwise};
 use crate::round_numbers::RoundNumbers;
@@ -181,23 +181,17 @@ fn over_from_starts(
 }
 
 /// The games of all the teams that count, over the most: in each of the slots, or in all of them together.
-pub(crate) fn ca4(
-    schedule: &Schedule,
-    games: &CountedGames,
-    slots: SlotSet,
-    each: bool,
-    most: u32,
-) -> u64
+pub(crate) fn ca4(schedule: &Schedule, games: &CountedGames, capacity: &Capacity) -> u64
     requires round_robin { IsDoubleRoundRobin schedule.now }
     requires teams { IsBelow schedule.now.teams games.now.teams }
-    requires slots { IsBelow (round_count schedule.now.teams) slots }
-    ensures { result ≡
-        deviation schedule.now (RuleBody.Ca4 games.now.teams games.now.side games.now.opponents slots each most) }
+    requires slots { IsBelow (round_count schedule.now.teams) capacity.now.slots }
+    ensures { result ≡ deviation schedule.now (RuleBody.Ca4 games.now.teams games.now.side games.now.opponents
+        capacity.now.slots capacity.now.each capacity.now.most) }
 {
-    if each {
-        over_in_slots(schedule, games, slots, most)
+    if capacity.each {
+        over_in_slots(schedule, games, capacity.slots, capacity.most)
     } else {
-        over(games_of_all(schedule, games, slots), most)
+        over(games_of_all(schedule, games, capacity.slots), capacity.most)
     }
 }
 
@@ -206,24 +200,24 @@ pub(crate) fn ca4_part(
     schedule: &Schedule,
     games: &CountedGames,
     change: &Around,
-    slots: SlotSet,
-    each: bool,
-    most: u32,
+    capacity: &Capacity,
 ) -> u64
     requires round_robin { IsDoubleRoundRobin schedule.now }
     requires teams { IsBelow schedule.now.teams games.now.teams }
-    requires slots { IsBelow (round_count schedule.now.teams) slots }
+    requires slots { IsBelow (round_count schedule.now.teams) capacity.now.slots }
     ensures { result ≡ changing_terms schedule.now change.now.main change.now.rounds change.now.sides
-        (RuleBody.Ca4 games.now.teams games.now.side games.now.opponents slots each most) }
+        (RuleBody.Ca4 games.now.teams games.now.side games.now.opponents
+        capacity.now.slots capacity.now.each capacity.now.most) }
 {
     let otherwise = teams_otherwise(schedule, change, games.teams, games.opponents);
     if !otherwise.intersects(games.teams) {
         return 0;
     }
-    if each {
-        over_in_slots(schedule, games, slots.intersection(change.rounds), most)
+    if capacity.each {
+        let slots = capacity.slots.intersection(change.rounds);
+        over_in_slots(schedule, games, slots, capacity.most)
     } else {
-        over(games_of_all(schedule, games, slots), most)
+        over(games_of_all(schedule, games, capacity.slots), capacity.most)
     }
 }
 

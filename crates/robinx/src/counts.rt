@@ -2,15 +2,16 @@
 
 ghost use Rattle.std.specs.Prelude.{◌≡◌, ℕ, ◌<◌, ◌≤◌, ◌&&◌, ◌==◌, nat_lt};
 ghost use Rattle.league.specs.Limits.{max_teams, max_rounds};
+ghost use Rattle.league.specs.RuleLimits.{IsBodyFor};
 ghost use Rattle.league.specs.Sets.{has, IsBelow};
 ghost use Rattle.league.specs.Sums.{count_where};
 ghost use Rattle.fixtures.specs.Games.{round_count, cell, is_home, IsDoubleRoundRobin};
 ghost use Rattle.robinx.specs.Deviations.{over, is_on_side, is_counted, games_of_team, games_in_round};
-ghost use Rattle.robinx.specs.Walked.{season_games};
+ghost use Rattle.robinx.specs.Walked.{season_games, counted_of};
 
 use crate::guests::meets_one_of;
 use fixtures::Schedule;
-use league::{Side, SlotSet, TeamSet};
+use league::{Rule, RuleBody, Side, SlotSet, TeamSet};
 
 /// The games that count for a rule: those of these teams, on this side, against these opponents.
 #[derive(Clone, Copy, Drop)]
@@ -31,6 +32,56 @@ impl CountedGames {
             side,
             opponents,
         }
+    }
+
+    /// Those that a capacity rule counts, and none for another rule.
+    pub(crate) fn of(schedule: &Schedule, rule: &Rule) -> Self
+        requires { IsBodyFor schedule.now.teams rule.now.body }
+        ensures value { result ≡ counted_of schedule.now.teams rule.now.body }
+        ensures below { IsBelow schedule.now.teams result.teams }
+        ensures round_robin { IsDoubleRoundRobin schedule.now }
+    {
+        let all_teams = TeamSet::below(schedule.teams());
+        match &rule.body {
+            RuleBody::Ca1 { teams, side, .. } => CountedGames::new(*teams, *side, all_teams),
+            RuleBody::Ca2 {
+                teams1,
+                side,
+                teams2,
+                ..
+            }
+            | RuleBody::Ca3 {
+                teams1,
+                side,
+                teams2,
+                ..
+            }
+            | RuleBody::Ca4 {
+                teams1,
+                side,
+                teams2,
+                ..
+            } => CountedGames::new(*teams1, *side, *teams2),
+            _ => CountedGames::new(TeamSet::empty(), Side::Any, all_teams),
+        }
+    }
+}
+
+/// At most so many games in some slots: in each of them, or in all of them together.
+#[derive(Clone, Copy, Drop)]
+pub(crate) struct Capacity {
+    pub slots: SlotSet,
+    pub each: bool,
+    pub most: u32,
+}
+
+impl Capacity {
+    pub(crate) fn new(slots: SlotSet, each: bool, most: u32) -> Self
+        ensures slots { result.slots ≡ slots }
+        ensures each { result.each ≡ each }
+        ensures most { result.most ≡ most }
+    {
+        Capacity { slots, each, most }
     }
 }
 

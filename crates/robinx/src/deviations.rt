@@ -7,12 +7,12 @@ ghost use Rattle.robinx.specs.Deviations.{deviation};
 
 use crate::break_rules::{br1, br2};
 use crate::capacity_rules::{ca2, ca3, ca4};
-use crate::counts::CountedGames;
+use crate::counts::{Capacity, CountedGames};
 use crate::fairness_rules::fa2;
 use crate::game_rules::ga1;
 use crate::separation_rules::se1;
 use fixtures::Schedule;
-use league::{Rule, RuleBody, TeamSet};
+use league::{Rule, RuleBody};
 
 /// By how much the schedule breaks the rule, whatever the rule's weight: 0 where it keeps it. What each class
 /// counts stands in `specs/Deviations.antt`. The numbers of the rule have to be in range for the schedule's
@@ -23,57 +23,18 @@ pub fn deviation(schedule: &Schedule, rule: &Rule) -> u64
     ensures value { result ≡ deviation schedule.now rule.now.body }
     ensures below { result < deviation_limit }
 {
-    let all_teams = TeamSet::below(schedule.teams());
+    let counted = CountedGames::of(schedule, rule);
     match &rule.body {
-        RuleBody::Ca1 {
-            teams,
-            side,
-            slots,
-            max,
-        } => ca2(
-            schedule,
-            &CountedGames::new(*teams, *side, all_teams),
-            *slots,
-            *max,
-        ),
-        RuleBody::Ca2 {
-            teams1,
-            side,
-            teams2,
-            slots,
-            max,
-        } => ca2(
-            schedule,
-            &CountedGames::new(*teams1, *side, *teams2),
-            *slots,
-            *max,
-        ),
-        RuleBody::Ca3 {
-            teams1,
-            side,
-            teams2,
-            window,
-            max,
-        } => ca3(
-            schedule,
-            &CountedGames::new(*teams1, *side, *teams2),
-            *window,
-            *max,
-        ),
+        RuleBody::Ca1 { slots, max, .. } | RuleBody::Ca2 { slots, max, .. } => {
+            ca2(schedule, &counted, *slots, *max)
+        }
+        RuleBody::Ca3 { window, max, .. } => ca3(schedule, &counted, *window, *max),
         RuleBody::Ca4 {
-            teams1,
-            side,
-            teams2,
             slots,
             each,
             max,
-        } => ca4(
-            schedule,
-            &CountedGames::new(*teams1, *side, *teams2),
-            *slots,
-            *each,
-            *max,
-        ),
+            ..
+        } => ca4(schedule, &counted, &Capacity::new(*slots, *each, *max)),
         RuleBody::Ga1 {
             games,
             slots,

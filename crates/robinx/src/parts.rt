@@ -1,20 +1,25 @@
 //! The parts of deviations that a change can alter, for a cost that is kept over a change.
 
-ghost use Rattle.std.specs.Prelude.{◌≡◌, ◌<◌, ◌≤◌};
-ghost use Rattle.league.specs.Limits.{max_teams, deviation_limit};
+ghost use Rattle.std.specs.Prelude.{◌≡◌, ℕ, ◌<◌, ◌&&◌, if◌then◌else◌};
+ghost use Rattle.league.specs.Limits.{deviation_limit};
 ghost use Rattle.league.specs.RuleLimits.{IsBodyFor};
-ghost use Rattle.robinx.specs.Parts.{changing_terms, deviation_part};
+ghost use Rattle.league.specs.Sets.{has, IsBelow};
+ghost use Rattle.fixtures.specs.Games.{IsDoubleRoundRobin};
+ghost use Rattle.robinx.specs.Deviations.{deviation};
+ghost use Rattle.robinx.specs.Parts.{counts_otherwise, changing_terms, deviation_part};
+ghost use Rattle.robinx.specs.Walked.{counted_of};
 
 use crate::break_rules::{br1, br2_with};
 use crate::capacity_rules::{ca2, ca3_part, ca4_part};
-use crate::counts::CountedGames;
+use crate::counts::{Capacity, CountedGames};
+use crate::deviations::deviation;
 use crate::fairness_rules::fa2_with;
-use crate::game_rules::ga1_part;
+use crate::game_rules::has_moved_game;
 use crate::guests::{Around, teams_otherwise};
 use crate::separation_rules::se1_part;
 use crate::touched_rules::can_alter;
 use fixtures::{Schedule, Touched};
-use league::{Rule, RuleBody, SlotSet, TeamSet};
+use league::{Rule, RuleBody, TeamSet};
 
 /// The part of the rule's [`deviation`](crate::deviation) that a change can alter: `main` has the teams that get other
 /// games and the rounds in which anything changes, and `sides` the teams that may change their sides. Other teams keep
@@ -26,95 +31,48 @@ pub fn deviation_part(schedule: &Schedule, rule: &Rule, main: Touched, sides: Te
     ensures value { result ≡ deviation_part schedule.now main.teams main.rounds sides rule.now.body }
     ensures below { result < deviation_limit }
 {
-    if can_alter(rule, main.rounds) {
-        changing_terms(schedule, rule, main.teams, main.rounds, sides)
-    } else {
-        0
+    prove!(schedule.teams() > 0);
+    if !can_alter(rule, main.rounds) {
+        return 0;
     }
-}
-
-/// The part for a rule whose deviation a change in the rounds can alter.
-fn changing_terms(
-    schedule: &Schedule,
-    rule: &Rule,
-    main: TeamSet,
-    rounds: SlotSet,
-    sides: TeamSet,
-) -> u64
-    requires { IsBodyFor schedule.now.teams rule.now.body }
-    ensures value { result ≡ changing_terms schedule.now main rounds sides rule.now.body }
-    ensures most { schedule.now.teams ≤ max_teams }
-{
-    let all_teams = TeamSet::below(schedule.teams());
     let change = Around {
-        main,
-        rounds,
+        main: main.teams,
+        rounds: main.rounds,
         sides,
     };
+    changing_terms(schedule, rule, &change)
+}
+
+/// The part for a rule whose deviation a change in its rounds can alter.
+fn changing_terms(schedule: &Schedule, rule: &Rule, change: &Around) -> u64
+    requires body { IsBodyFor schedule.now.teams rule.now.body }
+    requires round_robin { IsDoubleRoundRobin schedule.now }
+    ensures { result ≡
+        changing_terms schedule.now change.now.main change.now.rounds change.now.sides rule.now.body }
+{
+    let sides = change.sides;
     match &rule.body {
-        RuleBody::Ca1 {
-            teams,
-            side,
-            slots,
-            max,
-        } => ca2(
-            schedule,
-            &CountedGames::new(teams.intersection(sides), *side, all_teams),
-            *slots,
-            *max,
-        ),
-        RuleBody::Ca2 {
-            teams1,
-            side,
-            teams2,
-            slots,
-            max,
-        } => {
-            let teams = teams_otherwise(schedule, &change, *teams1, *teams2);
-            ca2(
-                schedule,
-                &CountedGames::new(teams, *side, *teams2),
-                *slots,
-                *max,
-            )
+        RuleBody::Ca1 { slots, max, .. } | RuleBody::Ca2 { slots, max, .. } => {
+            let games = games_otherwise(schedule, rule, change);
+            ca2(schedule, &games, *slots, *max)
         }
-        RuleBody::Ca3 {
-            teams1,
-            side,
-            teams2,
-            window,
-            max,
-        } => {
-            let teams = teams_otherwise(schedule, &change, *teams1, *teams2);
-            ca3_part(
-                schedule,
-                &CountedGames::new(teams, *side, *teams2),
-                rounds,
-                *window,
-                *max,
-            )
+        RuleBody::Ca3 { window, max, .. } => {
+            let games = games_otherwise(schedule, rule, change);
+            ca3_part(schedule, &games, change.rounds, *window, *max)
         }
         RuleBody::Ca4 {
-            teams1,
-            side,
-            teams2,
             slots,
             each,
             max,
-        } => ca4_part(
-            schedule,
-            &CountedGames::new(*teams1, *side, *teams2),
-            &change,
-            *slots,
-            *each,
-            *max,
-        ),
-        RuleBody::Ga1 {
-            games,
-            slots,
-            min,
-            max,
-        } => ga1_part(schedule, games, &change, *slots, *min, *max),
+            ..
+        } => {
+            let games = CountedGames::of(schedule, rule);
+            let capacity = Capacity::new(*slots, *each, *max);
+            ca4_part(schedule, &games, change, &capacity)
+        }
+        RuleBody::Ga1 { games, .. } => {
+            deviation_if(has_moved_game(schedule, games, change), schedule, rule)
+        }
         RuleBody::Br1 {
             teams,
             side,
@@ -122,7 +80,34 @@ fn changing_terms(
             most,
         } => br1(schedule, teams.intersection(sides), *side, *slots, *most),
         RuleBody::Br2 { teams, slots, most } => { br2_with(schedule, *teams, sides, *slots, *most) }
-        RuleBody::Se1 { teams, min } => se1_part(schedule, *teams, main, rounds, *min),
+        RuleBody::Se1 { teams, min } => se1_part(schedule, *teams, change, *min),
         RuleBody::Fa2 { teams, slots, most } => { fa2_with(schedule, *teams, sides, *slots, *most) }
+    }
+}
+
+/// The games that a capacity rule counts, of those of its teams of which other games may count.
+fn games_otherwise(schedule: &Schedule, rule: &Rule, change: &Around) -> CountedGames
+    requires { IsBodyFor schedule.now.teams rule.now.body }
+    ensures members { (t : ℕ) → has result.teams t ≡ (has (counted_of schedule.now.teams rule.now.body).teams t &&
+        counts_otherwise schedule.now change.now.main change.now.rounds change.now.sides
+        (counted_of schedule.now.teams rule.now.body).opponents t) }
+    ensures side { result.side ≡ (counted_of schedule.now.teams rule.now.body).side }
+    ensures opponents { result.opponents ≡ (counted_of schedule.now.teams rule.now.body).opponents }
+    ensures below { IsBelow schedule.now.teams result.teams }
+{
+    let games = CountedGames::of(schedule, rule);
+    let teams = teams_otherwise(schedule, change, games.teams, games.opponents);
+    CountedGames::new(teams, games.side, games.opponents)
+}
+
+/// The whole deviation if a change can alter it.
+fn deviation_if(can_alter: bool, schedule: &Schedule, rule: &Rule) -> u64
+    requires { IsBodyFor schedule.now.teams rule.now.body }
+    ensures { result ≡ (if can_alter then deviation schedule.now rule.now.body else 0) }
+{
+    if can_alter {
+        deviation(schedule, rule)
+    } else {
+        0
     }
 }

@@ -11,6 +11,7 @@ ghost use Rattle.robinx.specs.Parts.{meet_in, changing_terms};
 ghost use Rattle.robinx.specs.Walked.{counts_pair};
 
 use crate::counts::over;
+use crate::guests::Around;
 use fixtures::Schedule;
 use league::{SlotSet, TeamSet};
 
@@ -29,24 +30,18 @@ pub(crate) fn se1(schedule: &Schedule, teams: TeamSet, least: u32) -> u64
 }
 
 /// Those of each pair with a main team that meets in one of the rounds.
-pub(crate) fn se1_part(
-    schedule: &Schedule,
-    teams: TeamSet,
-    main: TeamSet,
-    rounds: SlotSet,
-    least: u32,
-) -> u64
+pub(crate) fn se1_part(schedule: &Schedule, teams: TeamSet, change: &Around, least: u32) -> u64
     requires round_robin { IsDoubleRoundRobin schedule.now }
     requires teams { IsBelow schedule.now.teams teams }
     requires least { least ≤ max_count }
-    ensures { (sides : ℕ) →
-        result ≡ changing_terms schedule.now main rounds sides (RuleBody.Se1 teams least) }
+    ensures { result ≡ changing_terms schedule.now change.now.main change.now.rounds change.now.sides
+        (RuleBody.Se1 teams least) }
 {
-    let counting = teams.intersection(main);
+    let counting = teams.intersection(change.main);
     let mut total = 0;
     for team in counting {
-        let met = opponents_in(schedule, rounds, team).intersection(teams);
-        total += short_with(schedule, met, main, least, team);
+        let met = opponents_in(schedule, change.rounds, team).intersection(teams);
+        total += short_with(schedule, met, change.main, least, team);
     }
     total
 }

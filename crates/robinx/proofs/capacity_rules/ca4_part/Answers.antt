@@ -6,20 +6,20 @@ use Rattle.robinx.proofs.capacity_rules.ca4_part.Goals as goal
 pub returns-then-not-intersects : goal.returns-then-not-intersects
 returns-then-not-intersects c =
     let none : c.intersects.result ≡ false = cc in
-    Ca4-none _ _ _ _ _ _ _ _ _ c.args.each (sym (one_is_met _ _ _ c.teams_otherwise-otherwise.ensures.members) ∙ sym c.intersects.ensures ∙
+    Ca4-none _ _ _ _ _ _ _ _ _ c.args.capacity.now.each (sym (one_is_met _ _ _ c.teams_otherwise-otherwise.ensures.members) ∙ sym c.intersects.ensures ∙
     none)
 
-pub returns-then-each : goal.returns-then-each
-returns-then-each c =
+pub returns-then-capacity : goal.returns-then-capacity
+returns-then-capacity c =
     let one : c.intersects.result ≡ true = cc in
-    rw c.if-each.true
+    rw c.if-capacity.true
     (c.over_in_slots.ensures ∙
-    Ca4-each _ _ _ _ _ _ _ _ _ _ c.intersection.ensures.members (sym (one_is_met _ _ _ c.teams_otherwise-otherwise.ensures.members) ∙
+    Ca4-each _ _ _ _ _ _ _ _ _ _ c.intersection-slots.ensures.members (sym (one_is_met _ _ _ c.teams_otherwise-otherwise.ensures.members) ∙
     sym c.intersects.ensures ∙ one))
 
-pub returns-else-each : goal.returns-else-each
-returns-else-each c =
+pub returns-else-capacity : goal.returns-else-capacity
+returns-else-capacity c =
     let one : c.intersects.result ≡ true = cc in
-    rw c.if-each.false
-    (c.over.ensures.value ∙ ap (λ n. over n c.args.most) c.games_of_all.ensures ∙
+    rw c.if-capacity.false
+    (c.over.ensures.value ∙ ap (λ n. over n c.args.capacity.now.most) c.games_of_all.ensures ∙
     Ca4-all _ _ _ _ _ _ _ _ _ (sym (one_is_met _ _ _ c.teams_otherwise-otherwise.ensures.members) ∙ sym c.intersects.ensures ∙ one))

@@ -9,7 +9,7 @@ use Rattle.robinx.proofs.game_rules.has_moved_game.Goals as goal
 pub loop-i-preserved : goal.loop-i-preserved
 loop-i-preserved c =
     list_any_not_yet
-    (λ (game : Pairing). (has c.args.main game.home || has c.args.main game.away) && has c.args.rounds
+    (λ (game : Pairing). (has c.args.change.now.main game.home || has c.args.change.now.main game.away) && has c.args.change.now.rounds
     (round_of c.args.schedule.now game.home game.away))
     _ _ _ c.at-game.ensures c.loop-i.invariant (sym c.is_moved_game.ensures ∙ c.if-is_moved_game.false)
 
@@ -17,6 +17,6 @@ pub returns-then-is_moved_game : goal.returns-then-is_moved_game
 unfolding has_moved_game
 returns-then-is_moved_game c =
     sym (list_any_found
-    (λ (game : Pairing). (has c.args.main game.home || has c.args.main game.away) && has c.args.rounds
+    (λ (game : Pairing). (has c.args.change.now.main game.home || has c.args.change.now.main game.away) && has c.args.change.now.rounds
     (round_of c.args.schedule.now game.home game.away))
     _ _ _ c.at-game.ensures (sym c.is_moved_game.ensures ∙ c.if-is_moved_game.true))

@@ -23,8 +23,8 @@ loop-team-preserved c =
     sum_without_more _ _ _ _ _ _ _ _ _ c.loop-team.invariant c.in-Some.ensures.steps
     (c.short_with-total.ensures.value ∙
     sum_where_same c.args.schedule.now.teams _ _ _ _
-    (counted_same c.args.schedule.now c.args.main c.in-Some.team (has c.intersection-met.result)
-    (λ t. has c.args.teams t && meet_in c.args.schedule.now (has c.args.rounds) t c.in-Some.team)
+    (counted_same c.args.schedule.now c.args.change.now.main c.in-Some.team (has c.intersection-met.result)
+    (λ t. has c.args.teams t && meet_in c.args.schedule.now (has c.args.change.now.rounds) t c.in-Some.team)
     (lowest_below _ _ _ _ c.loop-team.invariant.below c.in-Some.ensures.steps)
     (λ t pair. c.intersection-met.ensures.members t ∙ and_comm _ (has c.args.teams t) ∙
     ap (λ b. has c.args.teams t && b) (c.opponents_in.ensures.members t pair)))
@@ -33,11 +33,11 @@ loop-team-preserved c =
 
 pub returns : goal.returns
 unfolding changing_terms
-returns c = λ sides.
+returns c =
     sum_without_all _ _ _ _ _ _ _ c.loop-team.invariant c.in-None.ensures.steps.0
     (λ k below.
     ap (λ s. has s k) c.into_iter-team-iterator.ensures.into_iter_gives ∙ c.intersection-counting.ensures.members k) ∙
-    pairs_at_main c.args.schedule.now.teams c.args.teams c.args.main (meet_in c.args.schedule.now (has c.args.rounds))
+    pairs_at_main c.args.schedule.now.teams c.args.teams c.args.change.now.main (meet_in c.args.schedule.now (has c.args.change.now.rounds))
     (λ i j. over c.args.least (rounds_between c.args.schedule.now i j))
-    (meet_in_swapped c.args.schedule.now (has c.args.rounds))
+    (meet_in_swapped c.args.schedule.now (has c.args.change.now.rounds))
     (λ i j. ap (over c.args.least) (rounds_between_swapped c.args.schedule.now i j))

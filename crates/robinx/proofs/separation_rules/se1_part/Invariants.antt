@@ -11,5 +11,5 @@ abbrev pub invariant-loop-team : goal.invariant-loop-team
 invariant-loop-team l =
     IsSumWithout l.schedule.teams l.initial.team-iterator l.team-iterator l.total 400000
     (λ t. sum_where l.schedule.teams
-    (λ p. (has l.teams p && meet_in l.schedule (has l.rounds) p t) && counts_pair l.main t p)
+    (λ p. (has l.teams p && meet_in l.schedule (has l.change.rounds) p t) && counts_pair l.change.main t p)
     (λ p. over l.least (rounds_between l.schedule p t)))
