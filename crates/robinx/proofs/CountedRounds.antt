@@ -2,7 +2,7 @@
 use Rattle.std.proofs.Common.{◌≡◌, ℕ, ◌+◌, ◌-◌, ◌<◌, ◌≤◌, ◌&&◌, not, nat_lt, Bool, true, false, if◌then◌else◌, sym, inl, inr, refl}
 use Rattle.std.proofs.Common.{◌∙◌, ap, arith}
 use Rattle.std.specs.Bool.{beq}
-use Rattle.std.proofs.Math.Bool.{and-false}
+use Rattle.std.proofs.Math.Bool.{and-false, and-true, and_comm}
 use Rattle.std.proofs.lemmas.Bool.{cases_eq, lt-ltb, ne_eqb}
 use Rattle.league.specs.Sets.{has}
 use Rattle.league.specs.Sums.{sum_below, sum_where, count_where, any_below}
@@ -117,94 +117,58 @@ unfolding games_of_team games_in_round
 together_by_teams g side teams opponents slots =
     sum_of_counts_swap g.teams (round_count g.teams) teams slots (is_counted g side opponents)
 
--- the breaks that begin with one of some rounds: with such rounds a set has those after which the team stays on its side
-module _ (g : Games) (t firsts home alike stays : ℕ) (most : round_count g.teams ≤ 78)
+-- the breaks that begin with one of some rounds: those after which the team doesn't change sides
+module _ (g : Games) (t firsts home changes : ℕ) (most : round_count g.teams ≤ 78)
     (homes : (r : ℕ) → has home r ≡ (nat_lt r (round_count g.teams) && is_home g t r))
-    (all_alike : (r : ℕ) → has alike r ≡ (nat_lt (r + 1) 78 && beq (has home r) (has home (r + 1))))
-    (all_stays : (r : ℕ) → has stays r ≡ (has firsts r && has alike r)) where
+    (all_changes : (r : ℕ) → r + 1 < 78 → not (has changes r) ≡ beq (has home r) (has home (r + 1))) where
   at_home : (r : ℕ) → r < round_count g.teams → has home r ≡ is_home g t r
   at_home r in_r = homes r ∙ ap (λ b. b && is_home g t r) (lt-ltb r (round_count g.teams) in_r)
 
   either_round : (side : Side) (first x y : Bool) →
-      ((first && (true && beq x y)) && is_on_side side x) ≡ (first && (true && beq x y && is_on_side side y))
+      ((first && beq x y) && is_on_side side x) ≡ (first && (true && beq x y && is_on_side side y))
   either_round side true true true = refl
   either_round side true true false = refl
   either_round side true false true = refl
   either_round side true false false = refl
   either_round side false x y = refl
 
-  begins : (side : Side) (counted r : ℕ) → has counted r ≡ (has stays r && is_on_side side (has home r)) →
-      r < round_count g.teams - 1 → has counted r ≡ (has firsts (1 + r - 1) && is_break g side t (1 + r))
+  begins : (side : Side) (r : ℕ) → r < round_count g.teams - 1 →
+      ((has firsts r && not (has changes r)) && is_on_side side (has home r)) ≡ (has firsts (1 + r - 1) && is_break g side t (1 + r))
   unfolding is_break is_home
-  begins side counted r members below =
+  begins side r below =
       let first : 1 + r - 1 ≡ r = omega arith in
       let second : 1 + r ≡ r + 1 = omega arith in
-      members ∙
       rw (
-        all_stays r,
-        all_alike r,
+        all_changes r (omega (arith, most)),
         at_home r (omega arith),
         at_home (r + 1) (omega arith),
-        lt-ltb (r + 1) 78 (omega (arith, most)),
         first,
         second,
         ne_eqb (r + 1) 0 (omega arith),
       )
       (either_round side (has firsts r) (cell g t r).home (cell g t (r + 1)).home)
 
-  pub breaks_of_firsts : (side : Side) (counted : ℕ) → ((r : ℕ) → has counted r ≡ (has stays r && is_on_side side (has home r))) →
-      count_where (round_count g.teams - 1) (has counted) ≡ breaks g t (λ r. has firsts (r - 1)) side
+  pub breaks_of_firsts : (side : Side) (counted : ℕ → Bool) →
+      ((r : ℕ) → counted r ≡ ((has firsts r && not (has changes r)) && is_on_side side (has home r))) →
+      count_where (round_count g.teams - 1) counted ≡ breaks g t (λ r. has firsts (r - 1)) side
   unfolding breaks is_break
   breaks_of_firsts side counted members =
-      count_where_same (round_count g.teams - 1) (has counted) (λ r. has firsts (1 + r - 1) && is_break g side t (1 + r))
-      (λ r below. begins side counted r (members r) below) ∙
+      count_where_same (round_count g.teams - 1) counted (λ r. has firsts (1 + r - 1) && is_break g side t (1 + r))
+      (λ r below. members r ∙ begins side r below) ∙
       sym (count_after_first (round_count g.teams) (λ r. has firsts (r - 1) && is_break g side t r) (and-false (has firsts (0 - 1))))
 
--- those of some rounds after which a team doesn't change sides
-module _ (g : Games) (t firsts home next changed changes : ℕ) (most : round_count g.teams ≤ 78)
-    (homes : (r : ℕ) → has home r ≡ (nat_lt r (round_count g.teams) && is_home g t r))
-    (nexts : (r : ℕ) → r + 1 < 78 → has next r ≡ has home (r + 1))
-    (all_changed : (r : ℕ) → has changed r ≡ (if has next r then not (has home r) else has home r))
-    (all_changes : (r : ℕ) → has changes r ≡ (has firsts r && has changed r)) where
-  change_or_break : (r : ℕ) → r < round_count g.teams - 1 →
-      (if has changes r then 1 else 0) + (if has firsts (1 + r - 1) && is_break g Any t (1 + r) then 1 else 0) ≡ (if has firsts r then 1 else 0)
-  unfolding is_break is_home
-  change_or_break r below =
-      let first : 1 + r - 1 ≡ r = omega arith in
-      let second : 1 + r ≡ r + 1 = omega arith in
-      rw (
-        all_changes r,
-        all_changed r,
-        nexts r (omega (arith, most)),
-        homes r,
-        homes (r + 1),
-        lt-ltb r (round_count g.teams) (omega arith),
-        lt-ltb (r + 1) (round_count g.teams) (omega arith),
-        first,
-        second,
-        ne_eqb (r + 1) 0 (omega arith),
-      )
-      (either (has firsts r) (cell g t r).home (cell g t (r + 1)).home)
-    where
-      either : (first x y : Bool) →
-          (if first && (if true && y then not (true && x) else (true && x)) then 1 else 0) + (if first && (true && beq x y && true) then 1 else 0) ≡
-          (if first then 1 else 0)
-      either true true true = refl
-      either true true false = refl
-      either true false true = refl
-      either true false false = refl
-      either false x y = refl
-
-  pub changes_of_firsts : count_where (round_count g.teams - 1) (has changes) + breaks g t (λ r. has firsts (r - 1)) Any ≡
+  -- the others are the rounds after which it does
+  pub changes_of_firsts : (changed : ℕ) → ((r : ℕ) → has changed r ≡ (has firsts r && has changes r)) →
+      count_where (round_count g.teams - 1) (has changed) + breaks g t (λ r. has firsts (r - 1)) Any ≡
       count_where (round_count g.teams - 1) (has firsts)
-  unfolding breaks is_break
-  changes_of_firsts =
+  changes_of_firsts changed members =
       omega (
         arith,
-        count_after_first (round_count g.teams) (λ r. has firsts (r - 1) && is_break g Any t r) (and-false (has firsts (0 - 1))),
-        sum_below_add (round_count g.teams - 1) (λ r. if has changes r then 1 else 0)
-            (λ r. if has firsts (1 + r - 1) && is_break g Any t (1 + r) then 1 else 0),
-        sum_below_same (round_count g.teams - 1) _ (λ r. if has firsts r then 1 else 0) change_or_break,
+        breaks_of_firsts Any (λ r. not (has changes r) && has firsts r)
+            (λ r. and_comm (not (has changes r)) (has firsts r) ∙ sym (and-true (has firsts r && not (has changes r)))),
+        count_where_same (round_count g.teams - 1) (has changed) (λ r. has changes r && has firsts r)
+            (λ r below. members r ∙ and_comm (has firsts r) (has changes r)),
+        counted_in_and_out (round_count g.teams - 1) (has changes) (has firsts),
       )
 
 -- those in the slots begin with the rounds before them

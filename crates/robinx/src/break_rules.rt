@@ -1,14 +1,15 @@
 //! Breaks, and the rules on them: at most so many rounds in which a team stays on its side.
 
-ghost use Rattle.std.specs.Prelude.{◌≡◌, ℕ, ◌+◌, ◌-◌, ◌<◌, ◌≤◌};
+ghost use Rattle.std.specs.Prelude.{◌≡◌, ℕ, ◌+◌, ◌-◌, ◌<◌, ◌≤◌, not, if◌then◌else◌};
+ghost use Rattle.std.specs.Bool.{beq};
 ghost use Rattle.league.specs.Limits.{max_rounds};
 ghost use Rattle.league.specs.Sets.{has, IsBelow};
-ghost use Rattle.league.specs.Sums.{sum_below, count_where};
+ghost use Rattle.league.specs.Sums.{sum_below};
 ghost use Rattle.league.specs.declared.rule.RuleBody.TheVariants as RuleBody;
 ghost use Rattle.league.specs.declared.rule.Side.TheVariants.{Any};
 ghost use Rattle.fixtures.specs.Games.{round_count, IsDoubleRoundRobin};
 ghost use Rattle.robinx.specs.Deviations.{breaks, deviation};
-ghost use Rattle.robinx.specs.Parts.{changing_terms};
+ghost use Rattle.robinx.specs.Touches.{has_touched_team};
 
 use crate::counts::over;
 use crate::windows::before;
@@ -46,12 +47,20 @@ fn breaks_from(schedule: &Schedule, team: u8, firsts: SlotSet, side: Side) -> u3
     ensures most { result ≤ max_rounds }
 {
     let home = schedule.home_rounds(team);
-    let stays = firsts.intersection(home.like_next_below(MAX_ROUNDS));
+    let stays = firsts.difference(changes_of(home));
     match side {
         Side::Home => stays.intersection(home).len(),
         Side::Away => stays.difference(home).len(),
         Side::Any => stays.len(),
     }
+}
+
+/// The rounds after which a team changes sides that is at home in these rounds.
+#[inline]
+fn changes_of(home: SlotSet) -> SlotSet
+    ensures { (r : ℕ) → r + 1 < max_rounds → not (has result r) ≡ beq (has home r) (has home (r + 1)) }
+{
+    SlotSet::below(MAX_ROUNDS - 1).difference(home.like_next_below(MAX_ROUNDS))
 }
 
 /// The breaks of each team in the slots, over the most.
@@ -87,37 +96,25 @@ pub(crate) fn br2(schedule: &Schedule, teams: TeamSet, slots: SlotSet, most: u32
     over(count, most)
 }
 
-/// How many breaks all the teams have that begin with one of these rounds: a team has one with each round after which it doesn't
-/// change sides. To count the changes takes fewer instructions.
+/// How many breaks all the teams have that begin with one of these rounds. Fewer instructions count the changes of sides.
+#[tactic(auto, using(league::proofs::ForCallers::sums))]
 fn breaks_of_all(schedule: &Schedule, firsts: SlotSet) -> u32
     requires firsts { IsBelow (round_count schedule.now.teams - 1) firsts }
     requires season { round_count schedule.now.teams ≤ max_rounds }
     ensures { result ≡
         sum_below schedule.now.teams (λ t. breaks schedule.now t (λ r. has firsts (r - 1)) Any) }
 {
-    let mut changes = 0;
+    let rounds = firsts.len();
+    let mut count = 0;
     for team in 0..schedule.teams() {
-        changes += changes_from(schedule, team, firsts);
+        let changes = changes_of(schedule.home_rounds(team));
+        count += rounds - firsts.intersection(changes).len();
     }
-    u32::from(schedule.teams()) * firsts.len() - changes
-}
-
-/// After how many of these rounds the team changes sides.
-#[inline]
-fn changes_from(schedule: &Schedule, team: u8, firsts: SlotSet) -> u32
-    requires team { team < schedule.now.teams }
-    requires firsts { IsBelow (round_count schedule.now.teams - 1) firsts }
-    requires season { round_count schedule.now.teams ≤ max_rounds }
-    ensures others { result + breaks schedule.now team (λ r. has firsts (r - 1)) Any ≡
-        count_where (round_count schedule.now.teams - 1) (has firsts) }
-    ensures most { result ≤ max_rounds }
-{
-    let home = schedule.home_rounds(team);
-    let changed = home.symmetric_difference(before(home));
-    firsts.intersection(changed).len()
+    count
 }
 
 /// The part of `br2` that a change of the sides of some teams can alter.
+#[tactic(auto, unfolding(crate::specs::Touches::has_touched_team))]
 pub(crate) fn br2_with(
     schedule: &Schedule,
     teams: TeamSet,
@@ -127,8 +124,8 @@ pub(crate) fn br2_with(
 ) -> u64
     requires round_robin { IsDoubleRoundRobin schedule.now }
     requires teams { IsBelow schedule.now.teams teams }
-    ensures { (main rounds : ℕ) →
-        result ≡ changing_terms schedule.now main rounds sides (RuleBody.Br2 teams slots most) }
+    ensures { result ≡
+        (if has_touched_team teams (has sides) then deviation schedule.now (RuleBody.Br2 teams slots most) else 0) }
 {
     if teams.intersects(sides) {
         br2(schedule, teams, slots, most)

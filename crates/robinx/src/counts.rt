@@ -23,9 +23,7 @@ pub(crate) struct CountedGames {
 
 impl CountedGames {
     pub(crate) fn new(teams: TeamSet, side: Side, opponents: TeamSet) -> Self
-        ensures teams { result.teams ≡ teams }
-        ensures side { result.side ≡ side }
-        ensures opponents { result.opponents ≡ opponents }
+        ensures { result ≡ record { teams = teams; side = side; opponents = opponents } }
     {
         CountedGames {
             teams,
@@ -77,9 +75,7 @@ pub(crate) struct Capacity {
 
 impl Capacity {
     pub(crate) fn new(slots: SlotSet, each: bool, most: u32) -> Self
-        ensures slots { result.slots ≡ slots }
-        ensures each { result.each ≡ each }
-        ensures most { result.most ≡ most }
+        ensures { result ≡ record { slots = slots; each = each; most = most } }
     {
         Capacity { slots, each, most }
     }

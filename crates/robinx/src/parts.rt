@@ -44,6 +44,7 @@ pub fn deviation_part(schedule: &Schedule, rule: &Rule, main: Touched, sides: Te
 }
 
 /// The part for a rule whose deviation a change in its rounds can alter.
+#[tactic(auto, unfolding(crate::specs::Parts::changing_terms))]
 fn changing_terms(schedule: &Schedule, rule: &Rule, change: &Around) -> u64
     requires body { IsBodyFor schedule.now.teams rule.now.body }
     requires round_robin { IsDoubleRoundRobin schedule.now }

@@ -1,14 +1,12 @@
-use Rattle.std.proofs.Common.{◌≡◌, ◌+◌, ◌-◌, ◌*◌, ◌≤◌}
+use Rattle.std.proofs.Common.{◌≡◌, ◌-◌, ◌*◌, ◌≤◌}
 use Rattle.league.specs.Sets.{has}
-use Rattle.league.specs.Sums.{sum_below, count_where}
+use Rattle.league.specs.Sums.{sum_below}
 use Rattle.league.specs.declared.rule.Side.TheVariants.{Any}
-use Rattle.fixtures.specs.Games.{round_count}
 use Rattle.robinx.specs.Deviations.{breaks}
 use Rattle.robinx.proofs.break_rules.breaks_of_all.Given as goal
 
 abbrev pub invariant-loop-team : goal.invariant-loop-team
 invariant-loop-team l = record {
-  all : l.changes + sum_below l.team (λ t. breaks l.schedule t (λ r. has l.firsts (r - 1)) Any) ≡
-      l.team * count_where (round_count l.schedule.teams - 1) (has l.firsts);
-  most : l.changes ≤ l.team * 78;
+  value : l.count ≡ sum_below l.team (λ t. breaks l.schedule t (λ r. has l.firsts (r - 1)) Any);
+  most : l.count ≤ l.team * 78;
 }

@@ -42,21 +42,9 @@ returns-in-Ca3 c =
     (rw c.in-Ca3.is at c.games_otherwise-games.ensures.members) ∙
     ap (changing_terms c.args.schedule.now c.args.change.now.main c.args.change.now.rounds c.args.change.now.sides) (sym c.in-Ca3.is)
 
-pub returns-in-Ga1 : goal.returns-in-Ga1
-unfolding changing_terms
-returns-in-Ga1 c =
-    rw (c.has_moved_game.ensures, c.in-Ga1.is) at c.deviation_if.ensures ∙
-    ap (changing_terms c.args.schedule.now c.args.change.now.main c.args.change.now.rounds c.args.change.now.sides) (sym c.in-Ga1.is)
-
 pub returns-in-Br1 : goal.returns-in-Br1
 returns-in-Br1 c =
     c.br1.ensures ∙
     Br1-terms c.args.schedule.now c.args.change.now.main c.args.change.now.rounds c.args.change.now.sides c.in-Br1.teams c.in-Br1.side
     c.in-Br1.slots c.in-Br1.most c.intersection.result c.intersection.ensures.members ∙
     ap (changing_terms c.args.schedule.now c.args.change.now.main c.args.change.now.rounds c.args.change.now.sides) (sym c.in-Br1.is)
-
-pub returns-in-Fa2 : goal.returns-in-Fa2
-unfolding changing_terms
-returns-in-Fa2 c =
-    c.fa2_with.ensures ∙
-    ap (changing_terms c.args.schedule.now c.args.change.now.main c.args.change.now.rounds c.args.change.now.sides) (sym c.in-Fa2.is)
