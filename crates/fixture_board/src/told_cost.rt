@@ -21,6 +21,7 @@ use tours::{
 
 /// The cost with the travel, the runs and the repeats after an exchange, and all else as it is before it. None if the travel
 /// alone, or with some of the runs, scores over `most`: then the whole cost after it does so too.
+#[inline]
 pub(crate) fn told_within(
     schedule: &Schedule,
     league: &League,

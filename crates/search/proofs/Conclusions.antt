@@ -59,14 +59,16 @@ resumed_of heard gate plan table all jobs handles reports was seat closed before
     let Rising : List ℕ → Type 0 = λ ns. IsStrictlyIncreasing ns in
     let Added : List Report → Type 0 = λ rs. AreAdded rs was.seen o.board.history in
     record {
-      plan_is = end.plan_is;
-      workers = end.workers;
-      league = ap (λ (b : Book). b.league) board;
-      room = ap (λ (b : Book). b.room) board;
-      legal = subst Legal (sym end.board_is) end.legal;
-      many = end.many;
-      each = subst Each (sym end.reports_are)
-          (All-weaker (IsOfWorker heard plan.steps) (IsReport plan.steps) (λ r h. h.report_is) reports each);
+      ended = record {
+        plan_is = end.plan_is;
+        workers = end.workers;
+        league = ap (λ (b : Book). b.league) board;
+        room = ap (λ (b : Book). b.room) board;
+        legal = subst Legal (sym end.board_is) end.legal;
+        many = end.many;
+        each = subst Each (sym end.reports_are)
+            (All-weaker (IsOfWorker heard plan.steps) (IsReport plan.steps) (λ r h. h.report_is) reports each);
+      };
       added = subst Added (sym end.reports_are) (record {
         after = after;
         begins = history;
@@ -88,13 +90,7 @@ outcome_of plan was (Ok o) none resumed =
     let history : o.board.history ≡ added.after = added.begins ∙ ap (λ (h : List Entry). h ++ added.after) none in
     let Credited : List Entry → Type 0 = λ h. Credits o.reports h in
     record {
-      plan_is = resumed.plan_is;
-      workers = resumed.workers;
-      league = resumed.league;
-      room = resumed.room;
-      legal = resumed.legal;
-      many = resumed.many;
-      each = resumed.each;
+      ended = resumed.ended;
       sum = added.sum ∙ ap length (sym history);
       credits = subst Credited (sym history) added.credits;
     }

@@ -39,8 +39,8 @@ pub record AreAdded (reports : List Report) (start h : List Entry) : Type 0 wher
   pub sum : accepted_in reports ≡ length after
   pub credits : Credits reports after
 
--- the outcome of a run that went on from a board's history
-pub record IsResumed (plan : SearchPlan) (was : Book) (o : Outcome) : Type 0 where
+-- however a run began: its plan, a board of the same league and room at a legal history, and a report for each worker
+pub record IsEnded (plan : SearchPlan) (was : Book) (o : Outcome) : Type 0 where
   pub plan_is : o.plan ≡ plan
   pub workers : IsWorkers plan
   pub league : o.board.league ≡ was.league
@@ -48,17 +48,15 @@ pub record IsResumed (plan : SearchPlan) (was : Book) (o : Outcome) : Type 0 whe
   pub legal : IsLegal o.board.league o.board.room o.board.history
   pub many : length o.reports ≡ plan.workers
   pub each : All (IsReport plan.steps) o.reports
+
+-- the outcome of a run that went on from a board's history
+pub record IsResumed (plan : SearchPlan) (was : Book) (o : Outcome) : Type 0 where
+  pub ended : IsEnded plan was o
   pub added : AreAdded o.reports was.history o.board.history
 
 -- the outcome of a run from a board without an entry
 pub record IsOutcome (plan : SearchPlan) (was : Book) (o : Outcome) : Type 0 where
-  pub plan_is : o.plan ≡ plan
-  pub workers : IsWorkers plan
-  pub league : o.board.league ≡ was.league
-  pub room : o.board.room ≡ was.room
-  pub legal : IsLegal o.board.league o.board.room o.board.history
-  pub many : length o.reports ≡ plan.workers
-  pub each : All (IsReport plan.steps) o.reports
+  pub ended : IsEnded plan was o
   pub sum : accepted_in o.reports ≡ length o.board.history
   pub credits : Credits o.reports o.board.history
 

@@ -1,7 +1,6 @@
 //! Tests compare by `==`, so it has to see the variant and each field. What faults say.
 
 use super::checks::{check_holds, check_same};
-use super::samples::NO_CALLS;
 use std::alloc::Global;
 use std::fmt::Display;
 use std::process::Abort;
@@ -26,30 +25,25 @@ fn steps_that_differ(rt: HostRuntime) {
     assert!(rt; are_distinct(&steps));
 }
 
+fn tally([calls, failed, empty, again, again_in_a_row]: [u64; 5]) -> Tally {
+    Tally {
+        calls,
+        failed,
+        empty,
+        again,
+        again_in_a_row,
+    }
+}
+
 #[test]
 fn tallies_that_differ_in_one_field(rt: HostRuntime) {
     let tallies = [
-        NO_CALLS,
-        Tally {
-            calls: 1,
-            ..NO_CALLS
-        },
-        Tally {
-            failed: 1,
-            ..NO_CALLS
-        },
-        Tally {
-            empty: 1,
-            ..NO_CALLS
-        },
-        Tally {
-            again: 1,
-            ..NO_CALLS
-        },
-        Tally {
-            again_in_a_row: 1,
-            ..NO_CALLS
-        },
+        tally([0, 0, 0, 0, 0]),
+        tally([1, 0, 0, 0, 0]),
+        tally([0, 1, 0, 0, 0]),
+        tally([0, 0, 1, 0, 0]),
+        tally([0, 0, 0, 1, 0]),
+        tally([0, 0, 0, 0, 1]),
     ];
     assert!(rt; are_distinct(&tallies));
 }
