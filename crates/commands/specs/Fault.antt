@@ -1,6 +1,8 @@
 -- The faults of the layers below, as faults of the program.
+use Rattle.std.specs.Prelude.{Result, Ok, Err}
 use Rattle.streams.specs.declared.reading.ReadFault.{ReadFault}
 use Rattle.streams.specs.declared.reading.ReadFault.TheVariants as read
+use Rattle.streams.specs.declared.writing.WriteFault.{WriteFault}
 use Rattle.league.specs.declared.fault.LeagueFault.{LeagueFault}
 use Rattle.league.specs.declared.fault.LeagueFault.TheVariants as league
 use Rattle.fixture_board.specs.declared.board.BoardFault.{BoardFault}
@@ -33,8 +35,10 @@ of_run run.Receipts = Receipts
 of_run run.Memory = Memory
 
 abbrev pub of_improve : ImproveFault → ProgramFault
-of_improve improve.Workers = Workers
-of_improve improve.Spawn = Spawn
-of_improve improve.Receipts = Receipts
+of_improve (improve.Run fault) = of_run fault
 of_improve improve.Write = Write
-of_improve improve.Memory = Memory
+
+-- the value of a command whose text was to be written, unless a write failed
+abbrev pub of_writing : {T : Type 0} → Result Unit WriteFault → T → Result T ProgramFault
+of_writing (Ok done) value = Ok value
+of_writing (Err fault) value = Err Write

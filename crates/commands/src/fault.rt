@@ -2,7 +2,7 @@
 
 ghost use Rattle.std.specs.Prelude.{◌≡◌};
 ghost use Rattle.commands.specs.declared.fault.ProgramFault.TheVariants.{Write, Memory};
-ghost use Rattle.commands.specs.Fault.{of_board, of_improve, of_league, of_reading, of_run};
+ghost use Rattle.commands.specs.Fault.{of_board, of_improve, of_league, of_reading, of_run, of_writing};
 
 use advice::Hint;
 use fixture_board::BoardFault;
@@ -103,11 +103,8 @@ impl From<ImproveFault> for ProgramFault {
 
     fn from(fault: ImproveFault) -> ProgramFault {
         match fault {
-            ImproveFault::Workers => ProgramFault::Workers,
-            ImproveFault::Spawn => ProgramFault::Spawn,
-            ImproveFault::Receipts => ProgramFault::Receipts,
+            ImproveFault::Run(fault) => ProgramFault::from(fault),
             ImproveFault::Write => ProgramFault::Write,
-            ImproveFault::Memory => ProgramFault::Memory,
         }
     }
 }
@@ -125,5 +122,18 @@ impl From<AllocError> for ProgramFault {
 
     fn from(_error: AllocError) -> ProgramFault {
         ProgramFault::Memory
+    }
+}
+
+/// What a command comes to whose text was to be written: this value, unless a write failed.
+pub(crate) fn after_writing<T: Copy>(
+    outcome: Result<(), WriteFault>,
+    value: T,
+) -> Result<T, ProgramFault>
+    ensures { result ≡ of_writing outcome value }
+{
+    match outcome {
+        Ok(()) => Ok(value),
+        Err(fault) => Err(ProgramFault::from(fault)),
     }
 }

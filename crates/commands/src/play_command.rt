@@ -3,7 +3,7 @@
 ghost use Rattle.commands.specs.Outcome.{Ends};
 ghost use Rattle.commands.specs.Play.{AnswersPlay};
 
-use crate::fault::ProgramFault;
+use crate::fault::{ProgramFault, after_writing};
 use fixture_board::Board;
 use league::read_league;
 use std::alloc::Global;
@@ -44,6 +44,5 @@ pub fn play_from<R: Source, W: Sink>(
         Ok(board) => board,
         Err(refused) => return Err(ProgramFault::from(refused.why)),
     };
-    play_script(&mut board, script, sink)?;
-    Ok(())
+    after_writing(play_script(&mut board, script, sink), ())
 }

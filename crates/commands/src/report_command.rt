@@ -5,7 +5,7 @@ ghost use Rattle.league.specs.League.{league_of};
 ghost use Rattle.commands.specs.Outcome.{value_of, without_value, Ends};
 ghost use Rattle.commands.specs.Report.{verdict_of, AnswersReport, IsRefusal};
 
-use crate::fault::ProgramFault;
+use crate::fault::{ProgramFault, after_writing};
 use advice::{hint_on, remarks_on};
 use league::{LeagueFault, read_league};
 use report_formats::{Format, prepare, write_prepared};
@@ -75,8 +75,8 @@ pub fn report_from<R: Source, W: Sink>(
     let judged = judge(alloc, &league, sheet)?;
     let verdict = Verdict::of(judged.is_feasible(&league));
     let prepared = prepare(alloc, format, &league, &judged, remarks_on(alloc, text)?)?;
-    write_prepared(&league, sheet, &judged, &prepared, sink)?;
-    Ok(verdict)
+    let outcome = write_prepared(&league, sheet, &judged, &prepared, sink);
+    after_writing(outcome, verdict)
 }
 
 /// The fault of a league's text, with a hint on where it lies if there is one.

@@ -23,7 +23,8 @@ use Rattle.texts.specs.SearchText.{PlaysBack, found_text}
 use Rattle.texts.proofs.ForCallers.{plays_back}
 use Rattle.improvement.specs.declared.lead.Lead.{Lead}
 use Rattle.improvement.specs.declared.plan.ImproveFault.{ImproveFault}
-use Rattle.improvement.specs.declared.plan.ImproveFault.TheVariants.{Workers, Spawn, Receipts, Write, Memory}
+use Rattle.improvement.specs.declared.plan.ImproveFault.TheVariants.{Run, Write}
+use Rattle.search.specs.declared.runs.RunFault.TheVariants.{Workers, Spawn, Receipts, Memory}
 use Rattle.improvement.specs.declared.plan.ImprovePlan.{ImprovePlan}
 use Rattle.improvement.specs.Kept.{EndsBy, HasRunAll, HasWritten, IsLead, Sends, StopsAfterPhases}
 use Rattle.improvement.specs.Outcome.{Improves, StopsEarly}
@@ -118,11 +119,11 @@ module _ {W : Type 0} (held : W → Option (List ℕ)) (tally : W → Tally) (le
   -- a part that did not end well did so for the whole
   pub ends_early : {S T : Type 0} (a x : BufferedSink W) (part : S → Type 0) (whole : T → Type 0) (fault : ImproveFault) →
       EndsBy held tally league plan a x part (Err fault) → EndsBy held tally league plan a x whole (Err fault)
-  ends_early a x part whole Workers ends = ends
-  ends_early a x part whole Spawn ends = ends
-  ends_early a x part whole Receipts ends = ends
+  ends_early a x part whole (Run Workers) ends = ends
+  ends_early a x part whole (Run Spawn) ends = ends
+  ends_early a x part whole (Run Receipts) ends = ends
   ends_early a x part whole Write ends = ends
-  ends_early a x part whole Memory ends = ends
+  ends_early a x part whole (Run Memory) ends = ends
 
 -- ---- what the sink got
 
@@ -140,9 +141,9 @@ module _ {W : Type 0} (held : W → Option (List ℕ)) (tally : W → Tally) (le
       EndsBy held tally league plan a b (HasWritten held tally league plan a b) r →
       Improves held tally league plan sink.now b.sink.now r
   ends_at a b (Ok done) fresh workers ends = (workers, ends.text, ends.text_is, sent a b ends.text fresh ends.sends)
-  ends_at a b (Err Workers) fresh workers ends = absurd ends
-  ends_at a b (Err Spawn) fresh workers ends = stops_early a b fresh workers ends
-  ends_at a b (Err Receipts) fresh workers ends = stops_early a b fresh workers ends
+  ends_at a b (Err (Run Workers)) fresh workers ends = absurd ends
+  ends_at a b (Err (Run Spawn)) fresh workers ends = stops_early a b fresh workers ends
+  ends_at a b (Err (Run Receipts)) fresh workers ends = stops_early a b fresh workers ends
   ends_at a b (Err Write) fresh workers ends = (
     workers,
     ends.0,
@@ -150,7 +151,7 @@ module _ {W : Type 0} (held : W → Option (List ℕ)) (tally : W → Tally) (le
     rw (← fresh.unchanged) (rw fresh.waiting at ends.2.prefix),
     rw (← fresh.unchanged) ends.2.cause,
   )
-  ends_at a b (Err Memory) fresh workers ends = stops_early a b fresh workers ends
+  ends_at a b (Err (Run Memory)) fresh workers ends = stops_early a b fresh workers ends
 
   -- at another name of the sink
   pub improves : (a b : BufferedSink W) (r : Result (Unit {0}) ImproveFault) (after : W) → IsFreshOver sink a → IsWorkers plan →

@@ -24,7 +24,8 @@ use Rattle.streams.specs.Writing.{Adds, Stops, waiting_in}
 use Rattle.streams.proofs.Pieces.{Adds-nothing, Adds-stops, Adds-then, Stops-more}
 use Rattle.phases.specs.Laws.{least_told}
 use Rattle.improvement.specs.declared.plan.ImproveFault.{ImproveFault}
-use Rattle.improvement.specs.declared.plan.ImproveFault.TheVariants.{Workers, Spawn, Receipts, Write, Memory}
+use Rattle.improvement.specs.declared.plan.ImproveFault.TheVariants.{Run, Write}
+use Rattle.search.specs.declared.runs.RunFault.TheVariants.{Workers, Spawn, Receipts, Memory}
 use Rattle.improvement.specs.Kept.{EndsBy, HasRun, IsChainBoard, IsKeptAfter, IsLead, IsRunFault, IsSlot, IsUnderWay, Sends}
 use Rattle.improvement.specs.Kept.{StopsAfterPhases}
 use Rattle.improvement.specs.Kept.{best_of_outcome, history_in, run_of}
@@ -191,11 +192,11 @@ module _ {W : Type 0} (held : W → Option (List ℕ)) (tally : W → Tally) (le
 
   pub ends_run : {T : Type 0} {a b : BufferedSink W} (done : T → Type 0) (fault : ImproveFault) → IsRunFault fault →
       StopsAfterPhases held tally league plan a b → EndsBy held tally league plan a b done (Err fault)
-  ends_run done Workers is stops = is
-  ends_run done Spawn is stops = stops
-  ends_run done Receipts is stops = stops
+  ends_run done (Run Workers) is stops = is
+  ends_run done (Run Spawn) is stops = stops
+  ends_run done (Run Receipts) is stops = stops
   ends_run done Write is stops = absurd is
-  ends_run done Memory is stops = stops
+  ends_run done (Run Memory) is stops = stops
 
   pub stopped_none : (a : BufferedSink W) → waiting_in a ≡ [] → StopsAfterPhases held tally league plan a a
   stopped_none a none =

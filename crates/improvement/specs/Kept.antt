@@ -19,7 +19,8 @@ use Rattle.improvement.specs.declared.chains.Chains.{Chains}
 use Rattle.improvement.specs.declared.lead.Lead.{Lead}
 use Rattle.improvement.specs.declared.phase_run.EndedPhase.{EndedPhase}
 use Rattle.improvement.specs.declared.plan.ImproveFault.{ImproveFault}
-use Rattle.improvement.specs.declared.plan.ImproveFault.TheVariants.{Workers, Spawn, Receipts, Write, Memory}
+use Rattle.improvement.specs.declared.plan.ImproveFault.TheVariants.{Run, Write}
+use Rattle.search.specs.declared.runs.RunFault.TheVariants.{Workers, Spawn, Receipts, Memory}
 use Rattle.improvement.specs.declared.plan.ImprovePlan.{ImprovePlan}
 use Rattle.improvement.specs.Outcome.{ArePhaseTexts, IsImproveText, IsTextSoFar}
 use Rattle.improvement.specs.PhaseText.{phases_text}
@@ -27,11 +28,11 @@ use Rattle.improvement.specs.Runs.{AreRuns, PhaseRun, histories_of, lead_of, out
 
 -- a fault of a phase that was begun
 abbrev pub IsRunFault : ImproveFault → Type 0
-IsRunFault Workers = ⊥
-IsRunFault Spawn = Unit {0}
-IsRunFault Receipts = Unit {0}
+IsRunFault (Run Workers) = ⊥
+IsRunFault (Run Spawn) = Unit {0}
+IsRunFault (Run Receipts) = Unit {0}
 IsRunFault Write = ⊥
-IsRunFault Memory = Unit {0}
+IsRunFault (Run Memory) = Unit {0}
 
 -- a board of the league and room, all of whose entries are of caller 0
 pub record IsChainBoard (league : LeagueData) (room : ℕ) (board : Book) : Type 0 where
@@ -102,11 +103,11 @@ module _ {W : Type 0} (held : W → Option (List ℕ)) (pushes : W → Tally) (l
   -- a part that ends well by doing something. Otherwise a write failed, or the texts of the phases that had ended were sent
   abbrev pub EndsBy : {T : Type 0} → (T → Type 0) → Result T ImproveFault → Type 0
   EndsBy done (Ok value) = done value
-  EndsBy done (Err Workers) = ⊥
-  EndsBy done (Err Spawn) = StopsAfterPhases
-  EndsBy done (Err Receipts) = StopsAfterPhases
+  EndsBy done (Err (Run Workers)) = ⊥
+  EndsBy done (Err (Run Spawn)) = StopsAfterPhases
+  EndsBy done (Err (Run Receipts)) = StopsAfterPhases
   EndsBy done (Err Write) = (text : List ℕ) × IsTextSoFar league plan text × Stops held pushes old new text
-  EndsBy done (Err Memory) = StopsAfterPhases
+  EndsBy done (Err (Run Memory)) = StopsAfterPhases
 
   -- some phases were run, and their texts sent
   pub record IsUnderWay (policy : PolicyData) (chains : Chains) (lead : Lead) : Type 0 where

@@ -3,8 +3,7 @@ use Rattle.std.specs.Prelude.{◌≡◌, ℕ, List, length, Option, Result, Ok, 
 use Rattle.std.specs.Io.KnownBytes.{Appends}
 use Rattle.league.specs.League.{LeagueData}
 use Rattle.phases.specs.Stages.{phase_count}
-use Rattle.search.specs.declared.runs.RunFault.{RunFault}
-use Rattle.search.specs.declared.runs.RunFault.TheVariants as run
+use Rattle.search.specs.declared.runs.RunFault.TheVariants.{Workers, Spawn, Receipts, Memory}
 use Rattle.streams.specs.Limits.{write_limit}
 use Rattle.streams.specs.Sending.{AppendsPrefix}
 use Rattle.streams.specs.Tally.{FailsWriting}
@@ -12,16 +11,9 @@ use Rattle.streams.specs.declared.tally.Tally.{Tally}
 use Rattle.texts.specs.SearchText.{PlaysBack}
 use Rattle.improvement.specs.declared.plan.ImprovePlan.{ImprovePlan}
 use Rattle.improvement.specs.declared.plan.ImproveFault.{ImproveFault}
-use Rattle.improvement.specs.declared.plan.ImproveFault.TheVariants.{Workers, Spawn, Receipts, Write, Memory}
+use Rattle.improvement.specs.declared.plan.ImproveFault.TheVariants.{Run, Write}
 use Rattle.improvement.specs.Runs.{AreRuns, IsWorkers, PhaseRun, final_of, room_of}
 use Rattle.improvement.specs.PhaseText.{improve_text, phases_text}
-
--- the faults of a run of workers, as those of an improvement
-abbrev pub of_run : RunFault → ImproveFault
-of_run run.Workers = Workers
-of_run run.Spawn = Spawn
-of_run run.Receipts = Receipts
-of_run run.Memory = Memory
 
 -- The text of an improvement, of all its runs. The history in it, given as a script, leads to the same games and the same best
 pub record IsImproveText (league : LeagueData) (plan : ImprovePlan) (text : List ℕ) : Type 0 where
@@ -53,9 +45,9 @@ module _ {W : Type 0} (held : W → Option (List ℕ)) (pushes : W → Tally) (l
   -- the phases that had ended went out, and nothing if the number of workers is wrong
   abbrev pub Improves : Result Unit ImproveFault → Type 0
   Improves (Ok done) = IsWorkers plan × (text : List ℕ) × IsImproveText league plan text × Appends (held before) (held after) text
-  Improves (Err Workers) = (¬ IsWorkers plan) × (after ≡ before)
-  Improves (Err Spawn) = StopsEarly
-  Improves (Err Receipts) = StopsEarly
+  Improves (Err (Run Workers)) = (¬ IsWorkers plan) × (after ≡ before)
+  Improves (Err (Run Spawn)) = StopsEarly
+  Improves (Err (Run Receipts)) = StopsEarly
   Improves (Err Write) = IsWorkers plan × (text : List ℕ) × IsTextSoFar league plan text
       × AppendsPrefix (held before) (held after) text × FailsWriting write_limit (pushes before) (pushes after)
-  Improves (Err Memory) = StopsEarly
+  Improves (Err (Run Memory)) = StopsEarly

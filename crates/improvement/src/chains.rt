@@ -70,12 +70,11 @@ fn begin<T, G>(
     setting: &Setting<'_, T, G>,
     kept: Option<Board>,
     start: PhaseStart,
-) -> Result<Board, ImproveFault>
+) -> Result<Board, AllocError>
     requires { IsSlot setting.now.league.now (room_of setting.now.plan.effort) kept }
     ensures kept { IfOk result (IsChainBoard setting.now.league.now (room_of setting.now.plan.effort)) }
     ensures history { IfOk result (λ b. b.history ≡
         beginning setting.now.league.now (room_of setting.now.plan.effort) start (history_in kept)) }
-    ensures refused { IfErr result (λ e. e ≡ ImproveFault.Memory) }
 {
     let Some(mut board) = kept else {
         return setting.new_board();
@@ -91,12 +90,11 @@ fn begin<T, G>(
 }
 
 /// The board, taken back to its best version if its room is used up, and a new one if the room of that is too.
-fn with_room<T, G>(setting: &Setting<'_, T, G>, mut board: Board) -> Result<Board, ImproveFault>
+fn with_room<T, G>(setting: &Setting<'_, T, G>, mut board: Board) -> Result<Board, AllocError>
     requires { IsChainBoard setting.now.league.now (room_of setting.now.plan.effort) board }
     ensures kept { IfOk result (IsChainBoard setting.now.league.now (room_of setting.now.plan.effort)) }
     ensures history { IfOk result (λ b. b.history ≡
         with_room setting.now.league.now (room_of setting.now.plan.effort) board.history) }
-    ensures refused { IfErr result (λ e. e ≡ ImproveFault.Memory) }
 {
     if !is_full(&board) {
         return Ok(board);

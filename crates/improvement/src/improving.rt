@@ -11,21 +11,19 @@ use crate::lead::Lead;
 use crate::phase_text::write_phase;
 use crate::plan::{ImproveFault, ImprovePlan};
 use crate::setting::Setting;
+use crate::workplace::Workplace;
 use league::League;
 use phases::{MIN_EFFORT, Policy};
-use search::{Gate, MAX_WORKERS};
-use std::alloc::Global;
+use search::{Gate, MAX_WORKERS, RunFault};
 use std::sync::Wait;
 use std::thread::Threads;
 use streams::{BufferedSink, Sink};
 use texts::write_found;
 
 /// Runs the phases of the policy on the league, and writes each better schedule as soon as its phase has ended. The workers
-/// pass the gate, which is told how far they are.
+/// pass the gate of the place, which is told how far they are.
 pub fn improve<T: Threads + Wait + Sync, G: Gate + Sync, W: Sink>(
-    rt: &T,
-    alloc: Global,
-    gate: &G,
+    place: Workplace<'_, T, G>,
     league: League,
     plan: ImprovePlan,
     sink: &mut W,
@@ -34,12 +32,10 @@ pub fn improve<T: Threads + Wait + Sync, G: Gate + Sync, W: Sink>(
     ensures { Improves W.held W.tally league plan sink.old sink.new result }
 {
     if plan.workers < 1 || MAX_WORKERS < plan.workers {
-        return Err(ImproveFault::Workers);
+        return Err(ImproveFault::Run(RunFault::Workers));
     }
     let setting = Setting {
-        rt,
-        alloc,
-        gate,
+        place,
         league: &league,
         plan,
     };
@@ -75,7 +71,8 @@ fn run_all<T: Threads + Wait + Sync, G: Gate + Sync, W: Sink>(
     ensures { EndsBy W.held W.tally setting.now.league.now setting.now.plan out.old out.new
         (HasRunAll W.held W.tally setting.now.league.now setting.now.plan out.old out.new) result }
 {
-    let Setting { alloc, plan, .. } = *setting;
+    let alloc = setting.place.alloc;
+    let plan = setting.plan;
     let mut policy = Policy::new(setting.league, plan.seed, plan.effort);
     let mut chains = Chains::new(alloc)?;
     let mut lead = Lead::none(alloc);

@@ -1,6 +1,6 @@
 //! The best of the histories that the phases ended with.
 
-ghost use Rattle.std.specs.Prelude.{◌≡◌, ◌≤◌, ℕ, List, [], Option, Some, None, length, take, IfOk, IfErr, OnOk};
+ghost use Rattle.std.specs.Prelude.{◌≡◌, ◌≤◌, ℕ, List, [], Option, Some, None, length, take, IfOk, OnOk};
 ghost use Rattle.league.specs.League.{LeagueData};
 ghost use Rattle.fixture_board.specs.declared.change.Entry.{Entry};
 ghost use Rattle.fixture_board.specs.History.{IsLegal};
@@ -12,7 +12,6 @@ ghost use Rattle.shared_board.specs.Held.{AreOf};
 ghost use Rattle.improvement.specs.Runs.{ahead, is_behind, leads, outcome_of, room_of};
 ghost use Rattle.improvement.specs.Kept.{IsLead, best_of_outcome};
 
-use crate::plan::ImproveFault;
 use crate::setting::Setting;
 use fixture_board::{Ask, Board, Change, Proposal};
 use phases::PhaseOutcome;
@@ -79,10 +78,9 @@ impl Lead {
     }
 
     /// A board with this history, all of caller 0.
-    pub(crate) fn board<T, G>(&self, setting: &Setting<'_, T, G>) -> Result<Board, ImproveFault>
-        ensures board { IfOk result (λ b. b ≡ book setting.now.league.now (room_of setting.now.plan.effort)
+    pub(crate) fn board<T, G>(&self, setting: &Setting<'_, T, G>) -> Result<Board, AllocError>
+        ensures { IfOk result (λ b. b ≡ book setting.now.league.now (room_of setting.now.plan.effort)
             (played_from setting.now.league.now (room_of setting.now.plan.effort) [] self.now.changes.items)) }
-        ensures refused { IfErr result (λ e. e ≡ ImproveFault.Memory) }
     {
         let mut board = setting.new_board()?;
         replay(&mut board, &self.changes);

@@ -1,19 +1,15 @@
 //! What is written when a phase has ended.
 
 ghost use Rattle.std.specs.Prelude.{◌≡◌, ◌≤◌, [], OnOk};
-ghost use Rattle.league.specs.League.{teams};
-ghost use Rattle.fixture_board.specs.History.{best_prefix};
 ghost use Rattle.streams.specs.Writing.{Writes, waiting_in};
-ghost use Rattle.texts.specs.SearchText.{games_at_best};
 ghost use Rattle.improvement.specs.Kept.{run_of};
 ghost use Rattle.improvement.specs.PhaseText.{least_words, phase_text, phase_words, solution_lines, solution_text};
 ghost use Rattle.improvement.specs.Solutions.{best_with, is_below};
 
 use crate::phase_run::{EndedPhase, steps_each};
 use fixture_board::Board;
-use fixtures::Schedule;
 use streams::{BufferedSink, Sink, WriteFault};
-use texts::{Piece, write_pieces, write_sheet};
+use texts::{Piece, write_best_sheet, write_pieces};
 
 /// Writes a phase's line, and its solution if that is better than the least total before. Nothing waits then.
 pub(crate) fn write_phase<W: Sink>(
@@ -102,7 +98,7 @@ fn write_best<W: Sink>(
     ensures { Writes W.held W.tally out.old out.new result
         (solution_lines board.now.league (best_with board.now.league board.now.history total)) }
 {
-    write_sheet(out, best_or_present(board), board.league())?;
+    write_best_sheet(out, board)?;
     write_pieces(
         out,
         &[
@@ -111,18 +107,6 @@ fn write_best<W: Sink>(
             Piece::Text(b"\n----------\n"),
         ],
     )
-}
-
-/// The board's best schedule, or the present one if none was feasible.
-fn best_or_present(board: &Board) -> &Schedule
-    ensures games { result.now ≡ games_at_best board.now.league board.now.history
-        (best_prefix board.now.league board.now.history) }
-    ensures size { result.now.teams ≡ teams board.now.league }
-{
-    match board.best_schedule() {
-        Some(schedule) => schedule,
-        None => board.schedule(),
-    }
 }
 
 /// Whether the total is below the least before, or is the first.

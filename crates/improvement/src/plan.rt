@@ -1,8 +1,8 @@
 //! What an improvement is to do, and why it ends early.
 
 ghost use Rattle.std.specs.Prelude.{◌≡◌};
-ghost use Rattle.improvement.specs.declared.plan.ImproveFault.TheVariants.{Write, Memory};
-ghost use Rattle.improvement.specs.Outcome.{of_run};
+ghost use Rattle.improvement.specs.declared.plan.ImproveFault.TheVariants.{Run, Write};
+ghost use Rattle.search.specs.declared.runs.RunFault.TheVariants.{Memory};
 
 use search::RunFault;
 use std::alloc::AllocError;
@@ -23,33 +23,19 @@ pub struct ImprovePlan {
 /// Why an improvement ended early.
 #[derive(Clone, Copy, Debug, PartialEq, Eq, Error)]
 pub enum ImproveFault {
-    /// The number of workers is not 1 to 16.
-    #[error("the number of workers is not 1 to 16")]
-    Workers,
-    /// A worker couldn't be started. Those that were started ended first.
-    #[error("a worker could not be started")]
-    Spawn,
-    /// The accepted proposals of a phase's reports are not the entries that came in it.
-    #[error("the reports do not add up to the board's history")]
-    Receipts,
+    /// A run of workers came to nothing, or memory ran out between two of them.
+    #[error("{0}")]
+    Run(RunFault),
     /// A write failed, took no byte or was interrupted too often in a row.
     #[error("output cannot be written")]
     Write,
-    /// Memory ran out.
-    #[error("out of memory")]
-    Memory,
 }
 
 impl From<RunFault> for ImproveFault {
-    ghost from_gives = { λ fault gives. gives ≡ of_run fault };
+    ghost from_gives = { λ fault gives. gives ≡ Run fault };
 
     fn from(fault: RunFault) -> ImproveFault {
-        match fault {
-            RunFault::Workers => ImproveFault::Workers,
-            RunFault::Spawn => ImproveFault::Spawn,
-            RunFault::Receipts => ImproveFault::Receipts,
-            RunFault::Memory => ImproveFault::Memory,
-        }
+        ImproveFault::Run(fault)
     }
 }
 
@@ -62,9 +48,9 @@ impl From<WriteFault> for ImproveFault {
 }
 
 impl From<AllocError> for ImproveFault {
-    ghost from_gives = { λ _ gives. gives ≡ Memory };
+    ghost from_gives = { λ _ gives. gives ≡ Run Memory };
 
     fn from(_error: AllocError) -> ImproveFault {
-        ImproveFault::Memory
+        ImproveFault::Run(RunFault::Memory)
     }
 }

@@ -1,36 +1,33 @@
 //! What all phases of an improvement share.
 
-ghost use Rattle.std.specs.Prelude.{◌≡◌, ◌≤◌, [], IfOk, IfErr};
+ghost use Rattle.std.specs.Prelude.{◌≡◌, ◌≤◌, [], IfOk};
 ghost use Rattle.fixture_board.specs.History.{max_room};
 ghost use Rattle.fixture_board.specs.Record.{book};
 ghost use Rattle.improvement.specs.Runs.{room_of};
 
-use crate::plan::{ImproveFault, ImprovePlan};
+use crate::plan::ImprovePlan;
+use crate::workplace::Workplace;
 use fixture_board::{Board, MAX_ROOM};
 use league::League;
-use std::alloc::Global;
+use std::alloc::AllocError;
 
 /// What all phases share.
 #[derive(Drop)]
 pub(crate) struct Setting<'a, T, G> {
-    pub(crate) rt: &'a T,
-    pub(crate) alloc: Global,
-    /// What the workers pass.
-    pub(crate) gate: &'a G,
+    pub(crate) place: Workplace<'a, T, G>,
     pub(crate) league: &'a League,
     pub(crate) plan: ImprovePlan,
 }
 
 impl<T, G> Setting<'_, T, G> {
     /// A board at the league's start, with the room of the plan's effort.
-    pub(crate) fn new_board(&self) -> Result<Board, ImproveFault>
-        ensures board { IfOk result (λ b. b ≡ book self.now.league.now (room_of self.now.plan.effort) []) }
-        ensures refused { IfErr result (λ e. e ≡ ImproveFault.Memory) }
+    pub(crate) fn new_board(&self) -> Result<Board, AllocError>
+        ensures { IfOk result (λ b. b ≡ book self.now.league.now (room_of self.now.plan.effort) []) }
     {
-        let league = self.league.duplicate(self.alloc)?;
-        match Board::new(self.alloc, league, room_of(self.plan.effort)) {
+        let league = self.league.duplicate(self.place.alloc)?;
+        match Board::new(self.place.alloc, league, room_of(self.plan.effort)) {
             Ok(board) => Ok(board),
-            Err(_) => Err(ImproveFault::Memory),
+            Err(_) => Err(AllocError),
         }
     }
 }

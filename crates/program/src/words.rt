@@ -10,7 +10,7 @@ ghost use Rattle.command_line.specs.CommandLine.{job_of_words, words_fault};
 ghost use Rattle.command_line.specs.declared.job.Job.{Job};
 ghost use Rattle.program.specs.Program.{status_of, DoesJob, IsReport};
 
-use crate::jobs::perform;
+use crate::jobs::{Console, perform};
 use clap::error::ErrorKind;
 use command_line::args;
 use commands::{ProgramFault, Verdict};
@@ -79,7 +79,13 @@ fn answer<
         Ok(job) => job,
         Err(error) => return words_not_taken(rt, error),
     };
-    let outcome = perform(rt, rt.alloc(), job, terminal, source, sink);
+    let alloc = rt.alloc();
+    let console = Console {
+        rt,
+        alloc,
+        terminal,
+    };
+    let outcome = perform(console, job, source, sink);
     ended(rt, outcome)
 }
 

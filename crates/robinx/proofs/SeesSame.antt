@@ -15,8 +15,7 @@ use Rattle.robinx.specs.Deviations.{rounds_between, listed_games_in, over_in_win
 use Rattle.robinx.specs.Deviations.{home_games, largest_below, gap, worst_gap, worst_gaps}
 use Rattle.robinx.proofs.Largest.{largest_below_same}
 
--- each of the teams is on the same side in each of the rounds, against an opponent that passes the test in both
--- schedules or in neither
+-- each of the teams is on the same side in each of the rounds, against an opponent that passes the test in both schedules or in neither
 pub record SeesSame (g g' : Games) (teams rounds opponents : ℕ → Bool) : Type 0 where
   pub same_size : g'.teams ≡ g.teams
   pub side : (t r : ℕ) → t < g.teams → r < round_count g.teams → teams t ≡ true → rounds r ≡ true →

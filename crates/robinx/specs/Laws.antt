@@ -28,8 +28,7 @@ LookedPastStays =
 abbrev pub LooksPastWhereTested : Type 0
 LooksPastWhereTested = (teams : ℕ) (body : RuleBody) → looks_past teams body ≡ true → LooksPast (has teams) body
 
--- what a change around some teams, of which only side teams change their sides, adds to the part of a deviation, it adds
--- to the deviation
+-- what a change around some teams, of which only side teams change their sides, adds to the part of a deviation, it adds to the deviation
 abbrev pub DeviationsBalance : Type 0
 DeviationsBalance =
     (g g' : Games) (main rounds sides : ℕ) (body : RuleBody) → IsDoubleRoundRobin g → IsDoubleRoundRobin g' →

@@ -18,8 +18,7 @@ use Rattle.robinx.specs.Touches.{has_touched_team, looks_at_round}
 unfoldable pub is_guest : Games → (ℕ → Bool) → (ℕ → Bool) → ℕ → Bool
 is_guest g main rounds t = any_below (round_count g.teams) (λ r. rounds r && main (cell g t r).opponent)
 
--- whether a team may meet other opponents of a rule: a main team may, and a guest unless the opponents have all main teams
--- or none
+-- whether a team may meet other opponents of a rule: a main team may, and a guest unless the opponents have all main teams or none
 unfoldable pub meets_otherwise : Games → ℕ → ℕ → ℕ → ℕ → Bool
 meets_otherwise g main rounds opponents t =
     has main t || (not (takes_all_or_none main opponents) && is_guest g (has main) (has rounds) t)

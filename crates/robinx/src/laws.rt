@@ -4,8 +4,7 @@
 ghost use Rattle.robinx.specs.Laws.{UntouchedStays, LookedPastStays, LooksPastWhereTested};
 ghost use Rattle.robinx.specs.Laws.{DeviationsBalance, LookedPastHasNoPart, UntouchedHasNoPart};
 
-/// Two schedules that differ only in cells that [`touches`](crate::touches) says don't touch a rule are equally far
-/// from it.
+/// Two schedules that differ only in cells that [`touches`](crate::touches) says don't touch a rule are equally far from it.
 pub fn untouched_stays()
     ensures { UntouchedStays }
 {}

@@ -1,6 +1,6 @@
 //! Separation rules: at least so many rounds between the two games of a pair.
 
-ghost use Rattle.std.specs.Prelude.{◌≡◌, ℕ, ◌*◌, ◌<◌, ◌≤◌, ◌&&◌};
+ghost use Rattle.std.specs.Prelude.{◌≡◌, ◌*◌, ◌<◌, ◌≤◌, ◌&&◌};
 ghost use Rattle.league.specs.Limits.{max_teams, max_count};
 ghost use Rattle.league.specs.Sets.{has, IsBelow};
 ghost use Rattle.league.specs.Sums.{sum_where};
@@ -13,7 +13,7 @@ ghost use Rattle.robinx.specs.Walked.{counts_pair};
 use crate::counts::over;
 use crate::guests::{Around, opponents_in};
 use fixtures::Schedule;
-use league::{SlotSet, TeamSet};
+use league::TeamSet;
 
 /// The rounds between the two games of each pair of the teams, under the least.
 pub(crate) fn se1(schedule: &Schedule, teams: TeamSet, least: u32) -> u64

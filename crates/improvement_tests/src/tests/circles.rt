@@ -1,8 +1,8 @@
 //! Improvements of leagues in a circle.
 
-use improvement::{ImproveFault, ImprovePlan, improve};
+use improvement::{ImproveFault, ImprovePlan, Workplace, improve};
 use league::circular;
-use search::NoGate;
+use search::{NoGate, RunFault};
 use std::alloc::Global;
 use std::process::Abort;
 use std::sync::Wait;
@@ -33,7 +33,8 @@ fn begins<T: Threads + Wait + Sync>(
         effort: 12_800,
     };
     let league = circular(alloc, teams)?;
-    let ended = improve(rt, alloc, &NoGate, league, plan, &mut sink);
+    let gate = &NoGate;
+    let ended = improve(Workplace { rt, alloc, gate }, league, plan, &mut sink);
     Ok((ended, sink.held().starts_with(start.as_bytes())))
 }
 
@@ -63,7 +64,9 @@ fn text<T: Threads + Wait + Sync>(rt: &T, alloc: Global, room: &mut [u8]) -> Res
         seed: 7,
         effort: 12_800,
     };
-    improve(rt, alloc, &NoGate, circular(alloc, 6)?, plan, &mut sink)?;
+    let gate = &NoGate;
+    let place = Workplace { rt, alloc, gate };
+    improve(place, circular(alloc, 6)?, plan, &mut sink)?;
     Ok(sink.held().len())
 }
 
@@ -85,7 +88,7 @@ fn wrong_numbers_of_workers_write_nothing(rt: HostRuntime) -> Result<(), Fail> {
         let found = begins(&rt, rt.alloc(), (4, workers), "phase")?;
         assert_eq!(rt;
             found,
-            (Err(ImproveFault::Workers), false),
+            (Err(ImproveFault::Run(RunFault::Workers)), false),
             "{workers} workers"
         );
     }

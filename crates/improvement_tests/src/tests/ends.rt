@@ -1,8 +1,8 @@
 //! Improvements that end early, and one without a feasible schedule.
 
-use improvement::{ImproveFault, ImprovePlan, improve};
+use improvement::{ImproveFault, ImprovePlan, Workplace, improve};
 use league::{LeagueFault, circular, read_league};
-use search::NoGate;
+use search::{NoGate, RunFault};
 use std::alloc::{AllocError, Global};
 use std::sync::Wait;
 use std::test::Fail;
@@ -25,7 +25,9 @@ fn ended<T: Threads + Wait + Sync>(
     let mut room = vec![in alloc; 0; 40_000]?;
     let mut memory = MemorySink::new(&mut room);
     let mut sink = RehearsedSink::new(&mut memory, writes);
-    let ended = improve(rt, alloc, &NoGate, circular(alloc, 4)?, PLAN, &mut sink);
+    let gate = &NoGate;
+    let place = Workplace { rt, alloc, gate };
+    let ended = improve(place, circular(alloc, 4)?, PLAN, &mut sink);
     let calls = sink.tally().calls;
     Ok((ended, calls, Vec::from_slice(alloc, memory.held())?))
 }
@@ -81,7 +83,7 @@ fn refused_memory_leaves_whole_phases(rt: HostRuntime) {
     let is_right = match failed {
         Err(ImproveFault::Write) => calls == 3,
         // a thread takes memory of its own
-        Err(ImproveFault::Memory | ImproveFault::Spawn) => calls <= 2,
+        Err(ImproveFault::Run(RunFault::Memory | RunFault::Spawn)) => calls <= 2,
         _ => false,
     };
     assert!(rt; is_right && (calls == 0 || text.ends_with(b"\n")));
@@ -100,7 +102,12 @@ fn without_a_feasible_schedule_there_is_no_best(rt: HostRuntime) -> Result<(), F
     let mut room = vec![in rt.alloc(); 0; 40_000]?;
     let mut sink = MemorySink::new(&mut room);
     let league = read_league(rt.alloc(), NEVER_AT_HOME.as_bytes())?;
-    improve(&rt, rt.alloc(), &NoGate, league, PLAN, &mut sink)?;
+    let place = Workplace {
+        rt: &rt,
+        alloc: rt.alloc(),
+        gate: &NoGate,
+    };
+    improve(place, league, PLAN, &mut sink)?;
     let held = sink.held();
     assert!(rt; held.ends_with(b"\nbest none\n"));
     assert!(rt; !held.windows(2).any(|bytes| bytes == b"--".as_slice()));

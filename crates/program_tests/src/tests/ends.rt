@@ -8,7 +8,7 @@ use crate::tests::judged_schedules::FAULTY;
 use crate::tests::samples::{FIND, PLAY, REPORT, START, TABLE};
 use crate::tests::told::{Answer, Case, Command};
 use advice::Hint;
-use commands::{ProgramFault, find_from, play_from, report_from, start_from};
+use commands::{NoGate, ProgramFault, Workplace, find_from, play_from, report_from, start_from};
 use league::LeagueFault;
 use std::alloc::{AllocError, Global};
 use std::process::Abort;
@@ -31,7 +31,10 @@ fn run_from<T: Threads + Wait + Sync, R: Source, W: Sink>(
     match command {
         Command::Start => start_from(alloc, source, sink)?,
         Command::Play { room } => play_from(alloc, source, sink, room)?,
-        Command::Find { room, plan } => find_from(rt, alloc, source, sink, room, plan)?,
+        Command::Find { room, plan } => {
+            let gate = &NoGate;
+            find_from(Workplace { rt, alloc, gate }, source, sink, room, plan)?;
+        }
         Command::Report(format) => return Ok(Some(report_from(alloc, source, sink, format)?)),
     }
     Ok(None)

@@ -8,7 +8,9 @@ use crate::tests::circle::CIRCLE;
 use crate::tests::closings::{closing, script};
 use clap::error::ErrorKind;
 use command_line::{Job, args};
-use commands::{ImprovePlan, ProgramFault, ProgressLine, improve, improve_with, play};
+use commands::{
+    ImprovePlan, NoGate, ProgramFault, ProgressLine, Workplace, improve, improve_from, play,
+};
 use league::LeagueFault;
 use search::{Gate, Progress};
 use std::alloc::{AllocError, Global};
@@ -120,7 +122,13 @@ fn ended<T: Threads + Wait + Sync>(
     let mut room = [0; 10];
     let mut sink = MemorySink::new(&mut room);
     let source = MemorySource::new(input.as_bytes());
-    let answer = improve(rt, alloc, source, &mut sink, by(workers));
+    let gate = &NoGate;
+    let answer = improve(
+        Workplace { rt, alloc, gate },
+        source,
+        &mut sink,
+        by(workers),
+    );
     (answer, sink.tally().calls)
 }
 
@@ -141,7 +149,13 @@ fn improved<T: Threads + Wait + Sync>(
     let mut room = vec![in alloc; 0; 100_000]?;
     let mut sink = MemorySink::new(&mut room);
     let source = MemorySource::new(CIRCLE.as_bytes());
-    improve(rt, alloc, source, &mut sink, by(workers))?;
+    let gate = &NoGate;
+    improve(
+        Workplace { rt, alloc, gate },
+        source,
+        &mut sink,
+        by(workers),
+    )?;
     Ok(Vec::from_slice(alloc, sink.held())?)
 }
 
@@ -242,7 +256,12 @@ fn improvement_with_a_line_writes_the_same(rt: HostRuntime) -> Result<(), Fail> 
     let clock = Ticks::new();
     let line = ProgressLine::over(&clock, &mut terminal, 1280);
     let mut source = MemorySource::new(CIRCLE.as_bytes());
-    improve_with(&rt, rt.alloc(), &line, &mut source, &mut sink, by(1))?;
+    let place = Workplace {
+        rt: &rt,
+        alloc: rt.alloc(),
+        gate: &line,
+    };
+    improve_from(place, &mut source, &mut sink, by(1))?;
     drop(line);
     check_same(&rt, &sink.held(), &improved(&rt, rt.alloc(), 1)?.as_slice());
     check_holds(

@@ -3,7 +3,7 @@
 use crate::tests::checks::{check_same, check_same_of};
 use crate::tests::circle::CIRCLE;
 use crate::tests::told::{Command, tell};
-use commands::{ProgramFault, ProgressLine, SearchPlan, find_with};
+use commands::{ProgramFault, ProgressLine, SearchPlan, Workplace, find_from};
 use search::{Gate, Progress};
 use std::alloc::{AllocError, Global};
 use std::io;
@@ -230,8 +230,9 @@ fn searched<T: Threads + Wait + Sync, W: Sink + Send + Drop>(
     let mut sink = MemorySink::new(&mut memory);
     let mut source = MemorySource::new(input.as_bytes());
     let clock = Ticks::new(Some(1000));
-    let line = ProgressLine::new(&clock, terminal, PLAN_OF_ONE);
-    find_with(rt, alloc, &line, &mut source, &mut sink, ROOM, PLAN_OF_ONE)?;
+    let gate = &ProgressLine::new(&clock, terminal, PLAN_OF_ONE);
+    let place = Workplace { rt, alloc, gate };
+    find_from(place, &mut source, &mut sink, ROOM, PLAN_OF_ONE)?;
     Ok(Vec::from_slice(alloc, sink.held())?)
 }
 

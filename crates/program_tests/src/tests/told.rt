@@ -1,7 +1,9 @@
 //! What a command answers and writes for an input: cases in tables, and the function that walks them.
 
 use crate::tests::checks::check_same_of;
-use commands::{Format, ProgramFault, SearchPlan, Verdict, find, play, report, start};
+use commands::{
+    Format, NoGate, ProgramFault, SearchPlan, Verdict, Workplace, find, play, report, start,
+};
 use std::alloc::{AllocError, Global};
 use std::process::Abort;
 use std::sync::Wait;
@@ -42,7 +44,10 @@ impl Command {
         match self {
             Command::Start => start(alloc, source, sink)?,
             Command::Play { room } => play(alloc, source, sink, room)?,
-            Command::Find { room, plan } => find(rt, alloc, source, sink, room, plan)?,
+            Command::Find { room, plan } => {
+                let gate = &NoGate;
+                find(Workplace { rt, alloc, gate }, source, sink, room, plan)?;
+            }
             Command::Report(format) => return Ok(Some(report(alloc, source, sink, format)?)),
         }
         Ok(None)

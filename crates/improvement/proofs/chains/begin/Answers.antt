@@ -7,4 +7,4 @@ with_room-requires g c =
 
 pub returns-in_default-clause-history : goal.returns-in_default-clause-history
 returns-in_default-clause-history g c =
-    begun_anew c.args.setting.now.league.now _ c.args.start c.args.kept c.new_board.result c.in_default.is c.new_board.ensures.board
+    begun_anew c.args.setting.now.league.now _ c.args.start c.args.kept c.new_board.result c.in_default.is c.new_board.ensures

@@ -1,4 +1,4 @@
-use Rattle.program.proofs.jobs.perform.Goals as goal
+use Rattle.program.proofs.jobs.perform_at.Goals as goal
 
 pub returns-in-Start-clause-ends : goal.returns-in-Start-clause-ends
 returns-in-Start-clause-ends g c = rw (c.in-Start.is, c.without_verdict.ensures.outcome) c.start.ensures
@@ -10,7 +10,7 @@ pub returns-in-Improve-clause-ends : goal.returns-in-Improve-clause-ends
 returns-in-Improve-clause-ends g c = rw (c.in-Improve.is, c.without_verdict-in-Improve.ensures.outcome) c.improve.ensures
 
 pub returns-in-Find-clause-ends : goal.returns-in-Find-clause-ends
-returns-in-Find-clause-ends g c = rw (c.in-Find.is, c.without_verdict-in-Find.ensures.outcome) c.search.ensures
+returns-in-Find-clause-ends g c = rw (c.in-Find.is, c.without_verdict-in-Find.ensures.outcome) c.find.ensures
 
 pub returns-in-Report-clause-ends : goal.returns-in-Report-clause-ends
 returns-in-Report-clause-ends g c =
