@@ -7,7 +7,7 @@ use crate::measure::{Count, measure};
 use crate::plan::Plan;
 use crate::steps::{own_steps, seat_steps};
 use crate::tries::{Tried, Tries, try_moves};
-use crate::turns::{Turn, Work, take_turns};
+use crate::turns::{Seated, Turn, Work, take_turns};
 use fixture_board::{Board, MAX_ROOM};
 use league::{League, circular};
 use search::{Report, SeatDoor};
@@ -78,14 +78,10 @@ fn report_tried<R: Runtime + AllocGlobal>(
     plan: Plan,
 ) -> io::Result<()> {
     let (tries, each) = time_tries(rt, teams, tried, plan)?;
-    let Tries {
-        kept,
-        withdrawn,
-        refused,
-    } = tries;
     let slack = plan.slack;
     println!(rt;
-        "{teams} teams {tried} tries, slack {slack}: kept {kept} withdrawn {withdrawn} refused {refused}"
+        "{teams} teams {tried} tries, slack {slack}: kept {} withdrawn {} refused {}",
+        tries.kept, tries.withdrawn, tries.refused
     )?;
     eprintln!(rt; "{teams} teams {tried} tries, slack {slack}: {each} ns each")
 }
@@ -191,32 +187,37 @@ fn report_threads<R: Runtime + AllocGlobal + Threads + Wait + Sync>(
     requires { 0 < threads }
 {
     let turns = count / threads;
-    let each = time_turns(rt, teams, threads, Work { turn, turns })?;
+    let work = Work {
+        threads,
+        turn,
+        turns,
+    };
+    let each = time_turns(rt, teams, work)?;
     println!(rt; "{teams} teams {turn}: {threads} threads, {turns} turns each")?;
     eprintln!(rt; "{teams} teams {turn}, {threads} threads: {each} ns each")
 }
 
-/// The nanoseconds of a turn of so many threads. Their changes have to be those of the board.
+/// The nanoseconds of a turn of the threads. Their changes have to be those of the board.
 fn time_turns<R: Runtime + AllocGlobal + Threads + Wait + Sync>(
     rt: &R,
     teams: u8,
-    threads: u32,
     work: Work,
 ) -> io::Result<u128>
-    requires threads { 0 < threads }
-    requires turns { work.turns * threads < 2 ^ 32 }
+    requires threads { 0 < work.threads }
+    requires turns { work.turns * work.threads < 2 ^ 32 }
 {
-    let board = board_of(rt.alloc(), teams, work.turns * threads)?;
+    let turns = work.turns * work.threads;
+    let board = board_of(rt.alloc(), teams, turns)?;
     let copy = board.schedule().duplicate(rt.alloc())?;
     let (shared, seat) = Shared::new(rt.alloc(), board)?;
     let start = Instant::now(rt)?;
-    let Some(seat) = take_turns(rt, rt.alloc(), &shared, seat, copy, threads, work) else {
+    let Some(seat) = take_turns(rt, rt.alloc(), &shared, Seated { seat, copy }, work) else {
         return Err(io::Error::from(io::ErrorKind::OutOfMemory));
     };
-    let each = nanoseconds_each(rt, start, work.turns * threads)?;
+    let each = nanoseconds_each(rt, start, turns)?;
     let (held, accepted) = (seat.held(), seat.accepted());
     let closed = shared.close(rt, seat);
-    if !closed.whole || held != threads || accepted != closed.board.version() {
+    if !closed.whole || held != work.threads || accepted != closed.board.version() {
         return Err(io::Error::from(io::ErrorKind::InvalidData));
     }
     Ok(each)

@@ -35,45 +35,61 @@ impl fmt::Display for Turn {
     }
 }
 
-/// What each thread does: so many turns of a kind.
+/// What so many threads do, each of them: so many turns of a kind.
 #[derive(Clone, Copy, Debug, PartialEq, Eq)]
 pub struct Work {
+    pub threads: u32,
     pub turn: Turn,
     pub turns: u32,
 }
 
-/// Has so many threads take turns, each with a copy of the schedule. The seat that took in all others, if each thread had
+/// A seat, and the copy of the schedule that its looks write.
+#[derive(Drop)]
+pub struct Seated {
+    pub seat: Seat,
+    pub copy: Schedule,
+}
+
+/// Has the threads take their turns, each with a copy of the schedule. The seat that took in all others, if each thread had
 /// its seat and its copy.
 pub fn take_turns<R: Threads + Wait + Sync>(
     rt: &R,
     alloc: Global,
     shared: &Shared,
-    mut seat: Seat,
-    mut copy: Schedule,
-    threads: u32,
+    seated: Seated,
     work: Work,
 ) -> Option<Seat>
-    requires { seat.table ≡ shared.now }
+    requires { seated.seat.table ≡ shared.now }
     ensures { IfSome result (λ s. s.table ≡ shared.now) }
 {
-    if threads < 2 {
+    let Seated { mut seat, mut copy } = seated;
+    if work.threads < 2 {
         take(rt, shared, &mut seat, &mut copy, work);
         return Some(seat);
     }
-    let other = shared.split(rt, &mut seat).ok()?;
-    let other_copy = copy.duplicate(alloc).ok()?;
-    let half = threads / 2;
-    let rest = threads - half;
+    let second = Seated {
+        seat: shared.split(rt, &mut seat).ok()?,
+        copy: copy.duplicate(alloc).ok()?,
+    };
+    let first = Seated { seat, copy };
+    let half = Work {
+        threads: work.threads / 2,
+        ..work
+    };
+    let rest = Work {
+        threads: work.threads - half.threads,
+        ..work
+    };
     let (first, second) = join(
         rt,
         move || -> Option<Seat>
-            requires { IsSync R.row × (seat.table ≡ shared.now) }
+            requires { IsSync R.row × (first.seat.table ≡ shared.now) }
             ensures { IfSome result (λ s. s.table ≡ shared.entry.now) }
-        { take_turns(rt, alloc, shared, seat, copy, half, work) },
+        { take_turns(rt, alloc, shared, first, half) },
         move || -> Option<Seat>
-            requires { IsSync R.row × (other.table ≡ shared.now) }
+            requires { IsSync R.row × (second.seat.table ≡ shared.now) }
             ensures { IfSome result (λ s. s.table ≡ shared.entry.now) }
-        { take_turns(rt, alloc, shared, other, other_copy, rest, work) },
+        { take_turns(rt, alloc, shared, second, rest) },
     );
     let mut first = first?;
     shared.absorb(&mut first, second?);
