@@ -9,6 +9,7 @@ use crate::steps::{own_steps, seat_steps};
 use crate::tries::{Tried, Tries, try_moves};
 use crate::turns::{Seated, Turn, Work, take_turns};
 use fixture_board::{Board, MAX_ROOM};
+use fixtures::Schedule;
 use league::{League, circular};
 use search::{Report, SeatDoor};
 use shared_board::Shared;
@@ -136,8 +137,7 @@ fn time_own_steps<R: Runtime + AllocGlobal + Wait>(
     teams: u8,
     plan: Plan,
 ) -> io::Result<(Report, u128)> {
-    let league = league_of(rt.alloc(), teams)?;
-    let mut copy = fixtures::start(rt.alloc(), &league)?;
+    let (league, mut copy) = league_and_start(rt.alloc(), teams)?;
     let board = board_of(rt.alloc(), teams, plan.count)?;
     let start = Instant::now(rt)?;
     let report = own_steps(rt, &league, board, &mut copy, plan);
@@ -151,8 +151,7 @@ fn time_seat_steps<R: Runtime + AllocGlobal + Wait>(
     teams: u8,
     plan: Plan,
 ) -> io::Result<(Report, u128)> {
-    let league = league_of(rt.alloc(), teams)?;
-    let mut copy = fixtures::start(rt.alloc(), &league)?;
+    let (league, mut copy) = league_and_start(rt.alloc(), teams)?;
     let (shared, seat) = Shared::new(rt.alloc(), board_of(rt.alloc(), teams, plan.count)?)?;
     let door = SeatDoor {
         shared: &shared,
@@ -225,6 +224,13 @@ fn time_turns<R: Runtime + AllocGlobal + Threads + Wait + Sync>(
 
 fn league_of(alloc: Global, teams: u8) -> io::Result<League> {
     circular(alloc, teams).map_err(|_| io::Error::from(io::ErrorKind::OutOfMemory))
+}
+
+/// That league and its start.
+fn league_and_start(alloc: Global, teams: u8) -> io::Result<(League, Schedule)> {
+    let league = league_of(alloc, teams)?;
+    let start = fixtures::start(alloc, &league)?;
+    Ok((league, start))
 }
 
 /// A board with room for so many entries, or for as many as a board may have.

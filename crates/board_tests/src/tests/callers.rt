@@ -3,7 +3,7 @@
 
 use crate::tests::answers::Answer::{self, Done, No};
 use crate::tests::boards::board;
-use crate::tests::checks::{check_answer, check_same_of};
+use crate::tests::checks::{check_answer, check_same};
 use crate::tests::questions::Asked::{self, Pin, Shift, Undo, Unpin};
 use fixture_board::{Ask, Best, Board, Cost, Reply, Why};
 use moves::Move;
@@ -20,7 +20,7 @@ fn check(rt: &impl Abort, board: &mut Board, ask: Ask, reply: Reply) {
     let before = shown(board);
     check_answer(rt, board, ask, reply);
     if matches!(reply, Reply::No { .. }) {
-        check_same_of(rt, &ask, &shown(board), &before);
+        check_same(rt, &(ask, shown(board)), &(ask, before));
     }
 }
 

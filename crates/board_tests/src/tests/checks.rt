@@ -14,42 +14,40 @@ pub(crate) fn check_same<T: PartialEq + Debug>(rt: &impl Abort, found: &T, wante
     assert_eq!(rt; found, wanted);
 }
 
-/// The two are equal, which are about something.
-pub(crate) fn check_same_of<T: PartialEq + Debug>(
-    rt: &impl Abort,
-    about: &impl Debug,
-    found: &T,
-    wanted: &T,
-) {
-    assert_eq!(rt; found, wanted, "{about:?}");
-}
-
 /// What is asked by a call of its own is answered so.
 pub(crate) fn check_ask(rt: &impl Abort, board: &mut Board, caller: u32, ask: Ask, reply: Reply) {
-    check_same_of(rt, &ask, &ask_board(board, caller, ask), &reply);
+    check_same(rt, &(ask, ask_board(board, caller, ask)), &(ask, reply));
 }
 
 /// What is asked by the call for all, as caller 0, is answered so.
 pub(crate) fn check_answer(rt: &impl Abort, board: &mut Board, ask: Ask, reply: Reply) {
-    check_same_of(rt, &ask, &board.answer(0, ask), &reply);
+    check_same(rt, &(ask, board.answer(0, ask)), &(ask, reply));
 }
 
 // what is asked at the board's version, as caller 0, is answered so
 
 pub(crate) fn check_shift(rt: &impl Abort, board: &mut Board, mv: Move, reply: Reply) {
-    check_same_of(rt, &mv, &shift(board, mv), &reply);
+    check_same(rt, &(mv, shift(board, mv)), &(mv, reply));
 }
 
 pub(crate) fn check_pin(rt: &impl Abort, board: &mut Board, game: Game, reply: Reply) {
-    check_same_of(rt, &("to pin", game), &pin(board, game), &reply);
+    check_same(
+        rt,
+        &("to pin", game, pin(board, game)),
+        &("to pin", game, reply),
+    );
 }
 
 pub(crate) fn check_unpin(rt: &impl Abort, board: &mut Board, game: Game, reply: Reply) {
-    check_same_of(rt, &("to unpin", game), &unpin(board, game), &reply);
+    check_same(
+        rt,
+        &("to unpin", game, unpin(board, game)),
+        &("to unpin", game, reply),
+    );
 }
 
 pub(crate) fn check_undo(rt: &impl Abort, board: &mut Board, reply: Reply) {
-    check_same_of(rt, &"an undo", &undo(board), &reply);
+    check_same(rt, &("an undo", undo(board)), &("an undo", reply));
 }
 
 // what a board shows; its teams and rounds count from 1
@@ -83,12 +81,20 @@ pub(crate) fn check_version(rt: &impl Abort, board: &Board, version: u64) {
 
 pub(crate) fn check_pinned(rt: &impl Abort, board: &Board, home: u8, away: u8, is: bool) {
     let found = is_pinned(rt, board, home, away);
-    check_same_of(rt, &("pinned", home, away), &found, &is);
+    check_same(
+        rt,
+        &("pinned", home, away, found),
+        &("pinned", home, away, is),
+    );
 }
 
 pub(crate) fn check_round(rt: &impl Abort, schedule: &Schedule, home: u8, away: u8, round: u8) {
     let found = round_of(rt, schedule, home, away);
-    check_same_of(rt, &("the round", home, away), &found, &round);
+    check_same(
+        rt,
+        &("the round", home, away, found),
+        &("the round", home, away, round),
+    );
 }
 
 pub(crate) fn check_travels(rt: &impl Abort, board: &Board, tours: [u64; 4]) {

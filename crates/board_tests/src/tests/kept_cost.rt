@@ -1,6 +1,6 @@
 //! The kept cost of one board, against that of its whole schedule.
 
-use crate::tests::checks::check_same_of;
+use crate::tests::checks::check_same;
 use crate::tests::drawn_numbers::{drawn, drawn_move};
 use crate::tests::questions::{ask_board, propose, shift, undo};
 use fixture_board::{Board, cost_of};
@@ -77,7 +77,7 @@ fn check_change(rt: &impl Abort, board: &mut Board, state: &mut u64) {
     let mv = drawn_move(state, board.schedule().teams());
     change(board, state, mv);
     let whole = cost_of(board.schedule(), board.league());
-    check_same_of(rt, &mv, &board.cost(), &whole);
+    check_same(rt, &(mv, board.cost()), &(mv, whole));
 }
 
 /// Over changes that are drawn, of which a fourth at least has to be made.

@@ -1,7 +1,7 @@
 //! Moves within a limit, against the same moves made whatever they cost.
 
 use crate::tests::answers::have_same_games;
-use crate::tests::checks::check_same_of;
+use crate::tests::checks::check_same;
 use crate::tests::drawn_numbers::drawn_move;
 use crate::tests::kept_cost::league;
 use fixture_board::{Cost, cost_of, make_at_cost, make_within};
@@ -79,7 +79,11 @@ fn check_limit(
         (None, trial.schedule)
     };
     let is_left = have_same_games(&tried, left);
-    check_same_of(rt, &(trial.mv, most), &(answer, is_left), &(cost, true));
+    check_same(
+        rt,
+        &(trial.mv, most, (answer, is_left)),
+        &(trial.mv, most, (cost, true)),
+    );
     Ok(())
 }
 

@@ -3,7 +3,7 @@
 
 ghost use Rattle.std.specs.Prelude.{◌≡◌, IfOk};
 
-use crate::tests::checks::{check_same, check_same_of};
+use crate::tests::checks::check_same;
 use crate::tests::questions::ask_seat;
 use fixture_board::{Ask, Board, Reply, Seen};
 use fixtures::Schedule;
@@ -23,12 +23,12 @@ pub(crate) fn check_ask<R: Wait + Abort>(
     ensures { seat.new.table ≡ shared.now }
 {
     let before = seat.accepted();
-    check_same_of(rt, &ask, &ask_seat(rt, shared, seat, ask), &reply);
+    check_same(rt, &(ask, ask_seat(rt, shared, seat, ask)), &(ask, reply));
     match reply {
         Reply::Done { at, .. } => check_seen(rt, shared, seat, at, ask),
         Reply::No { at, .. } => {
             check_seen(rt, shared, seat, at, ask);
-            check_same_of(rt, &ask, &seat.accepted(), &before);
+            check_same(rt, &(ask, seat.accepted()), &(ask, before));
         }
     }
 }
@@ -38,8 +38,8 @@ fn check_seen(rt: &impl Abort, shared: &Shared, seat: &mut Seat, version: u64, a
     requires { seat.old.table ≡ shared.now }
     ensures { seat.new.table ≡ shared.now }
 {
-    check_same_of(rt, &ask, &seat.seen(), &version);
-    check_same_of(rt, &ask, &shared.front(seat), &version);
+    check_same(rt, &(ask, seat.seen()), &(ask, version));
+    check_same(rt, &(ask, shared.front(seat)), &(ask, version));
 }
 
 /// The change is made, whatever it costs.
@@ -57,7 +57,7 @@ pub(crate) fn check_done<R: Wait + Abort>(
     let Reply::Done { at, .. } = answer else {
         panic!(rt; "{ask:?} is granted");
     };
-    check_same_of(rt, &ask, &at, &version);
+    check_same(rt, &(ask, at), &(ask, version));
 }
 
 pub(crate) fn check_look<R: Wait + Abort>(

@@ -1,6 +1,6 @@
 //! Leagues are the same if they say the same: each part of a league is looked at.
 
-use crate::tests::checks::check_same_of;
+use crate::tests::checks::check_same;
 use crate::tests::league_texts::{CIRCLE, TEAMS, with_rules};
 use league::{League, read_league};
 use std::alloc::Global;
@@ -51,9 +51,9 @@ fn made(alloc: Global, (teams, distances, more): (&str, &str, &str)) -> Result<L
 // each of the leagues is the same as itself and its duplicate, and as no other
 fn check_each(rt: &impl Abort, alloc: Global, leagues: &[League]) -> Result<(), Fail> {
     for (i, one) in leagues.iter().enumerate() {
-        check_same_of(rt, &i, &one.is_same(&one.duplicate(alloc)?), &true);
+        check_same(rt, &(i, one.is_same(&one.duplicate(alloc)?)), &(i, true));
         for (j, other) in leagues.iter().enumerate() {
-            check_same_of(rt, &(i, j), &one.is_same(other), &(i == j));
+            check_same(rt, &(i, j, one.is_same(other)), &(i, j, i == j));
         }
     }
     Ok(())

@@ -1,6 +1,6 @@
 //! Texts of leagues, and of their parts, for the tests; and the fault that is told of one.
 
-use crate::tests::checks::check_same_of;
+use crate::tests::checks::check_same;
 use league::{League, LeagueFault, read_league};
 use std::alloc::{AllocError, Global};
 use std::fmt::Write;
@@ -90,13 +90,17 @@ pub(crate) fn check_bytes(
     bytes: &[u8],
     fault: Option<LeagueFault>,
 ) {
-    check_same_of(rt, &bytes, &read_league(alloc, bytes).err(), &fault);
+    check_same(
+        rt,
+        &(bytes, read_league(alloc, bytes).err()),
+        &(bytes, fault),
+    );
 }
 
 // the text is told to have this fault, or none
 pub(crate) fn check_fault(rt: &impl Abort, alloc: Global, text: &str, fault: Option<LeagueFault>) {
     let found = read_league(alloc, text.as_bytes()).err();
-    check_same_of(rt, &text, &found, &fault);
+    check_same(rt, &(text, found), &(text, fault));
 }
 
 // four teams in a circle with these members more are told to have this fault

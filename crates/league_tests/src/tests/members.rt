@@ -1,6 +1,6 @@
 //! The members of a league as they are read, and those of a league that is made.
 
-use crate::tests::checks::{check_same, check_same_of};
+use crate::tests::checks::check_same;
 use crate::tests::league_texts::{check_circle, even_text, league_text};
 use league::LeagueFault::{self, RuleClass, WrongKind};
 use league::limits::MAX_WEIGHT;
@@ -30,7 +30,7 @@ fn check_name(rt: &impl Abort, league: &League, team: u8, name: &str) {
 fn check_distance(rt: &impl Abort, league: &League, a: u8, b: u8, distance: u32) {
     assert!(rt; a < league.teams() && b < league.teams());
     let found = (league.distance(a, b), league.distance(b, a));
-    check_same_of(rt, &(a, b), &found, &(distance, distance));
+    check_same(rt, &(a, b, found), &(a, b, (distance, distance)));
 }
 
 // the league of four teams of that name, so far from each other

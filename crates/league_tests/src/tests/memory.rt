@@ -3,7 +3,7 @@
 //! `rt try --test --fail-alloc N` refuses the Nth allocation of each test. A test `.._tells_refused_memory` passes at
 //! every N; `.._with_ample_memory` fails while N is among its allocations.
 
-use crate::tests::checks::{check_holds, check_same, check_same_of};
+use crate::tests::checks::{check_holds, check_same};
 use crate::tests::league_texts::{
     FOUR_TEAMS, GOOD_RULE, all_games_text, check_bytes, list, rules_text,
 };
@@ -44,7 +44,7 @@ fn check_team_of_four(rt: &impl Abort, league: &League, a: u8, distances: &[u32;
         league.distance(a, 2),
         league.distance(a, 3),
     ];
-    check_same_of(rt, &a, &found, distances);
+    check_same(rt, &(a, &found), &(a, distances));
 }
 
 fn check_four(rt: &impl Abort, league: &League, rules: usize, distances: &Table) {
@@ -216,8 +216,8 @@ const WRONG_COUNTS: &[u8] = &[0, 5, 42];
 fn refusals_without_memory(rt: HostRuntime) {
     let refused = Some(LeagueFault::TeamCount);
     for &n in WRONG_COUNTS {
-        check_same_of(&rt, &n, &circular(rt.alloc(), n).err(), &refused);
-        check_same_of(&rt, &n, &constant(rt.alloc(), n).err(), &refused);
+        check_same(&rt, &(n, circular(rt.alloc(), n).err()), &(n, refused));
+        check_same(&rt, &(n, constant(rt.alloc(), n).err()), &(n, refused));
     }
     check_bytes(&rt, rt.alloc(), b"", Some(LeagueFault::NotJson));
 }

@@ -1,6 +1,6 @@
 //! Rules as they are read.
 
-use crate::tests::checks::{check_same, check_same_of};
+use crate::tests::checks::check_same;
 use crate::tests::league_texts::{GOOD_RULE, all_games_text, list, with_rules};
 use league::{League, Pairing, RuleBody, Side, SlotSet, TeamSet, Weight, read_league};
 use std::alloc::Global;
@@ -97,8 +97,8 @@ pub(crate) fn check_body(
 ) {
     assert!(rt; rule < league.rule_count());
     let body = &league.rule(rule).body;
-    check_same_of(rt, &rule, &values_of(body), &values);
-    check_same_of(rt, &rule, &sets_of(body), &sets);
+    check_same(rt, &(rule, values_of(body)), &(rule, values));
+    check_same(rt, &(rule, sets_of(body)), &(rule, sets));
 }
 
 /// A rule's text, and what is read of it.
@@ -229,7 +229,7 @@ pub(crate) struct GameRule {
 pub(crate) fn check_games(rt: &impl Abort, league: &League, rule: usize, said: GameRule) {
     assert!(rt; rule < league.rule_count());
     let found = games_of(&league.rule(rule).body);
-    check_same_of(rt, &rule, &found, &Some(said.games));
+    check_same(rt, &(rule, found), &(rule, Some(said.games)));
     let wanted = said.wanted;
     let sets = (None, None, Some(said.slots));
     check_body(rt, league, rule, ("GA1", None, wanted), sets);
@@ -312,7 +312,7 @@ fn check_weight(
     let rules = format!(in alloc; "[{{\"class\":\"SE1\",\"teams\":[1],\"min\":3,{members}}}]")?;
     let league = with_rules(alloc, 1, rules.as_str())?;
     let found = (league.rule_count(), weight_of(&league, 0));
-    check_same_of(rt, &members, &found, &(1, Some(weight)));
+    check_same(rt, &(members, found), &(members, (1, Some(weight))));
     Ok(())
 }
 

@@ -1,6 +1,6 @@
 //! Sets of teams and of slots.
 
-use crate::tests::checks::{check_same, check_same_of};
+use crate::tests::checks::check_same;
 use league::{SlotSet, TeamSet};
 
 #[test]
@@ -8,7 +8,7 @@ fn teams_are_those_that_were_added(rt: HostRuntime) {
     let teams = TeamSet::empty().with(0).with(39).with(0);
     for team in 0..40 {
         let is_added = team == 0 || team == 39;
-        check_same_of(&rt, &team, &teams.has(team), &is_added);
+        check_same(&rt, &(team, teams.has(team)), &(team, is_added));
     }
 }
 
@@ -17,7 +17,7 @@ fn no_teams_and_all_teams(rt: HostRuntime) {
     let (none, all) = (TeamSet::empty(), TeamSet::below(40));
     for team in 0..40 {
         let found = (none.has(team), all.has(team));
-        check_same_of(&rt, &team, &found, &(false, true));
+        check_same(&rt, &(team, found), &(team, (false, true)));
     }
 }
 
@@ -34,7 +34,7 @@ fn slots_are_those_that_were_added(rt: HostRuntime) {
     let slots = SlotSet::empty().with(0).with(64).with(77);
     for slot in 0..78 {
         let is_added = slot == 0 || slot == 64 || slot == 77;
-        check_same_of(&rt, &slot, &slots.has(slot), &is_added);
+        check_same(&rt, &(slot, slots.has(slot)), &(slot, is_added));
     }
 }
 
@@ -43,7 +43,7 @@ fn no_slots_and_all_slots(rt: HostRuntime) {
     let (none, all) = (SlotSet::empty(), SlotSet::below(78));
     for slot in 0..78 {
         let found = (none.has(slot), all.has(slot));
-        check_same_of(&rt, &slot, &found, &(false, true));
+        check_same(&rt, &(slot, found), &(slot, (false, true)));
     }
 }
 

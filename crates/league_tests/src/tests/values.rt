@@ -1,6 +1,6 @@
 //! Tests compare by `==`, so it has to see the variant and each field.
 
-use crate::tests::checks::check_same_of;
+use crate::tests::checks::check_same;
 use league::{Field, LeagueFault, Pairing, Side, Weight};
 use std::fmt::Debug;
 use std::process::Abort;
@@ -9,7 +9,7 @@ use std::process::Abort;
 fn check_distinct<T: PartialEq + Debug>(rt: &impl Abort, values: &[T]) {
     for (i, one) in values.iter().enumerate() {
         for (j, other) in values.iter().enumerate() {
-            check_same_of(rt, &(one, other), &(one == other), &(i == j));
+            check_same(rt, &(one, other, one == other), &(one, other, i == j));
         }
     }
 }

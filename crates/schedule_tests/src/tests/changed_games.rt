@@ -1,6 +1,6 @@
 //! Which games a move changes.
 
-use crate::tests::checks::check_same_of;
+use crate::tests::checks::check_same;
 use fixtures::{Game, Schedule, berger};
 use moves::{Move, check, would_change};
 use std::alloc::Global;
@@ -42,7 +42,11 @@ fn check_changes(rt: &impl Abort, alloc: Global, cases: &[Case]) -> Result<(), F
     let start = berger(alloc, 4)?;
     for &(mv, (round, home, away), answer) in cases {
         let game = Game { round, home, away };
-        check_same_of(rt, &(mv, game), &changes(&start, mv, game), &Some(answer));
+        check_same(
+            rt,
+            &(mv, game, changes(&start, mv, game)),
+            &(mv, game, Some(answer)),
+        );
     }
     Ok(())
 }

@@ -1,7 +1,7 @@
 //! Deviations from rules. The expected ones were counted by hand, and by `deviation` of `scripts/apart.py`, which shares no
 //! code with the crates.
 
-use crate::tests::checks::check_same_of;
+use crate::tests::checks::check_same;
 use crate::tests::rule_leagues::{Expected, check_deviations};
 use crate::tests::small_leagues::{self, Plan};
 use fixtures::berger;
@@ -296,7 +296,7 @@ fn check_breaks(
 ) -> Result<(), Fail> {
     let start = berger(alloc, 4)?;
     for &(side, count) in cases {
-        check_same_of(rt, &side, &breaks(&start, 0, slots, side), &count);
+        check_same(rt, &(side, breaks(&start, 0, slots, side)), &(side, count));
     }
     Ok(())
 }

@@ -1,6 +1,6 @@
 //! Schedules read from lists of games, and copied.
 
-use crate::tests::checks::{check_holds, check_same, check_same_of};
+use crate::tests::checks::{check_holds, check_same};
 use crate::tests::sheets::{FOUR, SIX, check_sheet, games, games_of, has_games};
 use crate::tests::small_leagues::{Plan, schedule};
 use fixtures::{FixtureFault, Game, Schedule, berger, from_games};
@@ -49,7 +49,7 @@ fn check_refused(
         let games = games(alloc, sheet)?;
         let fault = from_games(alloc, 4, &games).err();
         let wanted = (count, Some(FixtureFault::NotRoundRobin));
-        check_same_of(rt, sheet, &(games.len(), fault), &wanted);
+        check_same(rt, &(sheet, (games.len(), fault)), &(sheet, wanted));
     }
     Ok(())
 }

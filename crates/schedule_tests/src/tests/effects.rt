@@ -1,6 +1,6 @@
 //! What moves make of schedules.
 
-use crate::tests::checks::{check_same, check_same_of};
+use crate::tests::checks::check_same;
 use crate::tests::number_sets::teams_of;
 use crate::tests::sheets::{games, games_in, games_of};
 use crate::tests::small_leagues::{Plan, schedule};
@@ -19,11 +19,11 @@ fn check_said(rt: &impl Abort, start: &Schedule, (mv, teams, _): Effect) -> Resu
     check(start, mv)?;
     let exchange = exchange(start, mv);
     let (main, touched) = (exchange.main(), touched(start, mv));
-    check_same_of(rt, &mv, &main.rounds, &touched.rounds);
+    check_same(rt, &(mv, main.rounds), &(mv, touched.rounds));
     let said = (main.teams, exchange.turning(start), touched.teams);
     let [main, sides, touched] = teams;
     let wanted = (teams_of(main), teams_of(sides), teams_of(touched));
-    check_same_of(rt, &mv, &said, &wanted);
+    check_same(rt, &(mv, said), &(mv, wanted));
     Ok(())
 }
 
@@ -36,7 +36,7 @@ fn check_rounds(
     sheet: &str,
 ) -> Result<(), Fail> {
     let found = games_in(alloc, schedule, rounds)?;
-    check_same_of(rt, &sheet, &found, &games(alloc, sheet)?);
+    check_same(rt, &(sheet, found), &(sheet, games(alloc, sheet)?));
     Ok(())
 }
 
@@ -76,7 +76,7 @@ fn check_applied(
 ) -> Result<(), Fail> {
     check(&schedule, mv)?;
     let touched = touched(&schedule, mv);
-    check_same_of(rt, &mv, &apply(&mut schedule, mv), &touched);
+    check_same(rt, &(mv, apply(&mut schedule, mv)), &(mv, touched));
     check_rounds(rt, alloc, &schedule, touched.rounds, after)
 }
 
@@ -186,7 +186,11 @@ const WHOLE: &[(Move, Move)] = &[
 fn check_whole(rt: &impl Abort, alloc: Global, moves: (Move, Move)) -> Result<(), Fail> {
     let (part, whole) = moves;
     let after_whole = games_after(alloc, whole)?;
-    check_same_of(rt, &moves, &games_after(alloc, part)?, &after_whole);
+    check_same(
+        rt,
+        &(moves, games_after(alloc, part)?),
+        &(moves, after_whole),
+    );
     Ok(())
 }
 
@@ -212,7 +216,7 @@ fn keeps_meetings(start: &Schedule, mv: Move) -> Result<bool, Fail> {
 
 fn check_meetings(rt: &impl Abort, alloc: Global, (mv, kept): (Move, bool)) -> Result<(), Fail> {
     let found = keeps_meetings(&berger(alloc, 4)?, mv)?;
-    check_same_of(rt, &mv, &found, &kept);
+    check_same(rt, &(mv, found), &(mv, kept));
     Ok(())
 }
 

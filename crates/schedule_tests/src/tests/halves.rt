@@ -1,7 +1,7 @@
 //! Pairs of teams that meet twice in one half of the season. The expected numbers were worked by hand from the Berger
 //! table of four teams.
 
-use crate::tests::checks::{check_same, check_same_of};
+use crate::tests::checks::check_same;
 use crate::tests::number_sets::teams_of;
 use crate::tests::small_leagues::{Plan, rounds_exchanged, schedule};
 use fixtures::{Schedule, Touched, berger};
@@ -43,7 +43,7 @@ fn check_part(
     };
     let none = unphased_part(start, touched);
     let found = unphased_part(exchanged, touched);
-    check_same_of(rt, &teams, &(none, found), &(0, pairs));
+    check_same(rt, &(teams, (none, found)), &(teams, (0, pairs)));
 }
 
 fn check_parts(rt: &impl Abort, alloc: Global, cases: &[(&[u8], u64)]) -> Result<(), Fail> {

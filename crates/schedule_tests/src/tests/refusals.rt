@@ -1,6 +1,6 @@
 //! Moves that can be made, and moves that are refused.
 
-use crate::tests::checks::check_same_of;
+use crate::tests::checks::check_same;
 use fixtures::berger;
 use moves::{Move, MoveFault, check};
 use std::alloc::Global;
@@ -45,7 +45,7 @@ fn check_answers(
 ) -> Result<(), Fail> {
     let four = berger(alloc, 4)?;
     for &mv in moves {
-        check_same_of(rt, &mv, &check(&four, mv), &answer);
+        check_same(rt, &(mv, check(&four, mv)), &(mv, answer));
     }
     Ok(())
 }

@@ -1,6 +1,6 @@
 //! Leagues with one rule, and the deviations that are expected of schedules.
 
-use crate::tests::checks::check_same_of;
+use crate::tests::checks::check_same;
 use crate::tests::small_leagues::{Plan, schedule};
 use fixtures::Schedule;
 use league::{League, read_league};
@@ -60,7 +60,7 @@ pub(crate) fn check_deviation(
 ) -> Result<(), Fail> {
     let league = league_with(alloc, schedule.teams(), rule)?;
     let found = only_deviation(schedule, &league);
-    check_same_of(rt, &rule, &found, &Some(count));
+    check_same(rt, &(rule, found), &(rule, Some(count)));
     Ok(())
 }
 

@@ -1,6 +1,6 @@
 //! The parts of deviations that a move can alter.
 
-use crate::tests::checks::{check_holds, check_same_of};
+use crate::tests::checks::{check_holds, check_same};
 use crate::tests::rule_leagues::{check_deviation, league_with, only_deviation};
 use fixtures::{Schedule, Touched, berger};
 use league::{League, SlotSet, TeamSet};
@@ -152,7 +152,7 @@ fn check_part(
     let league = league_with(alloc, 6, rule)?;
     let main = their_games();
     let found = part(start, &league, main, main.teams);
-    check_same_of(rt, &rule, &found, &Some(count));
+    check_same(rt, &(rule, found), &(rule, Some(count)));
     Ok(())
 }
 
@@ -176,7 +176,7 @@ fn part_against_all_teams_is_of_sides(rt: HostRuntime) -> Result<(), Fail> {
     let start = berger(rt.alloc(), 6)?;
     let main = their_games();
     let found = part(&start, &league, main, TeamSet::empty().with(0));
-    check_same_of(&rt, &rule, &found, &Some(2));
+    check_same(&rt, &(rule, found), &(rule, Some(2)));
     Ok(())
 }
 
@@ -230,7 +230,7 @@ fn check_rest(
     let league = league_with(alloc, 6, rule)?;
     let (kept, found) = rests(alloc, start, &league, mv)?;
     check_holds(rt, &rule, kept.is_some());
-    check_same_of(rt, &rule, &found, &kept);
+    check_same(rt, &(rule, found), &(rule, kept));
     Ok(())
 }
 

@@ -1,6 +1,6 @@
 //! Rules that a change of some cells can reach, and rules that look past teams.
 
-use crate::tests::checks::check_same_of;
+use crate::tests::checks::check_same;
 use crate::tests::rule_leagues::league_with;
 use fixtures::Touched;
 use league::{Rule, SlotSet, TeamSet};
@@ -129,7 +129,7 @@ fn check_pairs(
             answered(alloc, question, rule)?,
             answered(alloc, question, other)?,
         );
-        check_same_of(rt, &rule, &found, &(Some(true), Some(false)));
+        check_same(rt, &(rule, found), &(rule, (Some(true), Some(false))));
     }
     Ok(())
 }

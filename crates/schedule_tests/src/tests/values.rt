@@ -1,6 +1,6 @@
 //! Values that tests compare by `==`, and the texts of faults.
 
-use crate::tests::checks::{check_same, check_same_of};
+use crate::tests::checks::check_same;
 use crate::tests::sheets::games;
 use fixtures::{Cell, FixtureFault, Touched};
 use league::{SlotSet, TeamSet};
@@ -14,7 +14,7 @@ use std::test::Fail;
 fn check_distinct<T: PartialEq + Debug>(rt: &impl Abort, values: &[T]) {
     for (i, one) in values.iter().enumerate() {
         for (j, other) in values.iter().enumerate() {
-            check_same_of(rt, &(one, other), &(one == other), &(i == j));
+            check_same(rt, &(one, other, one == other), &(one, other, i == j));
         }
     }
 }

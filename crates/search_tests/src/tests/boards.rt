@@ -2,7 +2,7 @@
 
 ghost use Rattle.std.specs.Prelude.{◌≡◌, [], IfOk};
 
-use crate::tests::checks::{check_holds, check_same, check_same_of};
+use crate::tests::checks::{check_holds, check_same};
 use fixture_board::{Best, Board, Change, Cost, Entry, Proposal, Reply};
 use fixtures::Schedule;
 use league::{League, circular};
@@ -101,6 +101,10 @@ fn check_same_schedule(rt: &impl Abort, one: &Schedule, other: &Schedule) {
 pub(crate) fn check_same_history(rt: &impl Abort, one: &Board, other: &Board) {
     check_same(rt, &one.version(), &other.version());
     for i in 0..one.version() {
-        check_same_of(rt, &("entry", i), &one.entry(i), &entry(rt, other, i));
+        check_same(
+            rt,
+            &("entry", i, one.entry(i)),
+            &("entry", i, entry(rt, other, i)),
+        );
     }
 }

@@ -8,16 +8,6 @@ pub(crate) fn check_same<T: PartialEq + Debug>(rt: &impl Abort, found: &T, wante
     assert_eq!(rt; found, wanted);
 }
 
-/// The two are equal, which are about something.
-pub(crate) fn check_same_of<T: PartialEq + Debug>(
-    rt: &impl Abort,
-    about: &impl Debug,
-    found: &T,
-    wanted: &T,
-) {
-    assert_eq!(rt; found, wanted, "{about:?}");
-}
-
 pub(crate) fn check_holds(rt: &impl Abort, holds: bool) {
     assert!(rt; holds);
 }
@@ -31,7 +21,7 @@ pub(crate) fn check_holds_of(rt: &impl Abort, about: &impl Debug, holds: bool) {
 pub(crate) fn check_distinct<T: PartialEq>(rt: &impl Abort, values: &[T]) {
     for i in 0..values.len() {
         for j in 0..values.len() {
-            check_same_of(rt, &(i, j), &(values[i] == values[j]), &(i == j));
+            check_same(rt, &(i, j, values[i] == values[j]), &(i, j, i == j));
         }
     }
 }

@@ -2,7 +2,7 @@
 
 ghost use Rattle.std.specs.Prelude.{◌<◌};
 
-use super::checks::{check_same, check_same_of};
+use super::checks::check_same;
 use super::samples::TEXT;
 use std::alloc::{AllocError, Global};
 use std::process::Abort;
@@ -85,7 +85,7 @@ fn check_chunks(rt: &impl Abort, alloc: Global, text: &[u8], size: usize) -> Res
     let mut sink = MemorySink::new(&mut room);
     write_chunks(&mut sink, text, size)?;
     let holds = sink.held() == text && sink.tally().calls <= 7;
-    check_same_of(rt, &size, &holds, &true);
+    check_same(rt, &(size, holds), &(size, true));
     Ok(())
 }
 

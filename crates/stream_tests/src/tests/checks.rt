@@ -7,16 +7,6 @@ pub(super) fn check_same<T: PartialEq + Debug>(rt: &impl Abort, found: &T, wante
     assert_eq!(rt; found, wanted);
 }
 
-/// The two are equal, which are about something.
-pub(super) fn check_same_of<T: PartialEq + Debug>(
-    rt: &impl Abort,
-    about: &impl Debug,
-    found: &T,
-    wanted: &T,
-) {
-    assert_eq!(rt; found, wanted, "{about:?}");
-}
-
 pub(super) fn check_holds(rt: &impl Abort, holds: bool) {
     assert!(rt; holds);
 }

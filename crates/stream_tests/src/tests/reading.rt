@@ -2,7 +2,7 @@
 
 ghost use Rattle.std.specs.Prelude.{◌<◌, None};
 
-use super::checks::{check_holds, check_same, check_same_of};
+use super::checks::{check_holds, check_same};
 use super::samples::{NO_CALLS, TEXT};
 use std::alloc::Global;
 use std::io;
@@ -35,7 +35,7 @@ fn check_read_in_pieces(rt: &impl Abort, alloc: Global, most: usize) -> Result<(
     requires { 0 < most }
 {
     let found = read_all(alloc, &mut MemorySource::in_pieces(TEXT, most))?;
-    check_same_of(rt, &most, &found.as_slice(), &TEXT);
+    check_same(rt, &(most, found.as_slice()), &(most, TEXT));
     Ok(())
 }
 
