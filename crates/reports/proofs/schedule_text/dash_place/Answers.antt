@@ -1,7 +1,7 @@
 use Rattle.std.proofs.Common.{◌∙◌, rules, tests}
 use Rattle.std.proofs.lemmas.Iterator.{YieldsList-from_slice}
 use Rattle.std.proofs.lemmas.Iterator.Search.{position_from_yields_List}
-use Rattle.texts.proofs.Splitting.{place_or_length}
+use Rattle.texts.proofs.Splitting.{index_or_length}
 use Rattle.reports.specs.ScheduleText.{is_dash}
 use Rattle.reports.proofs.schedule_text.dash_place.Goals as goal
 
@@ -9,5 +9,5 @@ pub returns-clause-place : goal.returns-clause-place
 returns-clause-place c =
     let xs = c.args.word.now in
     c.unwrap_or.ensures ∙
-    place_or_length is_dash xs _
+    index_or_length is_dash xs _
     (position_from_yields_List is_dash _ _ _ c.position.ensures.ran (YieldsList-from_slice xs cc) (λ x b q k. search (rules, tests)))
