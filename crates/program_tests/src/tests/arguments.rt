@@ -2,7 +2,7 @@
 //! allocation of each test. A test `.._tells_refused_memory` passes at every N; `.._with_ample_memory` fails while N is among
 //! its allocations.
 
-use crate::tests::checks::{check_holds, check_same};
+use crate::tests::checks::{check_holds, check_same, check_same_of};
 use crate::tests::distinct::are_distinct;
 use clap::error::ErrorKind::{
     self, ArgumentConflict, DisplayHelp, DisplayVersion, InvalidSubcommand, InvalidValue,
@@ -38,7 +38,7 @@ type Row<'a> = (&'a [&'a str], Answer);
 
 fn check_answers(rt: &impl Abort, alloc: Global, rows: &[Row<'_>]) -> Result<(), Fail> {
     for (given, wanted) in rows {
-        check_same(rt, &(given, &answer(alloc, given)?), &(given, wanted));
+        check_same_of(rt, given, &answer(alloc, given)?, wanted);
     }
     Ok(())
 }
@@ -278,7 +278,7 @@ fn check_memory(rt: &impl Abort, alloc: Global, is_ample: bool) {
     for (given, wanted) in OF_EACH_KIND {
         match answer(alloc, given) {
             Err(_) | Ok(Err((OutOfMemory, _))) => check_holds(rt, given, !is_ample),
-            Ok(found) => check_same(rt, &(given, &found), &(given, wanted)),
+            Ok(found) => check_same_of(rt, given, &found, wanted),
         }
     }
 }

@@ -9,6 +9,16 @@ pub(crate) fn check_same<T: PartialEq + Debug>(rt: &impl Abort, found: &T, wante
     assert_eq!(rt; found, wanted);
 }
 
+/// The two are equal, which are about something.
+pub(crate) fn check_same_of<T: PartialEq + Debug>(
+    rt: &impl Abort,
+    about: &impl Debug,
+    found: &T,
+    wanted: &T,
+) {
+    assert_eq!(rt; found, wanted, "{about:?}");
+}
+
 /// What is said of something holds.
 pub(crate) fn check_holds(rt: &impl Abort, about: &impl Debug, holds: bool) {
     assert!(rt; holds, "{about:?}");

@@ -3,7 +3,7 @@
 
 ghost use Rattle.std.specs.Prelude.{None};
 
-use crate::tests::checks::check_same;
+use crate::tests::checks::check_same_of;
 use crate::tests::judged_schedules::FAULTY;
 use crate::tests::samples::{FIND, PLAY, REPORT, START, TABLE};
 use crate::tests::told::{Answer, Case, Command};
@@ -101,7 +101,7 @@ fn check_single_bytes<T: Threads + Wait + Sync + Abort>(
     let ended = run_by(rt, alloc, command, (input.as_bytes(), &reads), &writes)?;
     let found = (ended.answer, ended.writes, ended.text.as_slice());
     let wanted = (answer, writes.len() as u64, text.as_bytes());
-    check_same(rt, &(command, found), &(command, wanted));
+    check_same_of(rt, &command, &found, &wanted);
     Ok(())
 }
 
@@ -137,7 +137,7 @@ fn check_failed_read<T: Threads + Wait + Sync + Abort>(
     let ended = run_by(rt, alloc, command, (input, &steps), &[])?;
     let found = (ended.answer, ended.reads, ended.writes);
     let wanted = (Err(ProgramFault::Read), steps.len() as u64, 0);
-    check_same(rt, &(command, read, found), &(command, read, wanted));
+    check_same_of(rt, &(command, read), &found, &wanted);
     Ok(())
 }
 
@@ -189,7 +189,7 @@ fn check_interrupted<T: Threads + Wait + Sync + Abort>(rt: &T, alloc: Global, co
     let answer = run_from(rt, alloc, command, &mut source, &mut sink);
     let found = (answer, source.tally.calls, sink.tally().calls);
     let wanted = (Err(ProgramFault::Read), 8_388_608, 0);
-    check_same(rt, &(command, found), &(command, wanted));
+    check_same_of(rt, &command, &found, &wanted);
 }
 
 #[test]
@@ -231,7 +231,7 @@ fn check_front<T: Threads + Wait + Sync + Abort>(
     let ended = run_by(rt, alloc, command, (input, &[]), &steps)?;
     let found = (ended.answer, ended.writes, ended.text.as_slice());
     let wanted = (Err(ProgramFault::Write), steps.len() as u64, front);
-    check_same(rt, &(command, found), &(command, wanted));
+    check_same_of(rt, &command, &found, &wanted);
     Ok(())
 }
 
@@ -311,7 +311,7 @@ fn check_no_write<T: Threads + Wait + Sync + Abort>(
 ) -> Result<(), Fail> {
     let ended = run_by(rt, alloc, command, (input, &[]), &[])?;
     let found = (ended.answer, ended.writes);
-    check_same(rt, &(command, found), &(command, (Err(fault), 0)));
+    check_same_of(rt, &command, &found, &(Err(fault), 0));
     Ok(())
 }
 

@@ -1,7 +1,7 @@
 //! What the help, the version and mistakes say.
 
 use crate::tests::arguments::words;
-use crate::tests::checks::check_same;
+use crate::tests::checks::check_same_of;
 use crate::tests::told::missing;
 use command_line::args;
 use std::alloc::Global;
@@ -126,7 +126,7 @@ const HELP: &[(&[&str], &[&str])] = &[
 fn help_tells_what_is_read_and_written(rt: HostRuntime) -> Result<(), Fail> {
     for (given, parts) in HELP {
         let text = told(rt.alloc(), given)?;
-        check_same(&rt, &(text, missing(text.as_str(), parts)), &(text, None));
+        check_same_of(&rt, &text, &missing(text.as_str(), parts), &None);
     }
     Ok(())
 }
@@ -150,7 +150,7 @@ const TEXTS: &[(&[&str], &str)] = &[
 fn versions_and_mistakes_have_their_texts(rt: HostRuntime) -> Result<(), Fail> {
     for (given, wanted) in TEXTS {
         let text = told(rt.alloc(), given)?;
-        check_same(&rt, &(given, &text.as_str()), &(given, wanted));
+        check_same_of(&rt, given, &text.as_str(), wanted);
     }
     Ok(())
 }

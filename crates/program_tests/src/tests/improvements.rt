@@ -3,7 +3,7 @@
 ghost use Rattle.std.specs.Prelude.{◌≡◌};
 
 use crate::tests::arguments::words;
-use crate::tests::checks::{check_holds, check_same};
+use crate::tests::checks::{check_holds, check_same, check_same_of};
 use crate::tests::circle::CIRCLE;
 use crate::tests::closings::{closing, script};
 use clap::error::ErrorKind;
@@ -80,7 +80,7 @@ fn command_line_asks_for_an_improvement(rt: HostRuntime) -> Result<(), Fail> {
             seed,
             effort,
         };
-        check_same(&rt, &(given, answer(rt.alloc(), given)?), &(given, Ok(job)));
+        check_same_of(&rt, given, &answer(rt.alloc(), given)?, &Ok(job));
     }
     Ok(())
 }
@@ -88,11 +88,7 @@ fn command_line_asks_for_an_improvement(rt: HostRuntime) -> Result<(), Fail> {
 #[test]
 fn command_line_refuses_other_improvements(rt: HostRuntime) -> Result<(), Fail> {
     for (given, kind) in MISTAKES {
-        check_same(
-            &rt,
-            &(given, answer(rt.alloc(), given)?),
-            &(given, Err(*kind)),
-        );
+        check_same_of(&rt, given, &answer(rt.alloc(), given)?, &Err(*kind));
     }
     Ok(())
 }
@@ -140,11 +136,7 @@ fn ended<T: Threads + Wait + Sync>(
 fn improve_names_the_first_fault_and_writes_nothing(rt: HostRuntime) {
     for (input, workers, fault) in FAULTS {
         let found = ended(&rt, rt.alloc(), input, workers);
-        check_same(
-            &rt,
-            &(input, workers, found),
-            &(input, workers, (Err(fault), 0)),
-        );
+        check_same_of(&rt, &(input, workers), &found, &(Err(fault), 0));
     }
 }
 
@@ -188,11 +180,7 @@ fn check_played_again<T: Threads + Wait + Sync + Abort>(
     };
     check_holds(rt, &workers, text.starts_with(b"phase 1 weight 5 slack 1 "));
     let again = played(alloc, script(history))?;
-    check_same(
-        rt,
-        &(workers, closing(&again)),
-        &(workers, Some((history, rest))),
-    );
+    check_same_of(rt, &workers, &closing(&again), &Some((history, rest)));
     Ok(())
 }
 

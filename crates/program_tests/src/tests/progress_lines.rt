@@ -1,6 +1,6 @@
 //! The line of a search: what is written on a terminal that keeps its bytes, by a clock that is set.
 
-use crate::tests::checks::check_same;
+use crate::tests::checks::{check_same, check_same_of};
 use crate::tests::circle::CIRCLE;
 use crate::tests::told::{Command, tell};
 use commands::{ProgramFault, ProgressLine, SearchPlan, Workplace, find_from};
@@ -86,7 +86,7 @@ fn pauses(rt: &impl Wait, clock: &Ticks, tellings: usize) -> [u32; 4] {
 fn quick_steps_are_told_by_thousands_and_slow_ones_one_by_one(rt: HostRuntime) {
     for (step, tellings, wanted) in PAUSES {
         let found = pauses(&rt, &Ticks::new(Some(step)), tellings);
-        check_same(&rt, &(step, tellings, found), &(step, tellings, wanted));
+        check_same_of(&rt, &(step, tellings), &found, &wanted);
     }
 }
 
@@ -200,7 +200,7 @@ fn check_showing<R: Wait + Abort>(rt: &R, showing: &Showing<'_>) {
     let is_quiet = terminal.tally().calls == 0;
     let found = (memory.held(), is_quiet);
     let wanted = (showing.shown.as_bytes(), showing.shown.is_empty());
-    check_same(rt, &(showing.step, found), &(showing.step, wanted));
+    check_same_of(rt, &showing.step, &found, &wanted);
 }
 
 #[test]

@@ -1,6 +1,6 @@
 //! What the lines of a script say, and how an input is cut.
 
-use crate::tests::checks::check_same;
+use crate::tests::checks::{check_same, check_same_of};
 use crate::tests::distinct::are_distinct;
 use fixture_board::Change;
 use fixtures::Game;
@@ -94,7 +94,7 @@ const LINES: &[(&[u8], ScriptLine)] = &[
 #[test]
 fn lines_are_read(rt: HostRuntime) {
     for (line, read) in LINES {
-        check_same(&rt, &(line, &parse_line(line)), &(line, read));
+        check_same_of(&rt, line, &parse_line(line), read);
     }
 }
 
@@ -130,7 +130,7 @@ const INPUTS: &[(&[u8], (&[u8], &[u8]))] = &[
 #[test]
 fn an_input_is_a_league_and_a_script(rt: HostRuntime) {
     for (input, parts) in INPUTS {
-        check_same(&rt, &(input, &split_input(input)), &(input, parts));
+        check_same_of(&rt, input, &split_input(input), parts);
     }
 }
 

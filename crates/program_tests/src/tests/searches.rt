@@ -1,6 +1,6 @@
 //! Searches: the known text of one without a step, what is answered first, and histories that `play` leads back to.
 
-use crate::tests::checks::{check_holds, check_same};
+use crate::tests::checks::{check_holds, check_same, check_same_of};
 use crate::tests::circle::CIRCLE;
 use crate::tests::closings::{closing, script};
 use crate::tests::samples::{FIND, NO_STEPS, SCRIPT};
@@ -99,10 +99,11 @@ fn check_played_again<T: Threads + Wait + Sync + Abort>(
     check_holds(rt, &history, history != "0");
     check_holds(rt, &best, best.starts_with("2"));
     let again = played(rt, alloc, history)?;
-    check_same(
+    check_same_of(
         rt,
-        &(workers, history_and_best(&again)),
-        &(workers, Some((history, best))),
+        &workers,
+        &history_and_best(&again),
+        &Some((history, best)),
     );
     Ok(())
 }

@@ -1,6 +1,6 @@
 //! What a command answers and writes for an input: cases in tables, and the function that walks them.
 
-use crate::tests::checks::check_same;
+use crate::tests::checks::check_same_of;
 use commands::{
     Format, NoGate, ProgramFault, SearchPlan, Verdict, Workplace, find, play, report, start,
 };
@@ -153,7 +153,7 @@ pub(crate) fn check_case<T: Threads + Wait + Sync + Abort>(
     let is_quiet = told.text.is_empty();
     let found = (told.answer, is_told, told.calls == 0);
     let about = (command, input, str::from_utf8(&told.text));
-    check_same(rt, &(about, found), &(about, (answer, true, is_quiet)));
+    check_same_of(rt, &about, &found, &(answer, true, is_quiet));
     Ok(())
 }
 

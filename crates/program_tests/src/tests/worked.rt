@@ -1,7 +1,7 @@
 //! Scripts whose answers are known from elsewhere, and their histories played again. The costs of six and ten teams are those
 //! of `scripts/play-apart`.
 
-use crate::tests::checks::check_same;
+use crate::tests::checks::check_same_of;
 use crate::tests::circle::{CIRCLE, SHEET};
 use crate::tests::closings::{closing, script};
 use crate::tests::samples::SCRIPT;
@@ -331,11 +331,7 @@ fn check_played_again<T: Threads + Wait + Sync + Abort>(
         return Err(Fail::new("no history"));
     };
     let again = replayed(rt, alloc, case, script(history))?;
-    check_same(
-        rt,
-        &(parts, closing(&again.text)),
-        &(parts, Some((history, board))),
-    );
+    check_same_of(rt, &parts, &closing(&again.text), &Some((history, board)));
     Ok(())
 }
 
