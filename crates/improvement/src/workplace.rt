@@ -1,8 +1,8 @@
-//! If workers work.
+//! Where workers work.
 
 use std::alloc::Global;
 
-/// If the workers of a command work.
+/// Where the workers of a command work.
 #[derive_where(Clone, Copy)]
 pub struct Workplace<'a, T, G> {
     /// The runtime, which starts their threads.

@@ -246,24 +246,29 @@ fn line_comes_again_in_the_next_run(rt: HostRuntime) {
     check_same(&rt, &terminal.held(), &expected.as_slice());
 }
 
+/// The text of one worker's improvement of the circle, with a line on the terminal.
+fn improved_on<T: Threads + Wait + Sync, W: Sink + Send + Drop>(
+    rt: &T,
+    alloc: Global,
+    terminal: W,
+) -> Result<Vec<u8>, Fail> {
+    let mut memory = vec![in alloc; 0; 100_000]?;
+    let mut sink = MemorySink::new(&mut memory);
+    let mut source = MemorySource::new(CIRCLE.as_bytes());
+    let clock = Ticks::new();
+    let gate = &ProgressLine::over(&clock, terminal, 1280);
+    let place = Workplace { rt, alloc, gate };
+    improve_from(place, &mut source, &mut sink, by(1))?;
+    Ok(Vec::from_slice(alloc, sink.held())?)
+}
+
 /// The text is the same with a line on the terminal, and what is written on the terminal ends with what takes the line away.
 #[test]
 fn improvement_with_a_line_writes_the_same(rt: HostRuntime) -> Result<(), Fail> {
-    let mut room = vec![in rt.alloc(); 0; 200_000]?;
-    let (terminal, memory) = room.split_at_mut(100_000);
-    let mut terminal = MemorySink::new(terminal);
-    let mut sink = MemorySink::new(memory);
-    let clock = Ticks::new();
-    let line = ProgressLine::over(&clock, &mut terminal, 1280);
-    let mut source = MemorySource::new(CIRCLE.as_bytes());
-    let place = Workplace {
-        rt: &rt,
-        alloc: rt.alloc(),
-        gate: &line,
-    };
-    improve_from(place, &mut source, &mut sink, by(1))?;
-    drop(line);
-    check_same(&rt, &sink.held(), &improved(&rt, rt.alloc(), 1)?.as_slice());
+    let mut room = vec![in rt.alloc(); 0; 100_000]?;
+    let mut terminal = MemorySink::new(&mut room);
+    let text = improved_on(&rt, rt.alloc(), &mut terminal)?;
+    check_same(&rt, &text, &improved(&rt, rt.alloc(), 1)?);
     check_holds(
         &rt,
         &"a line",
