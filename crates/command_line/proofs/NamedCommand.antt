@@ -258,17 +258,6 @@ search_values found (inr (inr (inr (inr (inl of_report))))) is =
     absurd (true≢false (ap (λ t. bytes_eq t (codes "report")) (sym of_report.0 ∙ is)))
 search_values found (inr (inr (inr (inr (inr none))))) is = absurd none
 
-pub improve_values : (found : Text × List Row) → NamesOneOf commands found → found.0 ≡ codes "improve" →
-    HasValues found.1 improve_command.options
-improve_values found (inl of_start) is = absurd (true≢false (ap (λ t. bytes_eq t (codes "start")) (sym of_start.0 ∙ is)))
-improve_values found (inr (inl of_play)) is = absurd (true≢false (ap (λ t. bytes_eq t (codes "play")) (sym of_play.0 ∙ is)))
-improve_values found (inr (inr (inl of_improve))) is = of_improve.1
-improve_values found (inr (inr (inr (inl of_search)))) is =
-    absurd (true≢false (ap (λ t. bytes_eq t (codes "search")) (sym of_search.0 ∙ is)))
-improve_values found (inr (inr (inr (inr (inl of_report))))) is =
-    absurd (true≢false (ap (λ t. bytes_eq t (codes "report")) (sym of_report.0 ∙ is)))
-improve_values found (inr (inr (inr (inr (inr none))))) is = absurd none
-
 -- so the rows of the subcommand that a parse met, where it has this name, have the values of its options
 pub values_of_met : {Z : Type 0} (word : Text) (options : List OptionForm) →
     ((found : Text × List Row) → NamesOneOf commands found → found.0 ≡ word → HasValues found.1 options)

@@ -17,7 +17,7 @@ use Rattle.fixture_board.specs.History.{effect, effective, effective_after, game
 use Rattle.fixture_board.specs.History.{Fits, May, legal_after, IsLegal, cost_at, better, best_after, best_prefix}
 use Rattle.fixture_board.specs.History.{as_best, best_of}
 use Rattle.fixture_board.specs.Kept.{IsLeader, Kept, FollowsHistory}
-use Rattle.fixture_board.specs.PinPlaces.{ArePinsAt}
+use Rattle.fixture_board.specs.PinTable.{ArePinsAt}
 use Rattle.fixture_board.proofs.OneMore.{effective-more, games_of-by, pins_of-by}
 
 pub credited-more : (caller : ℕ) (h : List Entry) (e : Entry) →

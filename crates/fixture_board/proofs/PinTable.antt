@@ -11,7 +11,7 @@ use Rattle.std.proofs.lemmas.List.{get_or-set_same, get_or-set_other, get_or-rep
 use Rattle.fixtures.specs.declared.game.Game.{Game}
 use Rattle.fixtures.specs.Games.{Games, round_of, round_count, IsPair, IsDoubleRoundRobin}
 use Rattle.fixture_board.specs.History.{is_game, has_game, is_pinned, is_game_in_range, is_there, moves_pin, AllStand}
-use Rattle.fixture_board.specs.PinPlaces.{pin_at, ArePinsAt}
+use Rattle.fixture_board.specs.PinTable.{pin_at, ArePinsAt}
 
 -- what is read after a write
 
@@ -229,9 +229,9 @@ ArePinsAt-none g forty h a pair = get_or-replicate 1600 (h * 40 + a) 255 0 (omeg
 
 -- what the table tells of a pair
 
-told-if : (pinned : Bool) (round place : ℕ) → round < 255 → place ≡ (if pinned then round else 255) → not (place == 255) ≡ pinned
-told-if true round place below is = ap not (ne_eqb place 255 (λ same. omega (arith, same, is)))
-told-if false round place below is = ap not (eq-eqb place 255 is)
+told-if : (pinned : Bool) (round entry : ℕ) → round < 255 → entry ≡ (if pinned then round else 255) → not (entry == 255) ≡ pinned
+told-if true round entry below is = ap not (ne_eqb entry 255 (λ same. omega (arith, same, is)))
+told-if false round entry below is = ap not (eq-eqb entry 255 is)
 
 pub is_pinned-told : (g : Games) (pins : List Game) (table : List ℕ) (h a : ℕ) → IsDoubleRoundRobin g → ArePinsAt g pins table →
     IsPair g.teams h a → not (pin_at table h a == 255) ≡ is_pinned pins h a
@@ -272,10 +272,10 @@ moves_pin-moved g other (pin ∷ pins) h a all is apart =
     ]
 
 -- what a pinned pair has in the table
-pub place_of-pinned : (pinned : Bool) (round place : ℕ) → place ≡ (if pinned then round else 255) → place ≢ 255 →
-    (pinned ≡ true) × (place ≡ round)
-place_of-pinned true round place is pin = (refl, is)
-place_of-pinned false round place is pin = absurd (pin is)
+pub entry-pinned : (pinned : Bool) (round entry : ℕ) → entry ≡ (if pinned then round else 255) → entry ≢ 255 →
+    (pinned ≡ true) × (entry ≡ round)
+entry-pinned true round entry is pin = (refl, is)
+entry-pinned false round entry is pin = absurd (pin is)
 
 pub moves_pin-none : (g other : Games) (pins : List Game) (table : List ℕ) → IsDoubleRoundRobin g → AllStand g pins →
     ArePinsAt g pins table →
@@ -283,13 +283,13 @@ pub moves_pin-none : (g other : Games) (pins : List Game) (table : List ℕ) →
 moves_pin-none g other pins table robin all are none =
     moves_pin-kept g other pins all
     (λ h a pair is.
-    let place : pin_at table h a ≡ round_of g h a = are h a pair ∙ ap (λ b. if b then round_of g h a else 255) is in
-    none h a pair (λ same. omega (arith, same, place, robin.in_range h a pair, robin.most)) ∙ place)
+    let entry : pin_at table h a ≡ round_of g h a = are h a pair ∙ ap (λ b. if b then round_of g h a else 255) is in
+    none h a pair (λ same. omega (arith, same, entry, robin.in_range h a pair, robin.most)) ∙ entry)
 
 pub moves_pin-some : (g other : Games) (pins : List Game) (table : List ℕ) (h a : ℕ) → AllStand g pins → ArePinsAt g pins table →
     IsPair g.teams h a → pin_at table h a ≢ 255 → round_of other h a ≢ pin_at table h a → moves_pin other pins ≡ true
 moves_pin-some g other pins table h a all are pair pin apart =
-    let told = place_of-pinned (is_pinned pins h a) (round_of g h a) (pin_at table h a) (are h a pair) pin in
+    let told = entry-pinned (is_pinned pins h a) (round_of g h a) (pin_at table h a) (are h a pair) pin in
     moves_pin-moved g other pins h a all told.0 (λ same. apart (same ∙ sym told.1))
 
 -- a table without a round has no pinned game

@@ -10,8 +10,8 @@ use Rattle.moves.specs.declared.exchanges.Exchange.{Exchange}
 use Rattle.moves.specs.Exchanges.{exchanged_by, main_cells, IsExchange}
 use Rattle.moves.proofs.ForCallers.{each_tells, main_teams_below, main_rounds_below}
 use Rattle.fixture_board.specs.History.{is_pinned, moves_pin, AllStand}
-use Rattle.fixture_board.specs.PinPlaces.{pin_at, is_pinned_cell, ArePinsAt}
-use Rattle.fixture_board.proofs.PinTable.{place_of-pinned, moves_pin-none, moves_pin-some}
+use Rattle.fixture_board.specs.PinTable.{pin_at, is_pinned_cell, ArePinsAt}
+use Rattle.fixture_board.proofs.PinTable.{entry-pinned, moves_pin-none, moves_pin-some}
 
 is_pinned-no : (table : List ℕ) (t : ℕ) (c : Cell) → is_pinned_cell table t c ≡ false → cell_round (pin_at table) t c ≢ 255 → ⊥
 unfolding is_pinned_cell
@@ -73,7 +73,7 @@ module _ (g : Games) (exchange : Exchange) (can : IsExchange g exchange) (table 
       moves_pin-none g after pins table can.round_robin all are
       (λ h a pair pin.
       kept none h a pair pin ∙
-      sym (place_of-pinned (is_pinned pins h a) (round_of g h a) (pin_at table h a) (are h a pair) pin).1)
+      sym (entry-pinned (is_pinned pins h a) (round_of g h a) (pin_at table h a) (are h a pair) pin).1)
 
   changed : (h a r : ℕ) → IsPair g.teams h a → round_of g h a ≡ r → has (main_cells exchange).rounds r ≡ true →
       (has (main_cells exchange).teams h || has (main_cells exchange).teams a) ≡ true → round_of after h a ≢ round_of g h a
@@ -87,13 +87,13 @@ module _ (g : Games) (exchange : Exchange) (can : IsExchange g exchange) (table 
       is_pinned_cell table t (record { opponent = o; home = home }) ≡ true → moves_pin after pins ≡ true
   moves_pin-pinned pins all are t r o true main in_round there is =
       let pin = is_pinned-yes table t (record { opponent = o; home = true }) is in
-      let stands = (place_of-pinned (is_pinned pins t o) (round_of g t o) (pin_at table t o) (are t o there.pair) pin).1 in
+      let stands = (entry-pinned (is_pinned pins t o) (round_of g t o) (pin_at table t o) (are t o there.pair) pin).1 in
       moves_pin-some g after pins table t o all are there.pair pin
       (λ same. changed t o r there.pair there.in_round in_round (or_left _ _ main) (same ∙ stands))
   moves_pin-pinned pins all are t r o false main in_round there is =
       let pair = pair_swapped g.teams t o there.pair in
       let pin = is_pinned-yes table t (record { opponent = o; home = false }) is in
-      let stands = (place_of-pinned (is_pinned pins o t) (round_of g o t) (pin_at table o t) (are o t pair) pin).1 in
+      let stands = (entry-pinned (is_pinned pins o t) (round_of g o t) (pin_at table o t) (are o t pair) pin).1 in
       moves_pin-some g after pins table o t all are pair pin
       (λ same. changed o t r pair there.in_round in_round (or_right (has (main_cells exchange).teams o) _ main) (same ∙ stands))
 

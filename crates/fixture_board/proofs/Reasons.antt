@@ -20,7 +20,7 @@ use Rattle.fixture_board.specs.declared.reply.Why.TheVariants as why
 use Rattle.fixture_board.specs.declared.reply.Reply.TheVariants.{Done, No}
 use Rattle.fixture_board.specs.History.{games_of, pins_of, has_game, is_game_in_range, is_there, moves_pin, AllStand}
 use Rattle.fixture_board.specs.History.{cost_at}
-use Rattle.fixture_board.specs.PinPlaces.{pin_at, ArePinsAt}
+use Rattle.fixture_board.specs.PinTable.{pin_at, ArePinsAt}
 use Rattle.fixture_board.specs.Kept.{Kept, FollowsHistory, IsRefused, IsGranted, IsStep, entered}
 use Rattle.fixture_board.specs.Replies.{first_of, version_rows, game_rows, move_rows, score_rows, refusal, entry}
 use Rattle.fixture_board.specs.Replies.{next_of, reply_of}

@@ -18,7 +18,7 @@ use Rattle.fixture_board.specs.History.{pins_after, pins_of, AllStand}
 use Rattle.fixture_board.specs.History.{Fits, legal_after, IsLegal, cost_at, best_prefix, best_at, as_best, best_of}
 use Rattle.fixture_board.specs.History.{IsBestPrefix, IsBestOf}
 use Rattle.fixture_board.specs.Kept.{IsLeader, Kept, FollowsHistory}
-use Rattle.fixture_board.specs.PinPlaces.{ArePinsAt}
+use Rattle.fixture_board.specs.PinTable.{ArePinsAt}
 use Rattle.fixture_board.specs.Retraced.{HasPlace, written, written_after}
 use Rattle.fixture_board.specs.Rewound.{rewound, IsSameBestRewound}
 use Rattle.fixture_board.proofs.Keeps.{effect-length}
@@ -152,7 +152,7 @@ IsPinTable-legal league room h is legal =
       are = ArePinsAt-none (start_of league) is.table.most;
     })
 
--- the changes that fit have places in the table
+-- the changes that fit have entries in the table
 
 HasPlace-fits : (g : Games) (pins : List Game) (change : Change) → IsDoubleRoundRobin g → AllStand g pins → Fits g pins change →
     HasPlace change

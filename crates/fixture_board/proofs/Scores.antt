@@ -1,5 +1,5 @@
 -- Each schedule of a league scores below the limit of scores.
-use Rattle.std.proofs.Common.{◌≡◌, ℕ, ◌+◌, ◌-◌, ◌*◌, ◌^◌, ◌<◌, ◌≤◌, if◌then◌else◌, ◌&&◌, Bool, true, false, List, []}
+use Rattle.std.proofs.Common.{◌≡◌, ℕ, ◌+◌, ◌-◌, ◌*◌, ◌^◌, ◌<◌, ◌≤◌, if◌then◌else◌, ◌&&◌, List, []}
 use Rattle.std.proofs.Common.{◌∷◌, length, slice_get, Option, Some, None, refl, sym, ◌∙◌, subst, le_refl, arith}
 use Rattle.std.proofs.lemmas.List.Elements.{All-from_recursion, All-get_or}
 use Rattle.std.proofs.lemmas.Option.{slice_get_within, get_or_from_slice_get}
@@ -10,7 +10,7 @@ use Rattle.league.specs.RuleLimits.{IsRuleFor, IsWeight}
 use Rattle.league.specs.declared.rule.Rule.{Rule}
 use Rattle.league.specs.declared.rule.Weight.{Weight}
 use Rattle.league.specs.declared.rule.Weight.TheVariants.{Hard, Soft}
-use Rattle.league.proofs.ForCallers.{sum_below_le, sum_of_pairs_le, count_where_le}
+use Rattle.league.proofs.ForCallers.{sum_below_le, sum_of_pairs_le, count_where_le, if_le}
 use Rattle.fixtures.specs.Games.{Games, round_count, meets}
 use Rattle.moves.specs.declared.exchanges.Exchange.{Exchange}
 use Rattle.moves.specs.declared.exchanges.Exchange.TheVariants as edit
@@ -83,10 +83,6 @@ runs_over_le g at_most forty =
           omega (arith, count_where_le (windows g (at_most + 1)) (λ first. is_run g t first (at_most + 1)))),
     )
 
-if_le : (b : Bool) (x most : ℕ) → x ≤ most → (if b then x else 0) ≤ most
-if_le true x most le = le
-if_le false x most le = omega arith
-
 repeats_after_le : (g : Games) (round : ℕ) → g.teams ≤ 40 → repeats_after g round ≤ 1600
 unfolding repeats_after
 repeats_after_le g round forty =
@@ -94,7 +90,7 @@ repeats_after_le g round forty =
       arith,
       mul-le-mul forty forty,
       sum_of_pairs_le g.teams 1 (λ low high. if meets g high low round && meets g high low (round + 1) then 1 else 0)
-          (λ low high below under. if_le (meets g high low round && meets g high low (round + 1)) 1 1 (omega arith)),
+          (λ low high below under. if_le (meets g high low round && meets g high low (round + 1)) 1 1 (λ _. omega arith)),
     )
 
 repeats_le : (g : Games) → g.teams ≤ 40 → repeats g ≤ 123200
@@ -112,11 +108,11 @@ unphased_le g forty =
       arith,
       mul-le-mul forty forty,
       sum_of_pairs_le g.teams 1 (λ i j. if is_unphased g i j then 1 else 0)
-          (λ i j below under. if_le (is_unphased g i j) 1 1 (omega arith)),
+          (λ i j below under. if_le (is_unphased g i j) 1 1 (λ _. omega arith)),
     )
 
 where_phased_le : (l : LeagueData) (count most : ℕ) → count ≤ most → where_phased l count ≤ most
-where_phased_le l count most le = if_le l.phased count most le
+where_phased_le l count most le = if_le l.phased count most (λ _. le)
 
 hard_penalty_le : (weight : Weight) (deviation : ℕ) → hard_penalty weight deviation ≤ deviation
 hard_penalty_le Hard deviation = omega arith

@@ -16,7 +16,7 @@ use Rattle.fixture_board.specs.declared.reply.Why.{Why}
 use Rattle.fixture_board.specs.declared.state.State.{State}
 use Rattle.fixture_board.specs.Costs.{score_of, score_limit, total_of}
 use Rattle.fixture_board.specs.History.{effective, games_of, pins_of, cost_at, best_prefix, best_at, max_room, IsLegal}
-use Rattle.fixture_board.specs.PinPlaces.{ArePinsAt, pin_places}
+use Rattle.fixture_board.specs.PinTable.{ArePinsAt, pin_entries}
 use Rattle.fixture_board.specs.Replies.{refusal, entry}
 
 -- the kept best, and the schedule beside it, are those of the best prefix
@@ -71,7 +71,7 @@ pub record FollowsHistory (league : LeagueData) (k : Kept) : Type 0 where
   pub no_more : length k.changes ≤ length k.history
   pub games_are : k.games ≡ games_of league k.history
   pub same_size : k.games.teams ≡ teams league
-  pub pins_length : length k.pins ≡ pin_places
+  pub pins_length : length k.pins ≡ pin_entries
   pub pins_are : ArePinsAt k.games (pins_of k.history) k.pins
   pub cost_is : k.cost ≡ cost_at league k.history
   pub small : score_of league k.cost < score_limit

@@ -7,7 +7,7 @@ pub mod Weights
 pub mod Credited
 pub mod Rewound
 pub mod Replay
-pub mod PinPlaces
+pub mod PinTable
 pub mod Retraced
 pub mod Kept
 pub mod Looks

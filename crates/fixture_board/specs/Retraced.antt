@@ -3,9 +3,9 @@ use Rattle.std.specs.Prelude.{ℕ, ◌<◌, List, [], ◌∷◌, slice_set}
 use Rattle.league.specs.Limits.{max_teams}
 use Rattle.fixture_board.specs.declared.change.Change.{Change}
 use Rattle.fixture_board.specs.declared.change.Change.TheVariants.{Pin, Unpin}
-use Rattle.fixture_board.specs.PinPlaces.{pin_place, free}
+use Rattle.fixture_board.specs.PinTable.{pin_index, free}
 
--- the table has a place for the game that the change pins or unpins
+-- the table has an entry for the game that the change pins or unpins
 abbrev pub HasPlace : Change → Type 0
 HasPlace (Pin game) = (game.home < max_teams) × (game.away < max_teams)
 HasPlace (Unpin game) = (game.home < max_teams) × (game.away < max_teams)
@@ -13,8 +13,8 @@ HasPlace _ = Unit {0}
 
 -- the table after one more change in effect
 abbrev pub written : List ℕ → Change → List ℕ
-written table (Pin game) = slice_set table (pin_place game.home game.away) game.round
-written table (Unpin game) = slice_set table (pin_place game.home game.away) free
+written table (Pin game) = slice_set table (pin_index game.home game.away) game.round
+written table (Unpin game) = slice_set table (pin_index game.home game.away) free
 written table _ = table
 
 abbrev pub written_after : List ℕ → List Change → List ℕ

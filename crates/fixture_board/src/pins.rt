@@ -10,7 +10,7 @@ ghost use Rattle.moves.specs.Exchanges.{exchanged_by, IsExchange};
 ghost use Rattle.fixture_board.specs.History.{moves_pin, AllStand};
 ghost use Rattle.fixture_board.specs.declared.change.Change.{Change};
 ghost use Rattle.fixture_board.specs.Retraced.{HasPlace, written, written_after};
-ghost use Rattle.fixture_board.specs.PinPlaces.{free, pin_at, pin_place, pin_places, is_pinned_cell, ArePinsAt};
+ghost use Rattle.fixture_board.specs.PinTable.{free, pin_at, pin_index, pin_entries, is_pinned_cell, ArePinsAt};
 
 use crate::change::Change;
 use fixtures::{Cell, Game, Schedule};
@@ -23,7 +23,7 @@ use std::marker::Model;
 /// What the table has of a game that isn't pinned.
 const FREE: u8 = 255;
 
-const TEAM_PLACES: usize = MAX_TEAMS as usize;
+const MOST_TEAMS: usize = MAX_TEAMS as usize;
 
 /// The round in which the game of a pair is pinned, or `FREE`, for each of `MAX_TEAMS` teams at home and away.
 #[derive(Drop)]
@@ -35,23 +35,23 @@ pub(crate) struct Pins {
 
 impl Model for Pins {
     ghost use Rattle.std.specs.Prelude.{◌≡◌, ◌==◌, ℕ, List, length, count_by, not};
-    ghost use Rattle.fixture_board.specs.PinPlaces.{free, pin_places};
+    ghost use Rattle.fixture_board.specs.PinTable.{free, pin_entries};
 
     ghost Value = { List ℕ };
 
     ghost view = { λ p. p.rounds.items };
 
-    ghost invariant = { λ p. (length p.rounds.items ≡ pin_places) ×
+    ghost invariant = { λ p. (length p.rounds.items ≡ pin_entries) ×
         (p.count ≡ count_by (λ round. not (round == free)) p.rounds.items) };
 }
 
 impl Pins {
     /// No game is pinned.
     pub(crate) fn none(alloc: Global) -> Result<Pins, AllocError>
-        ensures { IfOk result (λ p. p ≡ replicate pin_places free) }
+        ensures { IfOk result (λ p. p ≡ replicate pin_entries free) }
     {
         Ok(Pins {
-            rounds: vec![in alloc; FREE; TEAM_PLACES * TEAM_PLACES]?,
+            rounds: vec![in alloc; FREE; MOST_TEAMS * MOST_TEAMS]?,
             count: 0,
         })
     }
@@ -62,30 +62,30 @@ impl Pins {
         requires away { away < max_teams }
         ensures { result ≡ not (pin_at self.now home away == free) }
     {
-        self.rounds[place(home, away)] != FREE
+        self.rounds[pin_index(home, away)] != FREE
     }
 
     /// Pins the game to its round.
     pub(crate) fn pin(&mut self, game: Game)
         requires home { game.home < max_teams }
         requires away { game.away < max_teams }
-        ensures { self.new ≡ slice_set self.old (pin_place game.home game.away) game.round }
+        ensures { self.new ≡ slice_set self.old (pin_index game.home game.away) game.round }
     {
-        self.write(place(game.home, game.away), game.round);
+        self.write(pin_index(game.home, game.away), game.round);
     }
 
     /// Lets the game get another round again.
     pub(crate) fn unpin(&mut self, game: Game)
         requires home { game.home < max_teams }
         requires away { game.away < max_teams }
-        ensures { self.new ≡ slice_set self.old (pin_place game.home game.away) free }
+        ensures { self.new ≡ slice_set self.old (pin_index game.home game.away) free }
     {
-        self.write(place(game.home, game.away), FREE);
+        self.write(pin_index(game.home, game.away), FREE);
     }
 
     /// No game is pinned any more.
     fn clear(&mut self)
-        ensures { self.new ≡ replicate pin_places free }
+        ensures { self.new ≡ replicate pin_entries free }
     {
         self.rounds.fill(FREE);
         self.count = 0;
@@ -106,7 +106,7 @@ impl Pins {
     /// Makes the table anew from the changes in effect.
     pub(crate) fn retrace(&mut self, changes: &[Change])
         requires { (i : ℕ) (d : Change) → i < length changes.now → HasPlace (slice_index_or changes.now i d) }
-        ensures { self.new ≡ written_after (replicate pin_places free) changes.now }
+        ensures { self.new ≡ written_after (replicate pin_entries free) changes.now }
     {
         self.clear();
         for change in changes {
@@ -114,12 +114,12 @@ impl Pins {
         }
     }
 
-    fn write(&mut self, place: usize, round: u8)
-        requires { place < pin_places }
-        ensures { self.new ≡ slice_set self.old place round }
+    fn write(&mut self, index: usize, round: u8)
+        requires { index < pin_entries }
+        ensures { self.new ≡ slice_set self.old index round }
     {
-        self.count = self.count + pinned(round) - pinned(self.rounds[place]);
-        self.rounds[place] = round;
+        self.count = self.count + pinned(round) - pinned(self.rounds[index]);
+        self.rounds[index] = round;
     }
 
     /// Whether the exchange would give a pinned game another round, if pinned games stand in their rounds: whether a
@@ -171,7 +171,7 @@ impl Pins {
     }
 
     /// Whether the game of the team with this cell is pinned.
-    #[tactic(auto, unfolding(crate::specs::PinPlaces::is_pinned_cell))]
+    #[tactic(auto, unfolding(crate::specs::PinTable::is_pinned_cell))]
     fn has_cell(&self, team: u8, cell: Cell) -> bool
         requires team { team < max_teams }
         requires opponent { cell.opponent < max_teams }
@@ -185,11 +185,11 @@ impl Pins {
     }
 }
 
-/// The place of a pair in the table.
-fn place(home: u8, away: u8) -> usize
-    ensures { result ≡ pin_place home away }
+/// The index of a pair in the table.
+fn pin_index(home: u8, away: u8) -> usize
+    ensures { result ≡ pin_index home away }
 {
-    usize::from(home) * TEAM_PLACES + usize::from(away)
+    usize::from(home) * MOST_TEAMS + usize::from(away)
 }
 
 /// 1 for a pinned game's round, and 0 for none.

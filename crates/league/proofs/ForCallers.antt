@@ -7,4 +7,4 @@ pub use Rattle.sets.proofs.ForCallers.{sum_of_pairs_le, sum_of_pairs_balance, ea
 pub use Rattle.sets.proofs.ForCallers.{all_below_same, any_below_found, any_below_from_none, any_below_fails, any_below_same}
 pub use Rattle.sets.proofs.ForCallers.{has_beyond, has_all_numbers, has_with_number, le-with_number, with_number-grows}
 pub use Rattle.sets.proofs.ForCallers.{IsSumWithout, sum_without_none, sum_without_more, sum_without_all, lowest_below}
-pub use Rattle.sets.proofs.ForCallers.{lowest_gone, others_kept, has_empty, sums}
+pub use Rattle.sets.proofs.ForCallers.{lowest_gone, others_kept, has_empty, if_le, sums}

@@ -19,9 +19,6 @@ pub record IsCarried (were : List Chain) (rank : ℕ) (are : List Chain) (i : �
   pub rest : drop i are ≡ drop i were
   pub value : put (chain_at were rank) (take rank were) ≡ take i are ++ put next (drop i (take rank were))
 
-pub carried_first : (were : List Chain) (rank : ℕ) → IsCarried were rank were 0 (chain_at were rank)
-carried_first were rank = record { count = refl; rest = refl; value = refl }
-
 same_rest : (xs ys : List Chain) (i : ℕ) → drop i xs ≡ drop i ys → drop (i + 1) xs ≡ drop (i + 1) ys
 same_rest xs ys i same = sym (drop-drop 1 i xs) ∙ ap (drop 1) same ∙ drop-drop 1 i ys
 

@@ -63,15 +63,15 @@ one_more_written row at n number f here in_row is so_far k below = elim (cases_e
 
 -- a loop over teams has written the rows of those that aren't left
 pub record HasRows (g : Games) (all left : ℕ) (table : List (List ℕ)) : Type 0 where
-  pub places : length table ≡ 40
+  pub len : length table ≡ 40
   pub below : IsBelow g.teams left
   pub within : (k : ℕ) → has left k ≡ true → has all k ≡ true
   pub rows : (t : ℕ) → has all t ≡ true → has left t ≡ false → IsRowOf g t (get_or table t [])
 
 pub rows_none : (g : Games) (all left : ℕ) (table : List (List ℕ)) → length table ≡ 40 → IsBelow g.teams all → left ≡ all →
     HasRows g all left table
-rows_none g all left table places below whole = record {
-  places = places;
+rows_none g all left table len below whole = record {
+  len = len;
   below = omega (arith, below, whole);
   within = λ k here. sym (ap (λ s. has s k) whole) ∙ here;
   rows = λ t in_all out. absurd (cc (in_all, out, ap (λ s. has s t) whole));
@@ -80,12 +80,12 @@ rows_none g all left table places below whole = record {
 pub rows_more : (g : Games) (all left lowest rest at : ℕ) (table : List (List ℕ)) (row : List ℕ) → HasRows g all left table →
     IsWithoutLowest left lowest rest → at ≡ lowest → lowest < 40 → IsRowOf g lowest row → HasRows g all rest (set table at row)
 rows_more g all left lowest rest at table row so_far taken here in_table is = record {
-  places = length-set table at row ∙ so_far.places;
+  len = length-set table at row ∙ so_far.len;
   below = omega (arith, so_far.below, taken.fewer);
   within = λ k in_rest. so_far.within k (and_parts (has left k) (not (k == lowest)) (sym (taken.others k) ∙ in_rest)).0;
   rows = λ t in_all gone. elim (cases_eq t lowest) [
     | inl same ↦
-        subst (IsRowOf g t) (sym (get_or-set_at table at t row [] (same ∙ sym here) (omega (arith, here, so_far.places))))
+        subst (IsRowOf g t) (sym (get_or-set_at table at t row [] (same ∙ sym here) (omega (arith, here, so_far.len))))
         (rw same is)
     | inr other ↦
         let apart : t ≢ at = omega (arith, here) in

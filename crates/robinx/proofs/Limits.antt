@@ -11,16 +11,12 @@ use Rattle.league.specs.declared.rule.RuleBody.{RuleBody}
 use Rattle.league.specs.declared.rule.RuleBody.TheVariants.{Ca1, Ca2, Ca3, Ca4, Ga1, Br1, Br2, Se1, Fa2}
 use Rattle.league.specs.declared.rule.Side.{Side}
 use Rattle.league.specs.declared.rule.Side.TheVariants.{Any}
-use Rattle.league.proofs.ForCallers.{sum_below_le, sum_below_le_each, sum_where_le, count_where_le}
+use Rattle.league.proofs.ForCallers.{sum_below_le, sum_below_le_each, sum_where_le, count_where_le, if_le}
 use Rattle.fixtures.specs.Games.{Games, round_count, round_of, is_home}
 use Rattle.robinx.specs.Deviations.{over, is_counted, games_of_team, games_in_window, games_in_round, is_break, breaks, rounds_between}
 use Rattle.robinx.specs.Deviations.{listed_games_in, over_in_windows, short_pairs, deviation}
 use Rattle.robinx.specs.Deviations.{home_games, gap, worst_gap, worst_gaps}
 use Rattle.robinx.proofs.Largest.{largest_below_le}
-
-if_le : (b : Bool) (x most : ℕ) → x ≤ most → (if b then x else 0) ≤ most
-if_le true x most le = le
-if_le false x most le = omega arith
 
 count_in_le : (g : Games) (side : Side) (opponents slots : ℕ → Bool) (team : ℕ) →
     games_of_team g side opponents slots team ≤ round_count g.teams
@@ -62,7 +58,7 @@ short_pairs_le : (g : Games) (teams : ℕ → Bool) (least team : ℕ) → least
 unfolding short_pairs
 short_pairs_le g teams least team few =
     sum_below_le team 10000 (λ other. if teams other && teams team then over least (rounds_between g other team) else 0)
-    (λ other under. if_le (teams other && teams team) (over least (rounds_between g other team)) 10000 (omega arith))
+    (λ other under. if_le (teams other && teams team) (over least (rounds_between g other team)) 10000 (λ _. omega arith))
 
 home_games_le : (g : Games) (team round : ℕ) → home_games g team round ≤ round + 1
 unfolding home_games
@@ -76,7 +72,7 @@ worst_gap_le : (g : Games) (slots : ℕ → Bool) (most i j : ℕ) → worst_gap
 unfolding worst_gap
 worst_gap_le g slots most i j =
     largest_below_le (round_count g.teams) (round_count g.teams) (λ r. if slots r then gap g most i j r else 0)
-    (λ r below. if_le (slots r) (gap g most i j r) (round_count g.teams) (omega (arith, gap_le g most i j r)))
+    (λ r below. if_le (slots r) (gap g most i j r) (round_count g.teams) (λ _. omega (arith, gap_le g most i j r)))
 
 worst_gaps_le : (g : Games) (teams slots : ℕ → Bool) (most team : ℕ) → g.teams ≤ max_teams →
     worst_gaps g teams slots most team ≤ team * 78
@@ -84,7 +80,7 @@ unfolding worst_gaps
 worst_gaps_le g teams slots most team forty =
     sum_below_le team 78 (λ other. if teams other && teams team then worst_gap g slots most other team else 0)
     (λ other lower. if_le (teams other && teams team) (worst_gap g slots most other team) 78
-    (omega (arith, forty, worst_gap_le g slots most other team)))
+    (λ _. omega (arith, forty, worst_gap_le g slots most other team)))
 
 -- 10,000 for each pair below n, twice
 triangle : (n : ℕ) → 2 * sum_below n (λ t. t * 10000) ≤ n * (n * 10000)

@@ -40,7 +40,7 @@ opponents_game g rr t r in_t in_r = by_home (cell g t r).opponent (cell g t r).h
 
 -- a loop over rounds has added in each the team whose game against the opponent counts
 pub record HasAdded (g : Games) (side : Side) (opponents opponent from next : ℕ) (old rows : List ℕ) : Type 0 where
-  pub places : length rows ≡ 78
+  pub len : length rows ≡ 78
   pub counted : HaveCounted g side opponents rows
   pub kept : (t r : ℕ) → has (get_or old r 0) t ≡ true → has (get_or rows r 0) t ≡ true
   pub added : (r : ℕ) → from ≤ r → r < next → is_on_side side (not (cell g opponent r).home) ≡ true →
@@ -55,7 +55,7 @@ module _ (g : Games) (rr : IsDoubleRoundRobin g) (side : Side) (opponents oppone
       HasAdded g side opponents opponent from (round + 1) old (set rows at row)
   unfolding is_counted
   added_more at before row met at_is met_is counts on_side adds = record {
-    places = length-set rows at row ∙ so_far.places;
+    len = length-set rows at row ∙ so_far.len;
     counted = λ t r in_r here. elim (cases_eq r round) [
       | inl same ↦ elim (cases_eq t (cell g opponent round).opponent) [
         | inl here ↦ rw (same, here, opponents_game g rr opponent round in_o in_season) (and_from _ _ on_side counts)
@@ -86,7 +86,7 @@ module _ (g : Games) (rr : IsDoubleRoundRobin g) (side : Side) (opponents oppone
   }
     where
       in_rows : at < length rows
-      in_rows = omega (arith, so_far.places, rr.most, in_season, at_is)
+      in_rows = omega (arith, so_far.len, rr.most, in_season, at_is)
 
       at_round : (r : ℕ) → r ≡ round → get_or (set rows at row) r 0 ≡ row
       at_round r same = get_or-set_at rows at r row 0 (same ∙ sym at_is) in_rows
@@ -107,7 +107,7 @@ module _ (g : Games) (rr : IsDoubleRoundRobin g) (side : Side) (opponents oppone
   pub added_same : is_on_side side (not (cell g opponent round).home) ≡ false →
       HasAdded g side opponents opponent from (round + 1) old rows
   added_same off_side = record {
-    places = so_far.places;
+    len = so_far.len;
     counted = so_far.counted;
     kept = so_far.kept;
     added = λ r from_r before_next side_is. elim (cases_eq r round) [
@@ -120,7 +120,7 @@ module _ (g : Games) (rr : IsDoubleRoundRobin g) (side : Side) (opponents oppone
 pub record HasAddedAll (g : Games) (side : Side) (opponents all left from past : ℕ) (old rows : List ℕ) : Type 0 where
   pub below : IsBelow g.teams left
   pub within : (k : ℕ) → has left k ≡ true → has all k ≡ true
-  pub places : length rows ≡ 78
+  pub len : length rows ≡ 78
   pub counted : HaveCounted g side opponents rows
   pub kept : (t r : ℕ) → has (get_or old r 0) t ≡ true → has (get_or rows r 0) t ≡ true
   pub added : (t r : ℕ) → t < g.teams → from ≤ r → r < past → is_counted g side (has opponents) t r ≡ true →
@@ -131,10 +131,10 @@ pub all_added_none : (g : Games) (side : Side) (opponents whole all left from pa
     ((k : ℕ) → has all k ≡ (has whole k && has opponents k)) → length rows ≡ 78 → HaveCounted g side opponents rows →
     HasAddedAll g side opponents all left from past rows rows
 unfolding is_counted
-all_added_none g side opponents whole all left from past rows rr in_season below same wholes are places counted = record {
+all_added_none g side opponents whole all left from past rows rr in_season below same wholes are len counted = record {
   below = below;
   within = λ k here. sym (ap (λ s. has s k) same) ∙ here;
-  places = places;
+  len = len;
   counted = counted;
   kept = λ t r here. here;
   added = λ t r in_t from_r before_past counts gone.
@@ -151,10 +151,10 @@ pub all_added_more : (g : Games) (rr : IsDoubleRoundRobin g) (side : Side) (oppo
     ((r : ℕ) → from ≤ r → r < past → is_on_side side (not (cell g lowest r).home) ≡ true →
     has (get_or new r 0) (cell g lowest r).opponent ≡ true) → HasAddedAll g side opponents all rest from past old new
 unfolding is_counted
-all_added_more g rr side opponents all left lowest rest from past old rows new in_season so_far taken places counted keeps adds = record {
+all_added_more g rr side opponents all left lowest rest from past old rows new in_season so_far taken len counted keeps adds = record {
   below = omega (arith, so_far.below, taken.fewer);
   within = λ k here. so_far.within k (and_parts (has left k) (not (k == lowest)) (sym (taken.others k) ∙ here)).0;
-  places = places;
+  len = len;
   counted = counted;
   kept = λ t r here. keeps t r (so_far.kept t r here);
   added = λ t r in_t from_r before_past counts gone. elim (cases_eq (cell g t r).opponent lowest) [
@@ -179,7 +179,7 @@ all_added_more g rr side opponents all left lowest rest from past old rows new i
 -- a loop over rounds has added the teams that count in the rounds less than a window away from those that aren't left
 pub record HasAddedNear (g : Games) (side : Side) (opponents all left window : ℕ) (rows : List ℕ) : Type 0 where
   pub below : IsBelow (round_count g.teams) left
-  pub places : length rows ≡ 78
+  pub len : length rows ≡ 78
   pub counted : HaveCounted g side opponents rows
   pub added : (t r c : ℕ) → t < g.teams → r < round_count g.teams → has all c ≡ true → has left c ≡ false → r < c + window →
       c < r + window → is_counted g side (has opponents) t r ≡ true → has (get_or rows r 0) t ≡ true
@@ -192,9 +192,9 @@ none_counted g side opponents none rr empty = λ t r in_r here.
 
 pub near_added_none : (g : Games) (side : Side) (opponents all left window : ℕ) (rows : List ℕ) → IsBelow (round_count g.teams) left →
     left ≡ all → length rows ≡ 78 → HaveCounted g side opponents rows → HasAddedNear g side opponents all left window rows
-near_added_none g side opponents all left window rows below same places counted = record {
+near_added_none g side opponents all left window rows below same len counted = record {
   below = below;
-  places = places;
+  len = len;
   counted = counted;
   added = λ t r c in_t in_r here gone near_c near_r counts. absurd (false≢true (sym gone ∙ ap (λ s. has s c) same ∙ here));
 }
@@ -205,10 +205,10 @@ pub near_added_more : (g : Games) (side : Side) (opponents all left lowest rest 
     ((t r : ℕ) → t < g.teams → from ≤ r → r < past → is_counted g side (has opponents) t r ≡ true → has (get_or new r 0) t ≡ true) →
     ((r : ℕ) → lowest < r + window → from ≤ r) → ((r : ℕ) → r < round_count g.teams → r < lowest + window → r < past) →
     HasAddedNear g side opponents all rest window new
-near_added_more g side opponents all left lowest rest window from past rows new so_far taken places counted keeps adds from_is past_is =
+near_added_more g side opponents all left lowest rest window from past rows new so_far taken len counted keeps adds from_is past_is =
     record {
       below = omega (arith, so_far.below, taken.fewer);
-      places = places;
+      len = len;
       counted = counted;
       added = λ t r c in_t in_r here gone near_c near_r counts. elim (cases_eq c lowest) [
         | inl same ↦ adds t r in_t (from_is r (omega arith)) (past_is r in_r (omega arith)) counts

@@ -2,12 +2,12 @@
 use Rattle.std.proofs.Common.{◌≡◌, ℕ, ◌+◌, ◌-◌, ◌&&◌, ◌||◌, ◌==◌, not, nat_lt, Bool, true, false, List, take, get_or, Some, refl, sym, ◌∙◌}
 use Rattle.std.proofs.Common.{ap, inl, inr, arith}
 use Rattle.std.specs.List.{slice_get, list_any}
-use Rattle.std.proofs.lemmas.Bool.{cases_eq, ne_eqb, and_from, or_from, cases_lt, lt-ltb, le-ltb, and_right, false≢true}
+use Rattle.std.proofs.lemmas.Bool.{cases_eq, and_from, or_from, cases_lt, lt-ltb, le-ltb, and_right, false≢true, and_left}
 use Rattle.std.proofs.lemmas.List.Folds.{list_any_more, list_any_at}
 use Rattle.std.proofs.lemmas.Option.{slice_get_within, get_or_from_slice_get}
 use Rattle.league.specs.Sets.{has, IsBelow, IsWithoutLowest}
 use Rattle.league.specs.Sums.{any_below}
-use Rattle.league.proofs.ForCallers.{any_below_found, any_below_from_none, any_below_same, lowest_below, has_empty}
+use Rattle.league.proofs.ForCallers.{any_below_found, any_below_from_none, any_below_same, lowest_below, has_empty, others_kept}
 use Rattle.robinx.specs.Touches.{has_touched_round, has_touched_until, or_before}
 use Rattle.robinx.specs.Parts.{lacks_one}
 
@@ -36,18 +36,10 @@ none_before_more n set left lowest rest test so_far taken fails = record {
 }
   where
     was_left : (k : ℕ) → has rest k ≡ true → has left k ≡ true
-    was_left k is = first (has left k) (not (k == lowest)) (sym (taken.others k) ∙ is)
-      where
-        first : (p q : Bool) → (p && q) ≡ true → p ≡ true
-        first true q both = refl
-        first false q both = both
+    was_left k is = and_left (has left k) (not (k == lowest)) (sym (taken.others k) ∙ is)
 
     kept : (k : ℕ) → (k ≡ lowest → ⊥) → has left k ≡ has rest k
-    kept k other = sym (taken.others k ∙ ap (λ (b : Bool). has left k && not b) (ne_eqb k lowest other) ∙ and_true (has left k))
-      where
-        and_true : (p : Bool) → (p && true) ≡ p
-        and_true true = refl
-        and_true false = refl
+    kept k other = sym (others_kept left lowest rest k taken other)
 
 pub found_here : (n set left lowest rest : ℕ) (test : ℕ → Bool) → NoneBefore n set left test → IsWithoutLowest left lowest rest →
     test lowest ≡ true → any_below n (λ k. has set k && test k) ≡ true

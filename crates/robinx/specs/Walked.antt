@@ -42,8 +42,8 @@ HaveCounted g side opponents rows =
     (t r : ℕ) → r < round_count g.teams → has (slice_index rows r) t ≡ true → is_counted g side (has opponents) t r ≡ true
 
 -- the places of a row, one for each round and some more
-abbrev pub row_places : ℕ
-row_places = 80
+abbrev pub row_length : ℕ
+row_length = 80
 
 -- whether a main team counts its pair with another: one of two main teams counts at the higher
 abbrev pub counts_pair : ℕ → ℕ → ℕ → Bool
@@ -51,7 +51,7 @@ counts_pair main team other = nat_lt other team || (nat_lt team other && not (ha
 
 -- a row has a team's home games up to and with each round
 pub record IsRowOf (g : Games) (team : ℕ) (row : List ℕ) : Type 0 where
-  pub places : length row ≡ row_places
+  pub len : length row ≡ row_length
   pub counts : (r : ℕ) → r < round_count g.teams → slice_index row r ≡ home_games g team r
 
 -- the row of a team
@@ -64,7 +64,7 @@ apart_within first second limits r = min (abs_diff (slice_index first r) (slice_
 
 -- the largest of these
 unfoldable pub worst_apart : List ℕ → List ℕ → List ℕ → ℕ
-worst_apart first second limits = largest_below row_places (apart_within first second limits)
+worst_apart first second limits = largest_below row_length (apart_within first second limits)
 
 -- 1 in each round of a set, and 0 in the others
 abbrev pub one_in : ℕ → ℕ → ℕ

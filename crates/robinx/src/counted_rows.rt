@@ -24,7 +24,7 @@ pub(crate) fn rows_near(
     requires round_robin { IsDoubleRoundRobin schedule.now }
     requires least { 1 ≤ window }
     requires window { window ≤ round_count schedule.now.teams }
-    ensures places { length result ≡ max_rounds }
+    ensures len { length result ≡ max_rounds }
     ensures members { (t r c : ℕ) → t < schedule.now.teams → r < round_count schedule.now.teams →
         c < round_count schedule.now.teams → has rounds c ≡ true → r < c + window → c < r + window →
         has (slice_index result r) t ≡ is_counted schedule.now games.now.side (has games.now.opponents) t r }
@@ -54,9 +54,9 @@ fn add_rounds(
 )
     requires round_robin { IsDoubleRoundRobin schedule.now }
     requires past { past ≤ round_count schedule.now.teams }
-    requires places { length rows.old ≡ max_rounds }
+    requires len { length rows.old ≡ max_rounds }
     requires counted { HaveCounted schedule.now games.now.side games.now.opponents rows.old }
-    ensures places { length rows.new ≡ max_rounds }
+    ensures len { length rows.new ≡ max_rounds }
     ensures counted { HaveCounted schedule.now games.now.side games.now.opponents rows.new }
     ensures kept { (t r : ℕ) → has (slice_index rows.old r) t ≡ true → has (slice_index rows.new r) t ≡ true }
     ensures added { (t r : ℕ) → t < schedule.now.teams → from ≤ r → r < past →
@@ -82,9 +82,9 @@ fn add_games(
     requires opponent { opponent < schedule.now.teams }
     requires counts { has games.now.opponents opponent ≡ true }
     requires past { past ≤ round_count schedule.now.teams }
-    requires places { length rows.old ≡ max_rounds }
+    requires len { length rows.old ≡ max_rounds }
     requires counted { HaveCounted schedule.now games.now.side games.now.opponents rows.old }
-    ensures places { length rows.new ≡ max_rounds }
+    ensures len { length rows.new ≡ max_rounds }
     ensures counted { HaveCounted schedule.now games.now.side games.now.opponents rows.new }
     ensures kept { (t r : ℕ) → has (slice_index rows.old r) t ≡ true → has (slice_index rows.new r) t ≡ true }
     ensures added { (r : ℕ) → from ≤ r → r < past → is_on_side games.now.side (not (cell schedule.now opponent r).home) ≡ true →
@@ -93,8 +93,8 @@ fn add_games(
     for round in from..past {
         let game = schedule.game_at(opponent, round);
         if is_on_side(games.side, !game.home) {
-            let place = usize::from(round);
-            rows[place] = rows[place].with(game.opponent);
+            let position = usize::from(round);
+            rows[position] = rows[position].with(game.opponent);
         }
     }
 }

@@ -17,7 +17,7 @@ pub(crate) fn over_in_rows(
     window: u8,
     most: u32,
 ) -> u64
-    requires places { length rows.now ≡ max_rounds }
+    requires len { length rows.now ≡ max_rounds }
     requires room { most < window }
     requires told { window ≤ most + 2 }
     requires season { window ≤ max_rounds }
@@ -37,7 +37,7 @@ pub(crate) fn over_in_rows(
 /// The rounds of the window whose rows have a team, over the most, for each of the teams: told by which teams the rows lack.
 #[inline]
 fn over_in_window(rows: &[TeamSet; ROUNDS], teams: TeamSet, first: u8, window: u8, most: u32) -> u64
-    requires places { length rows.now ≡ max_rounds }
+    requires len { length rows.now ≡ max_rounds }
     requires room { most < window }
     requires told { window ≤ most + 2 }
     requires season { first + window ≤ max_rounds }

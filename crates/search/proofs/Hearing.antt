@@ -4,8 +4,8 @@ use Rattle.std.proofs.lemmas.List.Sums.{sum_by_push}
 use Rattle.fixture_board.specs.declared.reply.Reply.{Reply}
 use Rattle.search.specs.declared.workers.Report.{Report}
 use Rattle.search.specs.Doors.{done_count}
-use Rattle.search.specs.declared.workers.steps.Told.{Told}
-use Rattle.search.specs.declared.workers.steps.Told.TheVariants.{Nothing, Accepted, Refused, Full}
+use Rattle.search.specs.declared.workers.steps.StepResult.{StepResult}
+use Rattle.search.specs.declared.workers.steps.StepResult.TheVariants.{Nothing, Accepted, Refused, Full}
 use Rattle.search.specs.Heard.{AreHeard, IsHeard}
 use Rattle.search.specs.Steps.{IsProposed, accepted_count, report_with}
 
@@ -31,10 +31,10 @@ heard_more heard was is r before one made accepted =
     }
 
 -- what the gate heard of a step: the reply to its proposal, where it made one
-abbrev pub HearsStep : (ℕ → Reply → Type 0) → ℕ → Told → Type 0
+abbrev pub HearsStep : (ℕ → Reply → Type 0) → ℕ → StepResult → Type 0
 HearsStep heard made told = IsProposed told → (reply : Reply) × heard made reply × (done_count reply ≡ accepted_count told)
 
-heard_step : (heard : ℕ → Reply → Type 0) (r : Report) (told : Told) → IsHeard heard r → HearsStep heard r.made told →
+heard_step : (heard : ℕ → Reply → Type 0) (r : Report) (told : StepResult) → IsHeard heard r → HearsStep heard r.made told →
     IsHeard heard (report_with r told)
 heard_step heard r Nothing before more = before
 heard_step heard r (Accepted cost) before more =
@@ -45,22 +45,22 @@ heard_step heard r Full before more =
     let one = more tt in heard_more heard r (report_with r Full) one.0 before one.1 refl (omega (arith, one.2))
 
 -- the next report counts what was heard
-pub heard_next : (heard : ℕ → Reply → Type 0) (r next : Report) (told : Told) → next ≡ report_with r told → IsHeard heard r →
+pub heard_next : (heard : ℕ → Reply → Type 0) (r next : Report) (told : StepResult) → next ≡ report_with r told → IsHeard heard r →
     HearsStep heard r.made told → IsHeard heard next
 heard_next heard r next told is before more =
     let P : Report → Type 0 = λ x. IsHeard heard x in subst P (sym is) (heard_step heard r told before more)
 
 -- a step makes one proposal at most, and its report counts it once
-pub record CountsStep (r : Report) (told : Told) (next : Report) : Type 0 where
+pub record CountsStep (r : Report) (told : StepResult) (next : Report) : Type 0 where
   pub few : next.made ≤ r.made + 1
   pub accepted : next.accepted ≡ r.accepted + accepted_count told
   pub whole : r.made ≡ r.accepted + r.refused → next.made ≡ next.accepted + next.refused
 
-counts_step : (r : Report) (told : Told) → CountsStep r told (report_with r told)
+counts_step : (r : Report) (told : StepResult) → CountsStep r told (report_with r told)
 counts_step r Nothing = record { few = omega arith; accepted = omega arith; whole = λ h. h }
 counts_step r (Accepted cost) = record { few = omega arith; accepted = omega arith; whole = λ h. omega (arith, h) }
 counts_step r Refused = record { few = omega arith; accepted = omega arith; whole = λ h. omega (arith, h) }
 counts_step r Full = record { few = omega arith; accepted = omega arith; whole = λ h. omega (arith, h) }
 
-pub counts_next : (r next : Report) (told : Told) → next ≡ report_with r told → CountsStep r told next
+pub counts_next : (r next : Report) (told : StepResult) → next ≡ report_with r told → CountsStep r told next
 counts_next r next told is = let P : Report → Type 0 = λ x. CountsStep r told x in subst P (sym is) (counts_step r told)

@@ -7,8 +7,8 @@ use Rattle.fixture_board.specs.Costs.{cost_of, score_of}
 use Rattle.search.specs.declared.workers.Report.{Report}
 use Rattle.search.specs.declared.workers.SlackCourse.{SlackCourse}
 use Rattle.search.specs.declared.workers.SlackCourse.TheVariants.{Falls, Stays}
-use Rattle.search.specs.declared.workers.steps.Told.{Told}
-use Rattle.search.specs.declared.workers.steps.Told.TheVariants.{Nothing, Accepted, Refused, Full}
+use Rattle.search.specs.declared.workers.steps.StepResult.{StepResult}
+use Rattle.search.specs.declared.workers.steps.StepResult.TheVariants.{Nothing, Accepted, Refused, Full}
 
 -- the slack of step s: at the first step it is all of it, and from each step to the next it falls by one part of as many
 -- as there are steps
@@ -21,19 +21,19 @@ slack_in Falls slack steps s = slack_of slack steps s
 slack_in Stays slack steps s = slack
 
 -- how many of its proposals a step had accepted
-abbrev pub accepted_count : Told → ℕ
+abbrev pub accepted_count : StepResult → ℕ
 accepted_count Nothing = 0
 accepted_count (Accepted cost) = 1
 accepted_count Refused = 0
 accepted_count Full = 0
 
 -- the step proposed something
-abbrev pub IsProposed : Told → Type 0
+abbrev pub IsProposed : StepResult → Type 0
 IsProposed Nothing = ⊥
 IsProposed _ = Unit {0}
 
 -- the report with one more step
-abbrev pub report_with : Report → Told → Report
+abbrev pub report_with : Report → StepResult → Report
 report_with r Nothing = r
 report_with r (Accepted cost) = record { made = r.made + 1; accepted = r.accepted + 1; refused = r.refused }
 report_with r _ = record { made = r.made + 1; accepted = r.accepted; refused = r.refused + 1 }

@@ -15,7 +15,7 @@ use league::League;
 use rand_pcg::Lcg64Xsh32;
 use std::sync::Wait;
 pub(crate) use steps::{Means, Measure};
-use steps::{Told, Trial, least_with, refresh, step};
+use steps::{StepResult, Trial, least_with, refresh, step};
 
 /// What a worker is to do.
 #[derive(Clone, Copy, Debug, PartialEq, Eq)]
@@ -53,19 +53,19 @@ pub struct Report {
 
 impl Report {
     /// The report with one more step.
-    fn with(self, told: Told) -> Self
+    fn with(self, told: StepResult) -> Self
         requires whole { self.made ≡ self.accepted + self.refused }
         requires few { self.made + 1 < 2 ^ 32 }
         ensures { result ≡ report_with self told }
     {
         match told {
-            Told::Nothing => self,
-            Told::Accepted(_) => Report {
+            StepResult::Nothing => self,
+            StepResult::Accepted(_) => Report {
                 made: self.made + 1,
                 accepted: self.accepted + 1,
                 ..self
             },
-            Told::Refused | Told::Full => Report {
+            StepResult::Refused | StepResult::Full => Report {
                 made: self.made + 1,
                 refused: self.refused + 1,
                 ..self
@@ -149,9 +149,9 @@ pub(crate) fn take_steps<R: Wait, D: Door, G: HearingGate>(
             let told = step(means, door, copy, &mut known, trial);
             report = report.with(told);
             match told {
-                Told::Nothing | Told::Refused => {}
-                Told::Accepted(cost) => progress.least = least_with(progress.least, cost),
-                Told::Full => break,
+                StepResult::Nothing | StepResult::Refused => {}
+                StepResult::Accepted(cost) => progress.least = least_with(progress.least, cost),
+                StepResult::Full => break,
             }
             progress.version = known.version;
             tell(means, plan.worker, &mut progress);

@@ -1,6 +1,7 @@
 -- A set of slots by its halves: the numbers below 64, and those from 64 on, each 64 further down.
-use Rattle.std.proofs.Common.{◌≡◌, ℕ, ◌+◌, ◌-◌, ◌*◌, ◌^◌, ◌<◌, ◌≤◌, ◌&&◌, ◌==◌, not, Bool, bit_and, true, false}
-use Rattle.std.proofs.Common.{refl, sym, ◌∙◌, ap, inl, inr, arith}
+use Rattle.std.proofs.Common.{◌≡◌, ℕ, ◌+◌, ◌-◌, ◌*◌, ◌^◌, ◌<◌, ◌≤◌, ◌&&◌, ◌==◌, not, bit_and, true, false}
+use Rattle.std.proofs.Math.Bool.{and-true}
+use Rattle.std.proofs.Common.{sym, ◌∙◌, ap, inl, inr, arith}
 use Rattle.std.proofs.Math.Nat.{mul-lt-mul_of_pos_right}
 use Rattle.std.proofs.lemmas.Bool.{cases_eq, cases_lt, eq-eqb, ne_eqb}
 use Rattle.std.proofs.lemmas.Nat.{pow_pos}
@@ -18,10 +19,6 @@ has_low high low m i lt = ap (λ n. n == 1) (bit_at_cat_low high m low i lt)
 has_high : (high low m i : ℕ) → low < 2 ^ m → m ≤ i → has (high * 2 ^ m + low) i ≡ has high (i - m)
 has_high high low m i below from = ap (λ n. n == 1) (bit_at_cat_high high m low i below from)
 
-and_true : (b c : Bool) → c ≡ true → (b && c) ≡ b
-and_true true c is = is
-and_true false c is = refl
-
 lowest_of_low_half : (high low m k rest : ℕ) → low < 2 ^ m → IsWithoutLowest low k rest
     → IsWithoutLowest (high * 2 ^ m + low) k (high * 2 ^ m + rest)
 lowest_of_low_half high low m k rest below taken =
@@ -37,7 +34,7 @@ lowest_of_low_half high low m k rest below taken =
             ∙ ap (λ b. b && not (i == k)) (sym (has_low high low m i inside))
         | inr beyond ↦
             has_high high rest m i rest_below beyond ∙ sym (has_high high low m i below beyond)
-            ∙ sym (and_true (has (high * 2 ^ m + low) i) (not (i == k)) (ap not (ne_eqb i k (omega arith))))
+            ∙ sym (ap (λ b. has (high * 2 ^ m + low) i && not b) (ne_eqb i k (omega arith)) ∙ and-true (has (high * 2 ^ m + low) i))
       ];
       fewer = omega arith;
     }

@@ -144,7 +144,7 @@ pub sum_where_all : (n : ℕ) (test : ℕ → Bool) (f : ℕ → ℕ) → ((k : 
 sum_where_all n test f passes =
     sum_below_same n (λ k. if test k then f k else 0) f (λ k below. cond-true (test k) (f k) 0 (passes k below))
 
-if_le : (b : Bool) (x most : ℕ) → (b ≡ true → x ≤ most) → (if b then x else 0) ≤ most
+pub if_le : (b : Bool) (x most : ℕ) → (b ≡ true → x ≤ most) → (if b then x else 0) ≤ most
 if_le true x most le = le refl
 if_le false x most le = omega arith
 

@@ -1,5 +1,6 @@
 -- Sums that a loop over the numbers of a set makes.
 use Rattle.std.proofs.Common.{◌≡◌, ℕ, ◌+◌, ◌*◌, ◌<◌, ◌≤◌, ◌≢◌, ◌&&◌, ◌==◌, not, Bool, true, false, if◌then◌else◌, refl}
+use Rattle.std.proofs.Math.Bool.{and-true}
 use Rattle.std.proofs.Common.{sym, ◌∙◌, ap, inl, inr, arith}
 use Rattle.std.proofs.Math.Nat.{mul-le-mul_left, zero-add}
 use Rattle.std.proofs.lemmas.Bool.{cases_lt, eq-eqb, ne_eqb, and_right, cond-true, cond-false, true≢false}
@@ -41,11 +42,7 @@ lowest_gone set lowest rest taken =
 -- and have each other number that the set has
 pub others_kept : (set lowest rest k : ℕ) → IsWithoutLowest set lowest rest → k ≢ lowest → has rest k ≡ has set k
 others_kept set lowest rest k taken other =
-    taken.others k ∙ ap (λ b. has set k && not b) (ne_eqb k lowest other) ∙ and_true (has set k)
-  where
-    and_true : (b : Bool) → (b && true) ≡ b
-    and_true true = refl
-    and_true false = refl
+    taken.others k ∙ ap (λ b. has set k && not b) (ne_eqb k lowest other) ∙ and-true (has set k)
 
 -- the sum over a set is its lowest number's term more than that over the others
 sum_where_without : (n set lowest rest : ℕ) (f : ℕ → ℕ) → lowest < n → IsWithoutLowest set lowest rest

@@ -13,7 +13,6 @@ use Rattle.std.proofs.lemmas.List.{take_all, drop_all, length-take-le}
 use Rattle.std.proofs.lemmas.List.Elements.{All-from_get_or}
 use Rattle.std.proofs.lemmas.List.Splits.{slice_split_first, slice_split_none, length-slice_split}
 use Rattle.std.proofs.lemmas.List.Sums.{fails_before_first, prefix_len-le-length, split_at_first, prefix_len_stops}
-use Rattle.std.specs.Str.{bytes_eq}
 use Rattle.texts.specs.Input.{TakesLine, is_line_end, lines_after, text_before}
 use Rattle.texts.specs.Words.{is_blank, is_word, words_of}
 
@@ -161,25 +160,6 @@ front_of : (input front rest : List ℕ) (n : ℕ) → input ≡ front ++ rest �
 front_of input front rest n e is =
     let n_is : n ≡ length front = omega (arith, length-append front rest, ap length e) in
     rw (n_is, e) (take-append_seam front rest)
-
--- one more line that is another
-pub reads_on : (word input rest line next : List ℕ) (start : ℕ) → 0 < length word → IsReadTo word input rest start →
-    TakesLine rest line next
-    → bytes_eq line word ≡ false → IsReadTo word input next (length input - length next)
-reads_on word input rest line next start letters so_far takes other =
-    let shorter = takes.shorter in
-    let start_is : (length input - length next) + length next ≡ length input = omega (arith, so_far.start_is, takes.shorter) in
-    let whole : input ≡ (take start input ++ takes.taken) ++ next = so_far.parts ∙ ap (λ l. take start input ++ l) takes.parts ∙
-    sym (append_assoc (take start input) takes.taken next) in
-    let front : take (length input - length next) input ≡ take start input ++ takes.taken = front_of input _ next _ whole start_is in
-    let before : text_before word rest ≡ takes.taken ++ text_before word next = rw other at (takes.before word) in
-    let after : lines_after word rest ≡ lines_after word next = rw other at (takes.after word letters) in
-    record {
-      start_is = start_is;
-      parts = rw front whole;
-      before = rw (front, append_assoc, so_far.before, before) refl;
-      after = so_far.after ∙ after;
-    }
 
 -- no line is left
 pub ends_without : (word input : List ℕ) (start : ℕ) → 0 < length word → IsReadTo word input [] start

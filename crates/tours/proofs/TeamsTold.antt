@@ -10,7 +10,7 @@ use Rattle.league.specs.Sums.{sum_where}
 use Rattle.league.proofs.ForCallers.{sum_below_same, sum_below_only, sum_where_same}
 use Rattle.fixtures.specs.declared.game.Cell.{Cell}
 use Rattle.fixtures.specs.Games.{Games, round_of, round_count, cell, place, is_home, IsPair, IsDoubleRoundRobin}
-use Rattle.fixtures.specs.Edits.{exchanged, teams_exchanged}
+use Rattle.fixtures.specs.Edits.{exchanged, teams_exchanged, is_either}
 use Rattle.fixtures.specs.Changes.{with_guests, DiffersOnlyAt}
 use Rattle.fixtures.proofs.ForCallers.{exchanged_first, exchanged_second, exchanged_other, exchanged_exchanged}
 use Rattle.fixtures.proofs.ForCallers.{exchanged_lt, games_ext, cell_teams_exchanged, other_cell, StaysAmong}
@@ -18,7 +18,7 @@ use Rattle.fixtures.proofs.ForCallers.{meets_cell, is_cell}
 use Rattle.tours.specs.Tours.{tour, leg_count, leg, travel}
 use Rattle.tours.specs.Parts.{touches_leg, travel_at, travel_part_of}
 use Rattle.tours.specs.Walked.{part_of, around, guest_terms}
-use Rattle.tours.specs.Told.{is_either, in_rounds, stop_told, leg_told}
+use Rattle.tours.specs.Told.{in_rounds, stop_told, leg_told}
 use Rattle.tours.proofs.Stops.{tour_at_round, tour_at_end}
 use Rattle.tours.proofs.TravelBalance.{travel_balance_at}
 use Rattle.tours.proofs.GuestLegs.{around_walked}

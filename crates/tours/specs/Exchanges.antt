@@ -2,10 +2,11 @@
 use Rattle.std.specs.Prelude.{ℕ, slice_index}
 use Rattle.league.specs.League.{distance}
 use Rattle.league.specs.Sets.{has}
+use Rattle.fixtures.specs.Edits.{is_either}
 use Rattle.tours.specs.declared.teams_told.exchange.TeamExchange.{TeamExchange}
 use Rattle.tours.specs.Tours.{tour, leg}
 use Rattle.tours.specs.Walked.{guest_terms}
-use Rattle.tours.specs.Told.{is_either, leg_told, leg_turned}
+use Rattle.tours.specs.Told.{leg_told, leg_turned}
 
 -- the leg of a team with this index
 abbrev pub leg_before : TeamExchange → ℕ → ℕ → ℕ

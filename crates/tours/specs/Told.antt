@@ -1,10 +1,10 @@
 -- What the walks count that tell on the schedule before what an exchange changes: words of private functions alone.
-use Rattle.std.specs.Prelude.{◌≡◌, ℕ, ◌<◌, true, false, ◌+◌, ◌-◌, ◌==◌, ◌&&◌, ◌||◌, not, nat_lt, Bool, if◌then◌else◌, slice_index}
+use Rattle.std.specs.Prelude.{◌≡◌, ℕ, ◌<◌, true, false, ◌+◌, ◌-◌, ◌==◌, ◌&&◌, not, nat_lt, Bool, if◌then◌else◌, slice_index}
 use Rattle.league.specs.League.{LeagueData, distance}
 use Rattle.fixtures.specs.Games.{Games, round_count, cell, is_home}
 use Rattle.league.specs.Sets.{has}
 use Rattle.fixtures.specs.Changes.{turns}
-use Rattle.fixtures.specs.Edits.{exchanged}
+use Rattle.fixtures.specs.Edits.{exchanged, is_either}
 use Rattle.tours.specs.Runs.{windows, is_run}
 use Rattle.tours.specs.Tours.{tour}
 
@@ -17,10 +17,6 @@ legs_around leg k l =
 abbrev pub legs_changed : Games → (ℕ → ℕ → ℕ) → ℕ → ℕ → ℕ → ℕ
 legs_changed g leg k l t =
     if slice_index (tour g t) (k + 1) == slice_index (tour g t) (l + 1) then 0 else legs_around (leg t) k l
-
--- one of two teams
-abbrev pub is_either : ℕ → ℕ → ℕ → Bool
-is_either i j t = t == i || t == j
 
 -- whether the stop with this index is that of a round of the set
 abbrev pub in_rounds : Games → (ℕ → Bool) → ℕ → Bool

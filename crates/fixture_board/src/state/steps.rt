@@ -15,7 +15,7 @@ impl State {
     ghost use Rattle.league.specs.League.{LeagueData, teams};
     ghost use Rattle.fixture_board.specs.Costs.{cost_of};
     ghost use Rattle.fixture_board.specs.History.{shifted};
-    ghost use Rattle.fixture_board.specs.PinPlaces.{taken_back};
+    ghost use Rattle.fixture_board.specs.PinTable.{taken_back};
     ghost use Rattle.fixture_board.specs.Kept.{kept_of, HasMemory, FollowsHistory, IsStep, CanTakeBack};
 
     /// Judges what is asked, and makes it if no reason speaks against it.

@@ -1,5 +1,5 @@
 -- What an exchange of rounds or of teams leaves as it is.
-use Rattle.std.proofs.Common.{◌≡◌, ℕ, ◌<◌, ◌⊎◌, inl, inr, Bool, true, false, not, ◌&&◌, ◌||◌, cond, eqb, refl, sym, ◌∙◌, ap, subst, arith}
+use Rattle.std.proofs.Common.{◌≡◌, ℕ, ◌<◌, ◌⊎◌, inl, inr, Bool, true, false, not, ◌&&◌, cond, eqb, refl, sym, ◌∙◌, ap, subst, arith}
 use Rattle.std.specs.Bool.{beq}
 use Rattle.std.proofs.lemmas.Bool.{cases_Bool, cond-true, cond-false, or_cases, or_parts, or_left, or_right, eqb-true, eqb-false, eq-eqb}
 use Rattle.std.proofs.Math.Path.{fun_ext}
@@ -8,7 +8,7 @@ use Rattle.league.specs.Sets.{has}
 use Rattle.league.proofs.ForCallers.{any_below_fails}
 use Rattle.fixtures.specs.declared.game.Cell.{Cell}
 use Rattle.fixtures.specs.Games.{Games, round_of, round_count, IsPair, IsDoubleRoundRobin, cell, is_home}
-use Rattle.fixtures.specs.Edits.{exchanged, rounds_exchanged, teams_exchanged}
+use Rattle.fixtures.specs.Edits.{exchanged, rounds_exchanged, teams_exchanged, is_either}
 use Rattle.fixtures.specs.Closed.{IsClosed, plays_in}
 use Rattle.fixtures.specs.Changes.{DiffersOnlyAround, DiffersOnlyAt, IsKeptOrMeets, box, turns}
 use Rattle.fixtures.proofs.ForCallers.{exchanged_first, exchanged_second, exchanged_other, cases_exchanged, other_cell}
@@ -25,10 +25,6 @@ kept g g' teams t r e = record {
   same_side = ap (λ (c : Cell). c.home) e;
   same_or_in = inl (ap (λ (c : Cell). c.opponent) e);
 }
-
--- whether the round is one of the two
-abbrev pub is_either : ℕ → ℕ → ℕ → Bool
-is_either k l r = eqb r k || eqb r l
 
 either_way : {A : Type 0} (b : Bool) (x y : A) → x ≡ y → cond b x y ≡ y
 either_way true x y e = e

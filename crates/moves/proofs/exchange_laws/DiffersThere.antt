@@ -4,13 +4,12 @@ use Rattle.std.proofs.lemmas.Bool.{cond-true, and_parts, or_cases, or_left, or_r
 use Rattle.std.proofs.lemmas.Bool.{ltb-true, false≢true}
 use Rattle.fixtures.specs.declared.game.Cell.{Cell}
 use Rattle.fixtures.specs.Games.{Games, round_of, round_count, cell_round, IsPair, IsDoubleRoundRobin, cell}
-use Rattle.fixtures.specs.Edits.{exchanged, rounds_exchanged, teams_exchanged}
+use Rattle.fixtures.specs.Edits.{exchanged, rounds_exchanged, teams_exchanged, is_either}
 use Rattle.fixtures.proofs.ForCallers.{pair_swapped, is_cell, exchanged_first, exchanged_second, exchanged_other}
 use Rattle.fixtures.proofs.ForCallers.{cases_exchanged, Meets, meets_swapped, same_opponent, meets_cell}
 use Rattle.fixtures.proofs.ForCallers.{stays_among_closed, other_cell, cell_rounds_exchanged, cell_teams_exchanged}
 use Rattle.moves.specs.Exchanges.{IsOfRounds, IsOfTeams, touched_of}
 use Rattle.moves.specs.Laws.{DiffersAt, DiffersInEach}
-use Rattle.moves.proofs.exchange_laws.Around.{is_either}
 use Rattle.moves.proofs.exchange_laws.KeptMeetings.{opponent-meets}
 use Rattle.moves.proofs.exchange_laws.TouchedTeams.{plays_among, touched-first}
 

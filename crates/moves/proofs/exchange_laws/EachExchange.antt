@@ -2,7 +2,7 @@
 use Rattle.std.proofs.Common.{◌≡◌, ℕ, inl, inr, Bool, refl, sym, ◌∙◌, ap, subst}
 use Rattle.league.specs.Sets.{has}
 use Rattle.fixtures.specs.Games.{Games, round_of}
-use Rattle.fixtures.specs.Edits.{rounds_exchanged}
+use Rattle.fixtures.specs.Edits.{rounds_exchanged, is_either}
 use Rattle.fixtures.specs.Closed.{IsClosed}
 use Rattle.fixtures.specs.Changes.{DiffersOnlyIn}
 use Rattle.fixtures.proofs.ForCallers.{pair_swapped, rounds_exchanged_twice, teams_exchanged_twice, stays_among_closed}
@@ -15,7 +15,7 @@ use Rattle.moves.specs.declared.exchanges.Exchange.{Exchange}
 use Rattle.moves.specs.declared.exchanges.Exchange.TheVariants as edit
 use Rattle.moves.specs.Exchanges.{exchanged_by, main_cells, touched_of, touched_by, IsOfRounds, IsOfTeams, IsExchange}
 use Rattle.moves.specs.Laws.{OfEachExchange, IsUndoneByItself, DiffersInEach}
-use Rattle.moves.proofs.exchange_laws.Around.{is_either, either_set}
+use Rattle.moves.proofs.exchange_laws.Around.{either_set}
 use Rattle.moves.proofs.exchange_laws.DiffersThere.{in_each-rounds, in_each-teams}
 use Rattle.moves.proofs.exchange_laws.TouchedTeams.{both_touched}
 

@@ -52,7 +52,7 @@ pub(crate) struct Trial {
 
 /// What became of a step: no proposal, or the board's answer.
 #[derive(Clone, Copy)]
-pub(crate) enum Told {
+pub(crate) enum StepResult {
     Nothing,
     /// Accepted, and the cost of the version that it made.
     Accepted(Cost),
@@ -106,7 +106,7 @@ pub(crate) fn step<R: Wait, D: Door, G: HearingGate>(
     copy: &mut Schedule,
     known: &mut Known,
     trial: Trial,
-) -> Told
+) -> StepResult
     requires same_size { teams means.measure.league.now ≡ copy.old.teams }
     requires measured { IsMeasured means.measure.of_boards means.measure.league.now (D.may_have door.old) }
     requires known { IsKnown means.measure.league.now copy.old known.old.cost known.old.score }
@@ -121,18 +121,18 @@ pub(crate) fn step<R: Wait, D: Door, G: HearingGate>(
     let Means { rt, gate, measure } = means;
     let mv = trial.mv;
     if let Err(_) = check(copy, mv) {
-        return Told::Nothing;
+        return StepResult::Nothing;
     }
     let exchange = exchange(copy, mv);
     let most = known.score.saturating_add(trial.slack);
     let Some(cost) = make_within(copy, measure.league, &exchange, known.cost, most) else {
-        return Told::Nothing;
+        return StepResult::Nothing;
     };
     let score = cost.score(measure.league);
     if door.front(rt) != known.version {
         exchange.make(copy);
         *known = refresh(rt, door, measure, copy);
-        return Told::Nothing;
+        return StepResult::Nothing;
     }
     let proposal = Proposal {
         version: known.version,
@@ -159,7 +159,7 @@ fn settle<R: Wait, D: Door, G>(
     copy: &mut Schedule,
     known: &mut Known,
     made: Made,
-) -> Told
+) -> StepResult
     requires same_size { teams means.measure.league.now ≡ copy.old.teams }
     requires measured { IsMeasured means.measure.of_boards means.measure.league.now (D.may_have door.old) }
     requires again { IsExchange copy.old made.exchange }
@@ -184,17 +184,17 @@ fn settle<R: Wait, D: Door, G>(
             } else {
                 *known = refresh(rt, door, measure, copy);
             }
-            Told::Accepted(cost)
+            StepResult::Accepted(cost)
         }
         Reply::No { at, why } => {
             made.exchange.make(copy);
             if why == Why::Full {
-                return Told::Full;
+                return StepResult::Full;
             }
             if at != known.version {
                 *known = refresh(rt, door, measure, copy);
             }
-            Told::Refused
+            StepResult::Refused
         }
     }
 }

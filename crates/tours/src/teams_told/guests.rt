@@ -5,7 +5,8 @@ ghost use Rattle.league.specs.Limits.{max_rounds, max_distance};
 ghost use Rattle.league.specs.Sets.{has, IsBelow};
 ghost use Rattle.league.specs.Sums.{sum_where};
 ghost use Rattle.fixtures.specs.Games.{round_count, is_home};
-ghost use Rattle.tours.specs.Told.{is_either, in_rounds};
+ghost use Rattle.fixtures.specs.Edits.{is_either};
+ghost use Rattle.tours.specs.Told.{in_rounds};
 
 use super::exchange::TeamExchange;
 use crate::told::Legs;

@@ -10,7 +10,7 @@ loop-round-preserved c = elim c.if-is_on_side.branch [
   | then-is_on_side w ↦
       rw w.rows-is
       (added_more c.args.schedule.now c.requires.round_robin _ _ _ _ _ _ _ c.requires.opponent (omega (arith, c.requires.past))
-      c.loop-round.invariant _ _ _ _ w.from-place.ensures (ap (λ (game : Cell). game.opponent) c.game_at-game.ensures.value)
+      c.loop-round.invariant _ _ _ _ w.from-position.ensures (ap (λ (game : Cell). game.opponent) c.game_at-game.ensures.value)
       c.requires.counts
       (ap (λ (game : Cell). is_on_side c.args.games.now.side (not game.home)) (sym c.game_at-game.ensures.value) ∙
       sym c.is_on_side.ensures ∙ w.if-is_on_side.true)

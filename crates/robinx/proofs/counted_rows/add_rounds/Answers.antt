@@ -10,9 +10,9 @@ loop-opponent-init c =
     (omega (arith, c.into_iter-opponent-iterator.ensures.into_iter_gives, c.intersection-opponents.ensures.below _ c.below.ensures.below)))
     refl (λ k. c.below.ensures.members k ∙ ap (nat_lt k) c.teams.ensures.number)
     (λ k. ap (λ s. has s k) c.into_iter-opponent-iterator.ensures.into_iter_gives ∙ c.intersection-opponents.ensures.members k)
-    c.requires.places c.requires.counted
+    c.requires.len c.requires.counted
 
 pub loop-opponent-preserved : goal.loop-opponent-preserved
 loop-opponent-preserved c =
     all_added_more c.args.schedule.now c.requires.round_robin _ _ _ _ _ _ _ _ _ _ _ c.requires.past c.loop-opponent.invariant
-    c.in-Some.ensures.steps c.add_games.ensures.places c.add_games.ensures.counted c.add_games.ensures.kept c.add_games.ensures.added
+    c.in-Some.ensures.steps c.add_games.ensures.len c.add_games.ensures.counted c.add_games.ensures.kept c.add_games.ensures.added

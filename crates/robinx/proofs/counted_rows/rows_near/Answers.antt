@@ -36,6 +36,6 @@ overflow_add-round-in-loop-round c = omega (
 pub loop-round-preserved : goal.loop-round-preserved
 loop-round-preserved c =
     near_added_more c.args.schedule.now _ _ _ _ _ _ _ _ _ _ _ c.loop-round.invariant c.in-Some.ensures.steps
-    c.add_rounds-in-loop-round.ensures.places c.add_rounds-in-loop-round.ensures.counted c.add_rounds-in-loop-round.ensures.kept
+    c.add_rounds-in-loop-round.ensures.len c.add_rounds-in-loop-round.ensures.counted c.add_rounds-in-loop-round.ensures.kept
     c.add_rounds-in-loop-round.ensures.added (λ r near. omega (arith, c.saturating_sub-from.ensures))
     (λ r in_r near. omega (arith, c.min-past.ensures, c.rounds-season.ensures.number))

@@ -11,7 +11,7 @@ use Rattle.robinx.proofs.fairness_rules.home_games_by_round.Goals as goal
 
 pub loop-round-init : goal.loop-round-init
 loop-round-init c = record {
-  places = refl;
+  len = refl;
   count = sym (sum_below_none _);
   within = omega arith;
   written = λ k below. absurd (omega arith);
@@ -32,10 +32,10 @@ loop-round-preserved c =
       sum_below_more c.loop-round.round (λ r. if is_home c.args.schedule.now c.args.team r then 1 else 0),
     ) in
     record {
-      places = length-set c.loop-round.row _ _ ∙ c.loop-round.invariant.places;
+      len = length-set c.loop-round.row _ _ ∙ c.loop-round.invariant.len;
       count = more;
       within = omega (arith, c.loop-round.invariant.within, by_round);
       written = one_more_written c.loop-round.row _ c.loop-round.round _ (home_games c.args.schedule.now c.args.team) c.from.ensures
-          (omega (arith, c.loop-round.invariant.places, c.rounds-round-end.ensures.most, c.loop-round-test.true)) more
+          (omega (arith, c.loop-round.invariant.len, c.rounds-round-end.ensures.most, c.loop-round-test.true)) more
           c.loop-round.invariant.written;
     }

@@ -6,7 +6,7 @@ use Rattle.robinx.proofs.fairness_rules.home_games_by_round.Given as goal
 
 abbrev pub invariant-loop-round : goal.invariant-loop-round
 invariant-loop-round l = record {
-  places : length l.row ≡ 80;
+  len : length l.row ≡ 80;
   count : l.count ≡ count_where l.round (is_home l.schedule l.team);
   within : l.count ≤ l.round;
   written : (k : ℕ) → k < l.round → get_or l.row k 0 ≡ home_games l.schedule l.team k;

@@ -7,7 +7,7 @@ use Rattle.robinx.proofs.fairness_rules.limits.Goals as goal
 
 pub loop-round-init : goal.loop-round-init
 loop-round-init c = record {
-  places = refl;
+  len = refl;
   written = λ k below. absurd (omega arith);
   rest = λ k past. elim (cases_lt k 80) [
     | inl in_row ↦ get_or-replicate 80 k 0 0 in_row

@@ -4,7 +4,7 @@ use Rattle.robinx.proofs.fairness_rules.limits.Given as goal
 
 abbrev pub invariant-loop-round : goal.invariant-loop-round
 invariant-loop-round l = record {
-  places : length l.row ≡ 80;
+  len : length l.row ≡ 80;
   written : (k : ℕ) → k < l.round → get_or l.row k 0 ≡ (if has l.slots k then 255 else 0);
   rest : (k : ℕ) → l.round ≤ k → get_or l.row k 0 ≡ 0;
 }

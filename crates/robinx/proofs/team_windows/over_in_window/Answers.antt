@@ -11,7 +11,7 @@ loop-round-init c = full_rows_none _ _ _
 pub loop-round-preserved : goal.loop-round-preserved
 loop-round-preserved c =
     full_rows_more _ _ _ _ _ _ _ _ _ _ c.loop-round.auto.round c.loop-round.invariant
-    (get_or_default_zero c.args.rows.now c.from.result c.index-rows-from.result (omega (arith, c.from.ensures, c.requires.places)) ∙
+    (get_or_default_zero c.args.rows.now c.from.result c.index-rows-from.result (omega (arith, c.from.ensures, c.requires.len)) ∙
     ap (λ r. get_or c.args.rows.now r 0) c.from.ensures)
     c.intersection.ensures.members c.union-nearly.ensures.members c.intersection-full.ensures.members c.intersection-full.ensures.below
     c.intersection.ensures.below c.union-nearly.ensures.below

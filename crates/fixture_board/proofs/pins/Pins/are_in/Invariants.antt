@@ -1,7 +1,7 @@
 use Rattle.std.proofs.Common.{◌≡◌, ℕ, true, false}
 use Rattle.league.specs.Sets.{has}
 use Rattle.fixtures.specs.Games.{cell}
-use Rattle.fixture_board.specs.PinPlaces.{is_pinned_cell}
+use Rattle.fixture_board.specs.PinTable.{is_pinned_cell}
 use Rattle.fixture_board.proofs.pins.Pins.are_in.Given as goal
 
 -- the teams that are left are of the set, and of its others no game is pinned

@@ -4,7 +4,7 @@ use Rattle.fixtures.specs.Games.{round_count, cell}
 use Rattle.fixtures.specs.TouchedCells.{TouchedCells}
 use Rattle.moves.specs.Exchanges.{exchanged_by}
 use Rattle.moves.proofs.ForCallers.{main_teams_below, main_rounds_below}
-use Rattle.fixture_board.specs.PinPlaces.{is_pinned_cell}
+use Rattle.fixture_board.specs.PinTable.{is_pinned_cell}
 use Rattle.fixture_board.proofs.PinTable.{moves_pin-unpinned}
 use Rattle.fixture_board.proofs.PinsLooked.{moves_pin-looked}
 use Rattle.fixture_board.proofs.pins.Pins.would_be_moved.Goals as goal

@@ -8,12 +8,12 @@ use Rattle.fixture_board.specs.declared.change.Change.{Change}
 use Rattle.fixture_board.specs.declared.change.Change.TheVariants.{Pin, Unpin}
 use Rattle.fixture_board.specs.History.{is_pinned}
 
--- the table has a place for each pair of teams
-abbrev pub pin_places : ℕ
-pin_places = max_teams * max_teams
+-- the table has an entry for each pair of teams
+abbrev pub pin_entries : ℕ
+pin_entries = max_teams * max_teams
 
-abbrev pub pin_place : ℕ → ℕ → ℕ
-pin_place home away = home * max_teams + away
+abbrev pub pin_index : ℕ → ℕ → ℕ
+pin_index home away = home * max_teams + away
 
 -- what it has of a game that isn't pinned
 abbrev pub free : ℕ
@@ -21,7 +21,7 @@ free = 255
 
 -- the round in which the game of a pair is pinned, or `free`
 abbrev pub pin_at : List ℕ → ℕ → ℕ → ℕ
-pin_at table home away = slice_index table (pin_place home away)
+pin_at table home away = slice_index table (pin_index home away)
 
 -- whether the game of a team with this cell is pinned
 unfoldable pub is_pinned_cell : List ℕ → ℕ → Cell → Bool
@@ -35,6 +35,6 @@ ArePinsAt g pins table =
 
 -- the table of pins without a change that was the last
 abbrev pub taken_back : List ℕ → Change → List ℕ
-taken_back table (Pin game) = slice_set table (pin_place game.home game.away) free
-taken_back table (Unpin game) = slice_set table (pin_place game.home game.away) game.round
+taken_back table (Pin game) = slice_set table (pin_index game.home game.away) free
+taken_back table (Unpin game) = slice_set table (pin_index game.home game.away) game.round
 taken_back table _ = table
