@@ -1,5 +1,5 @@
 -- A league, without where it lies in memory, and the league that a text stands for.
-use Rattle.std.specs.Prelude.{ℕ, ◌≤◌, ◌+◌, Bool, List, [], ◌∷◌, length, slice_index_or, IsTrue, Result, Ok}
+use Rattle.std.specs.Prelude.{ℕ, ◌≤◌, ◌+◌, Bool, List, [], ◌∷◌, length, slice_index_or, IsTrue, false, Result, Ok}
 use Rattle.std.specs.List.{list_all, AllByRecursion}
 use Rattle.serde_json.specs.Data.{Data, Items, no_items, item}
 use Rattle.serde_json.specs.Events.{items_len}
@@ -38,6 +38,10 @@ league_data names distances at_most hard_weight rules fide phased = record {
   fide = fide;
   phased = phased;
 }
+
+-- a league of nobody, where none is asked for
+abbrev pub no_league : LeagueData
+no_league = league_data [] [] 0 0 [] false false
 
 -- the same of a table kept as its numbers, row by row
 abbrev pub league_of_numbers : List (List ℕ) → List ℕ → ℕ → ℕ → List Rule → Bool → Bool → LeagueData

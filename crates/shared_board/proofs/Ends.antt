@@ -53,7 +53,7 @@ no_stays s h number ask j at why judged is = (tells s h number ask j (No at why)
 -- a seat's entries in the history that it met are those that it had seen
 pub accepted_same : (v : View) (h : List Entry) → Meets v h → under v.held h ≡ under v.held v.seen
 accepted_same v h met =
-    let k = met.knows in ap (under v.held) k.begins ∙ (let a = under_append v.held v.seen k.after in let b = k.none_after in omega arith)
+    let k = met.met.knows in ap (under v.held) k.begins ∙ (let a = under_append v.held v.seen k.after in let b = k.none_after in omega arith)
 
 -- and one more after a change of its own
 pub accepted_more : (v : View) (h g : List Entry) (number : ℕ) (ask : Ask) → 0 < times number v.held → Meets v h → g ≡ h ++
@@ -85,7 +85,7 @@ consistent_of table me number held seen accepted seat =
     record { own = omega (arith, seat.own, seat.single number); single = seat.single; below = seat.below; ahead = seat.ahead }
 
 pub met_of : (table : BoardId) (number : ℕ) (v : View) (h : List Entry) → Meets v h → Met (seat_value table number v) h
-met_of table number v h met = record { legal = met.legal; knows = met.knows; glanced = met.glanced; lowest = met.lowest }
+met_of table number v h met = met.met
 
 -- a seat knows at least of its own number
 pub some_given : (me : Token) (number held seen accepted : ℕ) → IsSeat me number held seen accepted → 0 < me.0.given
@@ -230,7 +230,7 @@ read_none : (me taken counted : Token) (r : ℕ) → Read me taken counted r →
 read_none me taken counted r a =
     let P : View → Type 0 = λ v. callers_below r (kept v.stage) in
     let all : callers_below r a.took.0 = subst P (read_taken me taken counted r a) a.count.callers in
-    let k = a.took.1.knows in
+    let k = a.took.1.met.knows in
     let Q : List Entry → Type 0 = λ l. callers_below r l in
     under_none (r ∷ []) r me.0.seen (callers_prefix r me.0.seen k.after (subst Q k.begins all)) (λ x less. times_own r x less)
 
@@ -346,7 +346,7 @@ pub whole_seen : (v : View) (h : List Entry) (r : ℕ) → Meets v h → callers
     length v.held ≡ r
     → (h ≡ v.seen) × (under v.held v.seen ≡ length h)
 whole_seen v h r met below own all =
-    let k = met.knows in
+    let k = met.met.knows in
     let e = under_all v.held r h below (all_held r v.held all own) in
     let s = accepted_same v h met in
     let m = under_most v.held v.seen met.single in

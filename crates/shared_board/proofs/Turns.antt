@@ -41,10 +41,12 @@ meets s r id v at same f =
     let L : List Entry → Type 0 = λ h. Lowest r.setting v.seen h v.lowest in
     let M : Setting → Type 0 = λ t. Lowest t v.seen r.history v.lowest in
     record {
-      legal = subst P (sym f.setting_is) r.legal;
-      knows = subst K same f.knows;
-      glanced = f.glanced;
-      lowest = subst M (sym f.setting_is) (subst L same f.lowest);
+      met = record {
+        legal = subst P (sym f.setting_is) r.legal;
+        knows = subst K same f.knows;
+        glanced = f.glanced;
+        lowest = subst M (sym f.setting_is) (subst L same f.lowest);
+      };
       single = λ x. (let a = held_once s r id v x at in let b = once_most x r.numbers in omega arith);
     }
 

@@ -6,7 +6,7 @@ use Rattle.fixture_board.specs.History.{IsLegal}
 use Rattle.fixture_board.specs.Laws.{least_of}
 use Rattle.fixture_board.specs.Record.{Book}
 use Rattle.shared_board.specs.declared.view.View.{View}
-use Rattle.shared_board.specs.Setting.{board_at}
+use Rattle.shared_board.specs.Setting.{Setting, board_at}
 use Rattle.shared_board.specs.Stage.{Stage, away, holds, counts, owes, kept}
 use Rattle.shared_board.specs.Held.{times, once_below, HoldsEach, callers_below}
 use Rattle.shared_board.specs.Rule.{Knows, Lowest, EachFormer}
@@ -18,12 +18,17 @@ Token = Me (Option Book) View
 abbrev pub Told : Type 1
 Told = Step (Option Book) → Token → ℕ → Token → Type 0
 
--- the history is legal, and stands to the view as one that was met under the turn does
+-- A history that was met under the turn: it is legal, begins with what the seat had seen, is no shorter than what it
+-- glanced, has after what it had seen no entry of the seat's, and had its lowest total at some point not before
+pub record IsMet (setting : Setting) (held : List ℕ) (seen : List Entry) (at_glance least : ℕ) (history : List Entry) : Type 0 where
+  pub legal : IsLegal setting.league setting.room history
+  pub knows : Knows held seen history
+  pub glanced : at_glance ≤ length history
+  pub lowest : Lowest setting seen history least
+
+-- a view met the history under the turn
 pub record Meets (v : View) (history : List Entry) : Type 0 where
-  pub legal : IsLegal v.setting.league v.setting.room history
-  pub knows : Knows v.held v.seen history
-  pub glanced : v.glanced ≤ length history
-  pub lowest : Lowest v.setting v.seen history v.lowest
+  pub met : IsMet v.setting v.held v.seen v.glanced v.lowest history
   -- it holds no number twice
   pub single : (x : ℕ) → times x v.held ≤ 1
 

@@ -4,7 +4,7 @@ use mathlib.Core.Option.{none, some}
 use mathlib.Core.Option as maybe
 use lib.ListN.{get_elem?}
 use Rattle.atomic_table.specs.Table.{State}
-use Rattle.league.specs.League.{league_data, IsLeague}
+use Rattle.league.specs.League.{no_league, IsLeague}
 use Rattle.fixture_board.specs.declared.change.Entry.{Entry}
 use Rattle.fixture_board.specs.History.{IsLegal}
 use Rattle.fixture_board.specs.Laws.{least_of}
@@ -31,7 +31,7 @@ first_view b = record {
 -- a view that another seat has taken in
 abbrev pub spent_view : View
 spent_view = record {
-  setting = record { league = league_data [] [] 0 0 [] false false; room = 0 };
+  setting = record { league = no_league; room = 0 };
   live = false;
   held = [];
   seen = [];

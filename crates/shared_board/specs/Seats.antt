@@ -7,7 +7,7 @@ use Rattle.fixture_board.specs.declared.ask.Ask.{Ask}
 use Rattle.fixture_board.specs.declared.change.Entry.{Entry}
 use Rattle.fixture_board.specs.declared.look.Seen.{Seen}
 use Rattle.fixture_board.specs.declared.reply.Reply.{Reply}
-use Rattle.fixture_board.specs.History.{IsLegal, games_of, cost_at}
+use Rattle.fixture_board.specs.History.{games_of, cost_at}
 use Rattle.fixture_board.specs.Laws.{least_of}
 use Rattle.fixture_board.specs.Looks.{copied}
 use Rattle.fixture_board.specs.Replies.{next_of, reply_of}
@@ -16,8 +16,8 @@ use Rattle.shared_board.specs.declared.shared.Closed.{Closed}
 use Rattle.shared_board.specs.Setting.{Setting, board_at}
 use Rattle.shared_board.specs.Stage.{away}
 use Rattle.shared_board.specs.Held.{times, under}
-use Rattle.shared_board.specs.Rule.{Knows, Lowest}
-use Rattle.shared_board.specs.Plays.{Token}
+use Rattle.shared_board.specs.Rule.{Knows}
+use Rattle.shared_board.specs.Plays.{Token, IsMet}
 
 -- which board it is
 abbrev pub BoardId : Type 0
@@ -79,13 +79,9 @@ HasBoard me h = me.1 ≡ (0, Some (board_at me.0.setting h)) ∷ []
 abbrev pub now_seen : SeatValue → List Entry → SeatValue
 now_seen a h = record a { seen = h; glanced = length h; lowest = least_of a.setting.league h }
 
--- A history that was met under the turn: it is legal, begins with what the seat had seen, is no shorter than what it
--- glanced, has after what it had seen no entry of the seat's, and had its lowest total at some point not before
-pub record Met (a : SeatValue) (history : List Entry) : Type 0 where
-  pub legal : IsLegal a.setting.league a.setting.room history
-  pub knows : Knows a.held a.seen history
-  pub glanced : a.glanced ≤ length history
-  pub lowest : Lowest a.setting a.seen history a.lowest
+-- the seat met the history under the turn
+abbrev pub Met : SeatValue → List Entry → Type 0
+Met a history = IsMet a.setting a.held a.seen a.glanced a.lowest history
 
 -- the reply is that of one thread's board at a history that was met, and the seat has seen the history after the call
 pub record Answered (a b : SeatValue) (ask : Ask) (reply : Reply) : Type 0 where
