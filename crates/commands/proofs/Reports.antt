@@ -38,7 +38,8 @@ module _ (format : Format) (league : LeagueData) (lines : List (List ℕ)) (game
       → Ends left pulls held pushes (AnswersReport format (value_of (of_writing outcome verdict))) old new before now
       (without_value (of_writing outcome verdict))
   ends_reported held pushes source before now verdict (Ok done) is ok prefix cause =
-      ends_written held pushes (AnswersReport format (Some verdict)) source report before now (Ok done) (answers (Some verdict) is) ok prefix
+      ends_written held pushes (AnswersReport format (Some verdict)) source report before now (Ok done) (answers (Some verdict) is) ok
+      prefix
       cause
   ends_reported held pushes source before now verdict (Err fault) is ok prefix cause =
       ends_written held pushes (AnswersReport format None) source report before now (Err fault) (answers None tt) ok prefix cause

@@ -111,7 +111,8 @@ FollowsHistory-more {league} {k} e changes g pins cost kept under may changes_ar
 
 -- what is known of a board's schedule and its pins
 
-pub IsSound-kept : {league : LeagueData} {k : Kept} → FollowsHistory league k → IsDoubleRoundRobin k.games × AllStand k.games (pins_of k.history)
+pub IsSound-kept : {league : LeagueData} {k : Kept} → FollowsHistory league k → IsDoubleRoundRobin k.games × AllStand k.games
+    (pins_of k.history)
 IsSound-kept {league} {k} kept =
     let sound : IsSound league k.history = IsSound-legal league k.room k.history kept.league_is kept.legal in
     let is = sym kept.games_are in

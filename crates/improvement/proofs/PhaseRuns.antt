@@ -25,7 +25,8 @@ pub has_run : (league : LeagueData) (room weight own : ℕ) (h : List Entry) (pl
     IsLegal ended.board.league ended.board.room ended.board.history → HasRun league room h phase ended
 has_run league room weight own h plan was o phase ended of was_is resumed own_is phase_is accepted board_is legal =
     let league_is : ended.board.league ≡ league =
-    ap (λ (b : Book). b.league) board_is ∙ ap (λ (l : LeagueData). reweighted own l) (resumed.ended.league ∙ ap (λ (b : Book). b.league) was_is) ∙
+    ap (λ (b : Book). b.league) board_is ∙ ap (λ (l : LeagueData). reweighted own l)
+    (resumed.ended.league ∙ ap (λ (b : Book). b.league) was_is) ∙
     ap (λ (w : ℕ). reweighted w (reweighted weight league)) own_is ∙ weight_back league weight in
     let room_is : ended.board.room ≡ room =
     ap (λ (b : Book). b.room) board_is ∙ resumed.ended.room ∙ ap (λ (b : Book). b.room) was_is in

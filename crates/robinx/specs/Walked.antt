@@ -1,5 +1,6 @@
 -- What private functions count on the way: words of theirs alone.
-use Rattle.std.specs.Prelude.{◌≡◌, ℕ, ◌+◌, ◌-◌, ◌*◌, Bool, true, if◌then◌else◌, ◌<◌, ◌&&◌, ◌||◌, not, nat_lt, min, List, [], length, slice_index, slice_index_or}
+use Rattle.std.specs.Prelude.{◌≡◌, ℕ, ◌+◌, ◌-◌, ◌*◌, Bool, true, if◌then◌else◌, ◌<◌, ◌&&◌, ◌||◌, not, nat_lt, min, List, [], length}
+use Rattle.std.specs.Prelude.{slice_index, slice_index_or}
 use Rattle.std.specs.Int.{abs_diff}
 use Rattle.league.specs.Sets.{has, all_numbers}
 use Rattle.league.specs.Sums.{sum_where, count_where}

@@ -17,7 +17,7 @@ use league::{Rule, RuleBody};
 /// By how much the schedule breaks the rule, whatever the rule's weight: 0 if it keeps it. What each class
 /// counts stands in `specs/Deviations.antt`. The numbers of the rule have to be in range for the schedule's
 /// teams, as those of each rule of a league are for the league's teams.
-#[tactic(auto, using(crate::proofs::Limits::deviation_below))]
+#[tactic(auto, using(crate::proofs::limits::Limits::deviation_below))]
 pub fn deviation(schedule: &Schedule, rule: &Rule) -> u64
     requires { IsBodyFor schedule.now.teams rule.now.body }
     ensures value { result ≡ deviation schedule.now rule.now.body }

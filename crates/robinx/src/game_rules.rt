@@ -31,7 +31,7 @@ pub(crate) fn ga1(
 }
 
 /// How many games of the list are in the slots.
-#[tactic(auto, using(crate::proofs::GameCounts::IsPair_game), unfolding(crate::specs::Deviations::listed_games_in))]
+#[tactic(auto, using(crate::proofs::counted::GameCounts::IsPair_game), unfolding(crate::specs::Deviations::listed_games_in))]
 fn listed_games_in(schedule: &Schedule, slots: SlotSet, games: &GameList) -> u32
     requires { AllByRecursion (IsGameFor schedule.now.teams) games.now }
     ensures value { result ≡ listed_games_in schedule.now (has slots) games.now }
@@ -48,7 +48,7 @@ fn listed_games_in(schedule: &Schedule, slots: SlotSet, games: &GameList) -> u32
 }
 
 /// Whether a game of the list is one of a main team in one of the rounds.
-#[tactic(auto, using(crate::proofs::GameCounts::IsPair_game), unfolding(crate::specs::Parts::has_moved_game))]
+#[tactic(auto, using(crate::proofs::counted::GameCounts::IsPair_game), unfolding(crate::specs::Parts::has_moved_game))]
 pub(crate) fn has_moved_game(schedule: &Schedule, games: &GameList, change: &Around) -> bool
     requires { AllByRecursion (IsGameFor schedule.now.teams) games.now }
     ensures { result ≡ has_moved_game schedule.now (has change.now.main) (has change.now.rounds) games.now }

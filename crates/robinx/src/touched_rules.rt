@@ -118,7 +118,7 @@ fn has_touched_until(slots: SlotSet, touched: SlotSet) -> bool
 }
 
 /// Whether the home team of one of the games is touched.
-#[tactic(auto, using(crate::proofs::GameCounts::IsPair_game), unfolding(crate::specs::Touches::has_touched_game))]
+#[tactic(auto, using(crate::proofs::counted::GameCounts::IsPair_game), unfolding(crate::specs::Touches::has_touched_game))]
 fn has_touched_game(games: &GameList, touched: TeamSet) -> bool
     ensures { result ≡ has_touched_game games.now (has touched) }
 {

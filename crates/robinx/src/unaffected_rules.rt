@@ -54,7 +54,7 @@ fn has_team_outside(teams: TeamSet, set: TeamSet) -> bool
 }
 
 /// Whether a team of one of the games is in the set.
-#[tactic(auto, using(crate::proofs::GameCounts::IsPair_game), unfolding(crate::specs::LooksPast::has_game_of))]
+#[tactic(auto, using(crate::proofs::counted::GameCounts::IsPair_game), unfolding(crate::specs::LooksPast::has_game_of))]
 fn has_game_of(games: &GameList, teams: TeamSet) -> bool
     ensures { result ≡ has_game_of games.now (has teams) }
 {

@@ -53,7 +53,8 @@ no_stays s h number ask j at why judged is = (tells s h number ask j (No at why)
 -- a seat's entries in the history that it met are those that it had seen
 pub accepted_same : (v : View) (h : List Entry) → Meets v h → under v.held h ≡ under v.held v.seen
 accepted_same v h met =
-    let k = met.met.knows in ap (under v.held) k.begins ∙ (let a = under_append v.held v.seen k.after in let b = k.none_after in omega arith)
+    let k = met.met.knows in ap (under v.held) k.begins ∙ (let a = under_append v.held v.seen k.after in let b = k.none_after in omega
+    arith)
 
 -- and one more after a change of its own
 pub accepted_more : (v : View) (h g : List Entry) (number : ℕ) (ask : Ask) → 0 < times number v.held → Meets v h → g ≡ h ++

@@ -149,7 +149,7 @@ impl Visits<'_> {
     }
 
     /// The legs around a game of the host's opponent, unless that is one of the hosts itself.
-    #[tactic(auto, using(crate::proofs::GuestSteps::followed_by_next), unfolding(crate::specs::Tours::leg))]
+    #[tactic(auto, using(crate::proofs::legs::GuestSteps::followed_by_next), unfolding(crate::specs::Tours::leg))]
     fn legs_of_guest(&self, host: u8, round: u8) -> u64
         requires host { host < self.now.schedule.now.teams }
         requires round { round < round_count self.now.schedule.now.teams }

@@ -66,7 +66,7 @@ pub(crate) fn way(league: &League, from: u8, to: u8) -> u64
 }
 
 /// The place with this index in the tour of a team.
-#[tactic(auto, using(crate::proofs::Stops::tour_stop))]
+#[tactic(auto, using(crate::proofs::stops::Stops::tour_stop))]
 pub(crate) fn stop(schedule: &Schedule, team: u8, index: u8) -> u8
     requires team { team < schedule.now.teams }
     requires index { index ≤ round_count schedule.now.teams + 1 }

@@ -8,7 +8,8 @@ loop-number-preserved g c =
     let within = rw c.numbers-number-end.ensures at c.loop-number-test.true in
     let counted = c.counts_of-counts.ensures c.loop-number.number
     (numbers_below c.args.counted c.args.teams c.loop-number.number c.requires.least c.requires.most within) in
-    Adds-piece (λ number. count_line c.args.counted c.args.team number (count_in c.args.counted c.args.teams c.args.games.now c.args.team number))
+    Adds-piece (λ number. count_line c.args.counted c.args.team number (count_in c.args.counted c.args.teams c.args.games.now c.args.team
+    number))
     c.loop-number.number c.loop-number.invariant (rw (c.from.ensures, counted) at c.in_ok-write_count.ensures.ok)
 
 pub returns-in_err-write_count : goal.returns-in_err-write_count

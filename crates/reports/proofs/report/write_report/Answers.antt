@@ -5,7 +5,8 @@ use Rattle.reports.proofs.report.write_report.Goals as goal
 
 pub returns-in_err-write_remarked-clause-prefix : goal.returns-in_err-write_remarked-clause-prefix
 returns-in_err-write_remarked-clause-prefix g c =
-    prefix_at g.W.Sink.held _ _ _ _ _ (Stops-delivers c.new-out.ensures c.from_residual.ensures.0 c.in_err-write_remarked.ensures.err).prefix
+    prefix_at g.W.Sink.held _ _ _ _ _ (Stops-delivers c.new-out.ensures c.from_residual.ensures.0
+    c.in_err-write_remarked.ensures.err).prefix
     (grind arith)
 
 pub returns-clause-prefix : goal.returns-clause-prefix

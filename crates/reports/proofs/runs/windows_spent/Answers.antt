@@ -1,5 +1,5 @@
 use Rattle.std.proofs.Common.{◌∙◌}
-use Rattle.tours.proofs.RunStarts.{run_from}
+use Rattle.tours.proofs.runs_and_repeats.RunStarts.{run_from}
 use Rattle.reports.proofs.runs.windows_spent.Goals as goal
 
 pub returns : goal.returns

@@ -1,7 +1,7 @@
 use Rattle.std.proofs.Common.{arith, refl, ◌∙◌}
 use Rattle.robinx.specs.Deviations.{deviation}
 use Rattle.league.proofs.ForCallers.{sum_without_none, sum_without_more, sum_without_all, lowest_below}
-use Rattle.robinx.proofs.CountedRounds.{breaks_in_slots}
+use Rattle.robinx.proofs.counted.CountedRounds.{breaks_in_slots}
 use Rattle.robinx.proofs.break_rules.br1.Goals as goal
 
 pub loop-team-init : goal.loop-team-init

@@ -2,10 +2,9 @@ use Rattle.std.proofs.Common.{◌≡◌, arith, refl, sym, ◌∙◌, ap}
 use Rattle.std.proofs.lemmas.Bool.{eqb-true, lt-ltb}
 use Rattle.league.specs.Sets.{has}
 use Rattle.robinx.specs.Deviations.{over, breaks, deviation}
-use Rattle.league.proofs.ForCallers.{sum_without_none, sum_without_more, sum_without_all, lowest_below}
-use Rattle.league.proofs.ForCallers.{sum_below_same, sum_where_all}
+use Rattle.league.proofs.ForCallers.{sum_without_none, sum_without_more, sum_without_all, lowest_below, sum_below_same, sum_where_all}
 use Rattle.league.specs.declared.rule.Side.TheVariants.{Any}
-use Rattle.robinx.proofs.CountedRounds.{breaks_in_slots}
+use Rattle.robinx.proofs.counted.CountedRounds.{breaks_in_slots}
 use Rattle.robinx.proofs.break_rules.br2.Goals as goal
 
 pub loop-team-init : goal.loop-team-init
@@ -15,7 +14,8 @@ pub breaks_from-count-requires-clause-team : goal.breaks_from-count-requires-cla
 breaks_from-count-requires-clause-team c = lowest_below _ _ _ _ c.loop-team.invariant.below c.in-Some.ensures.steps
 
 pub loop-team-preserved : goal.loop-team-preserved
-loop-team-preserved c = sum_without_more _ _ _ _ _ _ _ _ _ c.loop-team.invariant c.in-Some.ensures.steps (c.breaks_from-count.ensures.value ∙
+loop-team-preserved c = sum_without_more _ _ _ _ _ _ _ _ _ c.loop-team.invariant c.in-Some.ensures.steps
+    (c.breaks_from-count.ensures.value ∙
     breaks_in_slots c.args.schedule.now Any c.in-Some.team _ c.args.slots c.rounds_before-firsts.ensures.members)
     c.breaks_from-count.ensures.most
 

@@ -1,5 +1,5 @@
 use Rattle.std.proofs.Common.{◌∙◌}
-use Rattle.robinx.proofs.CountedRounds.{breaks_in_slots}
+use Rattle.robinx.proofs.counted.CountedRounds.{breaks_in_slots}
 use Rattle.robinx.proofs.break_rules.breaks.Goals as goal
 
 pub returns-clause-value : goal.returns-clause-value

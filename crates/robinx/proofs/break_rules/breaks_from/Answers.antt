@@ -2,7 +2,7 @@ use Rattle.std.proofs.Common.{◌&&◌, sym, ◌∙◌, ap}
 use Rattle.std.proofs.Math.Bool.{and-true}
 use Rattle.league.specs.Sets.{has}
 use Rattle.robinx.specs.Deviations.{is_on_side}
-use Rattle.robinx.proofs.CountedRounds.{breaks_of_firsts}
+use Rattle.robinx.proofs.counted.CountedRounds.{breaks_of_firsts}
 use Rattle.robinx.proofs.break_rules.breaks_from.Goals as goal
 
 pub returns-in-Home-clause-value : goal.returns-in-Home-clause-value

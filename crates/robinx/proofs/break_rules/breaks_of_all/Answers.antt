@@ -3,7 +3,7 @@ use Rattle.league.specs.Sets.{has}
 use Rattle.league.specs.declared.rule.Side.TheVariants.{Any}
 use Rattle.league.proofs.ForCallers.{sum_below_more}
 use Rattle.robinx.specs.Deviations.{breaks}
-use Rattle.robinx.proofs.CountedRounds.{changes_of_firsts}
+use Rattle.robinx.proofs.counted.CountedRounds.{changes_of_firsts}
 use Rattle.robinx.proofs.break_rules.breaks_of_all.Goals as goal
 
 changes_and_breaks : (c : goal.After-len) →

@@ -5,9 +5,9 @@ use Rattle.league.specs.Sets.{has, IsBelow}
 use Rattle.league.specs.Sums.{count_where}
 use Rattle.league.proofs.ForCallers.{sum_where_same}
 use Rattle.robinx.specs.Deviations.{over}
-use Rattle.robinx.proofs.CountedRounds.{met_starts}
-use Rattle.robinx.proofs.RowsByRounds.{windows_of_rows}
-use Rattle.robinx.proofs.Sets.{sum_where_swap}
+use Rattle.robinx.proofs.counted.CountedRounds.{met_starts}
+use Rattle.robinx.proofs.rows.RowsByRounds.{windows_of_rows}
+use Rattle.robinx.proofs.walks.Sets.{sum_where_swap}
 use Rattle.robinx.proofs.capacity_rules.ca3_part.Goals as goal
 
 pub over_in_rows-requires-clause-teams : goal.over_in_rows-requires-clause-teams

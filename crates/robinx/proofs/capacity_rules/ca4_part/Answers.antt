@@ -1,12 +1,13 @@
 use Rattle.std.proofs.Common.{◌≡◌, ◌∙◌, ap, sym, true, false}
 use Rattle.robinx.specs.Deviations.{over}
-use Rattle.robinx.proofs.PartTerms.{one_is_met, Ca4-none, Ca4-all, Ca4-each}
+use Rattle.robinx.proofs.balances.PartTerms.{one_is_met, Ca4-none, Ca4-all, Ca4-each}
 use Rattle.robinx.proofs.capacity_rules.ca4_part.Goals as goal
 
 pub returns-then-not-intersects : goal.returns-then-not-intersects
 returns-then-not-intersects c =
     let none : c.intersects.result ≡ false = cc in
-    Ca4-none _ _ _ _ _ _ _ _ _ c.args.capacity.now.each (sym (one_is_met _ _ _ c.teams_otherwise-otherwise.ensures.members) ∙ sym c.intersects.ensures ∙
+    Ca4-none _ _ _ _ _ _ _ _ _ c.args.capacity.now.each (sym (one_is_met _ _ _ c.teams_otherwise-otherwise.ensures.members) ∙ sym
+    c.intersects.ensures ∙
     none)
 
 pub returns-then-capacity : goal.returns-then-capacity

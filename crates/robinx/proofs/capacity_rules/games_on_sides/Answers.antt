@@ -1,7 +1,7 @@
 use Rattle.std.proofs.Common.{arith, refl, ◌∙◌}
 use Rattle.league.specs.Sets.{has}
 use Rattle.league.proofs.ForCallers.{sum_without_none, sum_without_more, sum_without_all, lowest_below}
-use Rattle.robinx.proofs.CountedRounds.{together_by_teams}
+use Rattle.robinx.proofs.counted.CountedRounds.{together_by_teams}
 use Rattle.robinx.proofs.capacity_rules.games_on_sides.Goals as goal
 
 pub loop-team-init : goal.loop-team-init

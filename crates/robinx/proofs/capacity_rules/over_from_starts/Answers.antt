@@ -3,7 +3,7 @@ use Rattle.std.proofs.lemmas.Bool.{lt-ltb}
 use Rattle.league.specs.Sets.{has, IsBelow}
 use Rattle.league.specs.Sums.{sum_where, count_where}
 use Rattle.robinx.specs.Deviations.{over}
-use Rattle.robinx.proofs.CountedRounds.{starts_of_counted}
+use Rattle.robinx.proofs.counted.CountedRounds.{starts_of_counted}
 use Rattle.robinx.proofs.capacity_rules.over_from_starts.Goals as goal
 
 pub over_in_windows_of-requires-clause-starts : goal.over_in_windows_of-requires-clause-starts

@@ -1,8 +1,8 @@
 use Rattle.std.proofs.Common.{◌<◌, ◌&&◌, ◌∙◌, ap, arith}
 use Rattle.league.specs.Sets.{has}
 use Rattle.league.proofs.ForCallers.{lowest_below}
-use Rattle.robinx.proofs.AllTeams.{counted_from-all}
-use Rattle.robinx.proofs.RoundCounts.{counted_none, counted_more, counted_small, over_of_numbers, none_over}
+use Rattle.robinx.proofs.rows.AllTeams.{counted_from-all}
+use Rattle.robinx.proofs.counted.RoundCounts.{counted_none, counted_more, counted_small, over_of_numbers, none_over}
 use Rattle.robinx.proofs.capacity_rules.over_in_many_slots.Goals as goal
 
 pub returns-then-most-into : goal.returns-then-most-into

@@ -1,4 +1,4 @@
-use Rattle.robinx.proofs.RoundCounts.{HasCounted}
+use Rattle.robinx.proofs.counted.RoundCounts.{HasCounted}
 use Rattle.robinx.proofs.capacity_rules.over_in_many_slots.Given as goal
 
 abbrev pub invariant-loop-team : goal.invariant-loop-team

@@ -1,7 +1,7 @@
 use Rattle.std.proofs.Common.{not, sym, ◌∙◌, ap, arith}
 use Rattle.fixtures.specs.declared.game.Cell.{Cell}
 use Rattle.robinx.specs.Deviations.{is_on_side}
-use Rattle.robinx.proofs.RowsByRounds.{added_more, added_same}
+use Rattle.robinx.proofs.rows.RowsByRounds.{added_more, added_same}
 use Rattle.robinx.proofs.counted_rows.add_games.Goals as goal
 use Rattle.robinx.proofs.counted_rows.add_games.Goals.{then-is_on_side, else-is_on_side}
 

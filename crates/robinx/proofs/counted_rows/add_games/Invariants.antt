@@ -1,4 +1,4 @@
-use Rattle.robinx.proofs.RowsByRounds.{HasAdded}
+use Rattle.robinx.proofs.rows.RowsByRounds.{HasAdded}
 use Rattle.robinx.proofs.counted_rows.add_games.Given as goal
 
 abbrev pub invariant-loop-round : goal.invariant-loop-round

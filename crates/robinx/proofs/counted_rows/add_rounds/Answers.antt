@@ -1,6 +1,6 @@
 use Rattle.std.proofs.Common.{ℕ, nat_lt, refl, ◌∙◌, ap, subst, arith}
 use Rattle.league.specs.Sets.{has, IsBelow}
-use Rattle.robinx.proofs.RowsByRounds.{all_added_none, all_added_more}
+use Rattle.robinx.proofs.rows.RowsByRounds.{all_added_none, all_added_more}
 use Rattle.robinx.proofs.counted_rows.add_rounds.Goals as goal
 
 pub loop-opponent-init : goal.loop-opponent-init

@@ -1,7 +1,7 @@
 use Rattle.std.proofs.Common.{ℕ, refl, subst, arith}
 use Rattle.league.specs.Sets.{IsBelow}
 use Rattle.league.proofs.ForCallers.{lowest_below}
-use Rattle.robinx.proofs.RowsByRounds.{none_counted, near_added_none, near_added_more}
+use Rattle.robinx.proofs.rows.RowsByRounds.{none_counted, near_added_none, near_added_more}
 use Rattle.robinx.proofs.counted_rows.rows_near.Goals as goal
 
 pub add_rounds-requires-clause-counted : goal.add_rounds-requires-clause-counted

@@ -1,4 +1,4 @@
-use Rattle.robinx.proofs.RowsByRounds.{HasAddedNear}
+use Rattle.robinx.proofs.rows.RowsByRounds.{HasAddedNear}
 use Rattle.robinx.proofs.counted_rows.rows_near.Given as goal
 
 abbrev pub invariant-loop-round : goal.invariant-loop-round

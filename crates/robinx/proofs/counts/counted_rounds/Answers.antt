@@ -1,8 +1,8 @@
 use Rattle.std.proofs.Common.{◌≡◌, ℕ, ◌&&◌, nat_lt, ◌∙◌, ap, sym}
 use Rattle.std.proofs.lemmas.Bool.{eqb-true}
 use Rattle.league.specs.Sets.{has}
-use Rattle.robinx.proofs.AllTeams.{counted_from-all}
-use Rattle.robinx.proofs.OpponentRounds.{met_in_slots}
+use Rattle.robinx.proofs.rows.AllTeams.{counted_from-all}
+use Rattle.robinx.proofs.counted.OpponentRounds.{met_in_slots}
 use Rattle.robinx.proofs.counts.counted_rounds.Goals as goal
 
 pub returns-then-eq-clause-members : goal.returns-then-eq-clause-members

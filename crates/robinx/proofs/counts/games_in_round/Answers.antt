@@ -1,6 +1,6 @@
 use Rattle.std.proofs.Common.{arith, refl, ◌∙◌}
 use Rattle.robinx.specs.Deviations.{is_counted, games_in_round}
-use Rattle.robinx.proofs.Sets.{count_of_both}
+use Rattle.robinx.proofs.walks.Sets.{count_of_both}
 use Rattle.league.specs.Sets.{has}
 use Rattle.league.proofs.ForCallers.{sum_without_none, sum_without_more, sum_without_all, lowest_below}
 use Rattle.robinx.proofs.counts.games_in_round.Goals as goal

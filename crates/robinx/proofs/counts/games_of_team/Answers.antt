@@ -5,8 +5,8 @@ use Rattle.league.proofs.ForCallers.{count_where_le}
 use Rattle.fixtures.specs.Games.{round_count}
 use Rattle.robinx.specs.Deviations.{is_counted, games_of_team}
 use Rattle.robinx.specs.Walked.{season_games}
-use Rattle.robinx.proofs.CountedRounds.{counted_among, counted_in_and_out}
-use Rattle.robinx.proofs.SeasonCounts.{games_of_season}
+use Rattle.robinx.proofs.counted.CountedRounds.{counted_among, counted_in_and_out}
+use Rattle.robinx.proofs.counted.SeasonCounts.{games_of_season}
 use Rattle.robinx.proofs.counts.games_of_team.Goals as goal
 
 pub returns-then-len-clause-value : goal.returns-then-len-clause-value

@@ -1,8 +1,8 @@
 use Rattle.std.proofs.Common.{◌&&◌, ◌∙◌, ap}
 use Rattle.league.specs.Sets.{has}
 use Rattle.robinx.specs.Deviations.{games_of_team}
-use Rattle.robinx.proofs.AllTeams.{counted_from-all}
-use Rattle.robinx.proofs.Sets.{count_of_members}
+use Rattle.robinx.proofs.rows.AllTeams.{counted_from-all}
+use Rattle.robinx.proofs.walks.Sets.{count_of_members}
 use Rattle.robinx.proofs.counts.games_on_side.Goals as goal
 
 pub returns-clause-value : goal.returns-clause-value

@@ -2,7 +2,7 @@ use Rattle.std.proofs.Common.{ℕ, if◌then◌else◌, arith, refl, ◌∙◌, 
 use Rattle.league.specs.Sets.{has}
 use Rattle.league.proofs.ForCallers.{sum_without_none, sum_without_more, sum_without_all, lowest_below}
 use Rattle.fixtures.specs.Games.{cell}
-use Rattle.robinx.proofs.Sets.{byte_is, byte_le, count_of_both}
+use Rattle.robinx.proofs.walks.Sets.{byte_is, byte_le, count_of_both}
 use Rattle.robinx.proofs.counts.games_with.Goals as goal
 
 pub loop-round-init : goal.loop-round-init

@@ -2,7 +2,7 @@ use Rattle.std.proofs.Common.{◌≡◌, ℕ, ◌&&◌, refl, sym, ◌∙◌, ap
 use Rattle.std.proofs.lemmas.Bool.{eqb-true, lt-ltb}
 use Rattle.league.specs.Sets.{has, IsBelow}
 use Rattle.league.proofs.ForCallers.{sum_without_none, sum_without_more, sum_without_all, sum_where_all}
-use Rattle.robinx.proofs.Sets.{ones}
+use Rattle.robinx.proofs.walks.Sets.{ones}
 use Rattle.robinx.proofs.counts.number_of.Goals as goal
 
 pub returns-then-eq : goal.returns-then-eq

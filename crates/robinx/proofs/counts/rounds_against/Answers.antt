@@ -1,6 +1,6 @@
 use Rattle.std.proofs.Common.{arith}
 use Rattle.league.proofs.ForCallers.{lowest_below}
-use Rattle.robinx.proofs.OpponentRounds.{met_none, met_more, met_all}
+use Rattle.robinx.proofs.counted.OpponentRounds.{met_none, met_more, met_all}
 use Rattle.robinx.proofs.counts.rounds_against.Goals as goal
 
 pub loop-opponent-init : goal.loop-opponent-init

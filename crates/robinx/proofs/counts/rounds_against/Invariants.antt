@@ -1,4 +1,4 @@
-use Rattle.robinx.proofs.OpponentRounds.{HasMet}
+use Rattle.robinx.proofs.counted.OpponentRounds.{HasMet}
 use Rattle.robinx.proofs.counts.rounds_against.Given as goal
 
 abbrev pub invariant-loop-opponent : goal.invariant-loop-opponent

@@ -1,6 +1,6 @@
 use Rattle.std.proofs.Common.{◌∙◌}
 use Rattle.fixtures.specs.Games.{IsPair}
-use Rattle.robinx.proofs.OpponentRounds.{met_home, met_away, met_any, none_with_itself}
+use Rattle.robinx.proofs.counted.OpponentRounds.{met_home, met_away, met_any, none_with_itself}
 use Rattle.robinx.proofs.counts.rounds_with.Goals as goal
 
 pub returns-then-team-opponent-clause-members : goal.returns-then-team-opponent-clause-members

@@ -1,7 +1,7 @@
 use Rattle.std.proofs.Common.{◌∙◌}
 use Rattle.league.specs.Sets.{has}
 use Rattle.robinx.specs.Deviations.{worst_gap, worst_gaps, deviation}
-use Rattle.robinx.proofs.PartTerms.{pairs_of_all}
+use Rattle.robinx.proofs.balances.PartTerms.{pairs_of_all}
 use Rattle.robinx.proofs.fairness_rules.fa2.Goals as goal
 
 pub returns : goal.returns

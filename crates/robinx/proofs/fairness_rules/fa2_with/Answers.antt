@@ -3,8 +3,8 @@ use Rattle.league.specs.Sets.{has}
 use Rattle.league.proofs.ForCallers.{sum_without_none, sum_without_more, sum_without_all, sum_where_same, lowest_below}
 use Rattle.robinx.specs.Deviations.{worst_gap}
 use Rattle.std.proofs.lemmas.Bool.{and_parts}
-use Rattle.robinx.proofs.HomeRows.{worst_gap_of_rows}
-use Rattle.robinx.proofs.PartTerms.{pairs_at_members}
+use Rattle.robinx.proofs.rows.HomeRows.{worst_gap_of_rows}
+use Rattle.robinx.proofs.balances.PartTerms.{pairs_at_members}
 use Rattle.robinx.proofs.fairness_rules.fa2_with.Goals as goal
 
 pub loop-team-init : goal.loop-team-init

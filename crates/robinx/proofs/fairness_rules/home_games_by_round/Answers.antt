@@ -5,8 +5,8 @@ use Rattle.league.proofs.ForCallers.{sum_below_none, sum_below_more}
 use Rattle.fixtures.specs.declared.game.Cell.{Cell}
 use Rattle.fixtures.specs.Games.{is_home}
 use Rattle.robinx.specs.Deviations.{home_games}
-use Rattle.robinx.proofs.HomeRows.{one_more_written}
-use Rattle.robinx.proofs.Sets.{byte_is, byte_le}
+use Rattle.robinx.proofs.rows.HomeRows.{one_more_written}
+use Rattle.robinx.proofs.walks.Sets.{byte_is, byte_le}
 use Rattle.robinx.proofs.fairness_rules.home_games_by_round.Goals as goal
 
 pub loop-round-init : goal.loop-round-init

@@ -1,7 +1,7 @@
 use Rattle.std.proofs.Common.{◌<◌, refl, ◌∙◌, ap, arith}
 use Rattle.league.specs.Sets.{has}
 use Rattle.league.proofs.ForCallers.{lowest_below, has_empty}
-use Rattle.robinx.proofs.HomeRows.{rows_none, rows_more}
+use Rattle.robinx.proofs.rows.HomeRows.{rows_none, rows_more}
 use Rattle.robinx.proofs.fairness_rules.rows_of_home_games.Goals as goal
 
 pub loop-team-init : goal.loop-team-init

@@ -1,4 +1,4 @@
-use Rattle.robinx.proofs.HomeRows.{HasRows}
+use Rattle.robinx.proofs.rows.HomeRows.{HasRows}
 use Rattle.robinx.proofs.fairness_rules.rows_of_home_games.Given as goal
 
 abbrev pub invariant-loop-team : goal.invariant-loop-team

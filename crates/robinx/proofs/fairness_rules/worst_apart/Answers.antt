@@ -1,7 +1,7 @@
 use Rattle.std.proofs.Common.{◌≡◌, sym, ◌∙◌, ap, arith}
 use Rattle.robinx.specs.Deviations.{largest_below}
 use Rattle.robinx.specs.Walked.{apart_within, worst_apart}
-use Rattle.robinx.proofs.Largest.{largest_below_none, largest_below_more, ord_max_is}
+use Rattle.robinx.proofs.limits.Largest.{largest_below_none, largest_below_more, ord_max_is}
 use Rattle.robinx.proofs.fairness_rules.worst_apart.Goals as goal
 
 pub loop-round-init : goal.loop-round-init

@@ -2,7 +2,7 @@ use Rattle.std.proofs.Common.{◌&&◌, ◌||◌, sym, ◌∙◌}
 use Rattle.league.specs.Sets.{has}
 use Rattle.league.specs.declared.rule.Pairing.{Pairing}
 use Rattle.fixtures.specs.Games.{round_of}
-use Rattle.robinx.proofs.Searches.{list_any_found, list_any_not_yet}
+use Rattle.robinx.proofs.walks.Searches.{list_any_found, list_any_not_yet}
 use Rattle.robinx.specs.Parts.{has_moved_game}
 use Rattle.robinx.proofs.game_rules.has_moved_game.Goals as goal
 

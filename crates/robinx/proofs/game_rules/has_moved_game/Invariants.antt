@@ -7,5 +7,6 @@ use Rattle.robinx.proofs.game_rules.has_moved_game.Given as goal
 
 abbrev pub invariant-loop-i : goal.invariant-loop-i
 invariant-loop-i l =
-    list_any (λ (game : Pairing). (has l.change.main game.home || has l.change.main game.away) && has l.change.rounds (round_of l.schedule game.home game.away))
+    list_any (λ (game : Pairing). (has l.change.main game.home || has l.change.main game.away) && has l.change.rounds
+    (round_of l.schedule game.home game.away))
     (take l.i l.games) ≡ false

@@ -3,7 +3,7 @@ use Rattle.std.proofs.lemmas.Grind.{common_steps}
 use Rattle.league.specs.Sets.{has}
 use Rattle.league.specs.declared.rule.Pairing.{Pairing}
 use Rattle.fixtures.specs.Games.{round_of}
-use Rattle.robinx.proofs.GameCounts.{count_by_more}
+use Rattle.robinx.proofs.counted.GameCounts.{count_by_more}
 use Rattle.robinx.proofs.game_rules.listed_games_in.Goals as goal
 
 pub loop-i-preserved : goal.loop-i-preserved

@@ -3,7 +3,7 @@ use Rattle.std.proofs.lemmas.Bool.{lt-ltb}
 use Rattle.league.specs.Sets.{has}
 use Rattle.league.proofs.ForCallers.{lowest_below}
 use Rattle.fixtures.specs.declared.game.Cell.{Cell}
-use Rattle.robinx.proofs.MetPairs.{met_in_none, met_in_more, met_in_all}
+use Rattle.robinx.proofs.rows.MetPairs.{met_in_none, met_in_more, met_in_all}
 use Rattle.robinx.proofs.guests.opponents_in.Goals as goal
 
 pub loop-round-init : goal.loop-round-init

@@ -1,4 +1,4 @@
-use Rattle.robinx.proofs.MetPairs.{HasMetIn}
+use Rattle.robinx.proofs.rows.MetPairs.{HasMetIn}
 use Rattle.robinx.proofs.guests.opponents_in.Given as goal
 
 abbrev pub invariant-loop-round : goal.invariant-loop-round

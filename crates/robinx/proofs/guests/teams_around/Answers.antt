@@ -2,7 +2,7 @@ use Rattle.std.proofs.Common.{ℕ, nat_lt, ◌∙◌, ap, subst, sym, arith}
 use Rattle.std.proofs.lemmas.Bool.{eqb-true}
 use Rattle.league.specs.Sets.{has, IsBelow}
 use Rattle.league.proofs.ForCallers.{lowest_below}
-use Rattle.robinx.proofs.AroundMain.{around_none, around_more, around_all, all_around}
+use Rattle.robinx.proofs.unaltered.AroundMain.{around_none, around_more, around_all, all_around}
 use Rattle.robinx.proofs.guests.teams_around.Goals as goal
 
 pub returns-then-eq-clause-members : goal.returns-then-eq-clause-members

@@ -1,4 +1,4 @@
-use Rattle.robinx.proofs.AroundMain.{HasAround}
+use Rattle.robinx.proofs.unaltered.AroundMain.{HasAround}
 use Rattle.robinx.proofs.guests.teams_around.Given as goal
 
 abbrev pub invariant-loop-team : goal.invariant-loop-team

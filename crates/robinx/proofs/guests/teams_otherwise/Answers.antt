@@ -1,6 +1,6 @@
 use Rattle.std.proofs.Common.{◌∙◌, ◌==◌, sym, ap}
 use Rattle.league.specs.Sets.{all_numbers}
-use Rattle.robinx.proofs.PartTerms.{otherwise_turned, otherwise_met, otherwise_main, otherwise_around}
+use Rattle.robinx.proofs.balances.PartTerms.{otherwise_turned, otherwise_met, otherwise_main, otherwise_around}
 use Rattle.robinx.proofs.guests.teams_otherwise.Goals as goal
 
 pub returns-then-eq-clause-members : goal.returns-then-eq-clause-members

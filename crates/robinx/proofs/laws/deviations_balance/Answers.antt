@@ -1,4 +1,4 @@
-use Rattle.robinx.proofs.PartsBalance.{deviation_balance}
+use Rattle.robinx.proofs.balances.PartsBalance.{deviation_balance}
 use Rattle.robinx.proofs.laws.deviations_balance.Goals as goal
 
 pub returns : goal.returns

@@ -1,4 +1,4 @@
-use Rattle.robinx.proofs.LookedPast.{looked_past_deviation, looks_past_tested}
+use Rattle.robinx.proofs.unaltered.LookedPast.{looked_past_deviation, looks_past_tested}
 use Rattle.robinx.proofs.laws.looked_past_stays.Goals as goal
 
 pub returns-clause-stays : goal.returns-clause-stays

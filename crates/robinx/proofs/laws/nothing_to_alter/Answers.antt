@@ -1,4 +1,4 @@
-use Rattle.robinx.proofs.NoPart.{looked_past_part, untouched_part}
+use Rattle.robinx.proofs.unaltered.NoPart.{looked_past_part, untouched_part}
 use Rattle.robinx.proofs.laws.nothing_to_alter.Goals as goal
 
 pub returns-clause-past : goal.returns-clause-past

@@ -1,4 +1,4 @@
-use Rattle.robinx.proofs.Untouched.{untouched_deviation}
+use Rattle.robinx.proofs.unaltered.Untouched.{untouched_deviation}
 use Rattle.robinx.proofs.laws.untouched_stays.Goals as goal
 
 pub returns : goal.returns

@@ -1,6 +1,6 @@
 use Rattle.std.proofs.Common.{◌&&◌, ◌∙◌, ap, sym}
 use Rattle.league.specs.Sets.{has}
-use Rattle.robinx.proofs.PartTerms.{all_partners, some_partners}
+use Rattle.robinx.proofs.balances.PartTerms.{all_partners, some_partners}
 use Rattle.robinx.proofs.pairs.partners.Goals as goal
 
 pub returns-then-has-clause-members : goal.returns-then-has-clause-members

@@ -3,8 +3,8 @@ use Rattle.std.proofs.lemmas.Bool.{eq-eqb}
 use Rattle.league.specs.Sets.{has, all_numbers}
 use Rattle.league.proofs.ForCallers.{has_all_numbers}
 use Rattle.robinx.specs.Parts.{counts_otherwise, changing_terms}
-use Rattle.robinx.proofs.AllTeams.{Ca2-all}
-use Rattle.robinx.proofs.PartTerms.{Ca1-terms, Ca2-terms, Ca3-terms, Br1-terms, otherwise_turned}
+use Rattle.robinx.proofs.rows.AllTeams.{Ca2-all}
+use Rattle.robinx.proofs.balances.PartTerms.{Ca1-terms, Ca2-terms, Ca3-terms, Br1-terms, otherwise_turned}
 use Rattle.robinx.proofs.parts.changing_terms.Goals as goal
 
 pub returns-in-Ca1 : goal.returns-in-Ca1

@@ -1,7 +1,7 @@
 use Rattle.std.proofs.Common.{ap, refl, arith, ◌∙◌}
 use Rattle.league.proofs.ForCallers.{sum_without_none, sum_without_more, sum_without_all, lowest_below}
 use Rattle.robinx.specs.Deviations.{over, rounds_between, short_pairs, deviation}
-use Rattle.robinx.proofs.MetPairs.{pairs_at_all, rounds_between_swapped}
+use Rattle.robinx.proofs.rows.MetPairs.{pairs_at_all, rounds_between_swapped}
 use Rattle.robinx.proofs.separation_rules.se1.Goals as goal
 
 pub loop-team-init : goal.loop-team-init

@@ -4,7 +4,7 @@ use Rattle.league.specs.Sets.{has}
 use Rattle.league.proofs.ForCallers.{sum_without_none, sum_without_more, sum_without_all, sum_where_same, lowest_below}
 use Rattle.robinx.specs.Deviations.{over, rounds_between}
 use Rattle.robinx.specs.Parts.{meet_in, changing_terms}
-use Rattle.robinx.proofs.MetPairs.{counted_same, pairs_at_main, meet_in_swapped, rounds_between_swapped}
+use Rattle.robinx.proofs.rows.MetPairs.{counted_same, pairs_at_main, meet_in_swapped, rounds_between_swapped}
 use Rattle.robinx.proofs.separation_rules.se1_part.Goals as goal
 
 pub loop-team-init : goal.loop-team-init

@@ -2,8 +2,8 @@ use Rattle.std.proofs.Common.{ℕ, sym, arith, refl, ◌∙◌}
 use Rattle.std.proofs.lemmas.Bool.{cond-true, cond-false}
 use Rattle.league.specs.Sets.{has}
 use Rattle.league.proofs.ForCallers.{sum_without_none, sum_without_more, sum_without_all, lowest_below}
-use Rattle.robinx.proofs.MetPairs.{counted_distinct, sum_without_same}
-use Rattle.robinx.proofs.Sets.{sum_of_both}
+use Rattle.robinx.proofs.rows.MetPairs.{counted_distinct, sum_without_same}
+use Rattle.robinx.proofs.walks.Sets.{sum_of_both}
 use Rattle.robinx.proofs.separation_rules.short_with.Goals as goal
 
 pub loop-other-init : goal.loop-other-init

@@ -10,7 +10,8 @@ loop-first-init c = λ n m teams_below starts_below.
 pub over_in_window-total-requires-clause-season : goal.over_in_window-total-requires-clause-season
 over_in_window-total-requires-clause-season c =
     let in_range : c.in-Some.first < 79 - c.args.window =
-    lowest_below _ _ _ _ (c.loop-first.invariant 40 (79 - c.args.window) c.requires.teams c.requires.starts).below c.in-Some.ensures.steps in
+    lowest_below _ _ _ _ (c.loop-first.invariant 40 (79 - c.args.window) c.requires.teams c.requires.starts).below c.in-Some.ensures.steps
+    in
     omega arith
 
 pub overflow_add-total : goal.overflow_add-total

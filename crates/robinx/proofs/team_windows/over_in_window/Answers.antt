@@ -2,7 +2,7 @@ use Rattle.std.proofs.Common.{◌≡◌, ◌+◌, ◌-◌, ◌&&◌, ◌==◌, n
 use Rattle.std.proofs.lemmas.Grind.{get_or_default_zero}
 use Rattle.league.specs.Sets.{has}
 use Rattle.league.specs.Sums.{count_where}
-use Rattle.robinx.proofs.FullWindows.{full_rows_none, full_rows_more, over_by_full, over_by_both}
+use Rattle.robinx.proofs.rows.FullWindows.{full_rows_none, full_rows_more, over_by_full, over_by_both}
 use Rattle.robinx.proofs.team_windows.over_in_window.Goals as goal
 
 pub loop-round-init : goal.loop-round-init

@@ -1,4 +1,4 @@
-use Rattle.robinx.proofs.FullWindows.{HasFullRows}
+use Rattle.robinx.proofs.rows.FullWindows.{HasFullRows}
 use Rattle.robinx.proofs.team_windows.over_in_window.Given as goal
 
 abbrev pub invariant-loop-round : goal.invariant-loop-round

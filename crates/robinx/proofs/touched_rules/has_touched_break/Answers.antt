@@ -1,7 +1,7 @@
 use Rattle.std.proofs.Common.{◌∙◌}
 use Rattle.league.specs.Sets.{has}
 use Rattle.robinx.specs.Touches.{has_touched_slot}
-use Rattle.robinx.proofs.Searches.{touched_break}
+use Rattle.robinx.proofs.walks.Searches.{touched_break}
 use Rattle.robinx.proofs.touched_rules.has_touched_break.Goals as goal
 
 pub returns : goal.returns

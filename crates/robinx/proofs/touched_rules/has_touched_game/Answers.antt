@@ -1,7 +1,7 @@
 use Rattle.std.proofs.Common.{sym, ◌∙◌}
 use Rattle.league.specs.Sets.{has}
 use Rattle.league.specs.declared.rule.Pairing.{Pairing}
-use Rattle.robinx.proofs.Searches.{list_any_found, list_any_not_yet}
+use Rattle.robinx.proofs.walks.Searches.{list_any_found, list_any_not_yet}
 use Rattle.robinx.specs.Touches.{has_touched_game}
 use Rattle.robinx.proofs.touched_rules.has_touched_game.Goals as goal
 

@@ -1,6 +1,6 @@
 use Rattle.std.proofs.Common.{◌∙◌}
 use Rattle.league.specs.Sets.{has}
-use Rattle.robinx.proofs.Searches.{touched_round}
+use Rattle.robinx.proofs.walks.Searches.{touched_round}
 use Rattle.robinx.proofs.touched_rules.has_touched_round.Goals as goal
 
 pub returns : goal.returns

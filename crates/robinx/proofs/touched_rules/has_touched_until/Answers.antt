@@ -1,7 +1,7 @@
 use Rattle.std.proofs.Common.{arith, sym, ◌∙◌, refl}
 use Rattle.league.specs.Sets.{IsBelow}
 use Rattle.league.proofs.ForCallers.{lowest_below}
-use Rattle.robinx.proofs.Searches.{touched_until, untouched_until}
+use Rattle.robinx.proofs.walks.Searches.{touched_until, untouched_until}
 use Rattle.robinx.proofs.touched_rules.has_touched_until.Goals as goal
 
 pub below-earlier-requires : goal.below-earlier-requires

@@ -1,6 +1,6 @@
 use Rattle.std.proofs.Common.{◌∙◌}
 use Rattle.league.specs.Sets.{has}
-use Rattle.robinx.proofs.Searches.{touched_lacked}
+use Rattle.robinx.proofs.walks.Searches.{touched_lacked}
 use Rattle.robinx.proofs.touched_rules.lacks_one.Goals as goal
 
 pub returns : goal.returns

@@ -2,7 +2,7 @@ use Rattle.std.proofs.Common.{sym, ◌∙◌, ◌||◌}
 use Rattle.league.specs.Sets.{has}
 use Rattle.league.specs.declared.rule.Pairing.{Pairing}
 use Rattle.robinx.specs.LooksPast.{has_game_of}
-use Rattle.robinx.proofs.Searches.{list_any_found, list_any_not_yet}
+use Rattle.robinx.proofs.walks.Searches.{list_any_found, list_any_not_yet}
 use Rattle.robinx.proofs.unaffected_rules.has_game_of.Goals as goal
 
 pub loop-i-preserved : goal.loop-i-preserved

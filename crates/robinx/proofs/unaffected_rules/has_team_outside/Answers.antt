@@ -2,7 +2,7 @@ use Rattle.std.proofs.Common.{◌≡◌, rules, not, true, false, sym}
 use Rattle.league.specs.Sets.{has}
 use Rattle.league.proofs.ForCallers.{lowest_below}
 use Rattle.robinx.specs.LooksPast.{has_team_outside}
-use Rattle.robinx.proofs.Searches.{none_before_start, none_before_more, found_here, found_none}
+use Rattle.robinx.proofs.walks.Searches.{none_before_start, none_before_more, found_here, found_none}
 use Rattle.robinx.proofs.unaffected_rules.has_team_outside.Goals as goal
 
 pub loop-team-init : goal.loop-team-init

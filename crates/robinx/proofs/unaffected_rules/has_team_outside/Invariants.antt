@@ -1,6 +1,6 @@
 use Rattle.std.proofs.Common.{not}
 use Rattle.league.specs.Sets.{has}
-use Rattle.robinx.proofs.Searches.{NoneBefore}
+use Rattle.robinx.proofs.walks.Searches.{NoneBefore}
 use Rattle.robinx.proofs.unaffected_rules.has_team_outside.Given as goal
 
 abbrev pub invariant-loop-team : goal.invariant-loop-team

@@ -1,4 +1,4 @@
-use Rattle.robinx.proofs.FullWindows.{HasFull}
+use Rattle.robinx.proofs.rows.FullWindows.{HasFull}
 use Rattle.robinx.proofs.windows.full_windows.Given as goal
 
 abbrev pub invariant-loop : goal.invariant-loop

@@ -1,7 +1,7 @@
 use Rattle.std.proofs.Common.{◌+◌, ◌-◌, ◌≤◌, ◌^◌, sym, ◌∙◌, arith}
 use Rattle.std.proofs.Math.Pow.{pow_mono}
 use Rattle.league.specs.Sets.{has}
-use Rattle.robinx.proofs.FullWindows.{over_without_room, over_by_full, over_by_both}
+use Rattle.robinx.proofs.rows.FullWindows.{over_without_room, over_by_full, over_by_both}
 use Rattle.robinx.proofs.windows.over_in_windows_of.Goals as goal
 
 pub full_windows-requires-clause-starts : goal.full_windows-requires-clause-starts
@@ -22,7 +22,8 @@ returns-in-0-clause-value c =
 pub returns-in-1-clause-value : goal.returns-in-1-clause-value
 returns-in-1-clause-value c =
     c.into.ensures ∙ c.len.ensures.among _ (c.full_windows.ensures.full_below _ c.requires.starts) ∙
-    over_by_full (λ s k. has c.args.set (s + k)) c.args.starts _ c.args.window c.args.most _ (omega (arith, c.from.ensures, c.saturating_sub.ensures, c.in-1.is))
+    over_by_full (λ s k. has c.args.set (s + k)) c.args.starts _ c.args.window c.args.most _
+    (omega (arith, c.from.ensures, c.saturating_sub.ensures, c.in-1.is))
     c.full_windows.ensures.full
 
 pub returns-in-2-clause-value : goal.returns-in-2-clause-value

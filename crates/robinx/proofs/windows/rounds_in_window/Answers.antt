@@ -2,7 +2,7 @@ use Rattle.std.proofs.Common.{◌≡◌, ◌+◌, refl, ◌∙◌, arith}
 use Rattle.league.specs.Sets.{has}
 use Rattle.league.specs.Sums.{count_where}
 use Rattle.league.proofs.ForCallers.{count_where_le}
-use Rattle.robinx.proofs.Sets.{count_in_window}
+use Rattle.robinx.proofs.walks.Sets.{count_in_window}
 use Rattle.robinx.proofs.windows.rounds_in_window.Goals as goal
 
 pub returns : goal.returns

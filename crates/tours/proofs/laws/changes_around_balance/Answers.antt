@@ -1,5 +1,5 @@
 use Rattle.tours.proofs.ForCallers.{travel_balance_around, runs_balance_around, repeats_balance_around}
-use Rattle.tours.proofs.PhasedBalance.{unphased_balance_around}
+use Rattle.tours.proofs.balances.PhasedBalance.{unphased_balance_around}
 use Rattle.tours.proofs.laws.changes_around_balance.Goals as goal
 
 pub returns-clause-travel : goal.returns-clause-travel

@@ -1,5 +1,5 @@
 use Rattle.tours.proofs.ForCallers.{travel_balance, runs_balance, repeats_balance}
-use Rattle.tours.proofs.PhasedBalance.{unphased_balance}
+use Rattle.tours.proofs.balances.PhasedBalance.{unphased_balance}
 use Rattle.tours.proofs.laws.parts_balance.Goals as goal
 
 pub returns-clause-travel : goal.returns-clause-travel

@@ -1,7 +1,7 @@
 use Rattle.std.proofs.Common.{arith, rules}
 use Rattle.std.proofs.lemmas.Bool.Decides.{nat_tests}
 use Rattle.league.specs.Sets.{has}
-use Rattle.tours.proofs.Members.{repeat_at_cells}
+use Rattle.tours.proofs.meetings.Members.{repeat_at_cells}
 use Rattle.tours.proofs.repeat_counts.repeat_at.Goals as goal
 
 pub returns-clause-value : goal.returns-clause-value

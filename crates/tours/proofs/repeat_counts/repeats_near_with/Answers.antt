@@ -3,7 +3,7 @@ use Rattle.league.specs.Sets.{has}
 use Rattle.league.proofs.ForCallers.{sum_where_same}
 use Rattle.fixtures.specs.Games.{round_count}
 use Rattle.tours.specs.Parts.{repeats_with_after, repeats_with}
-use Rattle.tours.proofs.CutSets.{repeats_with_after_cut}
+use Rattle.tours.proofs.stops.CutSets.{repeats_with_after_cut}
 use Rattle.tours.proofs.repeat_counts.repeats_near_with.Goals as goal
 
 pub returns-clause-value : goal.returns-clause-value

@@ -1,6 +1,6 @@
 use Rattle.std.proofs.Common.{arith}
 use Rattle.std.proofs.lemmas.Bool.Decides.{nat_tests}
-use Rattle.tours.proofs.HigherTeams.{repeats_at_higher}
+use Rattle.tours.proofs.meetings.HigherTeams.{repeats_at_higher}
 use Rattle.tours.proofs.repeat_counts.repeats_of_higher.Goals as goal
 
 pub returns-clause-value : goal.returns-clause-value

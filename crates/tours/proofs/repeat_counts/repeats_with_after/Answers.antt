@@ -1,7 +1,7 @@
 use Rattle.std.proofs.Common.{refl, sym, ◌∙◌, arith}
 use Rattle.league.specs.Sets.{has}
 use Rattle.league.proofs.ForCallers.{sum_without_none, sum_without_more, sum_without_all, lowest_below}
-use Rattle.tours.proofs.Members.{repeats_with_after_members}
+use Rattle.tours.proofs.meetings.Members.{repeats_with_after_members}
 use Rattle.tours.proofs.repeat_counts.repeats_with_after.Goals as goal
 
 pub loop-team-init : goal.loop-team-init

@@ -1,5 +1,5 @@
 use Rattle.std.proofs.Common.{arith}
-use Rattle.tours.proofs.TwoTotals.{totals_begun, next_in, totals_more, totals_ended}
+use Rattle.tours.proofs.legs.TwoTotals.{totals_begun, next_in, totals_more, totals_ended}
 use Rattle.tours.proofs.repeats_told.repeats_at_edges.Goals as goal
 
 pub loop-round-init : goal.loop-round-init

@@ -1,7 +1,7 @@
 use Rattle.std.proofs.Common.{◌+◌}
 use Rattle.fixtures.specs.Edits.{exchanged}
 use Rattle.tours.specs.Told.{met, repeats_around}
-use Rattle.tours.proofs.TwoTotals.{AreTotals}
+use Rattle.tours.proofs.legs.TwoTotals.{AreTotals}
 use Rattle.tours.proofs.repeats_told.repeats_of_ordered.Given as goal
 
 abbrev pub invariant-loop-team : goal.invariant-loop-team

@@ -1,7 +1,7 @@
 use Rattle.std.specs.Prelude.{slice_index}
 use Rattle.league.specs.League.{distance}
 use Rattle.tours.specs.Tours.{tour, leg}
-use Rattle.tours.proofs.RoundsTold.{neighbours_before, neighbours_after}
+use Rattle.tours.proofs.exchanged_legs.RoundsTold.{neighbours_before, neighbours_after}
 use Rattle.tours.proofs.rounds_told.legs_of_neighbours.Goals as goal
 
 pub returns-clause-before : goal.returns-clause-before

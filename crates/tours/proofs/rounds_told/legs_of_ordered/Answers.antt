@@ -1,5 +1,5 @@
 use Rattle.std.proofs.Common.{arith}
-use Rattle.tours.proofs.TwoTotals.{totals_begun, next_in, totals_more, totals_ended}
+use Rattle.tours.proofs.legs.TwoTotals.{totals_begun, next_in, totals_more, totals_ended}
 use Rattle.tours.proofs.rounds_told.legs_of_ordered.Goals as goal
 
 pub loop-team-init : goal.loop-team-init

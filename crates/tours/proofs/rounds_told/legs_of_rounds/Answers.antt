@@ -1,7 +1,7 @@
 use Rattle.std.proofs.Common.{◌<◌, arith}
 use Rattle.league.specs.Sets.{has}
 use Rattle.fixtures.specs.Games.{round_count, IsPair}
-use Rattle.tours.proofs.RoundsTold.{told_forward, told_back}
+use Rattle.tours.proofs.exchanged_legs.RoundsTold.{told_forward, told_back}
 use Rattle.tours.proofs.rounds_told.legs_of_rounds.Goals as goal
 
 pub returns-then-k-l-clause-balance : goal.returns-then-k-l-clause-balance

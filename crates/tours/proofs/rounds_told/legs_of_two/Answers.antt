@@ -1,7 +1,7 @@
 use Rattle.std.specs.Prelude.{slice_index}
 use Rattle.league.specs.League.{distance}
 use Rattle.tours.specs.Tours.{tour, leg}
-use Rattle.tours.proofs.RoundsTold.{two_before, two_after}
+use Rattle.tours.proofs.exchanged_legs.RoundsTold.{two_before, two_after}
 use Rattle.tours.proofs.rounds_told.legs_of_two.Goals as goal
 
 pub returns-clause-before : goal.returns-clause-before

@@ -3,7 +3,7 @@ use Rattle.std.proofs.lemmas.Bool.{eqb-true}
 use Rattle.league.specs.Sets.{has}
 use Rattle.league.specs.Sums.{count_where}
 use Rattle.league.proofs.ForCallers.{count_where_none, has_empty}
-use Rattle.tours.proofs.RunStarts.{all_runs_counted}
+use Rattle.tours.proofs.runs_and_repeats.RunStarts.{all_runs_counted}
 use Rattle.tours.proofs.runs.runs_in.Goals as goal
 
 pub returns-then-eq-clause-value : goal.returns-then-eq-clause-value

@@ -1,7 +1,7 @@
 use Rattle.std.proofs.Common.{◌∙◌, rules}
 use Rattle.league.specs.Sets.{has}
 use Rattle.tours.specs.Parts.{touches_window}
-use Rattle.tours.proofs.RunStarts.{runs_walked_part}
+use Rattle.tours.proofs.runs_and_repeats.RunStarts.{runs_walked_part}
 use Rattle.tours.proofs.runs.runs_near.Goals as goal
 
 pub returns-clause-value : goal.returns-clause-value

@@ -1,6 +1,6 @@
 use Rattle.std.proofs.Common.{◌≡◌, ◌+◌, sym, ◌∙◌, arith}
 use Rattle.tours.specs.Told.{HasRuns}
-use Rattle.tours.proofs.RunStarts.{runs_counted, no_runs_counted}
+use Rattle.tours.proofs.runs_and_repeats.RunStarts.{runs_counted, no_runs_counted}
 use Rattle.tours.proofs.runs.runs_of_team.Goals as goal
 
 pub returns-then-intersects-clause-value : goal.returns-then-intersects-clause-value

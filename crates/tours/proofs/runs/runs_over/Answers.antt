@@ -1,6 +1,6 @@
 use Rattle.std.proofs.Common.{◌∙◌, arith, rules}
 use Rattle.std.proofs.lemmas.Bool.{lt-ltb}
-use Rattle.tours.proofs.RunStarts.{runs_walked_all}
+use Rattle.tours.proofs.runs_and_repeats.RunStarts.{runs_walked_all}
 use Rattle.tours.proofs.runs.runs_over.Goals as goal
 
 pub returns-clause-value : goal.returns-clause-value

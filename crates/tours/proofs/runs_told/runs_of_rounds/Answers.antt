@@ -1,7 +1,7 @@
 use Rattle.std.proofs.Common.{refl, arith}
 use Rattle.league.specs.Sets.{has}
-use Rattle.tours.proofs.RunsTold.{part_of_runs, rounds_told}
-use Rattle.tours.proofs.TwoTotals.{totals_begun, next_in, totals_more, totals_ended}
+use Rattle.tours.proofs.runs_and_repeats.RunsTold.{part_of_runs, rounds_told}
+use Rattle.tours.proofs.legs.TwoTotals.{totals_begun, next_in, totals_more, totals_ended}
 use Rattle.tours.proofs.runs_told.runs_of_rounds.Goals as goal
 
 pub loop-team-init : goal.loop-team-init

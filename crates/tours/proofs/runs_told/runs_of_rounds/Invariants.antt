@@ -4,7 +4,7 @@ use Rattle.league.specs.Limits.{max_rounds}
 use Rattle.fixtures.specs.Changes.{turns}
 use Rattle.fixtures.specs.Edits.{rounds_exchanged}
 use Rattle.tours.specs.Runs.{runs_of}
-use Rattle.tours.proofs.TwoTotals.{AreTotals}
+use Rattle.tours.proofs.legs.TwoTotals.{AreTotals}
 use Rattle.tours.proofs.runs_told.runs_of_rounds.Given as goal
 
 abbrev pub invariant-loop-team : goal.invariant-loop-team

@@ -2,7 +2,7 @@ use Rattle.std.proofs.Common.{sym, ◌∙◌}
 use Rattle.league.specs.Sets.{has}
 use Rattle.fixtures.specs.Games.{IsPair}
 use Rattle.fixtures.proofs.ForCallers.{exchanged_first, exchanged_second, stays_among_closed}
-use Rattle.tours.proofs.RunsTold.{part_of_two, teams_told, exchanged_row, first_turned, second_turned}
+use Rattle.tours.proofs.runs_and_repeats.RunsTold.{part_of_two, teams_told, exchanged_row, first_turned, second_turned}
 use Rattle.tours.proofs.runs_told.runs_of_teams.Goals as goal
 
 pub returns-clause-balance : goal.returns-clause-balance

@@ -3,7 +3,7 @@ use Rattle.std.specs.Prelude.{◌==◌, ◌||◌}
 use Rattle.std.specs.Bool.{beq}
 use Rattle.std.proofs.lemmas.Bool.{cond-true, cond-false}
 use Rattle.fixtures.specs.Changes.{turns}
-use Rattle.tours.proofs.RunsTold.{turned_row, turning_bits}
+use Rattle.tours.proofs.runs_and_repeats.RunsTold.{turned_row, turning_bits}
 use Rattle.tours.proofs.runs_told.turned_runs.Goals as goal
 use Rattle.tours.proofs.runs_told.turned_runs.Goals.{Then-has, After-runs_in-2}
 

@@ -1,4 +1,4 @@
-use Rattle.tours.proofs.SetsInSeason.{has_cut}
+use Rattle.tours.proofs.stops.SetsInSeason.{has_cut}
 use Rattle.tours.proofs.season.rounds_in.Goals as goal
 
 pub returns-clause-members : goal.returns-clause-members

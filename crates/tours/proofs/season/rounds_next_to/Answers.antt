@@ -1,5 +1,5 @@
 use Rattle.std.proofs.Common.{ℕ, ◌-◌, ◌∙◌, ap}
-use Rattle.tours.proofs.SetsInSeason.{has_cut, has_two}
+use Rattle.tours.proofs.stops.SetsInSeason.{has_cut, has_two}
 use Rattle.tours.proofs.season.rounds_next_to.Goals as goal
 
 pub returns-clause-members : goal.returns-clause-members

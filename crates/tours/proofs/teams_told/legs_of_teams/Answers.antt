@@ -1,7 +1,7 @@
 use Rattle.league.specs.Sets.{has}
 use Rattle.fixtures.specs.Games.{IsPair}
 use Rattle.fixtures.proofs.ForCallers.{stays_among_closed}
-use Rattle.tours.proofs.TeamsTold.{travel_told, told_whole, cut_exchanged, cut_stays}
+use Rattle.tours.proofs.exchanged_legs.TeamsTold.{travel_told, told_whole, cut_exchanged, cut_stays}
 use Rattle.tours.proofs.teams_told.legs_of_teams.Goals as goal
 
 pub returns-clause-balance : goal.returns-clause-balance

@@ -3,7 +3,7 @@ use Rattle.league.specs.Sets.{has}
 use Rattle.fixtures.specs.Games.{round_count}
 use Rattle.tours.specs.Tours.{leg}
 use Rattle.tours.specs.Parts.{travel_part, travel_part_of}
-use Rattle.tours.proofs.TravelWalk.{legs_walked}
+use Rattle.tours.proofs.legs.TravelWalk.{legs_walked}
 use Rattle.tours.proofs.travel_parts.travel_among.Goals as goal
 
 pub returns-clause-value : goal.returns-clause-value

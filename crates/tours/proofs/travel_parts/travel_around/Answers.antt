@@ -1,6 +1,6 @@
 use Rattle.std.proofs.Common.{ap₂, ◌∙◌, ◌+◌}
 use Rattle.league.specs.Sets.{has}
-use Rattle.tours.proofs.CutSets.{travel_around_in_turn}
+use Rattle.tours.proofs.stops.CutSets.{travel_around_in_turn}
 use Rattle.tours.proofs.travel_parts.travel_around.Goals as goal
 
 pub returns-clause-value : goal.returns-clause-value

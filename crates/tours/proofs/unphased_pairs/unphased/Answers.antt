@@ -1,5 +1,5 @@
 use Rattle.std.proofs.Common.{◌∙◌, nat_lt, ap, rules}
-use Rattle.tours.proofs.PhasedBalance.{unphased_of_all}
+use Rattle.tours.proofs.balances.PhasedBalance.{unphased_of_all}
 use Rattle.tours.proofs.unphased_pairs.unphased.Goals as goal
 
 pub returns-clause-value : goal.returns-clause-value

@@ -4,7 +4,7 @@ use Rattle.league.specs.Sets.{has}
 use Rattle.league.specs.Sums.{sum_below}
 use Rattle.league.proofs.ForCallers.{sum_below_more}
 use Rattle.tours.specs.Phased.{is_unphased}
-use Rattle.tours.proofs.PhasedBalance.{unphased_at_lower}
+use Rattle.tours.proofs.balances.PhasedBalance.{unphased_at_lower}
 use Rattle.tours.proofs.unphased_pairs.unphased_with.Goals as goal
 
 pub loop-team-preserved : goal.loop-team-preserved

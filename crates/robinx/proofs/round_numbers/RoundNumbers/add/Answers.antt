@@ -1,4 +1,4 @@
-use Rattle.robinx.proofs.RoundNumbers.{one_added}
+use Rattle.robinx.proofs.counted.RoundNumbers.{one_added}
 use Rattle.robinx.proofs.round_numbers.RoundNumbers.add.Goals as goal
 
 pub returns : goal.returns

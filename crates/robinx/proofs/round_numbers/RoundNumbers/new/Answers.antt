@@ -1,4 +1,4 @@
-use Rattle.robinx.proofs.RoundNumbers.{number_in_each}
+use Rattle.robinx.proofs.counted.RoundNumbers.{number_in_each}
 use Rattle.robinx.proofs.round_numbers.RoundNumbers.new.Goals as goal
 
 pub returns : goal.returns

@@ -1,6 +1,6 @@
 use Rattle.std.proofs.Common.{◌-◌, arith}
 use Rattle.robinx.specs.Walked.{one_in, number_at}
-use Rattle.robinx.proofs.RoundNumbers.{sum_by_bits, over_by_bits}
+use Rattle.robinx.proofs.counted.RoundNumbers.{sum_by_bits, over_by_bits}
 use Rattle.robinx.proofs.round_numbers.RoundNumbers.over_64.Goals as goal
 
 pub returns : goal.returns
@@ -15,7 +15,8 @@ returns c =
       c.len-sixteens.ensures.value,
       c.len-thirty_twos.ensures.value,
       sum_by_bits 78 (λ r. number_at c.args.self.now r - 64) (one_in c.intersection.result) (one_in c.intersection-2.result)
-          (one_in c.intersection-3.result) (one_in c.intersection-4.result) (one_in c.intersection-5.result) (one_in c.intersection-6.result)
+          (one_in c.intersection-3.result) (one_in c.intersection-4.result) (one_in c.intersection-5.result)
+          (one_in c.intersection-6.result)
           (λ r below. over_by_bits c.args.self.now r _ _ _ _ _ _ (c.intersection.ensures.members r) (c.intersection-2.ensures.members r)
           (c.intersection-3.ensures.members r) (c.intersection-4.ensures.members r) (c.intersection-5.ensures.members r)
           (c.intersection-6.ensures.members r)),

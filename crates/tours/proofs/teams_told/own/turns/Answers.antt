@@ -1,4 +1,4 @@
-use Rattle.tours.proofs.OwnLegs.{are_turns}
+use Rattle.tours.proofs.exchanged_legs.OwnLegs.{are_turns}
 use Rattle.tours.proofs.teams_told.own.turns.Goals as goal
 
 pub returns-clause-members : goal.returns-clause-members

@@ -1,6 +1,6 @@
 use Rattle.std.proofs.Common.{◌∙◌, refl, arith}
 use Rattle.league.proofs.ForCallers.{sum_without_none, sum_without_more, sum_without_all, lowest_below}
-use Rattle.tours.proofs.GuestLegs.{sum_of_visits}
+use Rattle.tours.proofs.legs.GuestLegs.{sum_of_visits}
 use Rattle.tours.proofs.travel_parts.Visits.legs.Goals as goal
 
 pub loop-host-init : goal.loop-host-init

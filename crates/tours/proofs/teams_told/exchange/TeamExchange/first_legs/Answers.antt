@@ -3,7 +3,7 @@ use Rattle.std.proofs.lemmas.Bool.{cond-true}
 use Rattle.league.specs.Sets.{has}
 use Rattle.fixtures.specs.Games.{round_count}
 use Rattle.tours.specs.Tours.{leg}
-use Rattle.tours.proofs.EdgeLegs.{told_at_start, some_round}
+use Rattle.tours.proofs.exchanged_legs.EdgeLegs.{told_at_start, some_round}
 use Rattle.tours.proofs.teams_told.exchange.TeamExchange.first_legs.Goals as goal
 
 pub returns-then-has-clause-before : goal.returns-then-has-clause-before

@@ -1,7 +1,7 @@
 use Rattle.std.proofs.Common.{◌∙◌, sym}
 use Rattle.std.proofs.lemmas.Bool.{and_parts}
 use Rattle.league.specs.Sets.{has}
-use Rattle.tours.proofs.GuestLegs.{sum_of_visits}
+use Rattle.tours.proofs.legs.GuestLegs.{sum_of_visits}
 use Rattle.tours.proofs.teams_told.exchange.TeamExchange.guests_legs.Goals as goal
 
 pub legs_of_visits-requires-clause-home : goal.legs_of_visits-requires-clause-home

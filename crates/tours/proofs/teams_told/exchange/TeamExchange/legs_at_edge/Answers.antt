@@ -1,8 +1,8 @@
 use Rattle.std.proofs.Common.{◌≡◌, ◌+◌, true, false, not, sym, ◌∙◌, ap}
 use Rattle.league.specs.Sets.{has}
 use Rattle.fixtures.specs.Games.{round_count}
-use Rattle.tours.proofs.TurnedLegs.{in_below}
-use Rattle.tours.proofs.EdgeLegs.{now_first, now_second, told_at_first, told_at_second}
+use Rattle.tours.proofs.exchanged_legs.TurnedLegs.{in_below}
+use Rattle.tours.proofs.exchanged_legs.EdgeLegs.{now_first, now_second, told_at_first, told_at_second}
 use Rattle.tours.proofs.teams_told.exchange.TeamExchange.legs_at_edge.Goals as goal
 
 pub returns-then-has-clause-before : goal.returns-then-has-clause-before

@@ -2,7 +2,7 @@ use Rattle.std.proofs.Common.{◌+◌, ◌*◌}
 use Rattle.league.specs.Limits.{max_distance}
 use Rattle.fixtures.specs.Games.{round_count}
 use Rattle.tours.specs.Exchanges.{leg_before, leg_after}
-use Rattle.tours.proofs.TwoTotals.{AreTotals}
+use Rattle.tours.proofs.legs.TwoTotals.{AreTotals}
 use Rattle.tours.proofs.teams_told.exchange.TeamExchange.legs_at_edges.Given as goal
 
 abbrev pub invariant-loop-round : goal.invariant-loop-round

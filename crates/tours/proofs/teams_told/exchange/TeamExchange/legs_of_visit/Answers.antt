@@ -1,6 +1,6 @@
 use Rattle.std.proofs.Common.{◌+◌, sym, ◌∙◌, ap, ap₂}
 use Rattle.fixtures.specs.declared.game.Cell.{Cell}
-use Rattle.tours.proofs.VisitsTold.{visit_legs}
+use Rattle.tours.proofs.exchanged_legs.VisitsTold.{visit_legs}
 use Rattle.tours.proofs.teams_told.exchange.TeamExchange.legs_of_visit.Goals as goal
 
 pub returns-then-is_visit-clause-before : goal.returns-then-is_visit-clause-before

@@ -2,11 +2,11 @@ use Rattle.std.proofs.Common.{◌≡◌, ℕ, ◌<◌, ◌+◌, false, not, ◌&
 use Rattle.league.specs.Sets.{has}
 use Rattle.league.proofs.ForCallers.{has_beyond}
 use Rattle.fixtures.specs.Games.{round_count}
-use Rattle.tours.proofs.SetsInSeason.{has_two}
-use Rattle.tours.proofs.TeamsTold.{of_first, of_second}
-use Rattle.tours.proofs.TurnedLegs.{is_turn}
-use Rattle.tours.proofs.EdgeLegs.{one_of_two}
-use Rattle.tours.proofs.OwnLegs.{own_balance, has_both}
+use Rattle.tours.proofs.stops.SetsInSeason.{has_two}
+use Rattle.tours.proofs.exchanged_legs.TeamsTold.{of_first, of_second}
+use Rattle.tours.proofs.exchanged_legs.TurnedLegs.{is_turn}
+use Rattle.tours.proofs.exchanged_legs.EdgeLegs.{one_of_two}
+use Rattle.tours.proofs.exchanged_legs.OwnLegs.{own_balance, has_both}
 use Rattle.tours.proofs.teams_told.exchange.TeamExchange.own_legs.Goals as goal
 
 pub legs_at_edges-at_edges-requires-clause-edges : goal.legs_at_edges-at_edges-requires-clause-edges

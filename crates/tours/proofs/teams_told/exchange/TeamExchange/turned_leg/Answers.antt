@@ -1,5 +1,5 @@
 use Rattle.std.proofs.Common.{◌∙◌}
-use Rattle.tours.proofs.TurnedLegs.{turned_now, turned_told}
+use Rattle.tours.proofs.exchanged_legs.TurnedLegs.{turned_now, turned_told}
 use Rattle.tours.proofs.teams_told.exchange.TeamExchange.turned_leg.Goals as goal
 
 pub returns-clause-before : goal.returns-clause-before

@@ -1,0 +1,6 @@
+-- Rows: of home games, of counted teams by rounds, of windows.
+pub mod HomeRows
+pub mod RowsByRounds
+pub mod FullWindows
+pub mod AllTeams
+pub mod MetPairs

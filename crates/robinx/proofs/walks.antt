@@ -1,0 +1,3 @@
+-- Loops over sets and lists.
+pub mod Sets
+pub mod Searches

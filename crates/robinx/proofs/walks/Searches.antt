@@ -1,0 +1,128 @@
+-- Loops that look in a set, or in a list of games, for one that passes a test.
+use Rattle.std.proofs.Common.{◌≡◌, ℕ, ◌+◌, ◌-◌, ◌&&◌, ◌||◌, ◌==◌, not, nat_lt, Bool, true, false, List, take, get_or, Some, refl, sym, ◌∙◌}
+use Rattle.std.proofs.Common.{ap, inl, inr, arith}
+use Rattle.std.specs.List.{slice_get, list_any}
+use Rattle.std.proofs.lemmas.Bool.{cases_eq, and_from, or_from, cases_lt, lt-ltb, le-ltb, and_right, false≢true, and_left}
+use Rattle.std.proofs.lemmas.List.Folds.{list_any_more, list_any_at}
+use Rattle.std.proofs.lemmas.Option.{slice_get_within, get_or_from_slice_get}
+use Rattle.league.specs.Sets.{has, IsBelow, IsWithoutLowest}
+use Rattle.league.specs.Sums.{any_below}
+use Rattle.league.proofs.ForCallers.{any_below_found, any_below_from_none, any_below_same, lowest_below, has_empty, others_kept}
+use Rattle.robinx.specs.Touches.{has_touched_round, has_touched_until, or_before}
+use Rattle.robinx.specs.Parts.{lacks_one}
+
+-- no number of the set that isn't left passes the test
+pub record NoneBefore (n set left : ℕ) (test : ℕ → Bool) : Type 0 where
+  pub below : IsBelow n left
+  pub in_set : (k : ℕ) → has left k ≡ true → has set k ≡ true
+  pub none : (k : ℕ) → has set k ≡ true → has left k ≡ false → test k ≡ false
+
+pub none_before_start : (n set left : ℕ) (test : ℕ → Bool) → IsBelow n left → left ≡ set → NoneBefore n set left test
+none_before_start n set left test below whole = record {
+  below = below;
+  in_set = λ k is. sym (ap (λ s. has s k) whole) ∙ is;
+  none = λ k is out. absurd (false≢true (sym out ∙ ap (λ s. has s k) whole ∙ is));
+}
+
+pub none_before_more : (n set left lowest rest : ℕ) (test : ℕ → Bool) → NoneBefore n set left test → IsWithoutLowest left lowest rest →
+    test lowest ≡ false → NoneBefore n set rest test
+none_before_more n set left lowest rest test so_far taken fails = record {
+  below = omega (arith, so_far.below, taken.fewer);
+  in_set = λ k is. so_far.in_set k (and_left (has left k) (not (k == lowest)) (sym (taken.others k) ∙ is));
+  none = λ k is out. elim (cases_eq k lowest) [
+    | inl here ↦ ap test here ∙ fails
+    | inr other ↦ so_far.none k is (sym (others_kept left lowest rest k taken other) ∙ out)
+  ];
+}
+
+pub found_here : (n set left lowest rest : ℕ) (test : ℕ → Bool) → NoneBefore n set left test → IsWithoutLowest left lowest rest →
+    test lowest ≡ true → any_below n (λ k. has set k && test k) ≡ true
+found_here n set left lowest rest test so_far taken passes =
+    any_below_found n (λ k. has set k && test k) lowest (lowest_below n left lowest rest so_far.below taken)
+    (and_from (has set lowest) (test lowest) (so_far.in_set lowest taken.in_set) passes)
+
+pub found_none : (n set left : ℕ) (test : ℕ → Bool) → NoneBefore n set left test → left ≡ 0 →
+    any_below n (λ k. has set k && test k) ≡ false
+found_none n set left test so_far none_left =
+    any_below_from_none n (λ k. has set k && test k) (λ k below. at k (has set k) refl)
+  where
+    at : (k : ℕ) (b : Bool) → has set k ≡ b → (b && test k) ≡ false
+    at k true is = so_far.none k is (ap (λ s. has s k) none_left ∙ has_empty k)
+    at k false is = refl
+
+-- one of all rounds
+pub touched_round : (all : ℕ) (touched : ℕ → Bool) → ((r : ℕ) → has all r ≡ nat_lt r 78) →
+    any_below 78 (λ r. has all r && touched r) ≡ has_touched_round touched
+unfolding has_touched_round
+touched_round all touched members =
+    any_below_same 78 (λ r. has all r && touched r) touched
+    (λ r below. ap (λ (b : Bool). b && touched r) (members r ∙ lt-ltb r 78 below))
+
+-- one of the slots or of the rounds before them
+pub touched_break : (slots around : ℕ) (touched : ℕ → Bool) →
+    ((r : ℕ) → has around r ≡ (nat_lt r 78 && (touched r || (not (r == 0) && touched (r - 1))))) →
+    any_below 78 (λ r. has slots r && has around r) ≡ any_below 78 (λ r. has slots r && or_before touched r)
+touched_break slots around touched members =
+    any_below_same 78 (λ r. has slots r && has around r) (λ r. has slots r && or_before touched r)
+    (λ r below. ap (λ (b : Bool). has slots r && b)
+    (members r ∙ ap (λ (b : Bool). b && (touched r || (not (r == 0) && touched (r - 1)))) (lt-ltb r 78 below)))
+
+pub and_again : (a b : Bool) → ((a && b) && a) ≡ (a && b)
+and_again true true = refl
+and_again true false = refl
+and_again false b = refl
+
+-- one that isn't a slot
+pub touched_lacked : (slots lacked : ℕ) (touched : ℕ → Bool) → ((r : ℕ) → has lacked r ≡ (touched r && not (has slots r))) →
+    any_below 78 (λ r. has lacked r && touched r) ≡ lacks_one slots touched
+unfolding lacks_one
+touched_lacked slots lacked touched members =
+    any_below_same 78 (λ r. has lacked r && touched r) (λ r. touched r && not (has slots r))
+    (λ r below. ap (λ (b : Bool). b && touched r) (members r) ∙ and_again (touched r) (not (has slots r)))
+
+-- a round up to one of the slots, where the first is the lowest touched one
+pub touched_until : (slots touched first rest from : ℕ) → IsWithoutLowest touched first rest →
+    ((r : ℕ) → has from r ≡ (nat_lt r 78 && not (nat_lt r first))) →
+    any_below 78 (λ r. has from r && has slots r) ≡ has_touched_until slots (has touched)
+unfolding has_touched_until
+touched_until slots touched first rest from taken members =
+    any_below_same 78 (λ r. has from r && has slots r) (λ r. has slots r && any_below (r + 1) (has touched))
+    (λ r below. ap (λ (b : Bool). b && has slots r) (members r ∙ ap (λ (b : Bool). b && not (nat_lt r first)) (lt-ltb r 78 below) ∙
+    since r) ∙
+    exchanged (any_below (r + 1) (has touched)) (has slots r))
+  where
+    since : (r : ℕ) → not (nat_lt r first) ≡ any_below (r + 1) (has touched)
+    since r = elim (cases_lt r first) [
+      | inl before ↦
+          ap not (lt-ltb r first before) ∙
+          sym (any_below_from_none (r + 1) (has touched) (λ k below. taken.is_lowest k (omega arith)))
+      | inr after ↦
+          ap not (le-ltb r first after) ∙ sym (any_below_found (r + 1) (has touched) first (omega arith) taken.in_set)
+    ]
+
+    exchanged : (a b : Bool) → (a && b) ≡ (b && a)
+    exchanged true true = refl
+    exchanged true false = refl
+    exchanged false true = refl
+    exchanged false false = refl
+
+-- no round is touched
+pub untouched_until : (slots touched : ℕ) → touched ≡ 0 → has_touched_until slots (has touched) ≡ false
+unfolding has_touched_until
+untouched_until slots touched none =
+    any_below_from_none 78 (λ r. has slots r && any_below (r + 1) (has touched))
+    (λ r below. and_right (has slots r) (any_below (r + 1) (has touched))
+    (any_below_from_none (r + 1) (has touched) (λ k k_below. ap (λ s. has s k) none ∙ has_empty k)))
+
+-- the same for a list, by its index
+
+pub list_any_found : {X : Type 0} (test : X → Bool) (xs : List X) (i : ℕ) (x : X) → slice_get xs i ≡ Some x → test x ≡ true →
+    list_any test xs ≡ true
+list_any_found test xs i x is passes =
+    list_any_at test xs i x (slice_get_within xs i x is) (ap test (get_or_from_slice_get xs i x x is) ∙ passes)
+
+pub list_any_not_yet : {X : Type 0} (test : X → Bool) (xs : List X) (i : ℕ) (x : X) → slice_get xs i ≡ Some x →
+    list_any test (take i xs) ≡ false → test x ≡ false → list_any test (take (i + 1) xs) ≡ false
+list_any_not_yet test xs i x is before fails =
+    list_any_more test xs i x (slice_get_within xs i x is) ∙
+    or_from (list_any test (take i xs)) (test (get_or xs i x)) before (ap test (get_or_from_slice_get xs i x x is) ∙ fails)

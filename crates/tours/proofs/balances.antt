@@ -1,0 +1,7 @@
+-- What a change adds to a part, it adds to the whole.
+pub mod Balances
+pub mod TravelBalance
+pub mod RunsBalance
+pub mod PhasedBalance
+pub mod RepeatsBalance
+pub mod AroundBalance

@@ -1,0 +1,65 @@
+-- Runs change by as many as touch a round where a team changes sides.
+use Rattle.std.proofs.Common.{◌≡◌, ℕ, ◌+◌, ◌-◌, ◌<◌, ◌≤◌, Bool, true, false, not, ◌&&◌, refl, ap, arith}
+use Rattle.std.specs.Prelude.{if◌then◌else◌}
+use Rattle.league.proofs.ForCallers.{all_below_same, any_below_fails, any_below_from_none, count_where_none, sum_below_same}
+use Rattle.fixtures.specs.Games.{Games, round_count, is_home}
+use Rattle.fixtures.specs.Changes.{DiffersOnlyAt, box}
+use Rattle.tours.specs.Runs.{is_run, windows, runs_of, runs_over}
+use Rattle.tours.specs.Parts.{touches_window, runs_part_of, runs_at, runs_part}
+use Rattle.tours.proofs.balances.Balances.{one, count_balance, sum_balance}
+
+-- the sides of a team stay, but in rounds of the set
+abbrev pub SidesStay : Games → Games → (ℕ → Bool) → ℕ → Type 0
+SidesStay g g' rounds t = (r : ℕ) → r < round_count g.teams → rounds r ≡ false → is_home g' t r ≡ is_home g t r
+
+is_run_same : (g g' : Games) (set : ℕ → Bool) (t first rounds : ℕ) → SidesStay g g' set t → first + rounds ≤ round_count g.teams →
+    touches_window set first rounds ≡ false → is_run g' t first rounds ≡ is_run g t first rounds
+unfolding touches_window is_run
+is_run_same g g' set t first rounds stay fits out =
+    rw (
+      all_below_same rounds (λ k. is_home g' t (first + k)) (λ k. is_home g t (first + k)) same,
+      all_below_same rounds (λ k. not (is_home g' t (first + k))) (λ k. not (is_home g t (first + k))) (λ k below. ap not (same k below)),
+    )
+    refl
+  where
+    same : (k : ℕ) → k < rounds → is_home g' t (first + k) ≡ is_home g t (first + k)
+    same k below = stay (first + k) (omega arith) (any_below_fails rounds (λ k. set (first + k)) out k below)
+
+pub runs_of_balance : (g g' : Games) (most : ℕ) (rounds : ℕ → Bool) (t : ℕ) → g'.teams ≡ g.teams → SidesStay g g' rounds t →
+    runs_of g' most t + runs_part_of g most rounds t ≡ runs_of g most t + runs_part_of g' most rounds t
+unfolding runs_of runs_part_of
+runs_of_balance g g' most rounds t size stay =
+    sum_balance (windows g (most + 1)) (windows g' (most + 1)) (λ f. one (is_run g' t f (most + 1))) (λ f. one (is_run g t f (most + 1)))
+    (λ f. one (touches_window rounds f (most + 1) && is_run g' t f (most + 1)))
+    (λ f. one (touches_window rounds f (most + 1) && is_run g t f (most + 1)))
+    (ap (λ n. round_count n + 1 - (most + 1)) size)
+    (λ f below. count_balance (touches_window rounds f (most + 1)) (is_run g' t f (most + 1)) (is_run g t f (most + 1))
+    (is_run_same g g' rounds t f (most + 1) stay (omega arith)))
+
+pub runs_balance_at : (g g' : Games) (most : ℕ) (at : ℕ → ℕ → Bool) → DiffersOnlyAt is_home g g' at →
+    runs_over g' most + runs_at g most at ≡ runs_over g most + runs_at g' most at
+unfolding runs_over runs_at
+runs_balance_at g g' most at d =
+    sum_balance g.teams g'.teams (runs_of g' most) (runs_of g most) (λ t. runs_part_of g' most (at t) t)
+    (λ t. runs_part_of g most (at t) t) d.same_size
+    (λ t in_t. runs_of_balance g g' most (at t) t d.same_size (λ r. d.same t r in_t))
+
+-- a box of touched cells is a case of sets of rounds for each team
+
+none_touched : (first rounds : ℕ) (run : Bool) → (touches_window (λ _. false) first rounds && run) ≡ false
+unfolding touches_window
+none_touched first rounds run = rw (any_below_from_none rounds (λ _. false) (λ k below. refl)) refl
+
+pub part_of_box : (g : Games) (most : ℕ) (rounds : ℕ → Bool) (t : ℕ) (inside : Bool) →
+    runs_part_of g most (λ r. inside && rounds r) t ≡ (if inside then runs_part_of g most rounds t else 0)
+unfolding runs_part_of
+part_of_box g most rounds t true = refl
+part_of_box g most rounds t false =
+    count_where_none (windows g (most + 1)) (λ f. touches_window (λ _. false) f (most + 1) && is_run g t f (most + 1))
+    (λ f below. none_touched f (most + 1) (is_run g t f (most + 1)))
+
+pub runs_at_box : (g : Games) (most : ℕ) (teams rounds : ℕ → Bool) → runs_at g most (box teams rounds) ≡ runs_part g most teams rounds
+unfolding runs_at runs_part
+runs_at_box g most teams rounds =
+    sum_below_same g.teams (λ t. runs_part_of g most (box teams rounds t) t) (λ t. if teams t then runs_part_of g most rounds t else 0)
+    (λ t below. part_of_box g most rounds t (teams t))

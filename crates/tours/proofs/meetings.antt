@@ -1,0 +1,6 @@
+-- Who meets whom: opponents, pairs counted at their higher team, and what a turn of sides leaves.
+pub mod Turned
+pub mod Opponents
+pub mod HigherTeams
+pub mod Members
+pub mod SamePairs
