@@ -247,7 +247,7 @@ pub pairs_at_all : (n teams : ℕ) (f : ℕ → ℕ → ℕ) → ((i j : ℕ) �
     sum_where n (has teams) (λ m. sum_where n (λ p. has teams p && counts_pair teams m p) (λ p. f p m)) ≡
     sum_of_pairs n (λ i j. if has teams i && has teams j then f i j else 0)
 pairs_at_all n teams f same_term =
-    sum_where_same n (has teams) (λ m. has teams m && has teams m) _ _ (λ m below. sym (both (has teams m)))
+    sum_where_same n (has teams) (λ m. has teams m && has teams m) _ _ (λ m below. sym (and_self (has teams m)))
     (λ m below is. sum_where_same n _ _ _ _
     (λ p p_below. ap (λ b. b && counts_pair teams m p) (sym (and-true (has teams p)))) (λ p p_below is. refl)) ∙
     pairs_at_main n teams teams (λ _ _. true) f (λ i j. refl) same_term ∙
