@@ -141,7 +141,7 @@ legal_after-credited league room caller a b (e ∷ h) same legal = (
       (IsAlike-more a b e (credited_entry caller e) same refl) legal.1,
 )
 
-pub IsLegal-credited : (league : LeagueData) (room caller : ℕ) (h : List Entry) → IsLegal league room h →
+IsLegal-credited : (league : LeagueData) (room caller : ℕ) (h : List Entry) → IsLegal league room h →
     IsLegal league room (credited caller h)
 unfolding IsLegal
 IsLegal-credited league room caller h legal =

@@ -54,7 +54,7 @@ IsLeader-other league q p g best_g at true at_is g_is best_is =
     (ap (λ (n : ℕ). Some (record { at = n; total = total_of (cost_at league p) })) at_is, g_is)
 IsLeader-other league q p g best_g at false at_is g_is best_is = (refl, best_is)
 
-pub IsLeader-more : (league : LeagueData) (found : Option (List Entry)) (p : List Entry) (best : Option Best) (g best_g : Games)
+IsLeader-more : (league : LeagueData) (found : Option (List Entry)) (p : List Entry) (best : Option Best) (g best_g : Games)
     (cost : Cost) (at : ℕ) →
     IsLeader league found best best_g → cost ≡ cost_at league p → at ≡ length p → g ≡ games_of league p →
     IsLeader league (better league found p) (led_by best cost at) (if leads best cost then g else best_g)
@@ -78,7 +78,7 @@ effect-length changes Undo = omega (arith, length-take (length changes - 1) chan
 length-more : (h : List Entry) (e : Entry) → length (h ++ e ∷ []) ≡ length h + 1
 length-more h e = omega (arith, length-append h (e ∷ []))
 
-pub FollowsHistory-more : {league : LeagueData} {k : Kept} (e : Entry) (changes : List Change) (g : Games) (pins : List ℕ) (cost : Cost) →
+FollowsHistory-more : {league : LeagueData} {k : Kept} (e : Entry) (changes : List Change) (g : Games) (pins : List ℕ) (cost : Cost) →
     FollowsHistory league k → length k.history < k.room → May league k.history e.change → changes ≡ effect k.changes e.change →
     g ≡ games_of league (k.history ++ e ∷ []) → length pins ≡ 1600 → ArePinsAt g (pins_of (k.history ++ e ∷ [])) pins →
     cost ≡ cost_of league g →

@@ -162,7 +162,7 @@ number_of-better league (Some q) p few =
       ltb-true (total_of (cost_at league p)) (total_of (cost_at league q)) (and_parts ((cost_at league p).hard == 0) lower leads).1,
     ))
 
-pub total_small : (league : LeagueData) (h : List Entry) → IsLeague league → total_of (cost_at league h) < score_limit
+total_small : (league : LeagueData) (h : List Entry) → IsLeague league → total_of (cost_at league h) < score_limit
 unfolding cost_at
 total_small league h is = omega (arith, score_below league (games_of league h) is (games_of-teams league h))
 

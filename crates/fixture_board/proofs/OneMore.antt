@@ -95,7 +95,7 @@ pins_of-more h e appended =
 
 -- an entry that undoes the change that was the last in effect
 
-pub take-prefix : {A : Type 0} (xs : List A) (x : A) → take (length (xs ++ x ∷ []) - 1) (xs ++ x ∷ []) ≡ xs
+take-prefix : {A : Type 0} (xs : List A) (x : A) → take (length (xs ++ x ∷ []) - 1) (xs ++ x ∷ []) ≡ xs
 take-prefix xs x =
     let prefix : length (xs ++ x ∷ []) - 1 ≡ length xs = omega (arith, length-append xs (x ∷ [])) in
     rw prefix (take-append_seam xs (x ∷ []))

@@ -15,11 +15,11 @@ use Rattle.fixture_board.specs.PinTable.{pin_at, ArePinsAt}
 
 -- what is read after a write
 
-pub pin_at-same : (table : List ℕ) (home away round : ℕ) → home < 40 → away < 40 → length table ≡ 1600 →
+pin_at-same : (table : List ℕ) (home away round : ℕ) → home < 40 → away < 40 → length table ≡ 1600 →
     pin_at (slice_set table (home * 40 + away) round) home away ≡ round
 pin_at-same table home away round home_in away_in size = get_or-set_same table (home * 40 + away) round 0 (omega arith)
 
-pub pin_at-other : (table : List ℕ) (home away round h a : ℕ) → away < 40 → a < 40 → (h ≡ home → a ≡ away → ⊥) →
+pin_at-other : (table : List ℕ) (home away round h a : ℕ) → away < 40 → a < 40 → (h ≡ home → a ≡ away → ⊥) →
     pin_at (slice_set table (home * 40 + away) round) h a ≡ pin_at table h a
 pin_at-other table home away round h a away_in a_in other =
     get_or-set_other table (home * 40 + away) (h * 40 + a) round 0
@@ -91,7 +91,7 @@ has_game-pinned g (pin ∷ pins) game all there =
     ap (λ b. (pin.home == game.home && pin.away == game.away) || b) (has_game-pinned g pins game all.1 there)
 
 -- the rounds of a pinned pair, where the pins stand in two schedules
-pub rounds_of-pinned : (g other : Games) (pins : List Game) (h a : ℕ) → AllStand g pins → AllStand other pins →
+rounds_of-pinned : (g other : Games) (pins : List Game) (h a : ℕ) → AllStand g pins → AllStand other pins →
     is_pinned pins h a ≡ true → round_of g h a ≡ round_of other h a
 rounds_of-pinned g other [] h a all all_other is = absurd (true≢false (sym is))
 rounds_of-pinned g other (pin ∷ pins) h a all all_other is =

@@ -34,7 +34,7 @@ IsDoubleRoundRobin-change g pins (Pin game) robin fits = robin
 IsDoubleRoundRobin-change g pins (Unpin game) robin fits = robin
 IsDoubleRoundRobin-change g pins Undo robin fits = robin
 
-pub IsDoubleRoundRobin-after : (g : Games) (pins : List Game) (changes : List Change) → IsDoubleRoundRobin g →
+IsDoubleRoundRobin-after : (g : Games) (pins : List Game) (changes : List Change) → IsDoubleRoundRobin g →
     Fit g pins changes → IsDoubleRoundRobin (games_after g changes)
 unfolding games_after
 IsDoubleRoundRobin-after g pins [] robin all = robin

@@ -79,13 +79,13 @@ abbrev pub Fit : Games → List Game → List Change → Type 0
 Fit g pins [] = Unit {0}
 Fit g pins (change ∷ changes) = Fits g pins change × Fit (shifted g change) (pinned pins change) changes
 
-pub Fit-more : (g : Games) (pins : List Game) (changes : List Change) (change : Change) → Fit g pins changes →
+Fit-more : (g : Games) (pins : List Game) (changes : List Change) (change : Change) → Fit g pins changes →
     Fits (games_after g changes) (pins_after pins changes) change → Fit g pins (changes ++ change ∷ [])
 unfolding games_after pins_after
 Fit-more g pins [] change all fits = (fits, tt)
 Fit-more g pins (x ∷ changes) change all fits = (all.0, Fit-more (shifted g x) (pinned pins x) changes change all.1 fits)
 
-pub Fit-take : (g : Games) (pins : List Game) (k : ℕ) (changes : List Change) → Fit g pins changes → Fit g pins (take k changes)
+Fit-take : (g : Games) (pins : List Game) (k : ℕ) (changes : List Change) → Fit g pins changes → Fit g pins (take k changes)
 Fit-take g pins zero changes all = tt
 Fit-take g pins (suc k) [] all = tt
 Fit-take g pins (suc k) (change ∷ changes) all = (all.0, Fit-take (shifted g change) (pinned pins change) k changes all.1)
@@ -101,7 +101,7 @@ AllStand-after g pins (change ∷ changes) stand all =
 abbrev pub FitFrom : LeagueData → List Change → Type 0
 FitFrom league changes = Fit (start_of league) [] changes
 
-pub FitFrom-effect : (league : LeagueData) (h : List Entry) (change : Change) → FitFrom league (effective h) → May league h change →
+FitFrom-effect : (league : LeagueData) (h : List Entry) (change : Change) → FitFrom league (effective h) → May league h change →
     FitFrom league (effect (effective h) change)
 unfolding games_of pins_of
 FitFrom-effect league h (Shift mv) all may = Fit-more (start_of league) [] (effective h) (Shift mv) all may

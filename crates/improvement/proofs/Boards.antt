@@ -29,7 +29,7 @@ room_for_nothing league room =
     choice (rewound league []) (nat_lt 0 room) (nat_lt (length (rewound league [])) room) (rewound_nothing league)
 
 -- a chain without a history begins a phase without one
-pub beginning_nothing : (league : LeagueData) (room : ℕ) (start : PhaseStart) → beginning league room start [] ≡ []
+beginning_nothing : (league : LeagueData) (room : ℕ) (start : PhaseStart) → beginning league room start [] ≡ []
 beginning_nothing league room LeagueStart = refl
 beginning_nothing league room Best = ap (with_room league room) (rewound_nothing league) ∙ room_for_nothing league room
 beginning_nothing league room Last = room_for_nothing league room

@@ -24,7 +24,7 @@ front_of : (league : LeagueData) (h : List Entry) (found : Option (List Entry)) 
 front_of league h None best = record { count = length h; most = omega arith; front = take_all (length h) h (omega arith) }
 front_of league h (Some p) best = record { count = length p; most = best.short; front = sym best.prefix }
 
-pub rewound_front : (league : LeagueData) (h : List Entry) → IsFront h (rewound league h)
+rewound_front : (league : LeagueData) (h : List Entry) → IsFront h (rewound league h)
 rewound_front league h = front_of league h (best_prefix league h) (best_prefix-is_best league h)
 
 pub rewound_of : (league : LeagueData) (h : List Entry) → AreOf 0 h → AreOf 0 (rewound league h)

@@ -63,7 +63,7 @@ told_by : (p : PolicyData) (phase : Phase) (c : Bool) → nat_lt p.told phase_co
 told_by p phase true is next = grind (arith, nat_tests)
 told_by p phase false is next = absurd (grind (arith, is))
 
-pub told_below : (p : PolicyData) (phase : Phase) → next_phase p ≡ Some phase → p.told < phase_count
+told_below : (p : PolicyData) (phase : Phase) → next_phase p ≡ Some phase → p.told < phase_count
 told_below p phase next = told_by p phase (nat_lt p.told phase_count) refl next
 
 pub told_more : (p : PolicyData) (o : PhaseOutcome) → p.told < phase_count → (policy_after p o).told ≡ p.told + 1
@@ -89,7 +89,7 @@ run_is {league} {plan} {runs} {policy} {chains} {lead} phase ended kept next ran
       accepted_are = ran.accepted_are;
     }
 
-pub kept_more : {league : LeagueData} {plan : ImprovePlan} {runs : List PhaseRun} {policy : PolicyData} {chains : Chains} {lead : Lead}
+kept_more : {league : LeagueData} {plan : ImprovePlan} {runs : List PhaseRun} {policy : PolicyData} {chains : Chains} {lead : Lead}
     (phase : Phase) (ended : EndedPhase) (policy' : PolicyData) (chains' : Chains) (lead' : Lead) →
     IsKeptAfter league plan runs policy chains lead → next_phase policy ≡ Some phase → phase.chain < 8 →
     IsRunAfter league plan runs (run_of ended) → ended.phase ≡ phase → IsChainBoard league (room_of plan.effort) ended.board →

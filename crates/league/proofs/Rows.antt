@@ -76,7 +76,7 @@ pub index_in_table : (n : ℕ) (numbers : List ℕ) (a b : ℕ) → HasColumns n
 index_in_table n numbers a b fit a_below b_below =
     omega (arith, length-cut n n numbers fit, mul-add-lt a n b n a_below b_below)
 
-pub distance_of-table_of : (n : ℕ) (numbers : List ℕ) (a b : ℕ) → a < n → b < n
+distance_of-table_of : (n : ℕ) (numbers : List ℕ) (a b : ℕ) → a < n → b < n
     → distance_of (table_of n numbers) a b ≡ get_or numbers (a * n + b) 0
 distance_of-table_of n numbers a b a_below b_below = get_or-cut n n numbers a b a_below b_below
 

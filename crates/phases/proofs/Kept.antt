@@ -56,7 +56,7 @@ settled_kept told cs p =
       all = all_settled cs (rank_of told) below p.all;
     }
 
-pub chains_kept : (cs : List Chain) (told : ℕ) (o : PhaseOutcome) → AreChains cs → AreChains (chains_after cs told o)
+chains_kept : (cs : List Chain) (told : ℕ) (o : PhaseOutcome) → AreChains cs → AreChains (chains_after cs told o)
 chains_kept cs told o p =
     let is = told_kept told cs o p in
     elim (cases_eq (told % 20) 19) [

@@ -56,7 +56,7 @@ pub record Holds (told : ℕ) (cs : List Chain) (least : Option ℕ) : Type 0 wh
   pub least_is : least_best (take (chain_count told) cs) ≡ least
   pub ended : (before : ℕ) → before + 1 ≡ told → before % 20 ≡ 19 → IsInOrder (take (rank_of before + 1) cs)
 
-pub holds_first : Holds 0 first_chains None
+holds_first : Holds 0 first_chains None
 unfolding rank_of chain_count least_best IsInOrder
 holds_first = record {
   count = refl;
@@ -146,7 +146,7 @@ next_is : (p : PolicyData) (o : PhaseOutcome) → p.told < 380 →
     policy_after p o ≡ policy_data p.pairs p.distances p.seed p.effort (p.told + 1) (chains_after p.chains p.told o)
 next_is p o below = cond-true _ _ _ (lt-ltb p.told 380 below)
 
-pub run_holds : (outcomes : List PhaseOutcome) (p : PolicyData) (least : Option ℕ) → p.told + length outcomes ≤ 380 →
+run_holds : (outcomes : List PhaseOutcome) (p : PolicyData) (least : Option ℕ) → p.told + length outcomes ≤ 380 →
     Holds p.told p.chains least →
     Holds (p.told + length outcomes) (fold policy_after p outcomes).chains (fold lesser_told least outcomes)
 run_holds [] p least few was =

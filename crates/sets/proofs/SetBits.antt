@@ -77,7 +77,7 @@ pub IsBelow_shifted : (m set k : ℕ) → IsBelow m set → IsBelow m (set / 2 ^
 IsBelow_shifted m set k below = omega (arith, shr_le set k)
 
 -- the numbers that come next
-pub has_next : (set s : ℕ) → has (set * 2 ^ 1) s ≡ (not (s == 0) && has set (s - 1))
+has_next : (set s : ℕ) → has (set * 2 ^ 1) s ≡ (not (s == 0) && has set (s - 1))
 has_next set s =
     let as_sum : set * 2 ^ 1 ≡ set * 2 ^ 1 + 0 = omega arith in
     elim (cases_eq s 0) [

@@ -51,13 +51,13 @@ pub no_stays : (s : Setting) (h : List Entry) (number : ℕ) (ask : Ask) (j : Ju
 no_stays s h number ask j at why judged is = (tells s h number ask j (No at why) judged is).0
 
 -- a seat's entries in the history that it met are those that it had seen
-pub accepted_same : (v : View) (h : List Entry) → Meets v h → under v.held h ≡ under v.held v.seen
+accepted_same : (v : View) (h : List Entry) → Meets v h → under v.held h ≡ under v.held v.seen
 accepted_same v h met =
     let k = met.met.knows in ap (under v.held) k.begins ∙ (let a = under_append v.held v.seen k.after in let b = k.none_after in omega
     arith)
 
 -- and one more after a change of its own
-pub accepted_more : (v : View) (h g : List Entry) (number : ℕ) (ask : Ask) → 0 < times number v.held → Meets v h → g ≡ h ++
+accepted_more : (v : View) (h g : List Entry) (number : ℕ) (ask : Ask) → 0 < times number v.held → Meets v h → g ≡ h ++
     entry number ask ∷ []
     → under v.held g ≡ under v.held v.seen + 1
 accepted_more v h g number ask own met is =
@@ -65,7 +65,7 @@ accepted_more v h g number ask own met is =
     met.single number in omega arith
 
 -- the fields of a seat that has seen a history
-pub seat_saw : (me n : Token) (number held seen accepted : ℕ) (g : List Entry) (version more : ℕ) → IsSeat me number held seen accepted
+seat_saw : (me n : Token) (number held seen accepted : ℕ) (g : List Entry) (version more : ℕ) → IsSeat me number held seen accepted
     → n ≡ (saw me.0 g away, []) → version ≡ length g → more ≡ under me.0.held g → IsSeat n number held version more
 seat_saw me n number held seen accepted g version more seat is long entries =
     let P : Token → Type 0 = λ m. IsSeat m number held version more in
@@ -80,12 +80,12 @@ seat_saw me n number held seen accepted g version more seat is long entries =
       ahead = omega arith;
     })
 
-pub consistent_of : (table : BoardId) (me : Token) (number held seen accepted : ℕ) → IsSeat me number held seen accepted →
+consistent_of : (table : BoardId) (me : Token) (number held seen accepted : ℕ) → IsSeat me number held seen accepted →
     IsConsistent (seat_value table number me.0)
 consistent_of table me number held seen accepted seat =
     record { own = omega (arith, seat.own, seat.single number); single = seat.single; below = seat.below; ahead = seat.ahead }
 
-pub met_of : (table : BoardId) (number : ℕ) (v : View) (h : List Entry) → Meets v h → Met (seat_value table number v) h
+met_of : (table : BoardId) (number : ℕ) (v : View) (h : List Entry) → Meets v h → Met (seat_value table number v) h
 met_of table number v h met = met.met
 
 -- a seat knows at least of its own number
@@ -156,11 +156,11 @@ pub record Saw (me taken read done : Token) : Type 0 where
   pub same : read ≡ taken
   pub left : done ≡ (saw read.0 (kept read.0.stage) away, [])
 
-pub saw_left : (me taken read done : Token) (a : Saw me taken read done) → done ≡ (saw me.0 a.took.0 away, [])
+saw_left : (me taken read done : Token) (a : Saw me taken read done) → done ≡ (saw me.0 a.took.0 away, [])
 saw_left me taken read done a =
     let f : Token → Token = λ m. (saw m.0 (kept m.0.stage) away, []) in a.left ∙ ap f (a.same ∙ a.took.2)
 
-pub saw_board : (me taken read done : Token) (a : Saw me taken read done) → on_board taken.1 ≡ a.took.0
+saw_board : (me taken read done : Token) (a : Saw me taken read done) → on_board taken.1 ≡ a.took.0
 saw_board me taken read done a = ap (λ (m : Token). on_board m.1) a.took.2
 
 pub seat_looked : (me taken read done : Token) (number held seen accepted version : ℕ) → IsSeat me number held seen accepted →
@@ -284,7 +284,7 @@ told_both : (me other : Token) → Agreed (joined me.0 other.0, me.1) → Both m
 told_both me other p = record { history = p.history; first = p.each.1; second = p.each.2.1; single = p.single }
 
 -- what the longer of the two histories has under the numbers of both
-pub entries_both : (v w : View) → Both v w → under (v.held ++ w.held) (longer v.seen w.seen) ≡ under v.held v.seen + under w.held w.seen
+entries_both : (v w : View) → Both v w → under (v.held ++ w.held) (longer v.seen w.seen) ≡ under v.held v.seen + under w.held w.seen
 entries_both v w b =
     let P : List Entry → Type 0 = λ l. under (v.held ++ w.held) l ≡ under v.held v.seen + under w.held w.seen in
     longer_cases P v.seen w.seen
@@ -343,7 +343,7 @@ absorbed table table' after me other done number number' a o same is told first 
     subst A first (subst O second (subst B result made))
 
 -- where a seat holds each number, the history that it met is what it had seen
-pub whole_seen : (v : View) (h : List Entry) (r : ℕ) → Meets v h → callers_below r h → ((x : ℕ) → times x v.held ≤ once_below x r) →
+whole_seen : (v : View) (h : List Entry) (r : ℕ) → Meets v h → callers_below r h → ((x : ℕ) → times x v.held ≤ once_below x r) →
     length v.held ≡ r
     → (h ≡ v.seen) × (under v.held v.seen ≡ length h)
 whole_seen v h r met below own all =

@@ -25,7 +25,7 @@ use Rattle.shared_board.proofs.Views.{either_read, fits_at, fits_fewer, fits_fro
 use Rattle.shared_board.proofs.Steps.{with_views, aside, splits_off, held_once}
 
 -- the view of a seat that is away
-pub fits_away : (s : Table) (r : Ruled s) (id : ℕ) (v : View) → get_elem? s.views id ≡ some v → v.live ≡ true → v.stage ≡ away →
+fits_away : (s : Table) (r : Ruled s) (id : ℕ) (v : View) → get_elem? s.views id ≡ some v → v.live ≡ true → v.stage ≡ away →
     Fits r.setting r.posted (length r.history) r.numbers v
 fits_away s r id v at live e = fits_at r.setting r.posted r.history r.posted (length r.history) r.numbers v away e refl
     (r.seats id v at live)
@@ -56,7 +56,7 @@ glance_keeps slots id m live e s r sized at fits =
     )
 
 -- the best total of the whole history
-pub lowest_now : (s : Setting) (seen h : List Entry) (held : List ℕ) → Knows held seen h → Lowest s seen h (least_of s.league h)
+lowest_now : (s : Setting) (seen h : List Entry) (held : List ℕ) → Knows held seen h → Lowest s seen h (least_of s.league h)
 lowest_now s seen h held k = record {
   more = k.after;
   rest = [];
@@ -64,7 +64,7 @@ lowest_now s seen h held k = record {
   least = ap (least_of s.league) k.begins;
 }
 
-pub lowest_falls : (s : Setting) (seen h : List Entry) (low : ℕ) → IsLeague s.league → Lowest s seen h low → least_of s.league h ≤ low
+lowest_falls : (s : Setting) (seen h : List Entry) (low : ℕ) → IsLeague s.league → Lowest s seen h low → least_of s.league h ≤ low
 lowest_falls s seen h low limits l =
     let falls = least_falls_on s.league (seen ++ l.more) l.rest limits in
     let same : least_of s.league h ≡ least_of s.league ((seen ++ l.more) ++ l.rest) = ap (least_of s.league) l.point in
@@ -143,7 +143,7 @@ begins_longer (x ∷ xs) (y ∷ ys) a b e le =
     (rest.0, cc (heads, rest.1), rest.2)
 
 -- the seat that saw more knows for both
-pub knows_both : (held other : List ℕ) (less more h : List Entry) → length less ≤ length more → Knows held less h → Knows other more h →
+knows_both : (held other : List ℕ) (less more h : List Entry) → length less ≤ length more → Knows held less h → Knows other more h →
     Knows (held ++ other) more h
 knows_both held other less more h le k l =
     let b = begins_longer less more k.after l.after (sym k.begins ∙ l.begins) le in
@@ -187,7 +187,7 @@ le_or_le : (a b : ℕ) → (a ≤ b) ⊎ (b ≤ a)
 le_or_le a b = elim (dec_le a b) [ yes le ↦ inl le | no more ↦ inr (omega arith) ]
 
 -- the lesser of two totals is at the later point
-pub lowest_both : (s : Setting) (v w seen after h : List Entry) (low other : ℕ) → IsLeague s.league → h ≡ seen ++ after →
+lowest_both : (s : Setting) (v w seen after h : List Entry) (low other : ℕ) → IsLeague s.league → h ≡ seen ++ after →
     length seen ≤ max (length v) (length w)
     → Lowest s v h low → Lowest s w h other → Lowest s seen h (min low other)
 lowest_both s v w seen after h low other limits e le k l =
@@ -213,7 +213,7 @@ lowest_both s v w seen after h low other limits e le k l =
     lowest_from s seen after h p k.rest (min low other) e k.point (omega arith) is)
     (le_or_le (length p) (length q))
 
-pub fits_joined : (s : Setting) (h : List Entry) (long numbers : ℕ) (v w : View) → IsLeague s.league → Fits s h long numbers v →
+fits_joined : (s : Setting) (h : List Entry) (long numbers : ℕ) (v w : View) → IsLeague s.league → Fits s h long numbers v →
     Fits s h long numbers w → Fits s h long numbers (joined v w)
 fits_joined s h long numbers v w limits f g =
     let K : List Entry → Type 0 = λ l. Knows (v.held ++ w.held) l h in

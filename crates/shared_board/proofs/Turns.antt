@@ -90,7 +90,7 @@ take_keeps slots id m live e s r sized at fits =
     ]
 
 -- what the entry that was added says of the numbers
-pub added_below : (s : Table) (r : Ruled s) (id : ℕ) (v : View) (before after : List Entry) → get_elem? s.views id ≡ some v →
+added_below : (s : Table) (r : Ruled s) (id : ℕ) (v : View) (before after : List Entry) → get_elem? s.views id ≡ some v →
     before ≡ r.history → Added v.held before after
     → callers_below r.numbers after
 added_below s r id v before after at same added =
@@ -185,7 +185,7 @@ post_keeps slots id m least live e is s r sized at fits =
     )
 
 -- the board comes home
-pub home_again : (s : Table) (r : Ruled s) (v : View) (c : List (ℕ × Option Book)) (h : List Entry) → v.setting ≡ r.setting →
+home_again : (s : Table) (r : Ruled s) (v : View) (c : List (ℕ × Option Book)) (h : List Entry) → v.setting ≡ r.setting →
     h ≡ r.history → c ≡ (0, Some (board_at v.setting h)) ∷ []
     → put_back s.homes c ≡ some (Some (board_at r.setting r.history)) ∷ []
 home_again s r v c h setting_is same has =

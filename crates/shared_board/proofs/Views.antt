@@ -24,7 +24,7 @@ pub knows_all : (held : List ℕ) (h : List Entry) → Knows held h h
 knows_all held h = record { after = []; begins = sym (append-nil h); none_after = refl }
 
 -- one entry more, under no number that is held
-pub knows_more : (held : List ℕ) (seen h : List Entry) (e : Entry) → times e.caller held ≡ 0 → Knows held seen h →
+knows_more : (held : List ℕ) (seen h : List Entry) (e : Entry) → times e.caller held ≡ 0 → Knows held seen h →
     Knows held seen (h ++ e ∷ [])
 knows_more held seen h e apart k = record {
   after = k.after ++ e ∷ [];
@@ -40,7 +40,7 @@ lowest_all s h = let same : h ++ [] ≡ h = append-nil h in record {
   least = ap (λ l. least_of s.league l) (sym same);
 }
 
-pub lowest_more : (s : Setting) (seen h : List Entry) (low : ℕ) (e : Entry) → Lowest s seen h low → Lowest s seen (h ++ e ∷ []) low
+lowest_more : (s : Setting) (seen h : List Entry) (low : ℕ) (e : Entry) → Lowest s seen h low → Lowest s seen (h ++ e ∷ []) low
 lowest_more s seen h low e l = record {
   more = l.more;
   rest = l.rest ++ e ∷ [];
@@ -48,7 +48,7 @@ lowest_more s seen h low e l = record {
   least = l.least;
 }
 
-pub formers_more : (held : List ℕ) (h : List Entry) (e : Entry) (formers : List Former) → times e.caller held ≡ 0 →
+formers_more : (held : List ℕ) (h : List Entry) (e : Entry) (formers : List Former) → times e.caller held ≡ 0 →
     EachFormer held h formers → EachFormer held (h ++ e ∷ []) formers
 formers_more held h e [] apart each = tt
 formers_more held h e (p ∷ ps) apart each =
@@ -230,7 +230,7 @@ owned s posted history turn numbers home views id v (inr held) at ne = dite (ℕ
     (λ other. absurd (ne (held.others_away id v other at)))
 
 -- a seat that is away isn't the holder
-pub not_holder : (posted history : List Entry) (numbers turn : ℕ) (home : maybe.Option (Option Book)) (views : List View) (id : ℕ)
+not_holder : (posted history : List Entry) (numbers turn : ℕ) (home : maybe.Option (Option Book)) (views : List View) (id : ℕ)
     (v : View)
     (held : IsHeld posted history numbers turn home views) → get_elem? views id ≡ some v → v.stage ≡ away → held.seat ≢ id
 not_holder posted history numbers turn home views id v held at e same =

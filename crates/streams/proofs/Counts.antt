@@ -7,10 +7,10 @@ use Rattle.streams.specs.declared.ends.Step.{Step}
 use Rattle.streams.specs.declared.ends.Step.TheVariants.{Moved, Again, Failed}
 use Rattle.streams.specs.Tally.{one_more, noted, RisesBy, NotBelow, FailsWriting}
 
-pub one_more-ge : (n : ℕ) → n ≤ one_more n
+one_more-ge : (n : ℕ) → n ≤ one_more n
 one_more-ge n = grind (arith, nat_tests)
 
-pub one_more-le : (n : ℕ) → one_more n ≤ n + 1
+one_more-le : (n : ℕ) → one_more n ≤ n + 1
 one_more-le n = grind (arith, nat_tests)
 
 -- a write that moved some bytes: the calls that were allowed for these are more than those that were made
@@ -33,7 +33,7 @@ NotBelow-refl t = record { calls = omega arith; failed = omega arith; empty = om
 pub NotBelow-trans : (a b c : Tally) → NotBelow a b → NotBelow b c → NotBelow a c
 NotBelow-trans a b c p q = record { calls = omega arith; failed = omega arith; empty = omega arith; again = omega arith }
 
-pub NotBelow-noted : (t : Tally) (s : Step) → NotBelow t (noted t s)
+NotBelow-noted : (t : Tally) (s : Step) → NotBelow t (noted t s)
 NotBelow-noted t (Moved n) = record
     { calls = one_more-ge t.calls; failed = omega arith; empty = grind (arith, nat_tests); again = omega arith }
 NotBelow-noted t Again = record { calls = one_more-ge t.calls; failed = omega arith; empty = omega arith; again = one_more-ge t.again }
@@ -44,7 +44,7 @@ pub NotBelow-call : (a b c : Tally) (s : Step) → NotBelow a b → c ≡ noted 
 NotBelow-call a b c s p e = rw e (NotBelow-trans a b (noted b s) p (NotBelow-noted b s))
 
 -- a rise since a count is one since any lower count
-pub RisesBy-after : (n a b c : ℕ) → a ≤ b → RisesBy n b c → RisesBy n a c
+RisesBy-after : (n a b c : ℕ) → a ≤ b → RisesBy n b c → RisesBy n a c
 RisesBy-after n a b c p (inl q) = inl (omega arith)
 RisesBy-after n a b c p (inr q) = inr q
 

@@ -146,7 +146,7 @@ lines_played league room before (e ∷ h) small =
     lines_played league room (next_of league room before 0 (ask_of (length before) e.change)) h small.1
 
 -- a legal history, written and given as a script, leads to the same changes under caller 0
-pub written_played : (league : LeagueData) (room : ℕ) (h : List Entry) → IsLeague league → IsLegal league room h
+written_played : (league : LeagueData) (room : ℕ) (h : List Entry) → IsLeague league → IsLegal league room h
     → played league room (lines (change_lines h)) ≡ under_caller_0 h
 unfolding played
 written_played league room h is legal =

@@ -62,7 +62,7 @@ module _ (g : Games) (rr : IsDoubleRoundRobin g) (i j : ℕ) (p : IsPair g.teams
             (and_left _ _ (le-ltb t g.teams le)))
       ]
 
-pub same_touched_team : (g : Games) (mv : Move) → IsDoubleRoundRobin g → fault_of g mv ≡ Ok tt → (t : ℕ) →
+same_touched_team : (g : Games) (mv : Move) → IsDoubleRoundRobin g → fault_of g mv ≡ Ok tt → (t : ℕ) →
     touched_team g mv t ≡ touched_by g (exchange_of g mv) t
 same_touched_team g (Homes i j) rr checked t = sym (has-both i j t)
 same_touched_team g (Rounds k l) rr checked t = sym (has_all_numbers g.teams t)
@@ -75,7 +75,7 @@ same_touched_team g (PartRounds i k l) rr checked t =
 same_touched_team g (PartTeams i j k) rr checked t =
     ap (λ among. touched_of g i j among t) (sym (fun_ext (has-taken g rr i j k (part_teams-checked g i j k checked))))
 
-pub same_touched_round : (g : Games) (mv : Move) → IsDoubleRoundRobin g → fault_of g mv ≡ Ok tt → (r : ℕ) →
+same_touched_round : (g : Games) (mv : Move) → IsDoubleRoundRobin g → fault_of g mv ≡ Ok tt → (r : ℕ) →
     touched_round g mv r ≡ has (main_cells (exchange_of g mv)).rounds r
 same_touched_round g (Homes i j) rr checked r = sym (has-both (round_of g i j) (round_of g j i) r)
 same_touched_round g (Rounds k l) rr checked r = sym (has-both k l r)

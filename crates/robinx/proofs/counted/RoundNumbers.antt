@@ -8,7 +8,7 @@ use Rattle.robinx.specs.Walked.{one_in, number_at}
 use Rattle.robinx.specs.declared.round_numbers.RoundNumbers.{RoundNumbers}
 
 -- 1 where both hold
-pub one_where : (a b : Bool) (set r : ℕ) → has set r ≡ (a && b) → one_in set r ≡ (if b then (if a then 1 else 0) else 0)
+one_where : (a b : Bool) (set r : ℕ) → has set r ≡ (a && b) → one_in set r ≡ (if b then (if a then 1 else 0) else 0)
 one_where true true set r is = ap {B = ℕ} (λ c. if c then 1 else 0) is
 one_where true false set r is = ap {B = ℕ} (λ c. if c then 1 else 0) is
 one_where false true set r is = ap {B = ℕ} (λ c. if c then 1 else 0) is

@@ -24,14 +24,14 @@ nearly_start false m none = refl
 
 -- one round more
 
-pub full_step : (start bit : Bool) (m more : ℕ) → more ≡ m + (if not bit then 1 else 0) → ((start && m == 0) && bit) ≡ (start && more == 0)
+full_step : (start bit : Bool) (m more : ℕ) → more ≡ m + (if not bit then 1 else 0) → ((start && m == 0) && bit) ≡ (start && more == 0)
 full_step false bit m more is = refl
 full_step true true m more is = let same : more ≡ m = omega (arith, is) in rw same (and-true (m == 0))
 full_step true false m more is =
     let some : more ≢ 0 = omega (arith, is) in
     rw (ne_eqb more 0 some) (and-false (m == 0))
 
-pub nearly_step : (start bit : Bool) (m more : ℕ) → more ≡ m + (if not bit then 1 else 0) →
+nearly_step : (start bit : Bool) (m more : ℕ) → more ≡ m + (if not bit then 1 else 0) →
     (((start && nat_lt m 2) && bit) || (start && m == 0)) ≡ (start && nat_lt more 2)
 nearly_step false bit m more is = refl
 nearly_step true true m more is =

@@ -26,7 +26,7 @@ or_members : (t at new : ℕ) (old : Bool) → (t == at || old) ≡ true → (t 
 or_members t at new old here other = sym (ap (λ b. b || old) (ne_eqb t at other)) ∙ here
 
 -- a game is its opponent's too, on the other side
-pub opponents_game : (g : Games) (rr : IsDoubleRoundRobin g) (t r : ℕ) → t < g.teams → r < round_count g.teams →
+opponents_game : (g : Games) (rr : IsDoubleRoundRobin g) (t r : ℕ) → t < g.teams → r < round_count g.teams →
     cell g (cell g t r).opponent r ≡ record { opponent = t; home = not (cell g t r).home }
 opponents_game g rr t r in_t in_r = by_home (cell g t r).opponent (cell g t r).home (is_cell g rr t r in_t in_r)
   where

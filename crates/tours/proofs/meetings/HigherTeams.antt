@@ -18,7 +18,7 @@ unfolding sum_below
 none_below a p rest = grind (arith, nat_tests)
 
 -- of the numbers below n that pass the one is equal to both, or none is
-pub count_where_both : (n a b : ℕ) (p : ℕ → Bool) →
+count_where_both : (n a b : ℕ) (p : ℕ → Bool) →
     count_where n (λ k. p k && (a == k && b == k)) ≡ (if p a && (nat_lt a n && a == b) then 1 else 0)
 unfolding sum_below
 count_where_both zero a b p = none_below a (p a) (a == b)

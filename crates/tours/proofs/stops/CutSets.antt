@@ -38,7 +38,7 @@ guests_same g teams teams' rounds rounds' t r rr same_teams same_rounds in_t in_
     ap (λ b. rounds r && (b || teams' (place g t r))) (same_teams t in_t) ∙
     ap (λ b. rounds r && (teams t || b)) (place_same g teams' teams t r rr same_teams in_t in_r)
 
-pub travel_around_cut : (l : LeagueData) (g : Games) (teams teams' rounds rounds' : ℕ → Bool) → IsDoubleRoundRobin g →
+travel_around_cut : (l : LeagueData) (g : Games) (teams teams' rounds rounds' : ℕ → Bool) → IsDoubleRoundRobin g →
     SameBelow g.teams teams' teams → SameBelow (round_count g.teams) rounds' rounds →
     travel_around l g teams' rounds' ≡ travel_around l g teams rounds
 unfolding travel_around
