@@ -83,7 +83,7 @@ struct Trial {
 }
 
 /// What became of one try.
-enum Outcome {
+enum TryEnd {
     Kept,
     Withdrawn,
     Refused,
@@ -107,9 +107,9 @@ pub fn try_moves(schedule: &mut Schedule, league: &League, tried: Tried, plan: P
             slack: plan.slack_at(index),
         };
         match attempt(schedule, league, trial, &mut known) {
-            Outcome::Kept => kept += 1,
-            Outcome::Withdrawn => withdrawn += 1,
-            Outcome::Refused => {}
+            TryEnd::Kept => kept += 1,
+            TryEnd::Withdrawn => withdrawn += 1,
+            TryEnd::Refused => {}
         }
     }
     Tries {
@@ -120,7 +120,7 @@ pub fn try_moves(schedule: &mut Schedule, league: &League, tried: Tried, plan: P
 }
 
 /// Tries a move on a schedule of known cost.
-fn attempt(schedule: &mut Schedule, league: &League, trial: Trial, known: &mut Known) -> Outcome
+fn attempt(schedule: &mut Schedule, league: &League, trial: Trial, known: &mut Known) -> TryEnd
     requires same_size { teams league.now ≡ schedule.old.teams }
     requires known { IsKnown league.now schedule.old known.old.cost known.old.score }
     ensures same_size { schedule.new.teams ≡ schedule.old.teams }
@@ -128,14 +128,14 @@ fn attempt(schedule: &mut Schedule, league: &League, trial: Trial, known: &mut K
 {
     let Trial { mv, slack } = trial;
     if check(schedule, mv).is_err() {
-        return Outcome::Refused;
+        return TryEnd::Refused;
     }
     let exchange = exchange(schedule, mv);
     let most = known.score.saturating_add(slack);
     let Some(cost) = make_within(schedule, league, &exchange, known.cost, most) else {
-        return Outcome::Withdrawn;
+        return TryEnd::Withdrawn;
     };
     let score = cost.score(league);
     *known = Known { cost, score };
-    Outcome::Kept
+    TryEnd::Kept
 }

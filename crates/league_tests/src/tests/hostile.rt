@@ -9,25 +9,25 @@ use std::process::Abort;
 use std::test::Fail;
 
 #[test]
-fn no_front_of_a_league_is_json(rt: HostRuntime) {
+fn no_prefix_of_a_league_is_json(rt: HostRuntime) {
     let text = FOUR_TEAMS.as_bytes();
     for length in 0..text.len() {
-        let front = &text[..length];
-        check_bytes(&rt, rt.alloc(), front, Some(NotJson));
+        let prefix = &text[..length];
+        check_bytes(&rt, rt.alloc(), prefix, Some(NotJson));
     }
 }
 
-/// The league of four teams with a byte 255 at a place.
-fn spoilt(alloc: Global, place: usize) -> Result<Vec<u8>, Fail> {
+/// The league of four teams with a byte 255 at an index.
+fn spoilt(alloc: Global, index: usize) -> Result<Vec<u8>, Fail> {
     let mut text = Vec::from_slice(alloc, FOUR_TEAMS.as_bytes())?;
-    *text.get_mut(place).ok_or("a byte")? = 255;
+    *text.get_mut(index).ok_or("a byte")? = 255;
     Ok(text)
 }
 
 #[test]
-fn a_byte_255_at_any_place_is_no_json(rt: HostRuntime) -> Result<(), Fail> {
-    for place in 0..FOUR_TEAMS.len() {
-        let text = spoilt(rt.alloc(), place)?;
+fn a_byte_255_at_any_index_is_no_json(rt: HostRuntime) -> Result<(), Fail> {
+    for index in 0..FOUR_TEAMS.len() {
+        let text = spoilt(rt.alloc(), index)?;
         check_bytes(&rt, rt.alloc(), &text, Some(NotJson));
     }
     Ok(())
@@ -138,7 +138,7 @@ const WIDE: &[&str] = &[
 
 const FAR: &[&str] = &["1e400", "-1e400"];
 
-/// Numbers that are no whole ones of 64 bits, at a place where such a one is wanted and where any is.
+/// Numbers that are no whole ones of 64 bits, where such a one is wanted and where any is.
 const OTHER_NUMBERS: &[Case] = &[
     (r#""at_most":#}"#, WIDE, Some(WrongKind(Field::AtMost))),
     (r#""note":#}"#, WIDE, None),
@@ -146,7 +146,7 @@ const OTHER_NUMBERS: &[Case] = &[
     (r#""note":#}"#, FAR, Some(NotJson)),
 ];
 
-// the text with a number in its place
+// the text with a number for its sign #
 fn check_number(
     rt: &impl Abort,
     alloc: Global,
@@ -154,9 +154,9 @@ fn check_number(
     number: &str,
     fault: Option<LeagueFault>,
 ) -> Result<(), Fail> {
-    let (front, back) = text.split_once('#').ok_or("a place")?;
-    let start = if front.starts_with('{') { "" } else { MORE };
-    let text = format!(in alloc; "{start}{front}{number}{back}")?;
+    let (before, after) = text.split_once('#').ok_or("a number sign")?;
+    let start = if before.starts_with('{') { "" } else { MORE };
+    let text = format!(in alloc; "{start}{before}{number}{after}")?;
     check_fault(rt, alloc, text.as_str(), fault);
     Ok(())
 }
