@@ -60,7 +60,7 @@ fn replies_differ_in_each_field(rt: HostRuntime) {
     check_differ(&rt, &replies());
 }
 
-const REASONS: [Why; 13] = [
+const REASONS: &[Why] = &[
     Why::Ahead,
     Why::Old,
     Why::Full,
@@ -78,7 +78,7 @@ const REASONS: [Why; 13] = [
 
 #[test]
 fn reasons_differ(rt: HostRuntime) {
-    check_differ(&rt, &REASONS);
+    check_differ(&rt, REASONS);
     check_differ(&rt, &[BoardFault::RoomRange, BoardFault::Memory]);
 }
 

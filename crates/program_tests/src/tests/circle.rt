@@ -1,8 +1,17 @@
-//! A league that several tests share, and the sheet of its start.
+//! A league that several tests share, whole and in parts, and the sheet of its start.
 
 /// Four teams in a circle.
 pub(crate) const CIRCLE: &str =
     r#"{"format":1,"teams":["T1","T2","T3","T4"],"distances":[[0,1,2,1],[1,0,1,2],[2,1,0,1],[1,2,1,0]]}"#;
+
+/// The beginning of a league in either format.
+pub(crate) const FIRST: &str = r#"{"format":1,"#;
+
+pub(crate) const SECOND: &str = r#"{"format":2,"#;
+
+/// The teams and distances of that circle, behind the beginning and before the members that are told besides.
+pub(crate) const FOUR: &str =
+    r#""teams":["T1","T2","T3","T4"],"distances":[[0,1,2,1],[1,0,1,2],[2,1,0,1],[1,2,1,0]]"#;
 
 pub(crate) const SHEET: &str = "league 4 teams 6 rounds\n\
     team 1 HHAAAH T1\n\

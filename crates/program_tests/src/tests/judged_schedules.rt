@@ -1,7 +1,7 @@
 //! Reports: what known schedules cost, a line for each kind of fault, and inputs that have no report. The expected lines are those of
 //! scripts/apart.py, which shares no code with the crates.
 
-use crate::tests::circle::{CIRCLE, SHEET};
+use crate::tests::circle::{CIRCLE, FIRST, FOUR, SHEET};
 use crate::tests::samples::{COST, JUDGED, REPORT};
 use crate::tests::told::Text::Whole;
 use crate::tests::told::{Case, Command, NOTHING, TEXT_REPORT, Text, check_case, check_cases};
@@ -18,16 +18,9 @@ const REORDERED: &str =
 
 /// Homes of teams 1 and 2 exchanged, and then rounds 1 and 3.
 const REPEATING: &str = "league 4 teams 6 rounds\n\
-    team 1 AAHAHH T1\n\
-    team 2 HHHAAA T2\n\
-    team 3 HAAHHA T3\n\
-    team 4 AHAHAH T4\n\
-    round 1: 2-4 3-1\n\
-    round 2: 2-1 4-3\n\
-    round 3: 1-4 2-3\n\
-    round 4: 3-2 4-1\n\
-    round 5: 1-2 3-4\n\
-    round 6: 1-3 4-2\n";
+    team 1 AAHAHH T1\nteam 2 HHHAAA T2\nteam 3 HAAHHA T3\nteam 4 AHAHAH T4\n\
+    round 1: 2-4 3-1\nround 2: 2-1 4-3\nround 3: 1-4 2-3\n\
+    round 4: 3-2 4-1\nround 5: 1-2 3-4\nround 6: 1-3 4-2\n";
 
 const COST_OF_REPEATING: &str = "travel 28 hard 2 soft 0\n\
     tour 1 travel 6\n\
@@ -44,16 +37,9 @@ const PHASED: &str = r#"{"format":2,"teams":["T1","T2","T3","T4"],"phased":true,
 
 /// Rounds 3 and 4 of the start exchanged.
 const HALVED: &str = "league 4 teams 6 rounds\n\
-    team 1 HHAAAH T1\n\
-    team 2 HAAHHA T2\n\
-    team 3 AAHHHA T3\n\
-    team 4 AHHAAH T4\n\
-    round 1: 1-4 2-3\n\
-    round 2: 1-2 4-3\n\
-    round 3: 3-2 4-1\n\
-    round 4: 2-4 3-1\n\
-    round 5: 2-1 3-4\n\
-    round 6: 1-3 4-2\n";
+    team 1 HHAAAH T1\nteam 2 HAAHHA T2\nteam 3 AAHHHA T3\nteam 4 AHHAAH T4\n\
+    round 1: 1-4 2-3\nround 2: 1-2 4-3\nround 3: 3-2 4-1\n\
+    round 4: 2-4 3-1\nround 5: 2-1 3-4\nround 6: 1-3 4-2\n";
 
 const COST_OF_HALVED: &str = "travel 26 hard 14 soft 0\n\
     tour 1 travel 4\n\
@@ -74,9 +60,8 @@ const COST_OF_HALVED: &str = "travel 26 hard 14 soft 0\n\
     half 2-4 rounds 4 6\n\
     infeasible\n";
 
-/// A league with a rule of each kind of weight.
-const RULED: &str = r#"{"format":1,"teams":["T1","T2","T3","T4"],
-    "distances":[[0,1,2,1],[1,0,1,2],[2,1,0,1],[1,2,1,0]],"rules":[
+/// A rule of each kind of weight, and the end of the league.
+const RULES: &str = r#","rules":[
     {"class":"CA3","kind":"soft","weight":10,"teams1":[3],"mode":"H","intp":3,"max":2},
     {"class":"BR1","kind":"hard","teams":[1],"mode":"A","intp":0}]}"#;
 
@@ -151,7 +136,7 @@ const CASES: &[Case<'_>] = &[
     ),
     (
         TEXT_REPORT,
-        &[RULED, JUDGED, SHEET],
+        &[FIRST, FOUR, RULES, JUDGED, SHEET],
         Ok(Some(Verdict::Infeasible)),
         Whole(&[SHEET, COST_UNDER_RULES]),
     ),

@@ -61,10 +61,7 @@ const SOFT: &str = "start travel 3063000000 hard 0 soft 1989212160000000\n\
     done 3 travel 3061000000 hard 0 soft 1989222400000000\n\
     done 4 travel 3055000000 hard 0 soft 1989222400000000\n\
     no 4 meet\n\
-    done 5 travel 3061000000 hard 0 soft 1989222400000000\n\
-    slack 0\n\
-    no 5 worse\n\
-    history 5\n";
+    done 5 travel 3061000000 hard 0 soft 1989222400000000\n";
 
 const HARD: &str = "start travel 3063000000 hard 1989212274 soft 0\n\
     done 1 travel 3061000000 hard 1989222518 soft 0\n\
@@ -72,13 +69,13 @@ const HARD: &str = "start travel 3063000000 hard 1989212274 soft 0\n\
     done 3 travel 3061000000 hard 1989222518 soft 0\n\
     done 4 travel 3055000000 hard 1989222530 soft 0\n\
     no 4 meet\n\
-    done 5 travel 3061000000 hard 1989222518 soft 0\n\
-    slack 0\n\
-    no 5 worse\n\
-    history 5\n";
+    done 5 travel 3061000000 hard 1989222518 soft 0\n";
 
-/// Where the rules are soft, and where they are hard: how many rounds in a row are allowed, how the play text of the script begins and
-/// ends, and a part of the text of a search.
+/// The lines that follow in both plays.
+const REST: &str = "slack 0\nno 5 worse\nhistory 5\n";
+
+/// Where the rules are soft, and where they are hard: how many rounds in a row are allowed, how the play text of the script begins
+/// before the rest and how it ends, and a part of the text of a search.
 const LEAGUES: [(&str, u8, &str, &str, &str); 2] = [
     (
         "soft",
@@ -90,7 +87,7 @@ const LEAGUES: [(&str, u8, &str, &str, &str); 2] = [
     ("hard", 1, HARD, "best none\n", "\nbest none\n"),
 ];
 
-/// The script's play text begins and ends so.
+/// The script's play text begins so, with the rest behind, and ends so.
 fn check_costs<T: Threads + Wait + Sync + Abort>(
     rt: &T,
     alloc: Global,
@@ -101,11 +98,9 @@ fn check_costs<T: Threads + Wait + Sync + Abort>(
     let input = [league, SCRIPT, LINES].concat(alloc)?;
     let played = tell(rt, alloc, PLAY_OF_1024, input.as_bytes())?;
     check_same(rt, &played.answer, &WRITTEN);
-    check_holds(
-        rt,
-        &begins,
-        played.text.as_slice().starts_with(begins.as_bytes()),
-    );
+    let front = [begins, REST].concat(alloc)?;
+    let does_begin = played.text.as_slice().starts_with(front.as_bytes());
+    check_holds(rt, &begins, does_begin);
     check_holds(rt, &ends, played.text.as_slice().ends_with(ends.as_bytes()));
     Ok(())
 }

@@ -49,18 +49,30 @@ fn start_succeeds_with_ample_memory(rt: HostRuntime) -> Result<(), Fail> {
 }
 
 #[test]
-fn start_tells_refused_memory(rt: HostRuntime) {
-    check_refused(&rt, rt.alloc(), &START, &[ProgramFault::Memory]);
-}
-
-#[test]
 fn play_succeeds_with_ample_memory(rt: HostRuntime) -> Result<(), Fail> {
     check_case(&rt, rt.alloc(), &PLAY)
 }
 
 #[test]
+fn start_tells_refused_memory(rt: HostRuntime) {
+    check_refused(&rt, rt.alloc(), &START, &[ProgramFault::Memory]);
+}
+
+#[test]
 fn play_tells_refused_memory(rt: HostRuntime) {
     check_refused(&rt, rt.alloc(), &PLAY, &[ProgramFault::Memory]);
+}
+
+#[test]
+fn find_succeeds_with_ample_memory(rt: HostRuntime) -> Result<(), Fail> {
+    check_case(&rt, rt.alloc(), &FIND)
+}
+
+/// Where the memory of a thread itself is refused, the answer is Spawn.
+#[test]
+fn find_tells_refused_memory(rt: HostRuntime) {
+    let faults = [ProgramFault::Memory, ProgramFault::Spawn];
+    check_refused(&rt, rt.alloc(), &FIND, &faults);
 }
 
 #[test]
@@ -81,16 +93,4 @@ fn page_with_ample_memory(rt: HostRuntime) -> Result<(), Fail> {
 #[test]
 fn page_tells_refused_memory(rt: HostRuntime) {
     check_refused(&rt, rt.alloc(), &PAGE, &[ProgramFault::Memory]);
-}
-
-#[test]
-fn find_succeeds_with_ample_memory(rt: HostRuntime) -> Result<(), Fail> {
-    check_case(&rt, rt.alloc(), &FIND)
-}
-
-/// Where the memory of a thread itself is refused, the answer is Spawn.
-#[test]
-fn find_tells_refused_memory(rt: HostRuntime) {
-    let faults = [ProgramFault::Memory, ProgramFault::Spawn];
-    check_refused(&rt, rt.alloc(), &FIND, &faults);
 }

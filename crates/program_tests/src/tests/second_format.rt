@@ -1,6 +1,6 @@
 //! Leagues of format 2. Schedules and costs were worked by hand from the Berger table of four teams.
 
-use crate::tests::circle::SHEET;
+use crate::tests::circle::{FIRST, FOUR, SECOND, SHEET};
 use crate::tests::samples::SCRIPT;
 use crate::tests::told::Text::{Excerpt, Whole};
 use crate::tests::told::{Case, Command, NOTHING, PLAY_OF_1024, WRITTEN, check_case, check_cases};
@@ -13,15 +13,8 @@ use std::sync::Wait;
 use std::test::Fail;
 use std::thread::Threads;
 
-/// Four teams in a circle in each format, up to the members that are told besides, and the end of the text.
-const FIRST: &str =
-    r#"{"format":1,"teams":["T1","T2","T3","T4"],"distances":[[0,1,2,1],[1,0,1,2],[2,1,0,1],[1,2,1,0]]"#;
-
-const SECOND: &str =
-    r#"{"format":2,"teams":["T1","T2","T3","T4"],"distances":[[0,1,2,1],[1,0,1,2],[2,1,0,1],[1,2,1,0]]"#;
-
-const THIRD: &str =
-    r#"{"format":3,"teams":["T1","T2","T3","T4"],"distances":[[0,1,2,1],[1,0,1,2],[2,1,0,1],[1,2,1,0]]"#;
+/// The beginning of a league in a format that there isn't.
+const THIRD: &str = r#"{"format":3,"#;
 
 const END: &str = "}";
 
@@ -40,41 +33,44 @@ const FIDE_IN_STEP: &str =
     r#","start":"fide","rules":[{"class":"FA2","kind":"hard","teams":[1,2,3,4],"intp":1}]"#;
 
 const FIDE_SHEET: &str = "league 4 teams 6 rounds\n\
-    team 1 HAHAAH T1\n\
-    team 2 HHAAHA T2\n\
-    team 3 AHAHHA T3\n\
-    team 4 AAHHAH T4\n\
-    round 1: 1-4 2-3\n\
-    round 2: 2-4 3-1\n\
-    round 3: 1-2 4-3\n\
-    round 4: 3-2 4-1\n\
-    round 5: 2-1 3-4\n\
-    round 6: 1-3 4-2\n";
+    team 1 HAHAAH T1\nteam 2 HHAAHA T2\nteam 3 AHAHHA T3\nteam 4 AAHHAH T4\n\
+    round 1: 1-4 2-3\nround 2: 2-4 3-1\nround 3: 1-2 4-3\n\
+    round 4: 3-2 4-1\nround 5: 2-1 3-4\nround 6: 1-3 4-2\n";
 
 const STARTS: &[Case<'_>] = &[
-    (Command::Start, &[FIRST, END], WRITTEN, Whole(&[SHEET])),
     (
         Command::Start,
-        &[FIRST, FIDE, END],
-        WRITTEN,
-        Whole(&[SHEET]),
-    ),
-    (Command::Start, &[SECOND, END], WRITTEN, Whole(&[SHEET])),
-    (
-        Command::Start,
-        &[SECOND, r#","start":"plain""#, END],
+        &[FIRST, FOUR, END],
         WRITTEN,
         Whole(&[SHEET]),
     ),
     (
         Command::Start,
-        &[SECOND, FIDE, END],
+        &[FIRST, FOUR, FIDE, END],
+        WRITTEN,
+        Whole(&[SHEET]),
+    ),
+    (
+        Command::Start,
+        &[SECOND, FOUR, END],
+        WRITTEN,
+        Whole(&[SHEET]),
+    ),
+    (
+        Command::Start,
+        &[SECOND, FOUR, r#","start":"plain""#, END],
+        WRITTEN,
+        Whole(&[SHEET]),
+    ),
+    (
+        Command::Start,
+        &[SECOND, FOUR, FIDE, END],
         WRITTEN,
         Whole(&[FIDE_SHEET]),
     ),
     (
         Command::Start,
-        &[SECOND, FIDE_AND_PHASED, END],
+        &[SECOND, FOUR, FIDE_AND_PHASED, END],
         WRITTEN,
         Whole(&[FIDE_SHEET]),
     ),
@@ -88,25 +84,25 @@ fn starts_stand_in_the_order_asked_for(rt: HostRuntime) -> Result<(), Fail> {
 const REFUSED: &[Case<'_>] = &[
     (
         Command::Start,
-        &[SECOND, r#","start":"FIDE""#, END],
+        &[SECOND, FOUR, r#","start":"FIDE""#, END],
         Err(League(WrongKind(Field::Start))),
         NOTHING,
     ),
     (
         Command::Start,
-        &[SECOND, r#","phased":1"#, END],
+        &[SECOND, FOUR, r#","phased":1"#, END],
         Err(League(WrongKind(Field::Phased))),
         NOTHING,
     ),
     (
         Command::Start,
-        &[THIRD, END],
+        &[THIRD, FOUR, END],
         Err(League(WrongKind(Field::Format))),
         NOTHING,
     ),
     (
         Command::Start,
-        &[FIRST, IN_STEP, END],
+        &[FIRST, FOUR, IN_STEP, END],
         Err(League(RuleClass(0))),
         NOTHING,
     ),
@@ -124,65 +120,65 @@ type Play<'a> = (&'a [&'a str], &'a str, &'a str);
 const PLAYS: &[Play<'_>] = &[
     // the order of the start
     (
-        &[SECOND, FIDE, END, SCRIPT],
+        &[SECOND, FOUR, FIDE, END, SCRIPT],
         "start travel 30 hard 0 soft 0\nhistory ",
         "best 30 at 0\n",
     ),
     (
-        &[SECOND, FIDE_TWO_IN_A_ROW, END, SCRIPT],
+        &[SECOND, FOUR, FIDE_TWO_IN_A_ROW, END, SCRIPT],
         "start travel 30 hard 0 soft 0\nhistory ",
         "best 30 at 0\n",
     ),
     (
-        &[SECOND, r#","at_most":2"#, END, SCRIPT],
+        &[SECOND, FOUR, r#","at_most":2"#, END, SCRIPT],
         "start travel 30 hard 2 soft 0\nhistory ",
         "best none\n",
     ),
     (
-        &[SECOND, FIDE, END, SCRIPT, "rounds 2 3"],
+        &[SECOND, FOUR, FIDE, END, SCRIPT, "rounds 2 3"],
         "start travel 30 hard 0 soft 0\ndone 1 travel 30 hard 0 soft 0\nhistory ",
         "best 30 at 0\n",
     ),
     // how far home games may be apart
     (
-        &[SECOND, IN_STEP, END, SCRIPT, "homes 1 2"],
+        &[SECOND, FOUR, IN_STEP, END, SCRIPT, "homes 1 2"],
         "start travel 30 hard 0 soft 10\ndone 1 travel 26 hard 0 soft 30\nhistory ",
         "best 40 at 0\n",
     ),
     (
-        &[SECOND, FIDE_IN_STEP, END, SCRIPT],
+        &[SECOND, FOUR, FIDE_IN_STEP, END, SCRIPT],
         "start travel 30 hard 1 soft 0\nhistory ",
         "best none\n",
     ),
     // phases
     (
-        &[SECOND, END, SCRIPT, "rounds 3 4"],
+        &[SECOND, FOUR, END, SCRIPT, "rounds 3 4"],
         "start travel 30 hard 0 soft 0\ndone 1 travel 26 hard 0 soft 0\nhistory ",
         "best 26 at 1\n",
     ),
     (
-        &[SECOND, PHASED, END, SCRIPT, "rounds 3 4\nundo"],
+        &[SECOND, FOUR, PHASED, END, SCRIPT, "rounds 3 4\nundo"],
         "start travel 30 hard 0 soft 0\ndone 1 travel 26 hard 4 soft 0\ndone 2 travel 30 hard 0 soft 0\nhistory ",
         "best 30 at 0\n",
     ),
     (
-        &[SECOND, PHASED, END, SCRIPT, "slack 0\nrounds 3 4"],
+        &[SECOND, FOUR, PHASED, END, SCRIPT, "slack 0\nrounds 3 4"],
         "start travel 30 hard 0 soft 0\nslack 0\nno 0 worse\nhistory ",
         "best 30 at 0\n",
     ),
     (
-        &[SECOND, PHASED, END, SCRIPT, "rounds 1 2"],
+        &[SECOND, FOUR, PHASED, END, SCRIPT, "rounds 1 2"],
         "start travel 30 hard 0 soft 0\ndone 1 travel 28 hard 0 soft 0\nhistory ",
         "best 28 at 1\n",
     ),
     (
-        &[SECOND, FIDE_AND_PHASED, END, SCRIPT],
+        &[SECOND, FOUR, FIDE_AND_PHASED, END, SCRIPT],
         "start travel 30 hard 0 soft 0\nhistory ",
         "best 30 at 0\n",
     ),
     // the first format ignores both members
     (
-        &[FIRST, PHASED, END, SCRIPT, "rounds 3 4"],
+        &[FIRST, FOUR, PHASED, END, SCRIPT, "rounds 3 4"],
         "",
         "best 26 at 1\n",
     ),
@@ -210,14 +206,14 @@ const SHEETS: &[Case<'_>] = &[
     // FIDE's order with its rounds 2 and 3 exchanged is the plain start
     (
         PLAY_OF_1024,
-        &[SECOND, FIDE, END, SCRIPT, "rounds 2 3"],
+        &[SECOND, FOUR, FIDE, END, SCRIPT, "rounds 2 3"],
         WRITTEN,
         Excerpt("", &[SHEET], ""),
     ),
     // the first format ignores both members
     (
         PLAY_OF_1024,
-        &[FIRST, FIDE_AND_PHASED, END, SCRIPT],
+        &[FIRST, FOUR, FIDE_AND_PHASED, END, SCRIPT],
         WRITTEN,
         Excerpt("", &[SHEET], ""),
     ),

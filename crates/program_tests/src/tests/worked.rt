@@ -2,7 +2,7 @@
 //! of `scripts/play-apart`.
 
 use crate::tests::checks::check_same_of;
-use crate::tests::circle::{CIRCLE, SHEET};
+use crate::tests::circle::{CIRCLE, FIRST, FOUR, SHEET};
 use crate::tests::closings::{closing, script};
 use crate::tests::samples::SCRIPT;
 use crate::tests::told::Text::Excerpt;
@@ -13,11 +13,10 @@ use std::sync::Wait;
 use std::test::Fail;
 use std::thread::Threads;
 
-const AT_MOST_TWO: &str =
-    r#"{"format":1,"teams":["T1","T2","T3","T4"],"distances":[[0,1,2,1],[1,0,1,2],[2,1,0,1],[1,2,1,0]],"at_most":2}"#;
+/// The ends of leagues with four teams.
+const AT_MOST_TWO: &str = r#","at_most":2}"#;
 
-const SOFT_RULES: &str =
-    r#"{"format":1,"teams":["T1","T2","T3","T4"],"distances":[[0,1,2,1],[1,0,1,2],[2,1,0,1],[1,2,1,0]],"rules":[
+const SOFT_RULES: &str = r#","rules":[
     {"class":"BR2","kind":"soft","weight":10,"teams":[1,2,3,4],"intp":4},
     {"class":"CA3","kind":"soft","weight":10,"teams1":[3],"mode":"H","intp":3,"max":2},
     {"class":"SE1","kind":"soft","weight":10,"teams":[1,4],"min":3},
@@ -231,7 +230,7 @@ const BOARDS: &[Case<'_>] = &[
     ),
     (
         PLAY_OF_1024,
-        &[AT_MOST_TWO, SCRIPT, "rounds 5 6\nundo\n"],
+        &[FIRST, FOUR, AT_MOST_TWO, SCRIPT, "rounds 5 6\nundo\n"],
         WRITTEN,
         Excerpt(
             "start travel 30 hard 2 soft 0\ndone 1 travel 28 hard 0 soft 0\ndone 2 travel 30 hard 2 soft 0\n",
@@ -241,7 +240,7 @@ const BOARDS: &[Case<'_>] = &[
     ),
     (
         PLAY_OF_1024,
-        &[AT_MOST_TWO, SCRIPT, ""],
+        &[FIRST, FOUR, AT_MOST_TWO, SCRIPT, ""],
         WRITTEN,
         Excerpt(
             "start travel 30 hard 2 soft 0\nhistory 0\nend\n",
@@ -251,7 +250,7 @@ const BOARDS: &[Case<'_>] = &[
     ),
     (
         PLAY_OF_1024,
-        &[SOFT_RULES, SCRIPT, "homes 1 2\n"],
+        &[FIRST, FOUR, SOFT_RULES, SCRIPT, "homes 1 2\n"],
         WRITTEN,
         Excerpt(
             "start travel 30 hard 0 soft 60\ndone 1 travel 26 hard 0 soft 110\n",
@@ -311,8 +310,11 @@ fn replayed<T: Threads + Wait + Sync>(
     let (command, parts, _, _) = *case;
     let mut input = String::new(alloc);
     // the league stands before the script
-    for part in parts.iter().take(2) {
+    for part in parts {
         input.push_str(part)?;
+        if *part == SCRIPT {
+            break;
+        }
     }
     input.push_str(script)?;
     tell(rt, alloc, command, input.as_bytes())

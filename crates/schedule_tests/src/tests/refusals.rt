@@ -17,15 +17,17 @@ const GOOD_MOVES: &[Move] = &[
 ];
 
 const BAD_MOVES: &[Move] = &[
+    // of one team or round with itself
     Move::Homes { i: 0, j: 0 },
+    Move::Rounds { k: 2, l: 2 },
+    Move::PartRounds { i: 0, k: 2, l: 2 },
+    Move::PartTeams { i: 0, j: 0, k: 1 },
+    Move::Teams { i: 255, j: 255 },
+    // of a team or a round that there isn't
     Move::Homes { i: 4, j: 0 },
     Move::Rounds { k: 0, l: 6 },
-    Move::Rounds { k: 2, l: 2 },
     Move::Teams { i: 0, j: 4 },
-    Move::Teams { i: 255, j: 255 },
-    Move::PartRounds { i: 0, k: 2, l: 2 },
     Move::PartRounds { i: 4, k: 0, l: 1 },
-    Move::PartTeams { i: 0, j: 0, k: 1 },
     Move::PartTeams { i: 0, j: 1, k: 6 },
 ];
 

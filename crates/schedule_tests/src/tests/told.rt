@@ -97,70 +97,68 @@ fn exchange(
     }
 }
 
-/// Exchanges on the start of so many teams, each made on what the one before has left, change the travel as told.
+/// So many teams, and numbers of exchanges on their start.
+type Exchanges<'a> = (u8, &'a [Numbers]);
+
+/// Exchanges, each made on what the one before has left, change the travel as told.
 fn check_told(
     rt: &impl Abort,
     alloc: Global,
     kind: Kind,
-    teams: u8,
-    drawn: &[Numbers],
+    (teams, drawn): Exchanges<'_>,
 ) -> Result<(), Fail> {
     let league = circular(alloc, teams)?;
     let mut schedule = schedule(alloc, Plan::Berger(teams))?;
     for &numbers in drawn {
-        check_balance(rt, numbers, exchange(kind, &mut schedule, &league, numbers));
+        let exchanged = exchange(kind, &mut schedule, &league, numbers);
+        check_balance(rt, (teams, numbers), exchanged);
     }
     Ok(())
 }
 
-fn check_balance(rt: &impl Abort, numbers: Numbers, exchanged: Option<Exchanged>) {
+fn check_balance(rt: &impl Abort, about: (u8, Numbers), exchanged: Option<Exchanged>) {
     let is_balanced = match exchanged {
         Some(exchanged) => exchanged.is_balanced(),
         None => false,
     };
-    check_holds(rt, &numbers, is_balanced);
+    check_holds(rt, &about, is_balanced);
+}
+
+fn check_all_told(
+    rt: &impl Abort,
+    alloc: Global,
+    kind: Kind,
+    all: &[Exchanges<'_>],
+) -> Result<(), Fail> {
+    for &exchanges in all {
+        check_told(rt, alloc, kind, exchanges)?;
+    }
+    Ok(())
 }
 
 /// A team and two rounds: neighbours, the first and the last, two with one between them.
-const ROUNDS_OF_FOUR: &[Numbers] = &[(1, 2, 3), (0, 5, 0), (3, 1, 3), (2, 4, 0), (0, 3, 2)];
-
-const ROUNDS_OF_EIGHT: &[Numbers] = &[(6, 0, 13), (2, 7, 6), (5, 3, 10), (0, 12, 4), (1, 8, 10)];
-
-const ROUNDS_OF_TWENTY: &[Numbers] = &[(17, 30, 2), (4, 21, 22), (9, 0, 37), (11, 13, 6)];
-
-#[test]
-fn exchanges_of_rounds_told_at_four_teams(rt: HostRuntime) -> Result<(), Fail> {
-    check_told(&rt, rt.alloc(), Kind::Rounds, 4, ROUNDS_OF_FOUR)
-}
+const ROUNDS: &[Exchanges<'_>] = &[
+    (4, &[(1, 2, 3), (0, 5, 0), (3, 1, 3), (2, 4, 0), (0, 3, 2)]),
+    (
+        8,
+        &[(6, 0, 13), (2, 7, 6), (5, 3, 10), (0, 12, 4), (1, 8, 10)],
+    ),
+    (20, &[(17, 30, 2), (4, 21, 22), (9, 0, 37), (11, 13, 6)]),
+];
 
 #[test]
-fn exchanges_of_rounds_told_at_eight_teams(rt: HostRuntime) -> Result<(), Fail> {
-    check_told(&rt, rt.alloc(), Kind::Rounds, 8, ROUNDS_OF_EIGHT)
-}
-
-#[test]
-fn exchanges_of_rounds_told_at_twenty_teams(rt: HostRuntime) -> Result<(), Fail> {
-    check_told(&rt, rt.alloc(), Kind::Rounds, 20, ROUNDS_OF_TWENTY)
+fn exchanges_of_rounds_are_told(rt: HostRuntime) -> Result<(), Fail> {
+    check_all_told(&rt, rt.alloc(), Kind::Rounds, ROUNDS)
 }
 
 /// Two teams and a round in which they don't meet.
-const TEAMS_OF_FOUR: &[Numbers] = &[(0, 1, 0), (2, 0, 5), (3, 1, 4)];
-
-const TEAMS_OF_EIGHT: &[Numbers] = &[(0, 1, 0), (7, 3, 12), (2, 6, 5), (4, 1, 10)];
-
-const TEAMS_OF_TWENTY: &[Numbers] = &[(12, 7, 2), (0, 1, 37), (18, 5, 21), (3, 9, 0)];
-
-#[test]
-fn exchanges_of_teams_told_at_four_teams(rt: HostRuntime) -> Result<(), Fail> {
-    check_told(&rt, rt.alloc(), Kind::Teams, 4, TEAMS_OF_FOUR)
-}
+const TEAMS: &[Exchanges<'_>] = &[
+    (4, &[(0, 1, 0), (2, 0, 5), (3, 1, 4)]),
+    (8, &[(0, 1, 0), (7, 3, 12), (2, 6, 5), (4, 1, 10)]),
+    (20, &[(12, 7, 2), (0, 1, 37), (18, 5, 21), (3, 9, 0)]),
+];
 
 #[test]
-fn exchanges_of_teams_told_at_eight_teams(rt: HostRuntime) -> Result<(), Fail> {
-    check_told(&rt, rt.alloc(), Kind::Teams, 8, TEAMS_OF_EIGHT)
-}
-
-#[test]
-fn exchanges_of_teams_told_at_twenty_teams(rt: HostRuntime) -> Result<(), Fail> {
-    check_told(&rt, rt.alloc(), Kind::Teams, 20, TEAMS_OF_TWENTY)
+fn exchanges_of_teams_are_told(rt: HostRuntime) -> Result<(), Fail> {
+    check_all_told(&rt, rt.alloc(), Kind::Teams, TEAMS)
 }

@@ -1,6 +1,6 @@
 //! Texts read from sources that give a few bytes at each call, are interrupted, fail, never end or end too late.
 
-ghost use Rattle.std.specs.Prelude.{◌<◌, None};
+ghost use Rattle.std.specs.Prelude.{◌<◌};
 
 use super::checks::{check_holds, check_same};
 use super::samples::{NO_CALLS, TEXT};
@@ -111,26 +111,19 @@ fn stops_after_the_limit(rt: HostRuntime) -> Result<(), Fail> {
 
 /// Is interrupted at each call.
 #[derive(Drop)]
-struct Busy {
-    tally: Tally,
-}
+struct BusyReader;
 
-impl Source for Busy {
-    ghost left = { λ _. None };
-
-    ghost tally = { λ s. s.tally };
-
-    fn pull(&mut self, _buffer: &mut [u8]) -> Step {
-        self.tally = self.tally.noting(Step::Again);
-        Step::Again
+impl Read for BusyReader {
+    fn read(&mut self, _buffer: &mut [u8]) -> io::Result<usize> {
+        Err(ErrorKind::Interrupted.into())
     }
 }
 
 #[test]
 fn gives_up_on_a_source_that_never_ends(rt: HostRuntime) {
-    let mut source = Busy { tally: NO_CALLS };
+    let mut source = ReaderSource::new(BusyReader);
     check_holds(&rt, is_unreadable(rt.alloc(), &mut source));
-    check_same(&rt, &source.tally.calls, &8_388_608);
+    check_same(&rt, &source.tally().calls, &8_388_608);
     check_same(&rt, &READ_LIMIT, &8_388_608);
 }
 
