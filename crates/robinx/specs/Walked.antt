@@ -42,7 +42,7 @@ abbrev pub HaveCounted : Games → Side → ℕ → List ℕ → Type 0
 HaveCounted g side opponents rows =
     (t r : ℕ) → r < round_count g.teams → has (slice_index rows r) t ≡ true → is_counted g side (has opponents) t r ≡ true
 
--- the places of a row, one for each round and some more
+-- the length of a row, which has a number for each round and some more
 abbrev pub row_length : ℕ
 row_length = 80
 

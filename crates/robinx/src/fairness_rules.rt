@@ -16,7 +16,7 @@ use fixtures::Schedule;
 use league::limits::MAX_TEAMS;
 use league::{SlotSet, TeamSet};
 
-/// The places of a row, one for each round: some more than the rounds of the longest season, so that they are a multiple of
+/// The length of a row, which has a number for each round: some more than the rounds of the longest season, so that they are a multiple of
 /// the 16 bytes that the machine compares at once.
 const ROW: usize = 80;
 
