@@ -2,7 +2,7 @@
 use Rattle.std.proofs.Common.{◌≡◌, ℕ, ◌+◌, ◌-◌, ◌&&◌, ◌||◌, ◌==◌, not, nat_lt, Bool, true, false, List, take, get_or, Some, refl, sym, ◌∙◌}
 use Rattle.std.proofs.Common.{ap, inl, inr, arith}
 use Rattle.std.specs.List.{slice_get, list_any}
-use Rattle.std.proofs.lemmas.Bool.{cases_eq, and_from, or_from, cases_lt, lt-ltb, le-ltb, and_right, false≢true, and_left}
+use Rattle.std.proofs.lemmas.Bool.{cases_eq, and_from, or_from, cases_lt, lt-ltb, le-ltb, and_right, false≢true, and_parts}
 use Rattle.std.proofs.lemmas.List.Folds.{list_any_more, list_any_at}
 use Rattle.std.proofs.lemmas.Option.{slice_get_within, get_or_from_slice_get}
 use Rattle.league.specs.Sets.{has, IsBelow, IsWithoutLowest}
@@ -28,7 +28,7 @@ pub none_before_more : (n set left lowest rest : ℕ) (test : ℕ → Bool) → 
     test lowest ≡ false → NoneBefore n set rest test
 none_before_more n set left lowest rest test so_far taken fails = record {
   below = omega (arith, so_far.below, taken.fewer);
-  in_set = λ k is. so_far.in_set k (and_left (has left k) (not (k == lowest)) (sym (taken.others k) ∙ is));
+  in_set = λ k is. so_far.in_set k (and_parts (has left k) (not (k == lowest)) (sym (taken.others k) ∙ is)).0;
   none = λ k is out. elim (cases_eq k lowest) [
     | inl here ↦ ap test here ∙ fails
     | inr other ↦ so_far.none k is (sym (others_kept left lowest rest k taken other) ∙ out)
