@@ -12,6 +12,7 @@ mod deviations;
 mod fairness_rules;
 mod game_rules;
 mod guests;
+mod kept_gaps;
 mod laws;
 mod pairs;
 mod parts;
@@ -24,6 +25,7 @@ mod windows;
 
 pub use break_rules::breaks;
 pub use deviations::deviation;
+pub use kept_gaps::KeptGaps;
 pub use laws::{deviations_balance, looked_past_stays, nothing_to_alter, untouched_stays};
 pub use parts::deviation_part;
 pub use touched_rules::touches;
