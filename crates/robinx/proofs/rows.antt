@@ -1,6 +1,9 @@
 -- Rows: of home games, of counted teams by rounds, of windows.
 pub mod HomeRows
 pub mod RowsByRounds
+pub mod Tallies
+pub mod GapTables
+pub mod ComparedGaps
 pub mod FullWindows
 pub mod AllTeams
 pub mod MetPairs

@@ -10,7 +10,7 @@ use Rattle.league.specs.declared.rule.RuleBody.{RuleBody}
 use Rattle.league.specs.declared.rule.RuleBody.TheVariants.{Ca1, Ca2, Ca3, Ca4, Ga1, Br1, Br2, Se1, Fa2}
 use Rattle.league.specs.declared.rule.Side.{Side}
 use Rattle.fixtures.specs.Games.{Games, round_count, round_of, cell}
-use Rattle.robinx.specs.Deviations.{over, games_of_team, games_in_window, games_in_round, breaks, rounds_between, worst_gap, deviation}
+use Rattle.robinx.specs.Deviations.{over, games_of_team, games_in_window, games_in_round, breaks, rounds_between, deviation}
 use Rattle.robinx.specs.LooksPast.{takes_all_or_none}
 use Rattle.robinx.specs.Touches.{has_touched_team, looks_at_round}
 
@@ -81,7 +81,7 @@ changing_terms g main rounds sides (Se1 teams least) =
     sum_of_pairs g.teams (λ i j.
     if is_pair_with teams main i j && meet_in g (has rounds) i j then over least (rounds_between g i j) else 0)
 changing_terms g main rounds sides (Fa2 teams slots most) =
-    sum_of_pairs g.teams (λ i j. if is_pair_with teams sides i j then worst_gap g (has slots) most i j else 0)
+    if has_touched_team teams (has sides) then deviation g (Fa2 teams slots most) else 0
 
 -- whether the slots lack one of the rounds
 unfoldable pub lacks_one : ℕ → (ℕ → Bool) → Bool

@@ -8,7 +8,7 @@ ghost use Rattle.robinx.specs.Deviations.{deviation};
 use crate::break_rules::{br1, br2};
 use crate::capacity_rules::{ca2, ca3, ca4};
 use crate::counts::{Capacity, CountedGames};
-use crate::fairness_rules::fa2;
+use crate::fairness_rules::{Fairness, fa2};
 use crate::game_rules::ga1;
 use crate::separation_rules::se1;
 use fixtures::Schedule;
@@ -49,6 +49,8 @@ pub fn deviation(schedule: &Schedule, rule: &Rule) -> u64
         } => br1(schedule, *teams, *side, *slots, *most),
         RuleBody::Br2 { teams, slots, most } => br2(schedule, *teams, *slots, *most),
         RuleBody::Se1 { teams, min } => se1(schedule, *teams, *min),
-        RuleBody::Fa2 { teams, slots, most } => fa2(schedule, *teams, *slots, *most),
+        RuleBody::Fa2 { teams, slots, most } => {
+            fa2(schedule, &Fairness::new(*teams, *slots, *most))
+        }
     }
 }

@@ -1,23 +1,90 @@
-//! What fairness rules count, kept from one schedule to the next.
+//! What FA2 counts, kept from one schedule to the next.
 
+ghost use Rattle.std.specs.Prelude.{◌≡◌, true, if◌then◌else◌};
+ghost use Rattle.league.specs.Sets.{IsBelow};
+ghost use Rattle.league.specs.declared.rule.RuleBody.TheVariants as RuleBody;
+ghost use Rattle.fixtures.specs.Games.{round_count, IsDoubleRoundRobin};
+ghost use Rattle.robinx.specs.Deviations.{deviation};
+ghost use Rattle.robinx.specs.Gaps.{IsGapTable, IsTableOf};
+
+use crate::fairness_rules::Fairness;
+use crate::gap_table::GapTable;
+use fixtures::Schedule;
+use league::{SlotSet, TeamSet};
 use std::marker::Model;
 
-/// What FA2 counted of a schedule last, kept so that less is counted of the next one. It keeps no result: whatever is kept, each count
-/// gives what its contract says.
+/// What FA2 counted last of two schedules, kept so that less is counted of the next one: a search counts a schedule before and after each
+/// move. Whatever is kept, a count gives the same.
 #[derive(Drop)]
 pub struct KeptGaps {
-    front: bool,
+    first: GapTable,
+    second: GapTable,
+    /// Whether the second table is that of the last count.
+    second_is_last: bool,
 }
 
 impl Model for KeptGaps {
     ghost Value = { Unit };
 
     ghost view = { λ _. tt };
+
+    ghost invariant = { λ kept. IsGapTable kept.first (λ t o. true) × IsGapTable kept.second (λ t o. true) };
 }
 
 impl KeptGaps {
     /// Nothing counted yet.
     pub fn new() -> Self {
-        KeptGaps { front: false }
+        KeptGaps {
+            first: GapTable::new(0, TeamSet::empty(), SlotSet::empty()),
+            second: GapTable::new(0, TeamSet::empty(), SlotSet::empty()),
+            second_is_last: false,
+        }
     }
+
+    /// The worst gap of each pair of the teams, as `fa2` of fairness rules counts them.
+    pub(crate) fn fa2(&mut self, schedule: &Schedule, fairness: &Fairness) -> u64
+        requires round_robin { IsDoubleRoundRobin schedule.now }
+        requires teams { IsBelow schedule.now.teams fairness.now.teams }
+        requires slots { IsBelow (round_count schedule.now.teams) fairness.now.slots }
+        ensures { result ≡
+            deviation schedule.now (RuleBody.Fa2 fairness.now.teams fairness.now.slots fairness.now.most) }
+    {
+        let from_second = self.second_is_last;
+        let turns = if from_second {
+            turn_to(&self.second, &mut self.first, schedule, fairness)
+        } else {
+            turn_to(&self.first, &mut self.second, schedule, fairness)
+        };
+        self.second_is_last = from_second != turns;
+        if self.second_is_last {
+            self.second.over(schedule, fairness.most)
+        } else {
+            self.first.over(schedule, fairness.most)
+        }
+    }
+}
+
+/// Makes one of the two tables that of the schedule, if neither is: the older one, from the last. Gives whether it is the older one.
+fn turn_to(last: &GapTable, older: &mut GapTable, schedule: &Schedule, fairness: &Fairness) -> bool
+    requires last { IsGapTable last.now (λ t o. true) }
+    requires older { IsGapTable older.old (λ t o. true) }
+    requires round_robin { IsDoubleRoundRobin schedule.now }
+    requires teams { IsBelow schedule.now.teams fairness.now.teams }
+    requires slots { IsBelow (round_count schedule.now.teams) fairness.now.slots }
+    ensures older { IsGapTable older.new (λ t o. true) }
+    ensures told { IsTableOf (if result then older.new else last.now) schedule.now fairness.now.teams fairness.now.slots }
+{
+    let Fairness { teams, slots, .. } = *fairness;
+    if last.is_of(schedule, teams, slots) {
+        return false;
+    }
+    if !older.is_of(schedule, teams, slots) {
+        *older = if last.is_for(schedule.teams(), teams, slots) {
+            *last
+        } else {
+            GapTable::new(schedule.teams(), teams, slots)
+        };
+        older.follow(schedule);
+    }
+    true
 }

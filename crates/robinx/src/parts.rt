@@ -13,7 +13,7 @@ use crate::break_rules::{br1, br2_with};
 use crate::capacity_rules::{ca2, ca3_part, ca4_part};
 use crate::counts::{Capacity, CountedGames};
 use crate::deviations::deviation;
-use crate::fairness_rules::fa2_with;
+use crate::fairness_rules::{Fairness, fa2_with};
 use crate::game_rules::has_moved_game;
 use crate::guests::{Around, teams_otherwise};
 use crate::kept_gaps::KeptGaps;
@@ -90,8 +90,7 @@ fn changing_terms(schedule: &Schedule, rule: &Rule, change: &Around, gaps: &mut 
         RuleBody::Br2 { teams, slots, most } => { br2_with(schedule, *teams, sides, *slots, *most) }
         RuleBody::Se1 { teams, min } => se1_part(schedule, *teams, change, *min),
         RuleBody::Fa2 { teams, slots, most } => {
-            let _ = gaps;
-            fa2_with(schedule, *teams, sides, *slots, *most)
+            fa2_with(schedule, &Fairness::new(*teams, *slots, *most), sides, gaps)
         }
     }
 }

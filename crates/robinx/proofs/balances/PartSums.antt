@@ -1,7 +1,7 @@
 -- Sums of which a part changes by as much as the whole.
 use Rattle.std.proofs.Common.{◌≡◌, ℕ, ◌+◌, ◌<◌, ◌&&◌, Bool, true, false, if◌then◌else◌, refl, sym, subst, arith}
-use Rattle.league.specs.Sums.{sum_where, sum_of_pairs}
-use Rattle.league.proofs.ForCallers.{sum_below_balance, sum_of_pairs_balance}
+use Rattle.league.specs.Sums.{sum_where}
+use Rattle.league.proofs.ForCallers.{sum_below_balance}
 
 -- a term is in the part, where it changes by as much as the part's, or it stays
 term_balance : (test inside inside' : Bool) (new old part_new part_old : ℕ) → inside' ≡ inside →
@@ -32,20 +32,6 @@ pub whole_terms_balance : (n n' : ℕ) (test inside inside' : ℕ → Bool) (new
     sum_where n' test new + sum_where n (λ k. test k && inside k) old ≡ sum_where n test old + sum_where n' (λ k. test k && inside' k) new
 whole_terms_balance n n' test inside inside' new old size same stays =
     where_balance n n' test inside inside' new old new old size same (λ k below is. omega arith) stays
-
-pub pairs_balance : (n n' : ℕ) (test inside : ℕ → ℕ → Bool) (new old : ℕ → ℕ → ℕ) → n' ≡ n →
-    ((i j : ℕ) → i < j → j < n → test i j ≡ true → inside i j ≡ false → new i j ≡ old i j) →
-    sum_of_pairs n' (λ i j. if test i j then new i j else 0) + sum_of_pairs n (λ i j. if test i j && inside i j then old i j else 0) ≡
-    sum_of_pairs n (λ i j. if test i j then old i j else 0) + sum_of_pairs n' (λ i j. if test i j && inside i j then new i j else 0)
-pairs_balance n n' test inside new old size stays =
-    subst (λ (m : ℕ). sum_of_pairs m (λ i j. if test i j then new i j else 0) + sum_of_pairs n
-    (λ i j. if test i j && inside i j then old i j else 0) ≡
-    sum_of_pairs n (λ i j. if test i j then old i j else 0) + sum_of_pairs m (λ i j. if test i j && inside i j then new i j else 0))
-    (sym size)
-    (sum_of_pairs_balance n (λ i j. if test i j then new i j else 0) (λ i j. if test i j then old i j else 0)
-    (λ i j. if test i j && inside i j then new i j else 0) (λ i j. if test i j && inside i j then old i j else 0)
-    (λ i j i_below j_below. term_balance (test i j) (inside i j) (inside i j) (new i j) (old i j) (new i j) (old i j) refl
-    (λ is. omega arith) (stays i j i_below j_below)))
 
 -- the whole, or nothing where it stays
 pub whole_balance : (inside inside' : Bool) (new old : ℕ) → inside' ≡ inside → (inside ≡ false → new ≡ old) →

@@ -19,22 +19,19 @@ use Rattle.fixtures.specs.Games.{Games, round_count, round_of, cell, is_home, Is
 use Rattle.fixtures.specs.Changes.{DiffersOnlyIn, DiffersOnlyAt, DiffersOnlyAround, box}
 use Rattle.fixtures.proofs.ForCallers.{is_cell, round_of_kept_around}
 use Rattle.robinx.specs.Deviations.{over, is_on_side, is_counted, games_of_team, games_in_window, games_in_round, breaks, rounds_between}
-use Rattle.robinx.specs.Deviations.{over_in_windows, short_pairs, worst_gap, worst_gaps, deviation}
+use Rattle.robinx.specs.Deviations.{over_in_windows, short_pairs, deviation}
 use Rattle.robinx.specs.LooksPast.{takes_all_or_none}
 use Rattle.robinx.specs.Touches.{has_touched_team}
 use Rattle.robinx.specs.Parts.{is_guest, meets_otherwise, counts_otherwise, has_moved_game, meets_window, over_in_met_windows}
 use Rattle.robinx.specs.Parts.{changing_terms, can_alter, deviation_part}
 use Rattle.robinx.proofs.unaltered.LookedPast.{TakesAllOrNone-tested}
 use Rattle.robinx.proofs.rows.MetPairs.{short_pairs_balance}
-use Rattle.robinx.proofs.balances.PartSums.{where_balance, whole_terms_balance, pairs_balance, whole_balance, part_balance}
+use Rattle.robinx.proofs.balances.PartSums.{where_balance, whole_terms_balance, whole_balance, part_balance}
 use Rattle.robinx.proofs.unaltered.SeesSame.{SeesSame, SeesSameBreaks, SeesSameUntil, games_of_team-same, games_in_round-same}
-use Rattle.robinx.proofs.unaltered.SeesSame.{over_in_windows-same, breaks-same, worst_gap-same, together-same, each-same}
+use Rattle.robinx.proofs.unaltered.SeesSame.{over_in_windows-same, breaks-same, gaps-same, together-same, each-same}
 use Rattle.robinx.proofs.unaltered.SeesSame.{breaks_of_all-same, listed_games_in-same}
 use Rattle.robinx.proofs.unaltered.Untouched.{other_fails, game_stays}
 use Rattle.robinx.proofs.unaltered.ToldApart.{SeesSame-outside, stays_inside, unaltered_deviation}
-
-neither : (p q : Bool) → (p || q) ≡ false → (not p ≡ true) × (not q ≡ true)
-neither p q fails = let parts = or_parts p q fails in (not_from_false p parts.0, not_from_false q parts.1)
 
 module _ (g g' : Games) (size : g'.teams ≡ g.teams) (sides rounds : ℕ)
     (turned : DiffersOnlyAt is_home g g' (box (has sides) (has rounds))) where
@@ -58,11 +55,12 @@ module _ (g g' : Games) (size : g'.teams ≡ g.teams) (sides rounds : ℕ)
     before = λ t r in_t in_r team slot. home_kept t (r - 1) in_t (omega arith) (others t in_t team);
   }
 
-  SeesSameUntil-unturned : (slots : ℕ → Bool) → SeesSameUntil g g' (λ t. not (has sides t)) slots
+  SeesSameUntil-unturned : (teams slots : ℕ → Bool) → ((t : ℕ) → t < g.teams → teams t ≡ true → has sides t ≡ false) →
+      SeesSameUntil g g' teams slots
   unfolding is_home
-  SeesSameUntil-unturned slots = record {
+  SeesSameUntil-unturned teams slots others = record {
     same_size = size;
-    side = λ t r k in_t in_r team slot until. home_kept t k in_t (omega arith) (not-true _ team);
+    side = λ t r k in_t in_r team slot until. home_kept t k in_t (omega arith) (others t in_t team);
   }
 
   none_turns : (teams : ℕ) → g.teams ≤ 40 → has_touched_team teams (has sides) ≡ false → (t : ℕ) → t < g.teams → has teams t ≡ true →
@@ -263,7 +261,7 @@ module _ (g g' : Games) (rr : IsDoubleRoundRobin g) (rr' : IsDoubleRoundRobin g'
 
   terms_balance : (body : RuleBody) → IsBodyFor g.teams body →
       deviation g' body + changing_terms g main rounds sides body ≡ deviation g body + changing_terms g' main rounds sides body
-  unfolding deviation changing_terms short_pairs worst_gaps rounds_between
+  unfolding deviation changing_terms short_pairs rounds_between
   terms_balance (Ca1 teams side slots most) is =
       whole_terms_balance g.teams g'.teams (has teams) (has sides) (has sides)
       (λ t. over (games_of_team g' side (λ _. true) (has slots) t) most) (λ t. over (games_of_team g side (λ _. true) (has slots) t) most)
@@ -331,12 +329,10 @@ module _ (g g' : Games) (rr : IsDoubleRoundRobin g) (rr' : IsDoubleRoundRobin g'
       (none_turns g g' differs.same_size sides rounds turned teams rr.most none)) Any most)
   terms_balance (Se1 teams least) is = short_pairs_balance g g' rr rr' main rounds differs teams least
   terms_balance (Fa2 teams slots most) is =
-      pairs_balance g.teams g'.teams (λ i j. has teams i && has teams j) (λ i j. has sides i || has sides j)
-      (λ i j. worst_gap g' (has slots) most i j) (λ i j. worst_gap g (has slots) most i j) differs.same_size
-      (λ i j lower in_j both out.
-      let parts = neither (has sides i) (has sides j) out in
-      worst_gap-same g g' (λ t. not (has sides t)) (has slots)
-      (SeesSameUntil-unturned g g' differs.same_size sides rounds turned (has slots)) most i j (omega arith) in_j parts.0 parts.1)
+      whole_balance (has_touched_team teams (has sides)) (has_touched_team teams (has sides)) _ _ refl
+      (λ none. gaps-same g g' (has teams) (has slots)
+      (SeesSameUntil-unturned g g' differs.same_size sides rounds turned (has teams) (has slots)
+      (none_turns g g' differs.same_size sides rounds turned teams rr.most none)) most)
 
   pub deviation_balance : (body : RuleBody) → IsBodyFor g.teams body →
       deviation g' body + deviation_part g main rounds sides body ≡ deviation g body + deviation_part g' main rounds sides body

@@ -75,9 +75,7 @@ module _ (g : Games) (rr : IsDoubleRoundRobin g) (main rounds sides : ℕ) where
   none_changes (Se1 teams least) is quiet =
       sum_below_zero g.teams _ (λ j in_j. sum_below_zero j _ (λ i lower. cond-false {A = ℕ} _ _ 0
       (and_left _ _ (no_pair teams main i j (omega arith) in_j quiet))))
-  none_changes (Fa2 teams slots most) is quiet =
-      sum_below_zero g.teams _ (λ j in_j. sum_below_zero j _ (λ i lower. cond-false {A = ℕ} _ _ 0
-      (no_pair teams sides i j (omega arith) in_j quiet)))
+  none_changes (Fa2 teams slots most) is quiet = cond-false {A = ℕ} _ _ 0 (none_of_all teams (has sides) is.0 quiet)
 
   no_part : (body : RuleBody) → IsBodyFor g.teams body → IsQuiet body → deviation_part g main rounds sides body ≡ 0
   unfolding deviation_part

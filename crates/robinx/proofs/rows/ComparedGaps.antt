@@ -1,0 +1,423 @@
+-- Loops over the teams of a table of gaps: which gaps and homes are right so far.
+use Rattle.std.proofs.Common.{◌≡◌, ◌≢◌, ℕ, ◌+◌, ◌<◌, ◌≤◌, ◌&&◌, ◌||◌, ◌==◌, not, nat_lt, Bool, true, false, if◌then◌else◌, List, [], length, get_or}
+use Rattle.std.proofs.Common.{refl, sym, ◌∙◌, ap, subst, inl, inr, arith, get_or-set_other}
+use Rattle.std.proofs.Math.ListN.{set, replicate}
+use Rattle.std.proofs.lemmas.Grind.{get_or-set_at, get_or_default_zero}
+use Rattle.std.proofs.lemmas.List.{get_or-replicate, length-set}
+use Rattle.std.proofs.lemmas.Bool.{cases_eq, cases_lt, eq-eqb, ne_eqb, eqb-true, eqb-false, lt-ltb, false≢true, and_parts, or_parts, not-true}
+use Rattle.league.specs.Sets.{has, IsBelow, IsWithoutLowest}
+use Rattle.league.proofs.ForCallers.{has_beyond, has_empty, others_kept, lowest_below, count_where_none}
+use Rattle.fixtures.specs.Games.{Games, round_count, is_home}
+use Rattle.robinx.specs.Walked.{IsRowOf, row_of, apart_within, worst_apart}
+use Rattle.robinx.specs.Gaps.{AreTallied, IsHomeRow, IsGapTable, IsTableFor, IsTableOf, gap_at}
+use Rattle.robinx.specs.declared.gap_table.GapTable.{GapTable}
+use Rattle.robinx.specs.declared.gaps.Gaps.{Gaps}
+use Rattle.robinx.proofs.limits.Largest.{largest_below_le}
+use Rattle.robinx.proofs.rows.GapTables.{apart_small, row_by_homes}
+
+-- what a loop over lower teams leaves is in the set
+
+-- the gaps of a team and of those lower teams that aren't left have been counted
+pub record HasCompared (before gaps : Gaps) (rows : List (List ℕ)) (limits : List ℕ) (team lower left : ℕ) : Type 0 where
+  pub below : IsBelow team left
+  pub within : (k : ℕ) → has left k ≡ true → has lower k ≡ true
+  pub tallied : AreTallied gaps
+  pub teams : gaps.teams ≡ before.teams
+  pub compared : (o : ℕ) → has lower o ≡ true → has left o ≡ false →
+      gap_at gaps.worst team o ≡ worst_apart (row_of rows o) (row_of rows team) limits
+  pub others : (t o : ℕ) → (t == team && has lower o) ≡ false → gap_at gaps.worst t o ≡ gap_at before.worst t o
+
+pub compared_none : (before : Gaps) (rows : List (List ℕ)) (limits : List ℕ) (team lower left : ℕ) → AreTallied before →
+    IsBelow team lower → left ≡ lower → HasCompared before before rows limits team lower left
+compared_none before rows limits team lower left tallied below whole = record {
+  below = omega (arith, below, whole);
+  within = λ k here. sym (ap (λ s. has s k) whole) ∙ here;
+  tallied = tallied;
+  teams = refl;
+  compared = λ o in_lower gone. absurd (false≢true (sym gone ∙ ap (λ s. has s o) whole ∙ in_lower));
+  others = λ t o other. refl;
+}
+
+pub compared_more : (before gaps new : Gaps) (rows : List (List ℕ)) (limits : List ℕ) (team lower left lowest rest : ℕ) →
+    HasCompared before gaps rows limits team lower left → IsWithoutLowest left lowest rest → AreTallied new → new.teams ≡ gaps.teams →
+    gap_at new.worst team lowest ≡ worst_apart (row_of rows lowest) (row_of rows team) limits →
+    ((t o : ℕ) → (t == team && o == lowest) ≡ false → gap_at new.worst t o ≡ gap_at gaps.worst t o) →
+    HasCompared before new rows limits team lower rest
+compared_more before gaps new rows limits team lower left lowest rest so_far taken tallied teams is others = record {
+  below = omega (arith, so_far.below, taken.fewer);
+  within = λ k in_rest. so_far.within k (and_parts (has left k) (not (k == lowest)) (sym (taken.others k) ∙ in_rest)).0;
+  tallied = tallied;
+  teams = teams ∙ so_far.teams;
+  compared = λ o in_lower gone. elim (cases_eq o lowest) [
+    | inl same ↦
+        ap (λ (k : ℕ). gap_at new.worst team k) same ∙ is ∙ ap (λ (k : ℕ). worst_apart (row_of rows k) (row_of rows team) limits) (sym same)
+    | inr apart ↦
+        others team o (ap (λ b. team == team && b) (ne_eqb o lowest apart) ∙ ap (λ b. b && false) (eq-eqb team team refl)) ∙
+        so_far.compared o in_lower (sym (others_kept left lowest rest o taken apart) ∙ gone)
+  ];
+  others = λ t o other. others t o (elsewhere t o other) ∙ so_far.others t o other;
+}
+  where
+    elsewhere : (t o : ℕ) → (t == team && has lower o) ≡ false → (t == team && o == lowest) ≡ false
+    elsewhere t o other = elim (cases_eq o lowest) [
+      | inl same ↦ one (t == team) (has lower o) (o == lowest) other (ap (has lower) same ∙ so_far.within lowest taken.in_set)
+      | inr apart ↦ ap (λ b. t == team && b) (ne_eqb o lowest apart) ∙ none (t == team)
+    ]
+      where
+        one : (a b c : Bool) → (a && b) ≡ false → b ≡ true → (a && c) ≡ false
+        one true b c both is_in = absurd (false≢true (sym both ∙ is_in))
+        one false b c both is_in = refl
+
+        none : (a : Bool) → (a && false) ≡ false
+        none true = refl
+        none false = refl
+
+-- rows of nothing
+zeros_apart : (t o : ℕ) (limits : List ℕ) → t < 40 → o < 40 →
+    worst_apart (row_of (replicate 40 (replicate 80 0)) o) (row_of (replicate 40 (replicate 80 0)) t) limits ≡ 0
+unfolding worst_apart
+zeros_apart t o limits t_below o_below =
+    ap (λ (first : List ℕ). worst_apart first (row_of (replicate 40 (replicate 80 0)) t) limits)
+    (get_or-replicate 40 o (replicate 80 0) [] o_below) ∙
+    ap (λ (second : List ℕ). worst_apart (replicate 80 0) second limits) (get_or-replicate 40 t (replicate 80 0) [] t_below) ∙
+    least (largest_below_le 80 0 (apart_within (replicate 80 0) (replicate 80 0) limits)
+    (λ r in_row. omega (arith, get_or-replicate {A = ℕ} 80 r 0 0 in_row)))
+  where
+    least : {n : ℕ} → n ≤ 0 → n ≡ 0
+    least le = omega arith
+
+-- the table of teams that are never at home
+pub new_table : (playing teams slots empty : ℕ) (limits : List ℕ) (gaps : Gaps) → empty ≡ 0 → AreTallied gaps → gaps.teams ≡ teams →
+    ((t o : ℕ) → gap_at gaps.worst t o ≡ 0) → playing ≤ 40 → IsBelow playing teams → IsBelow (round_count playing) slots →
+    ((r : ℕ) → get_or limits r 0 ≡ (if has slots r then 255 else 0)) →
+    IsGapTable (record {
+      playing = playing;
+      slots = slots;
+      limits = limits;
+      homes = replicate 40 empty;
+      rows = replicate 40 (replicate 80 0);
+      gaps = gaps;
+    }) (λ t o. true)
+new_table playing teams slots empty limits gaps nothing tallied teams_are none forty below in_season limited = record {
+  tallied = tallied;
+  playing = forty;
+  below = rw teams_are below;
+  homes_len = refl;
+  rows_len = refl;
+  rows = λ t in_teams. row t (in_table t in_teams);
+  limits = limited;
+  slots = in_season;
+  worst = λ t o in_t in_o lower right. none t o ∙ sym (zeros_apart t o limits (in_table t in_t) (in_table o in_o));
+}
+  where
+    in_table : (t : ℕ) → has gaps.teams t ≡ true → t < 40
+    in_table t in_teams = elim (cases_lt t playing) [
+      | inl lt ↦ omega (arith, lt, forty)
+      | inr past ↦ absurd (false≢true (sym (has_beyond playing teams t below past) ∙ ap (λ s. has s t) (sym teams_are) ∙ in_teams))
+    ]
+
+    zero_at : (r : ℕ) → r < 80 → ◌≡◌ {A = ℕ} (get_or (replicate 80 0) r 0) 0
+    zero_at r in_row = get_or-replicate 80 r 0 0 in_row
+
+    row : (t : ℕ) → t < 40 →
+        IsHomeRow (round_count playing) (get_or (replicate 40 empty) t 0) (row_of (replicate 40 (replicate 80 0)) t)
+    row t t_below =
+        subst (λ (h : ℕ). IsHomeRow (round_count playing) h (row_of (replicate 40 (replicate 80 0)) t))
+        (sym (get_or-replicate 40 t empty 0 t_below ∙ nothing))
+        (subst (IsHomeRow (round_count playing) 0) (sym (get_or-replicate 40 t (replicate 80 0) [] t_below))
+        (record {
+          len = refl;
+          counts = λ r r_below. zero_at r (omega (arith, r_below, forty)) ∙ sym (count_where_none (r + 1) (has 0) (λ k k_below. has_empty k));
+        }))
+
+-- the homes of those teams that aren't left are a schedule's
+pub record HasSameHomes (g : Games) (homes : List ℕ) (teams left : ℕ) : Type 0 where
+  pub below : IsBelow g.teams left
+  pub within : (k : ℕ) → has left k ≡ true → has teams k ≡ true
+  pub same : (t r : ℕ) → has teams t ≡ true → has left t ≡ false → r < round_count g.teams → has (get_or homes t 0) r ≡ is_home g t r
+
+pub same_homes_none : (g : Games) (homes : List ℕ) (teams left : ℕ) → IsBelow g.teams teams → left ≡ teams →
+    HasSameHomes g homes teams left
+same_homes_none g homes teams left below whole = record {
+  below = omega (arith, below, whole);
+  within = λ k here. sym (ap (λ s. has s k) whole) ∙ here;
+  same = λ t r in_teams gone in_season. absurd (false≢true (sym gone ∙ ap (λ s. has s t) whole ∙ in_teams));
+}
+
+pub same_homes_more : (g : Games) (homes new : List ℕ) (teams left lowest rest : ℕ) → HasSameHomes g homes teams left →
+    IsWithoutLowest left lowest rest → ((t : ℕ) → t ≢ lowest → get_or new t 0 ≡ get_or homes t 0) →
+    ((r : ℕ) → has (get_or new lowest 0) r ≡ (nat_lt r (round_count g.teams) && is_home g lowest r)) → HasSameHomes g new teams rest
+same_homes_more g homes new teams left lowest rest so_far taken others is = record {
+  below = omega (arith, so_far.below, taken.fewer);
+  within = λ k in_rest. so_far.within k (and_parts (has left k) (not (k == lowest)) (sym (taken.others k) ∙ in_rest)).0;
+  same = λ t r in_teams gone in_season. elim (cases_eq t lowest) [
+    | inl same ↦
+        ap (λ (k : ℕ). has (get_or new k 0) r) same ∙ is r ∙ ap (λ b. b && is_home g lowest r) (lt-ltb r (round_count g.teams) in_season) ∙
+        ap (λ (k : ℕ). is_home g k r) (sym same)
+    | inr apart ↦
+        ap (λ (h : ℕ). has h r) (others t apart) ∙
+        so_far.same t r in_teams (sym (others_kept left lowest rest t taken apart) ∙ gone) in_season
+  ];
+}
+
+-- what a comparison of a team's homes tells
+pub at_home_alike : (homes : List ℕ) (t at default home : ℕ) → at ≡ t → at < length homes → (get_or homes at default == home) ≡ true →
+    get_or homes t 0 ≡ home
+at_home_alike homes t at default home here in_table same =
+    ap (λ (k : ℕ). get_or homes k 0) (sym here) ∙ sym (get_or_default_zero homes at default in_table) ∙
+    eqb-true (get_or homes at default) home same
+
+-- a table follows a schedule
+
+fewer_right : (kept : GapTable) (right fewer : ℕ → ℕ → Bool) → IsGapTable kept right →
+    ((t o : ℕ) → has kept.gaps.teams t ≡ true → has kept.gaps.teams o ≡ true → o < t → fewer t o ≡ true → right t o ≡ true) →
+    IsGapTable kept fewer
+fewer_right kept right fewer table some = record {
+  tallied = table.tallied;
+  playing = table.playing;
+  below = table.below;
+  homes_len = table.homes_len;
+  rows_len = table.rows_len;
+  rows = table.rows;
+  limits = table.limits;
+  slots = table.slots;
+  worst = λ t o in_t in_o lower is. table.worst t o in_t in_o lower (some t o in_t in_o lower is);
+}
+
+-- it has taken the homes of the teams that aren't left, and those that were others are stale
+pub record HasTaken (g : Games) (before kept : GapTable) (left stale : ℕ) : Type 0 where
+  pub homes : HasSameHomes g kept.homes kept.gaps.teams left
+  pub table : IsGapTable kept (λ t o. not (has stale t || has stale o))
+  pub is_for : IsTableFor kept before.playing before.gaps.teams before.slots
+
+pub taken_none : (g : Games) (before : GapTable) (left stale : ℕ) → IsGapTable before (λ t o. true) → before.playing ≡ g.teams →
+    left ≡ before.gaps.teams → ((t : ℕ) → has stale t ≡ false) → HasTaken g before before left stale
+taken_none g before left stale table size whole none = record {
+  homes = same_homes_none g before.homes before.gaps.teams left (rw (← size) table.below) whole;
+  table = fewer_right before _ _ table (λ t o in_t in_o lower right. refl);
+  is_for = record { playing = refl; teams = refl; slots = refl };
+}
+
+pub taken_in_table : (g : Games) (before kept : GapTable) (left lowest rest stale : ℕ) → before.playing ≡ g.teams →
+    HasTaken g before kept left stale → IsWithoutLowest left lowest rest → lowest < 40
+taken_in_table g before kept left lowest rest stale size so_far taken =
+    let in_g : lowest < g.teams = lowest_below g.teams left lowest rest so_far.homes.below taken in
+    omega (arith, in_g, so_far.is_for.playing, size, so_far.table.playing)
+
+-- one more team is at home in the same rounds
+pub taken_same : (g : Games) (before kept : GapTable) (left lowest rest stale : ℕ) → HasTaken g before kept left stale →
+    IsWithoutLowest left lowest rest →
+    ((r : ℕ) → has (get_or kept.homes lowest 0) r ≡ (nat_lt r (round_count g.teams) && is_home g lowest r)) →
+    HasTaken g before kept rest stale
+taken_same g before kept left lowest rest stale so_far taken is = record {
+  homes = same_homes_more g kept.homes kept.homes kept.gaps.teams left lowest rest so_far.homes taken (λ t apart. refl) is;
+  table = so_far.table;
+  is_for = so_far.is_for;
+}
+
+-- one more team is at home in other rounds
+module _ (g : Games) (before kept : GapTable) (left lowest rest stale more at at2 home : ℕ) (row : List ℕ) (size : before.playing ≡ g.teams)
+    (so_far : HasTaken g before kept left stale) (taken : IsWithoutLowest left lowest rest) (here : at ≡ lowest) (here2 : at2 ≡ lowest)
+    (members : (r : ℕ) → has home r ≡ (nat_lt r (round_count g.teams) && is_home g lowest r)) (row_is : IsRowOf g lowest row)
+    (more_stale : (t : ℕ) → has more t ≡ (t == lowest || has stale t)) where
+  abbrev followed : GapTable
+  followed = record {
+    playing = kept.playing;
+    slots = kept.slots;
+    limits = kept.limits;
+    homes = set kept.homes at home;
+    rows = set kept.rows at2 row;
+    gaps = kept.gaps;
+  }
+
+  playing_is : kept.playing ≡ g.teams
+  playing_is = so_far.is_for.playing ∙ size
+
+  in_g : lowest < g.teams
+  in_g = lowest_below g.teams left lowest rest so_far.homes.below taken
+
+  in_table : lowest < 40
+  in_table = taken_in_table g before kept left lowest rest stale size so_far taken
+
+  home_kept : (t : ℕ) → t ≢ lowest → get_or (set kept.homes at home) t 0 ≡ get_or kept.homes t 0
+  home_kept t apart = let other : t ≢ at = omega (arith, here, apart) in get_or-set_other kept.homes at t home 0 other
+
+  home_here : get_or (set kept.homes at home) lowest 0 ≡ home
+  home_here = get_or-set_at kept.homes at lowest home 0 (sym here) (omega (arith, here, in_table, so_far.table.homes_len))
+
+  row_kept : (t : ℕ) → t ≢ lowest → get_or (set kept.rows at2 row) t [] ≡ get_or kept.rows t []
+  row_kept t apart = let other : t ≢ at2 = omega (arith, here2, apart) in get_or-set_other kept.rows at2 t row [] other
+
+  row_here : get_or (set kept.rows at2 row) lowest [] ≡ row
+  row_here = get_or-set_at kept.rows at2 lowest row [] (sym here2) (omega (arith, here2, in_table, so_far.table.rows_len))
+
+  right_apart : (t o : ℕ) → not (has more t || has more o) ≡ true →
+      (t ≢ lowest) × (o ≢ lowest) × (not (has stale t || has stale o) ≡ true)
+  right_apart t o right =
+      let none = or_parts (has more t) (has more o) (not-true _ right) in
+      let first = or_parts (t == lowest) (has stale t) (sym (more_stale t) ∙ none.0) in
+      let second = or_parts (o == lowest) (has stale o) (sym (more_stale o) ∙ none.1) in
+      (eqb-false t lowest first.0, eqb-false o lowest second.0, neither (has stale t) (has stale o) first.1 second.1)
+    where
+      neither : (a b : Bool) → a ≡ false → b ≡ false → not (a || b) ≡ true
+      neither a b p q = rw (p, q) refl
+
+  pub taken_more : HasTaken g before followed rest more
+  taken_more = record {
+    homes = same_homes_more g kept.homes (set kept.homes at home) kept.gaps.teams left lowest rest so_far.homes taken home_kept
+        (λ r. ap (λ (h : ℕ). has h r) home_here ∙ members r);
+    is_for = record { playing = so_far.is_for.playing; teams = so_far.is_for.teams; slots = so_far.is_for.slots };
+    table = record {
+      tallied = so_far.table.tallied;
+      playing = so_far.table.playing;
+      below = so_far.table.below;
+      homes_len = length-set kept.homes at home ∙ so_far.table.homes_len;
+      rows_len = length-set kept.rows at2 row ∙ so_far.table.rows_len;
+      rows = λ t in_teams. elim (cases_eq t lowest) [
+        | inl same ↦
+            subst (λ (k : ℕ). IsHomeRow (round_count kept.playing) (get_or (set kept.homes at home) k 0) (get_or (set kept.rows at2 row) k []))
+            (sym same)
+            (subst (λ (h : ℕ). IsHomeRow (round_count kept.playing) h (get_or (set kept.rows at2 row) lowest [])) (sym home_here)
+            (subst (IsHomeRow (round_count kept.playing) home) (sym row_here)
+            (subst (λ (n : ℕ). IsHomeRow (round_count n) home row) (sym playing_is) (row_by_homes g lowest home row in_g row_is members))))
+        | inr apart ↦
+            subst (λ (h : ℕ). IsHomeRow (round_count kept.playing) h (get_or (set kept.rows at2 row) t [])) (sym (home_kept t apart))
+            (subst (IsHomeRow (round_count kept.playing) (get_or kept.homes t 0)) (sym (row_kept t apart)) (so_far.table.rows t in_teams))
+      ];
+      limits = so_far.table.limits;
+      slots = so_far.table.slots;
+      worst = λ t o in_t in_o lower right.
+          let parts = right_apart t o right in
+          so_far.table.worst t o in_t in_o lower parts.2 ∙
+          sym (ap (λ (r : List ℕ). worst_apart r (get_or (set kept.rows at2 row) t []) kept.limits) (row_kept o parts.1) ∙
+          ap (λ (r : List ℕ). worst_apart (get_or kept.rows o []) r kept.limits) (row_kept t parts.0));
+    };
+  }
+
+-- its stale gaps are counted, team by team
+
+-- the gaps of those teams that aren't left, and of pairs that weren't stale
+abbrev pub is_right : ℕ → ℕ → ℕ → ℕ → Bool
+is_right stale left t o = not (has left t) || not (has stale t || has stale o)
+
+pub record HasFollowed (before kept : GapTable) (g : Games) (stale left : ℕ) : Type 0 where
+  pub below : IsBelow g.teams left
+  pub within : (k : ℕ) → has left k ≡ true → has before.gaps.teams k ≡ true
+  pub table : IsGapTable kept (is_right stale left)
+  pub homes : IsTableOf kept g before.gaps.teams before.slots
+
+pub followed_none : (before taken : GapTable) (g : Games) (stale left : ℕ) → left ≡ taken.gaps.teams → IsBelow g.teams before.gaps.teams →
+    IsGapTable taken (λ t o. not (has stale t || has stale o)) → IsTableOf taken g before.gaps.teams before.slots →
+    HasFollowed before taken g stale left
+followed_none before taken g stale left whole below table homes =
+    let all : left ≡ before.gaps.teams = whole ∙ homes.is_for.teams in
+    record {
+      below = omega (arith, below, all);
+      within = λ k here. sym (ap (λ s. has s k) all) ∙ here;
+      table = fewer_right taken _ _ table (λ t o in_t in_o lower right.
+          still (has left t) _ (ap (λ s. has s t) whole ∙ in_t) right);
+      homes = homes;
+    }
+  where
+    still : (a b : Bool) → a ≡ true → (not a || b) ≡ true → b ≡ true
+    still true b is right = right
+    still false b is right = absurd (false≢true is)
+
+-- the lower teams of a stale pair are the rule's
+pub partners_in : (teams stale team lower : ℕ) → IsBelow team lower →
+    ((o : ℕ) → o < team → has lower o ≡ (has teams o && (has stale o || has stale team))) → (o : ℕ) → has lower o ≡ true →
+    has teams o ≡ true
+partners_in teams stale team lower below members o in_lower = elim (cases_lt o team) [
+  | inl lt ↦ (and_parts (has teams o) _ (sym (members o lt) ∙ in_lower)).0
+  | inr past ↦ absurd (false≢true (sym (has_beyond team lower o below past) ∙ in_lower))
+]
+
+-- its rows are less than a row's length apart
+pub rows_small : (kept : GapTable) (right : ℕ → ℕ → Bool) (t o : ℕ) → IsGapTable kept right → has kept.gaps.teams t ≡ true →
+    has kept.gaps.teams o ≡ true → worst_apart (row_of kept.rows o) (row_of kept.rows t) kept.limits < 80
+rows_small kept right t o table in_t in_o =
+    apart_small (round_count kept.playing) (get_or kept.homes o 0) (get_or kept.homes t 0) kept.slots (row_of kept.rows o)
+    (row_of kept.rows t) kept.limits (omega (arith, table.playing)) (table.rows o in_o) (table.rows t in_t) table.slots table.limits
+
+pub followed_more : (before kept : GapTable) (g : Games) (stale left lowest rest lower : ℕ) (new : Gaps) →
+    HasFollowed before kept g stale left → IsWithoutLowest left lowest rest →
+    ((o : ℕ) → o < lowest → has lower o ≡ (has before.gaps.teams o && (has stale o || has stale lowest))) →
+    AreTallied new → new.teams ≡ kept.gaps.teams →
+    ((o : ℕ) → has lower o ≡ true → gap_at new.worst lowest o ≡ worst_apart (row_of kept.rows o) (row_of kept.rows lowest) kept.limits) →
+    ((t o : ℕ) → (t == lowest && has lower o) ≡ false → gap_at new.worst t o ≡ gap_at kept.gaps.worst t o) →
+    HasFollowed before (record {
+      playing = kept.playing;
+      slots = kept.slots;
+      limits = kept.limits;
+      homes = kept.homes;
+      rows = kept.rows;
+      gaps = new;
+    }) g stale rest
+followed_more before kept g stale left lowest rest lower new so_far taken members tallied teams compared others = record {
+  below = omega (arith, so_far.below, taken.fewer);
+  within = λ k in_rest. so_far.within k (and_parts (has left k) (not (k == lowest)) (sym (taken.others k) ∙ in_rest)).0;
+  homes = record {
+    is_for = record {
+      playing = so_far.homes.is_for.playing;
+      teams = teams ∙ so_far.homes.is_for.teams;
+      slots = so_far.homes.is_for.slots;
+    };
+    homes = so_far.homes.homes;
+  };
+  table = record {
+    tallied = tallied;
+    playing = so_far.table.playing;
+    below = rw teams so_far.table.below;
+    homes_len = so_far.table.homes_len;
+    rows_len = so_far.table.rows_len;
+    rows = λ t in_teams. so_far.table.rows t (old t in_teams);
+    limits = so_far.table.limits;
+    slots = so_far.table.slots;
+    worst = λ t o in_t in_o lt right. elim (cases_eq t lowest) [
+      | inl same ↦ subst (λ (k : ℕ). gap_at new.worst k o ≡ worst_apart (row_of kept.rows o) (row_of kept.rows k) kept.limits) (sym same)
+          (at o (old o in_o) (omega (arith, lt, same)) (has lower o) refl)
+      | inr apart ↦
+          others t o (ap (λ b. b && has lower o) (ne_eqb t lowest apart)) ∙
+          so_far.table.worst t o (old t in_t) (old o in_o) lt
+          (ap (λ b. not b || not (has stale t || has stale o)) (sym (others_kept left lowest rest t taken apart)) ∙ right)
+    ];
+  };
+}
+  where
+    old : (t : ℕ) → has new.teams t ≡ true → has kept.gaps.teams t ≡ true
+    old t in_new = sym (ap (λ s. has s t) teams) ∙ in_new
+
+    fresh : (a b c : Bool) → a ≡ true → (a && b) ≡ false → (c || not b) ≡ true
+    fresh true b c is none = ap (λ (x : Bool). c || not x) none ∙ either c
+      where
+        either : (x : Bool) → (x || true) ≡ true
+        either true = refl
+        either false = refl
+    fresh false b c is none = absurd (false≢true is)
+
+    swap : (a b : Bool) → (a || b) ≡ (b || a)
+    swap true true = refl
+    swap true false = refl
+    swap false true = refl
+    swap false false = refl
+
+    none : (x : Bool) → (x && false) ≡ false
+    none true = refl
+    none false = refl
+
+    at : (o : ℕ) → has kept.gaps.teams o ≡ true → o < lowest → (b : Bool) → has lower o ≡ b →
+        gap_at new.worst lowest o ≡ worst_apart (row_of kept.rows o) (row_of kept.rows lowest) kept.limits
+    at o in_o lt true in_lower = compared o in_lower
+    at o in_o lt false out =
+        others lowest o (ap (λ b. lowest == lowest && b) out ∙ none (lowest == lowest)) ∙
+        so_far.table.worst lowest o (ap (λ s. has s lowest) so_far.homes.is_for.teams ∙ so_far.within lowest taken.in_set) in_o lt
+        (fresh (has before.gaps.teams o) (has stale lowest || has stale o) (not (has left lowest))
+        (sym (ap (λ s. has s o) so_far.homes.is_for.teams) ∙ in_o)
+        (ap (λ b. has before.gaps.teams o && b) (swap (has stale lowest) (has stale o)) ∙ sym (members o lt) ∙ out))
+
+pub followed_all : (before kept : GapTable) (g : Games) (stale left : ℕ) → left ≡ 0 → HasFollowed before kept g stale left →
+    IsGapTable kept (λ t o. true)
+followed_all before kept g stale left none so_far =
+    fewer_right kept _ _ so_far.table
+    (λ t o in_t in_o lower right.
+    ap (λ b. not b || not (has stale t || has stale o)) (ap (λ s. has s t) none ∙ has_empty t))

@@ -1,0 +1,98 @@
+//! By how many home games each two teams are apart at most.
+
+ghost use Rattle.std.specs.Prelude.{◌≡◌, ℕ, ◌+◌, ◌^◌, ◌<◌, ◌≤◌, ◌&&◌, ◌==◌, true, false, length, slice_index};
+ghost use Rattle.league.specs.Limits.{max_teams};
+ghost use Rattle.league.specs.Sets.{has};
+ghost use Rattle.robinx.specs.Deviations.{over};
+ghost use Rattle.robinx.specs.Gaps.{AreTallied, gap_at, sum_of_gaps, sum_of_tallies};
+ghost use Rattle.robinx.specs.Walked.{row_length};
+
+use crate::home_rows::{ROW, TEAMS};
+use league::TeamSet;
+
+/// The worst gap of each two of some teams, and how many pairs have each.
+#[derive(Clone, Copy, Drop)]
+pub(crate) struct Gaps {
+    pub teams: TeamSet,
+    /// Of each team those with the lower teams.
+    pub worst: [[u8; TEAMS]; TEAMS],
+    /// How many pairs have a gap, but for those that have none.
+    pub tallies: [u32; ROW],
+}
+
+impl Gaps {
+    /// No gap between any two of the teams.
+    pub(crate) fn none(teams: TeamSet) -> Self
+        ensures tallied { AreTallied result }
+        ensures teams { result.teams ≡ teams }
+        ensures none { (t o : ℕ) → gap_at result.worst t o ≡ 0 }
+    {
+        Gaps {
+            teams,
+            worst: [[0; TEAMS]; TEAMS],
+            tallies: [0; ROW],
+        }
+    }
+
+    /// Sets the gap of a team and a lower one.
+    #[inline]
+    pub(crate) fn set(&mut self, team: u8, lower: u8, gap: u8)
+        requires tallied { AreTallied self.old }
+        requires team { team < max_teams }
+        requires lower { lower < team }
+        requires has_team { has self.old.teams team ≡ true }
+        requires has_lower { has self.old.teams lower ≡ true }
+        requires gap { gap < row_length }
+        ensures tallied { AreTallied self.new }
+        ensures teams { self.new.teams ≡ self.old.teams }
+        ensures set { gap_at self.new.worst team lower ≡ gap }
+        ensures others { (t o : ℕ) → (t == team && o == lower) ≡ false → gap_at self.new.worst t o ≡ gap_at self.old.worst t o }
+    {
+        let row = usize::from(team);
+        let column = usize::from(lower);
+        let before = self.worst[row][column];
+        self.worst[row][column] = gap;
+        drop_one(&mut self.tallies, before);
+        add_one(&mut self.tallies, gap);
+    }
+
+    /// What of the gaps is over the most.
+    pub(crate) fn over(&self, most: u32) -> u64
+        requires { AreTallied self.now }
+        ensures { result ≡ sum_of_gaps self.now.teams self.now.worst (λ gap. over gap most) }
+    {
+        let mut total = 0;
+        for gap in 0..ROW {
+            total += u64::from(self.tallies[gap]) * (gap as u64).saturating_sub(most.into());
+        }
+        total
+    }
+}
+
+/// One pair less has the gap.
+#[inline]
+fn drop_one(tallies: &mut [u32; ROW], gap: u8)
+    requires len { length tallies.old ≡ row_length }
+    requires gap { gap < row_length }
+    requires some { 0 < gap → 1 ≤ slice_index tallies.old gap }
+    ensures len { length tallies.new ≡ row_length }
+    ensures less { (f : ℕ → ℕ) → f 0 ≡ 0 → sum_of_tallies tallies.new f + f gap ≡ sum_of_tallies tallies.old f }
+{
+    if gap > 0 {
+        tallies[usize::from(gap)] -= 1;
+    }
+}
+
+/// One pair more has the gap.
+#[inline]
+fn add_one(tallies: &mut [u32; ROW], gap: u8)
+    requires len { length tallies.old ≡ row_length }
+    requires gap { gap < row_length }
+    requires room { 0 < gap → slice_index tallies.old gap < 2 ^ 31 }
+    ensures len { length tallies.new ≡ row_length }
+    ensures more { (f : ℕ → ℕ) → f 0 ≡ 0 → sum_of_tallies tallies.new f ≡ sum_of_tallies tallies.old f + f gap }
+{
+    if gap > 0 {
+        tallies[usize::from(gap)] += 1;
+    }
+}
