@@ -8,7 +8,7 @@ ghost use Rattle.search.specs.Steps.{IsKnown};
 
 use crate::kind::Kind;
 use crate::plan::Plan;
-use fixture_board::{Cost, cost_of, make_within};
+use fixture_board::{Attempt, Cost, KeptGaps, cost_of, make_within};
 use fixtures::Schedule;
 use league::League;
 use moves::{Move, check, exchange};
@@ -99,6 +99,7 @@ pub fn try_moves(schedule: &mut Schedule, league: &League, tried: Tried, plan: P
     let cost = cost_of(schedule, league);
     let score = cost.score(league);
     let mut known = Known { cost, score };
+    let mut gaps = KeptGaps::new();
     let mut kept = 0;
     let mut withdrawn = 0;
     for index in 0..plan.count {
@@ -106,7 +107,7 @@ pub fn try_moves(schedule: &mut Schedule, league: &League, tried: Tried, plan: P
             mv: tried.nth(&mut generator, index, teams),
             slack: plan.slack_at(index),
         };
-        match attempt(schedule, league, trial, &mut known) {
+        match try_move(schedule, league, &mut gaps, trial, &mut known) {
             TryEnd::Kept => kept += 1,
             TryEnd::Withdrawn => withdrawn += 1,
             TryEnd::Refused => {}
@@ -120,7 +121,13 @@ pub fn try_moves(schedule: &mut Schedule, league: &League, tried: Tried, plan: P
 }
 
 /// Tries a move on a schedule of known cost.
-fn attempt(schedule: &mut Schedule, league: &League, trial: Trial, known: &mut Known) -> TryEnd
+fn try_move(
+    schedule: &mut Schedule,
+    league: &League,
+    gaps: &mut KeptGaps,
+    trial: Trial,
+    known: &mut Known,
+) -> TryEnd
     requires same_size { teams league.now ≡ schedule.old.teams }
     requires known { IsKnown league.now schedule.old known.old.cost known.old.score }
     ensures same_size { schedule.new.teams ≡ schedule.old.teams }
@@ -130,9 +137,12 @@ fn attempt(schedule: &mut Schedule, league: &League, trial: Trial, known: &mut K
     if check(schedule, mv).is_err() {
         return TryEnd::Refused;
     }
-    let exchange = exchange(schedule, mv);
-    let most = known.score.saturating_add(slack);
-    let Some(cost) = make_within(schedule, league, &exchange, known.cost, most) else {
+    let attempt = Attempt {
+        exchange: exchange(schedule, mv),
+        known: known.cost,
+        most: known.score.saturating_add(slack),
+    };
+    let Some(cost) = make_within(schedule, league, gaps, &attempt) else {
         return TryEnd::Withdrawn;
     };
     let score = cost.score(league);

@@ -23,9 +23,9 @@ use Rattle.fixture_board.specs.declared.scope.Scope.{Scope}
 
 -- what the scope says of its exchange is so on the schedule before it
 pub record IsScope (g : Games) (scope : Scope) : Type 0 where
-  pub can_be_made : IsExchange g scope.exchange
-  pub main : scope.main ≡ main_cells scope.exchange
-  pub turning : (t : ℕ) → has scope.turning t ≡ turning_team g scope.exchange t
+  pub can_be_made : IsExchange g scope.attempt.exchange
+  pub main : scope.main ≡ main_cells scope.attempt.exchange
+  pub turning : (t : ℕ) → has scope.turning t ≡ turning_team g scope.attempt.exchange t
 
 -- the hard costs of every league: runs and repeats
 abbrev pub games_cost : LeagueData → Games → ℕ

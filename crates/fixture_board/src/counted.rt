@@ -16,28 +16,29 @@ use crate::rule_costs::parts_of_rules;
 use crate::scope::Scope;
 use fixtures::{Schedule, Touched};
 use league::League;
-use robinx::deviation_part;
+use robinx::{KeptGaps, deviation_part};
 use tours::unphased_part;
 
 /// A told cost without the penalties that the exchange can change. None of them is counted if the known cost has none.
 pub(crate) fn rest_of(
     schedule: &Schedule,
     league: &League,
+    gaps: &mut KeptGaps,
     scope: &Scope,
-    known: Cost,
     told: Cost,
 ) -> Cost
     requires same_size { teams league.now ≡ schedule.now.teams }
     requires scope { IsScope schedule.now scope.now }
-    requires known { known ≡ cost_of league.now schedule.now }
-    requires told { IsTold league.now schedule.now scope.now.exchange told }
-    ensures { IsRest league.now scope.now (exchanged_by schedule.now scope.now.exchange) result }
+    requires known { scope.now.attempt.known ≡ cost_of league.now schedule.now }
+    requires told { IsTold league.now schedule.now scope.now.attempt.exchange told }
+    ensures { IsRest league.now scope.now (exchanged_by schedule.now scope.now.attempt.exchange) result }
 {
     prove_eq!(league.teams(), schedule.teams());
+    let known = scope.attempt.known;
     if known.hard == 0 && known.soft == 0 {
         return told;
     }
-    let rules = parts_of_rules(schedule, league, scope.main, scope.turning, known);
+    let rules = parts_of_rules(schedule, league, gaps, scope);
     Cost {
         travel: told.travel,
         hard: told.hard - phases_part(schedule, league, scope.main) - rules.hard,
@@ -45,20 +46,21 @@ pub(crate) fn rest_of(
     }
 }
 
-/// The cost after an exchange, of which the rest is known, if its score is at most `most`. The rules are counted one after another,
-/// until the score is above it.
+/// The cost after an exchange, of which the rest is known, if its score is at most the greatest that the attempt allows. The rules
+/// are counted one after another, until the score is above that.
 pub(crate) fn whole_within(
     schedule: &Schedule,
     league: &League,
+    gaps: &mut KeptGaps,
     scope: &Scope,
     rest: Cost,
-    most: u64,
 ) -> Option<Cost>
     requires same_size { teams league.now ≡ schedule.now.teams }
     requires rest { IsRest league.now scope.now schedule.now rest }
-    ensures { IsCostWithin league.now most schedule.now result }
+    ensures { IsCostWithin league.now scope.now.attempt.most schedule.now result }
 {
     prove_eq!(league.teams(), schedule.teams());
+    let most = scope.attempt.most;
     let mut cost = Cost {
         hard: rest.hard + phases_part(schedule, league, scope.main),
         ..rest
@@ -68,7 +70,7 @@ pub(crate) fn whole_within(
             return None;
         }
         let rule = league.rule(i);
-        let part = deviation_part(schedule, rule, scope.main, scope.turning);
+        let part = deviation_part(schedule, rule, scope.main, scope.turning, gaps);
         let added = Penalties::of_rule(rule.weight, part);
         cost.hard += added.hard;
         cost.soft += added.soft;

@@ -5,6 +5,7 @@
 #![tactic(auto)]
 
 mod ask;
+mod attempt;
 mod best;
 mod board;
 mod change;
@@ -23,6 +24,7 @@ mod told_cost;
 mod whole_cost;
 
 pub use ask::{Ask, Proposal};
+pub use attempt::Attempt;
 pub use board::{Board, BoardFault, MAX_ROOM, NewRefused};
 pub use change::{Change, Entry};
 pub use cost::{Best, Cost};
@@ -34,4 +36,5 @@ pub use laws::{
 pub use look::Seen;
 pub use made_exchanges::{make_at_cost, make_within};
 pub use reply::{Reply, Why};
+pub use robinx::KeptGaps;
 pub use whole_cost::cost_of;

@@ -5,6 +5,7 @@ ghost use Rattle.league.specs.League.{teams};
 ghost use Rattle.moves.specs.Exchanges.{exchanged_by, IsExchange};
 ghost use Rattle.fixture_board.specs.Costs.{cost_of, score_of, score_limit, IsCostWithin};
 
+use crate::attempt::Attempt;
 use crate::cost::Cost;
 use crate::counted::{rest_of, whole_within};
 use crate::scope::Scope;
@@ -12,12 +13,14 @@ use crate::told_cost::told_within;
 use fixtures::Schedule;
 use league::League;
 use moves::Exchange;
+use robinx::KeptGaps;
 
 /// Makes an exchange on a schedule of known cost, and gives the cost after. Made once more, it gives the schedule back.
-/// Takes no memory.
+/// What FA2 counts is kept in `gaps`. Takes no memory.
 pub fn make_at_cost(
     schedule: &mut Schedule,
     league: &League,
+    gaps: &mut KeptGaps,
     exchange: &Exchange,
     known: Cost,
 ) -> Cost
@@ -31,31 +34,37 @@ pub fn make_at_cost(
     ensures small { score_of league.now result < score_limit }
 {
     prove_eq!(league.teams(), schedule.teams());
-    make_within(schedule, league, exchange, known, u64::MAX).unwrap()
+    let attempt = Attempt {
+        exchange: *exchange,
+        known,
+        most: u64::MAX,
+    };
+    make_within(schedule, league, gaps, &attempt).unwrap()
 }
 
-/// Makes an exchange as `make_at_cost` does if the score after is at most `most`, and gives the cost after. Otherwise the
-/// schedule is left as it was, and what costs little to count is counted first: travel, runs and repeats, for which nothing
-/// is made, and last the rules. Takes no memory.
+/// Makes the exchange of an attempt as `make_at_cost` does if the score after is at most the greatest allowed, and gives the cost
+/// after. Otherwise the schedule is left as it was, and what costs little to count is counted first: travel, runs and repeats, for
+/// which nothing is made, and last the rules. What FA2 counts is kept in `gaps`. Takes no memory.
 pub fn make_within(
     schedule: &mut Schedule,
     league: &League,
-    exchange: &Exchange,
-    known: Cost,
-    most: u64,
+    gaps: &mut KeptGaps,
+    attempt: &Attempt,
 ) -> Option<Cost>
     requires same_size { teams league.now ≡ schedule.old.teams }
-    requires can_be_made { IsExchange schedule.old exchange.now }
-    requires known { known ≡ cost_of league.now schedule.old }
-    ensures value { IsCostWithin league.now most (exchanged_by schedule.old exchange.now) result }
+    requires can_be_made { IsExchange schedule.old attempt.now.exchange }
+    requires known { attempt.now.known ≡ cost_of league.now schedule.old }
+    ensures value { IsCostWithin league.now attempt.now.most (exchanged_by schedule.old attempt.now.exchange) result }
     ensures schedule { MatchOption result (schedule.new ≡ schedule.old)
-        (λ cost. schedule.new ≡ exchanged_by schedule.old exchange.now) }
-    ensures again { IsExchange schedule.new exchange.now }
-    ensures back { IfSome result (λ cost. exchanged_by schedule.new exchange.now ≡ schedule.old) }
+        (λ cost. schedule.new ≡ exchanged_by schedule.old attempt.now.exchange) }
+    ensures again { IsExchange schedule.new attempt.now.exchange }
+    ensures back { IfSome result (λ cost. exchanged_by schedule.new attempt.now.exchange ≡ schedule.old) }
     ensures small { IfSome result (λ cost. score_of league.now cost < score_limit) }
 {
     prove_eq!(league.teams(), schedule.teams());
-    let told = told_within(schedule, league, exchange, known, most)?;
+    let told = told_within(schedule, league, attempt)?;
+    let exchange = &attempt.exchange;
+    let most = attempt.most;
     if league.rule_count() == 0 && !league.phased() {
         if told.score(league) > most {
             return None;
@@ -63,13 +72,13 @@ pub fn make_within(
         exchange.make(schedule);
         return Some(told);
     }
-    let scope = Scope::of(exchange, schedule);
-    let rest = rest_of(schedule, league, &scope, known, told);
+    let scope = Scope::of(attempt, schedule);
+    let rest = rest_of(schedule, league, gaps, &scope, told);
     if rest.score(league) > most {
         return None;
     }
     exchange.make(schedule);
-    let cost = whole_within(schedule, league, &scope, rest, most);
+    let cost = whole_within(schedule, league, gaps, &scope, rest);
     if cost.is_none() {
         exchange.make(schedule);
     }

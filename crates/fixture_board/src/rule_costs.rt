@@ -7,11 +7,11 @@ ghost use Rattle.league.specs.RuleLimits.{IsBodyFor};
 ghost use Rattle.fixture_board.specs.Costs.{cost_of, hard_penalty, soft_penalty, sum_over_rules};
 ghost use Rattle.fixture_board.specs.CostParts.{breakable_part, rules_part};
 
-use crate::cost::Cost;
 use crate::penalties::Penalties;
-use fixtures::{Schedule, Touched};
-use league::{League, Rule, TeamSet};
-use robinx::{deviation, deviation_part};
+use crate::scope::Scope;
+use fixtures::Schedule;
+use league::{League, Rule};
+use robinx::{KeptGaps, deviation, deviation_part};
 
 /// What the rules add to the cost of a schedule.
 #[tactic(auto, using(league::proofs::ForCallers::sums), unfolding(crate::specs::Costs::sum_over_rules))]
@@ -32,27 +32,25 @@ pub(crate) fn costs_of_rules(schedule: &Schedule, league: &League) -> Penalties
     costs
 }
 
-/// What of that a change around the main teams can alter, if `sides` has the teams whose sides it may change. A rule isn't counted
-/// if the known cost has nothing of its kind.
+/// What of that the exchange of the scope can alter. A rule isn't counted if the known cost has nothing of its kind.
 #[tactic(auto, using(league::proofs::ForCallers::sums), unfolding(crate::specs::CostParts::rules_part))]
 pub(crate) fn parts_of_rules(
     schedule: &Schedule,
     league: &League,
-    main: Touched,
-    sides: TeamSet,
-    known: Cost,
+    gaps: &mut KeptGaps,
+    scope: &Scope,
 ) -> Penalties
     requires same_size { teams league.now ≡ schedule.now.teams }
-    requires known { known ≡ cost_of league.now schedule.now }
-    ensures hard { result.hard ≡ rules_part hard_penalty league.now.rules main sides schedule.now }
-    ensures soft { result.soft ≡ rules_part soft_penalty league.now.rules main sides schedule.now }
+    requires known { scope.now.attempt.known ≡ cost_of league.now schedule.now }
+    ensures hard { result.hard ≡ rules_part hard_penalty league.now.rules scope.now.main scope.now.turning schedule.now }
+    ensures soft { result.soft ≡ rules_part soft_penalty league.now.rules scope.now.main scope.now.turning schedule.now }
     ensures hard_most { result.hard ≤ max_rules * deviation_limit }
     ensures soft_most { result.soft ≤ max_rules * (max_weight * deviation_limit) }
 {
     let mut costs = Penalties { hard: 0, soft: 0 };
     for i in 0..league.rule_count() {
         let rule = league.rule(i);
-        let part = breakable_part(schedule, rule, main, sides, known);
+        let part = breakable_part(schedule, rule, gaps, scope);
         let added = Penalties::of_rule(rule.weight, part);
         costs.hard += added.hard;
         costs.soft += added.soft;
@@ -61,19 +59,13 @@ pub(crate) fn parts_of_rules(
 }
 
 /// The part of the rule's deviation, if a schedule of the known cost may break it.
-fn breakable_part(
-    schedule: &Schedule,
-    rule: &Rule,
-    main: Touched,
-    sides: TeamSet,
-    known: Cost,
-) -> u64
+fn breakable_part(schedule: &Schedule, rule: &Rule, gaps: &mut KeptGaps, scope: &Scope) -> u64
     requires { IsBodyFor schedule.now.teams rule.now.body }
-    ensures value { result ≡ breakable_part schedule.now main sides known rule.now }
+    ensures value { result ≡ breakable_part schedule.now scope.now.main scope.now.turning scope.now.attempt.known rule.now }
     ensures below { result < deviation_limit }
 {
-    if known.may_break(rule.weight) {
-        deviation_part(schedule, rule, main, sides)
+    if scope.attempt.known.may_break(rule.weight) {
+        deviation_part(schedule, rule, scope.main, scope.turning, gaps)
     } else {
         0
     }

@@ -15,6 +15,7 @@ use crate::reply::Reply;
 use crate::whole_cost::cost_of;
 use fixtures::{Schedule, start};
 use league::League;
+use robinx::KeptGaps;
 use std::alloc::{AllocError, Global};
 
 /// A history of at most `room` entries, and what follows from it.
@@ -31,6 +32,8 @@ pub(crate) struct State {
     pub(crate) best: Option<Best>,
     /// The schedule at the best version, if there is one.
     pub(crate) best_schedule: Schedule,
+    /// What FA2 counted last, for the next count.
+    pub(crate) gaps: KeptGaps,
 }
 
 impl State {
@@ -65,6 +68,7 @@ impl State {
             cost,
             best,
             best_schedule,
+            gaps: KeptGaps::new(),
         })
     }
 

@@ -10,12 +10,13 @@ mod steps;
 
 use crate::gates::{Hearing, HearingGate};
 use crate::{Door, Gate, Progress, draw};
+use fixture_board::KeptGaps;
 use fixtures::Schedule;
 use league::League;
 use rand_pcg::Lcg64Xsh32;
 use std::sync::Wait;
 pub(crate) use steps::{Means, Measure};
-use steps::{StepResult, Trial, least_with, refresh, step};
+use steps::{Kept, StepResult, Trial, least_with, refresh, step};
 
 /// What a worker is to do.
 #[derive(Clone, Copy, Debug, PartialEq, Eq)]
@@ -132,11 +133,14 @@ pub(crate) fn take_steps<R: Wait, D: Door, G: HearingGate>(
     let teams = means.measure.league.teams();
     if copy.teams() == teams {
         let mut generator = Lcg64Xsh32::new(plan.seed, u64::from(plan.worker));
-        let mut known = refresh(means.rt, door, means.measure, copy);
+        let mut kept = Kept {
+            known: refresh(means.rt, door, means.measure, copy),
+            gaps: KeptGaps::new(),
+        };
         let mut progress = Progress {
             steps: 0,
-            version: known.version,
-            least: least_with(None, known.cost),
+            version: kept.known.version,
+            least: least_with(None, kept.known.cost),
         };
         means.gate.begun(means.rt, plan.worker);
         for s in 0..plan.steps {
@@ -146,14 +150,14 @@ pub(crate) fn take_steps<R: Wait, D: Door, G: HearingGate>(
                 slack: slack_at(plan, course, s),
                 mv: draw(&mut generator, teams),
             };
-            let told = step(means, door, copy, &mut known, trial);
+            let told = step(means, door, copy, &mut kept, trial);
             report = report.with(told);
             match told {
                 StepResult::Nothing | StepResult::Refused => {}
                 StepResult::Accepted(cost) => progress.least = least_with(progress.least, cost),
                 StepResult::Full => break,
             }
-            progress.version = known.version;
+            progress.version = kept.known.version;
             tell(means, plan.worker, &mut progress);
         }
     }

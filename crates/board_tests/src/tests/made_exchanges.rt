@@ -4,7 +4,7 @@ use crate::tests::answers::have_same_games;
 use crate::tests::checks::check_same;
 use crate::tests::drawn_numbers::drawn_move;
 use crate::tests::kept_cost::league;
-use fixture_board::{Cost, cost_of, make_at_cost, make_within};
+use fixture_board::{Attempt, Cost, KeptGaps, cost_of, make_at_cost, make_within};
 use fixtures::{Schedule, start};
 use league::League;
 use moves::{Move, check, exchange};
@@ -37,7 +37,13 @@ fn made(rt: &impl Abort, alloc: Global, trial: Trial<'_>) -> Result<Option<After
     }
     let (known, exchange) = (cost_of(start, league), exchange(start, trial.mv));
     let mut schedule = start.duplicate(alloc)?;
-    let cost = make_at_cost(&mut schedule, league, &exchange, known);
+    let cost = make_at_cost(
+        &mut schedule,
+        league,
+        &mut KeptGaps::new(),
+        &exchange,
+        known,
+    );
     let score = cost.score(league);
     Ok(Some(AfterMove {
         schedule,
@@ -58,9 +64,13 @@ fn tried(
     if check(start, trial.mv).is_err() {
         return Err("a move that can be made".into());
     }
-    let (known, exchange) = (cost_of(start, league), exchange(start, trial.mv));
+    let attempt = Attempt {
+        exchange: exchange(start, trial.mv),
+        known: cost_of(start, league),
+        most,
+    };
     let mut tried = start.duplicate(alloc)?;
-    let answer = make_within(&mut tried, league, &exchange, known, most);
+    let answer = make_within(&mut tried, league, &mut KeptGaps::new(), &attempt);
     Ok((tried, answer))
 }
 

@@ -1,6 +1,7 @@
 //! The steps of the calls: a change judged, and made if nothing speaks against it, but for its entry.
 
 use crate::ask::{Ask, Proposal};
+use crate::attempt::Attempt;
 use crate::change::Change;
 use crate::made_exchanges::{make_at_cost, make_within};
 use crate::reply::Why;
@@ -49,7 +50,12 @@ impl State {
         }
         let before = self.cost.score(league);
         let Limit { most, above } = self.limit_of(proposal, before);
-        let Some(cost) = make_within(&mut self.schedule, league, &exchange, self.cost, most) else {
+        let attempt = Attempt {
+            exchange,
+            known: self.cost,
+            most,
+        };
+        let Some(cost) = make_within(&mut self.schedule, league, &mut self.gaps, &attempt) else {
             return Err(above);
         };
         if let Err(why) = self.check_score(proposal, before, cost.score(league)) {
@@ -124,7 +130,13 @@ impl State {
         match change {
             Change::Shift(mv) => {
                 let exchange = exchange(&self.schedule, mv);
-                self.cost = make_at_cost(&mut self.schedule, league, &exchange, self.cost);
+                self.cost = make_at_cost(
+                    &mut self.schedule,
+                    league,
+                    &mut self.gaps,
+                    &exchange,
+                    self.cost,
+                );
             }
             Change::Pin(game) => self.pins.unpin(game),
             Change::Unpin(game) => self.pins.pin(game),

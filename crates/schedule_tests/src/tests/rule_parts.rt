@@ -5,7 +5,7 @@ use crate::tests::rule_leagues::{check_deviation, league_with, only_deviation};
 use fixtures::{Schedule, Touched, berger};
 use league::{League, SlotSet, TeamSet};
 use moves::{Move, apply, check};
-use robinx::deviation_part;
+use robinx::{KeptGaps, deviation_part};
 use std::alloc::Global;
 use std::process::Abort;
 use std::test::Fail;
@@ -126,12 +126,18 @@ const MOVES: &[(Move, bool)] = &[
 ];
 
 /// The part of the deviation from a league's only rule that a change of these cells can alter, if these teams may change sides.
-fn part(schedule: &Schedule, league: &League, main: Touched, sides: TeamSet) -> Option<u64> {
+fn part(
+    schedule: &Schedule,
+    league: &League,
+    main: Touched,
+    sides: TeamSet,
+    gaps: &mut KeptGaps,
+) -> Option<u64> {
     if league.teams() != schedule.teams() || league.rule_count() != 1 {
         return None;
     }
     let rule = league.rule(0);
-    Some(deviation_part(schedule, rule, main, sides))
+    Some(deviation_part(schedule, rule, main, sides, gaps))
 }
 
 /// The games of teams 1 and 2 with each other.
@@ -151,7 +157,7 @@ fn check_part(
 ) -> Result<(), Fail> {
     let league = league_with(alloc, 6, rule)?;
     let main = their_games();
-    let found = part(start, &league, main, main.teams);
+    let found = part(start, &league, main, main.teams, &mut KeptGaps::new());
     check_same(rt, &(rule, found), &(rule, Some(count)));
     Ok(())
 }
@@ -175,7 +181,8 @@ fn part_against_all_teams_is_of_sides(rt: HostRuntime) -> Result<(), Fail> {
     let league = league_with(rt.alloc(), 6, rule)?;
     let start = berger(rt.alloc(), 6)?;
     let main = their_games();
-    let found = part(&start, &league, main, TeamSet::empty().with(0));
+    let sides = TeamSet::empty().with(0);
+    let found = part(&start, &league, main, sides, &mut KeptGaps::new());
     check_same(&rt, &(rule, found), &(rule, Some(2)));
     Ok(())
 }
@@ -202,11 +209,17 @@ fn turned(before: &Schedule, after: &Schedule) -> TeamSet {
 }
 
 /// What of the deviation isn't in the part.
-fn rest(schedule: &Schedule, league: &League, main: Touched, sides: TeamSet) -> Option<u64> {
-    only_deviation(schedule, league)?.checked_sub(part(schedule, league, main, sides)?)
+fn rest(
+    schedule: &Schedule,
+    league: &League,
+    main: Touched,
+    sides: TeamSet,
+    gaps: &mut KeptGaps,
+) -> Option<u64> {
+    only_deviation(schedule, league)?.checked_sub(part(schedule, league, main, sides, gaps)?)
 }
 
-/// The rest before the move and after it.
+/// The rest before the move and after it, of which the second is counted with what the first left behind.
 fn rests(
     alloc: Global,
     start: &Schedule,
@@ -216,8 +229,9 @@ fn rests(
     let mut after = start.duplicate(alloc)?;
     let main = made(&mut after, mv)?;
     let sides = turned(start, &after);
-    let before = rest(start, league, main, sides);
-    Ok((before, rest(&after, league, main, sides)))
+    let mut gaps = KeptGaps::new();
+    let before = rest(start, league, main, sides, &mut gaps);
+    Ok((before, rest(&after, league, main, sides, &mut gaps)))
 }
 
 fn check_rest(

@@ -9,7 +9,7 @@ ghost use Rattle.search.specs.Steps.{IsKnown, IsMeasured, IsProposed, accepted_c
 
 use crate::Door;
 use crate::gates::HearingGate;
-use fixture_board::{Cost, Proposal, Reply, Why, cost_of, make_within};
+use fixture_board::{Attempt, Cost, KeptGaps, Proposal, Reply, Why, cost_of, make_within};
 use fixtures::Schedule;
 use league::League;
 use moves::{Exchange, Move, check, exchange};
@@ -39,6 +39,14 @@ pub(crate) struct Known {
     pub(crate) version: u64,
     pub(crate) cost: Cost,
     pub(crate) score: u64,
+}
+
+/// What a worker keeps beside its copy, from one step to the next.
+#[derive(Drop)]
+pub(crate) struct Kept {
+    pub(crate) known: Known,
+    /// What FA2 counted last, of the copy or of a move that was tried on it.
+    pub(crate) gaps: KeptGaps,
 }
 
 /// What a step tries, and how many proposals the worker made before.
@@ -104,15 +112,15 @@ pub(crate) fn step<R: Wait, D: Door, G: HearingGate>(
     means: Means<'_, R, G>,
     door: &mut D,
     copy: &mut Schedule,
-    known: &mut Known,
+    kept: &mut Kept,
     trial: Trial,
 ) -> StepResult
     requires same_size { teams means.measure.league.now ≡ copy.old.teams }
     requires measured { IsMeasured means.measure.of_boards means.measure.league.now (D.may_have door.old) }
-    requires known { IsKnown means.measure.league.now copy.old known.old.cost known.old.score }
+    requires known { IsKnown means.measure.league.now copy.old kept.old.known.cost kept.old.known.score }
     requires granted { D.granted door.old < 2 ^ 63 }
     ensures same_size { copy.new.teams ≡ copy.old.teams }
-    ensures known { IsKnown means.entry.measure.league.now copy.new known.new.cost known.new.score }
+    ensures known { IsKnown means.entry.measure.league.now copy.new kept.new.known.cost kept.new.known.score }
     ensures counted { D.granted door.new ≡ D.granted door.old + accepted_count result }
     ensures heard { IsProposed result → (reply : Reply)
         × G.heard means.entry.gate.now trial.worker trial.made reply × (done_count reply ≡ accepted_count result) }
@@ -124,18 +132,22 @@ pub(crate) fn step<R: Wait, D: Door, G: HearingGate>(
         return StepResult::Nothing;
     }
     let exchange = exchange(copy, mv);
-    let most = known.score.saturating_add(trial.slack);
-    let Some(cost) = make_within(copy, measure.league, &exchange, known.cost, most) else {
+    let attempt = Attempt {
+        exchange,
+        known: kept.known.cost,
+        most: kept.known.score.saturating_add(trial.slack),
+    };
+    let Some(cost) = make_within(copy, measure.league, &mut kept.gaps, &attempt) else {
         return StepResult::Nothing;
     };
     let score = cost.score(measure.league);
-    if door.front(rt) != known.version {
+    if door.front(rt) != kept.known.version {
         exchange.make(copy);
-        *known = refresh(rt, door, measure, copy);
+        kept.known = refresh(rt, door, measure, copy);
         return StepResult::Nothing;
     }
     let proposal = Proposal {
-        version: known.version,
+        version: kept.known.version,
         mv,
         claim: Some(score),
         slack: trial.slack,
@@ -149,7 +161,7 @@ pub(crate) fn step<R: Wait, D: Door, G: HearingGate>(
         score,
         reply,
     };
-    settle(means, door, copy, known, made)
+    settle(means, door, copy, &mut kept.known, made)
 }
 
 /// Keeps the move that was proposed, or withdraws it, and looks if the board has gone on.

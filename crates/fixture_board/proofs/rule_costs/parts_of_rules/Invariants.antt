@@ -8,8 +8,8 @@ use Rattle.fixture_board.proofs.rule_costs.parts_of_rules.Given as goal
 
 abbrev pub invariant-loop-i : goal.invariant-loop-i
 invariant-loop-i l = record {
-  hard : l.costs.hard ≡ sum_below l.i (λ i. rule_part hard_penalty l.main l.sides l.schedule (slice_get l.league.rules i));
-  soft : l.costs.soft ≡ sum_below l.i (λ i. rule_part soft_penalty l.main l.sides l.schedule (slice_get l.league.rules i));
+  hard : l.costs.hard ≡ sum_below l.i (λ i. rule_part hard_penalty l.scope.main l.scope.turning l.schedule (slice_get l.league.rules i));
+  soft : l.costs.soft ≡ sum_below l.i (λ i. rule_part soft_penalty l.scope.main l.scope.turning l.schedule (slice_get l.league.rules i));
   hard_most : l.costs.hard ≤ l.i * deviation_limit;
   soft_most : l.costs.soft ≤ l.i * (max_weight * deviation_limit);
 }

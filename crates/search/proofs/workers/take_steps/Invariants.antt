@@ -9,7 +9,7 @@ invariant-loop-s g l = record {
   whole : l.report.made ≡ l.report.accepted + l.report.refused;
   few : l.report.made ≤ l.s;
   same_size : teams l.means.measure.league.now ≡ l.copy.teams;
-  known : IsKnown l.means.measure.league.now l.copy l.known.cost l.known.score;
+  known : IsKnown l.means.measure.league.now l.copy l.kept.known.cost l.kept.known.score;
   heard : IsHeard (g.G.HearingGate.heard l.means.gate.now l.plan.worker) l.report;
   counted : g.D.Door.granted l.door ≡ g.D.Door.granted l.fn.door + l.report.accepted;
   stays : g.D.Door.stays l.fn.door l.door;
