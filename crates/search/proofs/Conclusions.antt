@@ -81,6 +81,14 @@ resumed_of heard gate plan table all jobs handles reports was seat closed before
       });
     }
 
+-- its reports are those that the gate heard
+pub heard_of : (heard : ℕ → ℕ → Reply → Type 0) (plan : SearchPlan) (closed : Closed) (reports : List Report) (before : ℕ)
+    (r : Result Outcome RunRefused) → All (IsOfWorker heard plan.steps) reports → IfOk r (IsConcluded plan before closed reports) →
+    IfOk r (λ o. All (IsOfWorker heard plan.steps) o.reports)
+heard_of heard plan closed reports before (Err e) each end = tt
+heard_of heard plan closed reports before (Ok o) each end =
+    subst (λ (rs : List Report). All (IsOfWorker heard plan.steps) rs) (sym end.reports_are) each
+
 -- a run that goes on from no entry
 pub outcome_of : (plan : SearchPlan) (was : Book) (r : Result Outcome RunRefused) → was.history ≡ [] → IfOk r (IsResumed plan was) →
     IfOk r (IsOutcome plan was)

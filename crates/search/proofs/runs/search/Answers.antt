@@ -5,7 +5,7 @@ use Rattle.std.specs.List.{All}
 use Rattle.fixture_board.specs.declared.change.Entry.{Entry}
 use Rattle.shared_board.specs.Setting.{Setting}
 use Rattle.search.specs.Crews.{AreCredited, HandleSaw, JobIn, JobMeasured, handle_number, job_number}
-use Rattle.search.proofs.Conclusions.{begins_whole, resumed_of}
+use Rattle.search.proofs.Conclusions.{begins_whole, heard_of, resumed_of}
 use Rattle.search.proofs.runs.search.Goals as goal
 
 pub conclude-requires-clause-many : goal.conclude-requires-clause-many
@@ -54,3 +54,8 @@ launch-all-requires-after_bounds g c = λ _ _. record {
   no_handle = c.requires.crew.no_handle;
   room = omega (arith, c.in-Ok.ensures.many, c.requires.crew.copies, c.requires.crew.handles);
 }
+
+pub returns-clause-heard : goal.returns-clause-heard
+returns-clause-heard g c =
+    heard_of _ c.args.phase.search c.close-closed.result c.gather-reports.result.items c.seen-before.result _
+    c.gather-reports.ensures.each c.conclude.ensures.done
