@@ -32,8 +32,8 @@ pub(crate) struct State {
     pub(crate) best: Option<Best>,
     /// The schedule at the best version, if there is one.
     pub(crate) best_schedule: Schedule,
-    /// What FA2 counted last, for the next count.
-    pub(crate) gaps: KeptGaps,
+    /// What FA2 counted last, for the next count. It is large, and a board is passed by value: so it has a place of its own.
+    pub(crate) gaps: Box<KeptGaps>,
 }
 
 impl State {
@@ -56,6 +56,7 @@ impl State {
         let pins = Pins::none(alloc)?;
         let schedule = start(alloc, league)?;
         let mut best_schedule = schedule.duplicate(alloc)?;
+        let gaps = Box::new(alloc, KeptGaps::new())?;
         let cost = cost_of(&schedule, league);
         let mut best = None;
         keep_best(&mut best, &mut best_schedule, &schedule, cost, 0);
@@ -68,7 +69,7 @@ impl State {
             cost,
             best,
             best_schedule,
-            gaps: KeptGaps::new(),
+            gaps,
         })
     }
 

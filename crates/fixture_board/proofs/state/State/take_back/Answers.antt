@@ -1,0 +1,14 @@
+use Rattle.std.proofs.Common.{sym, ◌∙◌, ap}
+use Rattle.fixtures.specs.Games.{Games}
+use Rattle.fixture_board.specs.Costs.{cost_of}
+use Rattle.fixture_board.specs.declared.cost.Cost.{Cost}
+use Rattle.fixture_board.specs.declared.state.State.{State}
+use Rattle.fixture_board.proofs.state.State.take_back.Goals as goal
+
+pub returns-in-Shift : goal.returns-in-Shift
+returns-in-Shift c =
+    let kept : State = c.args.self.now in
+    let made = c.make_at_cost-self.ensures.made ∙ sym c.exchange-exchange.ensures.is_move.is in
+    rw c.in-Shift.is
+    (ap (λ (cost : Cost). record kept { schedule = c.make_at_cost-self.new.schedule; cost = cost }) c.make_at_cost-self.ensures.value ∙
+    ap (λ (games : Games). record kept { schedule = games; cost = cost_of c.args.league.now games }) made)
