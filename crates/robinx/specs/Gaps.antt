@@ -4,6 +4,7 @@ use Rattle.league.specs.Limits.{max_teams}
 use Rattle.league.specs.Sets.{has, IsBelow}
 use Rattle.league.specs.Sums.{sum_below, sum_where, count_where}
 use Rattle.fixtures.specs.Games.{Games, round_count, is_home}
+use Rattle.robinx.specs.Deviations.{over}
 use Rattle.robinx.specs.Walked.{row_length, row_of, worst_apart}
 use Rattle.robinx.specs.declared.gaps.Gaps.{Gaps}
 use Rattle.robinx.specs.declared.gap_table.GapTable.{GapTable}
@@ -47,6 +48,12 @@ pub record IsGapTable (kept : GapTable) (right : ℕ → ℕ → Bool) : Type 0 
   pub slots : IsBelow (round_count kept.playing) kept.slots
   pub worst : (t o : ℕ) → has kept.gaps.teams t ≡ true → has kept.gaps.teams o ≡ true → o < t → right t o ≡ true →
       gap_at kept.gaps.worst t o ≡ worst_apart (row_of kept.rows o) (row_of kept.rows t) kept.limits
+
+-- a whole table has all gaps, and what of them is over each number
+pub record IsWholeTable (kept : GapTable) : Type 0 where
+  pub table : IsGapTable kept (λ t o. true)
+  pub overs : (most : ℕ) → most < row_length →
+      slice_index kept.overs most ≡ sum_of_gaps kept.gaps.teams kept.gaps.worst (λ gap. over gap most)
 
 -- a table is for schedules of so many teams, for these teams and slots
 pub record IsTableFor (kept : GapTable) (n of_teams of_slots : ℕ) : Type 0 where

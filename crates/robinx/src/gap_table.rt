@@ -6,7 +6,7 @@ ghost use Rattle.league.specs.Sets.{has, IsBelow};
 ghost use Rattle.league.specs.declared.rule.RuleBody.TheVariants as RuleBody;
 ghost use Rattle.fixtures.specs.Games.{round_count, is_home, IsDoubleRoundRobin};
 ghost use Rattle.robinx.specs.Deviations.{deviation};
-ghost use Rattle.robinx.specs.Gaps.{AreTallied, IsGapTable, IsHomeRow, IsTableFor, IsTableOf, gap_at};
+ghost use Rattle.robinx.specs.Gaps.{AreTallied, IsGapTable, IsHomeRow, IsTableFor, IsTableOf, IsWholeTable, gap_at};
 ghost use Rattle.robinx.specs.Walked.{row_length, row_of, worst_apart};
 
 use crate::gaps::Gaps;
@@ -28,6 +28,8 @@ pub(crate) struct GapTable {
     /// How many home games each team has up to and with each round.
     pub rows: [Row; TEAMS],
     pub gaps: Gaps,
+    /// What of the gaps is over each number that may be the most.
+    pub overs: [u32; ROW],
 }
 
 impl GapTable {
@@ -36,7 +38,7 @@ impl GapTable {
         requires playing { playing ≤ max_teams }
         requires teams { IsBelow playing teams }
         requires slots { IsBelow (round_count playing) slots }
-        ensures table { IsGapTable result (λ t o. true) }
+        ensures table { IsWholeTable result }
         ensures is_for { IsTableFor result playing teams slots }
     {
         let rounds = 2 * playing.saturating_sub(1);
@@ -47,6 +49,7 @@ impl GapTable {
             homes: [SlotSet::empty(); TEAMS],
             rows: [[0; ROW]; TEAMS],
             gaps: Gaps::none(teams),
+            overs: [0; ROW],
         }
     }
 
@@ -59,7 +62,7 @@ impl GapTable {
 
     /// Whether it is for these teams and slots, and the teams are at home in the same rounds as in the schedule.
     pub(crate) fn is_of(&self, schedule: &Schedule, teams: TeamSet, slots: SlotSet) -> bool
-        requires table { IsGapTable self.now (λ t o. true) }
+        requires table { IsWholeTable self.now }
         ensures { result ≡ true → IsTableOf self.now schedule.now teams slots }
     {
         if !self.is_for(schedule.teams(), teams, slots) {
@@ -76,10 +79,10 @@ impl GapTable {
 
     /// Becomes the table of the schedule: the gaps of teams that are at home in other rounds are counted anew.
     pub(crate) fn follow(&mut self, schedule: &Schedule)
-        requires table { IsGapTable self.old (λ t o. true) }
+        requires table { IsWholeTable self.old }
         requires playing { self.old.playing ≡ schedule.now.teams }
         requires round_robin { IsDoubleRoundRobin schedule.now }
-        ensures table { IsGapTable self.new (λ t o. true) }
+        ensures table { IsWholeTable self.new }
         ensures homes { IsTableOf self.new schedule.now self.old.gaps.teams self.old.slots }
     {
         let stale = self.take_homes(schedule);
@@ -88,16 +91,22 @@ impl GapTable {
             let lower = partners(teams, stale, team);
             compare(&mut self.gaps, &self.rows, &self.limits, team, lower);
         }
+        self.overs = self.gaps.overs();
     }
 
     /// The deviation of the schedule from a rule that allows gaps of at most `most`.
     pub(crate) fn over(&self, schedule: &Schedule, most: u32) -> u64
         requires round_robin { IsDoubleRoundRobin schedule.now }
-        requires table { IsGapTable self.now (λ t o. true) }
+        requires table { IsWholeTable self.now }
         requires homes { IsTableOf self.now schedule.now self.now.gaps.teams self.now.slots }
         ensures { result ≡ deviation schedule.now (RuleBody.Fa2 self.now.gaps.teams self.now.slots most) }
     {
-        self.gaps.over(most)
+        let most = most as usize;
+        if most < ROW {
+            self.overs[most].into()
+        } else {
+            0
+        }
     }
 
     /// Takes the rounds in which its teams are at home from the schedule, and gives the teams for which they are others.

@@ -56,16 +56,22 @@ impl Gaps {
         add_one(&mut self.tallies, gap);
     }
 
-    /// What of the gaps is over the most.
-    pub(crate) fn over(&self, most: u32) -> u64
+    /// What of the gaps is over each number that may be the most.
+    pub(crate) fn overs(&self) -> [u32; ROW]
         requires { AreTallied self.now }
-        ensures { result ≡ sum_of_gaps self.now.teams self.now.worst (λ gap. over gap most) }
+        ensures { (most : ℕ) → most < row_length →
+            slice_index result most ≡ sum_of_gaps self.now.teams self.now.worst (λ gap. over gap most) }
     {
+        let mut overs = [0; ROW];
+        let mut pairs = 0;
         let mut total = 0;
-        for gap in 0..ROW {
-            total += u64::from(self.tallies[gap]) * (gap as u64).saturating_sub(most.into());
+        for step in 1..ROW {
+            let most = ROW - 1 - step;
+            pairs += self.tallies[most + 1];
+            total += pairs;
+            overs[most] = total;
         }
-        total
+        overs
     }
 }
 

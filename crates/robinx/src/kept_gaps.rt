@@ -5,7 +5,7 @@ ghost use Rattle.league.specs.Sets.{IsBelow};
 ghost use Rattle.league.specs.declared.rule.RuleBody.TheVariants as RuleBody;
 ghost use Rattle.fixtures.specs.Games.{round_count, IsDoubleRoundRobin};
 ghost use Rattle.robinx.specs.Deviations.{deviation};
-ghost use Rattle.robinx.specs.Gaps.{IsGapTable, IsTableOf};
+ghost use Rattle.robinx.specs.Gaps.{IsTableOf, IsWholeTable};
 
 use crate::fairness_rules::Fairness;
 use crate::gap_table::GapTable;
@@ -28,7 +28,7 @@ impl Model for KeptGaps {
 
     ghost view = { λ _. tt };
 
-    ghost invariant = { λ kept. IsGapTable kept.first (λ t o. true) × IsGapTable kept.second (λ t o. true) };
+    ghost invariant = { λ kept. IsWholeTable kept.first × IsWholeTable kept.second };
 }
 
 impl KeptGaps {
@@ -66,12 +66,12 @@ impl KeptGaps {
 
 /// Makes one of the two tables that of the schedule, if neither is: the older one, from the last. Gives whether it is the older one.
 fn turn_to(last: &GapTable, older: &mut GapTable, schedule: &Schedule, fairness: &Fairness) -> bool
-    requires last { IsGapTable last.now (λ t o. true) }
-    requires older { IsGapTable older.old (λ t o. true) }
+    requires last { IsWholeTable last.now }
+    requires older { IsWholeTable older.old }
     requires round_robin { IsDoubleRoundRobin schedule.now }
     requires teams { IsBelow schedule.now.teams fairness.now.teams }
     requires slots { IsBelow (round_count schedule.now.teams) fairness.now.slots }
-    ensures older { IsGapTable older.new (λ t o. true) }
+    ensures older { IsWholeTable older.new }
     ensures told { IsTableOf (if result then older.new else last.now) schedule.now fairness.now.teams fairness.now.slots }
 {
     let Fairness { teams, slots, .. } = *fairness;

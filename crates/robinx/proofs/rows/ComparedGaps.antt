@@ -8,12 +8,14 @@ use Rattle.std.proofs.lemmas.Bool.{cases_eq, cases_lt, eq-eqb, ne_eqb, eqb-true,
 use Rattle.league.specs.Sets.{has, IsBelow, IsWithoutLowest}
 use Rattle.league.proofs.ForCallers.{has_beyond, has_empty, others_kept, lowest_below, count_where_none}
 use Rattle.fixtures.specs.Games.{Games, round_count, is_home}
+use Rattle.robinx.specs.Deviations.{over}
 use Rattle.robinx.specs.Walked.{IsRowOf, row_of, apart_within, worst_apart}
-use Rattle.robinx.specs.Gaps.{AreTallied, IsHomeRow, IsGapTable, IsTableFor, IsTableOf, gap_at}
+use Rattle.robinx.specs.Gaps.{AreTallied, IsHomeRow, IsGapTable, IsTableFor, IsTableOf, IsWholeTable, gap_at, sum_of_gaps}
 use Rattle.robinx.specs.declared.gap_table.GapTable.{GapTable}
 use Rattle.robinx.specs.declared.gaps.Gaps.{Gaps}
 use Rattle.robinx.proofs.limits.Largest.{largest_below_le}
 use Rattle.robinx.proofs.rows.GapTables.{apart_small, row_by_homes}
+use Rattle.robinx.proofs.rows.Tallies.{nothing_over}
 
 -- what a loop over lower teams leaves is in the set
 
@@ -90,24 +92,28 @@ zeros_apart t o limits t_below o_below =
 pub new_table : (playing teams slots empty : ℕ) (limits : List ℕ) (gaps : Gaps) → empty ≡ 0 → AreTallied gaps → gaps.teams ≡ teams →
     ((t o : ℕ) → gap_at gaps.worst t o ≡ 0) → playing ≤ 40 → IsBelow playing teams → IsBelow (round_count playing) slots →
     ((r : ℕ) → get_or limits r 0 ≡ (if has slots r then 255 else 0)) →
-    IsGapTable (record {
+    IsWholeTable (record {
       playing = playing;
       slots = slots;
       limits = limits;
       homes = replicate 40 empty;
       rows = replicate 40 (replicate 80 0);
       gaps = gaps;
-    }) (λ t o. true)
+      overs = replicate 80 0;
+    })
 new_table playing teams slots empty limits gaps nothing tallied teams_are none forty below in_season limited = record {
-  tallied = tallied;
-  playing = forty;
-  below = rw teams_are below;
-  homes_len = refl;
-  rows_len = refl;
-  rows = λ t in_teams. row t (in_table t in_teams);
-  limits = limited;
-  slots = in_season;
-  worst = λ t o in_t in_o lower right. none t o ∙ sym (zeros_apart t o limits (in_table t in_t) (in_table o in_o));
+  table = record {
+    tallied = tallied;
+    playing = forty;
+    below = rw teams_are below;
+    homes_len = refl;
+    rows_len = refl;
+    rows = λ t in_teams. row t (in_table t in_teams);
+    limits = limited;
+    slots = in_season;
+    worst = λ t o in_t in_o lower right. none t o ∙ sym (zeros_apart t o limits (in_table t in_t) (in_table o in_o));
+  };
+  overs = λ most below. get_or-replicate 80 most 0 0 below ∙ sym (nothing_over gaps.teams gaps.worst most none);
 }
   where
     in_table : (t : ℕ) → has gaps.teams t ≡ true → t < 40
@@ -228,6 +234,7 @@ module _ (g : Games) (before kept : GapTable) (left lowest rest stale more at at
     homes = set kept.homes at home;
     rows = set kept.rows at2 row;
     gaps = kept.gaps;
+    overs = kept.overs;
   }
 
   playing_is : kept.playing ≡ g.teams
@@ -352,6 +359,7 @@ pub followed_more : (before kept : GapTable) (g : Games) (stale left lowest rest
       homes = kept.homes;
       rows = kept.rows;
       gaps = new;
+      overs = kept.overs;
     }) g stale rest
 followed_more before kept g stale left lowest rest lower new so_far taken members tallied teams compared others = record {
   below = omega (arith, so_far.below, taken.fewer);
@@ -415,9 +423,32 @@ followed_more before kept g stale left lowest rest lower new so_far taken member
         (sym (ap (λ s. has s o) so_far.homes.is_for.teams) ∙ in_o)
         (ap (λ b. has before.gaps.teams o && b) (swap (has stale lowest) (has stale o)) ∙ sym (members o lt) ∙ out))
 
-pub followed_all : (before kept : GapTable) (g : Games) (stale left : ℕ) → left ≡ 0 → HasFollowed before kept g stale left →
-    IsGapTable kept (λ t o. true)
-followed_all before kept g stale left none so_far =
-    fewer_right kept _ _ so_far.table
+pub followed_all : (before kept : GapTable) (g : Games) (stale left : ℕ) (overs : List ℕ) → left ≡ 0 → HasFollowed before kept g stale left →
+    ((most : ℕ) → most < 80 → get_or overs most 0 ≡ sum_of_gaps kept.gaps.teams kept.gaps.worst (λ gap. over gap most)) →
+    IsWholeTable (record {
+      playing = kept.playing;
+      slots = kept.slots;
+      limits = kept.limits;
+      homes = kept.homes;
+      rows = kept.rows;
+      gaps = kept.gaps;
+      overs = overs;
+    })
+followed_all before kept g stale left overs none so_far told =
+    let all : IsGapTable kept (λ t o. true) = fewer_right kept _ _ so_far.table
     (λ t o in_t in_o lower right.
-    ap (λ b. not b || not (has stale t || has stale o)) (ap (λ s. has s t) none ∙ has_empty t))
+    ap (λ b. not b || not (has stale t || has stale o)) (ap (λ s. has s t) none ∙ has_empty t)) in
+    record {
+      table = record {
+        tallied = all.tallied;
+        playing = all.playing;
+        below = all.below;
+        homes_len = all.homes_len;
+        rows_len = all.rows_len;
+        rows = all.rows;
+        limits = all.limits;
+        slots = all.slots;
+        worst = all.worst;
+      };
+      overs = told;
+    }

@@ -1,14 +1,13 @@
 -- How many pairs have each gap: a table and its tallies, changed in one pair.
-use Rattle.std.proofs.Common.{◌≡◌, ◌≢◌, ℕ, ◌+◌, ◌-◌, ◌*◌, ◌<◌, ◌≤◌, ◌&&◌, ◌==◌, Bool, true, false, if◌then◌else◌, List, [], length, get_or, refl, sym, ◌∙◌}
+use Rattle.std.proofs.Common.{◌≡◌, ◌≢◌, ℕ, ◌+◌, ◌-◌, ◌*◌, ◌<◌, ◌≤◌, ◌&&◌, ◌==◌, nat_lt, Bool, true, false, if◌then◌else◌, List, [], length, get_or, refl, sym, ◌∙◌}
 use Rattle.std.proofs.Common.{ap, inl, inr, arith, get_or-set_other}
 use Rattle.std.proofs.Math.ListN.{set, replicate, get_or-eq_default}
-use Rattle.std.proofs.Math.Nat.{mul-le-mul}
 use Rattle.std.proofs.lemmas.Grind.{get_or-set_at}
 use Rattle.std.proofs.lemmas.List.{get_or-replicate, length-set}
-use Rattle.std.proofs.lemmas.Bool.{cases_eq, cases_lt, cond-true, cond-false, eq-eqb, ne_eqb, false≢true}
+use Rattle.std.proofs.lemmas.Bool.{cases_eq, cases_lt, cond-true, cond-false, eq-eqb, ne_eqb, lt-ltb, le-ltb, false≢true}
 use Rattle.league.specs.Sets.{has}
 use Rattle.league.specs.Sums.{sum_below, sum_where}
-use Rattle.league.proofs.ForCallers.{sum_below_zero, sum_below_same, sum_below_balance, sum_below_only, sum_below_le, if_le}
+use Rattle.league.proofs.ForCallers.{sum_below_zero, sum_below_same, sum_below_balance, sum_below_only, sum_below_le, sum_below_add, if_le}
 use Rattle.robinx.specs.Deviations.{over}
 use Rattle.robinx.specs.Gaps.{AreTallied, gap_at, sum_of_gaps, sum_of_tallies}
 use Rattle.robinx.specs.declared.gaps.Gaps.{Gaps}
@@ -277,21 +276,156 @@ module _ (gaps : Gaps) (team lower gap row column : ℕ) (so_far : AreTallied ga
             );
       }
 
--- what one gap comes to
-pub term_small : (gaps : Gaps) (gap most : ℕ) → AreTallied gaps → gap < 80 → get_or gaps.tallies gap 0 * over gap most ≤ 1600 * 80
-term_small gaps gap most tallied small = elim (cases_eq gap 0) [
-  | inl none ↦ omega (arith, ap (λ n. get_or gaps.tallies gap 0 * n) (nothing none))
-  | inr some ↦
-      let is : ℕ → ℕ = λ k. if k == gap then 1 else 0 in
-      let few : get_or gaps.tallies gap 0 ≤ 1600 = omega (
-        arith,
-        one_tally gaps.tallies gap small,
-        tallied.tallied is (cond-false {A = ℕ} (0 == gap) 1 0 (ne_eqb 0 gap (omega (arith, some)))),
-        gaps_le gaps.teams gaps.worst is (λ k. if_le (k == gap) 1 1 (λ _. omega arith)),
-      ) in
-      let less : over gap most ≤ 80 = omega (arith, small) in
-      mul-le-mul few less
-]
+-- no gap is over anything
+pub nothing_over : (teams : ℕ) (worst : List (List ℕ)) (most : ℕ) → ((t o : ℕ) → gap_at worst t o ≡ 0) →
+    sum_of_gaps teams worst (λ gap. over gap most) ≡ 0
+nothing_over teams worst most none =
+    sum_below_zero 40 (λ t. if has teams t then sum_where t (has teams) (λ o. over (gap_at worst t o) most) else 0)
+    (λ t below. if_zero (has teams t) _ (sum_below_zero t _
+    (λ o lower. if_zero (has teams o) _ (omega (arith, none t o)))))
   where
-    nothing : gap ≡ 0 → over gap most ≡ 0
-    nothing none = omega (arith, none)
+    if_zero : (b : Bool) (x : ℕ) → x ≡ 0 → (if b then x else 0) ≡ 0
+    if_zero true x is = is
+    if_zero false x is = refl
+
+-- what is over one number less: one more for each pair with a greater gap
+
+abbrev is_above : ℕ → ℕ → ℕ
+is_above most gap = if nat_lt most gap then 1 else 0
+
+one_less : (gap most : ℕ) → over gap most ≡ over gap (most + 1) + is_above most gap
+one_less gap most = elim (cases_lt most gap) [
+  | inl lt ↦ omega (arith, lt, cond-true {A = ℕ} (nat_lt most gap) 1 0 (lt-ltb most gap lt))
+  | inr le ↦ omega (arith, le, cond-false {A = ℕ} (nat_lt most gap) 1 0 (le-ltb most gap le))
+]
+
+one_above : (gap most : ℕ) → is_above most gap ≡ is_above (most + 1) gap + (if gap == most + 1 then 1 else 0)
+one_above gap most = elim (cases_lt most gap) [
+  | inr le ↦
+      let apart : gap ≢ most + 1 = omega (arith, le) in
+      omega (
+        arith,
+        cond-false {A = ℕ} (nat_lt most gap) 1 0 (le-ltb most gap le),
+        cond-false {A = ℕ} (nat_lt (most + 1) gap) 1 0 (le-ltb (most + 1) gap (omega (arith, le))),
+        cond-false {A = ℕ} (gap == most + 1) 1 0 (ne_eqb gap (most + 1) apart),
+      )
+  | inl lt ↦ elim (cases_eq gap (most + 1)) [
+    | inl next ↦
+        omega (
+          arith,
+          cond-true {A = ℕ} (nat_lt most gap) 1 0 (lt-ltb most gap lt),
+          cond-false {A = ℕ} (nat_lt (most + 1) gap) 1 0 (le-ltb (most + 1) gap (omega (arith, next))),
+          cond-true {A = ℕ} (gap == most + 1) 1 0 (eq-eqb gap (most + 1) next),
+        )
+    | inr apart ↦
+        omega (
+          arith,
+          cond-true {A = ℕ} (nat_lt most gap) 1 0 (lt-ltb most gap lt),
+          cond-true {A = ℕ} (nat_lt (most + 1) gap) 1 0 (lt-ltb (most + 1) gap (omega (arith, lt, apart))),
+          cond-false {A = ℕ} (gap == most + 1) 1 0 (ne_eqb gap (most + 1) apart),
+        )
+  ]
+]
+
+parted : (n a b : ℕ) → n * (a + b) ≡ n * a + n * b
+parted n a b = omega arith
+
+tallies_add : (tallies : List ℕ) (f g h : ℕ → ℕ) → ((gap : ℕ) → f gap ≡ g gap + h gap) →
+    sum_of_tallies tallies f ≡ sum_of_tallies tallies g + sum_of_tallies tallies h
+tallies_add tallies f g h each =
+    sum_below_same 80 (λ k. get_or tallies k 0 * f k) (λ k. get_or tallies k 0 * g k + get_or tallies k 0 * h k)
+    (λ k below. ap (λ n. get_or tallies k 0 * n) (each k) ∙ parted (get_or tallies k 0) (g k) (h k)) ∙
+    sum_below_add 80 (λ k. get_or tallies k 0 * g k) (λ k. get_or tallies k 0 * h k)
+
+-- a loop from the greatest gap down has told what is over each number from one on
+pub record HasOvers (gaps : Gaps) (overs : List ℕ) (pairs total step : ℕ) : Type 0 where
+  pub len : length overs ≡ 80
+  pub pairs_are : pairs ≡ sum_of_tallies gaps.tallies (is_above (80 - step))
+  pub total_is : total ≡ sum_of_tallies gaps.tallies (λ gap. over gap (80 - step))
+  pub within : total ≤ step * 1600
+  pub written : (k : ℕ) → k < 80 → 80 ≤ k + step → get_or overs k 0 ≡ sum_of_tallies gaps.tallies (λ gap. over gap k)
+
+above_none : (most : ℕ) → is_above most 0 ≡ 0
+above_none most = cond-false {A = ℕ} (nat_lt most 0) 1 0 (le-ltb most 0 (omega arith))
+
+above_le : (most gap : ℕ) → is_above most gap ≤ 1
+above_le most gap = if_le (nat_lt most gap) 1 1 (λ _. omega arith)
+
+pub overs_none : (gaps : Gaps) → HasOvers gaps (replicate 80 0) 0 0 1
+overs_none gaps = record {
+  len = refl;
+  pairs_are = sym (sum_below_zero 80 (λ k. get_or gaps.tallies k 0 * is_above 79 k)
+      (λ k below. ap (λ n. get_or gaps.tallies k 0 * n) (cond-false {A = ℕ} (nat_lt 79 k) 1 0 (le-ltb 79 k (omega arith))) ∙ omega arith));
+  total_is = sym (nothing_over_79 79 refl);
+  within = omega arith;
+  written = λ k below last. get_or-replicate 80 k 0 0 below ∙ sym (nothing_over_79 k (omega (arith, below, last)));
+}
+  where
+    nothing_over_79 : (k : ℕ) → k ≡ 79 → sum_of_tallies gaps.tallies (λ gap. over gap k) ≡ 0
+    nothing_over_79 k is = sum_below_zero 80 (λ gap. get_or gaps.tallies gap 0 * over gap k)
+        (λ gap below. ap (λ n. get_or gaps.tallies gap 0 * n) (small gap below) ∙ omega arith)
+      where
+        small : (gap : ℕ) → gap < 80 → over gap k ≡ 0
+        small gap below = omega (arith, below, is)
+
+module _ (gaps : Gaps) (overs : List ℕ) (pairs total step : ℕ) (tallied : AreTallied gaps) (so_far : HasOvers gaps overs pairs total step)
+    (begun : 1 ≤ step) (below : step < 80) where
+  abbrev most : ℕ
+  most = 79 - step
+
+  number_is : 80 - step ≡ most + 1
+  number_is = omega (arith, below)
+
+  next_is : 80 - (step + 1) ≡ most
+  next_is = omega arith
+
+  more_are : pairs + get_or gaps.tallies (most + 1) 0 ≡ sum_of_tallies gaps.tallies (is_above most)
+  more_are =
+      let so_many : pairs ≡ sum_of_tallies gaps.tallies (is_above (most + 1)) =
+      so_far.pairs_are ∙ ap {B = ℕ} (λ n. sum_of_tallies gaps.tallies (is_above n)) number_is in
+      let one : sum_of_tallies gaps.tallies (λ gap. if gap == most + 1 then 1 else 0) ≡ get_or gaps.tallies (most + 1) 0 =
+      one_tally gaps.tallies (most + 1) (omega (arith, begun, below)) in
+      let sum : sum_of_tallies gaps.tallies (is_above most) ≡
+      sum_of_tallies gaps.tallies (is_above (most + 1)) + sum_of_tallies gaps.tallies (λ gap. if gap == most + 1 then 1 else 0) =
+      tallies_add gaps.tallies (is_above most) (is_above (most + 1)) (λ gap. if gap == most + 1 then 1 else 0) (λ gap. one_above gap most) in
+      ap (λ n. n + get_or gaps.tallies (most + 1) 0) so_many ∙
+      ap (λ n. sum_of_tallies gaps.tallies (is_above (most + 1)) + n) (sym one) ∙ sym sum
+
+  pub more_few : pairs + get_or gaps.tallies (most + 1) 0 ≤ 1600
+  more_few =
+      omega (arith, more_are, tallied.tallied (is_above most) (above_none most), gaps_le gaps.teams gaps.worst (is_above most) (above_le most))
+
+  pub overs_more : HasOvers gaps (set overs most (total + (pairs + get_or gaps.tallies (most + 1) 0))) (pairs + get_or gaps.tallies (most + 1) 0)
+      (total + (pairs + get_or gaps.tallies (most + 1) 0)) (step + 1)
+  overs_more = record {
+    len = length-set overs most _ ∙ so_far.len;
+    pairs_are = more_are ∙ ap {B = ℕ} (λ n. sum_of_tallies gaps.tallies (is_above n)) (sym next_is);
+    total_is = total_are ∙ ap {B = ℕ} (λ n. sum_of_tallies gaps.tallies (λ gap. over gap n)) (sym next_is);
+    within = omega (arith, so_far.within, more_few);
+    written = λ k k_below from. elim (cases_eq k most) [
+      | inl same ↦
+          get_or-set_at overs most k _ 0 same (omega (arith, so_far.len)) ∙ total_are ∙
+          ap {B = ℕ} (λ n. sum_of_tallies gaps.tallies (λ gap. over gap n)) (sym same)
+      | inr apart ↦ get_or-set_other overs most k _ 0 apart ∙ so_far.written k k_below (omega (arith, from, apart))
+    ];
+  }
+    where
+      total_are : total + (pairs + get_or gaps.tallies (most + 1) 0) ≡ sum_of_tallies gaps.tallies (λ gap. over gap most)
+      total_are =
+          omega (
+            arith,
+            more_are,
+            so_far.total_is ∙ ap {B = ℕ} (λ n. sum_of_tallies gaps.tallies (λ gap. over gap n)) number_is,
+            tallies_add gaps.tallies (λ gap. over gap most) (λ gap. over gap (most + 1)) (is_above most) (λ gap. one_less gap most),
+          )
+
+-- a gap is less than the length of a row
+pub over_all : (gaps : Gaps) (most : ℕ) → AreTallied gaps → 80 ≤ most → sum_of_gaps gaps.teams gaps.worst (λ gap. over gap most) ≡ 0
+over_all gaps most tallied past =
+    sum_below_zero 40 (λ t. if has gaps.teams t then sum_where t (has gaps.teams) (λ o. over (gap_at gaps.worst t o) most) else 0)
+    (λ t below. none (has gaps.teams t) _ (sum_below_zero t _
+    (λ o lower. none (has gaps.teams o) _ (omega (arith, past, tallied.small t o)))))
+  where
+    none : (b : Bool) (x : ℕ) → x ≡ 0 → (if b then x else 0) ≡ 0
+    none true x is = is
+    none false x is = refl

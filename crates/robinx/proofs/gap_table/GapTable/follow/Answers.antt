@@ -25,4 +25,4 @@ compare-requires-clause-small c = λ o in_lower.
     partners_in _ _ _ _ c.partners-lower.ensures.below c.partners-lower.ensures.members o in_lower)
 
 pub returns-clause-table : goal.returns-clause-table
-returns-clause-table c = followed_all _ _ _ _ _ c.in-None.ensures.steps.0 c.loop-team.invariant
+returns-clause-table c = followed_all _ _ _ _ _ _ c.in-None.ensures.steps.0 c.loop-team.invariant c.overs-self.ensures

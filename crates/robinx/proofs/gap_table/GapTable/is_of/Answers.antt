@@ -18,7 +18,7 @@ loop-team-preserved c =
       in_g,
       c.teams.ensures.number,
       c.teams.ensures.most,
-      c.requires.table.homes_len,
+      c.requires.table.table.homes_len,
     ) in
     let same : get_or c.args.self.now.homes c.in-Some.team 0 ≡ c.home_rounds.result =
     at_home_alike c.args.self.now.homes c.in-Some.team c.from.result c.index-self-from.result c.home_rounds.result c.from.ensures listed

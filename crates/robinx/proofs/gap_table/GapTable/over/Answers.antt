@@ -1,7 +1,16 @@
-use Rattle.std.proofs.Common.{◌∙◌}
+use Rattle.std.proofs.Common.{◌∙◌, sym, arith}
 use Rattle.robinx.proofs.rows.GapTables.{table_tells}
+use Rattle.robinx.proofs.rows.Tallies.{over_all}
 use Rattle.robinx.proofs.gap_table.GapTable.over.Goals as goal
 
-pub returns : goal.returns
-returns c = c.over.ensures ∙ table_tells c.args.schedule.now c.args.self.now c.args.self.now.slots c.args.most c.requires.round_robin
-    c.requires.table c.requires.homes
+pub returns-then-most-lt-ROW : goal.returns-then-most-lt-ROW
+returns-then-most-lt-ROW c =
+    c.into.ensures ∙ c.requires.table.overs c.args.most c.if-most-lt-ROW.true ∙
+    table_tells c.args.schedule.now c.args.self.now c.args.self.now.slots c.args.most c.requires.round_robin c.requires.table.table
+    c.requires.homes
+
+pub returns-else-most-lt-ROW : goal.returns-else-most-lt-ROW
+returns-else-most-lt-ROW c =
+    sym (over_all c.args.self.now.gaps c.args.most c.requires.table.table.tallied (omega (arith, c.if-most-lt-ROW.false))) ∙
+    table_tells c.args.schedule.now c.args.self.now c.args.self.now.slots c.args.most c.requires.round_robin c.requires.table.table
+    c.requires.homes
