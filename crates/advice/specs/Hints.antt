@@ -2,7 +2,6 @@
 use Rattle.std.specs.Prelude.{◌≡◌, ℕ, ◌&&◌, List, codes, nat_le, Option, Some, None, option_map, option_and_then, IfSome}
 use Rattle.serde_json.specs.Data.{Data}
 use Rattle.serde_json.specs.Find.{get, at}
-use Rattle.league.specs.declared.fault.Field.{Field}
 use Rattle.league.specs.declared.fault.Field.TheVariants.{Distances}
 use Rattle.league.specs.declared.fault.LeagueFault.{LeagueFault}
 use Rattle.league.specs.declared.fault.LeagueFault.TheVariants.{WrongKind, DistanceShape, DistanceRange, Diagonal}

@@ -3,7 +3,7 @@
 ghost use Rattle.std.specs.Prelude.{◌≡◌, ◌++◌, map, IfOk, OnOk};
 ghost use Rattle.serde_json.specs.Find.{as_object};
 ghost use Rattle.serde_json.specs.View.{view, items_view, members_view};
-ghost use Rattle.advice.specs.Remarks.{is_league_member, is_rule_member, knows, owner_words, shown_byte, remark_line, remark};
+ghost use Rattle.advice.specs.Remarks.{knows, owner_words, shown_byte, remark_line, remark};
 ghost use Rattle.advice.specs.Remarks.{member_remarks, remarks_in, rule_remarks, remarks_of, remarks_on};
 
 use crate::json::json_of;
@@ -22,8 +22,33 @@ impl Owner {
         ensures { result ≡ knows self member.now }
     {
         match self {
-            Owner::League => is_league_member(member),
-            Owner::Rule(_) => is_rule_member(member),
+            Owner::League => match member {
+                "format"
+                | "teams"
+                | "distances"
+                | "at_most"
+                | "hard_weight"
+                | "rules"
+                | "start"
+                | "phased" => true,
+                _ => false,
+            },
+            Owner::Rule(_) => match member {
+                "class"
+                | "kind"
+                | "weight"
+                | "teams"
+                | "teams1"
+                | "teams2"
+                | "slots"
+                | "mode"
+                | "mode2"
+                | "max"
+                | "min"
+                | "intp"
+                | "games" => true,
+                _ => false,
+            },
         }
     }
 }
@@ -136,42 +161,5 @@ fn shown_byte(byte: u8) -> u8
         byte
     } else {
         b'?'
-    }
-}
-
-fn is_league_member(name: &str) -> bool
-    ensures { result ≡ is_league_member name.now }
-{
-    match name {
-        "format"
-        | "teams"
-        | "distances"
-        | "at_most"
-        | "hard_weight"
-        | "rules"
-        | "start"
-        | "phased" => true,
-        _ => false,
-    }
-}
-
-fn is_rule_member(name: &str) -> bool
-    ensures { result ≡ is_rule_member name.now }
-{
-    match name {
-        "class"
-        | "kind"
-        | "weight"
-        | "teams"
-        | "teams1"
-        | "teams2"
-        | "slots"
-        | "mode"
-        | "mode2"
-        | "max"
-        | "min"
-        | "intp"
-        | "games" => true,
-        _ => false,
     }
 }

@@ -4,10 +4,10 @@ ghost use Rattle.std.specs.Prelude.{◌≤◌};
 ghost use Rattle.commands.specs.Improve.{EndsImprove};
 
 use crate::fault::ProgramFault;
-use improvement::{ImprovePlan, Workplace};
+use improvement::ImprovePlan;
 use league::read_league;
 use phases::MIN_EFFORT;
-use search::Gate;
+use search::{Gate, Workplace};
 use std::sync::Wait;
 use std::thread::Threads;
 use streams::{Sink, Source, read_all};
@@ -15,11 +15,11 @@ use streams::{Sink, Source, read_all};
 /// Reads a league to the end of the source, runs the phases of the policy on it, and writes a line for each phase and each
 /// better schedule as soon as it is known, then the history that leads to the best. That history, given to `play` as a script,
 /// leads to the same best. Nothing is written before the faults of reading and a wrong number of workers are past. After any
-/// other fault what was written stands. The workers of all phases pass the gate of the place, which is told how far they are.
+/// other fault what was written stands. The workers of all phases pass the workplace's gate, which is told how far they are.
 ///
 /// The outcome is that of [`improve_from`]. What the source became is some later state of it, which nobody can ask.
 pub fn improve<T: Threads + Wait + Sync, G: Gate + Sync, R: Source + Drop, W: Sink>(
-    place: Workplace<'_, T, G>,
+    workplace: Workplace<'_, T, G>,
     mut source: R,
     sink: &mut W,
     plan: ImprovePlan,
@@ -28,12 +28,12 @@ pub fn improve<T: Threads + Wait + Sync, G: Gate + Sync, R: Source + Drop, W: Si
     ensures { (after : R)
         × EndsImprove R.left R.tally W.held W.tally plan source after sink.old sink.new result }
 {
-    improve_from(place, &mut source, sink, plan)
+    improve_from(workplace, &mut source, sink, plan)
 }
 
 /// As [`improve`], from a source that is lent.
 pub fn improve_from<T: Threads + Wait + Sync, G: Gate + Sync, R: Source, W: Sink>(
-    place: Workplace<'_, T, G>,
+    workplace: Workplace<'_, T, G>,
     source: &mut R,
     sink: &mut W,
     plan: ImprovePlan,
@@ -41,9 +41,9 @@ pub fn improve_from<T: Threads + Wait + Sync, G: Gate + Sync, R: Source, W: Sink
     requires effort { MIN_EFFORT ≤ plan.effort }
     ensures { EndsImprove R.left R.tally W.held W.tally plan source.old source.new sink.old sink.new result }
 {
-    let alloc = place.alloc;
+    let alloc = workplace.alloc;
     let input = read_all(alloc, source)?;
     let league = read_league(alloc, &input)?;
-    improvement::improve(place, league, plan, sink)?;
+    improvement::improve(workplace, league, plan, sink)?;
     Ok(())
 }

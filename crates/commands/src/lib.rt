@@ -12,13 +12,13 @@ mod start_command;
 
 pub use fault::ProgramFault;
 pub use improve_command::{improve, improve_from};
-pub use improvement::{ImprovePlan, Workplace};
+pub use improvement::ImprovePlan;
 pub use phases::MIN_EFFORT;
 pub use play_command::{play, play_from};
 pub use progress::ProgressLine;
 pub use report_command::{Verdict, report, report_from};
 pub use report_formats::Format;
-pub use search::{Gate, NoGate, Outcome, SearchPlan};
+pub use search::{Gate, NoGate, Outcome, SearchPlan, Workplace};
 pub use search_command::{find, find_from};
 pub use search_text::search_report;
 pub use start_command::{start, start_from};

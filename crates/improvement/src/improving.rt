@@ -11,19 +11,18 @@ use crate::lead::Lead;
 use crate::phase_text::write_phase;
 use crate::plan::{ImproveFault, ImprovePlan};
 use crate::setting::Setting;
-use crate::workplace::Workplace;
 use league::League;
 use phases::{MIN_EFFORT, Policy};
-use search::{Gate, MAX_WORKERS, RunFault};
+use search::{Gate, MAX_WORKERS, RunFault, Workplace};
 use std::sync::Wait;
 use std::thread::Threads;
 use streams::{BufferedSink, Sink};
 use texts::write_found;
 
 /// Runs the phases of the policy on the league, and writes each better schedule as soon as its phase has ended. The workers
-/// pass the gate of the place, which is told how far they are.
+/// pass the workplace's gate, which is told how far they are.
 pub fn improve<T: Threads + Wait + Sync, G: Gate + Sync, W: Sink>(
-    place: Workplace<'_, T, G>,
+    workplace: Workplace<'_, T, G>,
     league: League,
     plan: ImprovePlan,
     sink: &mut W,
@@ -35,7 +34,7 @@ pub fn improve<T: Threads + Wait + Sync, G: Gate + Sync, W: Sink>(
         return Err(ImproveFault::Run(RunFault::Workers));
     }
     let setting = Setting {
-        place,
+        workplace,
         league: &league,
         plan,
     };
@@ -71,7 +70,7 @@ fn run_all<T: Threads + Wait + Sync, G: Gate + Sync, W: Sink>(
     ensures { EndsBy W.held W.tally setting.now.league.now setting.now.plan out.old out.new
         (HasRunAll W.held W.tally setting.now.league.now setting.now.plan out.old out.new) result }
 {
-    let alloc = setting.place.alloc;
+    let alloc = setting.workplace.alloc;
     let plan = setting.plan;
     let mut policy = Policy::new(setting.league, plan.seed, plan.effort);
     let mut chains = Chains::new(alloc)?;

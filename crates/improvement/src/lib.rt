@@ -12,9 +12,7 @@ mod phase_run;
 mod phase_text;
 mod plan;
 mod setting;
-mod workplace;
 
 pub use improving::improve;
 pub use laws::{end_is_least, solutions_are_feasible, totals_fall};
 pub use plan::{ImproveFault, ImprovePlan};
-pub use workplace::Workplace;

@@ -14,7 +14,6 @@ ghost use Rattle.improvement.specs.Kept.{HasRun, IsRunFault};
 
 use crate::plan::ImproveFault;
 use crate::setting::Setting;
-use crate::workplace::Workplace;
 use fixture_board::Board;
 use phases::{Phase, PhaseOutcome};
 use search::{Gate, Outcome, PhasePlan, SearchPlan, SlackCourse, resume_with};
@@ -60,7 +59,7 @@ pub(crate) fn run_phase<T: Threads + Wait + Sync, G: Gate + Sync>(
     ensures refused { IfErr result IsRunFault }
 {
     let before = board.version();
-    let mut league = setting.league.duplicate(setting.place.alloc)?;
+    let mut league = setting.league.duplicate(setting.workplace.alloc)?;
     league.set_hard_weight(phase.weight);
     board.set_hard_weight(phase.weight);
     let search = SearchPlan {
@@ -70,9 +69,8 @@ pub(crate) fn run_phase<T: Threads + Wait + Sync, G: Gate + Sync>(
         slack: u64::from(phase.slack),
     };
     let course = SlackCourse::Stays;
-    let Workplace { rt, alloc, gate } = setting.place;
     let plan = PhasePlan { search, course };
-    match resume_with(rt, alloc, gate, &league, board, plan) {
+    match resume_with(setting.workplace, &league, board, plan) {
         Ok(outcome) => Ok(ended(setting.league.hard_weight(), before, phase, outcome)),
         Err(refused) => Err(ImproveFault::from(refused.why)),
     }

@@ -6,15 +6,15 @@ ghost use Rattle.fixture_board.specs.Record.{book};
 ghost use Rattle.improvement.specs.Runs.{room_of};
 
 use crate::plan::ImprovePlan;
-use crate::workplace::Workplace;
 use fixture_board::{Board, MAX_ROOM};
 use league::League;
+use search::Workplace;
 use std::alloc::AllocError;
 
 /// What all phases share.
 #[derive(Drop)]
 pub(crate) struct Setting<'a, T, G> {
-    pub(crate) place: Workplace<'a, T, G>,
+    pub(crate) workplace: Workplace<'a, T, G>,
     pub(crate) league: &'a League,
     pub(crate) plan: ImprovePlan,
 }
@@ -24,8 +24,8 @@ impl<T, G> Setting<'_, T, G> {
     pub(crate) fn new_board(&self) -> Result<Board, AllocError>
         ensures { IfOk result (λ b. b ≡ book self.now.league.now (room_of self.now.plan.effort) []) }
     {
-        let league = self.league.duplicate(self.place.alloc)?;
-        match Board::new(self.place.alloc, league, room_of(self.plan.effort)) {
+        let league = self.league.duplicate(self.workplace.alloc)?;
+        match Board::new(self.workplace.alloc, league, room_of(self.plan.effort)) {
             Ok(board) => Ok(board),
             Err(_) => Err(AllocError),
         }

@@ -70,9 +70,9 @@ fn steps_of(job: Job) -> u64 {
     }
 }
 
-/// As [`perform`]. The workers pass the gate of the place.
+/// As [`perform`]. The workers pass the workplace's gate.
 fn perform_at<T: Threads + Wait + Sync, G: Gate + Sync, R: Source + Drop, W: Sink>(
-    place: Workplace<'_, T, G>,
+    workplace: Workplace<'_, T, G>,
     job: Job,
     source: R,
     sink: &mut W,
@@ -82,7 +82,7 @@ fn perform_at<T: Threads + Wait + Sync, G: Gate + Sync, R: Source + Drop, W: Sin
         source after sink.old sink.new (without_value result) }
     ensures verdict { IfSome (told_in result) (λ _. is_report job ≡ true) }
 {
-    let alloc = place.alloc;
+    let alloc = workplace.alloc;
     match job {
         Job::Start => without_verdict(start(alloc, source, sink)),
         Job::Play { room } => without_verdict(play(alloc, source, sink, room)),
@@ -96,9 +96,9 @@ fn perform_at<T: Threads + Wait + Sync, G: Gate + Sync, R: Source + Drop, W: Sin
                 seed,
                 effort,
             };
-            without_verdict(improve(place, source, sink, plan))
+            without_verdict(improve(workplace, source, sink, plan))
         }
-        Job::Find { room, plan } => without_verdict(find(place, source, sink, room, plan)),
+        Job::Find { room, plan } => without_verdict(find(workplace, source, sink, room, plan)),
         Job::Report(format) => with_verdict(report(alloc, source, sink, format)),
     }
 }

@@ -1,5 +1,5 @@
 -- Rows that are written one after another.
-use Rattle.std.proofs.Common.{◌≡◌, ℕ, ◌+◌, add-one, List, [], ◌++◌, Option, Some, None, sym, ◌∙◌, append_assoc, append-nil}
+use Rattle.std.proofs.Common.{ℕ, ◌+◌, add-one, List, [], ◌++◌, Option, Some, None, sym, append_assoc, append-nil}
 use Rattle.std.specs.Io.KnownBytes.{Appends}
 use Rattle.csv.specs.declared.writer.Writer.{Writer}
 use Rattle.streams.specs.Pieces.{pieces_below}

@@ -48,7 +48,8 @@ abbrev pub legend_text : ℕ → List ℕ
 legend_text at_most =
     concat (codes "<h2>Games</h2><p><span class='h'>Shaded</span>: at home. @: away. <span class='o'>Ringed</span>: more than " ∷
     decimal at_most ∷
-    codes " in a row at home or away. <span class='r'>Dashed</span>: the opponent of the round before.</p><div class='wide'><table class='grid'><tr><th>Team</th>" ∷ [])
+    codes " in a row at home or away. <span class='r'>Dashed</span>: the opponent of the round before.</p>" ∷
+    codes "<div class='wide'><table class='grid'><tr><th>Team</th>" ∷ [])
 
 unfoldable pub grid_text : LeagueData → Games → List ℕ
 grid_text l g = legend_text l.at_most ++ grid_lines l g ++ codes "</tr></table></div>"

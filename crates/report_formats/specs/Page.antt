@@ -75,7 +75,8 @@ sorted_rules l g = rule_rows l g true ++ rule_rows l g false
 
 abbrev pub rules_head : List ℕ
 rules_head =
-    codes "<h2>Rules</h2><p>Broken ones first.</p><table class='rules'><tr><th>Rule</th><th>Class</th><th>Kind</th><th>Deviation</th></tr>"
+    concat (codes "<h2>Rules</h2><p>Broken ones first.</p><table class='rules'>" ∷
+    codes "<tr><th>Rule</th><th>Class</th><th>Kind</th><th>Deviation</th></tr>" ∷ [])
 
 abbrev pub rule_table : LeagueData → Games → List ℕ
 rule_table l g = rules_head ++ sorted_rules l g ++ codes "</table>"

@@ -42,8 +42,9 @@ fn push_legend(page: &mut Vec<u8>, league: &League) -> Result<(), AllocError>
             ),
             Piece::Number(league.at_most() as u64),
             Piece::Html(
-                b" in a row at home or away. <span class='r'>Dashed</span>: the opponent of the round before.</p><div class='wide'><table class='grid'><tr><th>Team</th>",
+                b" in a row at home or away. <span class='r'>Dashed</span>: the opponent of the round before.</p>",
             ),
+            Piece::Html(b"<div class='wide'><table class='grid'><tr><th>Team</th>"),
         ],
     )
 }

@@ -5,9 +5,9 @@ ghost use Rattle.fixture_board.specs.Costs.{total_of};
 ghost use Rattle.league.specs.League.{teams};
 ghost use Rattle.league.specs.RuleLimits.{IsBodyFor};
 ghost use Rattle.streams.specs.Pieces.{pieces_below};
-ghost use Rattle.report_formats.specs.Page.{costs_text, figures_text, measures_text, page_text, row_head, rule_row, rule_rows, rule_table};
-ghost use Rattle.report_formats.specs.Page.{rules_text};
-ghost use Rattle.report_formats.specs.Page.{sections_text, sorted_rules, top_text, total_text, tour_row, travel_row, travel_text, weight_text};
+ghost use Rattle.report_formats.specs.Page.{costs_text, figures_text, measures_text, page_text, row_head, rule_row, rule_rows};
+ghost use Rattle.report_formats.specs.Page.{rule_table, rules_text, sections_text, sorted_rules, top_text, total_text, tour_row};
+ghost use Rattle.report_formats.specs.Page.{travel_row, travel_text, weight_text};
 
 use crate::grid::{push_grid, push_team_head};
 use crate::pieces::{Piece, push_pieces};
@@ -198,9 +198,10 @@ fn push_rule_table(
 {
     push_pieces(
         page,
-        &[Piece::Html(
-            b"<h2>Rules</h2><p>Broken ones first.</p><table class='rules'><tr><th>Rule</th><th>Class</th><th>Kind</th><th>Deviation</th></tr>",
-        )],
+        &[
+            Piece::Html(b"<h2>Rules</h2><p>Broken ones first.</p><table class='rules'>"),
+            Piece::Html(b"<tr><th>Rule</th><th>Class</th><th>Kind</th><th>Deviation</th></tr>"),
+        ],
     )?;
     push_sorted_rules(page, league, schedule)?;
     push_pieces(page, &[Piece::Html(b"</table>")])

@@ -46,8 +46,8 @@ module _ (n : ℕ) (list : List Game) (all : IsFaultless n list) where
   unfolding games_in
   lone_team team round team_in round_in = lone_counted (is_of_team n team round) no_game list (all.teams team round team_in round_in)
 
-  first_place : (home away k : ℕ) → IsLone (is_of_pair n home away) list no_game k → position_or_len (is_of_pair n home away) list ≡ k
-  first_place home away k lone =
+  first_index : (home away k : ℕ) → IsLone (is_of_pair n home away) list no_game k → position_or_len (is_of_pair n home away) list ≡ k
+  first_index home away k lone =
       position_or_len_is (is_of_pair n home away) list k no_game (omega (arith, lone.within))
       (λ j before. false_from_ne_true _ (λ passes. omega (arith, before, lone.alone j (omega (arith, before, lone.within)) passes)))
       (λ within. lone.passes)
@@ -59,30 +59,30 @@ module _ (n : ℕ) (list : List Game) (all : IsFaultless n list) where
       let is = all.games k within in
       let lone = lone_pair x.home x.away is.pair in
       let e : k ≡ lone.0 = lone.1.alone k within (pair_passes n x.home x.away x is refl refl) in
-      ap (λ (i : ℕ). (get_or list i no_game).round) (first_place x.home x.away lone.0 lone.1 ∙ sym e)
+      ap (λ (i : ℕ). (get_or list i no_game).round) (first_index x.home x.away lone.0 lone.1 ∙ sym e)
 
   -- each pair has a game
-  pair_place : (home away : ℕ) → IsPair n home away
+  pair_index : (home away : ℕ) → IsPair n home away
       → (k : ℕ) × (k < length list) × (get_or list k no_game ≡ record { round = round_at home away; home = home; away = away })
-  pair_place home away p =
+  pair_index home away p =
       let lone = lone_pair home away p in
       let same = pair_passed n home away _ lone.1.passes in
-      let first = ap (λ (k : ℕ). (get_or list k no_game).round) (first_place home away lone.0 lone.1) in
+      let first = ap (λ (k : ℕ). (get_or list k no_game).round) (first_index home away lone.0 lone.1) in
       (lone.0, lone.1.within, whole _ _ home away first same.0 same.1)
 
   rounds_in : (home away : ℕ) → IsPair n home away → round_at home away < round_count n
   rounds_in home away p =
-      let place = pair_place home away p in
-      subst (λ (x : Game). x.round < round_count n) place.2 (all.games place.0 place.1).in_range
+      let index = pair_index home away p in
+      subst (λ (x : Game). x.round < round_count n) index.2 (all.games index.0 index.1).in_range
 
   -- the game of a cell stands in the list
-  cell_place : (team round opponent : ℕ) (home : Bool) → IsCell (games n round_at) team round (record { opponent = opponent; home = home })
+  cell_index : (team round opponent : ℕ) (home : Bool) → IsCell (games n round_at) team round (record { opponent = opponent; home = home })
       → (k : ℕ) × (k < length list) × (get_or list k no_game ≡ game_of team round (record { opponent = opponent; home = home }))
-  cell_place team round opponent true is =
-      rw (sym (round_of_games n round_at team opponent is.pair) ∙ is.in_round) at (pair_place team opponent is.pair)
-  cell_place team round opponent false is =
+  cell_index team round opponent true is =
+      rw (sym (round_of_games n round_at team opponent is.pair) ∙ is.in_round) at (pair_index team opponent is.pair)
+  cell_index team round opponent false is =
       let p = pair_swapped n team opponent is.pair in
-      rw (sym (round_of_games n round_at opponent team p) ∙ is.in_round) at (pair_place opponent team p)
+      rw (sym (round_of_games n round_at opponent team p) ∙ is.in_round) at (pair_index opponent team p)
 
   plays : (team round : ℕ) → team < n → round < round_count n → (c : Cell) × IsCell (games n round_at) team round c
   plays team round team_in round_in =
@@ -95,17 +95,17 @@ module _ (n : ℕ) (list : List Game) (all : IsFaultless n list) where
       (own.0, subst (λ r. IsCell (games n round_at) team r own.0) of.0 own.1)
 
   of_team : (team round : ℕ) (c : Cell) (k : ℕ) → IsLone (is_of_team n team round) list no_game k
-      → (place : (i : ℕ) × (i < length list) × (get_or list i no_game ≡ game_of team round c)) → place.0 ≡ k
-  of_team team round c k lone place =
-      lone.alone place.0 place.1
-      (team_passes n team round _ (all.games place.0 place.1) (ap (λ (x : Game). x.round) place.2)
-      (rw place.2 (has_team team round c.opponent c.home)))
+      → (index : (i : ℕ) × (i < length list) × (get_or list i no_game ≡ game_of team round c)) → index.0 ≡ k
+  of_team team round c k lone index =
+      lone.alone index.0 index.1
+      (team_passes n team round _ (all.games index.0 index.1) (ap (λ (x : Game). x.round) index.2)
+      (rw index.2 (has_team team round c.opponent c.home)))
 
   once : (team round : ℕ) (c d : Cell) → IsCell (games n round_at) team round c → IsCell (games n round_at) team round d
       → c ≡ d
   once team round c d is_c is_d =
-      let at_c = cell_place team round c.opponent c.home is_c in
-      let at_d = cell_place team round d.opponent d.home is_d in
+      let at_c = cell_index team round c.opponent c.home is_c in
+      let at_d = cell_index team round d.opponent d.home is_d in
       let round_in = rw at_c.2 at (all.games at_c.0 at_c.1).in_range in
       let lone = lone_team team round is_c.pair.home_in round_in in
       let same : at_c.0 ≡ at_d.0 = of_team team round c lone.0 lone.1 at_c ∙ sym (of_team team round d lone.0 lone.1 at_d) in
@@ -123,8 +123,8 @@ module _ (n : ℕ) (list : List Game) (all : IsFaultless n list) where
     once = once;
   }
 
-  one_place : (i j : ℕ) → i < j → j < length list → ¬ SamePair (get_or list i no_game) (get_or list j no_game)
-  one_place i j before within same =
+  one_index : (i j : ℕ) → i < j → j < length list → ¬ SamePair (get_or list i no_game) (get_or list j no_game)
+  one_index i j before within same =
       let x = get_or list i no_game in
       let is = all.games i (omega arith) in
       let lone = lone_pair x.home x.away is.pair in
@@ -141,8 +141,8 @@ module _ (n : ℕ) (list : List Game) (all : IsFaultless n list) where
         subst (λ (x : Game). IsPair n x.home x.away × (round_of (games n round_at) x.home x.away ≡ x.round)) e
         (p, round_of_games n round_at _ _ p ∙ round_kept listed.0 listed.1);
     every = λ home away p.
-        let place = pair_place home away p in
-        rw (round_of_games n round_at home away p) (place.0, place.1, get_or_default list place.0 _ no_game place.1 ∙ place.2);
+        let index = pair_index home away p in
+        rw (round_of_games n round_at home away p) (index.0, index.1, get_or_default list index.0 _ no_game index.1 ∙ index.2);
     once = λ i j d before within same.
-        one_place i j before within (rw (get_or_default list i d no_game (omega arith), get_or_default list j d no_game within) at same);
+        one_index i j before within (rw (get_or_default list i d no_game (omega arith), get_or_default list j d no_game within) at same);
   }

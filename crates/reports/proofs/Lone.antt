@@ -5,7 +5,7 @@ use Rattle.std.specs.Prelude.{count_by}
 use Rattle.std.proofs.lemmas.Bool.{cases_Bool, both_ways, false_from_ne_true}
 use Rattle.std.proofs.lemmas.List.Sums.{get_or-le-sum_by, sum_by-cons}
 
--- the item at this place passes, and no other one does
+-- the item at this index passes, and no other one does
 pub record IsLone {X : Type 0} (p : X → Bool) (xs : List X) (d : X) (k : ℕ) : Type 0 where
   pub within : k < length xs
   pub passes : p (get_or xs k d) ≡ true

@@ -24,27 +24,27 @@ module _ (g : Games) (list : List Game) (are : AreGamesOf g list) where
       record { pair = is.0; in_range = subst (λ r. r < round_count g.teams) is.1 (are.round_robin.in_range x.home x.away is.0) }
 
   -- two places with the same pair are one
-  one_place : (j k : ℕ) → j < length list → k < length list → SamePair (get_or list j no_game) (get_or list k no_game) → j ≡ k
-  one_place j k in_j in_k same = elim (cases_order j k) [
+  one_index : (j k : ℕ) → j < length list → k < length list → SamePair (get_or list j no_game) (get_or list k no_game) → j ≡ k
+  one_index j k in_j in_k same = elim (cases_order j k) [
     | inl e ↦ e
     | inr (inl before) ↦ absurd (are.once j k no_game before in_k same)
     | inr (inr after) ↦ absurd (are.once k j no_game after in_j (sym same.0, sym same.1))
   ]
 
-  placed_at : (x : Game) → Contains list x → (k : ℕ) × (k < length list) × (get_or list k no_game ≡ x)
-  placed_at x listed = (listed.0, listed.1, get_or_default list listed.0 no_game x listed.1 ∙ listed.2)
+  index_of : (x : Game) → Contains list x → (k : ℕ) × (k < length list) × (get_or list k no_game ≡ x)
+  index_of x listed = (listed.0, listed.1, get_or_default list listed.0 no_game x listed.1 ∙ listed.2)
 
   pub pair_once : (home away : ℕ) → IsPair g.teams home away → games_of_pair g.teams list home away ≡ 1
   unfolding games_of_pair
   pair_once home away p =
       let listed = are.every home away p in
-      let place = placed_at _ listed in
-      counted_lone (is_of_pair g.teams home away) no_game list place.0 (record {
-        within = place.1;
-        passes = rw place.2 (pair_passes g.teams home away _ (is_game_of _ listed) refl refl);
+      let index = index_of _ listed in
+      counted_lone (is_of_pair g.teams home away) no_game list index.0 (record {
+        within = index.1;
+        passes = rw index.2 (pair_passes g.teams home away _ (is_game_of _ listed) refl refl);
         alone = λ j within passes.
             let same = pair_passed g.teams home away _ passes in
-            one_place j place.0 within place.1 (rw place.2 same);
+            one_index j index.0 within index.1 (rw index.2 same);
       })
 
   of_cell : (team round opponent : ℕ) (home : Bool) → IsCell g team round (record { opponent = opponent; home = home })
@@ -66,13 +66,13 @@ module _ (g : Games) (list : List Game) (are : AreGamesOf g list) where
   team_once team round team_in round_in =
       let plays = are.round_robin.plays team round team_in round_in in
       let listed = of_cell team round plays.0.opponent plays.0.home plays.1 in
-      let place = placed_at _ listed in
-      counted_lone (is_of_team g.teams team round) no_game list place.0 (record {
-        within = place.1;
+      let index = index_of _ listed in
+      counted_lone (is_of_team g.teams team round) no_game list index.0 (record {
+        within = index.1;
         passes =
-            rw place.2 (team_passes g.teams team round _ (is_game_of _ listed) refl (has_team team round plays.0.opponent plays.0.home));
+            rw index.2 (team_passes g.teams team round _ (is_game_of _ listed) refl (has_team team round plays.0.opponent plays.0.home));
         alone = λ j within passes.
             let of = team_passed g.teams team round _ passes in
-            let same = of_its_cell _ team round plays.0 (Contains-get_or list j no_game within) of plays.1 ∙ sym place.2 in
-            one_place j place.0 within place.1 (ap (λ (x : Game). x.home) same, ap (λ (x : Game). x.away) same);
+            let same = of_its_cell _ team round plays.0 (Contains-get_or list j no_game within) of plays.1 ∙ sym index.2 in
+            one_index j index.0 within index.1 (ap (λ (x : Game). x.home) same, ap (λ (x : Game). x.away) same);
       })

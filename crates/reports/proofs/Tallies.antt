@@ -8,7 +8,7 @@ use Rattle.std.proofs.lemmas.List.Sums.{count_by-le-length, count_by_more_no, co
 use Rattle.fixtures.specs.declared.game.Game.{Game}
 
 module _ (test : Game → Bool) (number : Game → ℕ) where
-  -- the place of each number has how many games of the list pass and have this number
+  -- the entry of each number is how many games of the list pass and have this number
   pub record Tallies (list : List Game) (places : ℕ) (counts : List ℕ) : Type 0 where
     pub size : length counts ≡ places
     pub each : (k : ℕ) → k < places → get_or counts k 0 ≡ count_by (λ x. test x && eqb (number x) k) list
@@ -23,7 +23,7 @@ module _ (test : Game → Bool) (number : Game → ℕ) where
 
   module _ (list : List Game) (places i : ℕ) (d : Game) (counts : List ℕ) (within : i < length list)
       (has : Tallies (take i list) places counts) where
-    -- the game at this place passes, and its number has one more
+    -- the game at this index passes, and its number has one more
     pub tallies_more : (k : ℕ) → test (get_or list i d) ≡ true → k ≡ number (get_or list i d) → k < places
         → Tallies (take (i + 1) list) places (set counts k (get_or counts k 0 + 1))
     tallies_more k passes is small = record {

@@ -7,8 +7,8 @@ ghost use Rattle.reports.specs.Faults.{count_in, is_game, number_of, numbers, pl
 use fixtures::Game;
 use league::limits::MAX_ROUNDS;
 
-/// A place for each round of the longest season. No league has more teams.
-const PLACES: usize = MAX_ROUNDS as usize;
+/// An entry for each round of the longest season. No league has more teams.
+const ENTRIES: usize = MAX_ROUNDS as usize;
 
 /// What the games of a team are counted by.
 #[derive(Clone, Copy)]
@@ -81,12 +81,12 @@ fn receives(teams: u8, game: Game, team: u8) -> bool
 }
 
 /// How often the team has a game with each number: in each round, or at home against each other team.
-pub(crate) fn counts_of(counted: Counted, teams: u8, games: &[Game], team: u8) -> [usize; PLACES]
+pub(crate) fn counts_of(counted: Counted, teams: u8, games: &[Game], team: u8) -> [usize; ENTRIES]
     requires least { 4 ≤ teams }
     requires most { teams ≤ max_teams }
     ensures { (number : ℕ) → number < max_rounds → slice_index result number ≡ count_in counted teams games.now team number }
 {
-    let mut counts = [0; PLACES];
+    let mut counts = [0; ENTRIES];
     for game in games {
         if counted.takes(teams, team, *game) {
             counts[usize::from(counted.number_of(*game))] += 1;

@@ -112,7 +112,7 @@ fn are_games(round: u64, words: &[u8]) -> bool
 fn game(round: u64, word: &[u8]) -> Option<WrittenGame>
     ensures { result ≡ game_of_word round word.now }
 {
-    let dash = dash_place(word);
+    let dash = dash_index(word);
     let (home, _rest) = word.split_at(dash);
     game_of_numbers(round, number(home), number(rest_after(word, dash)))
 }
@@ -126,21 +126,21 @@ fn game_of_numbers(round: u64, home: Option<u64>, away: Option<u64>) -> Option<W
     }
 }
 
-/// What follows the byte at this place.
-fn rest_after(word: &[u8], place: usize) -> &[u8]
-    requires { place ≤ length word.now }
-    ensures { result.now ≡ drop (place + 1) word.now }
+/// What follows the byte at this index.
+fn rest_after(word: &[u8], index: usize) -> &[u8]
+    requires { index ≤ length word.now }
+    ensures { result.now ≡ drop (index + 1) word.now }
 {
-    if place < word.len() {
-        word.split_at(place + 1).1
+    if index < word.len() {
+        word.split_at(index + 1).1
     } else {
         &[]
     }
 }
 
 /// Where the first dash stands, or how long the word is.
-fn dash_place(word: &[u8]) -> usize
-    ensures place { result ≡ position_or_len is_dash word.now }
+fn dash_index(word: &[u8]) -> usize
+    ensures index { result ≡ position_or_len is_dash word.now }
     ensures within { result ≤ length word.now }
 {
     word.iter()

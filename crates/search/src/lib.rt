@@ -9,6 +9,7 @@ mod draws;
 mod gates;
 mod runs;
 mod workers;
+mod workplace;
 
 pub use doors::{Door, LockedDoor, OwnDoor, SeatDoor};
 pub use draws::draw;
@@ -18,3 +19,4 @@ pub use runs::{
     resume_with, run, run_with,
 };
 pub use workers::{Report, SlackCourse, WorkerPlan, worker};
+pub use workplace::Workplace;

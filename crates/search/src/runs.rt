@@ -14,7 +14,7 @@ mod threads;
 
 use crate::gates::{Hearing, HearingGate};
 use crate::workers::{Means, Measure, Report};
-use crate::{Gate, NoGate, SlackCourse};
+use crate::{Gate, NoGate, SlackCourse, Workplace};
 use crew::Crew;
 use fixture_board::Board;
 use league::League;
@@ -134,14 +134,13 @@ pub fn run<R: Threads + Wait + Sync>(
     ensures done { IfOk result (IsOutcome plan board) }
     ensures refused { IfErr result (IsRefusal plan board) }
 {
-    run_with(rt, alloc, &NoGate, league, board, plan)
+    let gate = &NoGate;
+    run_with(Workplace { rt, alloc, gate }, league, board, plan)
 }
 
-/// As `run`, with a gate that the workers pass. The league has to be the board's own here too.
+/// As `run`, in a workplace, whose gate the workers pass. The league has to be the board's own here too.
 pub fn run_with<R: Threads + Wait + Sync, G: Gate + Sync>(
-    rt: &R,
-    alloc: Global,
-    gate: &G,
+    workplace: Workplace<'_, R, G>,
     league: &League,
     board: Board,
     plan: SearchPlan,
@@ -152,7 +151,7 @@ pub fn run_with<R: Threads + Wait + Sync, G: Gate + Sync>(
 {
     let course = SlackCourse::Falls;
     let search = plan;
-    resume_with(rt, alloc, gate, league, board, PhasePlan { search, course })
+    resume_with(workplace, league, board, PhasePlan { search, course })
 }
 
 /// As `run`, from a board whose entries are all of caller 0. The history goes on from there, and the reports count the
@@ -168,14 +167,13 @@ pub fn resume<R: Threads + Wait + Sync>(
     ensures done { IfOk result (IsResumed phase.search board) }
     ensures refused { IfErr result (IsRefusal phase.search board) }
 {
-    resume_with(rt, alloc, &NoGate, league, board, phase)
+    let gate = &NoGate;
+    resume_with(Workplace { rt, alloc, gate }, league, board, phase)
 }
 
-/// As `resume`, with a gate that the workers pass. The league has to be the board's own here too.
+/// As `resume`, in a workplace, whose gate the workers pass. The league has to be the board's own here too.
 pub fn resume_with<R: Threads + Wait + Sync, G: Gate + Sync>(
-    rt: &R,
-    alloc: Global,
-    gate: &G,
+    workplace: Workplace<'_, R, G>,
     league: &League,
     board: Board,
     phase: PhasePlan,
@@ -184,6 +182,7 @@ pub fn resume_with<R: Threads + Wait + Sync, G: Gate + Sync>(
     ensures done { IfOk result (IsResumed phase.search board) }
     ensures refused { IfErr result (IsRefusal phase.search board) }
 {
+    let Workplace { rt, alloc, gate } = workplace;
     let (crew, board) = crew_for(alloc, board, phase.search)?;
     let version = board.version();
     let room = board.room();

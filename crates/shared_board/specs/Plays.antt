@@ -15,8 +15,8 @@ use Rattle.shared_board.specs.Rule.{Knows, Lowest, EachFormer}
 abbrev pub Token : Type 0
 Token = Me (Option Book) View
 
-abbrev pub Told : Type 1
-Told = Step (Option Book) → Token → ℕ → Token → Type 0
+abbrev pub Tells : Type 1
+Tells = Step (Option Book) → Token → ℕ → Token → Type 0
 
 -- A history that was met under the turn: it is legal, begins with what the seat had seen, is no shorter than what it
 -- glanced, has after what it had seen no entry of the seat's, and had its lowest total at some point not before
@@ -52,21 +52,21 @@ on_board (x ∷ xs) = in_slot x.1
 abbrev pub Took : Token → Token → Type 0
 Took m n = (h : List Entry) × Meets m.0 h × (n ≡ (at_stage m.0 (holds h), (0, Some (board_at m.0.setting h)) ∷ m.1))
 
-abbrev pub took : Told
+abbrev pub took : Tells
 took st m r n = (r ≡ 0 → Took m n) × (r ≢ 0 → n ≡ m)
 
-abbrev pub committed : Told
+abbrev pub committed : Tells
 committed st m r n = n ≡ (saw m.0 (on_board m.1) (owes (kept m.0.stage) (on_board m.1)), m.1)
 
-abbrev pub posted : Told
+abbrev pub posted : Tells
 posted st m r n = n ≡ (at_stage m.0 (holds (kept m.0.stage)), m.1)
 
 -- the turn and the board are given back, and the history was seen
-abbrev pub left : Told
+abbrev pub left : Tells
 left st m r n = n ≡ (saw m.0 (kept m.0.stage) away, rest m.1)
 
 -- the same, and nothing was seen
-abbrev pub quit : Told
+abbrev pub quit : Tells
 quit st m r n = n ≡ (at_stage m.0 away, rest m.1)
 
 -- the count of numbers was read under the turn
@@ -82,20 +82,20 @@ pub record Counted (m : Token) (r : ℕ) (n : Token) : Type 0 where
   -- who holds each number that it knows of knows of all
   pub all : 0 < m.0.given → HoldsEach m.0.given m.0.held → m.0.given ≡ r
 
-abbrev pub counted : Told
+abbrev pub counted : Tells
 counted st m r n = Counted m r n
 
 -- the next number was drawn
 abbrev pub drawing : View → View
 drawing v = record v { held = v.given ∷ v.held; given = v.given + 1; stage = counts (kept v.stage) }
 
-abbrev pub drawn : Told
+abbrev pub drawn : Tells
 drawn st m r n = n ≡ (drawing m.0, m.1)
 
-abbrev pub glanced : Told
+abbrev pub glanced : Tells
 glanced st m r n = (m.0.glanced ≤ r) × (n ≡ (record m.0 { glanced = r }, m.1))
 
-abbrev pub lowered : Told
+abbrev pub lowered : Tells
 lowered st m r n = (r ≤ m.0.lowest) × (n ≡ (record m.0 { lowest = r }, m.1))
 
 abbrev pub last_drawn : List ℕ → List ℕ
@@ -134,5 +134,5 @@ pub record Agreed (m : Token) : Type 0 where
   pub each : EachFormer m.0.held history m.0.formers
   pub single : (x : ℕ) → times x m.0.held ≤ once_below x 64
 
-abbrev pub agreed : Told
+abbrev pub agreed : Tells
 agreed st m r n = (n ≡ m) × Agreed m

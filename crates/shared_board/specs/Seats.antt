@@ -1,5 +1,5 @@
 -- What a caller sees of a seat, and what each call does to it.
-use Rattle.std.specs.Prelude.{Bool, Option, None, if◌then◌else◌, ◌==◌, Some, ◌⊎◌, ◌+◌, min, max, ◌≡◌, ℕ, ◌<◌, ◌≤◌, List}
+use Rattle.std.specs.Prelude.{Bool, Option, None, ◌==◌, Some, ◌⊎◌, ◌+◌, min, max, ◌≡◌, ℕ, ◌<◌, ◌≤◌, List}
 use Rattle.std.specs.Prelude.{[], ◌∷◌, ◌++◌, length, true}
 use Rattle.atomic_table.specs.Seated.{TableId}
 use Rattle.fixtures.specs.Games.{Games}

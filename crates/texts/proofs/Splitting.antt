@@ -1,5 +1,5 @@
 -- How a text is cut into lines, and a line into words.
-use Rattle.std.proofs.Common.{◌≡◌, inl, inr, ℕ, suc, ◌+◌, ◌-◌, ◌<◌, ◌≤◌, add-one, Bool, true, false, cond, not, ltb}
+use Rattle.std.proofs.Common.{◌≡◌, inl, inr, ℕ, suc, ◌+◌, ◌<◌, ◌≤◌, add-one, Bool, true, false, cond, not, ltb}
 use Rattle.std.proofs.Common.{eqb, List, [], ◌∷◌, ◌++◌, length, take, drop, get_or, Option, Some, None, refl, ◌∙◌, sym}
 use Rattle.std.proofs.Common.{ap, arith, append_assoc, append-nil, drop-cons, length-drop, length-append, filter}
 use Rattle.std.proofs.Math.Nat.{eq-or-lt_of_le}

@@ -1,12 +1,20 @@
 -- What the walks count that tell on the schedule before what an exchange changes: words of private functions alone.
-use Rattle.std.specs.Prelude.{◌≡◌, ℕ, ◌<◌, true, false, ◌+◌, ◌-◌, ◌==◌, ◌&&◌, ◌||◌, not, nat_lt, Bool, if◌then◌else◌, slice_index}
+use Rattle.std.specs.Prelude.{◌≡◌, ℕ, ◌<◌, ◌≤◌, true, false, ◌+◌, ◌-◌, ◌*◌, ◌==◌, ◌&&◌, ◌||◌, not, nat_lt, Bool, if◌then◌else◌, slice_index}
 use Rattle.league.specs.League.{LeagueData, distance}
 use Rattle.fixtures.specs.Games.{Games, round_count, cell, is_home}
 use Rattle.league.specs.Sets.{has}
+use Rattle.league.specs.Sums.{sum_where}
 use Rattle.fixtures.specs.Changes.{turns}
 use Rattle.fixtures.specs.Edits.{exchanged, is_either}
 use Rattle.tours.specs.Runs.{windows, is_run}
 use Rattle.tours.specs.Tours.{tour}
+
+-- what a walk over the numbers of a set sums up: two terms of each number, one as it is and one after an exchange
+pub record AreSums (n set most x y : ℕ) (f g : ℕ → ℕ) : Type 0 where
+  pub before : x ≡ sum_where n (has set) f
+  pub after : y ≡ sum_where n (has set) g
+  pub before_most : x ≤ most * n
+  pub after_most : y ≤ most * n
 
 -- of a tour's legs, those that touch one of the rounds k and l, of which k is the first
 abbrev pub legs_around : (ℕ → ℕ) → ℕ → ℕ → ℕ

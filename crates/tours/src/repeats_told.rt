@@ -3,12 +3,11 @@
 ghost use Rattle.std.specs.Prelude.{◌≡◌, ◌≢◌, ◌+◌, ◌-◌, ◌*◌, ◌<◌, ◌≤◌, ◌==◌, nat_lt, false, if◌then◌else◌};
 ghost use Rattle.league.specs.Limits.{max_teams, max_rounds};
 ghost use Rattle.league.specs.Sets.{has, IsBelow};
-ghost use Rattle.league.specs.Sums.{sum_where};
 ghost use Rattle.fixtures.specs.Games.{cell, round_count, round_of, IsDoubleRoundRobin};
 ghost use Rattle.fixtures.specs.Edits.{exchanged, rounds_exchanged, teams_exchanged};
 ghost use Rattle.fixtures.specs.Closed.{IsClosed, plays_in, shares_opponent};
 ghost use Rattle.tours.specs.Repeats.{repeats};
-ghost use Rattle.tours.specs.Told.{met, meets_next, same_lower, repeats_around};
+ghost use Rattle.tours.specs.Told.{AreSums, met, meets_next, same_lower, repeats_around};
 
 use crate::season::teams_in;
 use crate::told::Breaches;
@@ -41,12 +40,9 @@ fn repeats_of_ordered(schedule: &Schedule, k: u8, l: u8, among: TeamSet) -> Brea
     requires below { IsBelow schedule.now.teams among }
     requires ordered { k < l }
     requires l { l < round_count schedule.now.teams }
-    ensures before { result.before ≡
-        sum_where schedule.now.teams (has among) (λ t. repeats_around (met schedule.now t) (λ r. r) t k l) }
-    ensures after { result.after ≡ sum_where schedule.now.teams (has among) (λ t.
-        repeats_around (met schedule.now t) (exchanged (k + 1) (l + 1)) t k l) }
-    ensures before_most { result.before ≤ 4 * schedule.now.teams }
-    ensures after_most { result.after ≤ 4 * schedule.now.teams }
+    ensures { AreSums schedule.now.teams among 4 result.before result.after
+        (λ t. repeats_around (met schedule.now t) (λ r. r) t k l)
+        (λ t. repeats_around (met schedule.now t) (exchanged (k + 1) (l + 1)) t k l) }
 {
     let mut before = 0;
     let mut after = 0;
@@ -181,12 +177,9 @@ fn repeats_at_edges(schedule: &Schedule, i: u8, j: u8, edges: SlotSet) -> Breach
     requires j { j < schedule.now.teams }
     requires season { round_count schedule.now.teams ≤ max_rounds }
     requires below { IsBelow (round_count schedule.now.teams - 1) edges }
-    ensures before { result.before ≡ sum_where (round_count schedule.now.teams - 1) (has edges) (λ r.
-        meets_next schedule.now j j r + meets_next schedule.now i i r) }
-    ensures after { result.after ≡ sum_where (round_count schedule.now.teams - 1) (has edges) (λ r.
-        meets_next schedule.now j i r + meets_next schedule.now i j r) }
-    ensures before_most { result.before ≤ 2 * (round_count schedule.now.teams - 1) }
-    ensures after_most { result.after ≤ 2 * (round_count schedule.now.teams - 1) }
+    ensures { AreSums (round_count schedule.now.teams - 1) edges 2 result.before result.after
+        (λ r. meets_next schedule.now j j r + meets_next schedule.now i i r)
+        (λ r. meets_next schedule.now j i r + meets_next schedule.now i j r) }
 {
     let mut before = 0;
     let mut after = 0;

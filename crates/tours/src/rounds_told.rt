@@ -4,13 +4,12 @@ ghost use Rattle.std.specs.Prelude.{◌≡◌, ◌≢◌, ℕ, ◌+◌, ◌*◌,
 ghost use Rattle.league.specs.League.{teams};
 ghost use Rattle.league.specs.Limits.{max_teams, max_distance};
 ghost use Rattle.league.specs.Sets.{has, IsBelow};
-ghost use Rattle.league.specs.Sums.{sum_where};
 ghost use Rattle.fixtures.specs.Games.{round_count, IsDoubleRoundRobin};
 ghost use Rattle.fixtures.specs.Edits.{rounds_exchanged};
 ghost use Rattle.fixtures.specs.Closed.{IsClosed, plays_in};
 ghost use Rattle.tours.specs.Tours.{leg, travel};
 ghost use Rattle.tours.specs.Walked.{leg_exchanged};
-ghost use Rattle.tours.specs.Told.{legs_around, legs_changed};
+ghost use Rattle.tours.specs.Told.{AreSums, legs_around, legs_changed};
 
 use crate::season::teams_in;
 use crate::told::Legs;
@@ -46,12 +45,9 @@ fn legs_of_ordered(schedule: &Schedule, league: &League, k: u8, l: u8, among: Te
     requires below { IsBelow schedule.now.teams among }
     requires ordered { k < l }
     requires l { l < round_count schedule.now.teams }
-    ensures before { result.before ≡
-        sum_where schedule.now.teams (has among) (legs_changed schedule.now (leg league.now schedule.now) k l) }
-    ensures after { result.after ≡
-        sum_where schedule.now.teams (has among) (legs_changed schedule.now (leg_exchanged league.now schedule.now k l) k l) }
-    ensures before_most { result.before ≤ 4 * max_distance * schedule.now.teams }
-    ensures after_most { result.after ≤ 4 * max_distance * schedule.now.teams }
+    ensures { AreSums schedule.now.teams among (4 * max_distance) result.before result.after
+        (legs_changed schedule.now (leg league.now schedule.now) k l)
+        (legs_changed schedule.now (leg_exchanged league.now schedule.now k l) k l) }
 {
     let mut before = 0;
     let mut after = 0;

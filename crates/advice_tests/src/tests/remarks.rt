@@ -24,7 +24,8 @@ const CASES: &[Case] = &[
         "remark: the league has a member Teams, which is not read\nremark: the league has a member zeta, which is not read\n",
     ),
     (
-        r#"{"rules":[{"class":1,"kind":1,"weight":1,"teams":1,"teams1":1,"teams2":1,"slots":1,"mode":1,"mode2":1,"max":1,"min":1,"intp":1,"games":1},{"mx":1}]}"#,
+        r#"{"rules":[{"class":1,"kind":1,"weight":1,"teams":1,"teams1":1,"teams2":1,"slots":1,
+            "mode":1,"mode2":1,"max":1,"min":1,"intp":1,"games":1},{"mx":1}]}"#,
         "remark: rule 2 has a member mx, which is not read\n",
     ),
     (

@@ -1,8 +1,8 @@
 //! Improvements of leagues in a circle.
 
-use improvement::{ImproveFault, ImprovePlan, Workplace, improve};
+use improvement::{ImproveFault, ImprovePlan, improve};
 use league::circular;
-use search::{NoGate, RunFault};
+use search::{NoGate, RunFault, Workplace};
 use std::alloc::Global;
 use std::process::Abort;
 use std::sync::Wait;
@@ -65,8 +65,8 @@ fn text<T: Threads + Wait + Sync>(rt: &T, alloc: Global, room: &mut [u8]) -> Res
         effort: 12_800,
     };
     let gate = &NoGate;
-    let place = Workplace { rt, alloc, gate };
-    improve(place, circular(alloc, 6)?, plan, &mut sink)?;
+    let workplace = Workplace { rt, alloc, gate };
+    improve(workplace, circular(alloc, 6)?, plan, &mut sink)?;
     Ok(sink.held().len())
 }
 

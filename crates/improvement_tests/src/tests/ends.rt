@@ -1,8 +1,8 @@
 //! Improvements that end early, and one without a feasible schedule.
 
-use improvement::{ImproveFault, ImprovePlan, Workplace, improve};
+use improvement::{ImproveFault, ImprovePlan, improve};
 use league::{LeagueFault, circular, read_league};
-use search::{NoGate, RunFault};
+use search::{NoGate, RunFault, Workplace};
 use std::alloc::{AllocError, Global};
 use std::sync::Wait;
 use std::test::Fail;
@@ -26,8 +26,8 @@ fn ended<T: Threads + Wait + Sync>(
     let mut memory = MemorySink::new(&mut room);
     let mut sink = RehearsedSink::new(&mut memory, writes);
     let gate = &NoGate;
-    let place = Workplace { rt, alloc, gate };
-    let ended = improve(place, circular(alloc, 4)?, PLAN, &mut sink);
+    let workplace = Workplace { rt, alloc, gate };
+    let ended = improve(workplace, circular(alloc, 4)?, PLAN, &mut sink);
     let calls = sink.tally().calls;
     Ok((ended, calls, Vec::from_slice(alloc, memory.held())?))
 }
@@ -102,12 +102,12 @@ fn without_a_feasible_schedule_there_is_no_best(rt: HostRuntime) -> Result<(), F
     let mut room = vec![in rt.alloc(); 0; 40_000]?;
     let mut sink = MemorySink::new(&mut room);
     let league = read_league(rt.alloc(), NEVER_AT_HOME.as_bytes())?;
-    let place = Workplace {
+    let workplace = Workplace {
         rt: &rt,
         alloc: rt.alloc(),
         gate: &NoGate,
     };
-    improve(place, league, PLAN, &mut sink)?;
+    improve(workplace, league, PLAN, &mut sink)?;
     let held = sink.held();
     assert!(rt; held.ends_with(b"\nbest none\n"));
     assert!(rt; !held.windows(2).any(|bytes| bytes == b"--".as_slice()));

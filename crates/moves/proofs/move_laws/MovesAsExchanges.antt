@@ -10,7 +10,7 @@ use Rattle.moves.specs.declared.moves.Move.TheVariants.{Homes, Rounds, Teams, Pa
 use Rattle.moves.specs.declared.exchanges.Exchange.{Exchange}
 use Rattle.moves.specs.declared.exchanges.Exchange.TheVariants as edit
 use Rattle.moves.specs.Moves.{fault_of, moved}
-use Rattle.moves.specs.Exchanges.{exchange_of, IsOfRounds, IsOfTeams, IsExchangeOf}
+use Rattle.moves.specs.Exchanges.{exchange_of, exchanged_by, IsOfRounds, IsOfTeams, IsInSeason, Fits, IsExchangeOf}
 use Rattle.moves.proofs.move_laws.Checked.{at_variant, homes-checked, rounds-checked, teams-checked}
 use Rattle.moves.proofs.move_laws.Checked.{part_rounds-checked, part_teams-checked}
 use Rattle.moves.proofs.move_laws.WholeMoves.{IsOfRounds-homes, IsOfRounds-rounds, IsOfTeams-teams, as_rounds}
@@ -19,34 +19,29 @@ use Rattle.moves.proofs.move_laws.PartMoves.{IsOfRounds-part_rounds, IsOfTeams-p
 use Rattle.league.proofs.ForCallers.{has_all_numbers}
 use Rattle.moves.proofs.Sets.{same_set, has-both}
 
+is_of : (g : Games) → IsDoubleRoundRobin g → (mv : Move) (exchange : Exchange) → IsInSeason exchange → Fits g exchange →
+    moved g mv ≡ exchanged_by g exchange → IsExchangeOf g mv exchange
+is_of g rr mv exchange in_season fits is = record {
+  can_be_made = record { round_robin = rr; in_season = in_season; fits = fits };
+  is = is;
+}
+
 -- by the test of the set
 of_rounds : (g : Games) → IsDoubleRoundRobin g → (mv : Move) (k l set : ℕ) (among : ℕ → Bool) →
     ((t : ℕ) → has set t ≡ among t) → IsOfRounds g k l among → moved g mv ≡ rounds_exchanged g k l among →
     IsExchangeOf g mv (edit.Rounds k l set)
 of_rounds g rr mv k l set among same fits is =
-    let tests : has set ≡ among = fun_ext same in
-    record {
-      can_be_made = record {
-        round_robin = rr;
-        in_season = (omega (arith, rr.most, fits.pair.home_in), omega (arith, rr.most, fits.pair.away_in));
-        fits = subst (IsOfRounds g k l) (sym tests) fits;
-      };
-      is = is ∙ ap (rounds_exchanged g k l) (sym tests);
-    }
+    let tests : among ≡ has set = sym (fun_ext same) in
+    is_of g rr mv (edit.Rounds k l set) (omega (arith, rr.most, fits.pair.home_in), omega (arith, rr.most, fits.pair.away_in))
+    (subst (IsOfRounds g k l) tests fits) (is ∙ ap (rounds_exchanged g k l) tests)
 
 of_teams : (g : Games) → IsDoubleRoundRobin g → (mv : Move) (i j set : ℕ) (among : ℕ → Bool) →
     ((r : ℕ) → has set r ≡ among r) → IsOfTeams g i j among → moved g mv ≡ teams_exchanged g i j among →
     IsExchangeOf g mv (edit.Teams i j set)
 of_teams g rr mv i j set among same fits is =
-    let tests : has set ≡ among = fun_ext same in
-    record {
-      can_be_made = record {
-        round_robin = rr;
-        in_season = (omega (arith, rr.most, fits.pair.home_in), omega (arith, rr.most, fits.pair.away_in));
-        fits = subst (IsOfTeams g i j) (sym tests) fits;
-      };
-      is = is ∙ ap (teams_exchanged g i j) (sym tests);
-    }
+    let tests : among ≡ has set = sym (fun_ext same) in
+    is_of g rr mv (edit.Teams i j set) (omega (arith, rr.most, fits.pair.home_in), omega (arith, rr.most, fits.pair.away_in))
+    (subst (IsOfTeams g i j) tests fits) (is ∙ ap (teams_exchanged g i j) tests)
 
 pub each-exchange : (g : Games) (mv : Move) → IsDoubleRoundRobin g → fault_of g mv ≡ Ok tt →
     IsExchangeOf g mv (exchange_of g mv)

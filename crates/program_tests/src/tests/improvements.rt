@@ -257,8 +257,8 @@ fn improved_on<T: Threads + Wait + Sync, W: Sink + Send + Drop>(
     let mut source = MemorySource::new(CIRCLE.as_bytes());
     let clock = Ticks::new();
     let gate = &ProgressLine::over(&clock, terminal, 1280);
-    let place = Workplace { rt, alloc, gate };
-    improve_from(place, &mut source, &mut sink, by(1))?;
+    let workplace = Workplace { rt, alloc, gate };
+    improve_from(workplace, &mut source, &mut sink, by(1))?;
     Ok(Vec::from_slice(alloc, sink.held())?)
 }
 

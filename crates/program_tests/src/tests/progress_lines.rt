@@ -231,8 +231,8 @@ fn searched<T: Threads + Wait + Sync, W: Sink + Send + Drop>(
     let mut source = MemorySource::new(input.as_bytes());
     let clock = Ticks::new(Some(1000));
     let gate = &ProgressLine::new(&clock, terminal, PLAN_OF_ONE);
-    let place = Workplace { rt, alloc, gate };
-    find_from(place, &mut source, &mut sink, ROOM, PLAN_OF_ONE)?;
+    let workplace = Workplace { rt, alloc, gate };
+    find_from(workplace, &mut source, &mut sink, ROOM, PLAN_OF_ONE)?;
     Ok(Vec::from_slice(alloc, sink.held())?)
 }
 

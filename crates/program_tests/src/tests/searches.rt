@@ -19,12 +19,12 @@ fn search_without_steps_writes_the_start(rt: HostRuntime) -> Result<(), Fail> {
     let mut room = [0; 1000];
     let mut sink = MemorySink::new(&mut room);
     let source = MemorySource::new(CIRCLE.as_bytes());
-    let place = Workplace {
+    let workplace = Workplace {
         rt: &rt,
         alloc: rt.alloc(),
         gate: &NoGate,
     };
-    find(place, source, &mut sink, 1024, NO_STEPS)?;
+    find(workplace, source, &mut sink, 1024, NO_STEPS)?;
     let (_, _, _, text) = FIND;
     check_same(&rt, &text.is_told(sink.held()), &true);
     Ok(())

@@ -148,7 +148,8 @@ fn travel_at_one_distance(rt: HostRuntime) -> Result<(), Fail> {
 
 /// A league of four teams, each as far from each other as a league allows.
 const FAR: &str =
-    r#"{"format":1,"teams":["T1","T2","T3","T4"],"distances":[[0,1000000,1000000,1000000],[1000000,0,1000000,1000000],[1000000,1000000,0,1000000],[1000000,1000000,1000000,0]]}"#;
+    r#"{"format":1,"teams":["T1","T2","T3","T4"],
+        "distances":[[0,1000000,1000000,1000000],[1000000,0,1000000,1000000],[1000000,1000000,0,1000000],[1000000,1000000,1000000,0]]}"#;
 
 #[test]
 fn travel_at_the_largest_distance(rt: HostRuntime) -> Result<(), Fail> {

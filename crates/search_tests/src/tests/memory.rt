@@ -6,7 +6,7 @@ use crate::tests::checks::check_same;
 use crate::tests::searches::{AskedRun, searched, searched_with};
 use fixture_board::Board;
 use league::{League, circular};
-use search::{NoGate, Outcome, RunFault, RunRefused, SearchPlan, run, run_with};
+use search::{NoGate, Outcome, RunFault, RunRefused, SearchPlan, Workplace, run, run_with};
 use std::alloc::Global;
 use std::process::Abort;
 use std::sync::Wait;
@@ -37,7 +37,8 @@ fn search<R: Threads + Wait + Sync>(
     requires { board.history ≡ [] }
 {
     if has_gate {
-        run_with(rt, alloc, &NoGate, league, board, PLAN)
+        let gate = &NoGate;
+        run_with(Workplace { rt, alloc, gate }, league, board, PLAN)
     } else {
         run(rt, alloc, league, board, PLAN)
     }

@@ -8,8 +8,8 @@ use league::circular;
 use moves::Move;
 use search::SlackCourse::{Falls, Stays};
 use search::{
-    NoGate, Outcome, PhasePlan, Report, RunFault, RunRefused, SearchPlan, SlackCourse, resume,
-    resume_with,
+    NoGate, Outcome, PhasePlan, Report, RunFault, RunRefused, SearchPlan, SlackCourse, Workplace,
+    resume, resume_with,
 };
 use std::alloc::Global;
 use std::process::Abort;
@@ -69,7 +69,8 @@ fn search<R: Threads + Wait + Sync>(
         return Err(RunRefused { why, board });
     };
     if has_gate {
-        resume_with(rt, alloc, &NoGate, &league, board, phase)
+        let gate = &NoGate;
+        resume_with(Workplace { rt, alloc, gate }, &league, board, phase)
     } else {
         resume(rt, alloc, &league, board, phase)
     }

@@ -1,8 +1,8 @@
 -- Loops over the numbers of a set that sum up two terms of each: one as it is, and one after an exchange.
-use Rattle.std.proofs.Common.{◌≡◌, ℕ, ◌+◌, ◌<◌, ◌≤◌, ◌==◌, not, true, refl, sym, ◌∙◌, ap}
+use Rattle.std.proofs.Common.{◌≡◌, ℕ, ◌+◌, ◌<◌, ◌≤◌, ◌==◌, not, true, refl, sym, ◌∙◌, ap, arith}
 use Rattle.std.proofs.lemmas.Bool.{and_parts}
 use Rattle.league.specs.Sets.{has, IsBelow, IsWithoutLowest}
-use Rattle.league.specs.Sums.{sum_where}
+use Rattle.tours.specs.Told.{AreSums}
 use Rattle.league.proofs.ForCallers.{IsSumWithout, sum_without_none, sum_without_more, sum_without_all, lowest_below}
 
 -- the totals are those of the numbers that aren't left
@@ -33,10 +33,12 @@ totals_more n set left lowest rest most x y more_x more_y f g so_far taken is_f 
   of_set = λ k is. so_far.of_set k (and_parts (has left k) (not (k == lowest)) (sym (taken.others k) ∙ is)).0;
 }
 
--- where none is left, the totals are those of the set
+-- if none is left, the totals are those of the set
 pub totals_ended : (n set left most x y : ℕ) (f g : ℕ → ℕ) → AreTotals n set left most x y f g → left ≡ 0 →
-    (x ≡ sum_where n (has set) f) × (y ≡ sum_where n (has set) g)
-totals_ended n set left most x y f g so_far none_left = (
-  sum_without_all n set left x most (has set) f so_far.before none_left (λ k below. refl),
-  sum_without_all n set left y most (has set) g so_far.after none_left (λ k below. refl),
-)
+    AreSums n set most x y f g
+totals_ended n set left most x y f g so_far none_left = record {
+  before = sum_without_all n set left x most (has set) f so_far.before none_left (λ k below. refl);
+  after = sum_without_all n set left y most (has set) g so_far.after none_left (λ k below. refl);
+  before_most = omega (arith, so_far.before.within);
+  after_most = omega (arith, so_far.after.within);
+}

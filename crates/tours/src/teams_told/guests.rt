@@ -6,7 +6,7 @@ ghost use Rattle.league.specs.Sets.{has, IsBelow};
 ghost use Rattle.league.specs.Sums.{sum_where};
 ghost use Rattle.fixtures.specs.Games.{round_count, is_home};
 ghost use Rattle.fixtures.specs.Edits.{is_either};
-ghost use Rattle.tours.specs.Told.{in_rounds};
+ghost use Rattle.tours.specs.Told.{AreSums, in_rounds};
 
 use super::exchange::TeamExchange;
 use crate::told::Legs;
@@ -41,12 +41,8 @@ impl TeamExchange<'_> {
         requires below { IsBelow (round_count self.now.schedule.now.teams) visits }
         requires home { (r : ℕ) → has visits r ≡ true → is_home self.now.schedule.now host r ≡ true }
         requires in_set { (r : ℕ) → has visits r ≡ true → has self.now.rounds r ≡ true }
-        ensures before { result.before ≡ sum_where (round_count self.now.schedule.now.teams) (has visits)
-            (around_visit self.now (leg_before self.now) host) }
-        ensures after { result.after ≡ sum_where (round_count self.now.schedule.now.teams) (has visits)
-            (around_visit self.now (leg_after self.now) host) }
-        ensures before_most { result.before ≤ 2 * max_distance * round_count self.now.schedule.now.teams }
-        ensures after_most { result.after ≤ 2 * max_distance * round_count self.now.schedule.now.teams }
+        ensures { AreSums (round_count self.now.schedule.now.teams) visits (2 * max_distance) result.before result.after
+            (around_visit self.now (leg_before self.now) host) (around_visit self.now (leg_after self.now) host) }
     {
         let mut before = 0;
         let mut after = 0;

@@ -3,11 +3,10 @@
 ghost use Rattle.std.specs.Prelude.{◌≡◌, ℕ, ◌+◌, ◌*◌, ◌<◌, ◌≤◌, ◌==◌, not, true, if◌then◌else◌};
 ghost use Rattle.league.specs.Limits.{max_rounds, max_distance};
 ghost use Rattle.league.specs.Sets.{has, IsBelow};
-ghost use Rattle.league.specs.Sums.{sum_where};
 ghost use Rattle.fixtures.specs.Games.{round_count};
 ghost use Rattle.fixtures.specs.Edits.{exchanged};
 ghost use Rattle.tours.specs.Walked.{part_of};
-ghost use Rattle.tours.specs.Told.{AreTurns, IsTurn};
+ghost use Rattle.tours.specs.Told.{AreSums, AreTurns, IsTurn};
 
 use super::exchange::TeamExchange;
 use crate::told::Legs;
@@ -66,12 +65,9 @@ impl TeamExchange<'_> {
     fn legs_at_edges(&self, edges: SlotSet) -> Legs
         requires below { IsBelow (round_count self.now.schedule.now.teams) edges }
         requires edges { (s : ℕ) → has edges s ≡ true → has self.now.rounds (s + 1) ≡ not (has self.now.rounds s) }
-        ensures before { result.before ≡ sum_where (round_count self.now.schedule.now.teams) (has edges) (λ s.
-            leg_before self.now self.now.j (s + 1) + leg_before self.now self.now.i (s + 1)) }
-        ensures after { result.after ≡ sum_where (round_count self.now.schedule.now.teams) (has edges) (λ s.
-            leg_after self.now self.now.j (s + 1) + leg_after self.now self.now.i (s + 1)) }
-        ensures before_most { result.before ≤ 2 * max_distance * round_count self.now.schedule.now.teams }
-        ensures after_most { result.after ≤ 2 * max_distance * round_count self.now.schedule.now.teams }
+        ensures { AreSums (round_count self.now.schedule.now.teams) edges (2 * max_distance) result.before result.after
+            (λ s. leg_before self.now self.now.j (s + 1) + leg_before self.now self.now.i (s + 1))
+            (λ s. leg_after self.now self.now.j (s + 1) + leg_after self.now self.now.i (s + 1)) }
     {
         let mut before = 0;
         let mut after = 0;
@@ -131,12 +127,8 @@ impl TeamExchange<'_> {
         requires team { team < self.now.schedule.now.teams }
         requires below { IsBelow (round_count self.now.schedule.now.teams) turns }
         requires turning { (s : ℕ) → has turns s ≡ true → IsTurn self.now.schedule.now self.now.i self.now.j team s }
-        ensures before { result.before ≡ sum_where (round_count self.now.schedule.now.teams) (has turns) (λ s.
-            leg_before self.now team (s + 1)) }
-        ensures after { result.after ≡ sum_where (round_count self.now.schedule.now.teams) (has turns) (λ s.
-            turned_after self.now team (s + 1)) }
-        ensures before_most { result.before ≤ max_distance * round_count self.now.schedule.now.teams }
-        ensures after_most { result.after ≤ max_distance * round_count self.now.schedule.now.teams }
+        ensures { AreSums (round_count self.now.schedule.now.teams) turns max_distance result.before result.after
+            (λ s. leg_before self.now team (s + 1)) (λ s. turned_after self.now team (s + 1)) }
     {
         let mut before = 0;
         let mut after = 0;

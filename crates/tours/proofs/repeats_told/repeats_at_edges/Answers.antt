@@ -14,8 +14,5 @@ loop-round-preserved c =
     totals_more _ _ _ _ _ _ _ _ _ _ _ _ c.loop-round.invariant c.in-Some.ensures.steps c.repeats_at_edge-repeats.ensures.before
     c.repeats_at_edge-repeats.ensures.after c.repeats_at_edge-repeats.ensures.before_most c.repeats_at_edge-repeats.ensures.after_most
 
-pub returns-clause-before : goal.returns-clause-before
-returns-clause-before c = (totals_ended _ _ _ _ _ _ _ _ c.loop-round.invariant c.in-None.ensures.steps.0).0
-
-pub returns-clause-after : goal.returns-clause-after
-returns-clause-after c = (totals_ended _ _ _ _ _ _ _ _ c.loop-round.invariant c.in-None.ensures.steps.0).1
+pub returns : goal.returns
+returns c = totals_ended _ _ _ _ _ _ _ _ c.loop-round.invariant c.in-None.ensures.steps.0

@@ -14,8 +14,5 @@ loop-team-preserved c =
     totals_more _ _ _ _ _ _ _ _ _ _ _ _ c.loop-team.invariant c.in-Some.ensures.steps c.repeats_of_team-repeats.ensures.before
     c.repeats_of_team-repeats.ensures.after c.repeats_of_team-repeats.ensures.before_most c.repeats_of_team-repeats.ensures.after_most
 
-pub returns-clause-before : goal.returns-clause-before
-returns-clause-before c = (totals_ended _ _ _ _ _ _ _ _ c.loop-team.invariant c.in-None.ensures.steps.0).0
-
-pub returns-clause-after : goal.returns-clause-after
-returns-clause-after c = (totals_ended _ _ _ _ _ _ _ _ c.loop-team.invariant c.in-None.ensures.steps.0).1
+pub returns : goal.returns
+returns c = totals_ended _ _ _ _ _ _ _ _ c.loop-team.invariant c.in-None.ensures.steps.0

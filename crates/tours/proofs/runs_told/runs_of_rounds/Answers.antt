@@ -20,8 +20,8 @@ loop-team-preserved c =
 pub returns-clause-balance : goal.returns-clause-balance
 returns-clause-balance c =
     rw (
-      (totals_ended _ _ _ _ _ _ _ _ c.loop-team.invariant c.in-None.ensures.steps.0).0,
-      (totals_ended _ _ _ _ _ _ _ _ c.loop-team.invariant c.in-None.ensures.steps.0).1,
+      (totals_ended _ _ _ _ _ _ _ _ c.loop-team.invariant c.in-None.ensures.steps.0).before,
+      (totals_ended _ _ _ _ _ _ _ _ c.loop-team.invariant c.in-None.ensures.steps.0).after,
       c.into_iter-team-iterator.ensures.into_iter_gives,
       c.at_most-at_most.ensures.value,
     )
@@ -31,5 +31,5 @@ returns-clause-balance c =
 
 pub returns-clause-within : goal.returns-clause-within
 returns-clause-within c =
-    rw ((totals_ended _ _ _ _ _ _ _ _ c.loop-team.invariant c.in-None.ensures.steps.0).0, c.at_most-at_most.ensures.value)
+    rw ((totals_ended _ _ _ _ _ _ _ _ c.loop-team.invariant c.in-None.ensures.steps.0).before, c.at_most-at_most.ensures.value)
     (part_of_runs c.args.schedule.now c.args.league.now.at_most _ _)

@@ -22,8 +22,5 @@ loop-round-preserved c =
     totals_more _ _ _ _ _ _ _ _ _ _ _ _ c.loop-round.invariant c.in-Some.ensures.steps c.legs_of_visit-legs.ensures.before
     c.legs_of_visit-legs.ensures.after c.legs_of_visit-legs.ensures.before_most c.legs_of_visit-legs.ensures.after_most
 
-pub returns-clause-before : goal.returns-clause-before
-returns-clause-before c = (totals_ended _ _ _ _ _ _ _ _ c.loop-round.invariant c.in-None.ensures.steps.0).0
-
-pub returns-clause-after : goal.returns-clause-after
-returns-clause-after c = (totals_ended _ _ _ _ _ _ _ _ c.loop-round.invariant c.in-None.ensures.steps.0).1
+pub returns : goal.returns
+returns c = totals_ended _ _ _ _ _ _ _ _ c.loop-round.invariant c.in-None.ensures.steps.0

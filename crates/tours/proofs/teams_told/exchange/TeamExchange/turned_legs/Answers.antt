@@ -14,8 +14,5 @@ loop-round-preserved c =
     totals_more _ _ _ _ _ _ _ _ _ _ _ _ c.loop-round.invariant c.in-Some.ensures.steps c.turned_leg-legs.ensures.before
     c.turned_leg-legs.ensures.after c.turned_leg-legs.ensures.before_most c.turned_leg-legs.ensures.after_most
 
-pub returns-clause-before : goal.returns-clause-before
-returns-clause-before c = (totals_ended _ _ _ _ _ _ _ _ c.loop-round.invariant c.in-None.ensures.steps.0).0
-
-pub returns-clause-after : goal.returns-clause-after
-returns-clause-after c = (totals_ended _ _ _ _ _ _ _ _ c.loop-round.invariant c.in-None.ensures.steps.0).1
+pub returns : goal.returns
+returns c = totals_ended _ _ _ _ _ _ _ _ c.loop-round.invariant c.in-None.ensures.steps.0

@@ -3,10 +3,10 @@ use Rattle.std.proofs.lemmas.Iterator.{YieldsList-from_slice}
 use Rattle.std.proofs.lemmas.Iterator.Search.{position_from_yields_List}
 use Rattle.texts.proofs.Splitting.{index_or_length}
 use Rattle.reports.specs.ScheduleText.{is_dash}
-use Rattle.reports.proofs.schedule_text.dash_place.Goals as goal
+use Rattle.reports.proofs.schedule_text.dash_index.Goals as goal
 
-pub returns-clause-place : goal.returns-clause-place
-returns-clause-place c =
+pub returns-clause-index : goal.returns-clause-index
+returns-clause-index c =
     let xs = c.args.word.now in
     c.unwrap_or.ensures ∙
     index_or_length is_dash xs _

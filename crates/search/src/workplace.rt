@@ -2,7 +2,7 @@
 
 use std::alloc::Global;
 
-/// Where the workers of a command work.
+/// Where the workers of a run work.
 #[derive_where(Clone, Copy)]
 pub struct Workplace<'a, T, G> {
     /// The runtime, which starts their threads.
