@@ -2,7 +2,7 @@
 use Rattle.std.proofs.Common.{◌≡◌, ℕ, zero, suc, ◌+◌, ◌<◌, Option, Some, None, refl, arith, inl, inr}
 use Rattle.std.proofs.Math.Numerals.{suc-eq-add-one}
 use Rattle.std.proofs.lemmas.Bool.{cases_eq}
-use Rattle.advice.specs.Places.{first_below}
+use Rattle.advice.specs.Firsts.{first_below}
 
 pub first_below_none : {A : Type 0} (f : ℕ → Option A) → first_below 0 f ≡ None
 unfolding first_below

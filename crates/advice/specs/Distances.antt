@@ -10,7 +10,7 @@ use Rattle.league.specs.Json.{only_if, whole_number}
 use Rattle.league.specs.Limits.{max_distance}
 use Rattle.advice.specs.declared.hint.Hint.{Hint}
 use Rattle.advice.specs.declared.hint.Hint.TheVariants.{Rows, Row, Distance}
-use Rattle.advice.specs.Places.{item_count, first_below}
+use Rattle.advice.specs.Firsts.{item_count, first_below}
 
 -- the whole number in a row and column
 abbrev pub entry : Data → ℕ → ℕ → Option ℕ

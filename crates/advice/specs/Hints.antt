@@ -11,7 +11,7 @@ use Rattle.league.specs.Limits.{max_teams}
 use Rattle.advice.specs.declared.hint.Hint.{Hint}
 use Rattle.advice.specs.declared.hint.Hint.TheVariants.{Text}
 use Rattle.advice.specs.Distances.{distances_hint}
-use Rattle.advice.specs.Places.{item_count}
+use Rattle.advice.specs.Firsts.{item_count}
 use Rattle.advice.specs.Rules.{class_hint, rule_hint}
 
 -- how many teams there are

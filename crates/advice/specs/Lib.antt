@@ -1,4 +1,4 @@
-pub mod Places
+pub mod Firsts
 pub mod Lines
 pub mod Distances
 pub mod Needs

@@ -13,7 +13,7 @@ use Rattle.advice.specs.declared.needs.Need.{Need}
 use Rattle.advice.specs.declared.needs.Need.TheVariants as need
 use Rattle.advice.specs.Lines.{rule_member_name}
 use Rattle.advice.specs.Needs.{is_met, member_of}
-use Rattle.advice.specs.Places.{or_else}
+use Rattle.advice.specs.Firsts.{or_else}
 
 -- the first of the needs that a rule of n teams doesn't meet
 abbrev pub first_unmet : ℕ → Data → List Need → Option Need

@@ -4,7 +4,7 @@ ghost use Rattle.std.specs.Prelude.{◌≡◌, is_some, option_map};
 ghost use Rattle.serde_json.specs.View.{view, items_view};
 ghost use Rattle.league.specs.Json.{all_items, array_of, number_within};
 ghost use Rattle.league.specs.RuleMembers.{text_member, number_set, pairing_from};
-ghost use Rattle.advice.specs.Places.{item_count};
+ghost use Rattle.advice.specs.Firsts.{item_count};
 
 use serde_json::Value;
 

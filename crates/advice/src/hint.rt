@@ -18,7 +18,7 @@ pub enum Hint {
         rows: usize,
         teams: usize,
     },
-    /// This row of the distances is no array of as many numbers as there are teams.
+    /// This row of the distances is no array with one number for each team.
     Row(usize),
     /// This distance is wrong, by itself or beside the one of the way back.
     Distance {

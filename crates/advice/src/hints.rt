@@ -24,7 +24,7 @@ pub fn hint_on(alloc: Global, text: &[u8], fault: LeagueFault) -> Result<Option<
 {
     match json_of(alloc, text)? {
         Ok(league) => Ok(hint_of(&league, fault)),
-        Err(place) => Ok(Some(place)),
+        Err(hint) => Ok(Some(hint)),
     }
 }
 

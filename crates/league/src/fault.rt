@@ -56,7 +56,7 @@ pub enum LeagueFault {
     /// The number of teams is odd, below 4 or above 40.
     #[error("team count must be even, 4 to 40")]
     TeamCount,
-    /// The distances are not as many rows as there are teams, each with as many numbers.
+    /// The distances aren't one row for each team, each with one number for each team.
     #[error("distances are not n rows of n")]
     DistanceShape,
     /// A distance is above 1,000,000.

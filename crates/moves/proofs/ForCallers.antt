@@ -3,9 +3,8 @@
 pub use Rattle.moves.proofs.move_laws.EachMove.{each-its_own_inverse as each_its_own_inverse}
 pub use Rattle.moves.proofs.move_laws.EachMove.{each-double_round_robin as each_double_round_robin}
 -- of each exchange that can be made
-pub use Rattle.moves.proofs.exchange_laws.EachExchange.{each-undone as each_undone, each-differs_by as each_differs_by}
+pub use Rattle.moves.proofs.exchange_laws.EachExchange.{each-undone as each_undone}
 pub use Rattle.moves.proofs.exchange_laws.Around.{each-around as each_around, each-sides as each_sides}
-pub use Rattle.moves.proofs.exchange_laws.KeptMeetings.{each-keeps_meetings as each_keeps_meetings}
 -- the games that it gives another round
-pub use Rattle.moves.proofs.exchange_laws.ChangedGames.{is_changed_by, each-tells as each_tells}
+pub use Rattle.moves.proofs.exchange_laws.ChangedGames.{each-tells as each_tells}
 pub use Rattle.moves.proofs.exchange_laws.ChangedGames.{main_teams_below, main_rounds_below}

@@ -46,9 +46,9 @@ grid_lines l g = pieces_below round_head (round_count g.teams) ++ pieces_below (
 -- what the marks mean
 abbrev pub legend_text : ℕ → List ℕ
 legend_text at_most =
-    concat (codes "<h2>Games</h2><p><span class='h'>Shaded</span>: at home. @: away. <span class='o'>Ringed</span>: more than " ∷
+    concat (codes "<h2>Games</h2><p><span class='h'>Shaded</span>: at home. @: away. " ∷ codes "<span class='o'>Ringed</span>: more than " ∷
     decimal at_most ∷
-    codes " in a row at home or away. <span class='r'>Dashed</span>: the opponent of the round before.</p>" ∷
+    codes " in a row at home or away. " ∷ codes "<span class='r'>Dashed</span>: the opponent of the round before.</p>" ∷
     codes "<div class='wide'><table class='grid'><tr><th>Team</th>" ∷ [])
 
 unfoldable pub grid_text : LeagueData → Games → List ℕ

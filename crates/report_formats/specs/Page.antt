@@ -74,8 +74,7 @@ unfoldable pub sorted_rules : LeagueData → Games → List ℕ
 sorted_rules l g = rule_rows l g true ++ rule_rows l g false
 
 abbrev pub rules_head : List ℕ
-rules_head =
-    concat (codes "<h2>Rules</h2><p>Broken ones first.</p><table class='rules'>" ∷
+rules_head = concat (codes "<h2>Rules</h2><p>Broken ones first.</p><table class='rules'>" ∷
     codes "<tr><th>Rule</th><th>Class</th><th>Kind</th><th>Deviation</th></tr>" ∷ [])
 
 abbrev pub rule_table : LeagueData → Games → List ℕ

@@ -37,13 +37,11 @@ fn push_legend(page: &mut Vec<u8>, league: &League) -> Result<(), AllocError>
     push_pieces(
         page,
         &[
-            Piece::Html(
-                b"<h2>Games</h2><p><span class='h'>Shaded</span>: at home. @: away. <span class='o'>Ringed</span>: more than ",
-            ),
+            Piece::Html(b"<h2>Games</h2><p><span class='h'>Shaded</span>: at home. @: away. "),
+            Piece::Html(b"<span class='o'>Ringed</span>: more than "),
             Piece::Number(league.at_most() as u64),
-            Piece::Html(
-                b" in a row at home or away. <span class='r'>Dashed</span>: the opponent of the round before.</p>",
-            ),
+            Piece::Html(b" in a row at home or away. "),
+            Piece::Html(b"<span class='r'>Dashed</span>: the opponent of the round before.</p>"),
             Piece::Html(b"<div class='wide'><table class='grid'><tr><th>Team</th>"),
         ],
     )

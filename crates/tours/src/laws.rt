@@ -12,7 +12,7 @@ ghost use Rattle.tours.specs.Repeats.{repeats};
 ghost use Rattle.tours.specs.Phased.{unphased, unphased_part};
 ghost use Rattle.tours.specs.Parts.{travel_at, travel_part, travel_around, runs_at, runs_part, repeats_part, repeats_with};
 
-/// Places and sides that change in rounds of which each team has a set of its own, and meetings that change.
+/// Places and sides that change, each team's in a set of rounds of its own, and meetings that change.
 pub fn changes_balance()
     ensures travel { (l : LeagueData) (g g' : Games) (at : ℕ → ℕ → Bool) → DiffersOnlyAt place g g' at →
         travel l g' + travel_at l g at ≡ travel l g + travel_at l g' at }
@@ -35,7 +35,7 @@ pub fn parts_balance()
         unphased g' + unphased_part g teams ≡ unphased g + unphased_part g' teams }
 {}
 
-/// A change around some teams, of which the others notice at most that they meet another of these teams.
+/// A change around some teams: others notice at most that they meet another of these teams.
 pub fn changes_around_balance()
     ensures travel { (l : LeagueData) (g g' : Games) (teams rounds : ℕ → Bool) → DiffersOnlyAround g g' teams rounds →
         travel l g' + travel_around l g teams rounds ≡ travel l g + travel_around l g' teams rounds }
@@ -48,7 +48,7 @@ pub fn changes_around_balance()
         unphased g' + unphased_part g teams ≡ unphased g + unphased_part g' teams }
 {}
 
-/// If the same pairs meet, two teams under each other's names, as many meet twice in a row.
+/// If the same pairs meet, but for two teams that stand under each other's names, as many pairs meet twice in a row.
 pub fn same_pairs_repeat_alike()
     ensures { (g g' : Games) (i j : ℕ) → IsDoubleRoundRobin g → MeetingsExchanged g g' i j → repeats g' ≡ repeats g }
 {}

@@ -68,7 +68,7 @@ fn repeats_near(schedule: &Schedule, rounds: SlotSet) -> u64
     repeats_from(schedule, firsts)
 }
 
-/// The repeats of which the first of the two rounds is one of these.
+/// The repeats whose first round is one of these.
 fn repeats_from(schedule: &Schedule, firsts: SlotSet) -> u64
     requires season { round_count schedule.now.teams ≤ max_rounds }
     requires below { IsBelow (round_count schedule.now.teams - 1) firsts }
@@ -99,7 +99,7 @@ fn repeats_near_with(schedule: &Schedule, set: TeamSet, rounds: SlotSet) -> u64
     repeats_from_with(schedule, among, firsts)
 }
 
-/// The repeats of pairs with a team of the set of which the first of the two rounds is one of these.
+/// The repeats with a team of the set whose first round is one of these.
 fn repeats_from_with(schedule: &Schedule, among: TeamSet, firsts: SlotSet) -> u64
     requires round_robin { IsDoubleRoundRobin schedule.now }
     requires among { IsBelow schedule.now.teams among }

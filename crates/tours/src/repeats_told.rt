@@ -171,7 +171,7 @@ pub fn repeats_of_teams(schedule: &Schedule, i: u8, j: u8, among: SlotSet) -> Br
     repeats_at_edges(schedule, i, j, edges)
 }
 
-/// Those of which either the first or the second round is in the set: at its edges, after these rounds.
+/// Those after these rounds, at the edges of the set: it has one of their two rounds.
 fn repeats_at_edges(schedule: &Schedule, i: u8, j: u8, edges: SlotSet) -> Breaches
     requires i { i < schedule.now.teams }
     requires j { j < schedule.now.teams }
@@ -191,7 +191,7 @@ fn repeats_at_edges(schedule: &Schedule, i: u8, j: u8, edges: SlotSet) -> Breach
     Breaches { before, after }
 }
 
-/// Those in a round and the next, in one of which `i` and `j` are exchanged.
+/// Those in a round and the next one, if `i` and `j` are exchanged in one of the two.
 fn repeats_at_edge(schedule: &Schedule, i: u8, j: u8, round: u8) -> Breaches
     requires i { i < schedule.now.teams }
     requires j { j < schedule.now.teams }

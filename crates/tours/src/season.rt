@@ -27,7 +27,7 @@ pub(crate) fn rounds_in(schedule: &Schedule, set: SlotSet) -> SlotSet
     all.intersection(set)
 }
 
-/// The rounds before the last that are in the set, or the next of which is.
+/// The rounds before the last one that are in the set, or whose next round is.
 pub(crate) fn rounds_next_to(schedule: &Schedule, set: SlotSet) -> SlotSet
     ensures members { (r : ℕ) → r < round_count schedule.now.teams - 1 → has result r ≡ (has set r || has set (r + 1)) }
     ensures below { IsBelow (round_count schedule.now.teams - 1) result }

@@ -147,8 +147,7 @@ fn travel_at_one_distance(rt: HostRuntime) -> Result<(), Fail> {
 }
 
 /// A league of four teams, each as far from each other as a league allows.
-const FAR: &str =
-    r#"{"format":1,"teams":["T1","T2","T3","T4"],
+const FAR: &str = r#"{"format":1,"teams":["T1","T2","T3","T4"],
         "distances":[[0,1000000,1000000,1000000],[1000000,0,1000000,1000000],[1000000,1000000,0,1000000],[1000000,1000000,1000000,0]]}"#;
 
 #[test]

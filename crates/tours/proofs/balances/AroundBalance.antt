@@ -19,13 +19,13 @@ use Rattle.tours.proofs.balances.RepeatsBalance.{repeats_balance_with, repeats_w
 
 -- sets of places, sides and meetings by boxes of teams and rounds
 
-pub travel_balance_places : (l : LeagueData) (g g' : Games) (teams rounds : ℕ → Bool) → DiffersOnlyAt place g g' (box teams rounds) →
+travel_balance_places : (l : LeagueData) (g g' : Games) (teams rounds : ℕ → Bool) → DiffersOnlyAt place g g' (box teams rounds) →
     travel l g' + travel_part l g teams rounds ≡ travel l g + travel_part l g' teams rounds
 travel_balance_places l g g' teams rounds d =
     ap (λ x. travel l g' + x) (sym (travel_at_box l g teams rounds)) ∙ travel_balance_at l g g' (box teams rounds) d ∙
     ap (λ x. travel l g + x) (travel_at_box l g' teams rounds)
 
-pub runs_balance_sides : (g g' : Games) (most : ℕ) (teams rounds : ℕ → Bool) → DiffersOnlyAt is_home g g' (box teams rounds) →
+runs_balance_sides : (g g' : Games) (most : ℕ) (teams rounds : ℕ → Bool) → DiffersOnlyAt is_home g g' (box teams rounds) →
     runs_over g' most + runs_part g most teams rounds ≡ runs_over g most + runs_part g' most teams rounds
 runs_balance_sides g g' most teams rounds d =
     ap (λ x. runs_over g' most + x) (sym (runs_at_box g most teams rounds)) ∙ runs_balance_at g g' most (box teams rounds) d ∙

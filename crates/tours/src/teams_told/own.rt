@@ -61,7 +61,7 @@ impl TeamExchange<'_> {
         }
     }
 
-    /// The legs of `i` and `j` after these rounds, of which one end is in the set.
+    /// The legs of `i` and `j` after these rounds, each with one end in the set.
     fn legs_at_edges(&self, edges: SlotSet) -> Legs
         requires below { IsBelow (round_count self.now.schedule.now.teams) edges }
         requires edges { (s : ℕ) → has edges s ≡ true → has self.now.rounds (s + 1) ≡ not (has self.now.rounds s) }

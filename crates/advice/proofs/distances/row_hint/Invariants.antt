@@ -2,7 +2,7 @@
 use Rattle.std.proofs.Common.{◌≡◌, None}
 use Rattle.serde_json.specs.View.{view}
 use Rattle.advice.specs.Distances.{entry_hint}
-use Rattle.advice.specs.Places.{first_below}
+use Rattle.advice.specs.Firsts.{first_below}
 use Rattle.advice.proofs.distances.row_hint.Given as goal
 
 abbrev pub invariant-loop-column : goal.invariant-loop-column

@@ -1,4 +1,4 @@
-use Rattle.tours.proofs.ForCallers.{travel_balance_around, runs_balance_around, repeats_balance_around}
+use Rattle.tours.proofs.balances.AroundBalance.{travel_balance_around, runs_balance_around, repeats_balance_around}
 use Rattle.tours.proofs.balances.PhasedBalance.{unphased_balance_around}
 use Rattle.tours.proofs.laws.changes_around_balance.Goals as goal
 

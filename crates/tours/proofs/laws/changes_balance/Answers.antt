@@ -1,4 +1,6 @@
-use Rattle.tours.proofs.ForCallers.{travel_balance_at, runs_balance_at, repeats_balance_with}
+use Rattle.tours.proofs.balances.TravelBalance.{travel_balance_at}
+use Rattle.tours.proofs.balances.RunsBalance.{runs_balance_at}
+use Rattle.tours.proofs.balances.RepeatsBalance.{repeats_balance_with}
 use Rattle.tours.proofs.laws.changes_balance.Goals as goal
 
 pub returns-clause-travel : goal.returns-clause-travel

@@ -1,4 +1,4 @@
-use Rattle.tours.proofs.ForCallers.{travel_balance, runs_balance, repeats_balance}
+use Rattle.tours.proofs.balances.AroundBalance.{travel_balance, runs_balance, repeats_balance}
 use Rattle.tours.proofs.balances.PhasedBalance.{unphased_balance}
 use Rattle.tours.proofs.laws.parts_balance.Goals as goal
 

@@ -1,4 +1,4 @@
-use Rattle.tours.proofs.ForCallers.{repeats_of_same_pairs}
+use Rattle.tours.proofs.meetings.SamePairs.{repeats_of_same_pairs}
 use Rattle.tours.proofs.laws.same_pairs_repeat_alike.Goals as goal
 
 pub returns : goal.returns

@@ -1,4 +1,4 @@
--- Places in a value.
+-- The first answer at a number below n, and how many items an array has.
 use Rattle.std.specs.Prelude.{ℕ, zero, suc, Option, Some, None, option_map}
 use Rattle.std.specs.Option.{unwrap_or}
 use Rattle.serde_json.specs.Data.{Data}
