@@ -45,9 +45,11 @@ around g scope is =
 sides : (g : Games) (scope : Scope) → IsScope g scope →
     DiffersOnlyAt is_home g (exchanged_by g scope.attempt.exchange) (box (has scope.turning) (has scope.main.rounds))
 sides g scope is =
-    subst (λ (main : TouchedCells). DiffersOnlyAt is_home g (exchanged_by g scope.attempt.exchange) (box (has scope.turning) (has main.rounds)))
+    subst (λ (main : TouchedCells). DiffersOnlyAt is_home g (exchanged_by g scope.attempt.exchange)
+    (box (has scope.turning) (has main.rounds)))
     (sym is.main)
-    (subst (λ teams. DiffersOnlyAt is_home g (exchanged_by g scope.attempt.exchange) (box teams (has (main_cells scope.attempt.exchange).rounds)))
+    (subst (λ teams. DiffersOnlyAt is_home g (exchanged_by g scope.attempt.exchange)
+    (box teams (has (main_cells scope.attempt.exchange).rounds)))
     (sym (fun_ext is.turning)) (each_sides g scope.attempt.exchange is.can_be_made))
 
 round_robin_after : (g : Games) (scope : Scope) → IsScope g scope → IsDoubleRoundRobin (exchanged_by g scope.attempt.exchange)
@@ -110,7 +112,8 @@ phases_balance : (l : LeagueData) (g : Games) (scope : Scope) → IsScope g scop
     where_phased l (unphased g) + where_phased l (unphased_part (exchanged_by g scope.attempt.exchange) (has scope.main.teams))
 phases_balance l g scope are =
     counted_balances l.phased _ _ _ _
-    (unphased_balance_around g (exchanged_by g scope.attempt.exchange) (has scope.main.teams) (has scope.main.rounds) are.can_be_made.round_robin
+    (unphased_balance_around g (exchanged_by g scope.attempt.exchange) (has scope.main.teams) (has scope.main.rounds)
+    are.can_be_made.round_robin
     (round_robin_after g scope are) (around g scope are))
 
 -- all penalties

@@ -32,7 +32,7 @@ pub(crate) struct State {
     pub(crate) best: Option<Best>,
     /// The schedule at the best version, if there is one.
     pub(crate) best_schedule: Schedule,
-    /// What FA2 counted last, for the next count. It is large, and a board is passed by value: so it has a place of its own.
+    /// What FA2 counted last, for the next count. It is large and a board is passed by value, so it lies in a box.
     pub(crate) gaps: Box<KeptGaps>,
 }
 

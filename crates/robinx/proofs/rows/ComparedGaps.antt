@@ -1,10 +1,12 @@
 -- Loops over the teams of a table of gaps: which gaps and homes are right so far.
-use Rattle.std.proofs.Common.{◌≡◌, ◌≢◌, ℕ, ◌+◌, ◌<◌, ◌≤◌, ◌&&◌, ◌||◌, ◌==◌, not, nat_lt, Bool, true, false, if◌then◌else◌, List, [], length, get_or}
+use Rattle.std.proofs.Common.{◌≡◌, ◌≢◌, ℕ, ◌+◌, ◌<◌, ◌≤◌, ◌&&◌, ◌||◌, ◌==◌, not, nat_lt, Bool, true, false, if◌then◌else◌}
+use Rattle.std.proofs.Common.{List, [], length, get_or}
 use Rattle.std.proofs.Common.{refl, sym, ◌∙◌, ap, subst, inl, inr, arith, get_or-set_other}
 use Rattle.std.proofs.Math.ListN.{set, replicate}
 use Rattle.std.proofs.lemmas.Grind.{get_or-set_at, get_or_default_zero}
 use Rattle.std.proofs.lemmas.List.{get_or-replicate, length-set}
-use Rattle.std.proofs.lemmas.Bool.{cases_eq, cases_lt, eq-eqb, ne_eqb, eqb-true, eqb-false, lt-ltb, false≢true, and_parts, or_parts, not-true}
+use Rattle.std.proofs.lemmas.Bool.{cases_eq, cases_lt, eq-eqb, ne_eqb, eqb-true, eqb-false, lt-ltb, false≢true}
+use Rattle.std.proofs.lemmas.Bool.{and_parts, or_parts, not-true}
 use Rattle.league.specs.Sets.{has, IsBelow, IsWithoutLowest}
 use Rattle.league.proofs.ForCallers.{has_beyond, has_empty, others_kept, lowest_below, count_where_none}
 use Rattle.fixtures.specs.Games.{Games, round_count, is_home}
@@ -133,7 +135,8 @@ new_table playing teams slots empty limits gaps nothing tallied teams_are none f
         (subst (IsHomeRow (round_count playing) 0) (sym (get_or-replicate 40 t (replicate 80 0) [] t_below))
         (record {
           len = refl;
-          counts = λ r r_below. zero_at r (omega (arith, r_below, forty)) ∙ sym (count_where_none (r + 1) (has 0) (λ k k_below. has_empty k));
+          counts = λ r r_below.
+              zero_at r (omega (arith, r_below, forty)) ∙ sym (count_where_none (r + 1) (has 0) (λ k k_below. has_empty k));
         }))
 
 -- the homes of those teams that aren't left are a schedule's
@@ -282,7 +285,8 @@ module _ (g : Games) (before kept : GapTable) (left lowest rest stale more at at
       rows_len = length-set kept.rows at2 row ∙ so_far.table.rows_len;
       rows = λ t in_teams. elim (cases_eq t lowest) [
         | inl same ↦
-            subst (λ (k : ℕ). IsHomeRow (round_count kept.playing) (get_or (set kept.homes at home) k 0) (get_or (set kept.rows at2 row) k []))
+            subst (λ (k : ℕ). IsHomeRow (round_count kept.playing) (get_or (set kept.homes at home) k 0)
+            (get_or (set kept.rows at2 row) k []))
             (sym same)
             (subst (λ (h : ℕ). IsHomeRow (round_count kept.playing) h (get_or (set kept.rows at2 row) lowest [])) (sym home_here)
             (subst (IsHomeRow (round_count kept.playing) home) (sym row_here)
@@ -423,7 +427,8 @@ followed_more before kept g stale left lowest rest lower new so_far taken member
         (sym (ap (λ s. has s o) so_far.homes.is_for.teams) ∙ in_o)
         (ap (λ b. has before.gaps.teams o && b) (swap (has stale lowest) (has stale o)) ∙ sym (members o lt) ∙ out))
 
-pub followed_all : (before kept : GapTable) (g : Games) (stale left : ℕ) (overs : List ℕ) → left ≡ 0 → HasFollowed before kept g stale left →
+pub followed_all : (before kept : GapTable) (g : Games) (stale left : ℕ) (overs : List ℕ) → left ≡ 0 →
+    HasFollowed before kept g stale left →
     ((most : ℕ) → most < 80 → get_or overs most 0 ≡ sum_of_gaps kept.gaps.teams kept.gaps.worst (λ gap. over gap most)) →
     IsWholeTable (record {
       playing = kept.playing;

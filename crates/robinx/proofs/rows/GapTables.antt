@@ -78,7 +78,9 @@ module _ (g : Games) (kept : GapTable) (slots most : ℕ) (rr : IsDoubleRoundRob
   unfolding deviation worst_gaps
   table_tells =
       sum_below_past g.teams 40 (λ t. if has teams t then sum_where t (has teams) (λ o. over (gap_at kept.gaps.worst t o) most) else 0)
-      rr.most (λ t past below. cond-false {A = ℕ} (has teams t) _ 0 (has_beyond g.teams teams t (rw (← is.is_for.playing) table.below) past)) ∙
+      rr.most
+      (λ t past below. cond-false {A = ℕ} (has teams t) _ 0
+      (has_beyond g.teams teams t (rw (← is.is_for.playing) table.below) past)) ∙
       sum_below_same g.teams _ _ (λ t below. at t (has teams t) refl)
     where
       teams : ℕ

@@ -1,5 +1,6 @@
 -- How many pairs have each gap: a table and its tallies, changed in one pair.
-use Rattle.std.proofs.Common.{◌≡◌, ◌≢◌, ℕ, ◌+◌, ◌-◌, ◌*◌, ◌<◌, ◌≤◌, ◌&&◌, ◌==◌, nat_lt, Bool, true, false, if◌then◌else◌, List, [], length, get_or, refl, sym, ◌∙◌}
+use Rattle.std.proofs.Common.{◌≡◌, ◌≢◌, ℕ, ◌+◌, ◌-◌, ◌*◌, ◌<◌, ◌≤◌, ◌&&◌, ◌==◌, nat_lt, Bool, true, false, if◌then◌else◌}
+use Rattle.std.proofs.Common.{List, [], length, get_or, refl, sym, ◌∙◌}
 use Rattle.std.proofs.Common.{ap, inl, inr, arith, get_or-set_other}
 use Rattle.std.proofs.Math.ListN.{set, replicate, get_or-eq_default}
 use Rattle.std.proofs.lemmas.Grind.{get_or-set_at}
@@ -187,7 +188,9 @@ module _ (gaps : Gaps) (team lower gap row column : ℕ) (so_far : AreTallied ga
   written = set gaps.worst row (set (get_or gaps.worst row []) column gap)
 
   row_written : get_or written row [] ≡ set (get_or gaps.worst row []) column gap
-  row_written = get_or-set_at gaps.worst row row (set (get_or gaps.worst row []) column gap) [] refl (omega (arith, at_team, in_table, so_far.rows))
+  row_written =
+      get_or-set_at gaps.worst row row (set (get_or gaps.worst row []) column gap) [] refl
+      (omega (arith, at_team, in_table, so_far.rows))
 
   row_kept : (t : ℕ) → t ≢ row → get_or written t [] ≡ get_or gaps.worst t []
   row_kept t apart = get_or-set_other gaps.worst row t (set (get_or gaps.worst row []) column gap) [] apart
@@ -387,15 +390,22 @@ module _ (gaps : Gaps) (overs : List ℕ) (pairs total step : ℕ) (tallied : Ar
       one_tally gaps.tallies (most + 1) (omega (arith, begun, below)) in
       let sum : sum_of_tallies gaps.tallies (is_above most) ≡
       sum_of_tallies gaps.tallies (is_above (most + 1)) + sum_of_tallies gaps.tallies (λ gap. if gap == most + 1 then 1 else 0) =
-      tallies_add gaps.tallies (is_above most) (is_above (most + 1)) (λ gap. if gap == most + 1 then 1 else 0) (λ gap. one_above gap most) in
+      tallies_add gaps.tallies (is_above most) (is_above (most + 1)) (λ gap. if gap == most + 1 then 1 else 0)
+      (λ gap. one_above gap most) in
       ap (λ n. n + get_or gaps.tallies (most + 1) 0) so_many ∙
       ap (λ n. sum_of_tallies gaps.tallies (is_above (most + 1)) + n) (sym one) ∙ sym sum
 
   pub more_few : pairs + get_or gaps.tallies (most + 1) 0 ≤ 1600
   more_few =
-      omega (arith, more_are, tallied.tallied (is_above most) (above_none most), gaps_le gaps.teams gaps.worst (is_above most) (above_le most))
+      omega (
+        arith,
+        more_are,
+        tallied.tallied (is_above most) (above_none most),
+        gaps_le gaps.teams gaps.worst (is_above most) (above_le most),
+      )
 
-  pub overs_more : HasOvers gaps (set overs most (total + (pairs + get_or gaps.tallies (most + 1) 0))) (pairs + get_or gaps.tallies (most + 1) 0)
+  pub overs_more : HasOvers gaps (set overs most (total + (pairs + get_or gaps.tallies (most + 1) 0)))
+      (pairs + get_or gaps.tallies (most + 1) 0)
       (total + (pairs + get_or gaps.tallies (most + 1) 0)) (step + 1)
   overs_more = record {
     len = length-set overs most _ ∙ so_far.len;

@@ -208,15 +208,9 @@ fn turned(before: &Schedule, after: &Schedule) -> TeamSet {
     sides
 }
 
-/// What of the deviation isn't in the part.
-fn rest(
-    schedule: &Schedule,
-    league: &League,
-    main: Touched,
-    sides: TeamSet,
-    gaps: &mut KeptGaps,
-) -> Option<u64> {
-    only_deviation(schedule, league)?.checked_sub(part(schedule, league, main, sides, gaps)?)
+/// What of a deviation isn't in its part.
+fn rest(deviation: Option<u64>, part: Option<u64>) -> Option<u64> {
+    deviation?.checked_sub(part?)
 }
 
 /// The rest before the move and after it, of which the second is counted with what the first left behind.
@@ -230,8 +224,10 @@ fn rests(
     let main = made(&mut after, mv)?;
     let sides = turned(start, &after);
     let mut gaps = KeptGaps::new();
-    let before = rest(start, league, main, sides, &mut gaps);
-    Ok((before, rest(&after, league, main, sides, &mut gaps)))
+    let part_before = part(start, league, main, sides, &mut gaps);
+    let part_after = part(&after, league, main, sides, &mut gaps);
+    let before = rest(only_deviation(start, league), part_before);
+    Ok((before, rest(only_deviation(&after, league), part_after)))
 }
 
 fn check_rest(

@@ -7,7 +7,8 @@ pub returns-then-known-eq0-2 : goal.returns-then-known-eq0-2
 returns-then-known-eq0-2 c =
     rest_after c.args.league.now c.args.schedule.now c.args.scope.now _ _ c.teams.ensures.limits c.requires.same_size c.requires.scope
     c.requires.told
-    (none_taken c.args.league.now c.args.scope.now c.args.schedule.now _ _ c.requires.told c.args.scope.now.attempt.known c.requires.known c.if-known-eq0.true
+    (none_taken c.args.league.now c.args.scope.now c.args.schedule.now _ _ c.requires.told c.args.scope.now.attempt.known
+    c.requires.known c.if-known-eq0.true
     c.if-known-eq0-2.true)
 
 pub overflow_sub-result : goal.overflow_sub-result

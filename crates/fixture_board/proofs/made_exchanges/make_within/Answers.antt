@@ -41,7 +41,8 @@ score-requires-2 c =
     c.of-scope.ensures.attempt c.rest_of-rest.ensures in
     omega (
       arith,
-      rest_scores c.args.league.now c.of-scope.result (exchanged_by c.args.schedule.now c.args.attempt.now.exchange) c.rest_of-rest.result rest,
+      rest_scores c.args.league.now c.of-scope.result (exchanged_by c.args.schedule.now c.args.attempt.now.exchange)
+          c.rest_of-rest.result rest,
       score_after c.args.league.now c.args.schedule.now c.args.attempt.now.exchange c.teams.ensures.limits c.requires.same_size,
     )
 

@@ -12,18 +12,22 @@ loop-i-preserved c = record {
     arith,
     c.loop-i.invariant.hard,
     sum_below_more c.loop-i.i
-        (λ i. rule_part hard_penalty c.args.scope.now.main c.args.scope.now.turning c.args.schedule.now (slice_get c.args.league.now.rules i)),
+        (λ i. rule_part hard_penalty c.args.scope.now.main c.args.scope.now.turning c.args.schedule.now
+        (slice_get c.args.league.now.rules i)),
     rw c.breakable_part-part.ensures.value at c.of_rule-added.ensures.hard,
-    breakable_hard c.args.league.now c.args.schedule.now c.args.scope.now.main c.args.scope.now.turning c.args.scope.now.attempt.known c.requires.known c.loop-i.i
+    breakable_hard c.args.league.now c.args.schedule.now c.args.scope.now.main c.args.scope.now.turning
+        c.args.scope.now.attempt.known c.requires.known c.loop-i.i
         c.rule-rule.result.now (omega (arith, c.loop-i-test.true, c.rule_count-i-end.ensures.value)) c.rule-rule.ensures.value,
   );
   soft = omega (
     arith,
     c.loop-i.invariant.soft,
     sum_below_more c.loop-i.i
-        (λ i. rule_part soft_penalty c.args.scope.now.main c.args.scope.now.turning c.args.schedule.now (slice_get c.args.league.now.rules i)),
+        (λ i. rule_part soft_penalty c.args.scope.now.main c.args.scope.now.turning c.args.schedule.now
+        (slice_get c.args.league.now.rules i)),
     rw c.breakable_part-part.ensures.value at c.of_rule-added.ensures.soft,
-    breakable_soft c.args.league.now c.args.schedule.now c.args.scope.now.main c.args.scope.now.turning c.args.scope.now.attempt.known c.requires.known c.loop-i.i
+    breakable_soft c.args.league.now c.args.schedule.now c.args.scope.now.main c.args.scope.now.turning
+        c.args.scope.now.attempt.known c.requires.known c.loop-i.i
         c.rule-rule.result.now (omega (arith, c.loop-i-test.true, c.rule_count-i-end.ensures.value)) c.rule-rule.ensures.value,
   );
   hard_most = omega (arith, c.loop-i.invariant.hard_most, c.of_rule-added.ensures.hard_most);

@@ -7,7 +7,8 @@ pub loop-team-preserved : goal.loop-team-preserved
 loop-team-preserved c =
     followed_more _ _ _ _ _ _ _ _ _ c.loop-team.invariant c.in-Some.ensures.steps
     (λ o lower. c.partners-lower.ensures.members o lower ∙
-    ap (λ s. has s o && (has c.take_homes-stale.result o || has c.take_homes-stale.result c.in-Some.team)) c.take_homes-stale.ensures.homes.is_for.teams)
+    ap (λ s. has s o && (has c.take_homes-stale.result o || has c.take_homes-stale.result c.in-Some.team))
+    c.take_homes-stale.ensures.homes.is_for.teams)
     c.compare.ensures.tallied c.compare.ensures.teams
     c.compare.ensures.compared c.compare.ensures.others
 
