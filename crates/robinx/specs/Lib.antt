@@ -3,5 +3,6 @@ pub mod Gaps
 pub mod Laws
 pub mod LooksPast
 pub mod Parts
+pub mod Told
 pub mod Touches
 pub mod Walked

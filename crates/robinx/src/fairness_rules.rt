@@ -1,14 +1,12 @@
 //! Fairness rules: the numbers of home games stay close to each other.
 
-ghost use Rattle.std.specs.Prelude.{◌≡◌, if◌then◌else◌};
-ghost use Rattle.league.specs.Sets.{has, IsBelow};
+ghost use Rattle.std.specs.Prelude.{◌≡◌};
+ghost use Rattle.league.specs.Sets.{IsBelow};
 ghost use Rattle.league.specs.declared.rule.RuleBody.TheVariants as RuleBody;
 ghost use Rattle.fixtures.specs.Games.{round_count, IsDoubleRoundRobin};
 ghost use Rattle.robinx.specs.Deviations.{deviation};
-ghost use Rattle.robinx.specs.Touches.{has_touched_team};
 
 use crate::gap_table::GapTable;
-use crate::kept_gaps::KeptGaps;
 use fixtures::Schedule;
 use league::{SlotSet, TeamSet};
 
@@ -38,27 +36,5 @@ pub(crate) fn fa2(schedule: &Schedule, fairness: &Fairness) -> u64
 {
     let mut table = GapTable::new(schedule.teams(), fairness.teams, fairness.slots);
     table.follow(schedule);
-    table.over(schedule, fairness.most)
-}
-
-/// The part of `fa2` that a change of the sides of some teams can alter: all of it, since with the kept gaps that takes less than
-/// those pairs alone.
-#[tactic(auto, unfolding(crate::specs::Touches::has_touched_team))]
-pub(crate) fn fa2_with(
-    schedule: &Schedule,
-    fairness: &Fairness,
-    sides: TeamSet,
-    gaps: &mut KeptGaps,
-) -> u64
-    requires round_robin { IsDoubleRoundRobin schedule.now }
-    requires teams { IsBelow schedule.now.teams fairness.now.teams }
-    requires slots { IsBelow (round_count schedule.now.teams) fairness.now.slots }
-    ensures { result ≡ (if has_touched_team fairness.now.teams (has sides) then
-        deviation schedule.now (RuleBody.Fa2 fairness.now.teams fairness.now.slots fairness.now.most) else 0) }
-{
-    if fairness.teams.intersects(sides) {
-        gaps.fa2(schedule, fairness)
-    } else {
-        0
-    }
+    table.overs_of(schedule).over(fairness.most)
 }

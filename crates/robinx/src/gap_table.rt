@@ -3,12 +3,12 @@
 ghost use Rattle.std.specs.Prelude.{◌≡◌, ℕ, ◌<◌, ◌≤◌, ◌&&◌, ◌||◌, ◌==◌, not, Bool, true, false, slice_index};
 ghost use Rattle.league.specs.Limits.{max_teams};
 ghost use Rattle.league.specs.Sets.{has, IsBelow};
-ghost use Rattle.league.specs.declared.rule.RuleBody.TheVariants as RuleBody;
 ghost use Rattle.fixtures.specs.Games.{round_count, is_home, IsDoubleRoundRobin};
-ghost use Rattle.robinx.specs.Deviations.{deviation};
 ghost use Rattle.robinx.specs.Gaps.{AreTallied, IsGapTable, IsHomeRow, IsTableFor, IsTableOf, IsWholeTable, gap_at};
+ghost use Rattle.robinx.specs.Told.{TellsGaps};
 ghost use Rattle.robinx.specs.Walked.{row_length, row_of, worst_apart};
 
+use crate::gap_overs::GapOvers;
 use crate::gaps::Gaps;
 use crate::home_rows::{ROW, Row, TEAMS, home_games_by_round, limits, worst_apart};
 use crate::pairs::partners;
@@ -94,18 +94,19 @@ impl GapTable {
         self.overs = self.gaps.overs();
     }
 
-    /// The deviation of the schedule from a rule that allows gaps of at most `most`.
-    pub(crate) fn over(&self, schedule: &Schedule, most: u32) -> u64
+    /// What the schedule's gaps are over each number that may be the most.
+    pub(crate) fn overs_of(&self, schedule: &Schedule) -> GapOvers
         requires round_robin { IsDoubleRoundRobin schedule.now }
         requires table { IsWholeTable self.now }
         requires homes { IsTableOf self.now schedule.now self.now.gaps.teams self.now.slots }
-        ensures { result ≡ deviation schedule.now (RuleBody.Fa2 self.now.gaps.teams self.now.slots most) }
+        ensures told { TellsGaps schedule.now result }
+        ensures teams { result.teams ≡ self.now.gaps.teams }
+        ensures slots { result.slots ≡ self.now.slots }
     {
-        let most = most as usize;
-        if most < ROW {
-            self.overs[most].into()
-        } else {
-            0
+        GapOvers {
+            teams: self.gaps.teams,
+            slots: self.slots,
+            overs: self.overs,
         }
     }
 

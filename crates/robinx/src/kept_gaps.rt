@@ -2,12 +2,11 @@
 
 ghost use Rattle.std.specs.Prelude.{◌≡◌, true, if◌then◌else◌};
 ghost use Rattle.league.specs.Sets.{IsBelow};
-ghost use Rattle.league.specs.declared.rule.RuleBody.TheVariants as RuleBody;
 ghost use Rattle.fixtures.specs.Games.{round_count, IsDoubleRoundRobin};
-ghost use Rattle.robinx.specs.Deviations.{deviation};
 ghost use Rattle.robinx.specs.Gaps.{IsTableOf, IsWholeTable};
+ghost use Rattle.robinx.specs.Told.{TellsGaps};
 
-use crate::fairness_rules::Fairness;
+use crate::gap_overs::GapOvers;
 use crate::gap_table::GapTable;
 use fixtures::Schedule;
 use league::{SlotSet, TeamSet};
@@ -41,40 +40,46 @@ impl KeptGaps {
         }
     }
 
-    /// The worst gap of each pair of the teams, as `fa2` of fairness rules counts them.
-    pub(crate) fn fa2(&mut self, schedule: &Schedule, fairness: &Fairness) -> u64
+    /// What the gaps of the teams in the slots are over each number that may be the most.
+    pub(crate) fn overs(&mut self, schedule: &Schedule, teams: TeamSet, slots: SlotSet) -> GapOvers
         requires round_robin { IsDoubleRoundRobin schedule.now }
-        requires teams { IsBelow schedule.now.teams fairness.now.teams }
-        requires slots { IsBelow (round_count schedule.now.teams) fairness.now.slots }
-        ensures { result ≡
-            deviation schedule.now (RuleBody.Fa2 fairness.now.teams fairness.now.slots fairness.now.most) }
+        requires teams { IsBelow schedule.now.teams teams }
+        requires slots { IsBelow (round_count schedule.now.teams) slots }
+        ensures told { TellsGaps schedule.now result }
+        ensures teams { result.teams ≡ teams }
+        ensures slots { result.slots ≡ slots }
     {
         let from_second = self.second_is_last;
         let turns = if from_second {
-            turn_to(&self.second, &mut self.first, schedule, fairness)
+            turn_to(&self.second, &mut self.first, schedule, teams, slots)
         } else {
-            turn_to(&self.first, &mut self.second, schedule, fairness)
+            turn_to(&self.first, &mut self.second, schedule, teams, slots)
         };
         self.second_is_last = from_second != turns;
         if self.second_is_last {
-            self.second.over(schedule, fairness.most)
+            self.second.overs_of(schedule)
         } else {
-            self.first.over(schedule, fairness.most)
+            self.first.overs_of(schedule)
         }
     }
 }
 
 /// Makes one of the two tables that of the schedule, if neither is: the older one, from the last. Gives whether it is the older one.
-fn turn_to(last: &GapTable, older: &mut GapTable, schedule: &Schedule, fairness: &Fairness) -> bool
+fn turn_to(
+    last: &GapTable,
+    older: &mut GapTable,
+    schedule: &Schedule,
+    teams: TeamSet,
+    slots: SlotSet,
+) -> bool
     requires last { IsWholeTable last.now }
     requires older { IsWholeTable older.old }
     requires round_robin { IsDoubleRoundRobin schedule.now }
-    requires teams { IsBelow schedule.now.teams fairness.now.teams }
-    requires slots { IsBelow (round_count schedule.now.teams) fairness.now.slots }
+    requires teams { IsBelow schedule.now.teams teams }
+    requires slots { IsBelow (round_count schedule.now.teams) slots }
     ensures older { IsWholeTable older.new }
-    ensures told { IsTableOf (if result then older.new else last.now) schedule.now fairness.now.teams fairness.now.slots }
+    ensures told { IsTableOf (if result then older.new else last.now) schedule.now teams slots }
 {
-    let Fairness { teams, slots, .. } = *fairness;
     if last.is_of(schedule, teams, slots) {
         return false;
     }

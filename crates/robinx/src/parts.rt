@@ -7,20 +7,23 @@ ghost use Rattle.league.specs.Sets.{has, IsBelow};
 ghost use Rattle.fixtures.specs.Games.{IsDoubleRoundRobin};
 ghost use Rattle.robinx.specs.Deviations.{deviation};
 ghost use Rattle.robinx.specs.Parts.{counts_otherwise, changing_terms, deviation_part};
+ghost use Rattle.robinx.specs.Told.{IsTold};
 ghost use Rattle.robinx.specs.Walked.{counted_of};
 
 use crate::break_rules::{br1, br2_with};
-use crate::capacity_rules::{ca2, ca3_part, ca4_part};
+use crate::capacity_rules::{ca2, ca4_part};
 use crate::counts::{Capacity, CountedGames};
 use crate::deviations::deviation;
-use crate::fairness_rules::{Fairness, fa2_with};
+use crate::fairness_rules::Fairness;
 use crate::game_rules::has_moved_game;
 use crate::guests::{Around, teams_otherwise};
 use crate::kept_gaps::KeptGaps;
 use crate::separation_rules::se1_part;
+use crate::told::{Told, WindowRule};
 use crate::touched_rules::can_alter;
 use fixtures::{Schedule, Touched};
 use league::{Rule, RuleBody, TeamSet};
+use std::marker::Model;
 
 /// The part of the rule's [`deviation`](crate::deviation) that a change can alter: `main` has the teams that get other
 /// games and the rounds in which anything changes, and `sides` the teams that may change their sides. Other teams keep
@@ -39,24 +42,78 @@ pub fn deviation_part(
     ensures below { result < deviation_limit }
 {
     prove!(schedule.teams() > 0);
-    if !can_alter(rule, main.rounds) {
-        return 0;
+    PartCounter::new(schedule, main, sides).part(rule, gaps)
+}
+
+/// Counts for one rule after another the part of its deviation that a change can alter, as [`deviation_part`] does. What was counted for the
+/// last rules of CA3 and FA2 serves the next ones of the same games.
+///
+/// Contracts see the schedule and the change.
+#[derive(Drop)]
+pub struct PartCounter<'a> {
+    schedule: &'a Schedule,
+    change: Around,
+    told: Told,
+}
+
+impl<'a> Model for PartCounter<'a> {
+    ghost use Rattle.robinx.specs.Told.{Counting, IsTold};
+
+    ghost Value = { Counting };
+
+    ghost view = { λ c. record { games = c.schedule.now; main = c.change.main; rounds = c.change.rounds; sides = c.change.sides } };
+
+    ghost invariant = { λ c. IsTold c.schedule.now c.change.main c.change.rounds c.change.sides c.told };
+}
+
+impl<'a> PartCounter<'a> {
+    /// Nothing counted yet, on this schedule and around a change as [`deviation_part`] has it.
+    pub fn new(schedule: &'a Schedule, main: Touched, sides: TeamSet) -> Self
+        ensures { result ≡ record { games = schedule.now; main = main.teams; rounds = main.rounds; sides = sides } }
+    {
+        PartCounter {
+            schedule,
+            change: Around {
+                main: main.teams,
+                rounds: main.rounds,
+                sides,
+            },
+            told: Told::nothing(),
+        }
     }
-    let change = Around {
-        main: main.teams,
-        rounds: main.rounds,
-        sides,
-    };
-    changing_terms(schedule, rule, &change, gaps)
+
+    /// The part of the rule's deviation that the change can alter. What FA2 counts is kept in `gaps`, for the next schedule.
+    #[tactic(auto, unfolding(crate::specs::Parts::deviation_part))]
+    pub fn part(&mut self, rule: &Rule, gaps: &mut KeptGaps) -> u64
+        requires { IsBodyFor self.old.games.teams rule.now.body }
+        ensures value { result ≡ deviation_part self.old.games self.old.main self.old.rounds self.old.sides rule.now.body }
+        ensures below { result < deviation_limit }
+        ensures same { self.new ≡ self.old }
+    {
+        let schedule = self.schedule;
+        prove!(schedule.teams() > 0);
+        if !can_alter(rule, self.change.rounds) {
+            return 0;
+        }
+        changing_terms(schedule, rule, &self.change, &mut self.told, gaps)
+    }
 }
 
 /// The part for a rule whose deviation a change in its rounds can alter.
 #[tactic(auto, unfolding(crate::specs::Parts::changing_terms))]
-fn changing_terms(schedule: &Schedule, rule: &Rule, change: &Around, gaps: &mut KeptGaps) -> u64
+fn changing_terms(
+    schedule: &Schedule,
+    rule: &Rule,
+    change: &Around,
+    told: &mut Told,
+    gaps: &mut KeptGaps,
+) -> u64
     requires body { IsBodyFor schedule.now.teams rule.now.body }
     requires round_robin { IsDoubleRoundRobin schedule.now }
-    ensures { result ≡
+    requires told { IsTold schedule.now change.now.main change.now.rounds change.now.sides told.old }
+    ensures value { result ≡
         changing_terms schedule.now change.now.main change.now.rounds change.now.sides rule.now.body }
+    ensures told { IsTold schedule.now change.now.main change.now.rounds change.now.sides told.new }
 {
     let sides = change.sides;
     match &rule.body {
@@ -65,8 +122,12 @@ fn changing_terms(schedule: &Schedule, rule: &Rule, change: &Around, gaps: &mut 
             ca2(schedule, &games, *slots, *max)
         }
         RuleBody::Ca3 { window, max, .. } => {
-            let games = games_otherwise(schedule, rule, change);
-            ca3_part(schedule, &games, change.rounds, *window, *max)
+            let rule = WindowRule {
+                games: CountedGames::of(schedule, rule),
+                window: *window,
+                most: *max,
+            };
+            told.ca3(schedule, change, &rule)
         }
         RuleBody::Ca4 {
             slots,
@@ -90,7 +151,8 @@ fn changing_terms(schedule: &Schedule, rule: &Rule, change: &Around, gaps: &mut 
         RuleBody::Br2 { teams, slots, most } => { br2_with(schedule, *teams, sides, *slots, *most) }
         RuleBody::Se1 { teams, min } => se1_part(schedule, *teams, change, *min),
         RuleBody::Fa2 { teams, slots, most } => {
-            fa2_with(schedule, &Fairness::new(*teams, *slots, *most), sides, gaps)
+            let fairness = Fairness::new(*teams, *slots, *most);
+            told.fa2(schedule, change, &fairness, gaps)
         }
     }
 }

@@ -4,12 +4,12 @@ use Rattle.league.specs.Sets.{has, all_numbers}
 use Rattle.league.proofs.ForCallers.{has_all_numbers}
 use Rattle.robinx.specs.Parts.{counts_otherwise, changing_terms}
 use Rattle.robinx.proofs.rows.AllTeams.{Ca2-all}
-use Rattle.robinx.proofs.balances.PartTerms.{Ca1-terms, Ca2-terms, Ca3-terms, Br1-terms, otherwise_turned}
+use Rattle.robinx.proofs.balances.PartTerms.{Ca1-terms, Ca2-terms, Br1-terms, otherwise_turned}
 use Rattle.robinx.proofs.parts.changing_terms.Goals as goal
 
-pub returns-in-Ca1 : goal.returns-in-Ca1
-returns-in-Ca1 c =
-    let games = c.games_otherwise-games-in-Ca1 in
+pub returns-in-Ca1-clause-value : goal.returns-in-Ca1-clause-value
+returns-in-Ca1-clause-value c =
+    let games = c.games_otherwise-games in
     elim c.in-Ca1.is [
       | inl is ↦
           let all = all_numbers c.args.schedule.now.teams in
@@ -33,17 +33,8 @@ returns-in-Ca1 c =
           ap (changing_terms c.args.schedule.now c.args.change.now.main c.args.change.now.rounds c.args.change.now.sides) (sym is.3)
     ]
 
-pub returns-in-Ca3 : goal.returns-in-Ca3
-returns-in-Ca3 c =
-    rw (rw c.in-Ca3.is at c.games_otherwise-games.ensures.side, rw c.in-Ca3.is at c.games_otherwise-games.ensures.opponents) at
-    c.ca3_part.ensures ∙
-    Ca3-terms c.args.schedule.now c.args.change.now.main c.args.change.now.rounds c.args.change.now.sides c.in-Ca3.teams1 c.in-Ca3.side
-    c.in-Ca3.teams2 c.in-Ca3.window c.in-Ca3.max c.games_otherwise-games.result.teams
-    (rw c.in-Ca3.is at c.games_otherwise-games.ensures.members) ∙
-    ap (changing_terms c.args.schedule.now c.args.change.now.main c.args.change.now.rounds c.args.change.now.sides) (sym c.in-Ca3.is)
-
-pub returns-in-Br1 : goal.returns-in-Br1
-returns-in-Br1 c =
+pub returns-in-Br1-clause-value : goal.returns-in-Br1-clause-value
+returns-in-Br1-clause-value c =
     c.br1.ensures ∙
     Br1-terms c.args.schedule.now c.args.change.now.main c.args.change.now.rounds c.args.change.now.sides c.in-Br1.teams c.in-Br1.side
     c.in-Br1.slots c.in-Br1.most c.intersection.result c.intersection.ensures.members ∙

@@ -1,0 +1,141 @@
+//! What the last rules counted on a schedule, for the next rules of the same games.
+
+ghost use Rattle.std.specs.Prelude.{◌≡◌, ℕ, ◌≤◌, if◌then◌else◌, true};
+ghost use Rattle.league.specs.Sets.{has, IsBelow};
+ghost use Rattle.league.specs.declared.rule.RuleBody.TheVariants as RuleBody;
+ghost use Rattle.fixtures.specs.Games.{Games, round_count, IsDoubleRoundRobin};
+ghost use Rattle.robinx.specs.Deviations.{deviation};
+ghost use Rattle.robinx.specs.Parts.{changing_terms};
+ghost use Rattle.robinx.specs.Told.{IsTold};
+ghost use Rattle.robinx.specs.Touches.{has_touched_team};
+
+use crate::capacity_rules::ca3_part;
+use crate::counts::CountedGames;
+use crate::fairness_rules::Fairness;
+use crate::gap_overs::GapOvers;
+use crate::guests::{Around, teams_otherwise};
+use crate::kept_gaps::KeptGaps;
+use fixtures::Schedule;
+use league::TeamSet;
+
+/// A rule of class CA3: in each window of consecutive rounds at most so many of these games.
+#[derive(Clone, Copy, Drop)]
+pub(crate) struct WindowRule {
+    pub games: CountedGames,
+    pub window: u32,
+    pub most: u32,
+}
+
+impl WindowRule {
+    /// Whether the other counts the same games in the same windows, and allows as many.
+    fn is_same(&self, other: &WindowRule) -> bool
+        ensures { result ≡ true → self.now ≡ other.now }
+    {
+        let games = &self.games;
+        let others = &other.games;
+        games.teams == others.teams
+            && games.side == others.side
+            && games.opponents == others.opponents
+            && self.window == other.window
+            && self.most == other.most
+    }
+}
+
+/// A rule of class CA3, and what a change can alter of its deviation.
+#[derive(Clone, Copy, Drop)]
+pub(crate) struct ToldWindows {
+    pub rule: WindowRule,
+    pub over: u64,
+}
+
+/// What was counted for the last rules of CA3 and of FA2, on one schedule around one change.
+#[derive(Drop)]
+pub(crate) struct Told {
+    pub windows: Option<ToldWindows>,
+    pub gaps: Option<GapOvers>,
+}
+
+impl Told {
+    /// Nothing counted yet.
+    pub(crate) fn nothing() -> Self
+        ensures { (g : Games) (main rounds sides : ℕ) → IsTold g main rounds sides result }
+    {
+        Told {
+            windows: None,
+            gaps: None,
+        }
+    }
+
+    /// What the change can alter of the deviation from a rule of class CA3.
+    pub(crate) fn ca3(&mut self, schedule: &Schedule, change: &Around, rule: &WindowRule) -> u64
+        requires round_robin { IsDoubleRoundRobin schedule.now }
+        requires teams { IsBelow schedule.now.teams rule.now.games.teams }
+        requires least { 1 ≤ rule.now.window }
+        requires window { rule.now.window ≤ round_count schedule.now.teams }
+        requires told { IsTold schedule.now change.now.main change.now.rounds change.now.sides self.old }
+        ensures told { IsTold schedule.now change.now.main change.now.rounds change.now.sides self.new }
+        ensures value { result ≡ changing_terms schedule.now change.now.main change.now.rounds change.now.sides
+            (RuleBody.Ca3 rule.now.games.teams rule.now.games.side rule.now.games.opponents rule.now.window rule.now.most) }
+    {
+        if let Some(told) = &self.windows {
+            if told.rule.is_same(rule) {
+                return told.over;
+            }
+        }
+        let over = met_windows(schedule, change, rule);
+        self.windows = Some(ToldWindows { rule: *rule, over });
+        over
+    }
+
+    /// The part of the deviation from a rule of class FA2 that a change of the sides of some teams can alter: all of it, since with the
+    /// kept gaps that takes less than those pairs alone.
+    #[tactic(auto, unfolding(crate::specs::Touches::has_touched_team))]
+    pub(crate) fn fa2(
+        &mut self,
+        schedule: &Schedule,
+        change: &Around,
+        fairness: &Fairness,
+        gaps: &mut KeptGaps,
+    ) -> u64
+        requires round_robin { IsDoubleRoundRobin schedule.now }
+        requires teams { IsBelow schedule.now.teams fairness.now.teams }
+        requires slots { IsBelow (round_count schedule.now.teams) fairness.now.slots }
+        requires told { IsTold schedule.now change.now.main change.now.rounds change.now.sides self.old }
+        ensures told { IsTold schedule.now change.now.main change.now.rounds change.now.sides self.new }
+        ensures value { result ≡ (if has_touched_team fairness.now.teams (has change.now.sides) then
+            deviation schedule.now (RuleBody.Fa2 fairness.now.teams fairness.now.slots fairness.now.most) else 0) }
+    {
+        if !fairness.teams.intersects(change.sides) {
+            return 0;
+        }
+        let Fairness { teams, slots, most } = *fairness;
+        if let Some(told) = &self.gaps {
+            if told.is_of(teams, slots) {
+                return told.over(most);
+            }
+        }
+        let told = gaps.overs(schedule, teams, slots);
+        let over = told.over(most);
+        self.gaps = Some(told);
+        over
+    }
+}
+
+/// The windows of a rule of class CA3 that the change can alter, over the most.
+fn met_windows(schedule: &Schedule, change: &Around, rule: &WindowRule) -> u64
+    requires round_robin { IsDoubleRoundRobin schedule.now }
+    requires teams { IsBelow schedule.now.teams rule.now.games.teams }
+    requires least { 1 ≤ rule.now.window }
+    requires window { rule.now.window ≤ round_count schedule.now.teams }
+    ensures { result ≡ changing_terms schedule.now change.now.main change.now.rounds change.now.sides
+        (RuleBody.Ca3 rule.now.games.teams rule.now.games.side rule.now.games.opponents rule.now.window rule.now.most) }
+{
+    let CountedGames {
+        teams,
+        side,
+        opponents,
+    } = rule.games;
+    let otherwise = teams_otherwise(schedule, change, teams, opponents);
+    let games = CountedGames::new(otherwise, side, opponents);
+    ca3_part(schedule, &games, change.rounds, rule.window, rule.most)
+}
