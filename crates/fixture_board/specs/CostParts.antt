@@ -16,6 +16,7 @@ use Rattle.tours.specs.Runs.{runs_over}
 use Rattle.tours.specs.Repeats.{repeats}
 use Rattle.tours.specs.Phased.{unphased_part}
 use Rattle.robinx.specs.Parts.{deviation_part}
+use Rattle.robinx.specs.Told.{Counting}
 use Rattle.fixture_board.specs.Costs.{cost_of, hard_penalty, soft_penalty, score_limit, where_phased}
 use Rattle.fixture_board.specs.declared.cost.Cost.{Cost}
 use Rattle.fixture_board.specs.declared.penalties.Penalties.{Penalties}
@@ -26,6 +27,11 @@ pub record IsScope (g : Games) (scope : Scope) : Type 0 where
   pub can_be_made : IsExchange g scope.attempt.exchange
   pub main : scope.main ≡ main_cells scope.attempt.exchange
   pub turning : (t : ℕ) → has scope.turning t ≡ turning_team g scope.attempt.exchange t
+
+-- what parts are counted of: a schedule, and the change that the scope's exchange is
+abbrev pub counting_of : Games → Scope → Counting
+counting_of g scope =
+    record { games = g; main = scope.main.teams; rounds = scope.main.rounds; sides = scope.turning }
 
 -- the hard costs of every league: runs and repeats
 abbrev pub games_cost : LeagueData → Games → ℕ

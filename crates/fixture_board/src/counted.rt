@@ -16,7 +16,7 @@ use crate::rule_costs::parts_of_rules;
 use crate::scope::Scope;
 use fixtures::{Schedule, Touched};
 use league::League;
-use robinx::{KeptGaps, deviation_part};
+use robinx::{KeptGaps, PartCounter};
 use tours::unphased_part;
 
 /// A told cost without the penalties that the exchange can change. None of them is counted if the known cost has none.
@@ -65,12 +65,13 @@ pub(crate) fn whole_within(
         hard: rest.hard + phases_part(schedule, league, scope.main),
         ..rest
     };
+    let mut parts = PartCounter::new(schedule, scope.main, scope.turning);
     for i in 0..league.rule_count() {
         if cost.score(league) > most {
             return None;
         }
         let rule = league.rule(i);
-        let part = deviation_part(schedule, rule, scope.main, scope.turning, gaps);
+        let part = parts.part(rule, gaps);
         let added = Penalties::of_rule(rule.weight, part);
         cost.hard += added.hard;
         cost.soft += added.soft;
