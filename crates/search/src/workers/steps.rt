@@ -131,9 +131,8 @@ pub(crate) fn step<R: Wait, D: Door, G: HearingGate>(
     if let Err(_) = check(copy, mv) {
         return StepResult::Nothing;
     }
-    let exchange = exchange(copy, mv);
     let attempt = Attempt {
-        exchange,
+        exchange: exchange(copy, mv),
         known: kept.known.cost,
         most: kept.known.score.saturating_add(trial.slack),
     };
@@ -142,7 +141,7 @@ pub(crate) fn step<R: Wait, D: Door, G: HearingGate>(
     };
     let score = cost.score(measure.league);
     if door.front(rt) != kept.known.version {
-        exchange.make(copy);
+        attempt.exchange.make(copy);
         kept.known = refresh(rt, door, measure, copy);
         return StepResult::Nothing;
     }
@@ -156,7 +155,7 @@ pub(crate) fn step<R: Wait, D: Door, G: HearingGate>(
     let reply = door.propose(rt, proposal);
     gate.left(rt, trial.worker, trial.made, reply);
     let made = Made {
-        exchange,
+        exchange: attempt.exchange,
         cost,
         score,
         reply,
