@@ -1,5 +1,6 @@
 -- Rows: of home games, of counted teams by rounds, of windows.
 pub mod HomeRows
+pub mod Lanes
 pub mod RowsByRounds
 pub mod Tallies
 pub mod GapTables

@@ -1,11 +1,11 @@
 -- Words for the gaps of pairs that FA2 keeps from one schedule to the next.
-use Rattle.std.specs.Prelude.{◌≡◌, ℕ, ◌+◌, ◌*◌, ◌<◌, ◌≤◌, Bool, true, if◌then◌else◌, List, length, slice_index}
+use Rattle.std.specs.Prelude.{◌≡◌, ℕ, ◌+◌, ◌*◌, ◌<◌, ◌≤◌, Bool, true, not, if◌then◌else◌, List, length, slice_index}
 use Rattle.league.specs.Limits.{max_teams}
 use Rattle.league.specs.Sets.{has, IsBelow}
 use Rattle.league.specs.Sums.{sum_below, sum_where, count_where}
 use Rattle.fixtures.specs.Games.{Games, round_count, is_home}
 use Rattle.robinx.specs.Deviations.{over}
-use Rattle.robinx.specs.Walked.{row_length, row_of, worst_apart}
+use Rattle.robinx.specs.Walked.{row_length, row_of, worst_apart, one_in}
 use Rattle.robinx.specs.declared.gaps.Gaps.{Gaps}
 use Rattle.robinx.specs.declared.gap_table.GapTable.{GapTable}
 
@@ -30,10 +30,14 @@ pub record AreTallied (gaps : Gaps) : Type 0 where
   pub small : (t o : ℕ) → gap_at gaps.worst t o < row_length
   pub tallied : (f : ℕ → ℕ) → f 0 ≡ 0 → sum_of_tallies gaps.tallies f ≡ sum_of_gaps gaps.teams gaps.worst f
 
--- a row has the home games, up to and with each round of a season, of a team that is at home in a set of rounds
-pub record IsHomeRow (rounds home : ℕ) (row : List ℕ) : Type 0 where
+-- a row has, in each slot, the home games up to and with it of a team that is at home in the rounds that pass a test, and else 0
+pub record IsHomeRow (in_slots : List ℕ) (home : ℕ → Bool) (row : List ℕ) : Type 0 where
   pub len : length row ≡ row_length
-  pub counts : (r : ℕ) → r < rounds → slice_index row r ≡ count_where (r + 1) (has home)
+  pub counts : (r : ℕ) → slice_index row r ≡ slice_index in_slots r * count_where (r + 1) home
+
+-- whether a team is at home in a round: as it will be, but in the rounds that are left to turn
+abbrev pub is_home_with : ℕ → ℕ → ℕ → Bool
+is_home_with homes left r = if has left r then not (has homes r) else has homes r
 
 -- a table has the rows of its teams, and the gaps of those pairs that pass a test
 pub record IsGapTable (kept : GapTable) (right : ℕ → ℕ → Bool) : Type 0 where
@@ -43,11 +47,11 @@ pub record IsGapTable (kept : GapTable) (right : ℕ → ℕ → Bool) : Type 0 
   pub homes_len : length kept.homes ≡ max_teams
   pub rows_len : length kept.rows ≡ max_teams
   pub rows : (t : ℕ) → has kept.gaps.teams t ≡ true →
-      IsHomeRow (round_count kept.playing) (slice_index kept.homes t) (row_of kept.rows t)
-  pub limits : (r : ℕ) → slice_index kept.limits r ≡ (if has kept.slots r then 255 else 0)
+      IsHomeRow kept.in_slots (has (slice_index kept.homes t)) (row_of kept.rows t)
+  pub in_slots : (r : ℕ) → slice_index kept.in_slots r ≡ one_in kept.slots r
   pub slots : IsBelow (round_count kept.playing) kept.slots
   pub worst : (t o : ℕ) → has kept.gaps.teams t ≡ true → has kept.gaps.teams o ≡ true → o < t → right t o ≡ true →
-      gap_at kept.gaps.worst t o ≡ worst_apart (row_of kept.rows o) (row_of kept.rows t) kept.limits
+      gap_at kept.gaps.worst t o ≡ worst_apart (row_of kept.rows o) (row_of kept.rows t)
 
 -- a whole table has all gaps, and what of them is over each number
 pub record IsWholeTable (kept : GapTable) : Type 0 where

@@ -1,5 +1,5 @@
 -- What private functions count on the way: words of theirs alone.
-use Rattle.std.specs.Prelude.{◌≡◌, ℕ, ◌+◌, ◌-◌, ◌*◌, Bool, true, if◌then◌else◌, ◌<◌, ◌&&◌, ◌||◌, not, nat_lt, min, List, [], length}
+use Rattle.std.specs.Prelude.{◌≡◌, ℕ, ◌+◌, ◌-◌, ◌*◌, Bool, true, if◌then◌else◌, ◌<◌, ◌&&◌, ◌||◌, not, nat_lt, List, []}
 use Rattle.std.specs.Prelude.{slice_index, slice_index_or}
 use Rattle.std.specs.Int.{abs_diff}
 use Rattle.league.specs.Sets.{has, all_numbers}
@@ -9,7 +9,7 @@ use Rattle.league.specs.declared.rule.RuleBody.TheVariants.{Ca1, Ca2, Ca3, Ca4}
 use Rattle.league.specs.declared.rule.Side.{Side}
 use Rattle.league.specs.declared.rule.Side.TheVariants.{Home, Away, Any}
 use Rattle.fixtures.specs.Games.{Games, round_count}
-use Rattle.robinx.specs.Deviations.{over, is_counted, games_in_window, home_games, largest_below}
+use Rattle.robinx.specs.Deviations.{over, is_counted, games_in_window, largest_below}
 use Rattle.robinx.specs.declared.counts.CountedGames.{CountedGames}
 use Rattle.robinx.specs.declared.round_numbers.RoundNumbers.{RoundNumbers}
 
@@ -46,26 +46,33 @@ HaveCounted g side opponents rows =
 abbrev pub row_length : ℕ
 row_length = 80
 
+-- how many numbers of a row the machine compares at once
+abbrev pub lane_count : ℕ
+lane_count = 16
+
 -- whether a main team counts its pair with another: one of two main teams counts at the higher
 abbrev pub counts_pair : ℕ → ℕ → ℕ → Bool
 counts_pair main team other = nat_lt other team || (nat_lt team other && not (has main other))
-
--- a row has a team's home games up to and with each round
-pub record IsRowOf (g : Games) (team : ℕ) (row : List ℕ) : Type 0 where
-  pub len : length row ≡ row_length
-  pub counts : (r : ℕ) → r < round_count g.teams → slice_index row r ≡ home_games g team r
 
 -- the row of a team
 abbrev pub row_of : List (List ℕ) → ℕ → List ℕ
 row_of rows team = slice_index_or rows team []
 
--- by how much two rows are apart in a round, or the limit of the round if that is less
-abbrev pub apart_within : List ℕ → List ℕ → List ℕ → ℕ → ℕ
-apart_within first second limits r = min (abs_diff (slice_index first r) (slice_index second r)) (slice_index limits r)
+-- by how much two rows are apart in a round
+abbrev pub apart_in : List ℕ → List ℕ → ℕ → ℕ
+apart_in first second r = abs_diff (slice_index first r) (slice_index second r)
 
 -- the largest of these
-unfoldable pub worst_apart : List ℕ → List ℕ → List ℕ → ℕ
-worst_apart first second limits = largest_below row_length (apart_within first second limits)
+unfoldable pub worst_apart : List ℕ → List ℕ → ℕ
+worst_apart first second = largest_below row_length (apart_in first second)
+
+-- 0 as long as a row is, and then 1 as long
+abbrev pub IsStep : List ℕ → Type 0
+IsStep step = (k : ℕ) → k < 2 * row_length → slice_index step k ≡ (if nat_lt k row_length then 0 else 1)
+
+-- the number of a row in a round from the first on, and 0 before it
+abbrev pub from_on : ℕ → List ℕ → ℕ → ℕ
+from_on first row r = if nat_lt r first then 0 else slice_index row r
 
 -- 1 in each round of a set, and 0 in the others
 abbrev pub one_in : ℕ → ℕ → ℕ

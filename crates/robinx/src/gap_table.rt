@@ -10,7 +10,7 @@ ghost use Rattle.robinx.specs.Walked.{row_length, row_of, worst_apart};
 
 use crate::gap_overs::GapOvers;
 use crate::gaps::Gaps;
-use crate::home_rows::{ROW, Row, TEAMS, home_games_by_round, limits, worst_apart};
+use crate::home_rows::{ROW, Row, TEAMS, in_slots, step, turn, worst_apart};
 use crate::pairs::partners;
 use fixtures::Schedule;
 use league::{SlotSet, TeamSet};
@@ -21,11 +21,11 @@ pub(crate) struct GapTable {
     /// How many teams its schedules have.
     pub playing: u8,
     pub slots: SlotSet,
-    /// 255 in each slot, and 0 in each other round.
-    pub limits: Row,
+    /// 1 in each slot, and 0 in each other round.
+    pub in_slots: Row,
     /// The rounds in which each team is at home.
     pub homes: [SlotSet; TEAMS],
-    /// How many home games each team has up to and with each round.
+    /// How many home games each team has up to and with each slot, and 0 in each other round.
     pub rows: [Row; TEAMS],
     pub gaps: Gaps,
     /// What of the gaps is over each number that may be the most.
@@ -45,7 +45,7 @@ impl GapTable {
         GapTable {
             playing,
             slots,
-            limits: limits(slots, rounds),
+            in_slots: in_slots(slots, rounds),
             homes: [SlotSet::empty(); TEAMS],
             rows: [[0; ROW]; TEAMS],
             gaps: Gaps::none(teams),
@@ -89,7 +89,7 @@ impl GapTable {
         let teams = self.gaps.teams;
         for team in teams {
             let lower = partners(teams, stale, team);
-            compare(&mut self.gaps, &self.rows, &self.limits, team, lower);
+            compare(&mut self.gaps, &self.rows, team, lower);
         }
         self.overs = self.gaps.overs();
     }
@@ -118,14 +118,23 @@ impl GapTable {
         ensures table { IsGapTable self.new (λ t o. not (has result t || has result o)) }
         ensures homes { IsTableOf self.new schedule.now self.old.gaps.teams self.old.slots }
     {
+        let step = step();
         let mut stale = TeamSet::empty();
         for team in self.gaps.teams {
             let homes = schedule.home_rounds(team);
-            if self.homes[usize::from(team)] == homes {
+            let before = self.homes[usize::from(team)];
+            if before == homes {
                 continue;
             }
+            let changed = before.symmetric_difference(homes);
             self.homes[usize::from(team)] = homes;
-            self.rows[usize::from(team)] = home_games_by_round(schedule, team);
+            turn(
+                &mut self.rows[usize::from(team)],
+                changed,
+                homes,
+                &step,
+                &self.in_slots,
+            );
             stale = stale.with(team);
         }
         stale
@@ -133,23 +142,23 @@ impl GapTable {
 }
 
 /// Counts the gaps of the team and each of these lower teams, by their rows.
-fn compare(gaps: &mut Gaps, rows: &[Row; TEAMS], limits: &Row, team: u8, lower: TeamSet)
+fn compare(gaps: &mut Gaps, rows: &[Row; TEAMS], team: u8, lower: TeamSet)
     requires tallied { AreTallied gaps.old }
     requires team { team < max_teams }
     requires has_team { has gaps.old.teams team ≡ true }
     requires has_lower { (o : ℕ) → has lower o ≡ true → has gaps.old.teams o ≡ true }
     requires below { IsBelow team lower }
     requires small { (o : ℕ) → has lower o ≡ true →
-        worst_apart (row_of rows.now o) (row_of rows.now team) limits.now < row_length }
+        worst_apart (row_of rows.now o) (row_of rows.now team) < row_length }
     ensures tallied { AreTallied gaps.new }
     ensures teams { gaps.new.teams ≡ gaps.old.teams }
     ensures compared { (o : ℕ) → has lower o ≡ true →
-        gap_at gaps.new.worst team o ≡ worst_apart (row_of rows.now o) (row_of rows.now team) limits.now }
+        gap_at gaps.new.worst team o ≡ worst_apart (row_of rows.now o) (row_of rows.now team) }
     ensures others { (t o : ℕ) → (t == team && has lower o) ≡ false → gap_at gaps.new.worst t o ≡ gap_at gaps.old.worst t o }
 {
     let own = &rows[usize::from(team)];
     for other in lower {
-        let gap = worst_apart(&rows[usize::from(other)], own, limits);
+        let gap = worst_apart(&rows[usize::from(other)], own);
         gaps.set(team, other, gap);
     }
 }

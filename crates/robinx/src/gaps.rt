@@ -51,6 +51,10 @@ impl Gaps {
         let row = usize::from(team);
         let column = usize::from(lower);
         let before = self.worst[row][column];
+        // most gaps stay as they are
+        if before == gap {
+            return;
+        }
         self.worst[row][column] = gap;
         drop_one(&mut self.tallies, before);
         add_one(&mut self.tallies, gap);

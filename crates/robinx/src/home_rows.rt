@@ -1,61 +1,142 @@
-//! Rows of home games: how many a team has up to and with each round.
+//! Rows of home games: how many a team has up to and with each slot.
 
-ghost use Rattle.std.specs.Prelude.{◌≡◌, ℕ, ◌<◌, ◌≤◌, if◌then◌else◌, slice_index};
+ghost use Rattle.std.specs.Prelude.{◌≡◌, ℕ, ◌+◌, ◌<◌, ◌≤◌, length, max, slice_index};
 ghost use Rattle.league.specs.Limits.{max_rounds};
 ghost use Rattle.league.specs.Sets.{has, IsBelow};
-ghost use Rattle.robinx.specs.Walked.{IsRowOf, worst_apart};
+ghost use Rattle.robinx.specs.Deviations.{largest_below};
+ghost use Rattle.robinx.specs.Gaps.{IsHomeRow, is_home_with};
+ghost use Rattle.robinx.specs.Walked.{IsStep, apart_in, from_on, lane_count, one_in, row_length, worst_apart};
 
-use fixtures::Schedule;
 use league::SlotSet;
 use league::limits::MAX_TEAMS;
 
 /// The length of a row, which has a number for each round: some more than the rounds of the longest season, so that they are a multiple of
-/// the 16 bytes that the machine compares at once.
+/// those that the machine compares at once.
 pub(crate) const ROW: usize = 80;
+
+/// How many numbers of a row the machine compares at once.
+const LANES: usize = 16;
 
 pub(crate) const TEAMS: usize = MAX_TEAMS as usize;
 
 /// A number for each round.
 pub(crate) type Row = [u8; ROW];
 
-/// How many home games the team has up to and with each round.
-pub(crate) fn home_games_by_round(schedule: &Schedule, team: u8) -> Row
-    requires { team < schedule.now.teams }
-    ensures { IsRowOf schedule.now team result }
+/// 0 as long as a row is, and then 1 as long. A window on it is 0 before a round and 1 from it on, so that a row turns from any round on in
+/// a loop over all of it, which the machine goes through by many numbers at once.
+pub(crate) type Step = [u8; 2 * ROW];
+
+pub(crate) fn step() -> Step
+    ensures { IsStep result }
 {
-    let mut row = [0; ROW];
-    let mut count = 0;
-    for round in 0..schedule.rounds() {
-        count += u8::from(schedule.game_at(team, round).home);
-        row[usize::from(round)] = count;
+    let mut step = [0; 2 * ROW];
+    for place in ROW..2 * ROW {
+        step[place] = 1;
     }
-    row
+    step
 }
 
-/// For each round that is a slot more than two rows can be apart, and 0 for each other.
-pub(crate) fn limits(slots: SlotSet, rounds: u8) -> Row
+/// 1 for each round that is a slot, and 0 for each other.
+pub(crate) fn in_slots(slots: SlotSet, rounds: u8) -> Row
     requires season { rounds ≤ max_rounds }
     requires slots { IsBelow rounds slots }
-    ensures { (r : ℕ) → slice_index result r ≡ (if has slots r then 255 else 0) }
+    ensures { (r : ℕ) → slice_index result r ≡ one_in slots r }
 {
     let mut row = [0; ROW];
     for round in 0..rounds {
         if slots.has(round) {
-            row[usize::from(round)] = u8::MAX;
+            row[usize::from(round)] = 1;
         }
     }
     row
 }
 
-/// The largest number by which the rows are apart in a round, if the limits allow it.
-#[inline]
-pub(crate) fn worst_apart(first: &Row, second: &Row, limits: &Row) -> u8
-    ensures { result ≡ worst_apart first.now second.now limits.now }
+/// Makes the row that of these home rounds, from that of those that differ in the changed ones.
+pub(crate) fn turn(row: &mut Row, changed: SlotSet, homes: SlotSet, step: &Step, in_slots: &Row)
+    requires changed { IsBelow max_rounds changed }
+    requires step { IsStep step.now }
+    requires ones { (r : ℕ) → slice_index in_slots.now r ≤ 1 }
+    requires row { IsHomeRow in_slots.now (is_home_with homes changed) row.old }
+    ensures { IsHomeRow in_slots.now (has homes) row.new }
 {
-    let mut worst = 0;
-    for round in 0..ROW {
-        let apart = first[round].max(second[round]) - first[round].min(second[round]);
-        worst = worst.max(apart.min(limits[round]));
+    for round in changed {
+        if homes.has(round) {
+            gain(row, round, step, in_slots);
+        } else {
+            lose(row, round, step, in_slots);
+        }
     }
-    worst
+}
+
+/// One more in each slot from the first on.
+#[inline]
+fn gain(row: &mut Row, first: u8, step: &Step, in_slots: &Row)
+    requires first { first < row_length }
+    requires step { IsStep step.now }
+    requires ones { (r : ℕ) → slice_index in_slots.now r ≤ 1 }
+    requires len { length row.old ≡ row_length }
+    requires room { (r : ℕ) → slice_index row.old r < 255 }
+    ensures len { length row.new ≡ row_length }
+    ensures gained { (r : ℕ) → slice_index row.new r ≡ slice_index row.old r + from_on first in_slots.now r }
+{
+    let from = ROW - usize::from(first);
+    for round in 0..ROW {
+        row[round] += step[from + round] & in_slots[round];
+    }
+}
+
+/// One less in each slot from the first on.
+#[inline]
+fn lose(row: &mut Row, first: u8, step: &Step, in_slots: &Row)
+    requires first { first < row_length }
+    requires step { IsStep step.now }
+    requires ones { (r : ℕ) → slice_index in_slots.now r ≤ 1 }
+    requires len { length row.old ≡ row_length }
+    requires some { (r : ℕ) → from_on first in_slots.now r ≤ slice_index row.old r }
+    ensures len { length row.new ≡ row_length }
+    ensures lost { (r : ℕ) → slice_index row.new r + from_on first in_slots.now r ≡ slice_index row.old r }
+{
+    let from = ROW - usize::from(first);
+    for round in 0..ROW {
+        row[round] -= step[from + round] & in_slots[round];
+    }
+}
+
+/// The largest number by which the rows are apart in a round.
+#[inline]
+pub(crate) fn worst_apart(first: &Row, second: &Row) -> u8
+    ensures { result ≡ worst_apart first.now second.now }
+{
+    let mut lanes = [0; LANES];
+    for chunk in 0..ROW / LANES {
+        widen(&mut lanes, first, second, chunk * LANES);
+    }
+    largest_of(&lanes)
+}
+
+/// Each lane becomes the larger of itself and of the number by which the rows are apart in its round, of those from one on.
+#[inline]
+fn widen(lanes: &mut [u8; LANES], first: &Row, second: &Row, from: usize)
+    requires from { from + lane_count ≤ row_length }
+    requires len { length lanes.old ≡ lane_count }
+    ensures len { length lanes.new ≡ lane_count }
+    ensures widened { (k : ℕ) → k < lane_count →
+        slice_index lanes.new k ≡ max (slice_index lanes.old k) (apart_in first.now second.now (from + k)) }
+{
+    for lane in 0..LANES {
+        let round = from + lane;
+        let apart = first[round].max(second[round]) - first[round].min(second[round]);
+        lanes[lane] = lanes[lane].max(apart);
+    }
+}
+
+#[inline]
+fn largest_of(lanes: &[u8; LANES]) -> u8
+    ensures { result ≡ largest_below lane_count (slice_index lanes.now) }
+{
+    let mut largest = 0;
+    for lane in 0..LANES {
+        largest = largest.max(lanes[lane]);
+    }
+    largest
 }

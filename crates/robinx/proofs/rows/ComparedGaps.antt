@@ -1,8 +1,8 @@
 -- Loops over the teams of a table of gaps: which gaps and homes are right so far.
-use Rattle.std.proofs.Common.{◌≡◌, ◌≢◌, ℕ, ◌+◌, ◌<◌, ◌≤◌, ◌&&◌, ◌||◌, ◌==◌, not, nat_lt, Bool, true, false, if◌then◌else◌}
+use Rattle.std.proofs.Common.{◌≡◌, ◌≢◌, ℕ, ◌+◌, ◌*◌, ◌<◌, ◌≤◌, ◌&&◌, ◌||◌, ◌==◌, not, nat_lt, Bool, true, false, if◌then◌else◌}
 use Rattle.std.proofs.Common.{List, [], length, get_or}
 use Rattle.std.proofs.Common.{refl, sym, ◌∙◌, ap, subst, inl, inr, arith, get_or-set_other}
-use Rattle.std.proofs.Math.ListN.{set, replicate}
+use Rattle.std.proofs.Math.ListN.{set, replicate, get_or-eq_default}
 use Rattle.std.proofs.lemmas.Grind.{get_or-set_at, get_or_default_zero}
 use Rattle.std.proofs.lemmas.List.{get_or-replicate, length-set}
 use Rattle.std.proofs.lemmas.Bool.{cases_eq, cases_lt, eq-eqb, ne_eqb, eqb-true, eqb-false, lt-ltb, false≢true}
@@ -11,29 +11,30 @@ use Rattle.league.specs.Sets.{has, IsBelow, IsWithoutLowest}
 use Rattle.league.proofs.ForCallers.{has_beyond, has_empty, others_kept, lowest_below, count_where_none}
 use Rattle.fixtures.specs.Games.{Games, round_count, is_home}
 use Rattle.robinx.specs.Deviations.{over}
-use Rattle.robinx.specs.Walked.{IsRowOf, row_of, apart_within, worst_apart}
-use Rattle.robinx.specs.Gaps.{AreTallied, IsHomeRow, IsGapTable, IsTableFor, IsTableOf, IsWholeTable, gap_at, sum_of_gaps}
+use Rattle.robinx.specs.Walked.{row_of, apart_in, one_in, worst_apart}
+use Rattle.robinx.specs.Gaps.{AreTallied, IsHomeRow, IsGapTable, IsTableFor, IsTableOf, IsWholeTable, gap_at, is_home_with, sum_of_gaps}
 use Rattle.robinx.specs.declared.gap_table.GapTable.{GapTable}
 use Rattle.robinx.specs.declared.gaps.Gaps.{Gaps}
 use Rattle.robinx.proofs.limits.Largest.{largest_below_le}
-use Rattle.robinx.proofs.rows.GapTables.{apart_small, row_by_homes}
+use Rattle.robinx.proofs.rows.GapTables.{apart_small}
+use Rattle.robinx.proofs.rows.HomeRows.{same_home_row, home_before}
 use Rattle.robinx.proofs.rows.Tallies.{nothing_over}
 
 -- what a loop over lower teams leaves is in the set
 
 -- the gaps of a team and of those lower teams that aren't left have been counted
-pub record HasCompared (before gaps : Gaps) (rows : List (List ℕ)) (limits : List ℕ) (team lower left : ℕ) : Type 0 where
+pub record HasCompared (before gaps : Gaps) (rows : List (List ℕ)) (team lower left : ℕ) : Type 0 where
   pub below : IsBelow team left
   pub within : (k : ℕ) → has left k ≡ true → has lower k ≡ true
   pub tallied : AreTallied gaps
   pub teams : gaps.teams ≡ before.teams
   pub compared : (o : ℕ) → has lower o ≡ true → has left o ≡ false →
-      gap_at gaps.worst team o ≡ worst_apart (row_of rows o) (row_of rows team) limits
+      gap_at gaps.worst team o ≡ worst_apart (row_of rows o) (row_of rows team)
   pub others : (t o : ℕ) → (t == team && has lower o) ≡ false → gap_at gaps.worst t o ≡ gap_at before.worst t o
 
-pub compared_none : (before : Gaps) (rows : List (List ℕ)) (limits : List ℕ) (team lower left : ℕ) → AreTallied before →
-    IsBelow team lower → left ≡ lower → HasCompared before before rows limits team lower left
-compared_none before rows limits team lower left tallied below whole = record {
+pub compared_none : (before : Gaps) (rows : List (List ℕ)) (team lower left : ℕ) → AreTallied before →
+    IsBelow team lower → left ≡ lower → HasCompared before before rows team lower left
+compared_none before rows team lower left tallied below whole = record {
   below = omega (arith, below, whole);
   within = λ k here. sym (ap (λ s. has s k) whole) ∙ here;
   tallied = tallied;
@@ -42,19 +43,19 @@ compared_none before rows limits team lower left tallied below whole = record {
   others = λ t o other. refl;
 }
 
-pub compared_more : (before gaps new : Gaps) (rows : List (List ℕ)) (limits : List ℕ) (team lower left lowest rest : ℕ) →
-    HasCompared before gaps rows limits team lower left → IsWithoutLowest left lowest rest → AreTallied new → new.teams ≡ gaps.teams →
-    gap_at new.worst team lowest ≡ worst_apart (row_of rows lowest) (row_of rows team) limits →
+pub compared_more : (before gaps new : Gaps) (rows : List (List ℕ)) (team lower left lowest rest : ℕ) →
+    HasCompared before gaps rows team lower left → IsWithoutLowest left lowest rest → AreTallied new → new.teams ≡ gaps.teams →
+    gap_at new.worst team lowest ≡ worst_apart (row_of rows lowest) (row_of rows team) →
     ((t o : ℕ) → (t == team && o == lowest) ≡ false → gap_at new.worst t o ≡ gap_at gaps.worst t o) →
-    HasCompared before new rows limits team lower rest
-compared_more before gaps new rows limits team lower left lowest rest so_far taken tallied teams is others = record {
+    HasCompared before new rows team lower rest
+compared_more before gaps new rows team lower left lowest rest so_far taken tallied teams is others = record {
   below = omega (arith, so_far.below, taken.fewer);
   within = λ k in_rest. so_far.within k (and_parts (has left k) (not (k == lowest)) (sym (taken.others k) ∙ in_rest)).0;
   tallied = tallied;
   teams = teams ∙ so_far.teams;
   compared = λ o in_lower gone. elim (cases_eq o lowest) [
     | inl same ↦
-        ap (λ (k : ℕ). gap_at new.worst team k) same ∙ is ∙ ap (λ (k : ℕ). worst_apart (row_of rows k) (row_of rows team) limits) (sym same)
+        ap (λ (k : ℕ). gap_at new.worst team k) same ∙ is ∙ ap (λ (k : ℕ). worst_apart (row_of rows k) (row_of rows team)) (sym same)
     | inr apart ↦
         others team o (ap (λ b. team == team && b) (ne_eqb o lowest apart) ∙ ap (λ b. b && false) (eq-eqb team team refl)) ∙
         so_far.compared o in_lower (sym (others_kept left lowest rest o taken apart) ∙ gone)
@@ -77,33 +78,33 @@ compared_more before gaps new rows limits team lower left lowest rest so_far tak
         none false = refl
 
 -- rows of nothing
-zeros_apart : (t o : ℕ) (limits : List ℕ) → t < 40 → o < 40 →
-    worst_apart (row_of (replicate 40 (replicate 80 0)) o) (row_of (replicate 40 (replicate 80 0)) t) limits ≡ 0
+zeros_apart : (t o : ℕ) → t < 40 → o < 40 →
+    worst_apart (row_of (replicate 40 (replicate 80 0)) o) (row_of (replicate 40 (replicate 80 0)) t) ≡ 0
 unfolding worst_apart
-zeros_apart t o limits t_below o_below =
-    ap (λ (first : List ℕ). worst_apart first (row_of (replicate 40 (replicate 80 0)) t) limits)
+zeros_apart t o t_below o_below =
+    ap (λ (first : List ℕ). worst_apart first (row_of (replicate 40 (replicate 80 0)) t))
     (get_or-replicate 40 o (replicate 80 0) [] o_below) ∙
-    ap (λ (second : List ℕ). worst_apart (replicate 80 0) second limits) (get_or-replicate 40 t (replicate 80 0) [] t_below) ∙
-    least (largest_below_le 80 0 (apart_within (replicate 80 0) (replicate 80 0) limits)
+    ap (λ (second : List ℕ). worst_apart (replicate 80 0) second) (get_or-replicate 40 t (replicate 80 0) [] t_below) ∙
+    least (largest_below_le 80 0 (apart_in (replicate 80 0) (replicate 80 0))
     (λ r in_row. omega (arith, get_or-replicate {A = ℕ} 80 r 0 0 in_row)))
   where
     least : {n : ℕ} → n ≤ 0 → n ≡ 0
     least le = omega arith
 
 -- the table of teams that are never at home
-pub new_table : (playing teams slots empty : ℕ) (limits : List ℕ) (gaps : Gaps) → empty ≡ 0 → AreTallied gaps → gaps.teams ≡ teams →
+pub new_table : (playing teams slots empty : ℕ) (in_slots : List ℕ) (gaps : Gaps) → empty ≡ 0 → AreTallied gaps → gaps.teams ≡ teams →
     ((t o : ℕ) → gap_at gaps.worst t o ≡ 0) → playing ≤ 40 → IsBelow playing teams → IsBelow (round_count playing) slots →
-    ((r : ℕ) → get_or limits r 0 ≡ (if has slots r then 255 else 0)) →
+    ((r : ℕ) → get_or in_slots r 0 ≡ one_in slots r) →
     IsWholeTable (record {
       playing = playing;
       slots = slots;
-      limits = limits;
+      in_slots = in_slots;
       homes = replicate 40 empty;
       rows = replicate 40 (replicate 80 0);
       gaps = gaps;
       overs = replicate 80 0;
     })
-new_table playing teams slots empty limits gaps nothing tallied teams_are none forty below in_season limited = record {
+new_table playing teams slots empty in_slots gaps nothing tallied teams_are none forty below in_season ones = record {
   table = record {
     tallied = tallied;
     playing = forty;
@@ -111,9 +112,9 @@ new_table playing teams slots empty limits gaps nothing tallied teams_are none f
     homes_len = refl;
     rows_len = refl;
     rows = λ t in_teams. row t (in_table t in_teams);
-    limits = limited;
+    in_slots = ones;
     slots = in_season;
-    worst = λ t o in_t in_o lower right. none t o ∙ sym (zeros_apart t o limits (in_table t in_t) (in_table o in_o));
+    worst = λ t o in_t in_o lower right. none t o ∙ sym (zeros_apart t o (in_table t in_t) (in_table o in_o));
   };
   overs = λ most below. get_or-replicate 80 most 0 0 below ∙ sym (nothing_over gaps.teams gaps.worst most none);
 }
@@ -124,20 +125,28 @@ new_table playing teams slots empty limits gaps nothing tallied teams_are none f
       | inr past ↦ absurd (false≢true (sym (has_beyond playing teams t below past) ∙ ap (λ s. has s t) (sym teams_are) ∙ in_teams))
     ]
 
-    zero_at : (r : ℕ) → r < 80 → ◌≡◌ {A = ℕ} (get_or (replicate 80 0) r 0) 0
-    zero_at r in_row = get_or-replicate 80 r 0 0 in_row
+    zeros : IsHomeRow in_slots (has 0) (replicate 80 0)
+    zeros = record {
+      len = refl;
+      counts = λ r.
+          zero_at r ∙ none_of (get_or in_slots r 0) ∙
+          ap (λ n. get_or in_slots r 0 * n) (sym (count_where_none (r + 1) (has 0) (λ k below. has_empty k)));
+    }
+      where
+        zero_at : (r : ℕ) → ◌≡◌ {A = ℕ} (get_or (replicate 80 0) r 0) 0
+        zero_at r = elim (cases_lt r 80) [
+          | inl in_row ↦ get_or-replicate 80 r 0 0 in_row
+          | inr past ↦ get_or-eq_default (replicate 80 0) 0 past
+        ]
 
-    row : (t : ℕ) → t < 40 →
-        IsHomeRow (round_count playing) (get_or (replicate 40 empty) t 0) (row_of (replicate 40 (replicate 80 0)) t)
+        none_of : (a : ℕ) → 0 ≡ a * 0
+        none_of a = omega arith
+
+    row : (t : ℕ) → t < 40 → IsHomeRow in_slots (has (get_or (replicate 40 empty) t 0)) (row_of (replicate 40 (replicate 80 0)) t)
     row t t_below =
-        subst (λ (h : ℕ). IsHomeRow (round_count playing) h (row_of (replicate 40 (replicate 80 0)) t))
+        subst (λ (h : ℕ). IsHomeRow in_slots (has h) (row_of (replicate 40 (replicate 80 0)) t))
         (sym (get_or-replicate 40 t empty 0 t_below ∙ nothing))
-        (subst (IsHomeRow (round_count playing) 0) (sym (get_or-replicate 40 t (replicate 80 0) [] t_below))
-        (record {
-          len = refl;
-          counts = λ r r_below.
-              zero_at r (omega (arith, r_below, forty)) ∙ sym (count_where_none (r + 1) (has 0) (λ k k_below. has_empty k));
-        }))
+        (subst (IsHomeRow in_slots (has 0)) (sym (get_or-replicate 40 t (replicate 80 0) [] t_below)) zeros)
 
 -- the homes of those teams that aren't left are a schedule's
 pub record HasSameHomes (g : Games) (homes : List ℕ) (teams left : ℕ) : Type 0 where
@@ -188,7 +197,7 @@ fewer_right kept right fewer table some = record {
   homes_len = table.homes_len;
   rows_len = table.rows_len;
   rows = table.rows;
-  limits = table.limits;
+  in_slots = table.in_slots;
   slots = table.slots;
   worst = λ t o in_t in_o lower is. table.worst t o in_t in_o lower (some t o in_t in_o lower is);
 }
@@ -224,16 +233,33 @@ taken_same g before kept left lowest rest stale so_far taken is = record {
   is_for = so_far.is_for;
 }
 
--- one more team is at home in other rounds
+-- one more team is at home in other rounds: its row is turned
+pub row_to_turn : (g : Games) (before kept : GapTable) (left lowest rest stale at at2 default home changed : ℕ) →
+    before.playing ≡ g.teams → HasTaken g before kept left stale → IsWithoutLowest left lowest rest → at ≡ lowest → at2 ≡ lowest →
+    ((r : ℕ) → has changed r ≡
+    (if has home r then not (has (get_or kept.homes at default) r) else has (get_or kept.homes at default) r)) →
+    IsHomeRow kept.in_slots (is_home_with home changed) (get_or kept.rows at2 [])
+row_to_turn g before kept left lowest rest stale at at2 default home changed size so_far taken here here2 members =
+    let in_table : lowest < 40 = taken_in_table g before kept left lowest rest stale size so_far taken in
+    let old : get_or kept.homes at default ≡ get_or kept.homes lowest 0 =
+    get_or_default_zero kept.homes at default (omega (arith, here, in_table, so_far.table.homes_len)) ∙
+    ap (λ (k : ℕ). get_or kept.homes k 0) here in
+    subst (λ (k : ℕ). IsHomeRow kept.in_slots (is_home_with home changed) (get_or kept.rows k [])) (sym here2)
+    (same_home_row kept.in_slots (row_of kept.rows lowest) (has (get_or kept.homes lowest 0)) (is_home_with home changed)
+    (home_before (get_or kept.homes lowest 0) home changed
+    (λ r. members r ∙ ap (λ (s : ℕ). if has home r then not (has s r) else has s r) old))
+    (so_far.table.rows lowest (so_far.homes.within lowest taken.in_set)))
+
 module _ (g : Games) (before kept : GapTable) (left lowest rest stale more at at2 home : ℕ) (row : List ℕ) (size : before.playing ≡ g.teams)
     (so_far : HasTaken g before kept left stale) (taken : IsWithoutLowest left lowest rest) (here : at ≡ lowest) (here2 : at2 ≡ lowest)
-    (members : (r : ℕ) → has home r ≡ (nat_lt r (round_count g.teams) && is_home g lowest r)) (row_is : IsRowOf g lowest row)
+    (members : (r : ℕ) → has home r ≡ (nat_lt r (round_count g.teams) && is_home g lowest r))
+    (row_is : IsHomeRow kept.in_slots (has home) row)
     (more_stale : (t : ℕ) → has more t ≡ (t == lowest || has stale t)) where
   abbrev followed : GapTable
   followed = record {
     playing = kept.playing;
     slots = kept.slots;
-    limits = kept.limits;
+    in_slots = kept.in_slots;
     homes = set kept.homes at home;
     rows = set kept.rows at2 row;
     gaps = kept.gaps;
@@ -285,23 +311,21 @@ module _ (g : Games) (before kept : GapTable) (left lowest rest stale more at at
       rows_len = length-set kept.rows at2 row ∙ so_far.table.rows_len;
       rows = λ t in_teams. elim (cases_eq t lowest) [
         | inl same ↦
-            subst (λ (k : ℕ). IsHomeRow (round_count kept.playing) (get_or (set kept.homes at home) k 0)
-            (get_or (set kept.rows at2 row) k []))
+            subst (λ (k : ℕ). IsHomeRow kept.in_slots (has (get_or (set kept.homes at home) k 0)) (get_or (set kept.rows at2 row) k []))
             (sym same)
-            (subst (λ (h : ℕ). IsHomeRow (round_count kept.playing) h (get_or (set kept.rows at2 row) lowest [])) (sym home_here)
-            (subst (IsHomeRow (round_count kept.playing) home) (sym row_here)
-            (subst (λ (n : ℕ). IsHomeRow (round_count n) home row) (sym playing_is) (row_by_homes g lowest home row in_g row_is members))))
+            (subst (λ (h : ℕ). IsHomeRow kept.in_slots (has h) (get_or (set kept.rows at2 row) lowest [])) (sym home_here)
+            (subst (IsHomeRow kept.in_slots (has home)) (sym row_here) row_is))
         | inr apart ↦
-            subst (λ (h : ℕ). IsHomeRow (round_count kept.playing) h (get_or (set kept.rows at2 row) t [])) (sym (home_kept t apart))
-            (subst (IsHomeRow (round_count kept.playing) (get_or kept.homes t 0)) (sym (row_kept t apart)) (so_far.table.rows t in_teams))
+            subst (λ (h : ℕ). IsHomeRow kept.in_slots (has h) (get_or (set kept.rows at2 row) t [])) (sym (home_kept t apart))
+            (subst (IsHomeRow kept.in_slots (has (get_or kept.homes t 0))) (sym (row_kept t apart)) (so_far.table.rows t in_teams))
       ];
-      limits = so_far.table.limits;
+      in_slots = so_far.table.in_slots;
       slots = so_far.table.slots;
       worst = λ t o in_t in_o lower right.
           let parts = right_apart t o right in
           so_far.table.worst t o in_t in_o lower parts.2 ∙
-          sym (ap (λ (r : List ℕ). worst_apart r (get_or (set kept.rows at2 row) t []) kept.limits) (row_kept o parts.1) ∙
-          ap (λ (r : List ℕ). worst_apart (get_or kept.rows o []) r kept.limits) (row_kept t parts.0));
+          sym (ap (λ (r : List ℕ). worst_apart r (get_or (set kept.rows at2 row) t [])) (row_kept o parts.1) ∙
+          ap (λ (r : List ℕ). worst_apart (get_or kept.rows o []) r) (row_kept t parts.0));
     };
   }
 
@@ -345,21 +369,21 @@ partners_in teams stale team lower below members o in_lower = elim (cases_lt o t
 
 -- its rows are less than a row's length apart
 pub rows_small : (kept : GapTable) (right : ℕ → ℕ → Bool) (t o : ℕ) → IsGapTable kept right → has kept.gaps.teams t ≡ true →
-    has kept.gaps.teams o ≡ true → worst_apart (row_of kept.rows o) (row_of kept.rows t) kept.limits < 80
+    has kept.gaps.teams o ≡ true → worst_apart (row_of kept.rows o) (row_of kept.rows t) < 80
 rows_small kept right t o table in_t in_o =
-    apart_small (round_count kept.playing) (get_or kept.homes o 0) (get_or kept.homes t 0) kept.slots (row_of kept.rows o)
-    (row_of kept.rows t) kept.limits (omega (arith, table.playing)) (table.rows o in_o) (table.rows t in_t) table.slots table.limits
+    apart_small (round_count kept.playing) kept.slots (has (get_or kept.homes o 0)) (has (get_or kept.homes t 0)) (row_of kept.rows o)
+    (row_of kept.rows t) kept.in_slots (omega (arith, table.playing)) table.slots table.in_slots (table.rows o in_o) (table.rows t in_t)
 
 pub followed_more : (before kept : GapTable) (g : Games) (stale left lowest rest lower : ℕ) (new : Gaps) →
     HasFollowed before kept g stale left → IsWithoutLowest left lowest rest →
     ((o : ℕ) → o < lowest → has lower o ≡ (has before.gaps.teams o && (has stale o || has stale lowest))) →
     AreTallied new → new.teams ≡ kept.gaps.teams →
-    ((o : ℕ) → has lower o ≡ true → gap_at new.worst lowest o ≡ worst_apart (row_of kept.rows o) (row_of kept.rows lowest) kept.limits) →
+    ((o : ℕ) → has lower o ≡ true → gap_at new.worst lowest o ≡ worst_apart (row_of kept.rows o) (row_of kept.rows lowest)) →
     ((t o : ℕ) → (t == lowest && has lower o) ≡ false → gap_at new.worst t o ≡ gap_at kept.gaps.worst t o) →
     HasFollowed before (record {
       playing = kept.playing;
       slots = kept.slots;
-      limits = kept.limits;
+      in_slots = kept.in_slots;
       homes = kept.homes;
       rows = kept.rows;
       gaps = new;
@@ -383,10 +407,10 @@ followed_more before kept g stale left lowest rest lower new so_far taken member
     homes_len = so_far.table.homes_len;
     rows_len = so_far.table.rows_len;
     rows = λ t in_teams. so_far.table.rows t (old t in_teams);
-    limits = so_far.table.limits;
+    in_slots = so_far.table.in_slots;
     slots = so_far.table.slots;
     worst = λ t o in_t in_o lt right. elim (cases_eq t lowest) [
-      | inl same ↦ subst (λ (k : ℕ). gap_at new.worst k o ≡ worst_apart (row_of kept.rows o) (row_of kept.rows k) kept.limits) (sym same)
+      | inl same ↦ subst (λ (k : ℕ). gap_at new.worst k o ≡ worst_apart (row_of kept.rows o) (row_of kept.rows k)) (sym same)
           (at o (old o in_o) (omega (arith, lt, same)) (has lower o) refl)
       | inr apart ↦
           others t o (ap (λ b. b && has lower o) (ne_eqb t lowest apart)) ∙
@@ -418,7 +442,7 @@ followed_more before kept g stale left lowest rest lower new so_far taken member
     none false = refl
 
     at : (o : ℕ) → has kept.gaps.teams o ≡ true → o < lowest → (b : Bool) → has lower o ≡ b →
-        gap_at new.worst lowest o ≡ worst_apart (row_of kept.rows o) (row_of kept.rows lowest) kept.limits
+        gap_at new.worst lowest o ≡ worst_apart (row_of kept.rows o) (row_of kept.rows lowest)
     at o in_o lt true in_lower = compared o in_lower
     at o in_o lt false out =
         others lowest o (ap (λ b. lowest == lowest && b) out ∙ none (lowest == lowest)) ∙
@@ -433,7 +457,7 @@ pub followed_all : (before kept : GapTable) (g : Games) (stale left : ℕ) (over
     IsWholeTable (record {
       playing = kept.playing;
       slots = kept.slots;
-      limits = kept.limits;
+      in_slots = kept.in_slots;
       homes = kept.homes;
       rows = kept.rows;
       gaps = kept.gaps;
@@ -451,7 +475,7 @@ followed_all before kept g stale left overs none so_far told =
         homes_len = all.homes_len;
         rows_len = all.rows_len;
         rows = all.rows;
-        limits = all.limits;
+        in_slots = all.in_slots;
         slots = all.slots;
         worst = all.worst;
       };

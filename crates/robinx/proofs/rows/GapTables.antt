@@ -1,59 +1,47 @@
 -- Tables of gaps: what they tell of a schedule, and what a step in following one leaves right.
-use Rattle.std.proofs.Common.{◌≡◌, ℕ, ◌+◌, ◌<◌, ◌≤◌, ◌&&◌, nat_lt, Bool, true, false, if◌then◌else◌}
+use Rattle.std.proofs.Common.{◌≡◌, ℕ, ◌+◌, ◌<◌, ◌≤◌, ◌&&◌, Bool, true, false, if◌then◌else◌}
 use Rattle.std.proofs.Common.{List, get_or, refl, sym, ◌∙◌, ap, inl, inr, arith}
-use Rattle.std.proofs.lemmas.Bool.{cases_lt, cond-false, lt-ltb}
+use Rattle.std.proofs.lemmas.Bool.{cases_lt, cond-false}
 use Rattle.league.specs.Sets.{has, IsBelow}
-use Rattle.league.specs.Sums.{sum_below, sum_where}
+use Rattle.league.specs.Sums.{sum_below, sum_where, count_where}
 use Rattle.league.specs.declared.rule.RuleBody.TheVariants.{Fa2}
-use Rattle.league.proofs.ForCallers.{count_where_le, count_where_same, has_beyond, sum_below_past, sum_below_same, sum_below_zero}
+use Rattle.league.proofs.ForCallers.{count_where_le, has_beyond, if_le, sum_below_past, sum_below_same, sum_below_zero}
 use Rattle.fixtures.specs.Games.{Games, round_count, is_home, IsDoubleRoundRobin}
-use Rattle.robinx.specs.Deviations.{over, home_games, worst_gap, worst_gaps, deviation}
-use Rattle.robinx.specs.Walked.{IsRowOf, row_of, apart_within, worst_apart}
+use Rattle.robinx.specs.Deviations.{over, worst_gap, worst_gaps, deviation}
+use Rattle.robinx.specs.Walked.{row_of, apart_in, one_in, worst_apart}
 use Rattle.robinx.specs.Gaps.{IsHomeRow, IsGapTable, IsTableOf, gap_at, sum_of_gaps}
 use Rattle.robinx.specs.declared.gap_table.GapTable.{GapTable}
 use Rattle.robinx.proofs.limits.Largest.{largest_below_le}
-use Rattle.robinx.proofs.rows.HomeRows.{worst_gap_of_rows}
-
--- a number of a row, within a season of the most rounds
-row_le : (rounds home r : ℕ) (row : List ℕ) → IsHomeRow rounds home row → r < rounds → get_or row r 0 ≤ r + 1
-row_le rounds home r row is below = omega (arith, is.counts r below, count_where_le (r + 1) (has home))
+use Rattle.robinx.proofs.rows.HomeRows.{number_in, row_of_schedule, worst_gap_of_rows}
 
 -- two rows are less than a row's length apart
-pub apart_small : (rounds home1 home2 slots : ℕ) (first second limits : List ℕ) → rounds ≤ 78 → IsHomeRow rounds home1 first →
-    IsHomeRow rounds home2 second → IsBelow rounds slots →
-    ((r : ℕ) → get_or limits r 0 ≡ (if has slots r then 255 else 0)) → worst_apart first second limits < 80
+pub apart_small : (rounds slots : ℕ) (home1 home2 : ℕ → Bool) (first second in_slots : List ℕ) → rounds ≤ 78 → IsBelow rounds slots →
+    ((r : ℕ) → get_or in_slots r 0 ≡ one_in slots r) → IsHomeRow in_slots home1 first → IsHomeRow in_slots home2 second →
+    worst_apart first second < 80
 unfolding worst_apart
-apart_small rounds home1 home2 slots first second limits season first_is second_is below limited =
-    omega (arith, largest_below_le 80 78 (apart_within first second limits) each)
+apart_small rounds slots home1 home2 first second in_slots season below ones first_is second_is =
+    omega (
+      arith,
+      largest_below_le 80 78 (apart_in first second) (λ r in_row. omega (arith, le first home1 r first_is, le second home2 r second_is)),
+    )
   where
-    each : (r : ℕ) → r < 80 → apart_within first second limits r ≤ 78
-    each r in_row = elim (cases_lt r rounds) [
+    le : (row : List ℕ) (home : ℕ → Bool) (r : ℕ) → IsHomeRow in_slots home row → get_or row r 0 ≤ 78
+    le row home r is = elim (cases_lt r rounds) [
       | inl in_season ↦
-          omega (arith, row_le rounds home1 r first first_is in_season, row_le rounds home2 r second second_is in_season, season)
+          omega (
+            arith,
+            number_in slots r home in_slots row ones is,
+            if_le (has slots r) (count_where (r + 1) home) (r + 1) (λ _. count_where_le (r + 1) home),
+            in_season,
+            season,
+          )
       | inr past ↦
-          omega (arith, limited r ∙ ap {B = ℕ} (λ b. if b then 255 else 0) (has_beyond rounds slots r below past))
+          omega (
+            arith,
+            number_in slots r home in_slots row ones is,
+            cond-false {A = ℕ} (has slots r) (count_where (r + 1) home) 0 (has_beyond rounds slots r below past),
+          )
     ]
-
--- the same row, told by a schedule or by the rounds at home
-
-pub row_by_homes : (g : Games) (t home : ℕ) (row : List ℕ) → t < g.teams → IsRowOf g t row →
-    ((r : ℕ) → has home r ≡ (nat_lt r (round_count g.teams) && is_home g t r)) → IsHomeRow (round_count g.teams) home row
-unfolding home_games
-row_by_homes g t home row in_t is members = record {
-  len = is.len;
-  counts = λ r below. is.counts r below ∙
-      count_where_same (r + 1) (is_home g t) (has home)
-      (λ k until. sym (members k ∙ ap (λ b. b && is_home g t k) (lt-ltb k (round_count g.teams) (omega (arith, below, until)))));
-}
-
-pub row_of_homes : (g : Games) (t home : ℕ) (row : List ℕ) → IsHomeRow (round_count g.teams) home row →
-    ((r : ℕ) → r < round_count g.teams → has home r ≡ is_home g t r) → IsRowOf g t row
-unfolding home_games
-row_of_homes g t home row is same = record {
-  len = is.len;
-  counts = λ r below. is.counts r below ∙
-      count_where_same (r + 1) (has home) (is_home g t) (λ k until. same k (omega (arith, below, until)));
-}
 
 -- the whole table tells the deviation
 module _ (g : Games) (kept : GapTable) (slots most : ℕ) (rr : IsDoubleRoundRobin g) (table : IsGapTable kept (λ t o. true))
@@ -61,18 +49,21 @@ module _ (g : Games) (kept : GapTable) (slots most : ℕ) (rr : IsDoubleRoundRob
   rounds_are : round_count kept.playing ≡ round_count g.teams
   rounds_are = ap round_count is.is_for.playing
 
-  row_is : (t : ℕ) → has kept.gaps.teams t ≡ true → IsRowOf g t (row_of kept.rows t)
+  in_season : IsBelow (round_count g.teams) kept.slots
+  in_season = rw (← rounds_are) table.slots
+
+  row_is : (t : ℕ) → has kept.gaps.teams t ≡ true → IsHomeRow kept.in_slots (is_home g t) (row_of kept.rows t)
   row_is t in_teams =
-      row_of_homes g t (get_or kept.homes t 0) (row_of kept.rows t)
-      (rw (← rounds_are) (table.rows t in_teams)) (λ r below. is.homes t r in_teams below)
+      row_of_schedule g t (get_or kept.homes t 0) kept.slots kept.in_slots (row_of kept.rows t) table.in_slots in_season
+      (λ r below. is.homes t r in_teams below) (table.rows t in_teams)
 
   one_gap : (t o : ℕ) → o < t → has kept.gaps.teams t ≡ true → has kept.gaps.teams o ≡ true →
       over (gap_at kept.gaps.worst t o) most ≡ worst_gap g (has slots) most o t
   one_gap t o lower in_t in_o =
       ap (λ n. over n most) (table.worst t o in_t in_o lower refl) ∙
-      worst_gap_of_rows g most o t slots (row_of kept.rows o) (row_of kept.rows t) kept.limits (omega (arith, rr.most))
-      (rw (← is.is_for.slots, ← rounds_are) table.slots) (row_is o in_o) (row_is t in_t)
-      (λ r. table.limits r ∙ ap {B = ℕ} (λ s. if has s r then 255 else 0) is.is_for.slots)
+      worst_gap_of_rows g most o t slots (row_of kept.rows o) (row_of kept.rows t) kept.in_slots (omega (arith, rr.most))
+      (rw (← is.is_for.slots) in_season) (row_is o in_o) (row_is t in_t)
+      (λ r. table.in_slots r ∙ ap {B = ℕ} (λ s. one_in s r) is.is_for.slots)
 
   pub table_tells : sum_of_gaps kept.gaps.teams kept.gaps.worst (λ gap. over gap most) ≡ deviation g (Fa2 kept.gaps.teams slots most)
   unfolding deviation worst_gaps

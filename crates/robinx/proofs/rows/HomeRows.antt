@@ -1,15 +1,17 @@
--- Rows of home games, a number for each round, and by how much two of them are apart.
-use Rattle.std.proofs.Common.{◌≡◌, ◌≢◌, ℕ, zero, suc, ◌+◌, ◌<◌, ◌≤◌, ◌==◌, not, Bool, true, false, if◌then◌else◌, List, [], length, get_or}
-use Rattle.std.proofs.Common.{sym, ◌∙◌, ap, subst, inl, inr, arith, get_or-set_other}
-use Rattle.std.proofs.Math.ListN.{set}
-use Rattle.std.proofs.lemmas.Grind.{get_or-set_at}
-use Rattle.std.proofs.lemmas.List.{length-set}
-use Rattle.std.proofs.lemmas.Bool.{cases_eq, and_parts}
+-- Rows of home games, a number for each round: how one turns, and by how much two of them are apart.
+use Rattle.std.proofs.Common.{◌≡◌, ◌≢◌, ℕ, zero, suc, ◌+◌, ◌*◌, ◌<◌, ◌≤◌, ◌==◌, not, nat_lt, Bool, true, false, if◌then◌else◌}
+use Rattle.std.proofs.Common.{List, length, get_or, refl, sym, ◌∙◌, ap, inl, inr, arith}
+use Rattle.std.proofs.Math.ListN.{get_or-eq_default}
+use Rattle.std.proofs.Math.Nat.{mul-le-mul_right}
+use Rattle.std.proofs.lemmas.Bool.{cases_eq, cases_lt, cond-true, cond-false, eq-eqb, ne_eqb, lt-ltb, le-ltb}
 use Rattle.league.specs.Sets.{has, IsBelow, IsWithoutLowest}
-use Rattle.league.proofs.ForCallers.{count_where_le, has_beyond, others_kept}
+use Rattle.league.specs.Sums.{count_where}
+use Rattle.league.proofs.ForCallers.{count_where_le, count_where_same, has_beyond, has_empty, others_kept, lowest_gone}
+use Rattle.league.proofs.ForCallers.{sum_below_add, sum_below_only, sum_below_same}
 use Rattle.fixtures.specs.Games.{Games, round_count, is_home}
 use Rattle.robinx.specs.Deviations.{over, home_games, largest_below, gap, worst_gap}
-use Rattle.robinx.specs.Walked.{IsRowOf, apart_within, worst_apart}
+use Rattle.robinx.specs.Gaps.{IsHomeRow, is_home_with}
+use Rattle.robinx.specs.Walked.{apart_in, from_on, one_in, worst_apart}
 use Rattle.robinx.proofs.limits.Largest.{largest_below_same, largest_below_past}
 
 -- how much the largest is over the most is the largest of what each is over it
@@ -18,78 +20,229 @@ unfolding largest_below
 over_largest zero most f = omega arith
 over_largest (suc n) most f = omega (arith, over_largest n most f)
 
-home_games_le : (g : Games) (t r : ℕ) → home_games g t r ≤ r + 1
-unfolding home_games
-home_games_le g t r = count_where_le (r + 1) (is_home g t)
+-- a number of a row that tells its slots
+pub number_in : (slots r : ℕ) (home : ℕ → Bool) (in_slots row : List ℕ) → ((k : ℕ) → get_or in_slots k 0 ≡ one_in slots k) →
+    IsHomeRow in_slots home row → get_or row r 0 ≡ (if has slots r then count_where (r + 1) home else 0)
+number_in slots r home in_slots row ones is =
+    is.counts r ∙ ap (λ n. n * count_where (r + 1) home) (ones r) ∙ times (has slots r) (count_where (r + 1) home)
+  where
+    times : (b : Bool) (n : ℕ) → (if b then 1 else 0) * n ≡ (if b then n else 0)
+    times true n = omega arith
+    times false n = omega arith
 
-module _ (g : Games) (most i j slots : ℕ) (first second limits : List ℕ) (season : round_count g.teams ≤ 78)
-    (of_slots : IsBelow (round_count g.teams) slots) (first_is : IsRowOf g i first) (second_is : IsRowOf g j second)
-    (limited : (r : ℕ) → get_or limits r 0 ≡ (if has slots r then 255 else 0)) where
-  in_season : (r : ℕ) → r < round_count g.teams →
-      (if has slots r then gap g most i j r else 0) ≡ over (apart_within first second limits r) most
-  unfolding gap
-  in_season r below = at (has slots r) (limited r)
+-- the same row, of the same home rounds
+pub same_home_row : (in_slots row : List ℕ) (home other : ℕ → Bool) → ((r : ℕ) → home r ≡ other r) → IsHomeRow in_slots home row →
+    IsHomeRow in_slots other row
+same_home_row in_slots row home other same is = record {
+  len = is.len;
+  counts = λ r. is.counts r ∙ ap (λ n. get_or in_slots r 0 * n) (count_where_same (r + 1) home other (λ k below. same k));
+}
+
+-- with one home game more
+module _ (in_slots : List ℕ) (first : ℕ) (fewer more : ℕ → Bool) (away : fewer first ≡ false) (home : more first ≡ true)
+    (others : (k : ℕ) → k ≢ first → more k ≡ fewer k) where
+  one_more : (n : ℕ) → first < n → count_where n more ≡ count_where n fewer + 1
+  one_more n below =
+      omega (
+        arith,
+        sum_below_same n (λ k. if more k then 1 else 0) (λ k. (if fewer k then 1 else 0) + (if k == first then 1 else 0))
+            (λ k k_below. at k),
+        sum_below_add n (λ k. if fewer k then 1 else 0) (λ k. if k == first then 1 else 0),
+        sum_below_only n first (λ k. if k == first then 1 else 0) below
+            (λ k k_below apart. cond-false {A = ℕ} (k == first) 1 0 (ne_eqb k first apart)),
+        cond-true {A = ℕ} (first == first) 1 0 (eq-eqb first first refl),
+      )
     where
-      at : (b : Bool) → get_or limits r 0 ≡ (if b then 255 else 0) →
-          (if b then gap g most i j r else 0) ≡ over (apart_within first second limits r) most
-      at true limit =
-          omega (arith, limit, first_is.counts r below, second_is.counts r below, home_games_le g i r, home_games_le g j r, season)
-      at false limit = omega (arith, limit)
+      at : (k : ℕ) → (if more k then 1 else 0) ≡ (if fewer k then 1 else 0) + (if k == first then 1 else 0)
+      at k = elim (cases_eq k first) [
+        | inl same ↦
+            omega (
+              arith,
+              cond-true {A = ℕ} (more k) 1 0 (ap more same ∙ home),
+              cond-false {A = ℕ} (fewer k) 1 0 (ap fewer same ∙ away),
+              cond-true {A = ℕ} (k == first) 1 0 (eq-eqb k first same),
+            )
+        | inr apart ↦
+            omega (
+              arith,
+              ap {B = ℕ} (λ b. if b then 1 else 0) (others k apart),
+              cond-false {A = ℕ} (k == first) 1 0 (ne_eqb k first apart),
+            )
+      ]
 
-  past_season : (r : ℕ) → round_count g.teams ≤ r → apart_within first second limits r ≡ 0
+  more_from_on : (r : ℕ) →
+      get_or in_slots r 0 * count_where (r + 1) more ≡ get_or in_slots r 0 * count_where (r + 1) fewer + from_on first in_slots r
+  more_from_on r = elim (cases_lt r first) [
+    | inl before ↦
+        omega (
+          arith,
+          ap (λ n. get_or in_slots r 0 * n) (count_where_same (r + 1) more fewer (λ k below. others k (omega (arith, before, below)))),
+          cond-true {A = ℕ} (nat_lt r first) 0 (get_or in_slots r 0) (lt-ltb r first before),
+        )
+    | inr from ↦
+        omega (
+          arith,
+          ap (λ n. get_or in_slots r 0 * n) (one_more (r + 1) (omega (arith, from))),
+          parted (get_or in_slots r 0) (count_where (r + 1) fewer),
+          cond-false {A = ℕ} (nat_lt r first) 0 (get_or in_slots r 0) (le-ltb r first from),
+        )
+  ]
+    where
+      parted : (a b : ℕ) → a * (b + 1) ≡ a * b + a
+      parted a b = omega arith
+
+  pub gained_row : (row new : List ℕ) → length new ≡ 80 →
+      ((r : ℕ) → get_or new r 0 ≡ get_or row r 0 + from_on first in_slots r) → IsHomeRow in_slots fewer row → IsHomeRow in_slots more new
+  gained_row row new len gained is = record {
+    len = len;
+    counts = λ r. omega (arith, gained r, is.counts r, more_from_on r);
+  }
+
+  pub lost_row : (row new : List ℕ) → length new ≡ 80 →
+      ((r : ℕ) → get_or new r 0 + from_on first in_slots r ≡ get_or row r 0) → IsHomeRow in_slots more row → IsHomeRow in_slots fewer new
+  lost_row row new len lost is = record {
+    len = len;
+    counts = λ r. omega (arith, lost r, is.counts r, more_from_on r);
+  }
+
+  -- what it can lose
+  pub counted_from_on : (row : List ℕ) → IsHomeRow in_slots more row → (r : ℕ) → from_on first in_slots r ≤ get_or row r 0
+  counted_from_on row is r = omega (arith, is.counts r, more_from_on r)
+
+-- a row has room for more
+pub row_small : (in_slots row : List ℕ) (home : ℕ → Bool) → ((r : ℕ) → get_or in_slots r 0 ≤ 1) → IsHomeRow in_slots home row → (r : ℕ) →
+    get_or row r 0 < 255
+row_small in_slots row home ones is r = elim (cases_lt r 80) [
+  | inl in_row ↦
+      omega (
+        arith,
+        is.counts r,
+        mul-le-mul_right (count_where (r + 1) home) (ones r),
+        count_where_le (r + 1) home,
+      )
+  | inr past ↦
+      let beyond : length row ≤ r = omega (arith, is.len, past) in
+      omega (arith, get_or-eq_default row 0 beyond)
+]
+
+-- a loop over the rounds that changed has turned those that aren't left
+pub record HasTurned (in_slots row : List ℕ) (homes left : ℕ) : Type 0 where
+  pub below : IsBelow 78 left
+  pub is : IsHomeRow in_slots (is_home_with homes left) row
+
+pub turned_none : (in_slots row : List ℕ) (homes changed left : ℕ) → IsBelow 78 changed → left ≡ changed →
+    IsHomeRow in_slots (is_home_with homes changed) row → HasTurned in_slots row homes left
+turned_none in_slots row homes changed left below whole is = rw whole (record { below = below; is = is })
+
+pub turned_all : (in_slots row : List ℕ) (homes left : ℕ) → left ≡ 0 → HasTurned in_slots row homes left → IsHomeRow in_slots (has homes) row
+turned_all in_slots row homes left none so_far =
+    same_home_row in_slots row (is_home_with homes left) (has homes)
+    (λ r. cond-false {A = Bool} (has left r) (not (has homes r)) (has homes r) (ap (λ s. has s r) none ∙ has_empty r)) so_far.is
+
+module _ (in_slots row : List ℕ) (homes left lowest rest : ℕ) (so_far : HasTurned in_slots row homes left)
+    (taken : IsWithoutLowest left lowest rest) where
+  as_before : is_home_with homes left lowest ≡ not (has homes lowest)
+  as_before = cond-true {A = Bool} (has left lowest) (not (has homes lowest)) (has homes lowest) taken.in_set
+
+  as_after : is_home_with homes rest lowest ≡ has homes lowest
+  as_after = cond-false {A = Bool} (has rest lowest) (not (has homes lowest)) (has homes lowest) (lowest_gone left lowest rest taken)
+
+  elsewhere : (k : ℕ) → k ≢ lowest → is_home_with homes rest k ≡ is_home_with homes left k
+  elsewhere k apart =
+      ap (λ (b : Bool). if b then not (has homes k) else has homes k) (others_kept left lowest rest k taken apart)
+
+  below_still : IsBelow 78 rest
+  below_still = omega (arith, so_far.below, taken.fewer)
+
+  pub turned_home : (new : List ℕ) → has homes lowest ≡ true → length new ≡ 80 →
+      ((r : ℕ) → get_or new r 0 ≡ get_or row r 0 + from_on lowest in_slots r) → HasTurned in_slots new homes rest
+  turned_home new home len gained = record {
+    below = below_still;
+    is = gained_row in_slots lowest (is_home_with homes left) (is_home_with homes rest) (as_before ∙ ap not home) (as_after ∙ home)
+        elsewhere row new len gained so_far.is;
+  }
+
+  pub turned_away : (new : List ℕ) → has homes lowest ≡ false → length new ≡ 80 →
+      ((r : ℕ) → get_or new r 0 + from_on lowest in_slots r ≡ get_or row r 0) → HasTurned in_slots new homes rest
+  turned_away new away len lost = record {
+    below = below_still;
+    is = lost_row in_slots lowest (is_home_with homes rest) (is_home_with homes left) (as_after ∙ away) (as_before ∙ ap not away)
+        (λ k apart. sym (elsewhere k apart)) row new len lost so_far.is;
+  }
+
+  pub turned_some : has homes lowest ≡ false → (r : ℕ) → from_on lowest in_slots r ≤ get_or row r 0
+  turned_some away =
+      counted_from_on in_slots lowest (is_home_with homes rest) (is_home_with homes left) (as_after ∙ away) (as_before ∙ ap not away)
+      (λ k apart. sym (elsewhere k apart)) row so_far.is
+
+-- the rounds in which a team was at home, by those in which it turns
+pub home_before : (before homes changed : ℕ) → ((r : ℕ) → has changed r ≡ (if has homes r then not (has before r) else has before r)) →
+    (r : ℕ) → has before r ≡ is_home_with homes changed r
+home_before before homes changed members r =
+    twice (has before r) (has homes r) ∙
+    ap (λ (b : Bool). if b then not (has homes r) else has homes r) (sym (members r))
+  where
+    twice : (a b : Bool) → a ≡ (if (if b then not a else a) then not b else b)
+    twice true true = refl
+    twice true false = refl
+    twice false true = refl
+    twice false false = refl
+
+-- the same row, by a schedule
+pub row_of_schedule : (g : Games) (t home slots : ℕ) (in_slots row : List ℕ) → ((r : ℕ) → get_or in_slots r 0 ≡ one_in slots r) →
+    IsBelow (round_count g.teams) slots → ((r : ℕ) → r < round_count g.teams → has home r ≡ is_home g t r) →
+    IsHomeRow in_slots (has home) row → IsHomeRow in_slots (is_home g t) row
+row_of_schedule g t home slots in_slots row ones of_slots same is = record {
+  len = is.len;
+  counts = λ r. elim (cases_lt r (round_count g.teams)) [
+    | inl in_season ↦
+        is.counts r ∙
+        ap (λ n. get_or in_slots r 0 * n)
+        (count_where_same (r + 1) (has home) (is_home g t) (λ k until. same k (omega (arith, in_season, until))))
+    | inr past ↦
+        let none : get_or in_slots r 0 ≡ 0 =
+        ones r ∙ ap {B = ℕ} (λ b. if b then 1 else 0) (has_beyond (round_count g.teams) slots r of_slots past) in
+        is.counts r ∙ ap (λ n. n * count_where (r + 1) (has home)) none ∙
+        nothing (count_where (r + 1) (has home)) (count_where (r + 1) (is_home g t)) ∙
+        sym (ap (λ n. n * count_where (r + 1) (is_home g t)) none)
+  ];
+}
+  where
+    nothing : (a b : ℕ) → 0 * a ≡ 0 * b
+    nothing a b = omega arith
+
+module _ (g : Games) (most i j slots : ℕ) (first second in_slots : List ℕ) (season : round_count g.teams ≤ 78)
+    (of_slots : IsBelow (round_count g.teams) slots) (first_is : IsHomeRow in_slots (is_home g i) first)
+    (second_is : IsHomeRow in_slots (is_home g j) second) (ones : (r : ℕ) → get_or in_slots r 0 ≡ one_in slots r) where
+  in_season : (r : ℕ) → (if has slots r then gap g most i j r else 0) ≡ over (apart_in first second r) most
+  unfolding gap home_games
+  in_season r =
+      at (has slots r) (number_in slots r (is_home g i) in_slots first ones first_is)
+      (number_in slots r (is_home g j) in_slots second ones second_is)
+    where
+      at : (b : Bool) → get_or first r 0 ≡ (if b then count_where (r + 1) (is_home g i) else 0) →
+          get_or second r 0 ≡ (if b then count_where (r + 1) (is_home g j) else 0) →
+          (if b then gap g most i j r else 0) ≡ over (apart_in first second r) most
+      at true first_has second_has = omega (arith, first_has, second_has)
+      at false first_has second_has = omega (arith, first_has, second_has)
+
+  past_season : (r : ℕ) → round_count g.teams ≤ r → apart_in first second r ≡ 0
   past_season r past =
-      omega (arith, limited r ∙ ap {B = ℕ} (λ b. if b then 255 else 0) (has_beyond (round_count g.teams) slots r of_slots past))
+      let out : has slots r ≡ false = has_beyond (round_count g.teams) slots r of_slots past in
+      omega (
+        arith,
+        number_in slots r (is_home g i) in_slots first ones first_is,
+        number_in slots r (is_home g j) in_slots second ones second_is,
+        cond-false {A = ℕ} (has slots r) (count_where (r + 1) (is_home g i)) 0 out,
+        cond-false {A = ℕ} (has slots r) (count_where (r + 1) (is_home g j)) 0 out,
+      )
 
   -- two rows tell the worst gap of their teams
-  pub worst_gap_of_rows : over (worst_apart first second limits) most ≡ worst_gap g (has slots) most i j
+  pub worst_gap_of_rows : over (worst_apart first second) most ≡ worst_gap g (has slots) most i j
   unfolding worst_gap worst_apart
   worst_gap_of_rows =
       ap (λ n. over n most)
-      (largest_below_past (round_count g.teams) 80 (apart_within first second limits) (omega (arith, season))
-      (λ r past below. past_season r past)) ∙
-      over_largest (round_count g.teams) most (apart_within first second limits) ∙
+      (largest_below_past (round_count g.teams) 80 (apart_in first second) (omega (arith, season)) (λ r past below. past_season r past)) ∙
+      over_largest (round_count g.teams) most (apart_in first second) ∙
       sym (largest_below_same (round_count g.teams) (λ r. if has slots r then gap g most i j r else 0)
-      (λ r. over (apart_within first second limits r) most) in_season)
-
--- a loop over rounds has written a number into each place so far, and writes the next
-pub one_more_written : (row : List ℕ) (at n number : ℕ) (f : ℕ → ℕ) → at ≡ n → n < length row → number ≡ f n →
-    ((k : ℕ) → k < n → get_or row k 0 ≡ f k) → (k : ℕ) → k < n + 1 → get_or (set row at number) k 0 ≡ f k
-one_more_written row at n number f here in_row is so_far k below = elim (cases_eq k n) [
-  | inl same ↦ get_or-set_at row at k number 0 (same ∙ sym here) (omega (arith, here)) ∙ is ∙ ap f (sym same)
-  | inr other ↦
-      let apart : k ≢ at = omega (arith, here) in
-      get_or-set_other row at k number 0 apart ∙ so_far k (omega arith)
-]
-
--- a loop over teams has written the rows of those that aren't left
-pub record HasRows (g : Games) (all left : ℕ) (table : List (List ℕ)) : Type 0 where
-  pub len : length table ≡ 40
-  pub below : IsBelow g.teams left
-  pub within : (k : ℕ) → has left k ≡ true → has all k ≡ true
-  pub rows : (t : ℕ) → has all t ≡ true → has left t ≡ false → IsRowOf g t (get_or table t [])
-
-pub rows_none : (g : Games) (all left : ℕ) (table : List (List ℕ)) → length table ≡ 40 → IsBelow g.teams all → left ≡ all →
-    HasRows g all left table
-rows_none g all left table len below whole = record {
-  len = len;
-  below = omega (arith, below, whole);
-  within = λ k here. sym (ap (λ s. has s k) whole) ∙ here;
-  rows = λ t in_all out. absurd (cc (in_all, out, ap (λ s. has s t) whole));
-}
-
-pub rows_more : (g : Games) (all left lowest rest at : ℕ) (table : List (List ℕ)) (row : List ℕ) → HasRows g all left table →
-    IsWithoutLowest left lowest rest → at ≡ lowest → lowest < 40 → IsRowOf g lowest row → HasRows g all rest (set table at row)
-rows_more g all left lowest rest at table row so_far taken here in_table is = record {
-  len = length-set table at row ∙ so_far.len;
-  below = omega (arith, so_far.below, taken.fewer);
-  within = λ k in_rest. so_far.within k (and_parts (has left k) (not (k == lowest)) (sym (taken.others k) ∙ in_rest)).0;
-  rows = λ t in_all gone. elim (cases_eq t lowest) [
-    | inl same ↦
-        subst (IsRowOf g t) (sym (get_or-set_at table at t row [] (same ∙ sym here) (omega (arith, here, so_far.len))))
-        (rw same is)
-    | inr other ↦
-        let apart : t ≢ at = omega (arith, here) in
-        subst (IsRowOf g t) (sym (get_or-set_other table at t row [] apart))
-        (so_far.rows t in_all (sym (others_kept left lowest rest t taken other) ∙ gone))
-  ];
-}
+      (λ r. over (apart_in first second r) most) (λ r below. in_season r))

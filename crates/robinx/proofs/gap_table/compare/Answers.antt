@@ -5,7 +5,7 @@ use Rattle.robinx.proofs.rows.ComparedGaps.{compared_none, compared_more}
 use Rattle.robinx.proofs.gap_table.compare.Goals as goal
 
 pub loop-other-init : goal.loop-other-init
-loop-other-init c = compared_none _ _ _ _ _ _ c.requires.tallied c.requires.below c.into_iter-other-iterator.ensures.into_iter_gives
+loop-other-init c = compared_none _ _ _ _ _ c.requires.tallied c.requires.below c.into_iter-other-iterator.ensures.into_iter_gives
 
 pub bounds-rows-from-in-loop-other : goal.bounds-rows-from-in-loop-other
 bounds-rows-from-in-loop-other c =
@@ -17,8 +17,8 @@ set-requires-clause-lower c = lowest_below _ _ _ _ c.loop-other.invariant.below 
 
 pub loop-other-preserved : goal.loop-other-preserved
 loop-other-preserved c =
-    compared_more _ _ _ _ _ _ _ _ _ _ c.loop-other.invariant c.in-Some.ensures.steps c.set.ensures.tallied c.set.ensures.teams
+    compared_more _ _ _ _ _ _ _ _ _ c.loop-other.invariant c.in-Some.ensures.steps c.set.ensures.tallied c.set.ensures.teams
     (c.set.ensures.set ∙ c.worst_apart-gap.ensures ∙
-    ap (λ k. worst_apart (row_of c.args.rows.now k) (row_of c.args.rows.now c.from.result) c.args.limits.now) c.from-in-loop-other.ensures ∙
-    ap (λ k. worst_apart (row_of c.args.rows.now c.in-Some.other) (row_of c.args.rows.now k) c.args.limits.now) c.from.ensures)
+    ap (λ k. worst_apart (row_of c.args.rows.now k) (row_of c.args.rows.now c.from.result)) c.from-in-loop-other.ensures ∙
+    ap (λ k. worst_apart (row_of c.args.rows.now c.in-Some.other) (row_of c.args.rows.now k)) c.from.ensures)
     c.set.ensures.others

@@ -1,24 +1,22 @@
-use Rattle.std.proofs.Common.{◌≡◌, sym, ◌∙◌, ap, arith}
+use Rattle.std.proofs.Common.{◌≡◌, ◌*◌, refl, ◌∙◌, ap, arith}
 use Rattle.robinx.specs.Deviations.{largest_below}
-use Rattle.robinx.specs.Walked.{apart_within, worst_apart}
-use Rattle.robinx.proofs.limits.Largest.{largest_below_none, largest_below_more, ord_max_is}
+use Rattle.robinx.specs.Walked.{apart_in, worst_apart}
+use Rattle.robinx.proofs.rows.Lanes.{lanes_none, lanes_more}
 use Rattle.robinx.proofs.home_rows.worst_apart.Goals as goal
 
-pub loop-round-init : goal.loop-round-init
-loop-round-init c = sym (largest_below_none _)
+pub loop-chunk-init : goal.loop-chunk-init
+loop-chunk-init c = record { len = refl; largest = lanes_none (apart_in c.args.first.now c.args.second.now) }
 
-pub loop-round-preserved : goal.loop-round-preserved
-loop-round-preserved c =
-    omega (
-      arith,
-      c.loop-round.invariant,
-      c.max-worst.ensures ∙ ord_max_is c.loop-round.worst c.min-in-loop-round.result,
-      c.min-in-loop-round.ensures,
-      largest_below_more c.loop-round.round (apart_within c.args.first.now c.args.second.now c.args.limits.now),
-    )
+pub loop-chunk-preserved : goal.loop-chunk-preserved
+loop-chunk-preserved c = record {
+  len = c.widen.ensures.len;
+  largest = lanes_more (c.loop-chunk.chunk * 16) _ _ _ (apart_in c.args.first.now c.args.second.now) (omega arith)
+      c.loop-chunk.invariant.largest c.widen.ensures.widened;
+}
 
 pub returns : goal.returns
 unfolding worst_apart
 returns c =
-    let whole : c.loop-round.round ≡ 80 = omega arith in
-    c.loop-round.invariant ∙ ap (λ n. largest_below n (apart_within c.args.first.now c.args.second.now c.args.limits.now)) whole
+    let whole : c.loop-chunk.chunk * 16 ≡ 80 = omega arith in
+    c.largest_of.ensures ∙ c.loop-chunk.invariant.largest ∙
+    ap (λ n. largest_below n (apart_in c.args.first.now c.args.second.now)) whole

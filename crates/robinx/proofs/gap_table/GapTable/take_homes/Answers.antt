@@ -1,7 +1,7 @@
 use Rattle.std.proofs.Common.{◌≡◌, ℕ, ◌<◌, length, get_or, sym, ◌∙◌, ap, arith}
 use Rattle.league.specs.Sets.{has}
 use Rattle.league.proofs.ForCallers.{lowest_below, has_empty}
-use Rattle.robinx.proofs.rows.ComparedGaps.{taken_none, taken_same, taken_more, taken_in_table, at_home_alike}
+use Rattle.robinx.proofs.rows.ComparedGaps.{taken_none, taken_same, taken_more, taken_in_table, row_to_turn, at_home_alike}
 use Rattle.robinx.proofs.gap_table.GapTable.take_homes.Goals as goal
 
 pub loop-team-init : goal.loop-team-init
@@ -31,8 +31,11 @@ bounds-self-from-in-loop-team c =
     let in_table : c.in-Some.team < 40 = taken_in_table _ _ _ _ _ _ _ c.requires.playing c.loop-team.invariant c.in-Some.ensures.steps in
     omega (arith, in_table, c.from-in-loop-team.ensures)
 
-pub home_games_by_round-requires : goal.home_games_by_round-requires
-home_games_by_round-requires c = lowest_below _ _ _ _ c.loop-team.invariant.homes.below c.in-Some.ensures.steps
+pub turn-requires-clause-row : goal.turn-requires-clause-row
+turn-requires-clause-row c =
+    row_to_turn _ _ _ _ _ _ _ c.from.result c.from-in-loop-team-2.result c.index-self-from.result _ _ c.requires.playing
+    c.loop-team.invariant c.in-Some.ensures.steps c.from.ensures c.from-in-loop-team-2.ensures
+    c.symmetric_difference-changed.ensures.members
 
 pub bounds-self-from-in-loop-team-2 : goal.bounds-self-from-in-loop-team-2
 bounds-self-from-in-loop-team-2 c =
@@ -45,7 +48,7 @@ with-stale-requires c = taken_in_table _ _ _ _ _ _ _ c.requires.playing c.loop-t
 pub loop-team-preserved : goal.loop-team-preserved
 loop-team-preserved c =
     taken_more _ _ _ _ _ _ _ _ _ _ _ _ c.requires.playing c.loop-team.invariant c.in-Some.ensures.steps c.from-in-loop-team.ensures
-    c.from-in-loop-team-2.ensures c.home_rounds-homes.ensures.members c.home_games_by_round.ensures c.with-stale.ensures.members
+    c.from-in-loop-team-2.ensures c.home_rounds-homes.ensures.members c.turn.ensures c.with-stale.ensures.members
 
 pub loop-team-preserved-then-eq : goal.loop-team-preserved-then-eq
 loop-team-preserved-then-eq c =

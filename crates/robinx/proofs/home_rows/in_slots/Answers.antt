@@ -3,7 +3,7 @@ use Rattle.std.proofs.lemmas.Bool.{cases_lt}
 use Rattle.std.proofs.lemmas.List.{get_or-replicate}
 use Rattle.std.proofs.Math.ListN.{replicate, get_or-eq_default}
 use Rattle.league.proofs.ForCallers.{has_beyond}
-use Rattle.robinx.proofs.home_rows.limits.Goals as goal
+use Rattle.robinx.proofs.home_rows.in_slots.Goals as goal
 
 pub loop-round-init : goal.loop-round-init
 loop-round-init c = record {
@@ -20,5 +20,5 @@ returns c = λ r. elim (cases_lt r c.args.rounds) [
   | inl in_season ↦ c.loop-round.invariant.written r (omega arith)
   | inr past ↦
       c.loop-round.invariant.rest r (omega arith) ∙
-      sym (ap {B = ℕ} (λ b. if b then 255 else 0) (has_beyond c.args.rounds c.args.slots r c.requires.slots past))
+      sym (ap {B = ℕ} (λ b. if b then 1 else 0) (has_beyond c.args.rounds c.args.slots r c.requires.slots past))
 ]
