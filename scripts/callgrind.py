@@ -8,9 +8,10 @@ import tempfile
 
 
 def league(teams, rule=None):
-    """The text of a circle, with eight rules like this one or with none."""
+    """The text of a circle, with eight rules like this one, with those of a list, or with none."""
     away = [[min(abs(i - j), teams - abs(i - j)) for j in range(teams)] for i in range(teams)]
-    rules = [{**rule, "kind": "soft", "weight": 1}] * 8 if rule else []
+    bodies = rule if isinstance(rule, list) else [rule] * 8 if rule else []
+    rules = [{**body, "kind": "soft", "weight": 1} for body in bodies]
     return json.dumps({"format": 2, "teams": [f"T{i + 1}" for i in range(teams)], "distances": away, "rules": rules})
 
 

@@ -5,7 +5,7 @@ use crate::tests::rule_leagues::{check_deviation, league_with, only_deviation};
 use fixtures::{Schedule, Touched, berger};
 use league::{League, SlotSet, TeamSet};
 use moves::{Move, apply, check};
-use robinx::{KeptGaps, deviation_part};
+use robinx::{KeptGaps, PartCounter, deviation_part};
 use std::alloc::Global;
 use std::process::Abort;
 use std::test::Fail;
@@ -185,6 +185,57 @@ fn part_against_all_teams_is_of_sides(rt: HostRuntime) -> Result<(), Fail> {
     let found = part(&start, &league, main, sides, &mut KeptGaps::new());
     check_same(&rt, &(rule, found), &(rule, Some(2)));
     Ok(())
+}
+
+/// The parts of two leagues' only rules and of the first again that an exchange of the homes of teams 1 and 2 can alter, by one counter.
+fn parts_by_one(schedule: &Schedule, league: &League, next: &League) -> Option<(u64, u64, u64)> {
+    let teams = schedule.teams();
+    if league.teams() != teams || league.rule_count() != 1 {
+        return None;
+    }
+    if next.teams() != teams || next.rule_count() != 1 {
+        return None;
+    }
+    let main = their_games();
+    let mut counter = PartCounter::new(schedule, main, main.teams);
+    let mut gaps = KeptGaps::new();
+    let first = counter.part(league.rule(0), &mut gaps);
+    let second = counter.part(next.rule(0), &mut gaps);
+    let again = counter.part(league.rule(0), &mut gaps);
+    Some((first, second, again))
+}
+
+fn check_parts_by_one(
+    rt: &impl Abort,
+    alloc: Global,
+    start: &Schedule,
+    (rule, count): (&str, u64),
+    (next, next_count): (&str, u64),
+) -> Result<(), Fail> {
+    let league = league_with(alloc, 6, rule)?;
+    let found = parts_by_one(start, &league, &league_with(alloc, 6, next)?);
+    check_same(
+        rt,
+        &(next, found),
+        &(next, Some((count, next_count, count))),
+    );
+    Ok(())
+}
+
+fn check_one_counter(rt: &impl Abort, alloc: Global, start: &Schedule) -> Result<(), Fail> {
+    let mut last = ("", 0);
+    for &(rule, _, count) in OF_HOMES {
+        if last.0 != "" {
+            check_parts_by_one(rt, alloc, start, last, (rule, count))?;
+        }
+        last = (rule, count);
+    }
+    Ok(())
+}
+
+#[test]
+fn one_counter_counts_each_rule_as_alone(rt: HostRuntime) -> Result<(), Fail> {
+    check_one_counter(&rt, rt.alloc(), &berger(rt.alloc(), 6)?)
 }
 
 /// Makes the move, and returns its main cells.
