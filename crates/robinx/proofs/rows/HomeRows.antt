@@ -134,7 +134,8 @@ pub turned_none : (in_slots row : List ℕ) (homes changed left : ℕ) → IsBel
     IsHomeRow in_slots (is_home_with homes changed) row → HasTurned in_slots row homes left
 turned_none in_slots row homes changed left below whole is = rw whole (record { below = below; is = is })
 
-pub turned_all : (in_slots row : List ℕ) (homes left : ℕ) → left ≡ 0 → HasTurned in_slots row homes left → IsHomeRow in_slots (has homes) row
+pub turned_all : (in_slots row : List ℕ) (homes left : ℕ) → left ≡ 0 → HasTurned in_slots row homes left →
+    IsHomeRow in_slots (has homes) row
 turned_all in_slots row homes left none so_far =
     same_home_row in_slots row (is_home_with homes left) (has homes)
     (λ r. cond-false {A = Bool} (has left r) (not (has homes r)) (has homes r) (ap (λ s. has s r) none ∙ has_empty r)) so_far.is
