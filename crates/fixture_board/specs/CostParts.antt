@@ -16,7 +16,7 @@ use Rattle.tours.specs.Runs.{runs_over}
 use Rattle.tours.specs.Repeats.{repeats}
 use Rattle.tours.specs.Phased.{unphased_part}
 use Rattle.robinx.specs.Parts.{deviation_part}
-use Rattle.robinx.specs.Told.{Counting}
+use Rattle.robinx.specs.LastCounts.{Counting}
 use Rattle.fixture_board.specs.Costs.{cost_of, hard_penalty, soft_penalty, score_limit, where_phased}
 use Rattle.fixture_board.specs.declared.cost.Cost.{Cost}
 use Rattle.fixture_board.specs.declared.penalties.Penalties.{Penalties}

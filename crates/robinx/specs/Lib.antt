@@ -1,8 +1,8 @@
 pub mod Deviations
 pub mod Gaps
+pub mod LastCounts
 pub mod Laws
 pub mod LooksPast
 pub mod Parts
-pub mod Told
 pub mod Touches
 pub mod Walked

@@ -4,7 +4,7 @@ ghost use Rattle.std.specs.Prelude.{◌≡◌, true};
 ghost use Rattle.league.specs.declared.rule.RuleBody.TheVariants as RuleBody;
 ghost use Rattle.fixtures.specs.Games.{Games};
 ghost use Rattle.robinx.specs.Deviations.{deviation};
-ghost use Rattle.robinx.specs.Told.{TellsGaps};
+ghost use Rattle.robinx.specs.LastCounts.{AreOversOf};
 
 use crate::home_rows::ROW;
 use league::{SlotSet, TeamSet};
@@ -29,7 +29,7 @@ impl GapOvers {
 
     /// The deviation from a rule that allows gaps of at most `most`.
     pub(crate) fn over(&self, most: u32) -> u64
-        ensures { (g : Games) → TellsGaps g self.now →
+        ensures { (g : Games) → AreOversOf g self.now →
             result ≡ deviation g (RuleBody.Fa2 self.now.teams self.now.slots most) }
     {
         let most = most as usize;

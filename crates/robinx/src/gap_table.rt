@@ -5,7 +5,7 @@ ghost use Rattle.league.specs.Limits.{max_teams};
 ghost use Rattle.league.specs.Sets.{has, IsBelow};
 ghost use Rattle.fixtures.specs.Games.{round_count, is_home, IsDoubleRoundRobin};
 ghost use Rattle.robinx.specs.Gaps.{AreTallied, IsGapTable, IsHomeRow, IsTableFor, IsTableOf, IsWholeTable, gap_at};
-ghost use Rattle.robinx.specs.Told.{TellsGaps};
+ghost use Rattle.robinx.specs.LastCounts.{AreOversOf};
 ghost use Rattle.robinx.specs.Walked.{row_length, row_of, worst_apart};
 
 use crate::gap_overs::GapOvers;
@@ -99,7 +99,7 @@ impl GapTable {
         requires round_robin { IsDoubleRoundRobin schedule.now }
         requires table { IsWholeTable self.now }
         requires homes { IsTableOf self.now schedule.now self.now.gaps.teams self.now.slots }
-        ensures told { TellsGaps schedule.now result }
+        ensures overs { AreOversOf schedule.now result }
         ensures teams { result.teams ≡ self.now.gaps.teams }
         ensures slots { result.slots ≡ self.now.slots }
     {

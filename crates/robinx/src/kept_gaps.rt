@@ -4,7 +4,7 @@ ghost use Rattle.std.specs.Prelude.{◌≡◌, true, if◌then◌else◌};
 ghost use Rattle.league.specs.Sets.{IsBelow};
 ghost use Rattle.fixtures.specs.Games.{round_count, IsDoubleRoundRobin};
 ghost use Rattle.robinx.specs.Gaps.{IsTableOf, IsWholeTable};
-ghost use Rattle.robinx.specs.Told.{TellsGaps};
+ghost use Rattle.robinx.specs.LastCounts.{AreOversOf};
 
 use crate::gap_overs::GapOvers;
 use crate::gap_table::GapTable;
@@ -45,7 +45,7 @@ impl KeptGaps {
         requires round_robin { IsDoubleRoundRobin schedule.now }
         requires teams { IsBelow schedule.now.teams teams }
         requires slots { IsBelow (round_count schedule.now.teams) slots }
-        ensures told { TellsGaps schedule.now result }
+        ensures overs { AreOversOf schedule.now result }
         ensures teams { result.teams ≡ teams }
         ensures slots { result.slots ≡ slots }
     {

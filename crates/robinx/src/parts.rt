@@ -7,7 +7,7 @@ ghost use Rattle.league.specs.Sets.{has, IsBelow};
 ghost use Rattle.fixtures.specs.Games.{IsDoubleRoundRobin};
 ghost use Rattle.robinx.specs.Deviations.{deviation};
 ghost use Rattle.robinx.specs.Parts.{counts_otherwise, changing_terms, deviation_part};
-ghost use Rattle.robinx.specs.Told.{IsTold};
+ghost use Rattle.robinx.specs.LastCounts.{AreLastCounts};
 ghost use Rattle.robinx.specs.Walked.{counted_of};
 
 use crate::break_rules::{br1, br2_with};
@@ -18,8 +18,8 @@ use crate::fairness_rules::Fairness;
 use crate::game_rules::has_moved_game;
 use crate::guests::{Around, teams_otherwise};
 use crate::kept_gaps::KeptGaps;
+use crate::last_counts::{LastCounts, WindowRule};
 use crate::separation_rules::se1_part;
-use crate::told::{Told, WindowRule};
 use crate::touched_rules::can_alter;
 use fixtures::{Schedule, Touched};
 use league::{Rule, RuleBody, TeamSet};
@@ -53,17 +53,17 @@ pub fn deviation_part(
 pub struct PartCounter<'a> {
     schedule: &'a Schedule,
     change: Around,
-    told: Told,
+    last: LastCounts,
 }
 
 impl<'a> Model for PartCounter<'a> {
-    ghost use Rattle.robinx.specs.Told.{Counting, IsTold};
+    ghost use Rattle.robinx.specs.LastCounts.{Counting, AreLastCounts};
 
     ghost Value = { Counting };
 
     ghost view = { λ c. record { games = c.schedule.now; main = c.change.main; rounds = c.change.rounds; sides = c.change.sides } };
 
-    ghost invariant = { λ c. IsTold c.schedule.now c.change.main c.change.rounds c.change.sides c.told };
+    ghost invariant = { λ c. AreLastCounts c.schedule.now c.change.main c.change.rounds c.change.sides c.last };
 }
 
 impl<'a> PartCounter<'a> {
@@ -78,7 +78,7 @@ impl<'a> PartCounter<'a> {
                 rounds: main.rounds,
                 sides,
             },
-            told: Told::nothing(),
+            last: LastCounts::nothing(),
         }
     }
 
@@ -95,7 +95,7 @@ impl<'a> PartCounter<'a> {
         if !can_alter(rule, self.change.rounds) {
             return 0;
         }
-        changing_terms(schedule, rule, &self.change, &mut self.told, gaps)
+        changing_terms(schedule, rule, &self.change, &mut self.last, gaps)
     }
 }
 
@@ -105,15 +105,15 @@ fn changing_terms(
     schedule: &Schedule,
     rule: &Rule,
     change: &Around,
-    told: &mut Told,
+    last: &mut LastCounts,
     gaps: &mut KeptGaps,
 ) -> u64
     requires body { IsBodyFor schedule.now.teams rule.now.body }
     requires round_robin { IsDoubleRoundRobin schedule.now }
-    requires told { IsTold schedule.now change.now.main change.now.rounds change.now.sides told.old }
+    requires counts { AreLastCounts schedule.now change.now.main change.now.rounds change.now.sides last.old }
     ensures value { result ≡
         changing_terms schedule.now change.now.main change.now.rounds change.now.sides rule.now.body }
-    ensures told { IsTold schedule.now change.now.main change.now.rounds change.now.sides told.new }
+    ensures counts { AreLastCounts schedule.now change.now.main change.now.rounds change.now.sides last.new }
 {
     let sides = change.sides;
     match &rule.body {
@@ -127,7 +127,7 @@ fn changing_terms(
                 window: *window,
                 most: *max,
             };
-            told.ca3(schedule, change, &rule)
+            last.ca3(schedule, change, &rule)
         }
         RuleBody::Ca4 {
             slots,
@@ -152,7 +152,7 @@ fn changing_terms(
         RuleBody::Se1 { teams, min } => se1_part(schedule, *teams, change, *min),
         RuleBody::Fa2 { teams, slots, most } => {
             let fairness = Fairness::new(*teams, *slots, *most);
-            told.fa2(schedule, change, &fairness, gaps)
+            last.fa2(schedule, change, &fairness, gaps)
         }
     }
 }

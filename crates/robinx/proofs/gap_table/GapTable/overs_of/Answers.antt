@@ -3,8 +3,8 @@ use Rattle.robinx.proofs.rows.GapTables.{table_tells}
 use Rattle.robinx.proofs.rows.Tallies.{over_all}
 use Rattle.robinx.proofs.gap_table.GapTable.overs_of.Goals as goal
 
-pub returns-clause-told : goal.returns-clause-told
-returns-clause-told c = record {
+pub returns-clause-overs : goal.returns-clause-overs
+returns-clause-overs c = record {
   within = λ most below.
       c.requires.table.overs most below ∙
       table_tells c.args.schedule.now c.args.self.now c.args.self.now.slots most c.requires.round_robin c.requires.table.table

@@ -1,6 +1,6 @@
 use Rattle.std.proofs.Common.{sym, subst, arith}
 use Rattle.league.specs.RuleLimits.{IsBodyFor}
-use Rattle.robinx.specs.Told.{Counting}
+use Rattle.robinx.specs.LastCounts.{Counting}
 use Rattle.robinx.proofs.limits.PartLimits.{terms_below}
 use Rattle.robinx.proofs.parts.PartCounter.part.Goals as goal
 

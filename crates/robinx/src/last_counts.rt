@@ -6,7 +6,7 @@ ghost use Rattle.league.specs.declared.rule.RuleBody.TheVariants as RuleBody;
 ghost use Rattle.fixtures.specs.Games.{Games, round_count, IsDoubleRoundRobin};
 ghost use Rattle.robinx.specs.Deviations.{deviation};
 ghost use Rattle.robinx.specs.Parts.{changing_terms};
-ghost use Rattle.robinx.specs.Told.{IsTold};
+ghost use Rattle.robinx.specs.LastCounts.{AreLastCounts};
 ghost use Rattle.robinx.specs.Touches.{has_touched_team};
 
 use crate::capacity_rules::ca3_part;
@@ -43,24 +43,24 @@ impl WindowRule {
 
 /// A rule of class CA3, and what a change can alter of its deviation.
 #[derive(Clone, Copy, Drop)]
-pub(crate) struct ToldWindows {
+pub(crate) struct WindowCount {
     pub rule: WindowRule,
     pub over: u64,
 }
 
 /// What was counted for the last rules of CA3 and of FA2, on one schedule around one change.
 #[derive(Drop)]
-pub(crate) struct Told {
-    pub windows: Option<ToldWindows>,
+pub(crate) struct LastCounts {
+    pub windows: Option<WindowCount>,
     pub gaps: Option<GapOvers>,
 }
 
-impl Told {
+impl LastCounts {
     /// Nothing counted yet.
     pub(crate) fn nothing() -> Self
-        ensures { (g : Games) (main rounds sides : ℕ) → IsTold g main rounds sides result }
+        ensures { (g : Games) (main rounds sides : ℕ) → AreLastCounts g main rounds sides result }
     {
-        Told {
+        LastCounts {
             windows: None,
             gaps: None,
         }
@@ -72,18 +72,18 @@ impl Told {
         requires teams { IsBelow schedule.now.teams rule.now.games.teams }
         requires least { 1 ≤ rule.now.window }
         requires window { rule.now.window ≤ round_count schedule.now.teams }
-        requires told { IsTold schedule.now change.now.main change.now.rounds change.now.sides self.old }
-        ensures told { IsTold schedule.now change.now.main change.now.rounds change.now.sides self.new }
+        requires counts { AreLastCounts schedule.now change.now.main change.now.rounds change.now.sides self.old }
+        ensures counts { AreLastCounts schedule.now change.now.main change.now.rounds change.now.sides self.new }
         ensures value { result ≡ changing_terms schedule.now change.now.main change.now.rounds change.now.sides
             (RuleBody.Ca3 rule.now.games.teams rule.now.games.side rule.now.games.opponents rule.now.window rule.now.most) }
     {
-        if let Some(told) = &self.windows {
-            if told.rule.is_same(rule) {
-                return told.over;
+        if let Some(last) = &self.windows {
+            if last.rule.is_same(rule) {
+                return last.over;
             }
         }
         let over = met_windows(schedule, change, rule);
-        self.windows = Some(ToldWindows { rule: *rule, over });
+        self.windows = Some(WindowCount { rule: *rule, over });
         over
     }
 
@@ -100,8 +100,8 @@ impl Told {
         requires round_robin { IsDoubleRoundRobin schedule.now }
         requires teams { IsBelow schedule.now.teams fairness.now.teams }
         requires slots { IsBelow (round_count schedule.now.teams) fairness.now.slots }
-        requires told { IsTold schedule.now change.now.main change.now.rounds change.now.sides self.old }
-        ensures told { IsTold schedule.now change.now.main change.now.rounds change.now.sides self.new }
+        requires counts { AreLastCounts schedule.now change.now.main change.now.rounds change.now.sides self.old }
+        ensures counts { AreLastCounts schedule.now change.now.main change.now.rounds change.now.sides self.new }
         ensures value { result ≡ (if has_touched_team fairness.now.teams (has change.now.sides) then
             deviation schedule.now (RuleBody.Fa2 fairness.now.teams fairness.now.slots fairness.now.most) else 0) }
     {
@@ -109,14 +109,14 @@ impl Told {
             return 0;
         }
         let Fairness { teams, slots, most } = *fairness;
-        if let Some(told) = &self.gaps {
-            if told.is_of(teams, slots) {
-                return told.over(most);
+        if let Some(last) = &self.gaps {
+            if last.is_of(teams, slots) {
+                return last.over(most);
             }
         }
-        let told = gaps.overs(schedule, teams, slots);
-        let over = told.over(most);
-        self.gaps = Some(told);
+        let overs = gaps.overs(schedule, teams, slots);
+        let over = overs.over(most);
+        self.gaps = Some(overs);
         over
     }
 }
