@@ -36,7 +36,7 @@ pub record IsHomeRow (in_slots : List ℕ) (home : ℕ → Bool) (row : List ℕ
   pub len : length row ≡ row_length
   pub counts : (r : ℕ) → slice_index row r ≡ slice_index in_slots r * count_where (r + 1) home
 
--- whether a team is at home in a round: as it will be, but in the rounds that are left to turn
+-- whether a team is at home in a round, if it is to be at home in a set of rounds, and some are left in which it has yet to turn
 abbrev pub is_home_with : ℕ → ℕ → ℕ → Bool
 is_home_with homes left r = if has left r then not (has homes r) else has homes r
 

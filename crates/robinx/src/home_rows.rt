@@ -22,8 +22,8 @@ pub(crate) const TEAMS: usize = MAX_TEAMS as usize;
 /// A number for each round.
 pub(crate) type Row = [u8; ROW];
 
-/// 0 as long as a row is, and then 1 as long. A window on it is 0 before a round and 1 from it on, so that a row turns from any round on in
-/// a loop over all of it, which the machine goes through by many numbers at once.
+/// 0 as long as a row is, and then 1 as long. A window on it, as long as a row, is 0 before a round and 1 from it on: so a row turns in a
+/// loop over all its rounds, of which the machine takes many at once.
 pub(crate) type Step = [u8; 2 * ROW];
 
 pub(crate) fn step() -> Step
@@ -51,7 +51,7 @@ pub(crate) fn in_slots(slots: SlotSet, rounds: u8) -> Row
     row
 }
 
-/// Makes the row that of these home rounds, from that of those that differ in the changed ones.
+/// Makes the row, which is of home rounds that differ from these in the changed ones, one of these.
 pub(crate) fn turn(row: &mut Row, changed: SlotSet, homes: SlotSet, step: &Step, in_slots: &Row)
     requires changed { IsBelow max_rounds changed }
     requires step { IsStep step.now }
@@ -68,7 +68,7 @@ pub(crate) fn turn(row: &mut Row, changed: SlotSet, homes: SlotSet, step: &Step,
     }
 }
 
-/// One more in each slot from the first on.
+/// Adds one in each slot from the first round on.
 #[inline]
 fn gain(row: &mut Row, first: u8, step: &Step, in_slots: &Row)
     requires first { first < row_length }
@@ -85,7 +85,7 @@ fn gain(row: &mut Row, first: u8, step: &Step, in_slots: &Row)
     }
 }
 
-/// One less in each slot from the first on.
+/// Takes one away in each slot from the first round on.
 #[inline]
 fn lose(row: &mut Row, first: u8, step: &Step, in_slots: &Row)
     requires first { first < row_length }
@@ -130,6 +130,7 @@ fn widen(lanes: &mut [u8; LANES], first: &Row, second: &Row, from: usize)
     }
 }
 
+/// The largest number of the lanes.
 #[inline]
 fn largest_of(lanes: &[u8; LANES]) -> u8
     ensures { result ≡ largest_below lane_count (slice_index lanes.now) }
