@@ -71,8 +71,8 @@ pub(crate) enum StepResult {
 
 /// An exchange that is made on the copy, what the copy is with it, and the board's reply to its proposal.
 #[derive(Clone, Copy)]
-struct Made {
-    exchange: Exchange,
+struct Made<'a> {
+    exchange: &'a Exchange,
     cost: Cost,
     score: u64,
     reply: Reply,
@@ -155,7 +155,7 @@ pub(crate) fn step<R: Wait, D: Door, G: HearingGate>(
     let reply = door.propose(rt, proposal);
     gate.left(rt, trial.worker, trial.made, reply);
     let made = Made {
-        exchange: attempt.exchange,
+        exchange: &attempt.exchange,
         cost,
         score,
         reply,
@@ -169,16 +169,16 @@ fn settle<R: Wait, D: Door, G>(
     door: &mut D,
     copy: &mut Schedule,
     known: &mut Known,
-    made: Made,
+    made: Made<'_>,
 ) -> StepResult
     requires same_size { teams means.measure.league.now ≡ copy.old.teams }
     requires measured { IsMeasured means.measure.of_boards means.measure.league.now (D.may_have door.old) }
-    requires again { IsExchange copy.old made.exchange }
+    requires again { IsExchange copy.old made.exchange.now }
     requires made { IsKnown means.measure.league.now copy.old made.cost made.score }
-    requires before { IsKnown means.measure.league.now (exchanged_by copy.old made.exchange) known.old.cost known.old.score }
+    requires before { IsKnown means.measure.league.now (exchanged_by copy.old made.exchange.now) known.old.cost known.old.score }
     ensures same_size { copy.new.teams ≡ copy.old.teams }
     ensures known { IsKnown means.entry.measure.league.now copy.new known.new.cost known.new.score }
-    ensures told { accepted_count result ≡ done_count made.reply }
+    ensures told { accepted_count result ≡ done_count made.entry.reply }
     ensures proposed { IsProposed result }
     ensures counted { D.granted door.new ≡ D.granted door.old }
     ensures stays { D.stays door.old door.new }
