@@ -137,8 +137,9 @@ fn try_move(
     if check(schedule, mv).is_err() {
         return TryEnd::Refused;
     }
+    let exchange = exchange(schedule, mv);
     let attempt = Attempt {
-        exchange: exchange(schedule, mv),
+        exchange: &exchange,
         known: known.cost,
         most: known.score.saturating_add(slack),
     };

@@ -37,23 +37,23 @@ use Rattle.fixture_board.proofs.Scores.{cost_travel, exchanged-teams, score_belo
 -- what differs
 
 around : (g : Games) (scope : Scope) → IsScope g scope →
-    DiffersOnlyAround g (exchanged_by g scope.attempt.exchange) (has scope.main.teams) (has scope.main.rounds)
+    DiffersOnlyAround g (exchanged_by g scope.attempt.exchange.now) (has scope.main.teams) (has scope.main.rounds)
 around g scope is =
-    subst (λ (main : TouchedCells). DiffersOnlyAround g (exchanged_by g scope.attempt.exchange) (has main.teams) (has main.rounds))
-    (sym is.main) (each_around g scope.attempt.exchange is.can_be_made)
+    subst (λ (main : TouchedCells). DiffersOnlyAround g (exchanged_by g scope.attempt.exchange.now) (has main.teams) (has main.rounds))
+    (sym is.main) (each_around g scope.attempt.exchange.now is.can_be_made)
 
 sides : (g : Games) (scope : Scope) → IsScope g scope →
-    DiffersOnlyAt is_home g (exchanged_by g scope.attempt.exchange) (box (has scope.turning) (has scope.main.rounds))
+    DiffersOnlyAt is_home g (exchanged_by g scope.attempt.exchange.now) (box (has scope.turning) (has scope.main.rounds))
 sides g scope is =
-    subst (λ (main : TouchedCells). DiffersOnlyAt is_home g (exchanged_by g scope.attempt.exchange)
+    subst (λ (main : TouchedCells). DiffersOnlyAt is_home g (exchanged_by g scope.attempt.exchange.now)
     (box (has scope.turning) (has main.rounds)))
     (sym is.main)
-    (subst (λ teams. DiffersOnlyAt is_home g (exchanged_by g scope.attempt.exchange)
-    (box teams (has (main_cells scope.attempt.exchange).rounds)))
-    (sym (fun_ext is.turning)) (each_sides g scope.attempt.exchange is.can_be_made))
+    (subst (λ teams. DiffersOnlyAt is_home g (exchanged_by g scope.attempt.exchange.now)
+    (box teams (has (main_cells scope.attempt.exchange.now).rounds)))
+    (sym (fun_ext is.turning)) (each_sides g scope.attempt.exchange.now is.can_be_made))
 
-round_robin_after : (g : Games) (scope : Scope) → IsScope g scope → IsDoubleRoundRobin (exchanged_by g scope.attempt.exchange)
-round_robin_after g scope is = (each_undone g scope.attempt.exchange is.can_be_made).again.round_robin
+round_robin_after : (g : Games) (scope : Scope) → IsScope g scope → IsDoubleRoundRobin (exchanged_by g scope.attempt.exchange.now)
+round_robin_after g scope is = (each_undone g scope.attempt.exchange.now is.can_be_made).again.round_robin
 
 -- a count that is taken or not
 counted_balances : (taken : Bool) (new old before after : ℕ) → new + before ≡ old + after →
@@ -79,12 +79,12 @@ soft_even (Soft weight) new before old after balance =
 
 rule_balances : (penalty : Weight → ℕ → ℕ) → IsEven penalty → (g : Games) (scope : Scope) → IsScope g scope → (rule : Option Rule) →
     ((r : Rule) → rule ≡ Some r → IsBodyFor g.teams r.body) →
-    penalty_of penalty (exchanged_by g scope.attempt.exchange) rule + rule_part penalty scope.main scope.turning g rule ≡
-    penalty_of penalty g rule + rule_part penalty scope.main scope.turning (exchanged_by g scope.attempt.exchange) rule
+    penalty_of penalty (exchanged_by g scope.attempt.exchange.now) rule + rule_part penalty scope.main scope.turning g rule ≡
+    penalty_of penalty g rule + rule_part penalty scope.main scope.turning (exchanged_by g scope.attempt.exchange.now) rule
 rule_balances penalty even g scope is None for = refl
 rule_balances penalty even g scope is (Some rule) for =
     even rule.weight _ _ _ _
-    (deviation_balance g (exchanged_by g scope.attempt.exchange) is.can_be_made.round_robin (round_robin_after g scope is) scope.main.teams
+    (deviation_balance g (exchanged_by g scope.attempt.exchange.now) is.can_be_made.round_robin (round_robin_after g scope is) scope.main.teams
     scope.main.rounds scope.turning (around g scope is) (sides g scope is) rule.body (for rule refl))
 
 rule_for : (l : LeagueData) (g : Games) (i : ℕ) → IsLeague l → teams l ≡ g.teams → (rule : Rule) →
@@ -98,8 +98,8 @@ rule_for l g i is same rule at =
 
 rules_balance : (penalty : Weight → ℕ → ℕ) → IsEven penalty → (l : LeagueData) (g : Games) (scope : Scope) →
     IsLeague l → teams l ≡ g.teams → IsScope g scope →
-    sum_over_rules penalty l.rules (exchanged_by g scope.attempt.exchange) + rules_part penalty l.rules scope.main scope.turning g ≡
-    sum_over_rules penalty l.rules g + rules_part penalty l.rules scope.main scope.turning (exchanged_by g scope.attempt.exchange)
+    sum_over_rules penalty l.rules (exchanged_by g scope.attempt.exchange.now) + rules_part penalty l.rules scope.main scope.turning g ≡
+    sum_over_rules penalty l.rules g + rules_part penalty l.rules scope.main scope.turning (exchanged_by g scope.attempt.exchange.now)
 unfolding sum_over_rules rules_part
 rules_balance penalty even l g scope is same are =
     sum_below_balance (length l.rules) _ _ _ _
@@ -108,11 +108,11 @@ rules_balance penalty even l g scope is same are =
 -- pairs with both games in one half
 
 phases_balance : (l : LeagueData) (g : Games) (scope : Scope) → IsScope g scope →
-    where_phased l (unphased (exchanged_by g scope.attempt.exchange)) + where_phased l (unphased_part g (has scope.main.teams)) ≡
-    where_phased l (unphased g) + where_phased l (unphased_part (exchanged_by g scope.attempt.exchange) (has scope.main.teams))
+    where_phased l (unphased (exchanged_by g scope.attempt.exchange.now)) + where_phased l (unphased_part g (has scope.main.teams)) ≡
+    where_phased l (unphased g) + where_phased l (unphased_part (exchanged_by g scope.attempt.exchange.now) (has scope.main.teams))
 phases_balance l g scope are =
     counted_balances l.phased _ _ _ _
-    (unphased_balance_around g (exchanged_by g scope.attempt.exchange) (has scope.main.teams) (has scope.main.rounds)
+    (unphased_balance_around g (exchanged_by g scope.attempt.exchange.now) (has scope.main.teams) (has scope.main.rounds)
     are.can_be_made.round_robin
     (round_robin_after g scope are) (around g scope are))
 
@@ -126,7 +126,7 @@ record Balances (l : LeagueData) (g g' : Games) (scope : Scope) : Type 0 where
   soft : (cost_of l g').soft + (penalties_part l scope g).soft ≡ (cost_of l g).soft + (penalties_part l scope g').soft
 
 penalties_balance : (l : LeagueData) (g : Games) (scope : Scope) → IsLeague l → teams l ≡ g.teams → IsScope g scope →
-    Balances l g (exchanged_by g scope.attempt.exchange) scope
+    Balances l g (exchanged_by g scope.attempt.exchange.now) scope
 unfolding cost_of
 penalties_balance l g scope is same are = record {
   hard = omega (arith, rules_balance hard_penalty hard_even l g scope is same are, phases_balance l g scope are);
@@ -143,11 +143,11 @@ pub record IsWithout (l : LeagueData) (g : Games) (scope : Scope) (told rest : C
   pub soft : rest.soft + (penalties_part l scope g).soft ≡ told.soft
 
 pub rest_after : (l : LeagueData) (g : Games) (scope : Scope) (told rest : Cost) → IsLeague l → teams l ≡ g.teams →
-    IsScope g scope → IsTold l g scope.attempt.exchange told → IsWithout l g scope told rest →
-    IsRest l scope (exchanged_by g scope.attempt.exchange) rest
+    IsScope g scope → IsTold l g scope.attempt.exchange.now told → IsWithout l g scope told rest →
+    IsRest l scope (exchanged_by g scope.attempt.exchange.now) rest
 rest_after l g scope told rest is same are known without =
-    let balance : Balances l g (exchanged_by g scope.attempt.exchange) scope = penalties_balance l g scope is same are in
-    same_cost _ _ (without.travel_is ∙ known.travel_is ∙ sym (cost_travel l (exchanged_by g scope.attempt.exchange)))
+    let balance : Balances l g (exchanged_by g scope.attempt.exchange.now) scope = penalties_balance l g scope is same are in
+    same_cost _ _ (without.travel_is ∙ known.travel_is ∙ sym (cost_travel l (exchanged_by g scope.attempt.exchange.now)))
     (omega (arith, without.hard, known.hard, balance.hard))
     (omega (arith, without.soft, known.soft, balance.soft))
 

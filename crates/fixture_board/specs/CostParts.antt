@@ -24,9 +24,9 @@ use Rattle.fixture_board.specs.declared.scope.Scope.{Scope}
 
 -- what the scope says of its exchange is so on the schedule before it
 pub record IsScope (g : Games) (scope : Scope) : Type 0 where
-  pub can_be_made : IsExchange g scope.attempt.exchange
-  pub main : scope.main ≡ main_cells scope.attempt.exchange
-  pub turning : (t : ℕ) → has scope.turning t ≡ turning_team g scope.attempt.exchange t
+  pub can_be_made : IsExchange g scope.attempt.exchange.now
+  pub main : scope.main ≡ main_cells scope.attempt.exchange.now
+  pub turning : (t : ℕ) → has scope.turning t ≡ turning_team g scope.attempt.exchange.now t
 
 -- what parts are counted of: a schedule, and the change that the scope's exchange is
 abbrev pub counting_of : Games → Scope → Counting

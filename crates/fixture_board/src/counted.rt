@@ -24,14 +24,14 @@ pub(crate) fn rest_of(
     schedule: &Schedule,
     league: &League,
     gaps: &mut KeptGaps,
-    scope: &Scope,
+    scope: &Scope<'_>,
     told: Cost,
 ) -> Cost
     requires same_size { teams league.now ≡ schedule.now.teams }
     requires scope { IsScope schedule.now scope.now }
     requires known { scope.now.attempt.known ≡ cost_of league.now schedule.now }
-    requires told { IsTold league.now schedule.now scope.now.attempt.exchange told }
-    ensures { IsRest league.now scope.now (exchanged_by schedule.now scope.now.attempt.exchange) result }
+    requires told { IsTold league.now schedule.now scope.now.attempt.exchange.now told }
+    ensures { IsRest league.now scope.now (exchanged_by schedule.now scope.now.attempt.exchange.now) result }
 {
     prove_eq!(league.teams(), schedule.teams());
     let known = scope.attempt.known;
@@ -52,7 +52,7 @@ pub(crate) fn whole_within(
     schedule: &Schedule,
     league: &League,
     gaps: &mut KeptGaps,
-    scope: &Scope,
+    scope: &Scope<'_>,
     rest: Cost,
 ) -> Option<Cost>
     requires same_size { teams league.now ≡ schedule.now.teams }

@@ -35,7 +35,7 @@ pub fn make_at_cost(
 {
     prove_eq!(league.teams(), schedule.teams());
     let attempt = Attempt {
-        exchange: *exchange,
+        exchange,
         known,
         most: u64::MAX,
     };
@@ -49,21 +49,21 @@ pub fn make_within(
     schedule: &mut Schedule,
     league: &League,
     gaps: &mut KeptGaps,
-    attempt: &Attempt,
+    attempt: &Attempt<'_>,
 ) -> Option<Cost>
     requires same_size { teams league.now ≡ schedule.old.teams }
-    requires can_be_made { IsExchange schedule.old attempt.now.exchange }
+    requires can_be_made { IsExchange schedule.old attempt.now.exchange.now }
     requires known { attempt.now.known ≡ cost_of league.now schedule.old }
-    ensures value { IsCostWithin league.now attempt.now.most (exchanged_by schedule.old attempt.now.exchange) result }
+    ensures value { IsCostWithin league.now attempt.now.most (exchanged_by schedule.old attempt.now.exchange.now) result }
     ensures schedule { MatchOption result (schedule.new ≡ schedule.old)
-        (λ cost. schedule.new ≡ exchanged_by schedule.old attempt.now.exchange) }
-    ensures again { IsExchange schedule.new attempt.now.exchange }
-    ensures back { IfSome result (λ cost. exchanged_by schedule.new attempt.now.exchange ≡ schedule.old) }
+        (λ cost. schedule.new ≡ exchanged_by schedule.old attempt.now.exchange.now) }
+    ensures again { IsExchange schedule.new attempt.now.exchange.now }
+    ensures back { IfSome result (λ cost. exchanged_by schedule.new attempt.now.exchange.now ≡ schedule.old) }
     ensures small { IfSome result (λ cost. score_of league.now cost < score_limit) }
 {
     prove_eq!(league.teams(), schedule.teams());
     let told = told_within(schedule, league, attempt)?;
-    let exchange = &attempt.exchange;
+    let exchange = attempt.exchange;
     let most = attempt.most;
     if league.rule_count() == 0 && !league.phased() {
         if told.score(league) > most {

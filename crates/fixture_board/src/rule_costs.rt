@@ -40,7 +40,7 @@ pub(crate) fn parts_of_rules(
     schedule: &Schedule,
     league: &League,
     gaps: &mut KeptGaps,
-    scope: &Scope,
+    scope: &Scope<'_>,
 ) -> Penalties
     requires same_size { teams league.now ≡ schedule.now.teams }
     requires known { scope.now.attempt.known ≡ cost_of league.now schedule.now }

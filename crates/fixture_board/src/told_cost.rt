@@ -23,16 +23,20 @@ use tours::{
 /// The cost with the travel, the runs and the repeats after an exchange, and all else as it is before it. None if the travel
 /// alone, or with some of the runs, scores over its limit: then the whole cost after it does so too.
 #[inline]
-pub(crate) fn told_within(schedule: &Schedule, league: &League, attempt: &Attempt) -> Option<Cost>
+pub(crate) fn told_within(
+    schedule: &Schedule,
+    league: &League,
+    attempt: &Attempt<'_>,
+) -> Option<Cost>
     requires same_size { teams league.now ≡ schedule.now.teams }
-    requires can_be_made { IsExchange schedule.now attempt.now.exchange }
+    requires can_be_made { IsExchange schedule.now attempt.now.exchange.now }
     requires known { attempt.now.known ≡ cost_of league.now schedule.now }
     ensures { MatchOption result
-        (attempt.now.most < score_of league.now (cost_of league.now (exchanged_by schedule.now attempt.now.exchange)))
-        (λ told. IsTold league.now schedule.now attempt.now.exchange told) }
+        (attempt.now.most < score_of league.now (cost_of league.now (exchanged_by schedule.now attempt.now.exchange.now)))
+        (λ told. IsTold league.now schedule.now attempt.now.exchange.now told) }
 {
     prove_eq!(league.teams(), schedule.teams());
-    let exchange = &attempt.exchange;
+    let exchange = attempt.exchange;
     let (known, most) = (attempt.known, attempt.most);
     let travel = travel_after(schedule, league, exchange, known.travel);
     if travel > most {

@@ -64,8 +64,9 @@ fn tried(
     if check(start, trial.mv).is_err() {
         return Err("a move that can be made".into());
     }
+    let exchange = exchange(start, trial.mv);
     let attempt = Attempt {
-        exchange: exchange(start, trial.mv),
+        exchange: &exchange,
         known: cost_of(start, league),
         most,
     };

@@ -44,21 +44,22 @@ impl State {
     {
         let mv = proposal.mv;
         self.check_move(proposal.version, mv)?;
+        let exchange = exchange(&self.schedule, mv);
+        if self.pins.would_be_moved(&self.schedule, &exchange) {
+            return Err(Why::Pinned);
+        }
         let before = self.cost.score(league);
         let Limit { most, above } = self.limit_of(proposal, before);
         let attempt = Attempt {
-            exchange: exchange(&self.schedule, mv),
+            exchange: &exchange,
             known: self.cost,
             most,
         };
-        if self.pins.would_be_moved(&self.schedule, &attempt.exchange) {
-            return Err(Why::Pinned);
-        }
         let Some(cost) = make_within(&mut self.schedule, league, &mut self.gaps, &attempt) else {
             return Err(above);
         };
         if let Err(why) = self.check_score(proposal, before, cost.score(league)) {
-            attempt.exchange.make(&mut self.schedule);
+            exchange.make(&mut self.schedule);
             return Err(why);
         }
         self.cost = cost;

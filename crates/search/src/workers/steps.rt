@@ -131,8 +131,9 @@ pub(crate) fn step<R: Wait, D: Door, G: HearingGate>(
     if let Err(_) = check(copy, mv) {
         return StepResult::Nothing;
     }
+    let exchange = exchange(copy, mv);
     let attempt = Attempt {
-        exchange: exchange(copy, mv),
+        exchange: &exchange,
         known: kept.known.cost,
         most: kept.known.score.saturating_add(trial.slack),
     };
@@ -141,7 +142,7 @@ pub(crate) fn step<R: Wait, D: Door, G: HearingGate>(
     };
     let score = cost.score(measure.league);
     if door.front(rt) != kept.known.version {
-        attempt.exchange.make(copy);
+        exchange.make(copy);
         kept.known = refresh(rt, door, measure, copy);
         return StepResult::Nothing;
     }
@@ -155,7 +156,7 @@ pub(crate) fn step<R: Wait, D: Door, G: HearingGate>(
     let reply = door.propose(rt, proposal);
     gate.left(rt, trial.worker, trial.made, reply);
     let made = Made {
-        exchange: &attempt.exchange,
+        exchange: &exchange,
         cost,
         score,
         reply,

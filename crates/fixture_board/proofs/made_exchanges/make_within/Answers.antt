@@ -31,23 +31,23 @@ returns-then-not-phased-clause-small c =
 
 pub rest_of-rest-requires-clause-told : goal.rest_of-rest-requires-clause-told
 rest_of-rest-requires-clause-told c =
-    subst (λ (a : Attempt). IsTold c.args.league.now c.args.schedule.now a.exchange c.in_ok-told.told) (sym c.of-scope.ensures.attempt)
+    subst (λ (a : Attempt). IsTold c.args.league.now c.args.schedule.now a.exchange.now c.in_ok-told.told) (sym c.of-scope.ensures.attempt)
     c.in_ok-told.ensures
 
 pub score-requires-2 : goal.score-requires-2
 score-requires-2 c =
     let rest =
-    subst (λ (a : Attempt). IsRest c.args.league.now c.of-scope.result (exchanged_by c.args.schedule.now a.exchange) c.rest_of-rest.result)
+    subst (λ (a : Attempt). IsRest c.args.league.now c.of-scope.result (exchanged_by c.args.schedule.now a.exchange.now) c.rest_of-rest.result)
     c.of-scope.ensures.attempt c.rest_of-rest.ensures in
     omega (
       arith,
-      rest_scores c.args.league.now c.of-scope.result (exchanged_by c.args.schedule.now c.args.attempt.now.exchange)
+      rest_scores c.args.league.now c.of-scope.result (exchanged_by c.args.schedule.now c.args.attempt.now.exchange.now)
           c.rest_of-rest.result rest,
-      score_after c.args.league.now c.args.schedule.now c.args.attempt.now.exchange c.teams.ensures.limits c.requires.same_size,
+      score_after c.args.league.now c.args.schedule.now c.args.attempt.now.exchange.now c.teams.ensures.limits c.requires.same_size,
     )
 
 pub returns-else-is_none-clause-small : goal.returns-else-is_none-clause-small
 returns-else-is_none-clause-small c =
     within_is_small c.args.league.now _ _ _ c.whole_within-cost.ensures
     (rw c.make-2.ensures.made
-    (score_after c.args.league.now c.args.schedule.now c.args.attempt.now.exchange c.teams.ensures.limits c.requires.same_size))
+    (score_after c.args.league.now c.args.schedule.now c.args.attempt.now.exchange.now c.teams.ensures.limits c.requires.same_size))

@@ -12,7 +12,7 @@ pub returns-then-travel-most : goal.returns-then-travel-most
 returns-then-travel-most c =
     omega (
       arith,
-      travel_scores c.args.league.now (exchanged_by c.args.schedule.now c.args.attempt.now.exchange),
+      travel_scores c.args.league.now (exchanged_by c.args.schedule.now c.args.attempt.now.exchange.now),
       c.travel_after-travel.ensures,
       c.if-travel-most.true,
     )
@@ -21,17 +21,17 @@ pub score-requires : goal.score-requires
 score-requires c =
     omega (
       arith,
-      least_scores c.args.league.now (exchanged_by c.args.schedule.now c.args.attempt.now.exchange) c.runs_of-runs.result.after
+      least_scores c.args.league.now (exchanged_by c.args.schedule.now c.args.attempt.now.exchange.now) c.runs_of-runs.result.after
           (omega (arith, c.runs_of-runs.ensures.balance, c.runs_of-runs.ensures.within)),
       c.travel_after-travel.ensures,
-      score_after c.args.league.now c.args.schedule.now c.args.attempt.now.exchange c.teams.ensures.limits c.requires.same_size,
+      score_after c.args.league.now c.args.schedule.now c.args.attempt.now.exchange.now c.teams.ensures.limits c.requires.same_size,
     )
 
 pub returns-then-score-most : goal.returns-then-score-most
 returns-then-score-most c =
     omega (
       arith,
-      least_scores c.args.league.now (exchanged_by c.args.schedule.now c.args.attempt.now.exchange) c.runs_of-runs.result.after
+      least_scores c.args.league.now (exchanged_by c.args.schedule.now c.args.attempt.now.exchange.now) c.runs_of-runs.result.after
           (omega (arith, c.runs_of-runs.ensures.balance, c.runs_of-runs.ensures.within)),
       c.travel_after-travel.ensures,
       c.score.ensures,
