@@ -4,7 +4,6 @@ pub mod Lanes
 pub mod RowsByRounds
 pub mod Tallies
 pub mod GapTables
-pub mod TurnedAlike
 pub mod ComparedGaps
 pub mod FullWindows
 pub mod AllTeams

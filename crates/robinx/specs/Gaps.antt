@@ -1,5 +1,5 @@
 -- Words for the gaps of pairs that FA2 keeps from one schedule to the next.
-use Rattle.std.specs.Prelude.{◌≡◌, ℕ, ◌+◌, ◌*◌, ◌<◌, ◌≤◌, Bool, true, not, ◌&&◌, ◌||◌, if◌then◌else◌, List, length, slice_index}
+use Rattle.std.specs.Prelude.{◌≡◌, ℕ, ◌+◌, ◌*◌, ◌<◌, ◌≤◌, Bool, true, not, if◌then◌else◌, List, length, slice_index}
 use Rattle.league.specs.Limits.{max_teams}
 use Rattle.league.specs.Sets.{has, IsBelow}
 use Rattle.league.specs.Sums.{sum_below, sum_where, count_where}
@@ -8,7 +8,6 @@ use Rattle.robinx.specs.Deviations.{over}
 use Rattle.robinx.specs.Walked.{row_length, row_of, worst_apart, one_in}
 use Rattle.robinx.specs.declared.gaps.Gaps.{Gaps}
 use Rattle.robinx.specs.declared.gap_table.GapTable.{GapTable}
-use Rattle.robinx.specs.declared.gap_table.Turned.{Turned}
 
 -- the gap of a team and a lower one in a table that has a row for each team
 abbrev pub gap_at : List (List ℕ) → ℕ → ℕ → ℕ
@@ -70,12 +69,3 @@ pub record IsTableFor (kept : GapTable) (n of_teams of_slots : ℕ) : Type 0 whe
 pub record IsTableOf (kept : GapTable) (g : Games) (of_teams of_slots : ℕ) : Type 0 where
   pub is_for : IsTableFor kept g.teams of_teams of_slots
   pub homes : (t r : ℕ) → has of_teams t ≡ true → r < round_count g.teams → has (slice_index kept.homes t) r ≡ is_home g t r
-
--- a team that was at home in some rounds, and now is in others, has gained some and lost some
-pub record Turns (before homes gained lost : ℕ) : Type 0 where
-  pub gains : (r : ℕ) → has gained r ≡ (has homes r && not (has before r))
-  pub loses : (r : ℕ) → has lost r ≡ (has before r && not (has homes r))
-
--- whether the gap of two teams is still right: neither turned, or both as the first did
-abbrev pub is_gap_kept : Turned → ℕ → ℕ → Bool
-is_gap_kept turned t o = not (has turned.teams t || has turned.teams o) || not (has turned.others t || has turned.others o)

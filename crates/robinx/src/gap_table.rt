@@ -1,10 +1,10 @@
 //! The gaps of a rule's pairs, with what tells for which schedules they hold.
 
-ghost use Rattle.std.specs.Prelude.{◌≡◌, ◌≢◌, ℕ, ◌<◌, ◌≤◌, ◌&&◌, ◌||◌, ◌==◌, not, Bool, true, false, slice_index};
+ghost use Rattle.std.specs.Prelude.{◌≡◌, ℕ, ◌<◌, ◌≤◌, ◌&&◌, ◌||◌, ◌==◌, not, Bool, true, false, slice_index};
 ghost use Rattle.league.specs.Limits.{max_teams};
 ghost use Rattle.league.specs.Sets.{has, IsBelow};
 ghost use Rattle.fixtures.specs.Games.{round_count, is_home, IsDoubleRoundRobin};
-ghost use Rattle.robinx.specs.Gaps.{AreTallied, IsGapTable, IsHomeRow, IsTableFor, IsTableOf, IsWholeTable, Turns, gap_at, is_gap_kept};
+ghost use Rattle.robinx.specs.Gaps.{AreTallied, IsGapTable, IsHomeRow, IsTableFor, IsTableOf, IsWholeTable, gap_at};
 ghost use Rattle.robinx.specs.LastCounts.{AreOversOf};
 ghost use Rattle.robinx.specs.Walked.{row_length, row_of, worst_apart};
 
@@ -30,16 +30,6 @@ pub(crate) struct GapTable {
     pub gaps: Gaps,
     /// What of the gaps is over each number that may be the most.
     pub overs: [u32; ROW],
-}
-
-/// The teams that are at home in other rounds than before, and how the first of them turned.
-#[derive(Clone, Copy, Drop)]
-struct Turned {
-    pub teams: TeamSet,
-    /// Those that didn't turn as the first did. The rest did: their rows are as far apart as before, so their gaps stay.
-    pub others: TeamSet,
-    pub gained: SlotSet,
-    pub lost: SlotSet,
 }
 
 impl GapTable {
@@ -95,10 +85,10 @@ impl GapTable {
         ensures table { IsWholeTable self.new }
         ensures homes { IsTableOf self.new schedule.now self.old.gaps.teams self.old.slots }
     {
-        let turned = self.take_homes(schedule);
+        let stale = self.take_homes(schedule);
         let teams = self.gaps.teams;
         for team in teams {
-            let lower = turned.partners(teams, team);
+            let lower = partners(teams, stale, team);
             compare(&mut self.gaps, &self.rows, team, lower);
         }
         self.overs = self.gaps.overs();
@@ -121,20 +111,19 @@ impl GapTable {
     }
 
     /// Takes the rounds in which its teams are at home from the schedule, and gives the teams for which they are others.
-    fn take_homes(&mut self, schedule: &Schedule) -> Turned
+    fn take_homes(&mut self, schedule: &Schedule) -> TeamSet
         requires table { IsGapTable self.old (λ t o. true) }
         requires playing { self.old.playing ≡ schedule.now.teams }
         requires round_robin { IsDoubleRoundRobin schedule.now }
-        ensures table { IsGapTable self.new (is_gap_kept result) }
+        ensures table { IsGapTable self.new (λ t o. not (has result t || has result o)) }
         ensures homes { IsTableOf self.new schedule.now self.old.gaps.teams self.old.slots }
     {
         let step = step();
-        let mut turned = Turned::none();
+        let mut stale = TeamSet::empty();
         for team in self.gaps.teams {
             let homes = schedule.home_rounds(team);
             let before = self.homes[usize::from(team)];
             if before == homes {
-                turned.others = turned.others.with(team);
                 continue;
             }
             let changed = before.symmetric_difference(homes);
@@ -146,54 +135,9 @@ impl GapTable {
                 &step,
                 &self.in_slots,
             );
-            turned.add(team, before, homes);
+            stale = stale.with(team);
         }
-        turned
-    }
-}
-
-impl Turned {
-    fn none() -> Self
-        ensures teams { (t : ℕ) → has result.teams t ≡ false }
-        ensures others { (t : ℕ) → has result.others t ≡ false }
-    {
-        Turned {
-            teams: TeamSet::empty(),
-            others: TeamSet::empty(),
-            gained: SlotSet::empty(),
-            lost: SlotSet::empty(),
-        }
-    }
-
-    /// Adds a team that was at home in some rounds, and now is in these.
-    fn add(&mut self, team: u8, before: SlotSet, homes: SlotSet)
-        requires { team < max_teams }
-        ensures teams { (t : ℕ) → has self.new.teams t ≡ (t == team || has self.old.teams t) }
-        ensures others { (t : ℕ) → t ≢ team → has self.new.others t ≡ has self.old.others t }
-        ensures alike { has self.new.others team ≡ false → Turns before homes self.new.gained self.new.lost }
-        ensures gained { (t : ℕ) → has self.old.teams t ≡ true → self.new.gained ≡ self.old.gained }
-        ensures lost { (t : ℕ) → has self.old.teams t ≡ true → self.new.lost ≡ self.old.lost }
-    {
-        let gained = homes.difference(before);
-        let lost = before.difference(homes);
-        if self.teams == TeamSet::empty() {
-            self.gained = gained;
-            self.lost = lost;
-        }
-        let is_alike = self.gained == gained && self.lost == lost;
-        if !is_alike {
-            self.others = self.others.with(team);
-        }
-        self.teams = self.teams.with(team);
-    }
-
-    /// The lower teams whose gap with the team isn't kept.
-    fn partners(&self, teams: TeamSet, team: u8) -> TeamSet
-        requires { team < max_teams }
-        ensures members { (o : ℕ) → o < team → has result o ≡ (has teams o && not (is_gap_kept self.now team o)) }
-        ensures below { IsBelow team result }
-    {
-        partners(partners(teams, self.teams, team), self.others, team)
+        stale
     }
 }
 

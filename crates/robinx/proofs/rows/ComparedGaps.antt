@@ -331,20 +331,20 @@ module _ (g : Games) (before kept : GapTable) (left lowest rest stale more at at
 
 -- its stale gaps are counted, team by team
 
--- the gaps of those teams that aren't left, and of pairs that keep theirs
-abbrev pub is_right : (ℕ → ℕ → Bool) → ℕ → ℕ → ℕ → Bool
-is_right keeps left t o = not (has left t) || keeps t o
+-- the gaps of those teams that aren't left, and of pairs that weren't stale
+abbrev pub is_right : ℕ → ℕ → ℕ → ℕ → Bool
+is_right stale left t o = not (has left t) || not (has stale t || has stale o)
 
-pub record HasFollowed (before kept : GapTable) (g : Games) (keeps : ℕ → ℕ → Bool) (left : ℕ) : Type 0 where
+pub record HasFollowed (before kept : GapTable) (g : Games) (stale left : ℕ) : Type 0 where
   pub below : IsBelow g.teams left
   pub within : (k : ℕ) → has left k ≡ true → has before.gaps.teams k ≡ true
-  pub table : IsGapTable kept (is_right keeps left)
+  pub table : IsGapTable kept (is_right stale left)
   pub homes : IsTableOf kept g before.gaps.teams before.slots
 
-pub followed_none : (before taken : GapTable) (g : Games) (keeps : ℕ → ℕ → Bool) (left : ℕ) → left ≡ taken.gaps.teams →
-    IsBelow g.teams before.gaps.teams → IsGapTable taken keeps → IsTableOf taken g before.gaps.teams before.slots →
-    HasFollowed before taken g keeps left
-followed_none before taken g keeps left whole below table homes =
+pub followed_none : (before taken : GapTable) (g : Games) (stale left : ℕ) → left ≡ taken.gaps.teams → IsBelow g.teams before.gaps.teams →
+    IsGapTable taken (λ t o. not (has stale t || has stale o)) → IsTableOf taken g before.gaps.teams before.slots →
+    HasFollowed before taken g stale left
+followed_none before taken g stale left whole below table homes =
     let all : left ≡ before.gaps.teams = whole ∙ homes.is_for.teams in
     record {
       below = omega (arith, below, all);
@@ -358,10 +358,11 @@ followed_none before taken g keeps left whole below table homes =
     still true b is right = right
     still false b is right = absurd (false≢true is)
 
--- the lower teams of a pair that doesn't keep its gap are the rule's
-pub partners_in : (teams team lower : ℕ) (keeps : ℕ → ℕ → Bool) → IsBelow team lower →
-    ((o : ℕ) → o < team → has lower o ≡ (has teams o && not (keeps team o))) → (o : ℕ) → has lower o ≡ true → has teams o ≡ true
-partners_in teams team lower keeps below members o in_lower = elim (cases_lt o team) [
+-- the lower teams of a stale pair are the rule's
+pub partners_in : (teams stale team lower : ℕ) → IsBelow team lower →
+    ((o : ℕ) → o < team → has lower o ≡ (has teams o && (has stale o || has stale team))) → (o : ℕ) → has lower o ≡ true →
+    has teams o ≡ true
+partners_in teams stale team lower below members o in_lower = elim (cases_lt o team) [
   | inl lt ↦ (and_parts (has teams o) _ (sym (members o lt) ∙ in_lower)).0
   | inr past ↦ absurd (false≢true (sym (has_beyond team lower o below past) ∙ in_lower))
 ]
@@ -373,9 +374,9 @@ rows_small kept right t o table in_t in_o =
     apart_small (round_count kept.playing) kept.slots (has (get_or kept.homes o 0)) (has (get_or kept.homes t 0)) (row_of kept.rows o)
     (row_of kept.rows t) kept.in_slots (omega (arith, table.playing)) table.slots table.in_slots (table.rows o in_o) (table.rows t in_t)
 
-pub followed_more : (before kept : GapTable) (g : Games) (keeps : ℕ → ℕ → Bool) (left lowest rest lower : ℕ) (new : Gaps) →
-    HasFollowed before kept g keeps left → IsWithoutLowest left lowest rest →
-    ((o : ℕ) → o < lowest → has lower o ≡ (has before.gaps.teams o && not (keeps lowest o))) →
+pub followed_more : (before kept : GapTable) (g : Games) (stale left lowest rest lower : ℕ) (new : Gaps) →
+    HasFollowed before kept g stale left → IsWithoutLowest left lowest rest →
+    ((o : ℕ) → o < lowest → has lower o ≡ (has before.gaps.teams o && (has stale o || has stale lowest))) →
     AreTallied new → new.teams ≡ kept.gaps.teams →
     ((o : ℕ) → has lower o ≡ true → gap_at new.worst lowest o ≡ worst_apart (row_of kept.rows o) (row_of kept.rows lowest)) →
     ((t o : ℕ) → (t == lowest && has lower o) ≡ false → gap_at new.worst t o ≡ gap_at kept.gaps.worst t o) →
@@ -387,8 +388,8 @@ pub followed_more : (before kept : GapTable) (g : Games) (keeps : ℕ → ℕ �
       rows = kept.rows;
       gaps = new;
       overs = kept.overs;
-    }) g keeps rest
-followed_more before kept g keeps left lowest rest lower new so_far taken members tallied teams compared others = record {
+    }) g stale rest
+followed_more before kept g stale left lowest rest lower new so_far taken members tallied teams compared others = record {
   below = omega (arith, so_far.below, taken.fewer);
   within = λ k in_rest. so_far.within k (and_parts (has left k) (not (k == lowest)) (sym (taken.others k) ∙ in_rest)).0;
   homes = record {
@@ -414,7 +415,7 @@ followed_more before kept g keeps left lowest rest lower new so_far taken member
       | inr apart ↦
           others t o (ap (λ b. b && has lower o) (ne_eqb t lowest apart)) ∙
           so_far.table.worst t o (old t in_t) (old o in_o) lt
-          (ap (λ b. not b || keeps t o) (sym (others_kept left lowest rest t taken apart)) ∙ right)
+          (ap (λ b. not b || not (has stale t || has stale o)) (sym (others_kept left lowest rest t taken apart)) ∙ right)
     ];
   };
 }
@@ -422,14 +423,19 @@ followed_more before kept g keeps left lowest rest lower new so_far taken member
     old : (t : ℕ) → has new.teams t ≡ true → has kept.gaps.teams t ≡ true
     old t in_new = sym (ap (λ s. has s t) teams) ∙ in_new
 
-    fresh : (a b c : Bool) → a ≡ true → (a && not b) ≡ false → (c || b) ≡ true
-    fresh true true c is out = either c
+    fresh : (a b c : Bool) → a ≡ true → (a && b) ≡ false → (c || not b) ≡ true
+    fresh true b c is none = ap (λ (x : Bool). c || not x) none ∙ either c
       where
         either : (x : Bool) → (x || true) ≡ true
         either true = refl
         either false = refl
-    fresh true false c is out = absurd (false≢true (sym out))
-    fresh false b c is out = absurd (false≢true is)
+    fresh false b c is none = absurd (false≢true is)
+
+    swap : (a b : Bool) → (a || b) ≡ (b || a)
+    swap true true = refl
+    swap true false = refl
+    swap false true = refl
+    swap false false = refl
 
     none : (x : Bool) → (x && false) ≡ false
     none true = refl
@@ -441,11 +447,12 @@ followed_more before kept g keeps left lowest rest lower new so_far taken member
     at o in_o lt false out =
         others lowest o (ap (λ b. lowest == lowest && b) out ∙ none (lowest == lowest)) ∙
         so_far.table.worst lowest o (ap (λ s. has s lowest) so_far.homes.is_for.teams ∙ so_far.within lowest taken.in_set) in_o lt
-        (fresh (has before.gaps.teams o) (keeps lowest o) (not (has left lowest))
-        (sym (ap (λ s. has s o) so_far.homes.is_for.teams) ∙ in_o) (sym (members o lt) ∙ out))
+        (fresh (has before.gaps.teams o) (has stale lowest || has stale o) (not (has left lowest))
+        (sym (ap (λ s. has s o) so_far.homes.is_for.teams) ∙ in_o)
+        (ap (λ b. has before.gaps.teams o && b) (swap (has stale lowest) (has stale o)) ∙ sym (members o lt) ∙ out))
 
-pub followed_all : (before kept : GapTable) (g : Games) (keeps : ℕ → ℕ → Bool) (left : ℕ) (overs : List ℕ) → left ≡ 0 →
-    HasFollowed before kept g keeps left →
+pub followed_all : (before kept : GapTable) (g : Games) (stale left : ℕ) (overs : List ℕ) → left ≡ 0 →
+    HasFollowed before kept g stale left →
     ((most : ℕ) → most < 80 → get_or overs most 0 ≡ sum_of_gaps kept.gaps.teams kept.gaps.worst (λ gap. over gap most)) →
     IsWholeTable (record {
       playing = kept.playing;
@@ -456,10 +463,10 @@ pub followed_all : (before kept : GapTable) (g : Games) (keeps : ℕ → ℕ →
       gaps = kept.gaps;
       overs = overs;
     })
-followed_all before kept g keeps left overs none so_far told =
+followed_all before kept g stale left overs none so_far told =
     let all : IsGapTable kept (λ t o. true) = fewer_right kept _ _ so_far.table
     (λ t o in_t in_o lower right.
-    ap (λ b. not b || keeps t o) (ap (λ s. has s t) none ∙ has_empty t)) in
+    ap (λ b. not b || not (has stale t || has stale o)) (ap (λ s. has s t) none ∙ has_empty t)) in
     record {
       table = record {
         tallied = all.tallied;

@@ -1,16 +1,16 @@
 -- Rows of home games, a number for each round: how one turns, and by how much two of them are apart.
-use Rattle.std.proofs.Common.{◌≡◌, ◌≢◌, ℕ, zero, suc, ◌+◌, ◌*◌, ◌<◌, ◌≤◌, ◌==◌, ◌&&◌, not, nat_lt}
-use Rattle.std.proofs.Common.{Bool, true, false, if◌then◌else◌, List, length, get_or, refl, sym, ◌∙◌, ap, inl, inr, arith}
+use Rattle.std.proofs.Common.{◌≡◌, ◌≢◌, ℕ, zero, suc, ◌+◌, ◌*◌, ◌<◌, ◌≤◌, ◌==◌, not, nat_lt, Bool, true, false, if◌then◌else◌}
+use Rattle.std.proofs.Common.{List, length, get_or, refl, sym, ◌∙◌, ap, inl, inr, arith}
 use Rattle.std.proofs.Math.ListN.{get_or-eq_default}
 use Rattle.std.proofs.Math.Nat.{mul-le-mul_right}
 use Rattle.std.proofs.lemmas.Bool.{cases_eq, cases_lt, cond-true, cond-false, eq-eqb, ne_eqb, lt-ltb, le-ltb}
 use Rattle.league.specs.Sets.{has, IsBelow, IsWithoutLowest}
 use Rattle.league.specs.Sums.{count_where}
 use Rattle.league.proofs.ForCallers.{count_where_le, count_where_same, has_beyond, has_empty, others_kept, lowest_gone}
-use Rattle.league.proofs.ForCallers.{sum_below_add, sum_below_balance, sum_below_only, sum_below_same}
+use Rattle.league.proofs.ForCallers.{sum_below_add, sum_below_only, sum_below_same}
 use Rattle.fixtures.specs.Games.{Games, round_count, is_home}
 use Rattle.robinx.specs.Deviations.{over, home_games, largest_below, gap, worst_gap}
-use Rattle.robinx.specs.Gaps.{IsHomeRow, Turns, is_home_with}
+use Rattle.robinx.specs.Gaps.{IsHomeRow, is_home_with}
 use Rattle.robinx.specs.Walked.{apart_in, from_on, one_in, worst_apart}
 use Rattle.robinx.proofs.limits.Largest.{largest_below_same, largest_below_past}
 
@@ -247,46 +247,3 @@ module _ (g : Games) (most i j slots : ℕ) (first second in_slots : List ℕ) (
       over_largest (round_count g.teams) most (apart_in first second) ∙
       sym (largest_below_same (round_count g.teams) (λ r. if has slots r then gap g most i j r else 0)
       (λ r. over (apart_in first second r) most) (λ r below. in_season r))
-
--- two rows that turned alike
-
-count_turned : (n before homes gained lost : ℕ) → Turns before homes gained lost →
-    count_where n (has homes) + count_where n (has lost) ≡ count_where n (has before) + count_where n (has gained)
-count_turned n before homes gained lost turns =
-    sum_below_balance n (λ k. if has homes k then 1 else 0) (λ k. if has before k then 1 else 0) (λ k. if has gained k then 1 else 0)
-    (λ k. if has lost k then 1 else 0) (λ k below. at (has homes k) (has before k) (has gained k) (has lost k) (turns.gains k) (turns.loses k))
-  where
-    at : (new old more less : Bool) → more ≡ (new && not old) → less ≡ (old && not new) →
-        (if new then 1 else 0) + (if less then 1 else 0) ≡ (if old then 1 else 0) + (if more then 1 else 0)
-    at true true more less more_is less_is = rw (more_is, less_is) refl
-    at true false more less more_is less_is = rw (more_is, less_is) refl
-    at false true more less more_is less_is = rw (more_is, less_is) refl
-    at false false more less more_is less_is = rw (more_is, less_is) refl
-
-module _ (before1 homes1 before2 homes2 gained lost : ℕ) (in_slots first second new1 new2 : List ℕ)
-    (turns1 : Turns before1 homes1 gained lost) (turns2 : Turns before2 homes2 gained lost)
-    (first_is : IsHomeRow in_slots (has before1) first) (second_is : IsHomeRow in_slots (has before2) second)
-    (new1_is : IsHomeRow in_slots (has homes1) new1) (new2_is : IsHomeRow in_slots (has homes2) new2) where
-  row_turned : (r before homes : ℕ) (row new : List ℕ) → Turns before homes gained lost → IsHomeRow in_slots (has before) row →
-      IsHomeRow in_slots (has homes) new →
-      get_or new r 0 + get_or in_slots r 0 * count_where (r + 1) (has lost) ≡
-      get_or row r 0 + get_or in_slots r 0 * count_where (r + 1) (has gained)
-  row_turned r before homes row new turns row_is new_is =
-      omega (
-        arith,
-        row_is.counts r,
-        new_is.counts r,
-        parted (get_or in_slots r 0) (count_where (r + 1) (has homes)) (count_where (r + 1) (has lost)),
-        parted (get_or in_slots r 0) (count_where (r + 1) (has before)) (count_where (r + 1) (has gained)),
-        ap (λ n. get_or in_slots r 0 * n) (count_turned (r + 1) before homes gained lost turns),
-      )
-    where
-      parted : (n a b : ℕ) → n * (a + b) ≡ n * a + n * b
-      parted n a b = omega arith
-
-  pub apart_as_before : worst_apart new1 new2 ≡ worst_apart first second
-  unfolding worst_apart
-  apart_as_before =
-      largest_below_same 80 (apart_in new1 new2) (apart_in first second)
-      (λ r below.
-      omega (arith, row_turned r before1 homes1 first new1 turns1 first_is new1_is, row_turned r before2 homes2 second new2 turns2 second_is new2_is))
