@@ -4,6 +4,7 @@ pub mod Scores
 pub mod Parts
 pub mod PartLimits
 pub mod Partial
+pub mod Alike
 pub mod Fitting
 pub mod Stand
 pub mod Next

@@ -84,7 +84,8 @@ rule_balances : (penalty : Weight → ℕ → ℕ) → IsEven penalty → (g : G
 rule_balances penalty even g scope is None for = refl
 rule_balances penalty even g scope is (Some rule) for =
     even rule.weight _ _ _ _
-    (deviation_balance g (exchanged_by g scope.attempt.exchange.now) is.can_be_made.round_robin (round_robin_after g scope is) scope.main.teams
+    (deviation_balance g (exchanged_by g scope.attempt.exchange.now) is.can_be_made.round_robin (round_robin_after g scope is)
+    scope.main.teams
     scope.main.rounds scope.turning (around g scope is) (sides g scope is) rule.body (for rule refl))
 
 rule_for : (l : LeagueData) (g : Games) (i : ℕ) → IsLeague l → teams l ≡ g.teams → (rule : Rule) →

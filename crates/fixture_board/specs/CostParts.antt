@@ -1,10 +1,13 @@
 -- What of the costs an exchange can change, counted on the schedule before it or after it. `main` has its main teams and
 -- their rounds.
-use Rattle.std.specs.Prelude.{◌≡◌, ℕ, ◌+◌, ◌<◌, nat_lt, Bool, if◌then◌else◌, List, length, slice_get, Option, Some, None}
+use Rattle.std.specs.Prelude.{◌≡◌, ℕ, ◌+◌, ◌*◌, ◌<◌, ◌≤◌, ◌==◌, ◌&&◌, nat_lt, Bool, true, false, if◌then◌else◌}
+use Rattle.std.specs.Prelude.{List, length, slice_get, Option, Some, None}
 use Rattle.league.specs.League.{LeagueData}
 use Rattle.league.specs.Sets.{has}
 use Rattle.league.specs.Sums.{sum_below}
 use Rattle.league.specs.declared.rule.Rule.{Rule}
+use Rattle.league.specs.declared.rule.RuleBody.{RuleBody}
+use Rattle.league.specs.declared.rule.RuleBody.TheVariants.{Fa2}
 use Rattle.league.specs.declared.rule.Weight.{Weight}
 use Rattle.league.specs.declared.rule.Weight.TheVariants.{Hard, Soft}
 use Rattle.fixtures.specs.Games.{Games}
@@ -85,3 +88,49 @@ pub record IsSmall (cost : Cost) : Type 0 where
   pub travel : cost.travel < score_limit
   pub hard : cost.hard < score_limit
   pub soft : cost.soft < score_limit
+
+-- what a deviation of 1 from a rule of this weight adds to the score
+abbrev pub score_weight : LeagueData → Weight → ℕ
+score_weight l Hard = l.hard_weight
+score_weight l (Soft weight) = weight
+
+-- the same of the rule that stands somewhere, if one does
+abbrev pub weight_at : LeagueData → Option Rule → ℕ
+weight_at l None = 0
+weight_at l (Some rule) = score_weight l rule.weight
+
+-- whether both are of class FA2 and ask the same
+unfoldable pub asks_the_same : RuleBody → RuleBody → Bool
+asks_the_same (Fa2 teams slots most) (Fa2 asked_teams asked_slots asked_most) =
+    teams == asked_teams && slots == asked_slots && most == asked_most
+asks_the_same body asked = false
+
+-- the same of the rules that stand somewhere, if both do
+abbrev pub are_alike : Option Rule → Option Rule → Bool
+are_alike (Some rule) (Some asked) = asks_the_same rule.body asked.body
+are_alike rule asked = false
+
+-- what a deviation of 1 adds to the score from the rule at an index and from all that directly follow it and ask the same
+pub record IsWeightOfAlike (l : LeagueData) (first weight : ℕ) : Type 0 where
+  pub count : ℕ
+  pub least : 1 ≤ count
+  pub within : first + count ≤ length l.rules
+  pub alike : (k : ℕ) → 1 ≤ k → k < count → are_alike (slice_get l.rules (first + k)) (slice_get l.rules first) ≡ true
+  pub ends : are_alike (slice_get l.rules (first + count)) (slice_get l.rules first) ≡ false
+  pub sum : weight ≡ sum_below count (λ k. weight_at l (slice_get l.rules (first + k)))
+
+-- the part of the deviation from the rule that stands somewhere
+abbrev pub part_at : Counting → Option Rule → ℕ
+part_at counting None = 0
+part_at counting (Some rule) = deviation_part counting.games counting.main counting.rounds counting.sides rule.body
+
+-- such a part of the rule at an index and of those that directly follow it and ask the same adds more to the score than is left
+pub record IsTooMuch (l : LeagueData) (first left part : ℕ) : Type 0 where
+  pub weight : ℕ
+  pub alike : IsWeightOfAlike l first weight
+  pub more : left < weight * part
+
+-- the part for the rule at this index, and none only if that is too much
+abbrev pub IsPartFor : LeagueData → Counting → ℕ → ℕ → Option ℕ → Type 0
+IsPartFor l counting index left (Some part) = part ≡ part_at counting (slice_get l.rules index)
+IsPartFor l counting index left None = IsTooMuch l index left (part_at counting (slice_get l.rules index))

@@ -4,6 +4,7 @@
 //! Teams and rounds are numbered from 0. Only `Board::new` takes memory.
 #![tactic(auto)]
 
+mod alike_rules;
 mod ask;
 mod attempt;
 mod best;

@@ -1,5 +1,5 @@
 -- Words for the gaps of pairs that FA2 keeps from one schedule to the next.
-use Rattle.std.specs.Prelude.{◌≡◌, ℕ, ◌+◌, ◌*◌, ◌<◌, ◌≤◌, Bool, true, not, if◌then◌else◌, List, length, slice_index}
+use Rattle.std.specs.Prelude.{◌≡◌, ℕ, ◌+◌, ◌*◌, ◌<◌, ◌≤◌, ◌&&◌, nat_lt, Bool, true, false, not, if◌then◌else◌, List, length, slice_index}
 use Rattle.league.specs.Limits.{max_teams}
 use Rattle.league.specs.Sets.{has, IsBelow}
 use Rattle.league.specs.Sums.{sum_below, sum_where, count_where}
@@ -22,12 +22,13 @@ sum_of_gaps teams worst f =
 abbrev pub sum_of_tallies : List ℕ → (ℕ → ℕ) → ℕ
 sum_of_tallies tallies f = sum_below row_length (λ gap. slice_index tallies gap * f gap)
 
--- the tallies tell how many pairs have each gap, but for those that have none
+-- the tallies tell how many pairs have each gap, but for those that have none, and there are gaps of the teams alone
 pub record AreTallied (gaps : Gaps) : Type 0 where
   pub rows : length gaps.worst ≡ max_teams
   pub columns : (t : ℕ) → t < max_teams → length (row_of gaps.worst t) ≡ max_teams
   pub len : length gaps.tallies ≡ row_length
   pub small : (t o : ℕ) → gap_at gaps.worst t o < row_length
+  pub none : (t o : ℕ) → (has gaps.teams t && has gaps.teams o && nat_lt o t) ≡ false → gap_at gaps.worst t o ≡ 0
   pub tallied : (f : ℕ → ℕ) → f 0 ≡ 0 → sum_of_tallies gaps.tallies f ≡ sum_of_gaps gaps.teams gaps.worst f
 
 -- a row has, in each slot, the home games up to and with it of a team that is at home in the rounds that pass a test, and else 0

@@ -9,7 +9,7 @@ use Rattle.league.specs.declared.rule.RuleBody.TheVariants.{Ca1, Ca2, Ca3, Ca4}
 use Rattle.league.specs.declared.rule.Side.{Side}
 use Rattle.league.specs.declared.rule.Side.TheVariants.{Home, Away, Any}
 use Rattle.fixtures.specs.Games.{Games, round_count}
-use Rattle.robinx.specs.Deviations.{over, is_counted, games_in_window, largest_below}
+use Rattle.robinx.specs.Deviations.{over, is_counted, games_in_window, breaks, largest_below}
 use Rattle.robinx.specs.declared.counts.CountedGames.{CountedGames}
 use Rattle.robinx.specs.declared.round_numbers.RoundNumbers.{RoundNumbers}
 
@@ -42,6 +42,10 @@ abbrev pub HaveCounted : Games → Side → ℕ → List ℕ → Type 0
 HaveCounted g side opponents rows =
     (t r : ℕ) → r < round_count g.teams → has (slice_index rows r) t ≡ true → is_counted g side (has opponents) t r ≡ true
 
+-- the breaks of some teams in the slots, all together
+abbrev pub breaks_together : Games → ℕ → ℕ → ℕ
+breaks_together g teams slots = sum_where g.teams (has teams) (λ t. breaks g t (has slots) Any)
+
 -- the length of a row, which has a number for each round and some more
 abbrev pub row_length : ℕ
 row_length = 80
@@ -49,6 +53,10 @@ row_length = 80
 -- how many numbers of a row the machine compares at once
 abbrev pub lane_count : ℕ
 lane_count = 16
+
+-- how many chunks of so many a row has
+abbrev pub chunk_count : ℕ
+chunk_count = 5
 
 -- whether a main team counts its pair with another: one of two main teams counts at the higher
 abbrev pub counts_pair : ℕ → ℕ → ℕ → Bool

@@ -1,6 +1,6 @@
 //! Breaks, and the rules on them: at most so many rounds in which a team stays on its side.
 
-ghost use Rattle.std.specs.Prelude.{◌≡◌, ℕ, ◌+◌, ◌-◌, ◌<◌, ◌≤◌, not, if◌then◌else◌};
+ghost use Rattle.std.specs.Prelude.{◌≡◌, ℕ, ◌+◌, ◌-◌, ◌<◌, ◌≤◌, not};
 ghost use Rattle.std.specs.Bool.{beq};
 ghost use Rattle.league.specs.Limits.{max_rounds};
 ghost use Rattle.league.specs.Sets.{has, IsBelow};
@@ -9,7 +9,7 @@ ghost use Rattle.league.specs.declared.rule.RuleBody.TheVariants as RuleBody;
 ghost use Rattle.league.specs.declared.rule.Side.TheVariants.{Any};
 ghost use Rattle.fixtures.specs.Games.{round_count, IsDoubleRoundRobin};
 ghost use Rattle.robinx.specs.Deviations.{breaks, deviation};
-ghost use Rattle.robinx.specs.Touches.{has_touched_team};
+ghost use Rattle.robinx.specs.Walked.{breaks_together};
 
 use crate::counts::over;
 use crate::windows::before;
@@ -85,15 +85,23 @@ pub(crate) fn br2(schedule: &Schedule, teams: TeamSet, slots: SlotSet, most: u32
     requires teams { IsBelow schedule.now.teams teams }
     ensures { result ≡ deviation schedule.now (RuleBody.Br2 teams slots most) }
 {
+    over(breaks_together(schedule, teams, slots), most)
+}
+
+/// How many breaks the teams have in the slots, all together.
+pub(crate) fn breaks_together(schedule: &Schedule, teams: TeamSet, slots: SlotSet) -> u32
+    requires teams { IsBelow schedule.now.teams teams }
+    ensures { result ≡ breaks_together schedule.now teams slots }
+{
     let firsts = rounds_before(schedule, slots);
     if teams == TeamSet::below(schedule.teams()) {
-        return over(breaks_of_all(schedule, firsts), most);
+        return breaks_of_all(schedule, firsts);
     }
     let mut count = 0;
     for team in teams {
         count += breaks_from(schedule, team, firsts, Side::Any);
     }
-    over(count, most)
+    count
 }
 
 /// How many breaks all the teams have that begin with one of these rounds. Fewer instructions count the changes of sides.
@@ -111,25 +119,4 @@ fn breaks_of_all(schedule: &Schedule, firsts: SlotSet) -> u32
         count += rounds - firsts.intersection(changes).len();
     }
     count
-}
-
-/// The part of `br2` that a change of the sides of some teams can alter.
-#[tactic(auto, unfolding(crate::specs::Touches::has_touched_team))]
-pub(crate) fn br2_with(
-    schedule: &Schedule,
-    teams: TeamSet,
-    sides: TeamSet,
-    slots: SlotSet,
-    most: u32,
-) -> u64
-    requires round_robin { IsDoubleRoundRobin schedule.now }
-    requires teams { IsBelow schedule.now.teams teams }
-    ensures { result ≡
-        (if has_touched_team teams (has sides) then deviation schedule.now (RuleBody.Br2 teams slots most) else 0) }
-{
-    if teams.intersects(sides) {
-        br2(schedule, teams, slots, most)
-    } else {
-        0
-    }
 }

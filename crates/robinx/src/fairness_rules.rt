@@ -1,6 +1,6 @@
 //! Fairness rules: the numbers of home games stay close to each other.
 
-ghost use Rattle.std.specs.Prelude.{◌≡◌};
+ghost use Rattle.std.specs.Prelude.{◌≡◌, true};
 ghost use Rattle.league.specs.Sets.{IsBelow};
 ghost use Rattle.league.specs.declared.rule.RuleBody.TheVariants as RuleBody;
 ghost use Rattle.fixtures.specs.Games.{round_count, IsDoubleRoundRobin};
@@ -24,6 +24,13 @@ impl Fairness {
     {
         Fairness { teams, slots, most }
     }
+
+    /// Whether the other asks the same.
+    pub(crate) fn is_same(&self, other: &Fairness) -> bool
+        ensures { result ≡ true → self.now ≡ other.now }
+    {
+        self.teams == other.teams && self.slots == other.slots && self.most == other.most
+    }
 }
 
 /// The worst gap of each pair of the teams.
@@ -35,6 +42,6 @@ pub(crate) fn fa2(schedule: &Schedule, fairness: &Fairness) -> u64
         deviation schedule.now (RuleBody.Fa2 fairness.now.teams fairness.now.slots fairness.now.most) }
 {
     let mut table = GapTable::new(schedule.teams(), fairness.teams, fairness.slots);
-    table.follow(schedule);
-    table.overs_of(schedule).over(fairness.most)
+    table.follow_within(schedule, fairness.most, u64::MAX);
+    table.over(schedule, fairness)
 }

@@ -1,14 +1,15 @@
 //! The gaps of a rule's pairs, with what tells for which schedules they hold.
 
-ghost use Rattle.std.specs.Prelude.{◌≡◌, ℕ, ◌<◌, ◌≤◌, ◌&&◌, ◌||◌, ◌==◌, not, Bool, true, false, slice_index};
+ghost use Rattle.std.specs.Prelude.{◌≡◌, ℕ, ◌<◌, ◌≤◌, ◌&&◌, ◌||◌, ◌==◌, nat_le, not, Bool, true, false, slice_index};
 ghost use Rattle.league.specs.Limits.{max_teams};
 ghost use Rattle.league.specs.Sets.{has, IsBelow};
 ghost use Rattle.fixtures.specs.Games.{round_count, is_home, IsDoubleRoundRobin};
+ghost use Rattle.league.specs.declared.rule.RuleBody.TheVariants as RuleBody;
+ghost use Rattle.robinx.specs.Deviations.{deviation};
 ghost use Rattle.robinx.specs.Gaps.{AreTallied, IsGapTable, IsHomeRow, IsTableFor, IsTableOf, IsWholeTable, gap_at};
-ghost use Rattle.robinx.specs.LastCounts.{AreOversOf};
 ghost use Rattle.robinx.specs.Walked.{row_length, row_of, worst_apart};
 
-use crate::gap_overs::GapOvers;
+use crate::fairness_rules::Fairness;
 use crate::gaps::Gaps;
 use crate::home_rows::{ROW, Row, TEAMS, in_slots, step, turn, worst_apart};
 use crate::pairs::partners;
@@ -77,36 +78,45 @@ impl GapTable {
         true
     }
 
-    /// Becomes the table of the schedule: the gaps of teams that are at home in other rounds are counted anew.
-    pub(crate) fn follow(&mut self, schedule: &Schedule)
+    /// Becomes the table of the schedule, if its gaps are together over `most` by no more than `room`, and gives whether they are. The gaps
+    /// of teams that are at home in other rounds are counted anew, team by team, until too much is over.
+    pub(crate) fn follow_within(&mut self, schedule: &Schedule, most: u32, room: u64) -> bool
         requires table { IsWholeTable self.old }
         requires playing { self.old.playing ≡ schedule.now.teams }
         requires round_robin { IsDoubleRoundRobin schedule.now }
-        ensures table { IsWholeTable self.new }
-        ensures homes { IsTableOf self.new schedule.now self.old.gaps.teams self.old.slots }
+        ensures within { result ≡
+            nat_le (deviation schedule.now (RuleBody.Fa2 self.old.gaps.teams self.old.slots most)) room }
+        ensures table { result ≡ true → IsWholeTable self.new }
+        ensures homes { result ≡ true → IsTableOf self.new schedule.now self.old.gaps.teams self.old.slots }
     {
         let stale = self.take_homes(schedule);
         let teams = self.gaps.teams;
+        let mut over = 0;
         for team in teams {
             let lower = partners(teams, stale, team);
             compare(&mut self.gaps, &self.rows, team, lower);
+            over += self.gaps.over_of(team, most);
+            if over > room {
+                return false;
+            }
         }
         self.overs = self.gaps.overs();
+        true
     }
 
-    /// What the schedule's gaps are over each number that may be the most.
-    pub(crate) fn overs_of(&self, schedule: &Schedule) -> GapOvers
+    /// The deviation of the schedule, whose table it is, from the rule.
+    pub(crate) fn over(&self, schedule: &Schedule, fairness: &Fairness) -> u64
         requires round_robin { IsDoubleRoundRobin schedule.now }
         requires table { IsWholeTable self.now }
-        requires homes { IsTableOf self.now schedule.now self.now.gaps.teams self.now.slots }
-        ensures overs { AreOversOf schedule.now result }
-        ensures teams { result.teams ≡ self.now.gaps.teams }
-        ensures slots { result.slots ≡ self.now.slots }
+        requires homes { IsTableOf self.now schedule.now fairness.now.teams fairness.now.slots }
+        ensures { result ≡
+            deviation schedule.now (RuleBody.Fa2 fairness.now.teams fairness.now.slots fairness.now.most) }
     {
-        GapOvers {
-            teams: self.gaps.teams,
-            slots: self.slots,
-            overs: self.overs,
+        let most = fairness.most as usize;
+        if most < ROW {
+            self.overs[most].into()
+        } else {
+            0
         }
     }
 
@@ -156,9 +166,10 @@ fn compare(gaps: &mut Gaps, rows: &[Row; TEAMS], team: u8, lower: TeamSet)
         gap_at gaps.new.worst team o ≡ worst_apart (row_of rows.now o) (row_of rows.now team) }
     ensures others { (t o : ℕ) → (t == team && has lower o) ≡ false → gap_at gaps.new.worst t o ≡ gap_at gaps.old.worst t o }
 {
-    let own = &rows[usize::from(team)];
+    // a copy, so that it is read once and not again for each other team
+    let own = rows[usize::from(team)];
     for other in lower {
-        let gap = worst_apart(&rows[usize::from(other)], own);
+        let gap = worst_apart(&rows[usize::from(other)], &own);
         gaps.set(team, other, gap);
     }
 }

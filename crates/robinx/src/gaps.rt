@@ -1,8 +1,9 @@
 //! By how many home games each two teams are apart at most.
 
-ghost use Rattle.std.specs.Prelude.{◌≡◌, ℕ, ◌+◌, ◌^◌, ◌<◌, ◌≤◌, ◌&&◌, ◌==◌, true, false, length, slice_index};
+ghost use Rattle.std.specs.Prelude.{◌≡◌, ℕ, ◌+◌, ◌*◌, ◌^◌, ◌<◌, ◌≤◌, ◌&&◌, ◌==◌, true, false, length, slice_index};
 ghost use Rattle.league.specs.Limits.{max_teams};
 ghost use Rattle.league.specs.Sets.{has};
+ghost use Rattle.league.specs.Sums.{sum_below, sum_where};
 ghost use Rattle.robinx.specs.Deviations.{over};
 ghost use Rattle.robinx.specs.Gaps.{AreTallied, gap_at, sum_of_gaps, sum_of_tallies};
 ghost use Rattle.robinx.specs.Walked.{row_length};
@@ -10,11 +11,17 @@ ghost use Rattle.robinx.specs.Walked.{row_length};
 use crate::home_rows::{ROW, TEAMS};
 use league::TeamSet;
 
+/// How many numbers of a row the machine adds at once.
+const LANES: usize = 8;
+
+/// A number that no gap is over.
+const MOST_GAP: u32 = ROW as u32;
+
 /// The worst gap of each two of some teams, and how many pairs have each.
 #[derive(Clone, Copy, Drop)]
 pub(crate) struct Gaps {
     pub teams: TeamSet,
-    /// Of each team those with the lower teams.
+    /// Of each team those with the lower teams, and 0 where one of the two isn't one of the teams.
     pub worst: [[u8; TEAMS]; TEAMS],
     /// How many pairs have a gap, but for those that have none.
     pub tallies: [u32; ROW],
@@ -60,6 +67,21 @@ impl Gaps {
         add_one(&mut self.tallies, gap);
     }
 
+    /// What of the team's gaps with the lower teams is over `most`.
+    pub(crate) fn over_of(&self, team: u8, most: u32) -> u64
+        requires tallied { AreTallied self.now }
+        requires team { team < max_teams }
+        ensures { result ≡ sum_where team (has self.now.teams) (λ o. over (gap_at self.now.worst team o) most) }
+    {
+        let most = most.min(MOST_GAP) as u8;
+        let row = &self.worst[usize::from(team)];
+        let mut total = 0;
+        for lane in 0..LANES {
+            total += over_in_lane(row, lane, most);
+        }
+        total.into()
+    }
+
     /// What of the gaps is over each number that may be the most.
     pub(crate) fn overs(&self) -> [u32; ROW]
         requires { AreTallied self.now }
@@ -77,6 +99,21 @@ impl Gaps {
         }
         overs
     }
+}
+
+/// What of every eighth number of the row, from one on, is over `most`. The machine has all lanes at once, and short sums are enough.
+#[inline]
+fn over_in_lane(row: &[u8; TEAMS], lane: usize, most: u8) -> u16
+    requires lane { lane < 8 }
+    requires small { (o : ℕ) → slice_index row.now o < row_length }
+    ensures sum { result ≡ sum_below 5 (λ chunk. over (slice_index row.now (chunk * 8 + lane)) most) }
+    ensures few { result ≤ 5 * row_length }
+{
+    let mut total: u16 = 0;
+    for chunk in 0..TEAMS / LANES {
+        total += u16::from(row[chunk * LANES + lane].saturating_sub(most));
+    }
+    total
 }
 
 /// One pair less has the gap.

@@ -1,11 +1,11 @@
 //! Rows of home games: how many a team has up to and with each slot.
 
-ghost use Rattle.std.specs.Prelude.{◌≡◌, ℕ, ◌+◌, ◌<◌, ◌≤◌, length, max, slice_index};
+ghost use Rattle.std.specs.Prelude.{◌≡◌, ℕ, ◌+◌, ◌*◌, ◌<◌, ◌≤◌, length, slice_index};
 ghost use Rattle.league.specs.Limits.{max_rounds};
 ghost use Rattle.league.specs.Sets.{has, IsBelow};
 ghost use Rattle.robinx.specs.Deviations.{largest_below};
 ghost use Rattle.robinx.specs.Gaps.{IsHomeRow, is_home_with};
-ghost use Rattle.robinx.specs.Walked.{IsStep, apart_in, from_on, lane_count, one_in, row_length, worst_apart};
+ghost use Rattle.robinx.specs.Walked.{IsStep, apart_in, chunk_count, from_on, lane_count, one_in, row_length, worst_apart};
 
 use league::SlotSet;
 use league::limits::MAX_TEAMS;
@@ -102,42 +102,30 @@ fn lose(row: &mut Row, first: u8, step: &Step, in_slots: &Row)
     }
 }
 
-/// The largest number by which the rows are apart in a round.
+/// The largest number by which the rows are apart in a round. Each lane is followed through its rounds, so that the machine has all lanes
+/// at once and no loop over chunks.
 #[inline]
 pub(crate) fn worst_apart(first: &Row, second: &Row) -> u8
     ensures { result ≡ worst_apart first.now second.now }
 {
-    let mut lanes = [0; LANES];
-    for chunk in 0..ROW / LANES {
-        widen(&mut lanes, first, second, chunk * LANES);
-    }
-    largest_of(&lanes)
-}
-
-/// Each lane becomes the larger of itself and of the number by which the rows are apart in its round, of those from one on.
-#[inline]
-fn widen(lanes: &mut [u8; LANES], first: &Row, second: &Row, from: usize)
-    requires from { from + lane_count ≤ row_length }
-    requires len { length lanes.old ≡ lane_count }
-    ensures len { length lanes.new ≡ lane_count }
-    ensures widened { (k : ℕ) → k < lane_count →
-        slice_index lanes.new k ≡ max (slice_index lanes.old k) (apart_in first.now second.now (from + k)) }
-{
-    for lane in 0..LANES {
-        let round = from + lane;
-        let apart = first[round].max(second[round]) - first[round].min(second[round]);
-        lanes[lane] = lanes[lane].max(apart);
-    }
-}
-
-/// The largest number of the lanes.
-#[inline]
-fn largest_of(lanes: &[u8; LANES]) -> u8
-    ensures { result ≡ largest_below lane_count (slice_index lanes.now) }
-{
     let mut largest = 0;
     for lane in 0..LANES {
-        largest = largest.max(lanes[lane]);
+        largest = largest.max(worst_in_lane(first, second, lane));
+    }
+    largest
+}
+
+/// The largest number by which the rows are apart in the rounds of a lane: one of each chunk, as far on in it.
+#[inline]
+fn worst_in_lane(first: &Row, second: &Row, lane: usize) -> u8
+    requires { lane < lane_count }
+    ensures { result ≡ largest_below chunk_count (λ chunk. apart_in first.now second.now (chunk * lane_count + lane)) }
+{
+    let mut largest = 0;
+    for chunk in 0..ROW / LANES {
+        let round = chunk * LANES + lane;
+        let apart = first[round].max(second[round]) - first[round].min(second[round]);
+        largest = largest.max(apart);
     }
     largest
 }

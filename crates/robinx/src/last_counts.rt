@@ -5,18 +5,19 @@ ghost use Rattle.league.specs.Sets.{has, IsBelow};
 ghost use Rattle.league.specs.declared.rule.RuleBody.TheVariants as RuleBody;
 ghost use Rattle.fixtures.specs.Games.{Games, round_count, IsDoubleRoundRobin};
 ghost use Rattle.robinx.specs.Deviations.{deviation};
-ghost use Rattle.robinx.specs.Parts.{changing_terms};
+ghost use Rattle.robinx.specs.Parts.{changing_terms, IsWithin};
 ghost use Rattle.robinx.specs.LastCounts.{AreLastCounts};
 ghost use Rattle.robinx.specs.Touches.{has_touched_team};
 
+use crate::break_count::BreakCount;
+use crate::break_rules::breaks_together;
 use crate::capacity_rules::ca3_part;
-use crate::counts::CountedGames;
+use crate::counts::{CountedGames, over};
 use crate::fairness_rules::Fairness;
-use crate::gap_overs::GapOvers;
 use crate::guests::{Around, teams_otherwise};
 use crate::kept_gaps::KeptGaps;
 use fixtures::Schedule;
-use league::TeamSet;
+use league::{SlotSet, TeamSet};
 
 /// A rule of class CA3: in each window of consecutive rounds at most so many of these games.
 #[derive(Clone, Copy, Drop)]
@@ -48,11 +49,19 @@ pub(crate) struct WindowCount {
     pub over: u64,
 }
 
-/// What was counted for the last rules of CA3 and of FA2, on one schedule around one change.
+/// A rule of class FA2, and the schedule's deviation from it.
+#[derive(Clone, Copy, Drop)]
+pub(crate) struct FairnessCount {
+    pub rule: Fairness,
+    pub over: u64,
+}
+
+/// What was counted for the last rules of BR2, CA3 and FA2, on one schedule around one change.
 #[derive(Drop)]
 pub(crate) struct LastCounts {
+    pub breaks: Option<BreakCount>,
     pub windows: Option<WindowCount>,
-    pub gaps: Option<GapOvers>,
+    pub gaps: Option<FairnessCount>,
 }
 
 impl LastCounts {
@@ -61,9 +70,43 @@ impl LastCounts {
         ensures { (g : Games) (main rounds sides : ℕ) → AreLastCounts g main rounds sides result }
     {
         LastCounts {
+            breaks: None,
             windows: None,
             gaps: None,
         }
+    }
+
+    /// The part of the deviation from a rule of class BR2 that a change of the sides of some teams can alter.
+    #[tactic(auto, unfolding(crate::specs::Deviations::deviation, crate::specs::Touches::has_touched_team))]
+    pub(crate) fn br2(
+        &mut self,
+        schedule: &Schedule,
+        change: &Around,
+        teams: TeamSet,
+        slots: SlotSet,
+        most: u32,
+    ) -> u64
+        requires teams { IsBelow schedule.now.teams teams }
+        requires counts { AreLastCounts schedule.now change.now.main change.now.rounds change.now.sides self.old }
+        ensures counts { AreLastCounts schedule.now change.now.main change.now.rounds change.now.sides self.new }
+        ensures value { result ≡ (if has_touched_team teams (has change.now.sides) then
+            deviation schedule.now (RuleBody.Br2 teams slots most) else 0) }
+    {
+        if !teams.intersects(change.sides) {
+            return 0;
+        }
+        if let Some(last) = &self.breaks {
+            if last.is_of(teams, slots) {
+                return over(last.count, most);
+            }
+        }
+        let count = breaks_together(schedule, teams, slots);
+        self.breaks = Some(BreakCount {
+            teams,
+            slots,
+            count,
+        });
+        over(count, most)
     }
 
     /// What the change can alter of the deviation from a rule of class CA3.
@@ -89,7 +132,6 @@ impl LastCounts {
 
     /// The part of the deviation from a rule of class FA2 that a change of the sides of some teams can alter: all of it, since with the
     /// kept gaps that takes less than those pairs alone.
-    #[tactic(auto, unfolding(crate::specs::Touches::has_touched_team))]
     pub(crate) fn fa2(
         &mut self,
         schedule: &Schedule,
@@ -105,20 +147,50 @@ impl LastCounts {
         ensures value { result ≡ (if has_touched_team fairness.now.teams (has change.now.sides) then
             deviation schedule.now (RuleBody.Fa2 fairness.now.teams fairness.now.slots fairness.now.most) else 0) }
     {
+        self.fa2_within(schedule, change, fairness, gaps, u64::MAX)
+            .unwrap()
+    }
+
+    /// That part if it is at most `room`, and else none: then no more is counted than tells that.
+    #[tactic(auto, unfolding(crate::specs::Touches::has_touched_team))]
+    pub(crate) fn fa2_within(
+        &mut self,
+        schedule: &Schedule,
+        change: &Around,
+        fairness: &Fairness,
+        gaps: &mut KeptGaps,
+        room: u64,
+    ) -> Option<u64>
+        requires round_robin { IsDoubleRoundRobin schedule.now }
+        requires teams { IsBelow schedule.now.teams fairness.now.teams }
+        requires slots { IsBelow (round_count schedule.now.teams) fairness.now.slots }
+        requires counts { AreLastCounts schedule.now change.now.main change.now.rounds change.now.sides self.old }
+        ensures counts { AreLastCounts schedule.now change.now.main change.now.rounds change.now.sides self.new }
+        ensures value { IsWithin room (if has_touched_team fairness.now.teams (has change.now.sides) then
+            deviation schedule.now (RuleBody.Fa2 fairness.now.teams fairness.now.slots fairness.now.most) else 0) result }
+    {
         if !fairness.teams.intersects(change.sides) {
-            return 0;
+            return Some(0);
         }
-        let Fairness { teams, slots, most } = *fairness;
         if let Some(last) = &self.gaps {
-            if last.is_of(teams, slots) {
-                return last.over(most);
+            if last.rule.is_same(fairness) {
+                return within(last.over, room);
             }
         }
-        let overs = gaps.overs(schedule, teams, slots);
-        let over = overs.over(most);
-        self.gaps = Some(overs);
-        over
+        let over = gaps.over_within(schedule, fairness, room)?;
+        self.gaps = Some(FairnessCount {
+            rule: *fairness,
+            over,
+        });
+        within(over, room)
     }
+}
+
+/// The number, unless it is more than `most`.
+pub(crate) fn within(number: u64, most: u64) -> Option<u64>
+    ensures { IsWithin most number result }
+{
+    if number > most { None } else { Some(number) }
 }
 
 /// The windows of a rule of class CA3 that the change can alter, over the most.

@@ -4,6 +4,7 @@
 //! Teams and rounds are numbered from 0. Nothing here takes memory.
 #![tactic(auto)]
 
+mod break_count;
 mod break_rules;
 mod capacity_rules;
 mod counted_rows;
@@ -11,12 +12,12 @@ mod counts;
 mod deviations;
 mod fairness_rules;
 mod game_rules;
-mod gap_overs;
 mod gap_table;
 mod gaps;
 mod guests;
 mod home_rows;
 mod kept_gaps;
+mod kept_table;
 mod last_counts;
 mod laws;
 mod pairs;

@@ -1,16 +1,16 @@
 //! The parts of deviations that a change can alter, for a cost that is kept over a change.
 
-ghost use Rattle.std.specs.Prelude.{◌≡◌, ℕ, ◌<◌, ◌&&◌, if◌then◌else◌};
+ghost use Rattle.std.specs.Prelude.{◌≡◌, ℕ, ◌<◌, ◌&&◌, if◌then◌else◌, IfSome};
 ghost use Rattle.league.specs.Limits.{deviation_limit};
 ghost use Rattle.league.specs.RuleLimits.{IsBodyFor};
 ghost use Rattle.league.specs.Sets.{has, IsBelow};
 ghost use Rattle.fixtures.specs.Games.{IsDoubleRoundRobin};
 ghost use Rattle.robinx.specs.Deviations.{deviation};
-ghost use Rattle.robinx.specs.Parts.{counts_otherwise, changing_terms, deviation_part};
+ghost use Rattle.robinx.specs.Parts.{counts_otherwise, changing_terms, deviation_part, IsWithin};
 ghost use Rattle.robinx.specs.LastCounts.{AreLastCounts};
 ghost use Rattle.robinx.specs.Walked.{counted_of};
 
-use crate::break_rules::{br1, br2_with};
+use crate::break_rules::br1;
 use crate::capacity_rules::{ca2, ca4_part};
 use crate::counts::{Capacity, CountedGames};
 use crate::deviations::deviation;
@@ -18,7 +18,7 @@ use crate::fairness_rules::Fairness;
 use crate::game_rules::has_moved_game;
 use crate::guests::{Around, teams_otherwise};
 use crate::kept_gaps::KeptGaps;
-use crate::last_counts::{LastCounts, WindowRule};
+use crate::last_counts::{LastCounts, WindowRule, within};
 use crate::separation_rules::se1_part;
 use crate::touched_rules::can_alter;
 use fixtures::{Schedule, Touched};
@@ -45,8 +45,8 @@ pub fn deviation_part(
     PartCounter::new(schedule, main, sides).part(rule, gaps)
 }
 
-/// Counts for one rule after another the part of its deviation that a change can alter, as [`deviation_part`] does. What was counted for the
-/// last rules of CA3 and FA2 serves the next ones of the same games.
+/// Counts for one rule after another the part of its deviation that a change can alter, as [`deviation_part`] does. What was counted for
+/// the last rules of BR2, CA3 and FA2 serves the next ones of the same games.
 ///
 /// Contracts see the schedule and the change.
 #[derive(Drop)]
@@ -96,6 +96,33 @@ impl<'a> PartCounter<'a> {
             return 0;
         }
         changing_terms(schedule, rule, &self.change, &mut self.last, gaps)
+    }
+
+    /// The part that [`part`](PartCounter::part) gives, if it is at most `most`, and else none. Of a rule of class FA2 no more is counted
+    /// than tells which.
+    #[tactic(auto, unfolding(crate::specs::Parts::deviation_part, crate::specs::Parts::changing_terms))]
+    pub fn part_within(&mut self, rule: &Rule, gaps: &mut KeptGaps, most: u64) -> Option<u64>
+        requires { IsBodyFor self.old.games.teams rule.now.body }
+        ensures value { IsWithin most (deviation_part self.old.games self.old.main self.old.rounds self.old.sides rule.now.body) result }
+        ensures below { IfSome result (λ part. part < deviation_limit) }
+        ensures same { self.new ≡ self.old }
+    {
+        let RuleBody::Fa2 {
+            teams,
+            slots,
+            most: gap,
+        } = &rule.body
+        else {
+            return within(self.part(rule, gaps), most);
+        };
+        let schedule = self.schedule;
+        prove!(schedule.teams() > 0);
+        if !can_alter(rule, self.change.rounds) {
+            return Some(0);
+        }
+        let fairness = Fairness::new(*teams, *slots, *gap);
+        self.last
+            .fa2_within(schedule, &self.change, &fairness, gaps, most)
     }
 }
 
@@ -148,7 +175,9 @@ fn changing_terms(
             slots,
             most,
         } => br1(schedule, teams.intersection(sides), *side, *slots, *most),
-        RuleBody::Br2 { teams, slots, most } => { br2_with(schedule, *teams, sides, *slots, *most) }
+        RuleBody::Br2 { teams, slots, most } => {
+            last.br2(schedule, change, *teams, *slots, *most)
+        }
         RuleBody::Se1 { teams, min } => se1_part(schedule, *teams, change, *min),
         RuleBody::Fa2 { teams, slots, most } => {
             let fairness = Fairness::new(*teams, *slots, *most);

@@ -57,6 +57,7 @@ fn looks_at_round(rule: &Rule, rounds: SlotSet) -> bool
 }
 
 /// Whether a change in the rounds can alter how far a schedule is from the rule.
+#[inline]
 #[tactic(auto, unfolding(crate::specs::Parts::can_alter))]
 pub(crate) fn can_alter(rule: &Rule, rounds: SlotSet) -> bool
     ensures { result ≡ can_alter rule.now.body (has rounds) }

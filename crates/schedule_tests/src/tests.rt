@@ -12,6 +12,7 @@ mod exchanges;
 mod halves;
 mod home_games;
 mod number_sets;
+mod part_limits;
 mod parts;
 mod refusals;
 mod rule_leagues;

@@ -45,8 +45,13 @@ fn push_row(alloc: Global, text: &mut String, teams: u8, from: u8) -> Result<(),
     Ok(())
 }
 
-/// A league of teams on a line, with rules and phases.
+/// A league of teams on a line, with a rule of each class and phases.
 pub(crate) fn league(alloc: Global, teams: u8) -> Result<League, Fail> {
+    league_with(alloc, teams, RULES)
+}
+
+/// A league of teams on a line, with these rules and phases.
+pub(crate) fn league_with(alloc: Global, teams: u8, rules: &str) -> Result<League, Fail> {
     let mut text = String::from_str(alloc, "{\"format\":2,\"at_most\":2,")?;
     push_names(alloc, &mut text, teams)?;
     text.push_str(",\"distances\":[")?;
@@ -54,7 +59,7 @@ pub(crate) fn league(alloc: Global, teams: u8) -> Result<League, Fail> {
         push_row(alloc, &mut text, teams, from)?;
     }
     text.push_str("],\"rules\":")?;
-    text.push_str(RULES)?;
+    text.push_str(rules)?;
     text.push_str(",\"phased\":true}")?;
     Ok(read_league(alloc, text.as_bytes())?)
 }

@@ -3,7 +3,7 @@
 use crate::tests::answers::have_same_games;
 use crate::tests::checks::check_same;
 use crate::tests::drawn_numbers::drawn_move;
-use crate::tests::kept_cost::league;
+use crate::tests::kept_cost::{league, league_with};
 use fixture_board::{Attempt, Cost, KeptGaps, cost_of, make_at_cost, make_within};
 use fixtures::{Schedule, start};
 use league::League;
@@ -56,6 +56,7 @@ fn made(rt: &impl Abort, alloc: Global, trial: Trial<'_>) -> Result<Option<After
 fn tried(
     rt: &impl Abort,
     alloc: Global,
+    gaps: &mut KeptGaps,
     trial: Trial<'_>,
     most: u64,
 ) -> Result<(Schedule, Option<Cost>), Fail> {
@@ -71,7 +72,7 @@ fn tried(
         most,
     };
     let mut tried = start.duplicate(alloc)?;
-    let answer = make_within(&mut tried, league, &mut KeptGaps::new(), &attempt);
+    let answer = make_within(&mut tried, league, gaps, &attempt);
     Ok((tried, answer))
 }
 
@@ -79,11 +80,12 @@ fn tried(
 fn check_limit(
     rt: &impl Abort,
     alloc: Global,
+    gaps: &mut KeptGaps,
     trial: Trial<'_>,
     made: &AfterMove,
     most: u64,
 ) -> Result<(), Fail> {
-    let (tried, answer) = tried(rt, alloc, trial, most)?;
+    let (tried, answer) = tried(rt, alloc, gaps, trial, most)?;
     let (cost, left) = if made.score <= most {
         (Some(made.cost), &made.schedule)
     } else {
@@ -98,10 +100,13 @@ fn check_limit(
     Ok(())
 }
 
-/// The least and the greatest limit, and those around a score.
-fn limits_around(score: u64) -> [u64; 5] {
+/// The least and the greatest limit, those around the score, and some lower ones.
+fn limits_around(travel: u64, score: u64) -> [u64; 7] {
+    let penalties = score.saturating_sub(travel);
     [
         0,
+        travel.saturating_add(penalties / 2),
+        score.saturating_sub(3),
         score.saturating_sub(1),
         score,
         score.saturating_add(1),
@@ -114,6 +119,7 @@ fn limits_around(score: u64) -> [u64; 5] {
 fn keeps_limits(
     rt: &impl Abort,
     alloc: Global,
+    gaps: &mut KeptGaps,
     league: &League,
     schedule: &mut Schedule,
     mv: Move,
@@ -126,27 +132,34 @@ fn keeps_limits(
     let Some(made) = made(rt, alloc, trial)? else {
         return Ok(false);
     };
-    for most in limits_around(made.score) {
-        check_limit(rt, alloc, trial, &made, most)?;
+    for most in limits_around(made.cost.travel, made.score) {
+        check_limit(rt, alloc, gaps, trial, &made, most)?;
     }
     schedule.copy_from(&made.schedule);
     Ok(true)
+}
+
+/// What the tries of a test share: the word that moves are drawn from, and the gaps that the rules counted.
+#[derive(Drop)]
+struct Shared {
+    word: u64,
+    gaps: KeptGaps,
 }
 
 /// Over moves that are drawn, of which a fourth at least has to be made.
 fn check_moves(
     rt: &impl Abort,
     alloc: Global,
-    state: &mut u64,
-    teams: u8,
+    shared: &mut Shared,
+    league: &League,
     moves: u64,
 ) -> Result<(), Fail> {
-    let league = league(alloc, teams)?;
-    let mut schedule = start(alloc, &league)?;
+    let teams = league.teams();
+    let mut schedule = start(alloc, league)?;
     let mut made: u64 = 0;
     for _ in 0..moves {
-        let mv = drawn_move(state, teams);
-        if keeps_limits(rt, alloc, &league, &mut schedule, mv)? {
+        let mv = drawn_move(&mut shared.word, teams);
+        if keeps_limits(rt, alloc, &mut shared.gaps, league, &mut schedule, mv)? {
             made = made.saturating_add(1);
         }
     }
@@ -159,9 +172,51 @@ const SIZES: &[(u8, u64)] = &[(4, 400), (6, 300), (10, 200)];
 
 #[test]
 fn a_move_is_made_where_its_score_is_within_the_limit(rt: HostRuntime) -> Result<(), Fail> {
-    let mut state = 5;
+    let mut shared = Shared {
+        word: 5,
+        gaps: KeptGaps::new(),
+    };
     for &(teams, moves) in SIZES {
-        check_moves(&rt, rt.alloc(), &mut state, teams, moves)?;
+        let league = league(rt.alloc(), teams)?;
+        check_moves(&rt, rt.alloc(), &mut shared, &league, moves)?;
+    }
+    Ok(())
+}
+
+/// Rules of class FA2 that directly follow each other and ask the same, and such that ask otherwise or stand apart.
+const FAIR: &str = r#"[
+    {"class":"FA2","kind":"soft","weight":2,"teams":[1,2,3,4,5,6],"intp":0},
+    {"class":"FA2","kind":"soft","weight":3,"teams":[1,2,3,4,5,6],"intp":0},
+    {"class":"FA2","kind":"hard","teams":[1,2,3,4,5,6],"intp":0},
+    {"class":"FA2","kind":"soft","weight":5,"teams":[1,2,3,4,5,6],"intp":1},
+    {"class":"BR2","kind":"soft","weight":2,"teams":[1,2,3,4],"intp":2},
+    {"class":"FA2","kind":"soft","weight":1,"teams":[1,2,3,4,5,6],"intp":0},
+    {"class":"FA2","kind":"soft","weight":2,"teams":[1,2,3,4,5,6],"slots":[2,5,6],"intp":0}]"#;
+
+/// Rules of class FA2 of the same teams and slots, of which the last ones ask the same.
+const ALIKE: &str = r#"[
+    {"class":"CA1","kind":"soft","weight":2,"teams":[1],"mode":"H","slots":[1,2,6],"max":1},
+    {"class":"FA2","kind":"soft","weight":4,"teams":[1,2,3,4,5,6],"intp":1},
+    {"class":"FA2","kind":"soft","weight":1,"teams":[1,2,3,4,5,6],"intp":0},
+    {"class":"FA2","kind":"soft","weight":3,"teams":[1,2,3,4,5,6],"intp":0}]"#;
+
+/// Leagues by their number of teams and rules, with a number of moves.
+const RUNS: &[(u8, &str, u64)] = &[
+    (6, FAIR, 150),
+    (8, FAIR, 100),
+    (6, ALIKE, 150),
+    (8, ALIKE, 100),
+];
+
+#[test]
+fn a_move_is_made_within_the_limit_by_rules_that_are_alike(rt: HostRuntime) -> Result<(), Fail> {
+    let mut shared = Shared {
+        word: 7,
+        gaps: KeptGaps::new(),
+    };
+    for &(teams, rules, moves) in RUNS {
+        let league = league_with(rt.alloc(), teams, rules)?;
+        check_moves(&rt, rt.alloc(), &mut shared, &league, moves)?;
     }
     Ok(())
 }

@@ -1,6 +1,7 @@
 -- Laws of the largest value below a number.
-use Rattle.std.proofs.Common.{◌≡◌, ℕ, zero, suc, ◌+◌, ◌<◌, ◌≤◌, max, refl, inl, inr, arith}
+use Rattle.std.proofs.Common.{◌≡◌, ℕ, zero, suc, ◌+◌, ◌<◌, ◌≤◌, ◌*◌, max, refl, inl, inr, sym, ◌∙◌, ap, arith}
 use Rattle.std.specs.Ordering.{ord_max, nat_cmp}
+use Rattle.std.proofs.Math.Nat.{add-zero, add-suc}
 use Rattle.std.proofs.Math.Numerals.{suc-eq-add-one}
 use Rattle.std.proofs.lemmas.Bool.Decides.{nat_tests}
 use Rattle.std.proofs.lemmas.Bool.{cases_eq}
@@ -36,6 +37,32 @@ largest_below_past m (suc n) f le past = elim (cases_eq m (suc n)) [
   | inr other ↦
       omega (arith, largest_below_past m n f (omega arith) (λ k from below. past k from (omega arith)), past n (omega arith) (omega arith))
 ]
+
+-- the first m values, and n more
+largest_below_append : (m n : ℕ) (f : ℕ → ℕ) → largest_below (m + n) f ≡ max (largest_below m f) (largest_below n (λ k. f (m + k)))
+unfolding largest_below
+largest_below_append m zero f = rw (add-zero m) (omega arith)
+largest_below_append m (suc n) f = rw (add-suc m n) (omega (arith, largest_below_append m n f))
+
+largest_below_max : (n : ℕ) (f g : ℕ → ℕ) → largest_below n (λ k. max (f k) (g k)) ≡ max (largest_below n f) (largest_below n g)
+unfolding largest_below
+largest_below_max zero f g = omega arith
+largest_below_max (suc n) f g = omega (arith, largest_below_max n f g)
+
+-- the values of some chunks, by lanes: each has one value of each chunk
+pub largest_by_lanes : (chunks lanes : ℕ) (f : ℕ → ℕ) →
+    largest_below (chunks * lanes) f ≡ largest_below lanes (λ lane. largest_below chunks (λ chunk. f (chunk * lanes + lane)))
+unfolding largest_below
+largest_by_lanes zero lanes f =
+    let none : zero * lanes ≡ zero = omega arith in
+    rw none (omega (arith, largest_below_le lanes 0 (λ _. 0) (λ k _. omega arith)))
+largest_by_lanes (suc chunks) lanes f =
+    let more : suc chunks * lanes ≡ chunks * lanes + lanes = omega arith in
+    let last : ℕ → ℕ = λ lane. f (chunks * lanes + lane) in
+    rw more (
+    largest_below_append (chunks * lanes) lanes f ∙
+    ap (λ n. max n (largest_below lanes last)) (largest_by_lanes chunks lanes f) ∙
+    sym (largest_below_max lanes (λ lane. largest_below chunks (λ chunk. f (chunk * lanes + lane))) last))
 
 -- what `max` of std answers at numbers
 pub ord_max_is : (a b : ℕ) → ord_max nat_cmp a b ≡ max a b

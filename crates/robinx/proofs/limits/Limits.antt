@@ -73,7 +73,7 @@ worst_gap_le g slots most i j =
     largest_below_le (round_count g.teams) (round_count g.teams) (λ r. if slots r then gap g most i j r else 0)
     (λ r below. if_le (slots r) (gap g most i j r) (round_count g.teams) (λ _. omega (arith, gap_le g most i j r)))
 
-worst_gaps_le : (g : Games) (teams slots : ℕ → Bool) (most team : ℕ) → g.teams ≤ max_teams →
+pub worst_gaps_le : (g : Games) (teams slots : ℕ → Bool) (most team : ℕ) → g.teams ≤ max_teams →
     worst_gaps g teams slots most team ≤ team * 78
 unfolding worst_gaps
 worst_gaps_le g teams slots most team forty =

@@ -10,13 +10,11 @@ use Rattle.std.proofs.lemmas.Bool.{and_parts, or_parts, not-true}
 use Rattle.league.specs.Sets.{has, IsBelow, IsWithoutLowest}
 use Rattle.league.proofs.ForCallers.{has_beyond, has_empty, others_kept, lowest_below, count_where_none}
 use Rattle.fixtures.specs.Games.{Games, round_count, is_home}
-use Rattle.robinx.specs.Deviations.{over}
 use Rattle.robinx.specs.Walked.{row_of, apart_in, one_in, worst_apart}
-use Rattle.robinx.specs.Gaps.{AreTallied, IsHomeRow, IsGapTable, IsTableFor, IsTableOf, IsWholeTable, gap_at, is_home_with, sum_of_gaps}
+use Rattle.robinx.specs.Gaps.{AreTallied, IsHomeRow, IsGapTable, IsTableFor, IsWholeTable, gap_at, is_home_with}
 use Rattle.robinx.specs.declared.gap_table.GapTable.{GapTable}
 use Rattle.robinx.specs.declared.gaps.Gaps.{Gaps}
 use Rattle.robinx.proofs.limits.Largest.{largest_below_le}
-use Rattle.robinx.proofs.rows.GapTables.{apart_small}
 use Rattle.robinx.proofs.rows.HomeRows.{same_home_row, home_before}
 use Rattle.robinx.proofs.rows.Tallies.{nothing_over}
 
@@ -187,7 +185,7 @@ at_home_alike homes t at default home here in_table same =
 
 -- a table follows a schedule
 
-fewer_right : (kept : GapTable) (right fewer : ℕ → ℕ → Bool) → IsGapTable kept right →
+pub fewer_right : (kept : GapTable) (right fewer : ℕ → ℕ → Bool) → IsGapTable kept right →
     ((t o : ℕ) → has kept.gaps.teams t ≡ true → has kept.gaps.teams o ≡ true → o < t → fewer t o ≡ true → right t o ≡ true) →
     IsGapTable kept fewer
 fewer_right kept right fewer table some = record {
@@ -328,156 +326,3 @@ module _ (g : Games) (before kept : GapTable) (left lowest rest stale more at at
           ap (λ (r : List ℕ). worst_apart (get_or kept.rows o []) r) (row_kept t parts.0));
     };
   }
-
--- its stale gaps are counted, team by team
-
--- the gaps of those teams that aren't left, and of pairs that weren't stale
-abbrev pub is_right : ℕ → ℕ → ℕ → ℕ → Bool
-is_right stale left t o = not (has left t) || not (has stale t || has stale o)
-
-pub record HasFollowed (before kept : GapTable) (g : Games) (stale left : ℕ) : Type 0 where
-  pub below : IsBelow g.teams left
-  pub within : (k : ℕ) → has left k ≡ true → has before.gaps.teams k ≡ true
-  pub table : IsGapTable kept (is_right stale left)
-  pub homes : IsTableOf kept g before.gaps.teams before.slots
-
-pub followed_none : (before taken : GapTable) (g : Games) (stale left : ℕ) → left ≡ taken.gaps.teams → IsBelow g.teams before.gaps.teams →
-    IsGapTable taken (λ t o. not (has stale t || has stale o)) → IsTableOf taken g before.gaps.teams before.slots →
-    HasFollowed before taken g stale left
-followed_none before taken g stale left whole below table homes =
-    let all : left ≡ before.gaps.teams = whole ∙ homes.is_for.teams in
-    record {
-      below = omega (arith, below, all);
-      within = λ k here. sym (ap (λ s. has s k) all) ∙ here;
-      table = fewer_right taken _ _ table (λ t o in_t in_o lower right.
-          still (has left t) _ (ap (λ s. has s t) whole ∙ in_t) right);
-      homes = homes;
-    }
-  where
-    still : (a b : Bool) → a ≡ true → (not a || b) ≡ true → b ≡ true
-    still true b is right = right
-    still false b is right = absurd (false≢true is)
-
--- the lower teams of a stale pair are the rule's
-pub partners_in : (teams stale team lower : ℕ) → IsBelow team lower →
-    ((o : ℕ) → o < team → has lower o ≡ (has teams o && (has stale o || has stale team))) → (o : ℕ) → has lower o ≡ true →
-    has teams o ≡ true
-partners_in teams stale team lower below members o in_lower = elim (cases_lt o team) [
-  | inl lt ↦ (and_parts (has teams o) _ (sym (members o lt) ∙ in_lower)).0
-  | inr past ↦ absurd (false≢true (sym (has_beyond team lower o below past) ∙ in_lower))
-]
-
--- its rows are less than a row's length apart
-pub rows_small : (kept : GapTable) (right : ℕ → ℕ → Bool) (t o : ℕ) → IsGapTable kept right → has kept.gaps.teams t ≡ true →
-    has kept.gaps.teams o ≡ true → worst_apart (row_of kept.rows o) (row_of kept.rows t) < 80
-rows_small kept right t o table in_t in_o =
-    apart_small (round_count kept.playing) kept.slots (has (get_or kept.homes o 0)) (has (get_or kept.homes t 0)) (row_of kept.rows o)
-    (row_of kept.rows t) kept.in_slots (omega (arith, table.playing)) table.slots table.in_slots (table.rows o in_o) (table.rows t in_t)
-
-pub followed_more : (before kept : GapTable) (g : Games) (stale left lowest rest lower : ℕ) (new : Gaps) →
-    HasFollowed before kept g stale left → IsWithoutLowest left lowest rest →
-    ((o : ℕ) → o < lowest → has lower o ≡ (has before.gaps.teams o && (has stale o || has stale lowest))) →
-    AreTallied new → new.teams ≡ kept.gaps.teams →
-    ((o : ℕ) → has lower o ≡ true → gap_at new.worst lowest o ≡ worst_apart (row_of kept.rows o) (row_of kept.rows lowest)) →
-    ((t o : ℕ) → (t == lowest && has lower o) ≡ false → gap_at new.worst t o ≡ gap_at kept.gaps.worst t o) →
-    HasFollowed before (record {
-      playing = kept.playing;
-      slots = kept.slots;
-      in_slots = kept.in_slots;
-      homes = kept.homes;
-      rows = kept.rows;
-      gaps = new;
-      overs = kept.overs;
-    }) g stale rest
-followed_more before kept g stale left lowest rest lower new so_far taken members tallied teams compared others = record {
-  below = omega (arith, so_far.below, taken.fewer);
-  within = λ k in_rest. so_far.within k (and_parts (has left k) (not (k == lowest)) (sym (taken.others k) ∙ in_rest)).0;
-  homes = record {
-    is_for = record {
-      playing = so_far.homes.is_for.playing;
-      teams = teams ∙ so_far.homes.is_for.teams;
-      slots = so_far.homes.is_for.slots;
-    };
-    homes = so_far.homes.homes;
-  };
-  table = record {
-    tallied = tallied;
-    playing = so_far.table.playing;
-    below = rw teams so_far.table.below;
-    homes_len = so_far.table.homes_len;
-    rows_len = so_far.table.rows_len;
-    rows = λ t in_teams. so_far.table.rows t (old t in_teams);
-    in_slots = so_far.table.in_slots;
-    slots = so_far.table.slots;
-    worst = λ t o in_t in_o lt right. elim (cases_eq t lowest) [
-      | inl same ↦ subst (λ (k : ℕ). gap_at new.worst k o ≡ worst_apart (row_of kept.rows o) (row_of kept.rows k)) (sym same)
-          (at o (old o in_o) (omega (arith, lt, same)) (has lower o) refl)
-      | inr apart ↦
-          others t o (ap (λ b. b && has lower o) (ne_eqb t lowest apart)) ∙
-          so_far.table.worst t o (old t in_t) (old o in_o) lt
-          (ap (λ b. not b || not (has stale t || has stale o)) (sym (others_kept left lowest rest t taken apart)) ∙ right)
-    ];
-  };
-}
-  where
-    old : (t : ℕ) → has new.teams t ≡ true → has kept.gaps.teams t ≡ true
-    old t in_new = sym (ap (λ s. has s t) teams) ∙ in_new
-
-    fresh : (a b c : Bool) → a ≡ true → (a && b) ≡ false → (c || not b) ≡ true
-    fresh true b c is none = ap (λ (x : Bool). c || not x) none ∙ either c
-      where
-        either : (x : Bool) → (x || true) ≡ true
-        either true = refl
-        either false = refl
-    fresh false b c is none = absurd (false≢true is)
-
-    swap : (a b : Bool) → (a || b) ≡ (b || a)
-    swap true true = refl
-    swap true false = refl
-    swap false true = refl
-    swap false false = refl
-
-    none : (x : Bool) → (x && false) ≡ false
-    none true = refl
-    none false = refl
-
-    at : (o : ℕ) → has kept.gaps.teams o ≡ true → o < lowest → (b : Bool) → has lower o ≡ b →
-        gap_at new.worst lowest o ≡ worst_apart (row_of kept.rows o) (row_of kept.rows lowest)
-    at o in_o lt true in_lower = compared o in_lower
-    at o in_o lt false out =
-        others lowest o (ap (λ b. lowest == lowest && b) out ∙ none (lowest == lowest)) ∙
-        so_far.table.worst lowest o (ap (λ s. has s lowest) so_far.homes.is_for.teams ∙ so_far.within lowest taken.in_set) in_o lt
-        (fresh (has before.gaps.teams o) (has stale lowest || has stale o) (not (has left lowest))
-        (sym (ap (λ s. has s o) so_far.homes.is_for.teams) ∙ in_o)
-        (ap (λ b. has before.gaps.teams o && b) (swap (has stale lowest) (has stale o)) ∙ sym (members o lt) ∙ out))
-
-pub followed_all : (before kept : GapTable) (g : Games) (stale left : ℕ) (overs : List ℕ) → left ≡ 0 →
-    HasFollowed before kept g stale left →
-    ((most : ℕ) → most < 80 → get_or overs most 0 ≡ sum_of_gaps kept.gaps.teams kept.gaps.worst (λ gap. over gap most)) →
-    IsWholeTable (record {
-      playing = kept.playing;
-      slots = kept.slots;
-      in_slots = kept.in_slots;
-      homes = kept.homes;
-      rows = kept.rows;
-      gaps = kept.gaps;
-      overs = overs;
-    })
-followed_all before kept g stale left overs none so_far told =
-    let all : IsGapTable kept (λ t o. true) = fewer_right kept _ _ so_far.table
-    (λ t o in_t in_o lower right.
-    ap (λ b. not b || not (has stale t || has stale o)) (ap (λ s. has s t) none ∙ has_empty t)) in
-    record {
-      table = record {
-        tallied = all.tallied;
-        playing = all.playing;
-        below = all.below;
-        homes_len = all.homes_len;
-        rows_len = all.rows_len;
-        rows = all.rows;
-        in_slots = all.in_slots;
-        slots = all.slots;
-        worst = all.worst;
-      };
-      overs = told;
-    }

@@ -5,7 +5,7 @@ use Rattle.std.proofs.Common.{ap, inl, inr, arith, get_or-set_other}
 use Rattle.std.proofs.Math.ListN.{set, replicate, get_or-eq_default}
 use Rattle.std.proofs.lemmas.Grind.{get_or-set_at}
 use Rattle.std.proofs.lemmas.List.{get_or-replicate, length-set}
-use Rattle.std.proofs.lemmas.Bool.{cases_eq, cases_lt, cond-true, cond-false, eq-eqb, ne_eqb, lt-ltb, le-ltb, false≢true}
+use Rattle.std.proofs.lemmas.Bool.{cases_eq, cases_lt, cond-true, cond-false, eq-eqb, ne_eqb, eqb-true, lt-ltb, le-ltb, false≢true}
 use Rattle.league.specs.Sets.{has}
 use Rattle.league.specs.Sums.{sum_below, sum_where}
 use Rattle.league.proofs.ForCallers.{sum_below_zero, sum_below_same, sum_below_balance, sum_below_only, sum_below_le, sum_below_add, if_le}
@@ -165,6 +165,7 @@ none_tallied teams = record {
   columns = λ t below. ap (λ (row : List ℕ). length row) (get_or-replicate 40 t (replicate 40 0) [] below);
   len = refl;
   small = λ t o. omega (arith, gap_of_none t o);
+  none = λ t o other. gap_of_none t o;
   tallied = λ f none.
       sum_below_zero 80 (λ k. get_or (replicate 80 0) k 0 * f k)
       (λ k below. ap (λ n. n * f k) (get_or-replicate 80 k 0 0 below) ∙ omega arith) ∙
@@ -268,6 +269,8 @@ module _ (gaps : Gaps) (team lower gap row column : ℕ) (so_far : AreTallied ga
           ]
           | inr apart ↦ omega (arith, so_far.small t o, gap_elsewhere t o (ap (λ b. b && o == lower) (ne_eqb t team apart)))
         ];
+        none = λ t o other.
+            gap_elsewhere t o (not_here t o (t == team) (o == lower) refl refl other) ∙ so_far.none t o other;
         tallied = λ f none.
             omega (
               arith,
@@ -278,6 +281,17 @@ module _ (gaps : Gaps) (team lower gap row column : ℕ) (so_far : AreTallied ga
               ap f before_is,
             );
       }
+        where
+          not_here : (t o : ℕ) (a b : Bool) → (t == team) ≡ a → (o == lower) ≡ b →
+              (has gaps.teams t && has gaps.teams o && nat_lt o t) ≡ false → (a && b) ≡ false
+          not_here t o false b is_a is_b other = refl
+          not_here t o true false is_a is_b other = refl
+          not_here t o true true is_a is_b other =
+              let here : t ≡ team = eqb-true t team is_a in
+              let there : o ≡ lower = eqb-true o lower is_b in
+              absurd (false≢true (sym other ∙
+              ap (λ b. b && has gaps.teams o && nat_lt o t) (ap (has gaps.teams) here ∙ has_team) ∙
+              ap (λ b. b && nat_lt o t) (ap (has gaps.teams) there ∙ has_lower) ∙ lt-ltb o t (omega (arith, here, there, is_lower))))
 
 -- no gap is over anything
 pub nothing_over : (teams : ℕ) (worst : List (List ℕ)) (most : ℕ) → ((t o : ℕ) → gap_at worst t o ≡ 0) →

@@ -12,7 +12,7 @@ use std::test::Fail;
 
 /// On the start of six teams 1 and 2 meet in rounds 2 and 7. Of the first rule of each line an exchange of their homes
 /// can alter what the second says, whose deviation is the number, as `deviation` of `scripts/apart.py` counts it.
-const OF_HOMES: &[(&str, &str, u64)] = &[
+pub(crate) const OF_HOMES: &[(&str, &str, u64)] = &[
     (
         r#""class":"CA1","teams":[1,2,3,4,5,6],"mode":"H","slots":[1,2,3],"max":0"#,
         r#""class":"CA1","teams":[1,2],"mode":"H","slots":[1,2,3],"max":0"#,
@@ -69,6 +69,26 @@ const OF_HOMES: &[(&str, &str, u64)] = &[
         6,
     ),
     (
+        r#""class":"BR2","teams":[1,2,3,4],"slots":[2,3,6,7],"intp":0"#,
+        r#""class":"BR2","teams":[1,2,3,4],"slots":[2,3,6,7],"intp":0"#,
+        7,
+    ),
+    (
+        r#""class":"BR2","teams":[1,2,3,4],"slots":[2,3,6,7],"intp":2"#,
+        r#""class":"BR2","teams":[1,2,3,4],"slots":[2,3,6,7],"intp":2"#,
+        5,
+    ),
+    (
+        r#""class":"BR2","teams":[1,2,3,4],"slots":[3,5,6,7],"intp":2"#,
+        r#""class":"BR2","teams":[1,2,3,4],"slots":[3,5,6,7],"intp":2"#,
+        3,
+    ),
+    (
+        r#""class":"BR2","teams":[1,2,5,6],"slots":[3,5,6,7],"intp":2"#,
+        r#""class":"BR2","teams":[1,2,5,6],"slots":[3,5,6,7],"intp":2"#,
+        2,
+    ),
+    (
         r#""class":"SE1","teams":[1,2,3,4,5,6],"min":10"#,
         r#""class":"SE1","teams":[1,2],"min":10"#,
         6,
@@ -77,6 +97,26 @@ const OF_HOMES: &[(&str, &str, u64)] = &[
         r#""class":"SE1","teams":[2,3,4],"min":10"#,
         r#""class":"SE1","teams":[],"min":10"#,
         0,
+    ),
+    (
+        r#""class":"FA2","teams":[1,2,3,4,5,6],"intp":0"#,
+        r#""class":"FA2","teams":[1,2,3,4,5,6],"intp":0"#,
+        19,
+    ),
+    (
+        r#""class":"FA2","teams":[1,2,3,4,5,6],"intp":1"#,
+        r#""class":"FA2","teams":[1,2,3,4,5,6],"intp":1"#,
+        4,
+    ),
+    (
+        r#""class":"FA2","teams":[1,3,4,6],"slots":[2,3,7],"intp":0"#,
+        r#""class":"FA2","teams":[1,3,4,6],"slots":[2,3,7],"intp":0"#,
+        7,
+    ),
+    (
+        r#""class":"FA2","teams":[2,4,5,6],"slots":[2,3,7],"intp":0"#,
+        r#""class":"FA2","teams":[2,4,5,6],"slots":[2,3,7],"intp":0"#,
+        5,
     ),
 ];
 
@@ -117,7 +157,7 @@ const RULES: &[&str] = &[
 ];
 
 /// A move of each kind, which exchanges teams 1 and 2 or rounds 2 and 5, with whether only the two teams are main ones.
-const MOVES: &[(Move, bool)] = &[
+pub(crate) const MOVES: &[(Move, bool)] = &[
     (Move::Homes { i: 0, j: 1 }, true),
     (Move::Rounds { k: 1, l: 4 }, false),
     (Move::Teams { i: 0, j: 1 }, true),
@@ -126,7 +166,7 @@ const MOVES: &[(Move, bool)] = &[
 ];
 
 /// The part of the deviation from a league's only rule that a change of these cells can alter, if these teams may change sides.
-fn part(
+pub(crate) fn part(
     schedule: &Schedule,
     league: &League,
     main: Touched,
@@ -141,7 +181,7 @@ fn part(
 }
 
 /// The games of teams 1 and 2 with each other.
-fn their_games() -> Touched {
+pub(crate) fn their_games() -> Touched {
     Touched {
         teams: TeamSet::below(2),
         rounds: SlotSet::empty().with(1).with(6),
@@ -239,7 +279,7 @@ fn one_counter_counts_each_rule_as_alone(rt: HostRuntime) -> Result<(), Fail> {
 }
 
 /// Makes the move, and returns its main cells.
-fn made(schedule: &mut Schedule, (mv, two): (Move, bool)) -> Result<Touched, Fail> {
+pub(crate) fn made(schedule: &mut Schedule, (mv, two): (Move, bool)) -> Result<Touched, Fail> {
     check(schedule, mv)?;
     let mut main = apply(schedule, mv);
     if two {
@@ -249,7 +289,7 @@ fn made(schedule: &mut Schedule, (mv, two): (Move, bool)) -> Result<Touched, Fai
 }
 
 /// The teams that are on different sides in a round of the two schedules.
-fn turned(before: &Schedule, after: &Schedule) -> TeamSet {
+pub(crate) fn turned(before: &Schedule, after: &Schedule) -> TeamSet {
     let mut sides = TeamSet::empty();
     for team in 0..before.teams().min(after.teams()) {
         if before.home_rounds(team) != after.home_rounds(team) {

@@ -37,7 +37,8 @@ rest_of-rest-requires-clause-told c =
 pub score-requires-2 : goal.score-requires-2
 score-requires-2 c =
     let rest =
-    subst (λ (a : Attempt). IsRest c.args.league.now c.of-scope.result (exchanged_by c.args.schedule.now a.exchange.now) c.rest_of-rest.result)
+    subst (λ (a : Attempt). IsRest c.args.league.now c.of-scope.result (exchanged_by c.args.schedule.now a.exchange.now)
+    c.rest_of-rest.result)
     c.of-scope.ensures.attempt c.rest_of-rest.ensures in
     omega (
       arith,

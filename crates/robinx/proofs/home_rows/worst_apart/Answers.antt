@@ -1,22 +1,27 @@
-use Rattle.std.proofs.Common.{◌≡◌, ◌*◌, refl, ◌∙◌, ap, arith}
+use Rattle.std.proofs.Common.{◌≡◌, ◌+◌, ◌*◌, sym, ◌∙◌, ap, arith}
 use Rattle.robinx.specs.Deviations.{largest_below}
 use Rattle.robinx.specs.Walked.{apart_in, worst_apart}
-use Rattle.robinx.proofs.rows.Lanes.{lanes_none, lanes_more}
+use Rattle.robinx.proofs.limits.Largest.{largest_below_none, largest_below_more, largest_by_lanes, ord_max_is}
 use Rattle.robinx.proofs.home_rows.worst_apart.Goals as goal
 
-pub loop-chunk-init : goal.loop-chunk-init
-loop-chunk-init c = record { len = refl; largest = lanes_none (apart_in c.args.first.now c.args.second.now) }
+pub loop-lane-init : goal.loop-lane-init
+loop-lane-init c = sym (largest_below_none _)
 
-pub loop-chunk-preserved : goal.loop-chunk-preserved
-loop-chunk-preserved c = record {
-  len = c.widen.ensures.len;
-  largest = lanes_more (c.loop-chunk.chunk * 16) _ _ _ (apart_in c.args.first.now c.args.second.now) (omega arith)
-      c.loop-chunk.invariant.largest c.widen.ensures.widened;
-}
+pub loop-lane-preserved : goal.loop-lane-preserved
+loop-lane-preserved c =
+    omega (
+      arith,
+      c.loop-lane.invariant,
+      c.worst_in_lane.ensures,
+      c.max-largest.ensures ∙ ord_max_is c.loop-lane.largest c.worst_in_lane.result,
+      largest_below_more c.loop-lane.lane
+          (λ lane. largest_below 5 (λ chunk. apart_in c.args.first.now c.args.second.now (chunk * 16 + lane))),
+    )
 
 pub returns : goal.returns
 unfolding worst_apart
 returns c =
-    let whole : c.loop-chunk.chunk * 16 ≡ 80 = omega arith in
-    c.largest_of.ensures ∙ c.loop-chunk.invariant.largest ∙
-    ap (λ n. largest_below n (apart_in c.args.first.now c.args.second.now)) whole
+    let whole : c.loop-lane.lane ≡ 16 = omega arith in
+    c.loop-lane.invariant ∙
+    ap (λ n. largest_below n (λ lane. largest_below 5 (λ chunk. apart_in c.args.first.now c.args.second.now (chunk * 16 + lane)))) whole ∙
+    sym (largest_by_lanes 5 16 (apart_in c.args.first.now c.args.second.now))

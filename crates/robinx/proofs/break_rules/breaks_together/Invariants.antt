@@ -2,7 +2,7 @@ use Rattle.league.specs.Sets.{has}
 use Rattle.league.specs.declared.rule.Side.TheVariants.{Any}
 use Rattle.league.proofs.ForCallers.{IsSumWithout}
 use Rattle.robinx.specs.Deviations.{breaks}
-use Rattle.robinx.proofs.break_rules.br2.Given as goal
+use Rattle.robinx.proofs.break_rules.breaks_together.Given as goal
 
 abbrev pub invariant-loop-team : goal.invariant-loop-team
 invariant-loop-team l =

@@ -1,11 +1,11 @@
 use Rattle.std.proofs.Common.{◌≡◌, arith, refl, sym, ◌∙◌, ap}
 use Rattle.std.proofs.lemmas.Bool.{eqb-true, lt-ltb}
 use Rattle.league.specs.Sets.{has}
-use Rattle.robinx.specs.Deviations.{over, breaks, deviation}
+use Rattle.robinx.specs.Deviations.{breaks}
 use Rattle.league.proofs.ForCallers.{sum_without_none, sum_without_more, sum_without_all, lowest_below, sum_below_same, sum_where_all}
 use Rattle.league.specs.declared.rule.Side.TheVariants.{Any}
 use Rattle.robinx.proofs.counted.CountedRounds.{breaks_in_slots}
-use Rattle.robinx.proofs.break_rules.br2.Goals as goal
+use Rattle.robinx.proofs.break_rules.breaks_together.Goals as goal
 
 pub loop-team-init : goal.loop-team-init
 loop-team-init c = sum_without_none _ _ _ _ _ (omega arith) c.into_iter-team-iterator.ensures.into_iter_gives
@@ -20,20 +20,14 @@ loop-team-preserved c = sum_without_more _ _ _ _ _ _ _ _ _ c.loop-team.invariant
     c.breaks_from-count.ensures.most
 
 pub returns-then-eq : goal.returns-then-eq
-unfolding deviation
 returns-then-eq c =
     let all : c.args.teams ≡ c.below.result = eqb-true _ _ (sym c.eq.ensures ∙ c.if-eq.true) in
-    c.over.ensures.value ∙
-    ap (λ n. over n c.args.most)
-    (c.breaks_of_all.ensures ∙
+    c.breaks_of_all.ensures ∙
     sum_below_same c.args.schedule.now.teams _ _
     (λ t in_t. breaks_in_slots c.args.schedule.now Any t _ c.args.slots c.rounds_before-firsts.ensures.members) ∙
     sym (sum_where_all c.args.schedule.now.teams (has c.args.teams) (λ t. breaks c.args.schedule.now t (has c.args.slots) Any)
     (λ t in_t.
-    ap (λ s. has s t) all ∙ c.below.ensures.members t ∙ lt-ltb t c.teams.result (omega (arith, c.teams.ensures.number)))))
+    ap (λ s. has s t) all ∙ c.below.ensures.members t ∙ lt-ltb t c.teams.result (omega (arith, c.teams.ensures.number))))
 
 pub returns : goal.returns
-unfolding deviation
-returns c =
-    c.over-2.ensures.value ∙
-    ap (λ n. over n c.args.most) (sum_without_all _ _ _ _ _ _ _ c.loop-team.invariant c.in-None.ensures.steps.0 (λ k below. refl))
+returns c = sum_without_all _ _ _ _ _ _ _ c.loop-team.invariant c.in-None.ensures.steps.0 (λ k below. refl)
