@@ -1,186 +1,138 @@
--- Rules that ask the same have the same part of their deviations, which adds to the score by the weight of all of them.
-use Rattle.std.proofs.Common.{◌≡◌, ℕ, zero, suc, ◌+◌, ◌*◌, ◌/◌, ◌<◌, ◌≤◌, ◌&&◌, ◌==◌, true, inl, inr, length}
-use Rattle.std.proofs.Common.{slice_get, Option, Some, None, refl, sym, ap, ◌∙◌, true≢false, arith}
-use Rattle.std.proofs.Math.Nat.{add-zero, div-lt_iff_lt-mul}
-use Rattle.std.proofs.lemmas.Bool.{cases_eq, and_parts, eqb-true}
-use Rattle.std.proofs.lemmas.Option.{slice_get_past, slice_get_within}
-use Rattle.league.specs.League.{LeagueData, teams, IsLeague}
-use Rattle.league.specs.Limits.{max_weight}
+-- What the rules that ask the same as the last one of class FA2 add to the score, and how it is told.
+use Rattle.std.proofs.Common.{◌≡◌, ℕ, zero, suc, ◌+◌, ◌*◌, ◌/◌, ◌≤◌, ◌&&◌, ◌==◌, Bool, true, false, if◌then◌else◌, length}
+use Rattle.std.proofs.Common.{nat_le, inl, inr, slice_get, Option, Some, None, refl, sym, ap, ◌∙◌, true≢false, arith}
+use Rattle.std.proofs.Math.Nat.{div-lt_iff_lt-mul, le-div_iff_mul-le}
+use Rattle.std.proofs.lemmas.Bool.{and_parts, cases_Bool, cases_lt, eqb-true, eq-eqb, le-leb, lt-leb}
+use Rattle.std.proofs.lemmas.Option.{slice_get_within}
+use Rattle.league.specs.League.{LeagueData, IsLeague}
+use Rattle.league.specs.RuleLimits.{IsWeight}
+use Rattle.league.specs.Sets.{has}
 use Rattle.league.specs.Sums.{sum_below}
 use Rattle.league.specs.declared.rule.Rule.{Rule}
 use Rattle.league.specs.declared.rule.RuleBody.{RuleBody}
 use Rattle.league.specs.declared.rule.RuleBody.TheVariants.{Fa2}
 use Rattle.league.specs.declared.rule.Weight.{Weight}
 use Rattle.league.specs.declared.rule.Weight.TheVariants.{Hard, Soft}
-use Rattle.league.proofs.ForCallers.{sum_below_none, sum_below_more}
 use Rattle.fixtures.specs.Games.{Games}
-use Rattle.robinx.specs.Parts.{deviation_part, IsWithin}
-use Rattle.robinx.specs.LastCounts.{Counting}
+use Rattle.fixtures.specs.TouchedCells.{TouchedCells}
+use Rattle.robinx.specs.Deviations.{deviation}
+use Rattle.robinx.specs.Parts.{can_alter, changing_terms, deviation_part, tells_apart}
+use Rattle.robinx.specs.Touches.{has_touched_team, has_touched_until, looks_at_round, looks_at_team, touches}
+use Rattle.robinx.specs.declared.fairness_rules.Fairness.{Fairness}
 use Rattle.fixture_board.specs.Costs.{cost_of, hard_penalty, soft_penalty, score_of}
-use Rattle.fixture_board.specs.CostParts.{counting_of, rule_part, IsRest, score_weight, weight_at, asks_the_same, are_alike}
-use Rattle.fixture_board.specs.CostParts.{IsWeightOfAlike, part_at, IsTooMuch, IsPartFor}
+use Rattle.fixture_board.specs.CostParts.{asked_part, asks, fairness_part, last_fairness}
+use Rattle.fixture_board.specs.CostParts.{rule_part, rules_part, score_weight, weight_at, weight_of, IsFound, IsRest}
 use Rattle.fixture_board.specs.declared.cost.Cost.{Cost}
 use Rattle.fixture_board.specs.declared.scope.Scope.{Scope}
-use Rattle.fixture_board.proofs.Partial.{IsCountedTo, IsNoMore, no_more}
+use Rattle.fixture_board.proofs.PartLimits.{term_le_sum}
+use Rattle.fixture_board.proofs.Parts.{rest_scores}
 
--- so many rules from an index on, which all ask the same, and their weight so far
-pub record IsRun (l : LeagueData) (first count weight : ℕ) : Type 0 where
-  pub least : 1 ≤ count
-  pub within : first + count ≤ length l.rules
-  pub alike : (k : ℕ) → 1 ≤ k → k < count → are_alike (slice_get l.rules (first + k)) (slice_get l.rules first) ≡ true
-  pub sum : weight ≡ sum_below count (λ k. weight_at l (slice_get l.rules (first + k)))
-  pub weight_least : 1 ≤ weight
-  pub weight_most : weight ≤ count * max_weight
-
-pub run_begins : (l : LeagueData) (first weight : ℕ) (asked : Rule) → slice_get l.rules first ≡ Some asked →
-    weight ≡ score_weight l asked.weight → 1 ≤ weight → weight ≤ max_weight → IsRun l first 1 weight
-run_begins l first weight asked at is least most = record {
-  least = omega arith;
-  within = omega (arith, slice_get_within l.rules first asked at);
-  alike = λ k low high. absurd (omega (arith, low, high));
-  sum = omega (
-    arith,
-    is,
-    ap (weight_at l) at,
-    ap (λ n. weight_at l (slice_get l.rules n)) (add-zero first),
-    sum_below_none (λ k. weight_at l (slice_get l.rules (first + k))),
-    sum_below_more 0 (λ k. weight_at l (slice_get l.rules (first + k))),
-  );
-  weight_least = least;
-  weight_most = omega (arith, most);
-}
-
-module _ (l : LeagueData) (first count weight : ℕ) (is : IsRun l first count weight) (asked : Rule)
-    (at : slice_get l.rules first ≡ Some asked) where
-  pub run_goes_on : (rule : Rule) (added : ℕ) → slice_get l.rules (first + count) ≡ Some rule →
-      asks_the_same rule.body asked.body ≡ true → added ≡ score_weight l rule.weight → added ≤ max_weight →
-      IsRun l first (count + 1) (weight + added)
-  run_goes_on rule added rule_at same added_is most = record {
-    least = omega arith;
-    within = omega (arith, slice_get_within l.rules (first + count) rule rule_at);
-    alike = λ k low high. elim (cases_eq k count) [
-      | inl last ↦ rw last (rw rule_at (rw at same))
-      | inr other ↦ is.alike k low (omega (arith, high, other))
-    ];
-    sum = omega (
-      arith,
-      is.sum,
-      added_is,
-      ap (weight_at l) rule_at,
-      sum_below_more count (λ k. weight_at l (slice_get l.rules (first + k))),
-    );
-    weight_least = omega (arith, is.weight_least);
-    weight_most = omega (arith, is.weight_most, most);
-  }
-
-  pub rules_end : first + count ≡ length l.rules → IsWeightOfAlike l first weight
-  rules_end all = record {
-    count = count;
-    least = is.least;
-    within = is.within;
-    alike = is.alike;
-    ends = rw (slice_get_past l.rules (first + count) (omega (arith, all))) refl;
-    sum = is.sum;
-  }
-
--- Rules that ask the same have the same part.
-
-same_body : (body asked : RuleBody) → asks_the_same body asked ≡ true → body ≡ asked
-unfolding asks_the_same
-same_body (Fa2 teams slots most) (Fa2 asked_teams asked_slots asked_most) is =
-    let parts = and_parts (teams == asked_teams && slots == asked_slots) (most == asked_most) is in
-    let sets = and_parts (teams == asked_teams) (slots == asked_slots) parts.0 in
-    ap (λ (n : ℕ). Fa2 n slots most) (eqb-true teams asked_teams sets.0) ∙
-    ap (λ (n : ℕ). Fa2 asked_teams n most) (eqb-true slots asked_slots sets.1) ∙
-    ap (λ (n : ℕ). Fa2 asked_teams asked_slots n) (eqb-true most asked_most parts.1)
+same_body : (body : RuleBody) (asked : Fairness) → asks body asked ≡ true → body ≡ Fa2 asked.teams asked.slots asked.most
+unfolding asks
+same_body (Fa2 teams slots most) asked is =
+    let parts = and_parts (teams == asked.teams && slots == asked.slots) (most == asked.most) is in
+    let sets = and_parts (teams == asked.teams) (slots == asked.slots) parts.0 in
+    ap (λ (n : ℕ). Fa2 n slots most) (eqb-true teams asked.teams sets.0) ∙
+    ap (λ (n : ℕ). Fa2 asked.teams n most) (eqb-true slots asked.slots sets.1) ∙
+    ap (λ (n : ℕ). Fa2 asked.teams asked.slots n) (eqb-true most asked.most parts.1)
 same_body body asked is = absurd (true≢false (sym is))
 
-same_part : (counting : Counting) (rule asked : Option Rule) → are_alike rule asked ≡ true → part_at counting rule ≡ part_at counting asked
-same_part counting None asked is = absurd (true≢false (sym is))
-same_part counting (Some rule) None is = absurd (true≢false (sym is))
-same_part counting (Some rule) (Some asked) is =
-    ap (λ (body : RuleBody). deviation_part counting.games counting.main counting.rounds counting.sides body)
-    (same_body rule.body asked.body is)
-
--- What they add to the score together.
+-- a rule adds at least what its weight among those that ask the same says
 
 by_weight : (l : LeagueData) (weight : Weight) (part : ℕ) →
-    l.hard_weight * hard_penalty weight part + soft_penalty weight part ≡ score_weight l weight * part
+    score_weight l weight * part ≡ l.hard_weight * hard_penalty weight part + soft_penalty weight part
 by_weight l Hard part = omega arith
 by_weight l (Soft weight) part = omega arith
 
-rule_adds : (l : LeagueData) (scope : Scope) (g : Games) (rule : Option Rule) →
-    l.hard_weight * rule_part hard_penalty scope.main scope.turning g rule + rule_part soft_penalty scope.main scope.turning g rule ≡
-    weight_at l rule * part_at (counting_of g scope) rule
-rule_adds l scope g None = omega arith
-rule_adds l scope g (Some rule) = by_weight l rule.weight _
+rule_adds : (l : LeagueData) (scope : Scope) (g : Games) (asked : Fairness) (rule : Option Rule) →
+    weight_at l asked rule *
+    deviation_part g scope.main.teams scope.main.rounds scope.turning (Fa2 asked.teams asked.slots asked.most) ≤
+    l.hard_weight * rule_part hard_penalty scope.main scope.turning g rule + rule_part soft_penalty scope.main scope.turning g rule
+rule_adds l scope g asked None = omega arith
+rule_adds l scope g asked (Some rule) = elim (cases_Bool (asks rule.body asked)) [
+  | inl same ↦
+      rw same (rw (← same_body rule.body asked same)
+      (omega (arith, by_weight l rule.weight (deviation_part g scope.main.teams scope.main.rounds scope.turning rule.body))))
+  | inr other ↦ rw other (omega arith)
+]
 
-sums_add : (factor part n : ℕ) (hard soft weight : ℕ → ℕ) → ((k : ℕ) → k < n → factor * hard k + soft k ≡ weight k * part) →
-    factor * sum_below n hard + sum_below n soft ≡ sum_below n weight * part
+sums_add : (factor part n : ℕ) (hard soft weight : ℕ → ℕ) → ((k : ℕ) → weight k * part ≤ factor * hard k + soft k) →
+    sum_below n weight * part ≤ factor * sum_below n hard + sum_below n soft
 unfolding sum_below
 sums_add factor part zero hard soft weight each = omega arith
-sums_add factor part (suc n) hard soft weight each =
-    omega (arith, sums_add factor part n hard soft weight (λ k below. each k (omega arith)), each n (omega arith))
+sums_add factor part (suc n) hard soft weight each = omega (arith, sums_add factor part n hard soft weight each, each n)
 
-sum_below_from : (m n : ℕ) (f : ℕ → ℕ) → sum_below (m + n) f ≡ sum_below m f + sum_below n (λ k. f (m + k))
-unfolding sum_below
-sum_below_from m zero f = rw (add-zero m) (omega arith)
-sum_below_from m (suc n) f =
-    let next : m + suc n ≡ m + n + 1 = omega arith in
-    rw next (omega (arith, sum_below_from m n f, sum_below_more (m + n) f))
-
-module _ (l : LeagueData) (scope : Scope) (g : Games) (rest cost : Cost) (index left : ℕ) (league : IsLeague l)
-    (same : teams l ≡ g.teams) (whole : IsRest l scope g rest) (counted : IsCountedTo l scope g rest index cost)
-    (is : IsTooMuch l index left (part_at (counting_of g scope) (slice_get l.rules index))) where
-  part_of_each : (k : ℕ) → k < is.alike.count →
-      part_at (counting_of g scope) (slice_get l.rules (index + k)) ≡ part_at (counting_of g scope) (slice_get l.rules index)
-  part_of_each k below = elim (cases_eq k 0) [
-    | inl first ↦ rw first (rw (add-zero index) refl)
-    | inr later ↦ same_part (counting_of g scope) _ _ (is.alike.alike k (omega arith) below)
-  ]
-
-  abbrev added : (Weight → ℕ → ℕ) → ℕ
-  added penalty =
-      sum_below is.alike.count (λ k. rule_part penalty scope.main scope.turning g (slice_get l.rules (index + k)))
-
-  all_add : l.hard_weight * added hard_penalty + added soft_penalty ≡ is.weight * part_at (counting_of g scope) (slice_get l.rules index)
-  all_add =
-      let sums = sums_add l.hard_weight (part_at (counting_of g scope) (slice_get l.rules index)) is.alike.count _ _
-      (λ k. weight_at l (slice_get l.rules (index + k)))
-      (λ k below. rw (← part_of_each k below) (rule_adds l scope g (slice_get l.rules (index + k)))) in
-      rw is.alike.sum sums
-
-  abbrev with_all : Cost
-  with_all = record { travel = cost.travel; hard = cost.hard + added hard_penalty; soft = cost.soft + added soft_penalty }
-
-  counted_all : IsCountedTo l scope g rest (index + is.alike.count) with_all
-  counted_all = record {
-    travel = counted.travel;
-    hard = omega (
+-- so with what those rules add the rest scores no more than the whole cost
+pub asked_scores : (l : LeagueData) (scope : Scope) (g : Games) (rest : Cost) (asked : Option Fairness) → IsRest l scope g rest →
+    score_of l rest + asked_part l scope g asked ≤ score_of l (cost_of l g)
+unfolding weight_of rules_part
+asked_scores l scope g rest None whole = omega (arith, rest_scores l scope g rest whole)
+asked_scores l scope g rest (Some asked) whole =
+    omega (
       arith,
-      counted.hard,
-      sum_below_from index is.alike.count (λ i. rule_part hard_penalty scope.main scope.turning g (slice_get l.rules i)),
-    );
-    soft = omega (
+      sums_add l.hard_weight _ (length l.rules) _ _ _ (λ i. rule_adds l scope g asked (slice_get l.rules i)),
+      ap (score_of l) whole,
+    )
+
+-- Each of those rules adds something.
+
+score_least : (l : LeagueData) (weight : Weight) → IsLeague l → IsWeight weight → 1 ≤ score_weight l weight
+score_least l Hard is weighs = is.weight_least
+score_least l (Soft weight) is weighs = weighs.0
+
+asks_itself : (asked : Fairness) → asks (Fa2 asked.teams asked.slots asked.most) asked ≡ true
+unfolding asks
+asks_itself asked =
+    rw (eq-eqb asked.teams asked.teams refl) (rw (eq-eqb asked.slots asked.slots refl) (eq-eqb asked.most asked.most refl))
+
+pub weight_least : (l : LeagueData) (rule : Rule) (asked : Fairness) → IsLeague l → IsFound l rule asked → 1 ≤ weight_of l asked
+unfolding weight_of
+weight_least l rule asked is found =
+    let own : weight_at l asked (Some rule) ≡ score_weight l rule.weight = rw found.body (rw (asks_itself asked) refl) in
+    omega (
       arith,
-      counted.soft,
-      sum_below_from index is.alike.count (λ i. rule_part soft_penalty scope.main scope.turning g (slice_get l.rules i)),
-    );
-  }
+      term_le_sum (length l.rules) found.index (λ i. weight_at l asked (slice_get l.rules i))
+          (slice_get_within l.rules found.index rule found.at),
+      ap (weight_at l asked) found.at ∙ own,
+      score_least l rule.weight is found.range.weight,
+    )
 
-  -- so the whole cost's score is above what was left for it
-  pub too_much : score_of l cost + left < score_of l (cost_of l g)
-  too_much =
-      let bound : IsNoMore l g with_all = no_more league same whole is.alike.within counted_all in
-      omega (arith, bound.scores, all_add, is.more)
+-- What the exchange can alter of a deviation is all of it, or nothing.
 
--- a part that is within what is left for each unit of the weight
-pub part_within : (l : LeagueData) (counting : Counting) (index left weight : ℕ) (rule : Rule) (result : Option ℕ) →
-    slice_get l.rules index ≡ Some rule → IsWeightOfAlike l index weight → 1 ≤ weight →
-    IsWithin (left / weight) (part_at counting (Some rule)) result → IsPartFor l counting index left result
-part_within l counting index left weight rule (Some part) at is least within = within.0 ∙ sym (ap (part_at counting) at)
-part_within l counting index left weight rule None at is least within = record {
-  weight = weight;
-  alike = is;
-  more = rw at (omega (arith, (div-lt_iff_lt-mul {x = left} {y = part_at counting (Some rule)} least).0 within));
-}
+both_asked : (a b : Bool) (n : ℕ) → (if a && true then (if b then n else 0) else 0) ≡ (if b && a then n else 0)
+both_asked true true n = refl
+both_asked true false n = refl
+both_asked false true n = refl
+both_asked false false n = refl
+
+within_weight : (weight number left : ℕ) → 1 ≤ weight → nat_le number (left / weight) ≡ nat_le (weight * number) left
+within_weight weight number left least = elim (cases_lt left (number * weight)) [
+  | inl more ↦
+      lt-leb number (left / weight) ((div-lt_iff_lt-mul {x = left} {y = number} least).1 more) ∙
+      sym (lt-leb (weight * number) left (omega (arith, more)))
+  | inr less ↦
+      le-leb number (left / weight) ((le-div_iff_mul-le {x = number} {y = left} least).1 less) ∙
+      sym (le-leb (weight * number) left (omega (arith, less)))
+]
+
+-- So it fits if the deviation is at most what is left for each unit of the weight, and if the exchange touches nothing of it.
+module _ (l : LeagueData) (scope : Scope) (g : Games) (body : RuleBody) (asked : Fairness)
+    (last : Some asked ≡ last_fairness l.rules (length l.rules)) (is : body ≡ Fa2 asked.teams asked.slots asked.most) (left : ℕ)
+    (main : TouchedCells) (same : main ≡ scope.main) where
+  part_is : fairness_part l scope g ≡
+      weight_of l asked *
+      (if touches body (has scope.turning) (has main.rounds) then deviation g (Fa2 asked.teams asked.slots asked.most) else 0)
+  unfolding deviation_part can_alter looks_at_round tells_apart changing_terms touches looks_at_team
+  part_is =
+      ap (asked_part l scope g) (sym last) ∙
+      rw is (rw same (ap (λ n. weight_of l asked * n)
+      (both_asked (has_touched_until asked.slots (has scope.main.rounds)) (has_touched_team asked.teams (has scope.turning)) _)))
+
+  pub untouched_fits : touches body (has scope.turning) (has main.rounds) ≡ false → true ≡ nat_le (fairness_part l scope g) left
+  untouched_fits untouched = sym (le-leb (fairness_part l scope g) left (omega (arith, rw untouched at part_is)))
+
+  pub touched_fits : touches body (has scope.turning) (has main.rounds) ≡ true → 1 ≤ weight_of l asked →
+      nat_le (deviation g (Fa2 asked.teams asked.slots asked.most)) (left / weight_of l asked) ≡ nat_le (fairness_part l scope g) left
+  touched_fits touched least =
+      within_weight (weight_of l asked) (deviation g (Fa2 asked.teams asked.slots asked.most)) left least ∙
+      ap (λ n. nat_le n left) (sym (rw touched at part_is))

@@ -52,7 +52,7 @@ sides g scope is =
     (box teams (has (main_cells scope.attempt.exchange.now).rounds)))
     (sym (fun_ext is.turning)) (each_sides g scope.attempt.exchange.now is.can_be_made))
 
-round_robin_after : (g : Games) (scope : Scope) → IsScope g scope → IsDoubleRoundRobin (exchanged_by g scope.attempt.exchange.now)
+pub round_robin_after : (g : Games) (scope : Scope) → IsScope g scope → IsDoubleRoundRobin (exchanged_by g scope.attempt.exchange.now)
 round_robin_after g scope is = (each_undone g scope.attempt.exchange.now is.can_be_made).again.round_robin
 
 -- a count that is taken or not

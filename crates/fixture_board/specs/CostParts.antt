@@ -1,8 +1,9 @@
 -- What of the costs an exchange can change, counted on the schedule before it or after it. `main` has its main teams and
 -- their rounds.
-use Rattle.std.specs.Prelude.{◌≡◌, ℕ, ◌+◌, ◌*◌, ◌<◌, ◌≤◌, ◌==◌, ◌&&◌, nat_lt, Bool, true, false, if◌then◌else◌}
+use Rattle.std.specs.Prelude.{◌≡◌, ℕ, zero, suc, ◌+◌, ◌*◌, ◌<◌, ◌==◌, ◌&&◌, nat_lt, Bool, false, if◌then◌else◌}
 use Rattle.std.specs.Prelude.{List, length, slice_get, Option, Some, None}
-use Rattle.league.specs.League.{LeagueData}
+use Rattle.league.specs.League.{LeagueData, teams}
+use Rattle.league.specs.RuleLimits.{IsRuleFor}
 use Rattle.league.specs.Sets.{has}
 use Rattle.league.specs.Sums.{sum_below}
 use Rattle.league.specs.declared.rule.Rule.{Rule}
@@ -20,6 +21,7 @@ use Rattle.tours.specs.Repeats.{repeats}
 use Rattle.tours.specs.Phased.{unphased_part}
 use Rattle.robinx.specs.Parts.{deviation_part}
 use Rattle.robinx.specs.LastCounts.{Counting}
+use Rattle.robinx.specs.declared.fairness_rules.Fairness.{Fairness}
 use Rattle.fixture_board.specs.Costs.{cost_of, hard_penalty, soft_penalty, score_limit, where_phased}
 use Rattle.fixture_board.specs.declared.cost.Cost.{Cost}
 use Rattle.fixture_board.specs.declared.penalties.Penalties.{Penalties}
@@ -94,43 +96,48 @@ abbrev pub score_weight : LeagueData → Weight → ℕ
 score_weight l Hard = l.hard_weight
 score_weight l (Soft weight) = weight
 
--- the same of the rule that stands somewhere, if one does
-abbrev pub weight_at : LeagueData → Option Rule → ℕ
-weight_at l None = 0
-weight_at l (Some rule) = score_weight l rule.weight
+-- whether the rule is of class FA2 and asks this
+unfoldable pub asks : RuleBody → Fairness → Bool
+asks (Fa2 teams slots most) asked = teams == asked.teams && slots == asked.slots && most == asked.most
+asks body asked = false
 
--- whether both are of class FA2 and ask the same
-unfoldable pub asks_the_same : RuleBody → RuleBody → Bool
-asks_the_same (Fa2 teams slots most) (Fa2 asked_teams asked_slots asked_most) =
-    teams == asked_teams && slots == asked_slots && most == asked_most
-asks_the_same body asked = false
+-- what a deviation of 1 adds to the score from the rule that stands somewhere, if it asks this
+abbrev pub weight_at : LeagueData → Fairness → Option Rule → ℕ
+weight_at l asked None = 0
+weight_at l asked (Some rule) = if asks rule.body asked then score_weight l rule.weight else 0
 
--- the same of the rules that stand somewhere, if both do
-abbrev pub are_alike : Option Rule → Option Rule → Bool
-are_alike (Some rule) (Some asked) = asks_the_same rule.body asked.body
-are_alike rule asked = false
+-- the sum over all rules, by their indices
+unfoldable pub weight_of : LeagueData → Fairness → ℕ
+weight_of l asked = sum_below (length l.rules) (λ i. weight_at l asked (slice_get l.rules i))
 
--- what a deviation of 1 adds to the score from the rule at an index and from all that directly follow it and ask the same
-pub record IsWeightOfAlike (l : LeagueData) (first weight : ℕ) : Type 0 where
-  pub count : ℕ
-  pub least : 1 ≤ count
-  pub within : first + count ≤ length l.rules
-  pub alike : (k : ℕ) → 1 ≤ k → k < count → are_alike (slice_get l.rules (first + k)) (slice_get l.rules first) ≡ true
-  pub ends : are_alike (slice_get l.rules (first + count)) (slice_get l.rules first) ≡ false
-  pub sum : weight ≡ sum_below count (λ k. weight_at l (slice_get l.rules (first + k)))
+-- what the rule asks if it is of class FA2, and else what was asked earlier
+unfoldable pub asked_by : RuleBody → Option Fairness → Option Fairness
+asked_by (Fa2 teams slots most) earlier = Some (record { teams = teams; slots = slots; most = most })
+asked_by body earlier = earlier
 
--- the part of the deviation from the rule that stands somewhere
-abbrev pub part_at : Counting → Option Rule → ℕ
-part_at counting None = 0
-part_at counting (Some rule) = deviation_part counting.games counting.main counting.rounds counting.sides rule.body
+-- the same of the rule that stands somewhere
+abbrev pub asked_at : Option Rule → Option Fairness → Option Fairness
+asked_at None earlier = earlier
+asked_at (Some rule) earlier = asked_by rule.body earlier
 
--- such a part of the rule at an index and of those that directly follow it and ask the same adds more to the score than is left
-pub record IsTooMuch (l : LeagueData) (first left part : ℕ) : Type 0 where
-  pub weight : ℕ
-  pub alike : IsWeightOfAlike l first weight
-  pub more : left < weight * part
+-- what the last rule of class FA2 asks, of the first n
+unfoldable pub last_fairness : List Rule → ℕ → Option Fairness
+last_fairness rules zero = None
+last_fairness rules (suc n) = asked_at (slice_get rules n) (last_fairness rules n)
 
--- the part for the rule at this index, and none only if that is too much
-abbrev pub IsPartFor : LeagueData → Counting → ℕ → ℕ → Option ℕ → Type 0
-IsPartFor l counting index left (Some part) = part ≡ part_at counting (slice_get l.rules index)
-IsPartFor l counting index left None = IsTooMuch l index left (part_at counting (slice_get l.rules index))
+-- the rule is one of the league's, and asks this
+pub record IsFound (l : LeagueData) (rule : Rule) (asked : Fairness) : Type 0 where
+  pub index : ℕ
+  pub at : slice_get l.rules index ≡ Some rule
+  pub body : rule.body ≡ Fa2 asked.teams asked.slots asked.most
+  pub range : IsRuleFor (teams l) rule
+
+-- what an exchange can alter of what all rules that ask the same add to the score
+abbrev pub asked_part : LeagueData → Scope → Games → Option Fairness → ℕ
+asked_part l scope g None = 0
+asked_part l scope g (Some asked) =
+    weight_of l asked * deviation_part g scope.main.teams scope.main.rounds scope.turning (Fa2 asked.teams asked.slots asked.most)
+
+-- the same of those that ask what the last rule of class FA2 does
+abbrev pub fairness_part : LeagueData → Scope → Games → ℕ
+fairness_part l scope g = asked_part l scope g (last_fairness l.rules (length l.rules))

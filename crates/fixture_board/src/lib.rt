@@ -4,7 +4,6 @@
 //! Teams and rounds are numbered from 0. Only `Board::new` takes memory.
 #![tactic(auto)]
 
-mod alike_rules;
 mod ask;
 mod attempt;
 mod best;
@@ -12,6 +11,7 @@ mod board;
 mod change;
 mod cost;
 mod counted;
+mod fairness;
 mod laws;
 mod look;
 mod made_exchanges;

@@ -7,7 +7,7 @@ ghost use Rattle.fixture_board.specs.Costs.{cost_of, score_of, score_limit, IsCo
 
 use crate::attempt::Attempt;
 use crate::cost::Cost;
-use crate::counted::{rest_of, whole_within};
+use crate::counted::{rest_within, whole_within};
 use crate::scope::Scope;
 use crate::told_cost::told_within;
 use fixtures::Schedule;
@@ -43,8 +43,8 @@ pub fn make_at_cost(
 }
 
 /// Makes the exchange of an attempt as `make_at_cost` does if the score after is at most the greatest allowed, and gives the cost
-/// after. Otherwise the schedule is left as it was, and what costs little to count is counted first: travel, runs and repeats, for
-/// which nothing is made, and last the rules. What FA2 counts is kept in `gaps`. Takes no memory.
+/// after. Otherwise the schedule is left as it was, and what costs little to count is counted first: travel, runs and repeats, then some
+/// rules on fairness, for all of which nothing is made, and last the other rules. What FA2 counts is kept in `gaps`. Takes no memory.
 pub fn make_within(
     schedule: &mut Schedule,
     league: &League,
@@ -73,10 +73,7 @@ pub fn make_within(
         return Some(told);
     }
     let scope = Scope::of(attempt, schedule);
-    let rest = rest_of(schedule, league, gaps, &scope, told);
-    if rest.score(league) > most {
-        return None;
-    }
+    let rest = rest_within(schedule, league, gaps, &scope, told)?;
     exchange.make(schedule);
     let cost = whole_within(schedule, league, gaps, &scope, rest);
     if cost.is_none() {

@@ -4,7 +4,8 @@ pub use Rattle.moves.proofs.move_laws.EachMove.{each-its_own_inverse as each_its
 pub use Rattle.moves.proofs.move_laws.EachMove.{each-double_round_robin as each_double_round_robin}
 -- of each exchange that can be made
 pub use Rattle.moves.proofs.exchange_laws.EachExchange.{each-undone as each_undone}
-pub use Rattle.moves.proofs.exchange_laws.Around.{each-around as each_around, each-sides as each_sides}
+pub use Rattle.moves.proofs.exchange_laws.Around.{each-around as each_around}
+pub use Rattle.moves.proofs.exchange_laws.TurnedSides.{each-sides as each_sides}
 -- the games that it gives another round
 pub use Rattle.moves.proofs.exchange_laws.ChangedGames.{each-tells as each_tells}
 pub use Rattle.moves.proofs.exchange_laws.ChangedGames.{main_teams_below, main_rounds_below}

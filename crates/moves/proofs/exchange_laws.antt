@@ -5,3 +5,4 @@ pub mod DiffersThere
 pub mod KeptMeetings
 pub mod ChangedGames
 pub mod EachExchange
+pub mod TurnedSides

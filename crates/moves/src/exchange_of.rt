@@ -2,7 +2,7 @@
 
 ghost use Rattle.std.specs.Prelude.{◌≡◌, ℕ, ◌<◌, ◌||◌, ◌==◌, Ok};
 ghost use Rattle.league.specs.Limits.{max_teams, max_rounds};
-ghost use Rattle.league.specs.Sets.{has};
+ghost use Rattle.league.specs.Sets.{has, IsBelow};
 ghost use Rattle.fixtures.specs.Games.{IsPair};
 ghost use Rattle.moves.specs.Moves.{fault_of};
 ghost use Rattle.moves.specs.Exchanges.{exchange_of, IsExchangeOf, both, rounds_apart};
@@ -59,7 +59,8 @@ pub(crate) fn two_teams(i: u8, j: u8) -> TeamSet
 pub(crate) fn two_rounds(k: u8, l: u8) -> SlotSet
     requires k { k < max_rounds }
     requires l { l < max_rounds }
-    ensures { result ≡ both k l }
+    ensures value { result ≡ both k l }
+    ensures below { (m : ℕ) → k < m → l < m → IsBelow m result }
 {
     SlotSet::empty().with(l).with(k)
 }

@@ -1,12 +1,12 @@
 //! What the moves are: two rounds, or two teams, exchanged in a part of the games.
 
-ghost use Rattle.std.specs.Prelude.{◌≡◌, ℕ, ◌<◌, ◌≤◌, ◌&&◌, ◌==◌, not, true, false};
+ghost use Rattle.std.specs.Prelude.{◌≡◌, ℕ, ◌<◌, ◌≤◌, ◌&&◌, ◌==◌, not, true, false, nat_lt};
 ghost use Rattle.std.specs.Bool.{beq};
 ghost use Rattle.league.specs.Limits.{max_teams, max_rounds};
-ghost use Rattle.league.specs.Sets.{has};
+ghost use Rattle.league.specs.Sets.{has, IsBelow};
 ghost use Rattle.league.specs.Sums.{any_below};
 ghost use Rattle.fixtures.specs.Games.{round_count, cell, is_home, IsPair};
-ghost use Rattle.fixtures.specs.Changes.{turns};
+ghost use Rattle.fixtures.specs.Changes.{IsTurned, turns};
 ghost use Rattle.moves.specs.Exchanges.{exchanged_by, IsExchange, IsInSeason, main_cells, turning_team, same_meetings};
 
 use crate::exchange_of::{rounds_apart, two_rounds, two_teams};
@@ -70,6 +70,19 @@ impl Exchange {
         }
     }
 
+    /// The rounds in which the main teams that turn are on the other side after the exchange: the same rounds for each of
+    /// them. Takes no memory.
+    pub fn turned_rounds(&self, schedule: &Schedule) -> SlotSet
+        requires { IsExchange schedule.now self.now }
+        ensures turned { IsTurned schedule.now (exchanged_by schedule.now self.now) (turning_team schedule.now self.now) (has result) }
+        ensures below { IsBelow (round_count schedule.now.teams) result }
+    {
+        match *self {
+            Exchange::Rounds { k, l, .. } => two_rounds(k, l),
+            Exchange::Teams { i, j, among } => other_sides(schedule, i, j).intersection(among),
+        }
+    }
+
     /// Whether the same pairs meet after the exchange in each round, perhaps under two other names. Takes no memory.
     pub fn same_meetings(&self, schedule: &Schedule) -> bool
         requires { IsExchange schedule.now self.now }
@@ -117,11 +130,19 @@ fn differ_in_side(schedule: &Schedule, i: u8, j: u8, rounds: SlotSet) -> bool
     ensures { result ≡
         any_below max_rounds (λ r. has rounds r && not (beq (is_home schedule.now i r) (is_home schedule.now j r))) }
 {
-    rounds.intersects(
-        schedule
-            .home_rounds(i)
-            .symmetric_difference(schedule.home_rounds(j)),
-    )
+    rounds.intersects(other_sides(schedule, i, j))
+}
+
+/// The rounds in which the two teams are on different sides.
+fn other_sides(schedule: &Schedule, i: u8, j: u8) -> SlotSet
+    requires { IsPair schedule.now.teams i j }
+    ensures members { (r : ℕ) → has result r ≡
+        (nat_lt r (round_count schedule.now.teams) && not (beq (is_home schedule.now i r) (is_home schedule.now j r))) }
+    ensures below { IsBelow (round_count schedule.now.teams) result }
+{
+    schedule
+        .home_rounds(i)
+        .symmetric_difference(schedule.home_rounds(j))
 }
 
 /// Whether a team of the set meets another team in round `l` than in `k`.

@@ -1,13 +1,11 @@
 -- What a counter of parts is about, and what it keeps of the last rules that it counted.
-use Rattle.std.specs.Prelude.{◌≡◌, ℕ, true, IfSome}
+use Rattle.std.specs.Prelude.{◌≡◌, ℕ, IfSome}
 use Rattle.league.specs.declared.rule.RuleBody.TheVariants.{Ca3, Fa2}
 use Rattle.fixtures.specs.Games.{Games}
 use Rattle.robinx.specs.Deviations.{deviation}
 use Rattle.robinx.specs.Parts.{changing_terms}
-use Rattle.robinx.specs.Gaps.{IsWholeTable}
 use Rattle.robinx.specs.Walked.{breaks_together}
 use Rattle.robinx.specs.declared.break_count.BreakCount.{BreakCount}
-use Rattle.robinx.specs.declared.kept_table.KeptTable.{KeptTable}
 use Rattle.robinx.specs.declared.last_counts.FairnessCount.{FairnessCount}
 use Rattle.robinx.specs.declared.last_counts.LastCounts.{LastCounts}
 use Rattle.robinx.specs.declared.last_counts.WindowCount.{WindowCount}
@@ -18,10 +16,6 @@ pub record Counting : Type 0 where
   pub main : ℕ
   pub rounds : ℕ
   pub sides : ℕ
-
--- a table is whole, if it is said to be
-abbrev pub IsKeptTable : KeptTable → Type 0
-IsKeptTable kept = kept.is_whole ≡ true → IsWholeTable kept.table
 
 -- the deviation of a schedule from this rule of class FA2
 abbrev pub IsFairnessCountOf : Games → FairnessCount → Type 0

@@ -1,6 +1,6 @@
 -- The part of a deviation that a change can alter: games of the main teams change, in some rounds, and of their guests,
 -- which may meet another main team there than before. Only side teams change their sides.
-use Rattle.std.specs.Prelude.{◌≡◌, ℕ, ◌+◌, ◌-◌, ◌<◌, ◌≤◌, ◌&&◌, ◌||◌, ◌==◌, not, Bool, true, false, if◌then◌else◌, List, Option, Some, None}
+use Rattle.std.specs.Prelude.{ℕ, ◌+◌, ◌-◌, ◌&&◌, ◌||◌, ◌==◌, not, Bool, true, false, if◌then◌else◌, List}
 use Rattle.std.specs.List.{list_any}
 use Rattle.league.specs.Limits.{max_rounds}
 use Rattle.league.specs.Sets.{has, all_numbers}
@@ -108,8 +108,3 @@ can_alter body rounds = looks_at_round body rounds && tells_apart body rounds
 unfoldable pub deviation_part : Games → ℕ → ℕ → ℕ → RuleBody → ℕ
 deviation_part g main rounds sides body =
     if can_alter body (has rounds) then changing_terms g main rounds sides body else 0
-
--- the number if it is at most this, and none if it is more
-abbrev pub IsWithin : ℕ → ℕ → Option ℕ → Type 0
-IsWithin most number (Some result) = (result ≡ number) × (number ≤ most)
-IsWithin most number None = most < number

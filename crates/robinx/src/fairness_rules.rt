@@ -12,14 +12,15 @@ use league::{SlotSet, TeamSet};
 
 /// In no slot do two of the teams have numbers of home games that are more than `most` apart.
 #[derive(Clone, Copy, Drop)]
-pub(crate) struct Fairness {
+pub struct Fairness {
     pub teams: TeamSet,
     pub slots: SlotSet,
     pub most: u32,
 }
 
 impl Fairness {
-    pub(crate) fn new(teams: TeamSet, slots: SlotSet, most: u32) -> Self
+    /// A rule of these teams and slots.
+    pub fn new(teams: TeamSet, slots: SlotSet, most: u32) -> Self
         ensures { result ≡ record { teams = teams; slots = slots; most = most } }
     {
         Fairness { teams, slots, most }
@@ -41,7 +42,8 @@ pub(crate) fn fa2(schedule: &Schedule, fairness: &Fairness) -> u64
     ensures { result ≡
         deviation schedule.now (RuleBody.Fa2 fairness.now.teams fairness.now.slots fairness.now.most) }
 {
-    let mut table = GapTable::new(schedule.teams(), fairness.teams, fairness.slots);
-    table.follow_within(schedule, fairness.most, u64::MAX);
-    table.over(schedule, fairness)
+    let none = GapTable::new(schedule.teams(), fairness.slots);
+    let mut table = none;
+    table.follow(&none, schedule, fairness);
+    table.deviation(schedule, fairness)
 }

@@ -1,22 +1,21 @@
 //! The gaps of a rule's pairs, with what tells for which schedules they hold.
 
-ghost use Rattle.std.specs.Prelude.{◌≡◌, ℕ, ◌<◌, ◌≤◌, ◌&&◌, ◌||◌, ◌==◌, nat_le, not, Bool, true, false, slice_index};
+ghost use Rattle.std.specs.Prelude.{◌≡◌, ℕ, ◌<◌, ◌≤◌, ◌&&◌, ◌||◌, ◌==◌, nat_le, not, true, false, if◌then◌else◌, slice_index};
 ghost use Rattle.league.specs.Limits.{max_teams};
 ghost use Rattle.league.specs.Sets.{has, IsBelow};
-ghost use Rattle.fixtures.specs.Games.{round_count, is_home, IsDoubleRoundRobin};
+ghost use Rattle.fixtures.specs.Changes.{IsTurned};
+ghost use Rattle.fixtures.specs.Games.{Games, round_count, is_home, IsDoubleRoundRobin};
 ghost use Rattle.league.specs.declared.rule.RuleBody.TheVariants as RuleBody;
 ghost use Rattle.robinx.specs.Deviations.{deviation};
-ghost use Rattle.robinx.specs.Gaps.{AreTallied, IsGapTable, IsHomeRow, IsTableFor, IsTableOf, IsWholeTable, gap_at};
-ghost use Rattle.robinx.specs.Walked.{row_length, row_of, worst_apart};
+ghost use Rattle.robinx.specs.Gaps.{IsGapTable, IsTableFor, IsTableOf, turned_home};
 
 use crate::fairness_rules::Fairness;
 use crate::gaps::Gaps;
-use crate::home_rows::{ROW, Row, TEAMS, in_slots, step, turn, worst_apart};
-use crate::pairs::partners;
-use fixtures::Schedule;
+use crate::home_rows::{ROW, Row, TEAMS, in_slots, step, turn};
+use fixtures::{Schedule, Touched};
 use league::{SlotSet, TeamSet};
 
-/// The worst gaps in the slots of each two of a rule's teams, if these are at home in the rounds that it has.
+/// The worst gaps in the slots of each two of some teams, if these are at home in the rounds that it has.
 #[derive(Clone, Copy, Drop)]
 pub(crate) struct GapTable {
     /// How many teams its schedules have.
@@ -29,18 +28,18 @@ pub(crate) struct GapTable {
     /// How many home games each team has up to and with each slot, and 0 in each other round.
     pub rows: [Row; TEAMS],
     pub gaps: Gaps,
-    /// What of the gaps is over each number that may be the most.
-    pub overs: [u32; ROW],
+    pub most: u32,
+    /// What of the gaps is over the most.
+    pub over: u64,
 }
 
 impl GapTable {
-    /// The table of so many teams that are never at home.
-    pub(crate) fn new(playing: u8, teams: TeamSet, slots: SlotSet) -> Self
+    /// The table of no teams, in a season of so many.
+    pub(crate) fn new(playing: u8, slots: SlotSet) -> Self
         requires playing { playing ≤ max_teams }
-        requires teams { IsBelow playing teams }
         requires slots { IsBelow (round_count playing) slots }
-        ensures table { IsWholeTable result }
-        ensures is_for { IsTableFor result playing teams slots }
+        ensures table { IsGapTable result }
+        ensures is_for { IsTableFor result playing slots }
     {
         let rounds = 2 * playing.saturating_sub(1);
         GapTable {
@@ -49,27 +48,28 @@ impl GapTable {
             in_slots: in_slots(slots, rounds),
             homes: [SlotSet::empty(); TEAMS],
             rows: [[0; ROW]; TEAMS],
-            gaps: Gaps::none(teams),
-            overs: [0; ROW],
+            gaps: Gaps::none(),
+            most: 0,
+            over: 0,
         }
     }
 
-    /// Whether it is for schedules of so many teams, for these teams and slots.
-    pub(crate) fn is_for(&self, playing: u8, teams: TeamSet, slots: SlotSet) -> bool
-        ensures { result ≡ true → IsTableFor self.now playing teams slots }
+    /// Whether it is for schedules of so many teams, and for these slots.
+    fn is_for(&self, playing: u8, slots: SlotSet) -> bool
+        ensures { result ≡ true → IsTableFor self.now playing slots }
     {
-        self.playing == playing && self.gaps.teams == teams && self.slots == slots
+        self.playing == playing && self.slots == slots
     }
 
-    /// Whether it is for these teams and slots, and the teams are at home in the same rounds as in the schedule.
-    pub(crate) fn is_of(&self, schedule: &Schedule, teams: TeamSet, slots: SlotSet) -> bool
-        requires table { IsWholeTable self.now }
-        ensures { result ≡ true → IsTableOf self.now schedule.now teams slots }
+    /// Whether it is the schedule's, for the rule's teams and slots.
+    pub(crate) fn is_of(&self, schedule: &Schedule, fairness: &Fairness) -> bool
+        requires table { IsGapTable self.now }
+        ensures { result ≡ true → IsTableOf self.now schedule.now fairness.now.teams fairness.now.slots }
     {
-        if !self.is_for(schedule.teams(), teams, slots) {
+        if !self.is_for(schedule.teams(), fairness.slots) || self.gaps.teams != fairness.teams {
             return false;
         }
-        for team in teams {
+        for team in fairness.teams {
             let is_same = self.homes[usize::from(team)] == schedule.home_rounds(team);
             if !is_same {
                 return false;
@@ -78,98 +78,154 @@ impl GapTable {
         true
     }
 
-    /// Becomes the table of the schedule, if its gaps are together over `most` by no more than `room`, and gives whether they are. The gaps
-    /// of teams that are at home in other rounds are counted anew, team by team, until too much is over.
-    pub(crate) fn follow_within(&mut self, schedule: &Schedule, most: u32, room: u64) -> bool
-        requires table { IsWholeTable self.old }
-        requires playing { self.old.playing ≡ schedule.now.teams }
-        requires round_robin { IsDoubleRoundRobin schedule.now }
-        ensures within { result ≡
-            nat_le (deviation schedule.now (RuleBody.Fa2 self.old.gaps.teams self.old.slots most)) room }
-        ensures table { result ≡ true → IsWholeTable self.new }
-        ensures homes { result ≡ true → IsTableOf self.new schedule.now self.old.gaps.teams self.old.slots }
-    {
-        let stale = self.take_homes(schedule);
-        let teams = self.gaps.teams;
-        let mut over = 0;
-        for team in teams {
-            let lower = partners(teams, stale, team);
-            compare(&mut self.gaps, &self.rows, team, lower);
-            over += self.gaps.over_of(team, most);
-            if over > room {
-                return false;
-            }
-        }
-        self.overs = self.gaps.overs();
-        true
-    }
-
     /// The deviation of the schedule, whose table it is, from the rule.
-    pub(crate) fn over(&self, schedule: &Schedule, fairness: &Fairness) -> u64
+    pub(crate) fn deviation(&self, schedule: &Schedule, fairness: &Fairness) -> u64
         requires round_robin { IsDoubleRoundRobin schedule.now }
-        requires table { IsWholeTable self.now }
+        requires table { IsGapTable self.now }
         requires homes { IsTableOf self.now schedule.now fairness.now.teams fairness.now.slots }
         ensures { result ≡
             deviation schedule.now (RuleBody.Fa2 fairness.now.teams fairness.now.slots fairness.now.most) }
     {
-        let most = fairness.most as usize;
-        if most < ROW {
-            self.overs[most].into()
+        if self.most == fairness.most {
+            self.over
         } else {
-            0
+            self.gaps.over_of_all(fairness.most)
         }
     }
 
-    /// Takes the rounds in which its teams are at home from the schedule, and gives the teams for which they are others.
-    fn take_homes(&mut self, schedule: &Schedule) -> TeamSet
-        requires table { IsGapTable self.old (λ t o. true) }
-        requires playing { self.old.playing ≡ schedule.now.teams }
+    /// Becomes, from the last table, that of a schedule on which the teams of `turned` are on the other side in its rounds, if the deviation
+    /// from the rule is then at most `room`. Gives whether it is.
+    pub(crate) fn follow_within(
+        &mut self,
+        last: &GapTable,
+        schedule: &Schedule,
+        turned: Touched,
+        fairness: &Fairness,
+        room: u64,
+    ) -> bool
+        requires last { IsGapTable last.now }
         requires round_robin { IsDoubleRoundRobin schedule.now }
-        ensures table { IsGapTable self.new (λ t o. not (has result t || has result o)) }
-        ensures homes { IsTableOf self.new schedule.now self.old.gaps.teams self.old.slots }
+        requires teams { IsBelow schedule.now.teams fairness.now.teams }
+        requires slots { IsBelow (round_count schedule.now.teams) fairness.now.slots }
+        ensures table { IsGapTable self.new }
+        ensures within { (after : Games) → IsDoubleRoundRobin after →
+            IsTurned schedule.now after (has turned.teams) (has turned.rounds) → result ≡
+            nat_le (deviation after (RuleBody.Fa2 fairness.now.teams fairness.now.slots fairness.now.most)) room }
+        ensures homes { result ≡ true → (after : Games) →
+            IsTurned schedule.now after (has turned.teams) (has turned.rounds) →
+            IsTableOf self.new after fairness.now.teams fairness.now.slots }
     {
-        let step = step();
-        let mut stale = TeamSet::empty();
-        for team in self.gaps.teams {
-            let homes = schedule.home_rounds(team);
-            let before = self.homes[usize::from(team)];
-            if before == homes {
-                continue;
+        self.begin(last, schedule.teams(), fairness);
+        self.take_out_stale(schedule, fairness.teams.difference(turned.teams));
+        for team in fairness.teams.difference(self.gaps.teams) {
+            if self.over > room {
+                return false;
             }
-            let changed = before.symmetric_difference(homes);
-            self.homes[usize::from(team)] = homes;
-            turn(
-                &mut self.rows[usize::from(team)],
-                changed,
-                homes,
-                &step,
-                &self.in_slots,
-            );
-            stale = stale.with(team);
+            self.put_in(team, turned_homes(schedule, turned, team));
         }
-        stale
+        self.over <= room
+    }
+
+    /// Becomes, from the last table, that of the schedule.
+    pub(crate) fn follow(&mut self, last: &GapTable, schedule: &Schedule, fairness: &Fairness)
+        requires last { IsGapTable last.now }
+        requires round_robin { IsDoubleRoundRobin schedule.now }
+        requires teams { IsBelow schedule.now.teams fairness.now.teams }
+        requires slots { IsBelow (round_count schedule.now.teams) fairness.now.slots }
+        ensures table { IsGapTable self.new }
+        ensures homes { IsTableOf self.new schedule.now fairness.now.teams fairness.now.slots }
+    {
+        let unturned = Touched {
+            teams: TeamSet::empty(),
+            rounds: SlotSet::empty(),
+        };
+        self.follow_within(last, schedule, unturned, fairness, u64::MAX);
+    }
+
+    /// Takes the last table, if it is for schedules of so many teams and for the rule's slots. Otherwise a new one.
+    fn begin(&mut self, last: &GapTable, playing: u8, fairness: &Fairness)
+        requires last { IsGapTable last.now }
+        requires playing { playing ≤ max_teams }
+        requires slots { IsBelow (round_count playing) fairness.now.slots }
+        ensures table { IsGapTable self.new }
+        ensures is_for { IsTableFor self.new playing fairness.now.slots }
+        ensures most { self.new.most ≡ fairness.now.most }
+    {
+        if last.is_for(playing, fairness.slots) {
+            *self = *last;
+        } else {
+            *self = GapTable::new(playing, fairness.slots);
+        }
+        if self.most != fairness.most {
+            self.most = fairness.most;
+            self.over = self.gaps.over_of_all(fairness.most);
+        }
+    }
+
+    /// Takes the teams out that aren't to stay, and those that are at home in other rounds of the schedule.
+    fn take_out_stale(&mut self, schedule: &Schedule, staying: TeamSet)
+        requires table { IsGapTable self.old }
+        requires playing { self.old.playing ≡ schedule.now.teams }
+        ensures table { IsGapTable self.new }
+        ensures is_for { IsTableFor self.new schedule.now.teams self.old.slots }
+        ensures most { self.new.most ≡ self.old.most }
+        ensures stay { (t : ℕ) → has self.new.gaps.teams t ≡ true → has staying t ≡ true }
+        ensures homes { (t r : ℕ) → has self.new.gaps.teams t ≡ true → r < round_count schedule.now.teams →
+            has (slice_index self.new.homes t) r ≡ is_home schedule.now t r }
+    {
+        for team in self.gaps.teams {
+            if !staying.has(team) || self.homes[usize::from(team)] != schedule.home_rounds(team) {
+                self.take_out(team);
+            }
+        }
+    }
+
+    /// Takes a team out.
+    fn take_out(&mut self, team: u8)
+        requires table { IsGapTable self.old }
+        requires team { team < max_teams }
+        ensures table { IsGapTable self.new }
+        ensures is_for { IsTableFor self.new self.old.playing self.old.slots }
+        ensures most { self.new.most ≡ self.old.most }
+        ensures teams { (t : ℕ) → has self.new.gaps.teams t ≡ (has self.old.gaps.teams t && not (t == team)) }
+        ensures homes { self.new.homes ≡ self.old.homes }
+    {
+        self.over -= self.gaps.over_of(team, self.most);
+        self.gaps.take_out(team);
+    }
+
+    /// Puts a team in that is at home in these rounds.
+    fn put_in(&mut self, team: u8, homes: SlotSet)
+        requires table { IsGapTable self.old }
+        requires team { team < self.old.playing }
+        requires out { has self.old.gaps.teams team ≡ false }
+        ensures table { IsGapTable self.new }
+        ensures is_for { IsTableFor self.new self.old.playing self.old.slots }
+        ensures most { self.new.most ≡ self.old.most }
+        ensures teams { (t : ℕ) → has self.new.gaps.teams t ≡ (t == team || has self.old.gaps.teams t) }
+        ensures here { slice_index self.new.homes team ≡ homes }
+        ensures elsewhere { (t : ℕ) → (t == team) ≡ false → slice_index self.new.homes t ≡ slice_index self.old.homes t }
+    {
+        let row = usize::from(team);
+        let changed = self.homes[row].symmetric_difference(homes);
+        self.homes[row] = homes;
+        turn(&mut self.rows[row], changed, homes, &step(), &self.in_slots);
+        self.gaps.put_in(team, &self.rows);
+        self.over += self.gaps.over_of(team, self.most);
     }
 }
 
-/// Counts the gaps of the team and each of these lower teams, by their rows.
-fn compare(gaps: &mut Gaps, rows: &[Row; TEAMS], team: u8, lower: TeamSet)
-    requires tallied { AreTallied gaps.old }
-    requires team { team < max_teams }
-    requires has_team { has gaps.old.teams team ≡ true }
-    requires has_lower { (o : ℕ) → has lower o ≡ true → has gaps.old.teams o ≡ true }
-    requires below { IsBelow team lower }
-    requires small { (o : ℕ) → has lower o ≡ true →
-        worst_apart (row_of rows.now o) (row_of rows.now team) < row_length }
-    ensures tallied { AreTallied gaps.new }
-    ensures teams { gaps.new.teams ≡ gaps.old.teams }
-    ensures compared { (o : ℕ) → has lower o ≡ true →
-        gap_at gaps.new.worst team o ≡ worst_apart (row_of rows.now o) (row_of rows.now team) }
-    ensures others { (t o : ℕ) → (t == team && has lower o) ≡ false → gap_at gaps.new.worst t o ≡ gap_at gaps.old.worst t o }
+/// The rounds in which a team is at home after the teams of `turned` have changed their sides in its rounds.
+fn turned_homes(schedule: &Schedule, turned: Touched, team: u8) -> SlotSet
+    requires playing { team < schedule.now.teams }
+    requires in_table { team < max_teams }
+    ensures { (r : ℕ) → r < round_count schedule.now.teams →
+        has result r ≡ turned_home schedule.now turned.teams turned.rounds team r }
 {
-    // a copy, so that it is read once and not again for each other team
-    let own = rows[usize::from(team)];
-    for other in lower {
-        let gap = worst_apart(&rows[usize::from(other)], &own);
-        gaps.set(team, other, gap);
+    let homes = schedule.home_rounds(team);
+    if turned.teams.has(team) {
+        homes.symmetric_difference(turned.rounds)
+    } else {
+        homes
     }
 }

@@ -1,14 +1,14 @@
 //! By how many home games each two teams are apart at most.
 
-ghost use Rattle.std.specs.Prelude.{◌≡◌, ℕ, ◌+◌, ◌*◌, ◌^◌, ◌<◌, ◌≤◌, ◌&&◌, ◌==◌, true, false, length, slice_index};
+ghost use Rattle.std.specs.Prelude.{◌≡◌, ◌≢◌, ℕ, ◌+◌, ◌*◌, ◌<◌, ◌≤◌, ◌&&◌, ◌||◌, ◌==◌, not, true, false, length, slice_index};
 ghost use Rattle.league.specs.Limits.{max_teams};
-ghost use Rattle.league.specs.Sets.{has};
-ghost use Rattle.league.specs.Sums.{sum_below, sum_where};
+ghost use Rattle.league.specs.Sets.{has, IsBelow};
+ghost use Rattle.league.specs.Sums.{sum_below};
 ghost use Rattle.robinx.specs.Deviations.{over};
-ghost use Rattle.robinx.specs.Gaps.{AreTallied, gap_at, sum_of_gaps, sum_of_tallies};
-ghost use Rattle.robinx.specs.Walked.{row_length};
+ghost use Rattle.robinx.specs.Gaps.{AreGaps, gap_at, sum_of_gaps};
+ghost use Rattle.robinx.specs.Walked.{row_length, row_of, worst_apart};
 
-use crate::home_rows::{ROW, TEAMS};
+use crate::home_rows::{ROW, Row, TEAMS, worst_apart};
 use league::TeamSet;
 
 /// How many numbers of a row the machine adds at once.
@@ -17,61 +17,32 @@ const LANES: usize = 8;
 /// A number that no gap is over.
 const MOST_GAP: u32 = ROW as u32;
 
-/// The worst gap of each two of some teams, and how many pairs have each.
+/// The worst gap of each two of some teams.
 #[derive(Clone, Copy, Drop)]
 pub(crate) struct Gaps {
     pub teams: TeamSet,
-    /// Of each team those with the lower teams, and 0 where one of the two isn't one of the teams.
+    /// Of each team those with the other ones, and 0 where one of the two isn't one of the teams.
     pub worst: [[u8; TEAMS]; TEAMS],
-    /// How many pairs have a gap, but for those that have none.
-    pub tallies: [u32; ROW],
 }
 
 impl Gaps {
-    /// No gap between any two of the teams.
-    pub(crate) fn none(teams: TeamSet) -> Self
-        ensures tallied { AreTallied result }
-        ensures teams { result.teams ≡ teams }
-        ensures none { (t o : ℕ) → gap_at result.worst t o ≡ 0 }
+    /// Those of no teams.
+    pub(crate) fn none() -> Self
+        ensures gaps { AreGaps result }
+        ensures teams { result.teams ≡ 0 }
+        ensures below { (m : ℕ) → IsBelow m result.teams }
     {
         Gaps {
-            teams,
+            teams: TeamSet::empty(),
             worst: [[0; TEAMS]; TEAMS],
-            tallies: [0; ROW],
         }
     }
 
-    /// Sets the gap of a team and a lower one.
-    #[inline]
-    pub(crate) fn set(&mut self, team: u8, lower: u8, gap: u8)
-        requires tallied { AreTallied self.old }
-        requires team { team < max_teams }
-        requires lower { lower < team }
-        requires has_team { has self.old.teams team ≡ true }
-        requires has_lower { has self.old.teams lower ≡ true }
-        requires gap { gap < row_length }
-        ensures tallied { AreTallied self.new }
-        ensures teams { self.new.teams ≡ self.old.teams }
-        ensures set { gap_at self.new.worst team lower ≡ gap }
-        ensures others { (t o : ℕ) → (t == team && o == lower) ≡ false → gap_at self.new.worst t o ≡ gap_at self.old.worst t o }
-    {
-        let row = usize::from(team);
-        let column = usize::from(lower);
-        let before = self.worst[row][column];
-        // most gaps stay as they are
-        if before == gap {
-            return;
-        }
-        self.worst[row][column] = gap;
-        drop_one(&mut self.tallies, before);
-        add_one(&mut self.tallies, gap);
-    }
-
-    /// What of the team's gaps with the lower teams is over `most`.
+    /// What of the team's gaps is over `most`.
     pub(crate) fn over_of(&self, team: u8, most: u32) -> u64
-        requires tallied { AreTallied self.now }
+        requires gaps { AreGaps self.now }
         requires team { team < max_teams }
-        ensures { result ≡ sum_where team (has self.now.teams) (λ o. over (gap_at self.now.worst team o) most) }
+        ensures { result ≡ sum_below max_teams (λ o. over (gap_at self.now.worst team o) most) }
     {
         let most = most.min(MOST_GAP) as u8;
         let row = &self.worst[usize::from(team)];
@@ -82,22 +53,90 @@ impl Gaps {
         total.into()
     }
 
-    /// What of the gaps is over each number that may be the most.
-    pub(crate) fn overs(&self) -> [u32; ROW]
-        requires { AreTallied self.now }
-        ensures { (most : ℕ) → most < row_length →
-            slice_index result most ≡ sum_of_gaps self.now.teams self.now.worst (λ gap. over gap most) }
+    /// What of all gaps is over `most`: of the first team's, and then of those that are left without it.
+    pub(crate) fn over_of_all(&self, most: u32) -> u64
+        requires gaps { AreGaps self.now }
+        ensures { result ≡ sum_of_gaps self.now.worst (λ gap. over gap most) }
     {
-        let mut overs = [0; ROW];
-        let mut pairs = 0;
+        let mut left = *self;
         let mut total = 0;
-        for step in 1..ROW {
-            let most = ROW - 1 - step;
-            pairs += self.tallies[most + 1];
-            total += pairs;
-            overs[most] = total;
+        for team in self.teams {
+            total += left.over_of(team, most);
+            left.take_out(team);
         }
-        overs
+        total
+    }
+
+    /// Takes a team out, with its gaps.
+    pub(crate) fn take_out(&mut self, team: u8)
+        requires gaps { AreGaps self.old }
+        requires team { team < max_teams }
+        ensures gaps { AreGaps self.new }
+        ensures teams { (t : ℕ) → has self.new.teams t ≡ (has self.old.teams t && not (t == team)) }
+        ensures below { (m : ℕ) → IsBelow m self.old.teams → IsBelow m self.new.teams }
+        ensures others { (t o : ℕ) → (t == team || o == team) ≡ false → gap_at self.new.worst t o ≡ gap_at self.old.worst t o }
+    {
+        self.teams = self.teams.difference(TeamSet::empty().with(team));
+        self.worst[usize::from(team)] = [0; TEAMS];
+        clear_column(&mut self.worst, usize::from(team));
+    }
+
+    /// Puts a team in, with its gaps by these rows.
+    pub(crate) fn put_in(&mut self, team: u8, rows: &[Row; TEAMS])
+        requires gaps { AreGaps self.old }
+        requires team { team < max_teams }
+        requires out { has self.old.teams team ≡ false }
+        requires small { (o : ℕ) → o < max_teams → worst_apart (row_of rows.now team) (row_of rows.now o) < row_length }
+        ensures gaps { AreGaps self.new }
+        ensures teams { (t : ℕ) → has self.new.teams t ≡ (t == team || has self.old.teams t) }
+        ensures below { (m : ℕ) → IsBelow m self.old.teams → team < m → IsBelow m self.new.teams }
+        ensures compared { (o : ℕ) → has self.old.teams o ≡ true →
+            gap_at self.new.worst team o ≡ worst_apart (row_of rows.now team) (row_of rows.now o) }
+        ensures others { (t o : ℕ) → (t == team || o == team) ≡ false → gap_at self.new.worst t o ≡ gap_at self.old.worst t o }
+    {
+        let others = self.teams;
+        self.teams = others.with(team);
+        // a copy, so that it is read once and not again for each other team
+        let own = rows[usize::from(team)];
+        for other in others {
+            let gap = worst_apart(&own, &rows[usize::from(other)]);
+            self.set(team, other, gap);
+        }
+    }
+
+    /// Sets the gap of two teams.
+    #[inline]
+    fn set(&mut self, first: u8, second: u8, gap: u8)
+        requires gaps { AreGaps self.old }
+        requires first { first < max_teams }
+        requires second { second < max_teams }
+        requires apart { first ≢ second }
+        requires has_first { has self.old.teams first ≡ true }
+        requires has_second { has self.old.teams second ≡ true }
+        requires small { gap < row_length }
+        ensures gaps { AreGaps self.new }
+        ensures teams { self.new.teams ≡ self.old.teams }
+        ensures set { gap_at self.new.worst first second ≡ gap }
+        ensures others { (t o : ℕ) → (t == first && o == second || t == second && o == first) ≡ false →
+            gap_at self.new.worst t o ≡ gap_at self.old.worst t o }
+    {
+        self.worst[usize::from(first)][usize::from(second)] = gap;
+        self.worst[usize::from(second)][usize::from(first)] = gap;
+    }
+}
+
+/// Makes all numbers of a column 0.
+fn clear_column(table: &mut [[u8; TEAMS]; TEAMS], column: usize)
+    requires rows { length table.old ≡ max_teams }
+    requires columns { (t : ℕ) → t < max_teams → length (row_of table.old t) ≡ max_teams }
+    requires column { column < max_teams }
+    ensures rows { length table.new ≡ max_teams }
+    ensures columns { (t : ℕ) → t < max_teams → length (row_of table.new t) ≡ max_teams }
+    ensures cleared { (t : ℕ) → gap_at table.new t column ≡ 0 }
+    ensures others { (t o : ℕ) → (o == column) ≡ false → gap_at table.new t o ≡ gap_at table.old t o }
+{
+    for row in 0..TEAMS {
+        table[row][column] = 0;
     }
 }
 
@@ -114,32 +153,4 @@ fn over_in_lane(row: &[u8; TEAMS], lane: usize, most: u8) -> u16
         total += u16::from(row[chunk * LANES + lane].saturating_sub(most));
     }
     total
-}
-
-/// One pair less has the gap.
-#[inline]
-fn drop_one(tallies: &mut [u32; ROW], gap: u8)
-    requires len { length tallies.old ≡ row_length }
-    requires gap { gap < row_length }
-    requires some { 0 < gap → 1 ≤ slice_index tallies.old gap }
-    ensures len { length tallies.new ≡ row_length }
-    ensures less { (f : ℕ → ℕ) → f 0 ≡ 0 → sum_of_tallies tallies.new f + f gap ≡ sum_of_tallies tallies.old f }
-{
-    if gap > 0 {
-        tallies[usize::from(gap)] -= 1;
-    }
-}
-
-/// One pair more has the gap.
-#[inline]
-fn add_one(tallies: &mut [u32; ROW], gap: u8)
-    requires len { length tallies.old ≡ row_length }
-    requires gap { gap < row_length }
-    requires room { 0 < gap → slice_index tallies.old gap < 2 ^ 31 }
-    ensures len { length tallies.new ≡ row_length }
-    ensures more { (f : ℕ → ℕ) → f 0 ≡ 0 → sum_of_tallies tallies.new f ≡ sum_of_tallies tallies.old f + f gap }
-{
-    if gap > 0 {
-        tallies[usize::from(gap)] += 1;
-    }
 }

@@ -1,24 +1,26 @@
 //! What FA2 counts, kept from one schedule to the next.
 
-ghost use Rattle.std.specs.Prelude.{◌≡◌, ◌<◌, MatchOption};
-ghost use Rattle.league.specs.Sets.{IsBelow};
-ghost use Rattle.fixtures.specs.Games.{round_count, IsDoubleRoundRobin};
+ghost use Rattle.std.specs.Prelude.{◌≡◌, nat_le};
+ghost use Rattle.league.specs.Sets.{has, IsBelow};
+ghost use Rattle.fixtures.specs.Changes.{IsTurned};
+ghost use Rattle.fixtures.specs.Games.{Games, round_count, IsDoubleRoundRobin};
 ghost use Rattle.league.specs.declared.rule.RuleBody.TheVariants as RuleBody;
 ghost use Rattle.robinx.specs.Deviations.{deviation};
-ghost use Rattle.robinx.specs.LastCounts.{IsKeptTable};
+ghost use Rattle.robinx.specs.Gaps.{IsGapTable};
 
 use crate::fairness_rules::Fairness;
-use crate::kept_table::KeptTable;
-use fixtures::Schedule;
+use crate::gap_table::GapTable;
+use fixtures::{Schedule, Touched};
+use league::SlotSet;
 use std::marker::Model;
 
 /// What FA2 counted last of two schedules, kept so that less is counted of the next one: a search counts a schedule before and after each
 /// move. Whatever is kept, a count gives the same.
 #[derive(Drop)]
 pub struct KeptGaps {
-    first: KeptTable,
-    second: KeptTable,
-    /// Whether the second table is that of the last count.
+    first: GapTable,
+    second: GapTable,
+    /// Whether the second table is that of the last schedule counted.
     second_is_last: bool,
 }
 
@@ -27,84 +29,92 @@ impl Model for KeptGaps {
 
     ghost view = { λ _. tt };
 
-    ghost invariant = { λ kept. IsKeptTable kept.first × IsKeptTable kept.second };
+    ghost invariant = { λ kept. IsGapTable kept.first × IsGapTable kept.second };
 }
 
 impl KeptGaps {
     /// Nothing counted yet.
     pub fn new() -> Self {
         KeptGaps {
-            first: KeptTable::none(),
-            second: KeptTable::none(),
+            first: GapTable::new(0, SlotSet::empty()),
+            second: GapTable::new(0, SlotSet::empty()),
             second_is_last: false,
         }
     }
 
-    /// The deviation of the schedule from the rule. None if it is more than `room` and wasn't counted: then no more is counted than tells
-    /// that.
-    pub(crate) fn over_within(
-        &mut self,
-        schedule: &Schedule,
-        fairness: &Fairness,
-        room: u64,
-    ) -> Option<u64>
+    /// The deviation of the schedule from the rule.
+    pub(crate) fn deviation(&mut self, schedule: &Schedule, fairness: &Fairness) -> u64
         requires round_robin { IsDoubleRoundRobin schedule.now }
         requires teams { IsBelow schedule.now.teams fairness.now.teams }
         requires slots { IsBelow (round_count schedule.now.teams) fairness.now.slots }
-        ensures { MatchOption result
-            (room < deviation schedule.now (RuleBody.Fa2 fairness.now.teams fairness.now.slots fairness.now.most))
-            (λ over. over ≡
-            deviation schedule.now (RuleBody.Fa2 fairness.now.teams fairness.now.slots fairness.now.most)) }
+        ensures { result ≡
+            deviation schedule.now (RuleBody.Fa2 fairness.now.teams fairness.now.slots fairness.now.most) }
     {
         let from_second = self.second_is_last;
         let found = if from_second {
-            find(&self.second, &mut self.first, schedule, fairness, room)?
+            find(&self.second, &mut self.first, schedule, fairness)
         } else {
-            find(&self.first, &mut self.second, schedule, fairness, room)?
+            find(&self.first, &mut self.second, schedule, fairness)
         };
         self.second_is_last = from_second != found.in_older;
-        Some(found.over)
+        found.deviation
+    }
+
+    /// Whether the deviation from the rule is at most `room` on a schedule on which the teams of `turned` are on the other side in its rounds.
+    /// No more is counted than tells that.
+    pub fn turned_within(
+        &mut self,
+        schedule: &Schedule,
+        turned: Touched,
+        fairness: &Fairness,
+        room: u64,
+    ) -> bool
+        requires round_robin { IsDoubleRoundRobin schedule.now }
+        requires teams { IsBelow schedule.now.teams fairness.now.teams }
+        requires slots { IsBelow (round_count schedule.now.teams) fairness.now.slots }
+        ensures { (after : Games) → IsDoubleRoundRobin after →
+            IsTurned schedule.now after (has turned.teams) (has turned.rounds) → result ≡
+            nat_le (deviation after (RuleBody.Fa2 fairness.now.teams fairness.now.slots fairness.now.most)) room }
+    {
+        if self.second_is_last {
+            self.first
+                .follow_within(&self.second, schedule, turned, fairness, room)
+        } else {
+            self.second
+                .follow_within(&self.first, schedule, turned, fairness, room)
+        }
     }
 }
 
 /// A deviation, and whether the older table tells it.
 #[derive(Clone, Copy, Drop)]
 struct Found {
-    over: u64,
+    deviation: u64,
     in_older: bool,
 }
 
-/// Looks into the two tables for the schedule's. If neither is, the older one becomes that, from the last. None if the deviation is then
-/// more than `room`.
-fn find(
-    last: &KeptTable,
-    older: &mut KeptTable,
-    schedule: &Schedule,
-    fairness: &Fairness,
-    room: u64,
-) -> Option<Found>
-    requires last { IsKeptTable last.now }
-    requires older { IsKeptTable older.old }
+/// Looks into the two tables for the schedule's. If neither is, the older one becomes that, from the last.
+fn find(last: &GapTable, older: &mut GapTable, schedule: &Schedule, fairness: &Fairness) -> Found
+    requires last { IsGapTable last.now }
+    requires older { IsGapTable older.old }
     requires round_robin { IsDoubleRoundRobin schedule.now }
     requires teams { IsBelow schedule.now.teams fairness.now.teams }
     requires slots { IsBelow (round_count schedule.now.teams) fairness.now.slots }
-    ensures older { IsKeptTable older.new }
-    ensures over { MatchOption result
-        (room < deviation schedule.now (RuleBody.Fa2 fairness.now.teams fairness.now.slots fairness.now.most))
-        (λ found. found.over ≡
-        deviation schedule.now (RuleBody.Fa2 fairness.now.teams fairness.now.slots fairness.now.most)) }
+    ensures older { IsGapTable older.new }
+    ensures deviation { result.deviation ≡
+        deviation schedule.now (RuleBody.Fa2 fairness.now.teams fairness.now.slots fairness.now.most) }
 {
     if last.is_of(schedule, fairness) {
-        return Some(Found {
-            over: last.table.over(schedule, fairness),
+        return Found {
+            deviation: last.deviation(schedule, fairness),
             in_older: false,
-        });
+        };
     }
-    if older.is_of(schedule, fairness) || older.follow_within(last, schedule, fairness, room) {
-        return Some(Found {
-            over: older.table.over(schedule, fairness),
-            in_older: true,
-        });
+    if !older.is_of(schedule, fairness) {
+        older.follow(last, schedule, fairness);
     }
-    None
+    Found {
+        deviation: older.deviation(schedule, fairness),
+        in_older: true,
+    }
 }

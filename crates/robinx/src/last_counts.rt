@@ -5,7 +5,7 @@ ghost use Rattle.league.specs.Sets.{has, IsBelow};
 ghost use Rattle.league.specs.declared.rule.RuleBody.TheVariants as RuleBody;
 ghost use Rattle.fixtures.specs.Games.{Games, round_count, IsDoubleRoundRobin};
 ghost use Rattle.robinx.specs.Deviations.{deviation};
-ghost use Rattle.robinx.specs.Parts.{changing_terms, IsWithin};
+ghost use Rattle.robinx.specs.Parts.{changing_terms};
 ghost use Rattle.robinx.specs.LastCounts.{AreLastCounts};
 ghost use Rattle.robinx.specs.Touches.{has_touched_team};
 
@@ -132,6 +132,7 @@ impl LastCounts {
 
     /// The part of the deviation from a rule of class FA2 that a change of the sides of some teams can alter: all of it, since with the
     /// kept gaps that takes less than those pairs alone.
+    #[tactic(auto, unfolding(crate::specs::Touches::has_touched_team))]
     pub(crate) fn fa2(
         &mut self,
         schedule: &Schedule,
@@ -147,50 +148,21 @@ impl LastCounts {
         ensures value { result ≡ (if has_touched_team fairness.now.teams (has change.now.sides) then
             deviation schedule.now (RuleBody.Fa2 fairness.now.teams fairness.now.slots fairness.now.most) else 0) }
     {
-        self.fa2_within(schedule, change, fairness, gaps, u64::MAX)
-            .unwrap()
-    }
-
-    /// That part if it is at most `room`, and else none: then no more is counted than tells that.
-    #[tactic(auto, unfolding(crate::specs::Touches::has_touched_team))]
-    pub(crate) fn fa2_within(
-        &mut self,
-        schedule: &Schedule,
-        change: &Around,
-        fairness: &Fairness,
-        gaps: &mut KeptGaps,
-        room: u64,
-    ) -> Option<u64>
-        requires round_robin { IsDoubleRoundRobin schedule.now }
-        requires teams { IsBelow schedule.now.teams fairness.now.teams }
-        requires slots { IsBelow (round_count schedule.now.teams) fairness.now.slots }
-        requires counts { AreLastCounts schedule.now change.now.main change.now.rounds change.now.sides self.old }
-        ensures counts { AreLastCounts schedule.now change.now.main change.now.rounds change.now.sides self.new }
-        ensures value { IsWithin room (if has_touched_team fairness.now.teams (has change.now.sides) then
-            deviation schedule.now (RuleBody.Fa2 fairness.now.teams fairness.now.slots fairness.now.most) else 0) result }
-    {
         if !fairness.teams.intersects(change.sides) {
-            return Some(0);
+            return 0;
         }
         if let Some(last) = &self.gaps {
             if last.rule.is_same(fairness) {
-                return within(last.over, room);
+                return last.over;
             }
         }
-        let over = gaps.over_within(schedule, fairness, room)?;
+        let over = gaps.deviation(schedule, fairness);
         self.gaps = Some(FairnessCount {
             rule: *fairness,
             over,
         });
-        within(over, room)
+        over
     }
-}
-
-/// The number, unless it is more than `most`.
-pub(crate) fn within(number: u64, most: u64) -> Option<u64>
-    ensures { IsWithin most number result }
-{
-    if number > most { None } else { Some(number) }
 }
 
 /// The windows of a rule of class CA3 that the change can alter, over the most.

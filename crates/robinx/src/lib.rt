@@ -17,7 +17,6 @@ mod gaps;
 mod guests;
 mod home_rows;
 mod kept_gaps;
-mod kept_table;
 mod last_counts;
 mod laws;
 mod pairs;
@@ -31,6 +30,7 @@ mod windows;
 
 pub use break_rules::breaks;
 pub use deviations::deviation;
+pub use fairness_rules::Fairness;
 pub use kept_gaps::KeptGaps;
 pub use laws::{deviations_balance, looked_past_stays, nothing_to_alter, untouched_stays};
 pub use parts::{PartCounter, deviation_part};

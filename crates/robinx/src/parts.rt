@@ -1,12 +1,12 @@
 //! The parts of deviations that a change can alter, for a cost that is kept over a change.
 
-ghost use Rattle.std.specs.Prelude.{◌≡◌, ℕ, ◌<◌, ◌&&◌, if◌then◌else◌, IfSome};
+ghost use Rattle.std.specs.Prelude.{◌≡◌, ℕ, ◌<◌, ◌&&◌, if◌then◌else◌};
 ghost use Rattle.league.specs.Limits.{deviation_limit};
 ghost use Rattle.league.specs.RuleLimits.{IsBodyFor};
 ghost use Rattle.league.specs.Sets.{has, IsBelow};
 ghost use Rattle.fixtures.specs.Games.{IsDoubleRoundRobin};
 ghost use Rattle.robinx.specs.Deviations.{deviation};
-ghost use Rattle.robinx.specs.Parts.{counts_otherwise, changing_terms, deviation_part, IsWithin};
+ghost use Rattle.robinx.specs.Parts.{counts_otherwise, changing_terms, deviation_part};
 ghost use Rattle.robinx.specs.LastCounts.{AreLastCounts};
 ghost use Rattle.robinx.specs.Walked.{counted_of};
 
@@ -18,7 +18,7 @@ use crate::fairness_rules::Fairness;
 use crate::game_rules::has_moved_game;
 use crate::guests::{Around, teams_otherwise};
 use crate::kept_gaps::KeptGaps;
-use crate::last_counts::{LastCounts, WindowRule, within};
+use crate::last_counts::{LastCounts, WindowRule};
 use crate::separation_rules::se1_part;
 use crate::touched_rules::can_alter;
 use fixtures::{Schedule, Touched};
@@ -96,33 +96,6 @@ impl<'a> PartCounter<'a> {
             return 0;
         }
         changing_terms(schedule, rule, &self.change, &mut self.last, gaps)
-    }
-
-    /// The part that [`part`](PartCounter::part) gives, if it is at most `most`, and else none. Of a rule of class FA2 no more is counted
-    /// than tells which.
-    #[tactic(auto, unfolding(crate::specs::Parts::deviation_part, crate::specs::Parts::changing_terms))]
-    pub fn part_within(&mut self, rule: &Rule, gaps: &mut KeptGaps, most: u64) -> Option<u64>
-        requires { IsBodyFor self.old.games.teams rule.now.body }
-        ensures value { IsWithin most (deviation_part self.old.games self.old.main self.old.rounds self.old.sides rule.now.body) result }
-        ensures below { IfSome result (λ part. part < deviation_limit) }
-        ensures same { self.new ≡ self.old }
-    {
-        let RuleBody::Fa2 {
-            teams,
-            slots,
-            most: gap,
-        } = &rule.body
-        else {
-            return within(self.part(rule, gaps), most);
-        };
-        let schedule = self.schedule;
-        prove!(schedule.teams() > 0);
-        if !can_alter(rule, self.change.rounds) {
-            return Some(0);
-        }
-        let fairness = Fairness::new(*teams, *slots, *gap);
-        self.last
-            .fa2_within(schedule, &self.change, &fairness, gaps, most)
     }
 }
 

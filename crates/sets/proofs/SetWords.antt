@@ -63,6 +63,11 @@ pub slots_without : (a b s : ℕ) → IsBelow max_rounds a → IsBelow max_round
 slots_without a b s a_below b_below =
     has_difference w128 a b s (IsBelow_more max_rounds 128 a (omega arith) a_below) (IsBelow_more max_rounds 128 b (omega arith) b_below)
 
+pub teams_without : (a b t : ℕ) → IsBelow max_teams a → IsBelow max_teams b
+    → has (bit_and a (2 ^ 64 - 1 - b)) t ≡ (has a t && not (has b t))
+teams_without a b t a_below b_below =
+    has_difference w64 a b t (IsBelow_more max_teams 64 a (omega arith) a_below) (IsBelow_more max_teams 64 b (omega arith) b_below)
+
 pub slots_meet : (a b : ℕ) → IsBelow max_rounds a
     → not (bit_and a b == 0) ≡ any_below max_rounds (λ s. has a s && has b s)
 slots_meet a b below = meets_of_bits w128 max_rounds a b (omega arith) below

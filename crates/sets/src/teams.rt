@@ -1,6 +1,6 @@
 //! Sets of teams, each in one word of bits.
 
-ghost use Rattle.std.specs.Prelude.{◌≡◌, ℕ, ◌-◌, ◌<◌, ◌≤◌, ◌&&◌, ◌||◌, ◌==◌, nat_lt, false};
+ghost use Rattle.std.specs.Prelude.{◌≡◌, ℕ, ◌-◌, ◌<◌, ◌≤◌, ◌&&◌, ◌||◌, ◌==◌, nat_lt, not, false};
 ghost use Rattle.std.specs.Iterator.{at_most};
 ghost use Rattle.sets.specs.Limits.{max_teams};
 ghost use Rattle.sets.specs.Sums.{count_where, any_below};
@@ -98,6 +98,17 @@ impl TeamSet {
     {
         TeamSet {
             bits: self.bits & teams.bits,
+        }
+    }
+
+    /// The teams that are not in the other set.
+    #[tactic(auto, using(crate::proofs::SetWords::teams_without))]
+    pub fn difference(self, teams: TeamSet) -> Self
+        ensures members { (t : ℕ) → has result t ≡ (has self t && not (has teams t)) }
+        ensures below { (m : ℕ) → IsBelow m self → IsBelow m result }
+    {
+        TeamSet {
+            bits: self.bits & !teams.bits,
         }
     }
 

@@ -101,6 +101,7 @@ fn teams_of_two_sets(rt: HostRuntime) {
     let teams = TeamSet::below(3);
     let third = TeamSet::empty().with(2);
     check_same(&rt, &teams.intersection(third.with(39)), &third);
+    check_same(&rt, &teams.difference(third.with(39)), &TeamSet::below(2));
     let other = TeamSet::empty().with(3);
     let found = (teams.intersects(third), teams.intersects(other));
     check_same(&rt, &found, &(true, false));

@@ -1,21 +1,18 @@
 -- What an exchange of rounds or of teams leaves as it is.
-use Rattle.std.proofs.Common.{◌≡◌, ℕ, ◌<◌, ◌⊎◌, inl, inr, Bool, true, false, not, ◌&&◌, cond, eqb, refl, sym, ◌∙◌, ap, subst, arith}
-use Rattle.std.specs.Bool.{beq}
-use Rattle.std.proofs.lemmas.Bool.{cases_Bool, cond-true, cond-false, or_cases, or_parts, or_left, or_right, eqb-true, eqb-false, eq-eqb}
+use Rattle.std.proofs.Common.{◌≡◌, ℕ, ◌<◌, ◌⊎◌, inl, inr, Bool, true, false, cond, eqb, refl, sym, ◌∙◌, ap, subst}
+use Rattle.std.proofs.lemmas.Bool.{cases_Bool, cond-true, cond-false, or_parts, or_left, or_right, eqb-false, eq-eqb}
 use Rattle.std.proofs.Math.Path.{fun_ext}
-use Rattle.league.specs.Limits.{max_rounds}
 use Rattle.league.specs.Sets.{has}
-use Rattle.league.proofs.ForCallers.{any_below_fails}
 use Rattle.fixtures.specs.declared.game.Cell.{Cell}
 use Rattle.fixtures.specs.Games.{Games, round_of, round_count, IsPair, IsDoubleRoundRobin, cell, is_home}
 use Rattle.fixtures.specs.Edits.{exchanged, rounds_exchanged, teams_exchanged, is_either}
 use Rattle.fixtures.specs.Closed.{IsClosed, plays_in}
-use Rattle.fixtures.specs.Changes.{DiffersOnlyAround, DiffersOnlyAt, IsKeptOrMeets, box, turns}
+use Rattle.fixtures.specs.Changes.{DiffersOnlyAround, IsKeptOrMeets}
 use Rattle.fixtures.proofs.ForCallers.{exchanged_first, exchanged_second, exchanged_other, cases_exchanged, other_cell}
 use Rattle.fixtures.proofs.ForCallers.{StaysAmong, stays_among_closed, cell_rounds_exchanged, cell_teams_exchanged}
 use Rattle.moves.specs.declared.exchanges.Exchange.TheVariants as edit
 use Rattle.moves.specs.Exchanges.{both}
-use Rattle.moves.specs.Laws.{OfEachExchange, DiffersAroundMain, SidesDifferAtTurning}
+use Rattle.moves.specs.Laws.{OfEachExchange, DiffersAroundMain}
 use Rattle.moves.proofs.Sets.{has-both}
 
 -- a team whose cell stays is kept
@@ -29,12 +26,6 @@ kept g g' teams t r e = record {
 either_way : {A : Type 0} (b : Bool) (x y : A) → x ≡ y → cond b x y ≡ y
 either_way true x y e = e
 either_way false x y e = refl
-
-same_by : (x y : Bool) → not (beq x y) ≡ false → x ≡ y
-same_by true true _ = refl
-same_by true false e = e
-same_by false true e = sym e
-same_by false false _ = refl
 
 -- ---- rounds
 
@@ -58,45 +49,6 @@ module _ (g : Games) (rr : IsDoubleRoundRobin g) (k l : ℕ) (p : IsPair (round_
     same_cells = λ t r in_t in_r out. cell-after t r in_t in_r ∙ either_way (among t) _ _ (other_round t r out);
     others = λ t r in_t in_r out. kept g after among t r (cell-after t r in_t in_r ∙ cond-false _ _ _ out);
   }
-
-  -- a team that is on the same side in both rounds stays on its side
-  same_side-exchanged : (t r : ℕ) → turns g k l t ≡ false → is_home g t (exchanged k l r) ≡ is_home g t r
-  unfolding turns
-  same_side-exchanged t r same =
-      let alike : is_home g t k ≡ is_home g t l = same_by (is_home g t k) (is_home g t l) same in
-      elim (cases_exchanged k l r) [
-        | inl e ↦ ap (is_home g t) (ap (exchanged k l) e ∙ exchanged_first k l) ∙ sym alike ∙ ap (is_home g t) (sym e)
-        | inr (inl e) ↦ ap (is_home g t) (ap (exchanged k l) e ∙ exchanged_second k l) ∙ alike ∙
-            ap (is_home g t) (sym e)
-        | inr (inr ne) ↦ ap (is_home g t) (exchanged_other k l r ne.0 ne.1)
-      ]
-
-  is_home-after : (t r : ℕ) → t < g.teams → r < round_count g.teams →
-      is_home after t r ≡ cond (among t) (is_home g t (exchanged k l r)) (is_home g t r)
-  unfolding is_home
-  is_home-after t r in_t in_r = ap (λ (c : Cell). c.home) (cell-after t r in_t in_r) ∙ inside (among t)
-    where
-      inside : (b : Bool) → (cond b (cell g t (exchanged k l r)) (cell g t r)).home ≡
-          cond b (cell g t (exchanged k l r)).home (cell g t r).home
-      inside true = refl
-      inside false = refl
-
-  pub sides-rounds_exchanged : DiffersOnlyAt is_home g after (box (λ t. among t && turns g k l t) (is_either k l))
-  sides-rounds_exchanged = record {
-    same_size = refl;
-    same = λ t r in_t in_r out. is_home-after t r in_t in_r ∙
-        by_tests t r (among t) (turns g k l t) (is_either k l r) refl refl refl out;
-  }
-    where
-      by_tests : (t r : ℕ) (a b c : Bool) → among t ≡ a → turns g k l t ≡ b → is_either k l r ≡ c →
-          ((a && b) && c) ≡ false →
-          cond a (is_home g t (exchanged k l r)) (is_home g t r) ≡ is_home g t r
-      by_tests t r true true true _ _ _ out = absurd (cc)
-      by_tests t r true true false _ _ e _ =
-          let parts = or_parts (eqb r k) (eqb r l) e in
-          ap (is_home g t) (exchanged_other k l r (eqb-false r k parts.0) (eqb-false r l parts.1))
-      by_tests t r true false c _ same _ _ = same_side-exchanged t r same
-      by_tests t r false b c _ _ _ _ = refl
 
 -- ---- teams
 
@@ -151,37 +103,6 @@ module _ (g : Games) (rr : IsDoubleRoundRobin g) (i j : ℕ) (p : IsPair g.teams
                 | inr (inr ne) ↦ inl (is ∙ exchanged_other i j x ne.0 ne.1)
               ]
 
-  -- where the two are on the same side in each round of the set, no side differs
-  pub sides-teams_exchanged : (turn : Bool) →
-      (turn ≡ false → (r : ℕ) → among r ≡ true → is_home g i r ≡ is_home g j r) →
-      DiffersOnlyAt is_home g after_teams (box (λ t. is_either i j t && turn) among)
-  unfolding is_home
-  sides-teams_exchanged turn alike = record {
-    same_size = refl;
-    same = λ t r in_t in_r out. by_tests t r in_t in_r (is_either i j t) turn (among r) refl refl refl out;
-  }
-    where
-      by_tests : (t r : ℕ) → t < g.teams → r < round_count g.teams → (a b c : Bool) → is_either i j t ≡ a → turn ≡ b →
-          among r ≡ c → ((a && b) && c) ≡ false → is_home after_teams t r ≡ is_home g t r
-      by_tests t r in_t in_r true true true _ _ _ out = absurd (cc)
-      by_tests t r in_t in_r a b false _ _ e _ =
-          ap (λ (c : Cell). c.home) (around-teams_exchanged.same_cells t r in_t in_r e)
-      by_tests t r in_t in_r false b true e _ _ _ = (around-teams_exchanged.others t r in_t in_r e).same_side
-      by_tests t r in_t in_r true false true one same is_in _ =
-          ap (λ (c : Cell). c.home) (cell-after_teams t r in_t in_r ∙ cond-true _ _ _ is_in) ∙
-          other_side t (or_cases (eqb t i) (eqb t j) one)
-        where
-          other_side : (t : ℕ) → (eqb t i ≡ true) ⊎ (eqb t j ≡ true) →
-              is_home g (exchanged i j t) r ≡ is_home g t r
-          other_side t (inl at_i) =
-              let e = eqb-true t i at_i in
-              ap (λ x. is_home g x r) (ap (exchanged i j) e ∙ exchanged_first i j) ∙ sym (alike same r is_in) ∙
-              ap (λ x. is_home g x r) (sym e)
-          other_side t (inr at_j) =
-              let e = eqb-true t j at_j in
-              ap (λ x. is_home g x r) (ap (exchanged i j) e ∙ exchanged_second i j) ∙ alike same r is_in ∙
-              ap (λ x. is_home g x r) (sym e)
-
 -- ---- of each exchange
 
 pub either_set : (i j : ℕ) → is_either i j ≡ has (both i j)
@@ -195,21 +116,3 @@ each-around g (edit.Teams i j among) can =
     subst (λ teams. DiffersOnlyAround g (teams_exchanged g i j (has among)) teams (has among)) (either_set i j)
     (around-teams_exchanged g can.round_robin i j can.fits.pair (has among)
     (stays_among_closed g i j (has among) can.fits.first_out can.fits.second_out can.fits.closed))
-
-pub each-sides : OfEachExchange SidesDifferAtTurning
-each-sides g (edit.Rounds k l among) can =
-    subst (λ rounds. DiffersOnlyAt is_home g (rounds_exchanged g k l (has among))
-    (box (λ t. has among t && turns g k l t) rounds)) (either_set k l)
-    (sides-rounds_exchanged g can.round_robin k l can.fits.pair (has among) can.fits.closed)
-each-sides g (edit.Teams i j among) can =
-    sides-teams_exchanged g can.round_robin i j can.fits.pair (has among)
-    (stays_among_closed g i j (has among) can.fits.first_out can.fits.second_out can.fits.closed) _
-    (λ none r is_in.
-    same_by (is_home g i r) (is_home g j r)
-    (other_false (has among r) _ is_in (any_below_fails max_rounds
-    (λ r. has among r && not (beq (is_home g i r) (is_home g j r))) none r
-    (omega (arith, can.round_robin.most, can.fits.below r is_in)))))
-  where
-    other_false : (b x : Bool) → b ≡ true → (b && x) ≡ false → x ≡ false
-    other_false true x _ e = e
-    other_false false x e _ = absurd (cc)

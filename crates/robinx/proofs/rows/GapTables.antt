@@ -1,18 +1,18 @@
 -- Tables of gaps: what they tell of a schedule, and what a step in following one leaves right.
-use Rattle.std.proofs.Common.{◌≡◌, ℕ, ◌+◌, ◌<◌, ◌≤◌, ◌&&◌, Bool, true, false, if◌then◌else◌}
-use Rattle.std.proofs.Common.{List, get_or, refl, sym, ◌∙◌, ap, subst, inl, inr, arith}
-use Rattle.std.proofs.lemmas.Bool.{cases_lt, cond-false}
+use Rattle.std.proofs.Common.{◌≡◌, ℕ, ◌+◌, ◌<◌, ◌≤◌, ◌&&◌, ◌==◌, not, Bool, true, false, if◌then◌else◌}
+use Rattle.std.proofs.Common.{List, get_or, refl, sym, ◌∙◌, ap, ap₂, inl, inr, arith}
+use Rattle.std.proofs.lemmas.Bool.{cases_lt, cond-false, false≢true}
 use Rattle.league.specs.Sets.{has, IsBelow}
-use Rattle.league.specs.Sums.{sum_where, count_where}
+use Rattle.league.specs.Sums.{sum_below, count_where}
 use Rattle.league.specs.declared.rule.RuleBody.TheVariants.{Fa2}
-use Rattle.league.proofs.ForCallers.{count_where_le, has_beyond, if_le, sum_below_past, sum_below_same}
+use Rattle.league.proofs.ForCallers.{count_where_le, has_beyond, if_le, sum_below_past, sum_below_same, sum_below_zero, sum_below_le_each}
 use Rattle.fixtures.specs.Games.{Games, round_count, is_home, IsDoubleRoundRobin}
 use Rattle.robinx.specs.Deviations.{over, worst_gap, worst_gaps, deviation}
 use Rattle.robinx.specs.Walked.{row_of, apart_in, one_in, worst_apart}
 use Rattle.robinx.specs.Gaps.{IsHomeRow, IsGapTable, IsTableOf, gap_at, sum_of_gaps}
 use Rattle.robinx.specs.declared.gap_table.GapTable.{GapTable}
-use Rattle.robinx.proofs.limits.Largest.{largest_below_le}
-use Rattle.robinx.proofs.rows.TeamGaps.{gaps_of_teams}
+use Rattle.robinx.proofs.limits.Largest.{largest_below_le, largest_below_same}
+use Rattle.robinx.proofs.rows.GapWrites.{and_false}
 use Rattle.robinx.proofs.rows.HomeRows.{number_in, row_of_schedule, worst_gap_of_rows}
 
 -- two rows are less than a row's length apart
@@ -44,67 +44,74 @@ apart_small rounds slots home1 home2 first second in_slots season below ones fir
           )
     ]
 
--- a table tells the gaps of a team, where it has them right
-module _ (g : Games) (kept : GapTable) (right : ℕ → ℕ → Bool) (slots most : ℕ) (rr : IsDoubleRoundRobin g) (table : IsGapTable kept right)
-    (is : IsTableOf kept g kept.gaps.teams slots) where
+-- by how much rows are apart doesn't depend on which is the first
+pub apart_either_way : (first second : List ℕ) → worst_apart first second ≡ worst_apart second first
+unfolding worst_apart
+apart_either_way first second = largest_below_same 80 (apart_in first second) (apart_in second first) (λ r in_row. omega arith)
+
+-- the table of a schedule tells the deviation from the rule
+module _ (g : Games) (kept : GapTable) (teams slots most : ℕ) (rr : IsDoubleRoundRobin g) (table : IsGapTable kept)
+    (is : IsTableOf kept g teams slots) where
   rounds_are : round_count kept.playing ≡ round_count g.teams
   rounds_are = ap round_count is.is_for.playing
 
   in_season : IsBelow (round_count g.teams) kept.slots
   in_season = rw (← rounds_are) table.slots
 
-  row_is : (t : ℕ) → has kept.gaps.teams t ≡ true → IsHomeRow kept.in_slots (is_home g t) (row_of kept.rows t)
-  row_is t in_teams =
-      row_of_schedule g t (get_or kept.homes t 0) kept.slots kept.in_slots (row_of kept.rows t) table.in_slots in_season
-      (λ r below. is.homes t r in_teams below) (table.rows t in_teams)
+  out : (t : ℕ) → g.teams ≤ t → has kept.gaps.teams t ≡ false
+  out t past = has_beyond g.teams kept.gaps.teams t (rw (← is.is_for.playing) table.below) past
 
-  one_gap : (t o : ℕ) → o < t → has kept.gaps.teams t ≡ true → has kept.gaps.teams o ≡ true → right t o ≡ true →
+  row_is : (t : ℕ) → t < g.teams → has teams t ≡ true → IsHomeRow kept.in_slots (is_home g t) (row_of kept.rows t)
+  row_is t below in_teams =
+      row_of_schedule g t (get_or kept.homes t 0) kept.slots kept.in_slots (row_of kept.rows t) table.in_slots in_season
+      (λ r in_rounds. is.homes t r in_teams in_rounds) (table.rows t (omega (arith, below, rr.most)))
+
+  one_gap : (t o : ℕ) → o < t → t < g.teams → has teams t ≡ true → has teams o ≡ true →
       over (gap_at kept.gaps.worst t o) most ≡ worst_gap g (has slots) most o t
-  one_gap t o lower in_t in_o ok =
-      ap (λ n. over n most) (table.worst t o in_t in_o lower ok) ∙
+  one_gap t o lower below in_t in_o =
+      ap (λ n. over n most) (table.worst t o (is.teams t ∙ in_t) (is.teams o ∙ in_o) lower) ∙
       worst_gap_of_rows g most o t slots (row_of kept.rows o) (row_of kept.rows t) kept.in_slots (omega (arith, rr.most))
-      (rw (← is.is_for.slots) in_season) (row_is o in_o) (row_is t in_t)
+      (rw (← is.is_for.slots) in_season) (row_is o (omega (arith, lower, below)) in_o) (row_is t below in_t)
       (λ r. table.in_slots r ∙ ap {B = ℕ} (λ s. one_in s r) is.is_for.slots)
 
-  pub row_tells : (t : ℕ) → has kept.gaps.teams t ≡ true → ((o : ℕ) → o < t → right t o ≡ true) →
-      sum_where t (has kept.gaps.teams) (λ o. over (gap_at kept.gaps.worst t o) most) ≡
-      worst_gaps g (has kept.gaps.teams) (has slots) most t
-  unfolding worst_gaps
-  row_tells t in_t ok =
-      sum_below_same t _ _ (λ o lower.
-      one o lower (has kept.gaps.teams o) refl ∙
-      ap (λ b. if has kept.gaps.teams o && b then worst_gap g (has slots) most o t else 0) (sym in_t))
+  no_gap : (t o : ℕ) → (has kept.gaps.teams t && has kept.gaps.teams o) ≡ false → over (gap_at kept.gaps.worst t o) most ≡ 0
+  no_gap t o neither =
+      omega (arith, table.gaps.none t o (none (has kept.gaps.teams t) (has kept.gaps.teams o) (not (t == o)) neither))
     where
-      one : (o : ℕ) → o < t → (b : Bool) → has kept.gaps.teams o ≡ b →
-          (if b then over (gap_at kept.gaps.worst t o) most else 0) ≡
-          (if has kept.gaps.teams o && true then worst_gap g (has slots) most o t else 0)
-      one o lower true in_o =
-          one_gap t o lower in_t in_o (ok o lower) ∙ ap (λ b. if b && true then worst_gap g (has slots) most o t else 0) (sym in_o)
-      one o lower false out = ap (λ b. if b && true then worst_gap g (has slots) most o t else 0) (sym out)
+      none : (a b c : Bool) → (a && b) ≡ false → (a && b && c) ≡ false
+      none true true c is = absurd (false≢true (sym is))
+      none true false c is = refl
+      none false b c is = refl
 
--- the whole table tells the deviation
-table_tells : (g : Games) (kept : GapTable) (slots most : ℕ) → IsDoubleRoundRobin g → IsGapTable kept (λ t o. true) →
-    IsTableOf kept g kept.gaps.teams slots →
-    sum_of_gaps kept.gaps.teams kept.gaps.worst (λ gap. over gap most) ≡ deviation g (Fa2 kept.gaps.teams slots most)
-table_tells g kept slots most rr table is =
-    sum_below_past g.teams 40 (λ t. if has kept.gaps.teams t
-    then sum_where t (has kept.gaps.teams) (λ o. over (gap_at kept.gaps.worst t o) most) else 0)
-    rr.most
-    (λ t past below. cond-false {A = ℕ} (has kept.gaps.teams t) _ 0
-    (has_beyond g.teams kept.gaps.teams t (rw (← is.is_for.playing) table.below) past)) ∙
-    sum_below_same g.teams _ _ (λ t below. at t (has kept.gaps.teams t) refl) ∙ gaps_of_teams g kept.gaps.teams slots most
+  pub rule_told : sum_of_gaps kept.gaps.worst (λ gap. over gap most) ≡ deviation g (Fa2 teams slots most)
+  unfolding deviation worst_gaps
+  rule_told =
+      sum_below_past g.teams 40 (λ t. sum_below t (λ o. over (gap_at kept.gaps.worst t o) most)) rr.most
+      (λ t past below. sum_below_zero t _ (λ o lower. no_gap t o (ap (λ b. b && has kept.gaps.teams o) (out t past)))) ∙
+      sum_below_same g.teams _ _ (λ t below. sum_below_same t _ _ (λ o lower. at t o lower below (has teams o) (has teams t) refl refl))
+    where
+      at : (t o : ℕ) → o < t → t < g.teams → (a b : Bool) → has teams o ≡ a → has teams t ≡ b →
+          over (gap_at kept.gaps.worst t o) most ≡ (if has teams o && has teams t then worst_gap g (has slots) most o t else 0)
+      at t o lower below true true in_o in_t =
+          one_gap t o lower below in_t in_o ∙
+          ap₂ (λ (a b : Bool). if a && b then worst_gap g (has slots) most o t else 0) (sym in_o) (sym in_t)
+      at t o lower below true false in_o out_t =
+          no_gap t o (ap (λ b. b && has kept.gaps.teams o) (is.teams t ∙ out_t)) ∙
+          ap₂ (λ (a b : Bool). if a && b then worst_gap g (has slots) most o t else 0) (sym in_o) (sym out_t)
+      at t o lower below false b out_o is_b =
+          no_gap t o (ap (λ b. has kept.gaps.teams t && b) (is.teams o ∙ out_o) ∙ and_false (has kept.gaps.teams t)) ∙
+          ap (λ (a : Bool). if a && has teams t then worst_gap g (has slots) most o t else 0) (sym out_o)
+
+-- fewer teams are over by no more
+pub fewer_teams : (g : Games) (fewer teams slots most : ℕ) → ((t : ℕ) → has fewer t ≡ true → has teams t ≡ true) →
+    deviation g (Fa2 fewer slots most) ≤ deviation g (Fa2 teams slots most)
+unfolding deviation worst_gaps
+fewer_teams g fewer teams slots most within =
+    sum_below_le_each g.teams _ _ (λ t below. sum_below_le_each t _ _ (λ o lower. at t o (has fewer o) (has fewer t) refl refl))
   where
-    at : (t : ℕ) (b : Bool) → has kept.gaps.teams t ≡ b →
-        (if b then sum_where t (has kept.gaps.teams) (λ o. over (gap_at kept.gaps.worst t o) most) else 0) ≡
-        (if has kept.gaps.teams t then worst_gaps g (has kept.gaps.teams) (has slots) most t else 0)
-    at t true in_t =
-        row_tells g kept (λ t o. true) slots most rr table is t in_t (λ o lower. refl) ∙
-        ap (λ b. if b then worst_gaps g (has kept.gaps.teams) (has slots) most t else 0) (sym in_t)
-    at t false out = ap (λ b. if b then worst_gaps g (has kept.gaps.teams) (has slots) most t else 0) (sym out)
-
-pub rule_told : (g : Games) (kept : GapTable) (teams slots most : ℕ) → IsDoubleRoundRobin g → IsGapTable kept (λ t o. true) →
-    IsTableOf kept g teams slots →
-    sum_of_gaps kept.gaps.teams kept.gaps.worst (λ gap. over gap most) ≡ deviation g (Fa2 teams slots most)
-rule_told g kept teams slots most rr table is =
-    table_tells g kept slots most rr table (subst (λ (s : ℕ). IsTableOf kept g s slots) (sym is.is_for.teams) is) ∙
-    ap (λ (s : ℕ). deviation g (Fa2 s slots most)) is.is_for.teams
+    at : (t o : ℕ) (a b : Bool) → has fewer o ≡ a → has fewer t ≡ b →
+        (if has fewer o && has fewer t then worst_gap g (has slots) most o t else 0) ≤
+        (if has teams o && has teams t then worst_gap g (has slots) most o t else 0)
+    at t o true true in_o in_t = rw (in_o, in_t) (rw (within o in_o, within t in_t) (omega arith))
+    at t o true false in_o out_t = rw (in_o, out_t) (omega arith)
+    at t o false b out_o is_b = rw out_o (omega arith)

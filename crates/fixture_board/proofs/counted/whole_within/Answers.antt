@@ -1,8 +1,5 @@
-use Rattle.std.proofs.Common.{◌≡◌, ◌+◌, ◌-◌, Some, refl, sym, subst, ap, ap₂, ◌∙◌, arith}
-use Rattle.fixture_board.specs.Costs.{IsCostWithin}
-use Rattle.fixture_board.specs.CostParts.{counting_of, part_at}
+use Rattle.std.proofs.Common.{◌+◌, refl, subst, ap, ◌∙◌, arith}
 use Rattle.fixture_board.specs.declared.cost.Cost.{Cost}
-use Rattle.fixture_board.proofs.Alike.{too_much}
 use Rattle.fixture_board.proofs.Partial.{IsCountedTo, all_counted, no_more, none_counted, one_more_counted}
 use Rattle.fixture_board.proofs.Scores.{cost_small}
 use Rattle.fixture_board.proofs.counted.whole_within.Goals as goal
@@ -25,27 +22,14 @@ loop-i-init c =
       no_more = no_more c.teams.ensures.limits c.requires.same_size c.requires.rest (omega arith) counted;
     }
 
-pub returns-in_err-part : goal.returns-in_err-part
-returns-in_err-part c =
-    subst (IsCostWithin c.args.league.now c.args.scope.now.attempt.most c.args.schedule.now) (sym c.from_residual.ensures)
-    (omega (
-      arith,
-      too_much c.args.league.now c.args.scope.now c.args.schedule.now c.args.rest c.loop-i.cost c.loop-i.i
-          (c.args.scope.now.attempt.most - c.score-score.result) c.teams.ensures.limits c.requires.same_size c.requires.rest
-          c.loop-i.invariant.counted (rw (← c.loop-i.invariant.parts) c.in_err-part.ensures.value),
-      c.score-score.ensures,
-      c.if-score-most.false,
-    ))
-
 pub loop-i-preserved : goal.loop-i-preserved
 loop-i-preserved c =
-    let part : c.in_ok-part.part ≡ part_at (counting_of c.args.schedule.now c.args.scope.now) (Some c.rule.result.now) =
-    c.in_ok-part.ensures.value ∙ ap₂ part_at c.loop-i.invariant.parts c.rule.ensures.value in
+    let part = rw c.loop-i.invariant.parts at c.part.ensures.value in
     let counted : IsCountedTo c.args.league.now c.args.scope.now c.args.schedule.now c.args.rest (c.loop-i.i + 1) _ =
-    one_more_counted _ _ _ _ c.loop-i.cost _ c.loop-i.i c.rule.result.now c.loop-i.invariant.counted c.rule.ensures.value refl
+    one_more_counted _ _ _ _ c.loop-i.cost _ c.loop-i.i c.rule-rule.result.now c.loop-i.invariant.counted c.rule-rule.ensures.value refl
     (omega (arith, rw part at c.of_rule-added.ensures.hard)) (omega (arith, rw part at c.of_rule-added.ensures.soft)) in
     record {
-      parts = c.part_for.ensures.same ∙ c.loop-i.invariant.parts;
+      parts = c.part.ensures.same ∙ c.loop-i.invariant.parts;
       counted = counted;
       no_more = no_more c.teams.ensures.limits c.requires.same_size c.requires.rest
           (omega (arith, c.loop-i-test.true, c.rule_count-i-end.ensures.value)) counted;
@@ -56,5 +40,5 @@ returns c = (
   all_counted c.args.league.now c.args.scope.now c.args.schedule.now c.args.rest c.loop-i.cost c.requires.rest
       (subst (λ n. IsCountedTo c.args.league.now c.args.scope.now c.args.schedule.now c.args.rest n c.loop-i.cost)
       (omega (arith, c.loop-i.auto.i-end, c.loop-i-test.false, c.rule_count-i-end.ensures.value)) c.loop-i.invariant.counted),
-  omega (arith, c.score.ensures, c.if-score-most-2.false),
+  omega (arith, c.score-2.ensures, c.if-score-most-2.false),
 )

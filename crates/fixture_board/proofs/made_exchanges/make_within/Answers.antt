@@ -1,8 +1,7 @@
 use Rattle.std.proofs.Common.{sym, ◌∙◌, subst, arith}
-use Rattle.moves.specs.Exchanges.{exchanged_by}
 use Rattle.fixture_board.specs.declared.attempt.Attempt.{Attempt}
-use Rattle.fixture_board.specs.CostParts.{IsRest, IsTold}
-use Rattle.fixture_board.proofs.Parts.{rest_scores, score_after, told_alone, within_is_small}
+use Rattle.fixture_board.specs.CostParts.{IsTold}
+use Rattle.fixture_board.proofs.Parts.{score_after, told_alone, within_is_small}
 use Rattle.fixture_board.proofs.made_exchanges.make_within.Goals as goal
 
 pub score-requires : goal.score-requires
@@ -29,23 +28,10 @@ returns-then-not-phased-clause-small c =
     (omega (arith, c.rule_count.ensures.value, c.if-rule_count-eq0.true)) (sym c.phased.ensures ∙ c.if-not-phased.true) in
     whole.small
 
-pub rest_of-rest-requires-clause-told : goal.rest_of-rest-requires-clause-told
-rest_of-rest-requires-clause-told c =
+pub rest_within-requires-clause-told : goal.rest_within-requires-clause-told
+rest_within-requires-clause-told c =
     subst (λ (a : Attempt). IsTold c.args.league.now c.args.schedule.now a.exchange.now c.in_ok-told.told) (sym c.of-scope.ensures.attempt)
     c.in_ok-told.ensures
-
-pub score-requires-2 : goal.score-requires-2
-score-requires-2 c =
-    let rest =
-    subst (λ (a : Attempt). IsRest c.args.league.now c.of-scope.result (exchanged_by c.args.schedule.now a.exchange.now)
-    c.rest_of-rest.result)
-    c.of-scope.ensures.attempt c.rest_of-rest.ensures in
-    omega (
-      arith,
-      rest_scores c.args.league.now c.of-scope.result (exchanged_by c.args.schedule.now c.args.attempt.now.exchange.now)
-          c.rest_of-rest.result rest,
-      score_after c.args.league.now c.args.schedule.now c.args.attempt.now.exchange.now c.teams.ensures.limits c.requires.same_size,
-    )
 
 pub returns-else-is_none-clause-small : goal.returns-else-is_none-clause-small
 returns-else-is_none-clause-small c =

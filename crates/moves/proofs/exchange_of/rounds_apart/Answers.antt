@@ -8,7 +8,7 @@ pub returns : goal.returns
 returns c = same_set _ _ (λ r.
     c.difference.ensures.members r ∙
     ap₂ (λ x y. x && not y) (c.below.ensures.members r ∙ ap (ltb r) c.rounds.ensures.number)
-    (ap (λ set. has set r) c.two_rounds-theirs.ensures ∙ has-both _ _ r ∙
+    (ap (λ set. has set r) c.two_rounds-theirs.ensures.value ∙ has-both _ _ r ∙
     ap₂ (λ x y. eqb r x || eqb r y) c.round_of.ensures.value c.round_of-2.ensures.value) ∙
     sym (has-set_where (round_count c.args.schedule.now.teams)
     (λ s. not (eqb s (round_of c.args.schedule.now c.args.i c.args.j) || eqb s (round_of c.args.schedule.now c.args.j c.args.i))) r))

@@ -1,94 +1,53 @@
-use Rattle.std.proofs.Common.{sym, ◌∙◌, ap, arith}
-use Rattle.std.proofs.lemmas.Bool.{le-leb, lt-leb}
-use Rattle.league.specs.Sets.{has}
-use Rattle.league.proofs.ForCallers.{lowest_below, sum_without_none}
-use Rattle.robinx.proofs.rows.FollowedGaps.{followed_none, followed_more, followed_told, followed_all}
-use Rattle.robinx.proofs.rows.FollowedGaps.{partners_in, rows_small, stale_partners}
-use Rattle.robinx.proofs.rows.TeamGaps.{some_gaps, all_gaps}
+use Rattle.std.proofs.Common.{sym, ◌∙◌, ap, nat_le, arith}
+use Rattle.std.proofs.lemmas.Bool.{lt-leb}
+use Rattle.league.proofs.ForCallers.{lowest_below}
+use Rattle.robinx.proofs.rows.FollowedGaps.{followed_none, left_is_out, followed_more, followed_some, all_followed, followed_all}
 use Rattle.robinx.proofs.gap_table.GapTable.follow_within.Goals as goal
 
 pub loop-team-init : goal.loop-team-init
-loop-team-init c = record {
-  followed =
-      followed_none _ _ _ _ _ c.into_iter-team-iterator.ensures.into_iter_gives (rw (← c.requires.playing) c.requires.table.table.below)
-      c.take_homes-stale.ensures.table c.take_homes-stale.ensures.homes;
-  told =
-      sum_without_none _ _ _ _ _
-      (rw (c.into_iter-team-iterator.ensures.into_iter_gives ∙ c.take_homes-stale.ensures.homes.is_for.teams)
-      (rw (← c.requires.playing) c.requires.table.table.below))
-      (c.into_iter-team-iterator.ensures.into_iter_gives ∙ c.take_homes-stale.ensures.homes.is_for.teams);
-  within = omega arith;
-}
+loop-team-init c =
+    followed_none _ _ _ _ _ _ _ _ _ _ c.into_iter-team-iterator.ensures.into_iter_gives
+    (c.difference-team-items.ensures.below _ c.requires.teams) c.take_out_stale.ensures.table
+    (record {
+      playing = c.take_out_stale.ensures.is_for.playing;
+      slots = c.take_out_stale.ensures.is_for.slots ∙ c.begin.ensures.is_for.slots;
+    })
+    (c.take_out_stale.ensures.most ∙ c.begin.ensures.most) (rw (← c.turned.view_is) c.difference.ensures.members)
+    c.difference-team-items.ensures.members c.take_out_stale.ensures.stay c.take_out_stale.ensures.homes
 
-pub compare-requires-clause-team : goal.compare-requires-clause-team
-compare-requires-clause-team c =
-    omega (arith, lowest_below _ _ _ _ c.loop-team.invariant.followed.below c.in-Some.ensures.steps, c.requires.round_robin.most)
+pub returns-then-self-room-clause-within : goal.returns-then-self-room-clause-within
+returns-then-self-room-clause-within c = λ after rr turned.
+    sym (lt-leb _ _ (omega (arith, c.if-self-room.true, followed_some _ _ _ _ _ _ _ _ c.loop-team.invariant after turned rr)))
 
-pub compare-requires-clause-has_lower : goal.compare-requires-clause-has_lower
-compare-requires-clause-has_lower c = λ o in_lower.
-    ap (λ s. has s o) (c.loop-team.invariant.followed.homes.is_for.teams ∙ sym c.take_homes-stale.ensures.homes.is_for.teams) ∙
-    partners_in _ _ _ _ c.partners-lower.ensures.below c.partners-lower.ensures.members o in_lower
+pub turned_homes-requires-clause-playing : goal.turned_homes-requires-clause-playing
+turned_homes-requires-clause-playing c = lowest_below _ _ _ _ c.loop-team.invariant.below c.in-Some.ensures.steps
 
-pub compare-requires-clause-small : goal.compare-requires-clause-small
-compare-requires-clause-small c = λ o in_lower.
-    rows_small c.loop-team.self _ c.in-Some.team o c.loop-team.invariant.followed.table
-    (ap (λ s. has s c.in-Some.team) c.loop-team.invariant.followed.homes.is_for.teams ∙
-    c.loop-team.invariant.followed.within c.in-Some.team c.in-Some.ensures.steps.in_set)
-    (ap (λ s. has s o) (c.loop-team.invariant.followed.homes.is_for.teams ∙ sym c.take_homes-stale.ensures.homes.is_for.teams) ∙
-    partners_in _ _ _ _ c.partners-lower.ensures.below c.partners-lower.ensures.members o in_lower)
+pub turned_homes-requires-clause-in_table : goal.turned_homes-requires-clause-in_table
+turned_homes-requires-clause-in_table c =
+    omega (arith, lowest_below _ _ _ _ c.loop-team.invariant.below c.in-Some.ensures.steps, c.requires.round_robin.most)
 
-pub over_of-over-requires-clause-team : goal.over_of-over-requires-clause-team
-over_of-over-requires-clause-team c =
-    omega (arith, lowest_below _ _ _ _ c.loop-team.invariant.followed.below c.in-Some.ensures.steps, c.requires.round_robin.most)
-
-pub overflow_add-over : goal.overflow_add-over
-overflow_add-over c =
+pub put_in-requires-clause-team : goal.put_in-requires-clause-team
+put_in-requires-clause-team c =
     omega (
       arith,
-      (followed_told _ _ _ _ _ _ _ _ _ c.loop-team.invariant.followed c.in-Some.ensures.steps
-          (stale_partners _ _ _ _ _ c.take_homes-stale.ensures.homes.is_for.teams c.partners-lower.ensures.members)
-          c.compare.ensures.tallied c.compare.ensures.teams
-          c.compare.ensures.compared c.compare.ensures.others _ _ _ c.requires.round_robin c.over_of-over.ensures
-          c.loop-team.invariant.told).within,
-      c.requires.round_robin.most,
+      lowest_below _ _ _ _ c.loop-team.invariant.below c.in-Some.ensures.steps,
+      c.loop-team.invariant.is_for.playing,
     )
 
-pub returns-then-over-room-clause-within : goal.returns-then-over-room-clause-within
-returns-then-over-room-clause-within c =
-    sym (lt-leb _ _ (omega (
-      arith,
-      c.if-over-room.true,
-      some_gaps _ _ _ _ _ _
-          (followed_told _ _ _ _ _ _ _ _ _ c.loop-team.invariant.followed c.in-Some.ensures.steps
-          (stale_partners _ _ _ _ _ c.take_homes-stale.ensures.homes.is_for.teams c.partners-lower.ensures.members)
-          c.compare.ensures.tallied c.compare.ensures.teams
-          c.compare.ensures.compared c.compare.ensures.others _ _ _ c.requires.round_robin c.over_of-over.ensures
-          c.loop-team.invariant.told),
-    )))
+pub put_in-requires-clause-out : goal.put_in-requires-clause-out
+put_in-requires-clause-out c =
+    left_is_out _ _ _ _ _ _ _ _ c.loop-team.invariant c.in-Some.team c.in-Some.ensures.steps.in_set
 
 pub loop-team-preserved : goal.loop-team-preserved
-loop-team-preserved c = record {
-  followed =
-      followed_more _ _ _ _ _ _ _ _ _ c.loop-team.invariant.followed c.in-Some.ensures.steps
-      (stale_partners _ _ _ _ _ c.take_homes-stale.ensures.homes.is_for.teams c.partners-lower.ensures.members)
-      c.compare.ensures.tallied c.compare.ensures.teams
-      c.compare.ensures.compared c.compare.ensures.others;
-  told =
-      followed_told _ _ _ _ _ _ _ _ _ c.loop-team.invariant.followed c.in-Some.ensures.steps
-      (stale_partners _ _ _ _ _ c.take_homes-stale.ensures.homes.is_for.teams c.partners-lower.ensures.members)
-      c.compare.ensures.tallied c.compare.ensures.teams
-      c.compare.ensures.compared c.compare.ensures.others _ _ _ c.requires.round_robin c.over_of-over.ensures
-      c.loop-team.invariant.told;
-  within = omega (arith, c.if-over-room.false);
-}
+loop-team-preserved c =
+    followed_more _ _ _ _ _ _ _ _ c.loop-team.invariant _ _ _ _ c.in-Some.ensures.steps c.put_in.ensures.table c.put_in.ensures.is_for
+    c.put_in.ensures.most c.put_in.ensures.teams c.put_in.ensures.here c.put_in.ensures.elsewhere c.turned_homes.ensures
 
 pub returns-clause-within : goal.returns-clause-within
-returns-clause-within c =
-    sym (le-leb _ _ (omega (
-      arith,
-      c.loop-team.invariant.within,
-      all_gaps _ _ _ _ _ _ c.loop-team.invariant.told c.in-None.ensures.steps.0,
-    )))
+returns-clause-within c = λ after rr turned.
+    ap (λ n. nat_le n c.args.room)
+    (followed_all _ _ _ _ _ _ _ _ c.loop-team.invariant after turned c.in-None.ensures.steps.0 rr)
 
-pub returns-clause-table : goal.returns-clause-table
-returns-clause-table c = λ _. followed_all _ _ _ _ _ _ c.in-None.ensures.steps.0 c.loop-team.invariant.followed c.overs-self.ensures
+pub returns-clause-homes : goal.returns-clause-homes
+returns-clause-homes c = λ within after turned.
+    all_followed _ _ _ _ _ _ _ _ c.loop-team.invariant after turned c.in-None.ensures.steps.0

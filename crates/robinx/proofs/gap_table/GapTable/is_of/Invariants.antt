@@ -1,5 +1,5 @@
-use Rattle.robinx.proofs.rows.ComparedGaps.{HasSameHomes}
+use Rattle.robinx.proofs.rows.FollowedGaps.{HasSameHomes}
 use Rattle.robinx.proofs.gap_table.GapTable.is_of.Given as goal
 
 abbrev pub invariant-loop-team : goal.invariant-loop-team
-invariant-loop-team l = HasSameHomes l.schedule l.self.homes l.fn.teams l.team-iterator
+invariant-loop-team l = HasSameHomes l.schedule l.self.homes l.self.gaps.teams l.team-iterator

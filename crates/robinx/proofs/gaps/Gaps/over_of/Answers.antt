@@ -7,7 +7,7 @@ use Rattle.robinx.proofs.rows.TeamGaps.{lanes_few, row_over, sum_by_lanes}
 use Rattle.robinx.proofs.gaps.Gaps.over_of.Goals as goal
 
 pub over_in_lane-total-requires-clause-small : goal.over_in_lane-total-requires-clause-small
-over_in_lane-total-requires-clause-small c = c.requires.tallied.small c.from.result
+over_in_lane-total-requires-clause-small c = c.requires.gaps.small c.from.result
 
 pub loop-lane-init : goal.loop-lane-init
 loop-lane-init c = sym (sum_below_none _)
@@ -18,7 +18,7 @@ overflow_add-total c =
       arith,
       c.loop-lane.invariant,
       c.loop-lane-test.true,
-      lanes_few c.args.self.now c.from.result c.min-most.result c.loop-lane.lane c.requires.tallied,
+      lanes_few c.args.self.now c.from.result c.min-most.result c.loop-lane.lane c.requires.gaps,
       c.over_in_lane-total.ensures.few,
     )
 
@@ -41,4 +41,4 @@ returns c =
     (λ lane. sum_below 5 (λ chunk. over (gap_at c.args.self.now.worst c.args.team (chunk * 8 + lane)) c.min-most.result)))
     (omega arith) ∙
     sum_by_lanes (λ o. over (gap_at c.args.self.now.worst c.args.team o) c.min-most.result) ∙
-    row_over c.args.self.now c.args.team c.args.most c.min-most.result c.requires.tallied c.requires.team c.min-most.ensures
+    row_over c.args.self.now c.args.team c.args.most c.min-most.result c.requires.gaps c.min-most.ensures
