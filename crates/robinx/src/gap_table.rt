@@ -93,8 +93,8 @@ impl GapTable {
         }
     }
 
-    /// Becomes, from the last table, that of a schedule on which the teams of `turned` are on the other side in its rounds, if the deviation
-    /// from the rule is then at most `room`. Gives whether it is.
+    /// Becomes, from the last table, that of a schedule on which the teams of `turned` are on the other side in its rounds, if the
+    /// deviation from the rule is then at most `room`. Gives whether it is.
     pub(crate) fn follow_within(
         &mut self,
         last: &GapTable,

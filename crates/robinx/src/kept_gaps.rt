@@ -60,8 +60,8 @@ impl KeptGaps {
         found.deviation
     }
 
-    /// Whether the deviation from the rule is at most `room` on a schedule on which the teams of `turned` are on the other side in its rounds.
-    /// No more is counted than tells that.
+    /// Whether the deviation from the rule is at most `room` on a schedule on which the teams of `turned` are on the other side in its
+    /// rounds. No more is counted than tells that. Takes no memory.
     pub fn turned_within(
         &mut self,
         schedule: &Schedule,

@@ -143,4 +143,8 @@ told_few all gaps most total left lowest rest told so_far taken is of_all =
 pub told_all : (all gaps : Gaps) (most total left : ℕ) → left ≡ 0 → HasTold all gaps most total left →
     total ≡ sum_of_gaps all.worst (λ gap. over gap most)
 told_all all gaps most total left none so_far =
-    omega (arith, so_far.sum, no_gaps gaps most (λ t o. so_far.are.none t o (rw (so_far.teams t ∙ ap (λ s. has s t) none ∙ has_empty t) refl)))
+    omega (
+      arith,
+      so_far.sum,
+      no_gaps gaps most (λ t o. so_far.are.none t o (rw (so_far.teams t ∙ ap (λ s. has s t) none ∙ has_empty t) refl)),
+    )

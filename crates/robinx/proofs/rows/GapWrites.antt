@@ -217,14 +217,17 @@ module _ (gaps : Gaps) (team row : ℕ) (old : AreGaps gaps) (at : row ≡ team)
   without_row_square = record {
     rows = length-set gaps.worst row _ ∙ old.rows;
     columns = λ t below. elim (cases_eq t row) [
-      | inl same ↦ ap (λ (r : List ℕ). length r) (get_or-set_at gaps.worst row t (replicate 40 0) [] same (omega (arith, at, in_table, old.rows)))
+      | inl same ↦
+          ap (λ (r : List ℕ). length r)
+          (get_or-set_at gaps.worst row t (replicate 40 0) [] same (omega (arith, at, in_table, old.rows)))
       | inr apart ↦ ap (λ (r : List ℕ). length r) (get_or-set_other gaps.worst row t (replicate 40 0) [] apart) ∙ old.columns t below
     ];
   }
 
   row_cleared : (o : ℕ) → gap_at without_row team o ≡ 0
   row_cleared o =
-      ap (λ (r : List ℕ). get_or r o 0) (get_or-set_at gaps.worst row team (replicate 40 0) [] (sym at) (omega (arith, at, in_table, old.rows))) ∙
+      ap (λ (r : List ℕ). get_or r o 0)
+      (get_or-set_at gaps.worst row team (replicate 40 0) [] (sym at) (omega (arith, at, in_table, old.rows))) ∙
       elim (cases_lt o 40) [
         | inl below ↦ get_or-replicate 40 o 0 0 below
         | inr past ↦ get_or-eq_default (replicate 40 0) 0 past
