@@ -10,7 +10,7 @@ ghost use Rattle.fixture_board.specs.CostParts.{asks, fairness_part, last_fairne
 use crate::scope::Scope;
 use fixtures::Schedule;
 use league::{League, Rule, RuleBody, Weight};
-use robinx::{Fairness, KeptGaps, touches};
+use robinx::{Fairness, KeptGaps, touches, turned_within};
 
 /// Whether what the exchange can alter of that is at most what is left for it. Nothing is made for that. No others of that class are told,
 /// since the table of the last one's gaps is the one that was counted last.
@@ -36,11 +36,12 @@ pub(crate) fn leaves_room(
         return true;
     }
     turned.rounds = scope.attempt.exchange.turned_rounds(schedule);
-    gaps.turned_within(
+    turned_within(
         schedule,
         turned,
         &fairness,
         left / weight_of(league, &fairness),
+        gaps,
     )
 }
 

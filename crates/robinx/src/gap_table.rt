@@ -28,8 +28,8 @@ pub(crate) struct GapTable {
     /// How many home games each team has up to and with each slot, and 0 in each other round.
     pub rows: [Row; TEAMS],
     pub gaps: Gaps,
+    /// What a gap may be, and what of the gaps is over that.
     pub most: u32,
-    /// What of the gaps is over the most.
     pub over: u64,
 }
 

@@ -59,30 +59,30 @@ impl KeptGaps {
         self.second_is_last = from_second != found.in_older;
         found.deviation
     }
+}
 
-    /// Whether the deviation from the rule is at most `room` on a schedule on which the teams of `turned` are on the other side in its
-    /// rounds. No more is counted than tells that. Takes no memory.
-    pub fn turned_within(
-        &mut self,
-        schedule: &Schedule,
-        turned: Touched,
-        fairness: &Fairness,
-        room: u64,
-    ) -> bool
-        requires round_robin { IsDoubleRoundRobin schedule.now }
-        requires teams { IsBelow schedule.now.teams fairness.now.teams }
-        requires slots { IsBelow (round_count schedule.now.teams) fairness.now.slots }
-        ensures { (after : Games) → IsDoubleRoundRobin after →
-            IsTurned schedule.now after (has turned.teams) (has turned.rounds) → result ≡
-            nat_le (deviation after (RuleBody.Fa2 fairness.now.teams fairness.now.slots fairness.now.most)) room }
-    {
-        if self.second_is_last {
-            self.first
-                .follow_within(&self.second, schedule, turned, fairness, room)
-        } else {
-            self.second
-                .follow_within(&self.first, schedule, turned, fairness, room)
-        }
+/// Whether the deviation from a rule of class FA2 is at most `room` on a schedule on which the teams of `turned` are on the other side in
+/// its rounds. No more is counted than tells that. What FA2 counted last is in `gaps`. Takes no memory.
+pub fn turned_within(
+    schedule: &Schedule,
+    turned: Touched,
+    fairness: &Fairness,
+    room: u64,
+    gaps: &mut KeptGaps,
+) -> bool
+    requires round_robin { IsDoubleRoundRobin schedule.now }
+    requires teams { IsBelow schedule.now.teams fairness.now.teams }
+    requires slots { IsBelow (round_count schedule.now.teams) fairness.now.slots }
+    ensures { (after : Games) → IsDoubleRoundRobin after →
+        IsTurned schedule.now after (has turned.teams) (has turned.rounds) → result ≡
+        nat_le (deviation after (RuleBody.Fa2 fairness.now.teams fairness.now.slots fairness.now.most)) room }
+{
+    if gaps.second_is_last {
+        gaps.first
+            .follow_within(&gaps.second, schedule, turned, fairness, room)
+    } else {
+        gaps.second
+            .follow_within(&gaps.first, schedule, turned, fairness, room)
     }
 }
 
