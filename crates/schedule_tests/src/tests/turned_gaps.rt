@@ -1,13 +1,17 @@
 //! What a rule of class FA2 comes to after a move, told before it.
 
+ghost use Rattle.std.specs.Prelude.{IfSome};
+ghost use Rattle.league.specs.Sets.{IsBelow};
+ghost use Rattle.fixtures.specs.Games.{round_count};
+
 use crate::tests::checks::check_same;
 use crate::tests::rule_leagues::{league_with, only_deviation};
 use crate::tests::small_leagues::{Plan, schedule};
 use crate::tests::turned::moves_of;
 use fixtures::{Schedule, Touched};
-use league::{League, RuleBody};
+use league::{League, RuleBody, SlotSet, TeamSet};
 use moves::{Move, check, exchange};
-use robinx::{Fairness, KeptGaps};
+use robinx::{Fairness, KeptGaps, turned_within};
 use std::alloc::Global;
 use std::process::Abort;
 use std::test::Fail;
@@ -20,15 +24,19 @@ const FAIR: &[&str] = &[
     r#""class":"FA2","teams":[1,2,3,4,5,6],"slots":[3,6,9],"intp":0"#,
 ];
 
-/// What the league's only rule asks.
-fn fairness_of(league: &League) -> Option<Fairness> {
+/// What the league's only rule asks of such a schedule.
+fn fairness_of(schedule: &Schedule, league: &League) -> Option<Fairness>
+    ensures { IfSome result (λ asked. IsBelow schedule.now.teams asked.teams × IsBelow (round_count schedule.now.teams) asked.slots) }
+{
     if league.rule_count() == 0 {
         return None;
     }
-    match &league.rule(0).body {
-        RuleBody::Fa2 { teams, slots, most } => Some(Fairness::new(*teams, *slots, *most)),
-        _ => None,
-    }
+    let RuleBody::Fa2 { teams, slots, most } = &league.rule(0).body else {
+        return None;
+    };
+    let teams = TeamSet::below(schedule.teams()).intersection(*teams);
+    let slots = SlotSet::below(schedule.rounds()).intersection(*slots);
+    Some(Fairness::new(teams, slots, *most))
 }
 
 /// Before the move it is told whether the deviation after it is within a limit: one less, the deviation itself, and one less again.
@@ -40,14 +48,13 @@ fn check_told(
     gaps: &mut KeptGaps,
     mv: Move,
 ) -> Result<(), Fail> {
-    let Some(fairness) = fairness_of(league) else {
-        return Ok(());
-    };
-    assert!(rt; league.teams() == schedule.teams());
     if check(schedule, mv).is_err() {
         return Ok(());
     }
     let before = schedule.duplicate(alloc)?;
+    let Some(fairness) = fairness_of(&before, league) else {
+        return Ok(());
+    };
     let exchange = exchange(schedule, mv);
     let turned = Touched {
         teams: exchange.turning(schedule),
@@ -57,7 +64,7 @@ fn check_told(
     let deviation = only_deviation(schedule, league).unwrap_or(0);
     let less = deviation.saturating_sub(1);
     for room in [less, deviation, less] {
-        let found = gaps.turned_within(&before, turned, &fairness, room);
+        let found = turned_within(&before, turned, &fairness, room, gaps);
         check_same(rt, &(mv, room, found), &(mv, room, deviation <= room));
     }
     Ok(())
