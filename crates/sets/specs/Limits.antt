@@ -1,5 +1,8 @@
 -- How many teams and rounds there are at most.
-use Rattle.std.specs.Prelude.{ℕ}
+use Rattle.std.specs.Prelude.{ℕ, ◌-◌, ◌*◌}
+
+abbrev pub min_teams : ℕ
+min_teams = 4
 
 abbrev pub max_teams : ℕ
 max_teams = 40
@@ -7,3 +10,7 @@ max_teams = 40
 -- the rounds of the most teams
 abbrev pub max_rounds : ℕ
 max_rounds = 78
+
+-- how many rounds n teams play: each meets each other twice
+abbrev pub round_count : ℕ → ℕ
+round_count n = 2 * (n - 1)
