@@ -114,12 +114,12 @@ names_decide names others =
     Decides-at _ _ (texts_compared names others) (pointwise_decides bytes_decides (texts names) (texts others))
 
 abbrev SameTerms : Terms → Terms → Type 0
-SameTerms t u = (t.at_most ≡ u.at_most) × ((t.hard_weight ≡ u.hard_weight) × ((t.fide ≡ u.fide) × (t.phased ≡ u.phased)))
+SameTerms t u = (t.at_most ≡ u.at_most) × ((t.hard_weight ≡ u.hard_weight) × (t.phased ≡ u.phased))
 
 terms_decide : (t u : Terms) → Decides (terms_eq.eq-value.it t u) (SameTerms t u)
 terms_decide t u =
     Decides-and _ _ (unsigned_Decides t.at_most u.at_most) (Decides-and _ _ (unsigned_Decides t.hard_weight u.hard_weight)
-    (Decides-and _ _ (booleans_Decides t.fide u.fide) (booleans_Decides t.phased u.phased)))
+    (booleans_Decides t.phased u.phased))
 
 -- tables of one size are equal where their numbers are
 same_tables : (n m : ℕ) (d e : List (List ℕ)) → IsDistanceTable n d → IsDistanceTable m e → n ≡ m → joined d ≡ joined e → d ≡ e
@@ -131,21 +131,18 @@ leagues_decide : (names others : List (String Global)) (d e : List (List ℕ)) (
     → IsDistanceTable (length (texts names)) d → IsDistanceTable (length (texts others)) e
     → Decides (((terms_eq.eq-value.it t u && are_same_texts names others) && pointwise nat_eq (joined d) (joined e))
     && pointwise rule_eq.eq-value.it rules more)
-    (league_data (texts names) d t.at_most t.hard_weight rules t.fide t.phased
-    ≡ league_data (texts others) e u.at_most u.hard_weight more u.fide u.phased)
+    (league_data (texts names) d t.at_most t.hard_weight rules berger t.phased
+    ≡ league_data (texts others) e u.at_most u.hard_weight more berger u.phased)
 leagues_decide names others d e t u rules more d_is e_is =
     Decides-like _
     (λ h. let k = h.0.0.0 in λ i. league_data (h.0.0.1 i)
-    (same_tables _ _ d e d_is e_is (ap length h.0.0.1) h.0.1 i) (k.0 i) (k.1.0 i) (h.1 i) (k.1.1.0 i) (k.1.1.1 i))
+    (same_tables _ _ d e d_is e_is (ap length h.0.0.1) h.0.1 i) (k.0 i) (k.1.0 i) (h.1 i) berger (k.1.1 i))
     (λ same. (
       (
         (
           (
             ap (λ (l : LeagueData). l.at_most) same,
-            (
-              ap (λ (l : LeagueData). l.hard_weight) same,
-              (ap (λ (l : LeagueData). l.fide) same, ap (λ (l : LeagueData). l.phased) same),
-            ),
+            (ap (λ (l : LeagueData). l.hard_weight) same, ap (λ (l : LeagueData). l.phased) same),
           ),
           ap (λ (l : LeagueData). l.names) same,
         ),
@@ -160,8 +157,8 @@ leagues_decide names others d e t u rules more d_is e_is =
 -- the same, from what each test of a chain gave
 pub chain_decides : (l m : LeagueData) (names others : List (String Global)) (d e : List (List ℕ)) (t u : Terms) (rules more : List Rule)
     → IsDistanceTable (length (texts names)) d → IsDistanceTable (length (texts others)) e
-    → league_data (texts names) d t.at_most t.hard_weight rules t.fide t.phased ≡ l
-    → league_data (texts others) e u.at_most u.hard_weight more u.fide u.phased ≡ m
+    → league_data (texts names) d t.at_most t.hard_weight rules berger t.phased ≡ l
+    → league_data (texts others) e u.at_most u.hard_weight more berger u.phased ≡ m
     → (first second third all : Bool) → first ≡ terms_eq.eq-value.it t u
     → second ≡ (first && are_same_texts names others)
     → third ≡ (second && pointwise nat_eq (joined l.distances) (joined m.distances))

@@ -67,7 +67,7 @@ made_names_pass (suc count) from most =
     (made_name_passes from (omega arith)) (made_names_pass count (from + 1) (omega arith))
 
 IsLeague-made : (layout : Layout) (n : ℕ) → is_team_count n ≡ true
-    → IsLeague (league_data (made_names n) (made_rows layout n) default_at_most default_hard_weight [] false false)
+    → IsLeague (league_data (made_names n) (made_rows layout n) default_at_most default_hard_weight [] (origin_at Berger) false)
 IsLeague-made layout n counted = record {
   table = rw (length-map-range_with_len made_name 0 n) (IsDistanceTable-made_rows layout n counted);
   at_most_least = omega arith;
@@ -77,11 +77,12 @@ IsLeague-made layout n counted = record {
   names = made_names_pass n 0 (omega (arith, most_teams n counted));
   rule_count = omega arith;
   rules = tt;
+  origin = IsOriginFor-none n Berger tt;
 }
 
 pub IsLeague-as_made : (layout : Layout) (n : ℕ) (names distances : List (List ℕ)) (rules : List Rule)
     → is_team_count n ≡ true
     → names ≡ made_names n → distances ≡ made_rows layout n → rules ≡ []
-    → IsLeague (league_data names distances default_at_most default_hard_weight rules false false)
+    → IsLeague (league_data names distances default_at_most default_hard_weight rules (origin_at Berger) false)
 IsLeague-as_made layout n names distances rules counted same_names same_distances no_rules =
     rw (same_names, same_distances, no_rules) (IsLeague-made layout n counted)

@@ -6,14 +6,16 @@ use Rattle.serde_json.specs.Events.{items_len}
 use Rattle.league.specs.declared.fault.Field.TheVariants.{Whole}
 use Rattle.league.specs.declared.fault.LeagueFault.{LeagueFault}
 use Rattle.league.specs.declared.fault.LeagueFault.TheVariants.{NotJson, WrongKind, RuleClass, RuleValue}
+use Rattle.league.specs.declared.origins.Start.TheVariants.{Berger}
 use Rattle.league.specs.declared.rule.Rule.{Rule}
 use Rattle.league.specs.Json.{json_of, is_object}
 use Rattle.league.specs.Reading.{◌>>=◌, or_fault, unless}
 use Rattle.league.specs.Rows.{table_of}
 use Rattle.league.specs.LeagueMembers.{is_team_name, format_of, teams_of, distances_of}
-use Rattle.league.specs.LeagueMembers.{at_most_of, hard_weight_of, rules_of, fide_of, phased_of}
+use Rattle.league.specs.LeagueMembers.{at_most_of, hard_weight_of, rules_of, order_of, phased_of}
 use Rattle.league.specs.Checks.{distance_of, checked, IsDistanceTable}
 use Rattle.league.specs.Limits.{max_rounds, max_weight, max_rules}
+use Rattle.league.specs.Origins.{OriginData, origin_at, IsOriginFor}
 use Rattle.league.specs.RuleLimits.{IsRuleFor}
 use Rattle.league.specs.RuleClasses.{class_of, rule_of_class}
 
@@ -23,30 +25,33 @@ pub record LeagueData : Type 0 where
   pub at_most : ℕ
   pub hard_weight : ℕ
   pub rules : List Rule
-  -- the start has FIDE's order of rounds
-  pub fide : Bool
+  pub origin : OriginData
   -- the two games of each pair of teams belong into different halves of the season
   pub phased : Bool
 
-abbrev pub league_data : List (List ℕ) → List (List ℕ) → ℕ → ℕ → List Rule → Bool → Bool → LeagueData
-league_data names distances at_most hard_weight rules fide phased = record {
+abbrev pub league_data : List (List ℕ) → List (List ℕ) → ℕ → ℕ → List Rule → OriginData → Bool → LeagueData
+league_data names distances at_most hard_weight rules origin phased = record {
   names = names;
   distances = distances;
   at_most = at_most;
   hard_weight = hard_weight;
   rules = rules;
-  fide = fide;
+  origin = origin;
   phased = phased;
 }
 
 -- a league of nobody, where none is asked for
 abbrev pub no_league : LeagueData
-no_league = league_data [] [] 0 0 [] false false
+no_league = league_data [] [] 0 0 [] (origin_at Berger) false
 
 -- the same of a table kept as its numbers, row by row
-abbrev pub league_of_numbers : List (List ℕ) → List ℕ → ℕ → ℕ → List Rule → Bool → Bool → LeagueData
-league_of_numbers names numbers at_most hard_weight rules fide phased =
-    league_data names (table_of (length names) numbers) at_most hard_weight rules fide phased
+abbrev pub league_of_numbers : List (List ℕ) → List ℕ → ℕ → ℕ → List Rule → OriginData → Bool → LeagueData
+league_of_numbers names numbers at_most hard_weight rules origin phased =
+    league_data names (table_of (length names) numbers) at_most hard_weight rules origin phased
+
+-- the same league with another origin
+abbrev pub with_origin : OriginData → LeagueData → LeagueData
+with_origin origin l = record l { origin = origin }
 
 -- how many teams there are
 abbrev pub teams : LeagueData → ℕ
@@ -70,6 +75,7 @@ pub record IsLeague (l : LeagueData) : Type 0 where
   pub names : IsTrue (list_all is_team_name l.names)
   pub rule_count : length l.rules ≤ max_rules
   pub rules : AllByRecursion (IsRuleFor (length l.names)) l.rules
+  pub origin : IsOriginFor (length l.names) l.origin
 
 -- the rule at an index, among n teams
 unfoldable pub rule_of : ℕ → ℕ → ℕ → Data → Result Rule LeagueFault
@@ -95,11 +101,11 @@ league_of_data d = do
   at_most ← at_most_of d
   hard_weight ← hard_weight_of d
   items ← rules_of d
-  fide ← fide_of format d
+  start ← order_of format d
   phased ← phased_of format d
   sound ← checked (length names) distances (items_len items)
   rules ← rules_from format (length names) 0 items
-  Ok (league_data names distances at_most hard_weight rules fide phased)
+  Ok (league_data names distances at_most hard_weight rules (origin_at start) phased)
 
 -- the league that the bytes stand for, or the first fault
 unfoldable pub league_of : List ℕ → Result LeagueData LeagueFault

@@ -6,8 +6,11 @@ use Rattle.std.specs.Str.{bytes_eq}
 use Rattle.serde_json.specs.Data.{Data, Items, no_items}
 use Rattle.serde_json.specs.Find.{get, as_str, as_bool}
 use Rattle.league.specs.declared.fault.Field.{Field}
-use Rattle.league.specs.declared.fault.Field.TheVariants.{Format, Teams, Distances, AtMost, HardWeight, Rules, Start, Phased}
+use Rattle.league.specs.declared.fault.Field.TheVariants as field
+use Rattle.league.specs.declared.fault.Field.TheVariants.{Format, Teams, Distances, AtMost, HardWeight, Rules, Phased}
 use Rattle.league.specs.declared.fault.LeagueFault.{LeagueFault}
+use Rattle.league.specs.declared.origins.Start.{Start}
+use Rattle.league.specs.declared.origins.Start.TheVariants.{Berger, Fide}
 use Rattle.league.specs.Json.{only_if, whole_number, number_within, array_of, objects}
 use Rattle.league.specs.Limits.{max_name, max_rounds, max_weight, max_format, default_at_most, default_hard_weight}
 use Rattle.league.specs.Reading.{needed, optional}
@@ -53,17 +56,17 @@ rules_of d = optional Rules objects no_items (get (codes "rules") d)
 abbrev pub in_second : {A : Type 0} → ℕ → Field → (Data → Option A) → A → Option Data → Result A LeagueFault
 in_second format field form default member = if nat_le 2 format then optional field form default member else Ok default
 
--- whether the order of rounds is FIDE's
-abbrev pub order_named : List ℕ → Option Bool
+-- the Berger table, in the order of this name
+abbrev pub order_named : List ℕ → Option Start
 order_named name =
-    if bytes_eq name (codes "plain") then Some false else
-    (if bytes_eq name (codes "fide") then Some true else None)
+    if bytes_eq name (codes "plain") then Some Berger else
+    (if bytes_eq name (codes "fide") then Some Fide else None)
 
-abbrev pub start_order : Data → Option Bool
+abbrev pub start_order : Data → Option Start
 start_order d = option_and_then order_named (as_str d)
 
-abbrev pub fide_of : ℕ → Data → Result Bool LeagueFault
-fide_of format d = in_second format Start start_order false (get (codes "start") d)
+abbrev pub order_of : ℕ → Data → Result Start LeagueFault
+order_of format d = in_second format field.Start start_order Berger (get (codes "start") d)
 
 abbrev pub phased_of : ℕ → Data → Result Bool LeagueFault
 phased_of format d = in_second format Phased as_bool false (get (codes "phased") d)

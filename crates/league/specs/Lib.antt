@@ -1,5 +1,6 @@
 pub use Rattle.sets.specs.Sums
 pub use Rattle.sets.specs.Sets
+pub use Rattle.sets.specs.Pairs
 pub mod Json
 pub mod Reading
 pub mod Views
@@ -12,6 +13,8 @@ pub mod Games
 pub mod RuleLimits
 pub mod RuleMembers
 pub mod RuleClasses
+pub mod Origins
 pub mod League
+pub mod Starts
 pub mod Reweighted
 pub mod Made

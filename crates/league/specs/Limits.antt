@@ -1,22 +1,15 @@
 -- How large leagues, their seasons and their rules may be.
-use Rattle.std.specs.Prelude.{ℕ, ◌-◌, ◌*◌}
--- the most teams, and the rounds of so many
-pub use Rattle.sets.specs.Limits.{max_teams, max_rounds}
+use Rattle.std.specs.Prelude.{ℕ}
+-- of teams and rounds
+pub use Rattle.sets.specs.Limits.{min_teams, max_teams, max_rounds, round_count}
 
 -- of a league's text
 abbrev pub max_format : ℕ
 max_format = 2
 
-abbrev pub min_teams : ℕ
-min_teams = 4
-
 -- the bytes of a team's name
 abbrev pub max_name : ℕ
 max_name = 40
-
--- how many rounds n teams play: each meets each other twice
-abbrev pub round_count : ℕ → ℕ
-round_count n = 2 * (n - 1)
 
 -- no list has more games, each once, of the most teams
 abbrev pub max_games : ℕ

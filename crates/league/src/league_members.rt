@@ -1,13 +1,14 @@
 //! The members of a league's text. One that has to be there is MissingField if it is absent, and each is
 //! WrongKind if it is not of its form.
 
-ghost use Rattle.std.specs.Prelude.{◌≡◌, ◌≤◌, IsTrue, IfOk};
+ghost use Rattle.std.specs.Prelude.{◌≡◌, ℕ, ◌≤◌, IsTrue, IfOk};
 ghost use Rattle.std.specs.List.{list_all};
 ghost use Rattle.serde_json.specs.View.{view, items_view};
 ghost use Rattle.league.specs.Limits.{max_rounds, max_weight};
 ghost use Rattle.league.specs.Reading.{Gives, seen};
 ghost use Rattle.league.specs.LeagueMembers.{is_team_name, format_of, teams_of, distances_of, at_most_of};
-ghost use Rattle.league.specs.LeagueMembers.{hard_weight_of, rules_of, order_named, start_order, fide_of, phased_of};
+ghost use Rattle.league.specs.LeagueMembers.{hard_weight_of, rules_of, order_named, start_order, order_of, phased_of};
+ghost use Rattle.league.specs.Origins.{IsStartFor};
 ghost use Rattle.league.specs.Views.{texts, rows};
 
 use crate::fault::{Field, LeagueFault};
@@ -15,6 +16,7 @@ use crate::forms::{distance_rows, number_within, objects, team_names};
 use crate::limits::{
     DEFAULT_AT_MOST, DEFAULT_HARD_WEIGHT, FIRST_FORMAT, MAX_AT_MOST, MAX_WEIGHT, SECOND_FORMAT,
 };
+use crate::origins::Start;
 use serde_json::Value;
 use std::alloc::Global;
 
@@ -84,31 +86,32 @@ pub fn rules_of(object: &Value) -> Result<&[Value], LeagueFault>
     objects(member).ok_or(LeagueFault::WrongKind(Field::Rules))
 }
 
-fn order_named(name: &str) -> Option<bool>
+fn order_named(name: &str) -> Option<Start>
     ensures { result ≡ order_named name.now }
 {
     match name {
-        "plain" => Some(false),
-        "fide" => Some(true),
+        "plain" => Some(Start::Berger),
+        "fide" => Some(Start::Fide),
         _ => None,
     }
 }
 
-fn start_order(value: &Value) -> Option<bool>
+fn start_order(value: &Value) -> Option<Start>
     ensures { result ≡ start_order (view value.now) }
 {
     value.as_str().and_then(order_named)
 }
 
-/// Whether the start has FIDE's order of rounds.
-pub fn fide_of(object: &Value, format: u64) -> Result<bool, LeagueFault>
-    ensures { result ≡ fide_of format (view object.now) }
+/// The start: the Berger table, perhaps in FIDE's order.
+pub fn order_of(object: &Value, format: u64) -> Result<Start, LeagueFault>
+    ensures value { result ≡ order_of format (view object.now) }
+    ensures fits { IfOk result (λ start. (n : ℕ) → IsStartFor n start) }
 {
     match object.get("start") {
         Some(member) if format >= SECOND_FORMAT => {
             start_order(member).ok_or(LeagueFault::WrongKind(Field::Start))
         }
-        _ => Ok(false),
+        _ => Ok(Start::Berger),
     }
 }
 

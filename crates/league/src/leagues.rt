@@ -6,16 +6,18 @@ ghost use Rattle.league.specs.Limits.{min_teams, max_teams, max_rounds, max_dist
 ghost use Rattle.league.specs.Rows.{joined, table_of};
 ghost use Rattle.league.specs.Views.{texts, rows};
 
+mod beginnings;
+
+use crate::origins::{Origin, Start};
 use crate::rule::Rule;
 use std::alloc::{AllocError, Global};
 use std::marker::Model;
 
-/// What a league says beside its teams, distances and rules.
+/// What a league says beside its teams, distances, rules and start.
 #[derive(Clone, Copy, Debug, Drop, PartialEq, Eq)]
 pub(crate) struct Terms {
     pub(crate) at_most: u8,
     pub(crate) hard_weight: u32,
-    pub(crate) fide: bool,
     pub(crate) phased: bool,
 }
 
@@ -27,6 +29,7 @@ pub struct League {
     distances: Vec<u32>,
     rules: Vec<Rule>,
     terms: Terms,
+    origin: Origin,
 }
 
 impl Model for League {
@@ -36,14 +39,15 @@ impl Model for League {
     ghost Value = { LeagueData };
 
     ghost view = { λ l. league_of_numbers (texts l.names.items) l.distances.items l.terms.at_most l.terms.hard_weight l.rules.items
-        l.terms.fide l.terms.phased };
+        l.origin l.terms.phased };
 
     ghost invariant = { λ l. IsLeague (league_of_numbers (texts l.names.items) l.distances.items l.terms.at_most l.terms.hard_weight
-        l.rules.items l.terms.fide l.terms.phased) };
+        l.rules.items l.origin l.terms.phased) };
 }
 
 impl League {
-    ghost use Rattle.league.specs.League.{league_data, teams, name_of, distance, IsLeague};
+    ghost use Rattle.league.specs.League.{league_data, teams, name_of, distance, with_origin, IsLeague};
+    ghost use Rattle.league.specs.Origins.{origin_at};
     ghost use Rattle.league.specs.Reweighted.{reweighted};
     ghost use Rattle.league.specs.RuleLimits.{IsRuleFor};
 
@@ -52,12 +56,13 @@ impl League {
         names: Vec<String>,
         distances: &[Vec<u64>],
         rules: Vec<Rule>,
+        start: Start,
         terms: Terms,
     ) -> Result<League, AllocError>
         requires { IsLeague (league_data (texts names.items)
-            (rows distances.now) terms.at_most terms.hard_weight rules.items terms.fide terms.phased) }
+            (rows distances.now) terms.at_most terms.hard_weight rules.items (origin_at start) terms.phased) }
         ensures { IfOk result (λ l. l ≡ league_data (texts names.items)
-            (rows distances.now) terms.at_most terms.hard_weight rules.items terms.fide terms.phased) }
+            (rows distances.now) terms.at_most terms.hard_weight rules.items (origin_at start) terms.phased) }
     {
         let distances = one_after_another(alloc, names.len(), distances)?;
         Ok(League {
@@ -65,6 +70,7 @@ impl League {
             distances,
             rules,
             terms,
+            origin: Origin::at(start),
         })
     }
 
@@ -141,13 +147,6 @@ impl League {
         &self.rules[i]
     }
 
-    /// Whether the start has FIDE's order of rounds.
-    pub fn fide(&self) -> bool
-        ensures { result ≡ self.now.fide }
-    {
-        self.terms.fide
-    }
-
     /// Whether the two games of each pair of teams belong into different halves of the season.
     pub fn phased(&self) -> bool
         ensures { result ≡ self.now.phased }
@@ -158,6 +157,13 @@ impl League {
     /// Whether the two leagues are equal in all that they say.
     pub fn is_same(&self, other: &League) -> bool
         ensures { IsTrue result ↔ (self.now ≡ other.now) }
+    {
+        self.differs_in_origin_alone(other) && self.origin.is_same(&other.origin)
+    }
+
+    /// Whether the two leagues are equal in all but where their boards begin.
+    fn differs_in_origin_alone(&self, other: &League) -> bool
+        ensures { IsTrue result ↔ (with_origin (origin_at Start.Berger) self.now ≡ with_origin (origin_at Start.Berger) other.now) }
     {
         self.terms == other.terms
             && self.names == other.names
@@ -185,6 +191,7 @@ impl League {
             distances,
             rules,
             terms: self.terms,
+            origin: self.origin.duplicate(alloc)?,
         })
     }
 }

@@ -1,15 +1,11 @@
 //! How large leagues, their seasons and their rules may be.
 
+pub use sets::limits::{MAX_ROUNDS, MAX_TEAMS, MIN_TEAMS, round_count};
+
 /// The first format of a league's text.
 pub(crate) const FIRST_FORMAT: u64 = 1;
 /// The second, which has the order of the start, the phased mode and the rules of class FA2 besides.
 pub(crate) const SECOND_FORMAT: u64 = 2;
-/// The fewest teams of a league.
-pub const MIN_TEAMS: u8 = 4;
-/// The most teams of a league.
-pub const MAX_TEAMS: u8 = 40;
-/// The most rounds of a season: each of the most teams meets each other twice.
-pub const MAX_ROUNDS: u8 = 78;
 /// The longest distance between two homes.
 pub const MAX_DISTANCE: u64 = 1_000_000;
 /// The most rounds in a row that a league may allow at home, or away.

@@ -10,6 +10,7 @@ ghost use Rattle.league.specs.Views.{texts, rows};
 use crate::checks::is_team_count;
 use crate::fault::LeagueFault;
 use crate::leagues::{League, Terms};
+use crate::origins::Start;
 use crate::limits::{DEFAULT_AT_MOST, DEFAULT_HARD_WEIGHT};
 use std::alloc::{AllocError, Global};
 
@@ -66,7 +67,6 @@ fn made_rows(alloc: Global, layout: Layout, n: u8) -> Result<Vec<Vec<u64>>, Allo
 const DEFAULT_TERMS: Terms = Terms {
     at_most: DEFAULT_AT_MOST,
     hard_weight: DEFAULT_HARD_WEIGHT,
-    fide: false,
     phased: false,
 };
 
@@ -81,7 +81,7 @@ fn made(alloc: Global, layout: Layout, n: u8) -> Result<League, LeagueFault>
     }
     let names = made_names(alloc, n)?;
     let distances = made_rows(alloc, layout, n)?;
-    Ok(League::new(alloc, names, &distances, Vec::new(alloc), DEFAULT_TERMS)?)
+    Ok(League::new(alloc, names, &distances, Vec::new(alloc), Start::Berger, DEFAULT_TERMS)?)
 }
 
 /// The league of `n` teams T1 to Tn whose homes lie in a circle, each at distance 1 from the next, with at most

@@ -11,7 +11,7 @@ use crate::checks::check;
 use crate::fault::{Field, LeagueFault};
 use crate::forms::item_count;
 use crate::league_members::{
-    at_most_of, distances_of, fide_of, format_of, hard_weight_of, phased_of, rules_of, teams_of,
+    at_most_of, distances_of, format_of, hard_weight_of, order_of, phased_of, rules_of, teams_of,
 };
 use crate::leagues::{League, Terms};
 use crate::rule_classes::read_rules;
@@ -45,17 +45,16 @@ fn league_of_data(alloc: Global, value: &Value) -> Result<League, LeagueFault>
     let at_most = at_most_of(value)?;
     let hard_weight = hard_weight_of(value)?;
     let items = rules_of(value)?;
-    let fide = fide_of(value, format)?;
+    let start = order_of(value, format)?;
     let phased = phased_of(value, format)?;
     check(names.len(), &distances, item_count(items))?;
     let rules = read_rules(alloc, items, format, names.len() as u8)?;
     let terms = Terms {
         at_most,
         hard_weight,
-        fide,
         phased,
     };
-    Ok(League::new(alloc, names, &distances, rules, terms)?)
+    Ok(League::new(alloc, names, &distances, rules, start, terms)?)
 }
 
 /// Reads a league from its JSON text, an object with these members:

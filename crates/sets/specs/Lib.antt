@@ -1,4 +1,3 @@
 pub mod Limits
 pub mod Sums
 pub mod Sets
-pub mod Pairs

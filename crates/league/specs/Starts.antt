@@ -1,0 +1,41 @@
+-- The schedule that a league starts with, and the games of it that are kept.
+use Rattle.std.specs.Prelude.{◌≡◌, ℕ, ◌||◌, ◌==◌, Bool}
+use Rattle.fixtures.specs.Games.{Games, games, IsPair}
+use Rattle.sets.specs.Pairs.{has_pair, no_pairs, with_pair}
+use Rattle.league.specs.declared.origins.Start.TheVariants.{Fide, Given}
+use Rattle.league.specs.declared.origins.Start.{Start}
+use Rattle.league.specs.League.{LeagueData, teams}
+use Rattle.league.specs.Origins.{round_at_start}
+
+-- the round in which `home` receives `away` at the start
+abbrev pub start_round : LeagueData → ℕ → ℕ → ℕ
+start_round l = round_at_start (teams l) l.origin.start
+
+abbrev pub start_of : LeagueData → Games
+start_of l = games (teams l) (λ home away. start_round l home away)
+
+-- whether the start is the Berger table in FIDE's order
+abbrev pub is_fide : Start → Bool
+is_fide Fide = true
+is_fide _ = false
+
+-- whether the game in which `home` receives `away` is kept
+abbrev pub keeps : LeagueData → ℕ → ℕ → Bool
+keeps l home away = has_pair l.origin.kept home away
+
+-- the league that begins at a schedule, and keeps none of its games
+abbrev pub beginning_at : Games → LeagueData → LeagueData
+beginning_at g l = record l { origin = record l.origin { start = Given g; kept = no_pairs } }
+
+-- the league that keeps one game more
+abbrev pub keeping : ℕ → ℕ → LeagueData → LeagueData
+keeping home away l = record l { origin = record l.origin { kept = with_pair l.origin.kept home away } }
+
+-- the league in which leaving the start has this price
+abbrev pub near_at : ℕ → LeagueData → LeagueData
+near_at weight l = record l { origin = record l.origin { near = weight } }
+
+-- the second is the first that keeps all games of a round of the start besides
+pub record KeepsRound (round : ℕ) (l m : LeagueData) : Type 0 where
+  pub same : m ≡ record l { origin = record l.origin { kept = m.origin.kept } }
+  pub kept : (home away : ℕ) → IsPair (teams l) home away → keeps m home away ≡ (keeps l home away || start_round l home away == round)
