@@ -1,5 +1,5 @@
 -- The schedule that a league starts with, and the games of it that are kept.
-use Rattle.std.specs.Prelude.{◌≡◌, ℕ, zero, suc, ◌||◌, ◌==◌, Bool, true, false, if◌then◌else◌, List, [], ◌∷◌, ◌++◌}
+use Rattle.std.specs.Prelude.{◌≡◌, ℕ, zero, suc, ◌||◌, Bool, true, false, if◌then◌else◌, List, [], ◌∷◌, ◌++◌}
 use Rattle.fixtures.specs.declared.game.Game.{Game}
 use Rattle.fixtures.specs.Games.{Games, games, IsPair}
 use Rattle.sets.specs.Pairs.{has_pair, no_pairs, with_pair}
@@ -54,7 +54,7 @@ keeping home away l = record l { origin = record l.origin { kept = with_pair l.o
 abbrev pub near_at : ℕ → LeagueData → LeagueData
 near_at weight l = record l { origin = record l.origin { near = weight } }
 
--- the second is the first that keeps all games of a round of the start besides
-pub record KeepsRound (round : ℕ) (l m : LeagueData) : Type 0 where
+-- the second league is the first that keeps besides the games of the start that pass a test
+pub record KeepsMore (passes : ℕ → ℕ → Bool) (l m : LeagueData) : Type 0 where
   pub same : m ≡ record l { origin = record l.origin { kept = m.origin.kept } }
-  pub kept : (home away : ℕ) → IsPair (teams l) home away → keeps m home away ≡ (keeps l home away || start_round l home away == round)
+  pub kept : (home away : ℕ) → IsPair (teams l) home away → keeps m home away ≡ (keeps l home away || passes home away)
