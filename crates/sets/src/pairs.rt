@@ -127,16 +127,3 @@ fn with_or_without(teams: TeamSet, team: u8, is_in: bool) -> TeamSet
         teams.difference(TeamSet::empty().with(team))
     }
 }
-
-/// The set with the team in it, or without it.
-fn with_or_without(teams: TeamSet, team: u8, is_in: bool) -> TeamSet
-    requires { team < max_teams }
-    ensures there { has result team ≡ is_in }
-    ensures others { (t : ℕ) → t ≢ team → has result t ≡ has teams t }
-{
-    if is_in {
-        teams.with(team)
-    } else {
-        teams.difference(TeamSet::empty().with(team))
-    }
-}
