@@ -10,3 +10,4 @@ pub use Rattle.sets.proofs.ForCallers.{all_below_same, any_below_found, any_belo
 pub use Rattle.sets.proofs.ForCallers.{has_beyond, has_all_numbers, has_with_number, le-with_number, with_number-grows}
 pub use Rattle.sets.proofs.ForCallers.{IsSumWithout, sum_without_none, sum_without_more, sum_without_all, lowest_below}
 pub use Rattle.sets.proofs.ForCallers.{lowest_gone, others_kept, has_empty, if_le, sums}
+pub use Rattle.sets.proofs.ForCallers.{has_pair_beyond, has_no_pairs, has_with_pair, same_sets, same_pairs}

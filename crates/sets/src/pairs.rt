@@ -81,22 +81,6 @@ impl PairSet {
         self.write(first, row);
     }
 
-    fn row(&self, first: u8) -> TeamSet
-        requires { first < max_teams }
-        ensures value { result ≡ seconds_of self.now first }
-        ensures rows { length self.now ≡ max_teams }
-    {
-        self.seconds[usize::from(first)]
-    }
-
-    fn write(&mut self, first: u8, row: TeamSet)
-        requires { first < max_teams }
-        ensures { self.new ≡ slice_set self.old first row }
-    {
-        self.seconds[usize::from(first)] = row;
-        self.firsts = with_or_without(self.firsts, first, row != TeamSet::empty());
-    }
-
     /// A second set, equal to this one.
     pub fn duplicate(&self) -> Self
         ensures { result ≡ self.now }
@@ -112,6 +96,22 @@ impl PairSet {
         ensures { IsTrue result ↔ (self.now ≡ other.now) }
     {
         self.seconds == other.seconds
+    }
+
+    fn row(&self, first: u8) -> TeamSet
+        requires { first < max_teams }
+        ensures value { result ≡ seconds_of self.now first }
+        ensures rows { length self.now ≡ max_teams }
+    {
+        self.seconds[usize::from(first)]
+    }
+
+    fn write(&mut self, first: u8, row: TeamSet)
+        requires { first < max_teams }
+        ensures { self.new ≡ slice_set self.old first row }
+    {
+        self.seconds[usize::from(first)] = row;
+        self.firsts = with_or_without(self.firsts, first, row != TeamSet::empty());
     }
 }
 
