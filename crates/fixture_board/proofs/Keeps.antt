@@ -3,6 +3,7 @@ use Rattle.std.proofs.Common.{◌≡◌, ℕ, ◌+◌, ◌*◌, ◌-◌, ◌<◌
 use Rattle.std.proofs.Common.{List, [], ◌∷◌, ◌++◌, length, Option, Some, None, replicate, slice_set, is_some}
 use Rattle.std.proofs.Common.{true≢false, refl, sym, ◌∙◌, ap, subst, length-append, arith}
 use Rattle.std.proofs.lemmas.List.{length-set, length-replicate, length-take}
+use Rattle.league.specs.Limits.{max_teams}
 use Rattle.league.specs.League.{LeagueData, teams, IsLeague}
 use Rattle.fixtures.specs.declared.game.Game.{Game}
 use Rattle.fixtures.specs.Games.{Games, IsDoubleRoundRobin}
@@ -21,7 +22,7 @@ use Rattle.fixtures.specs.Draft.{is_game_in_range}
 use Rattle.fixture_board.specs.History.{effect, effective, shifted, games_after, games_of, pinned, pins_after, pins_of}
 use Rattle.fixture_board.specs.History.{is_there, AllStand, Fits, May, IsLegal, max_room, cost_at, better}
 use Rattle.fixture_board.specs.History.{best_prefix, best_at, as_best, best_of}
-use Rattle.fixture_board.specs.PinTable.{ArePinsAt, taken_back}
+use Rattle.fixture_board.specs.PinTable.{free, taken_back, ArePinsAt, IsFirstTable}
 use Rattle.fixture_board.specs.Kept.{IsLeader, Kept, FollowsHistory, IsGranted, entered, CanTakeBack, leads, led_by}
 use Rattle.fixture_board.specs.Laws.{IsSound}
 use Rattle.fixture_board.specs.Replies.{change_of, refusal, entry}
@@ -33,7 +34,7 @@ use Rattle.fixture_board.proofs.Stand.{pinned_stands}
 use Rattle.fixture_board.proofs.Next.{can_make, IsLegal-within}
 use Rattle.fixture_board.proofs.Sound.{IsSound-legal, IsLastMade, IsLastMade-legal}
 use Rattle.fixture_board.proofs.PinTable.{IsPair-in_range, ArePinsAt-games, ArePinsAt-pin, ArePinsAt-unpin}
-use Rattle.fixture_board.proofs.PinTable.{ArePinsAt-pin_back, ArePinsAt-unpin_back, ArePinsAt-none}
+use Rattle.fixture_board.proofs.PinTable.{ArePinsAt-pin_back, ArePinsAt-unpin_back}
 use Rattle.moves.proofs.ForCallers.{each_its_own_inverse}
 
 -- the best version
@@ -81,7 +82,7 @@ length-more h e = omega (arith, length-append h (e ∷ []))
 
 FollowsHistory-more : {league : LeagueData} {k : Kept} (e : Entry) (changes : List Change) (g : Games) (pins : List ℕ) (cost : Cost) →
     FollowsHistory league k → length k.history < k.room → May league k.history e.change → changes ≡ effect k.changes e.change →
-    g ≡ games_of league (k.history ++ e ∷ []) → length pins ≡ 1600 → ArePinsAt g (pins_of league (k.history ++ e ∷ [])) pins →
+    g ≡ games_of league (k.history ++ e ∷ []) → length pins ≡ pin_entries → ArePinsAt g (pins_of league (k.history ++ e ∷ [])) pins →
     cost ≡ cost_of league g →
     FollowsHistory league (entered (record k { changes = changes; games = g; pins = pins; cost = cost }) e)
 unfolding cost_at
@@ -127,7 +128,7 @@ known_cost {league} kept = kept.cost_is ∙ ap (cost_of league) (sym kept.games_
 
 IsGranted-by : {league : LeagueData} {k : Kept} (asked : Ask) (changes : List Change) (g : Games) (pins : List ℕ) (cost : Cost) →
     FollowsHistory league k → refusal league k.room k.history asked ≡ None → changes ≡ effect k.changes (change_of asked) →
-    ((caller : ℕ) → g ≡ games_of league (k.history ++ entry caller asked ∷ [])) → length pins ≡ 1600 →
+    ((caller : ℕ) → g ≡ games_of league (k.history ++ entry caller asked ∷ [])) → length pins ≡ pin_entries →
     ((caller : ℕ) → ArePinsAt g (pins_of league (k.history ++ entry caller asked ∷ [])) pins) → cost ≡ cost_of league g →
     IsGranted league k (record k { changes = changes; games = g; pins = pins; cost = cost }) asked
 IsGranted-by {league} {k} asked changes g pins cost kept granted changes_are games_are size pins_are cost_is =
@@ -161,29 +162,29 @@ IsGranted-pins {league} {k} asked table kept granted appended stays size are =
 
 pub IsGranted-pin : {league : LeagueData} {k : Kept} (version : ℕ) (game : Game) → FollowsHistory league k →
     refusal league k.room k.history (ask.Pin version game) ≡ None →
-    IsGranted league k (record k { changes = k.changes ++ Pin game ∷ []; pins = slice_set k.pins (game.home * 40 + game.away) game.round })
+    IsGranted league k (record k { changes = k.changes ++ Pin game ∷ []; pins = slice_set k.pins (game.home * max_teams + game.away) game.round })
     (ask.Pin version game)
 IsGranted-pin {league} {k} version game kept granted =
     let fits : Fits (games_of league k.history) (pins_of league k.history) (Pin game) =
     (can_make league k.room k.history (ask.Pin version game) kept.within granted).may in
     let range : is_game_in_range k.games.teams game ≡ true = subst (λ (x : Games). is_game_in_range x.teams game ≡ true) (sym kept.games_are) fits.0 in
     let there : is_there k.games game ≡ true = subst (λ x. is_there x game ≡ true) (sym kept.games_are) fits.1 in
-    IsGranted-pins (ask.Pin version game) (slice_set k.pins (game.home * 40 + game.away) game.round) kept granted (λ changes. refl)
+    IsGranted-pins (ask.Pin version game) (slice_set k.pins (game.home * max_teams + game.away) game.round) kept granted (λ changes. refl)
     (λ g. refl)
-    (length-set k.pins (game.home * 40 + game.away) game.round)
+    (length-set k.pins (game.home * max_teams + game.away) game.round)
     (ArePinsAt-pin k.games (pins_of league k.history) k.pins game (IsSound-kept kept).0.most kept.pins_length range there kept.pins_are)
 
 pub IsGranted-unpin : {league : LeagueData} {k : Kept} (version : ℕ) (game : Game) → FollowsHistory league k →
     refusal league k.room k.history (ask.Unpin version game) ≡ None →
-    IsGranted league k (record k { changes = k.changes ++ Unpin game ∷ []; pins = slice_set k.pins (game.home * 40 + game.away) 255 })
+    IsGranted league k (record k { changes = k.changes ++ Unpin game ∷ []; pins = slice_set k.pins (game.home * max_teams + game.away) free })
     (ask.Unpin version game)
 IsGranted-unpin {league} {k} version game kept granted =
     let fits : Fits (games_of league k.history) (pins_of league k.history) (Unpin game) =
     (can_make league k.room k.history (ask.Unpin version game) kept.within granted).may in
     let sound = IsSound-kept kept in
     let stands = pinned_stands k.games (pins_of league k.history) game sound.1 fits in
-    IsGranted-pins (ask.Unpin version game) (slice_set k.pins (game.home * 40 + game.away) 255) kept granted (λ changes. refl) (λ g. refl)
-    (length-set k.pins (game.home * 40 + game.away) 255)
+    IsGranted-pins (ask.Unpin version game) (slice_set k.pins (game.home * max_teams + game.away) free) kept granted (λ changes. refl) (λ g. refl)
+    (length-set k.pins (game.home * max_teams + game.away) free)
     (ArePinsAt-unpin k.games (pins_of league k.history) k.pins game sound.0.most kept.pins_length stands.0 stands.1 sound.1 kept.pins_are)
 
 pub IsGranted-shift : {league : LeagueData} {k : Kept} (p : Proposal) (g : Games) (cost : Cost) → FollowsHistory league k →
@@ -260,12 +261,12 @@ unshifted g pins Undo robin fits = refl
 
 taken_back-length : (table : List ℕ) (change : Change) → length (taken_back table change) ≡ length table
 taken_back-length table (Shift mv) = refl
-taken_back-length table (Pin game) = length-set table (game.home * 40 + game.away) 255
-taken_back-length table (Unpin game) = length-set table (game.home * 40 + game.away) game.round
+taken_back-length table (Pin game) = length-set table (game.home * max_teams + game.away) free
+taken_back-length table (Unpin game) = length-set table (game.home * max_teams + game.away) game.round
 taken_back-length table Undo = refl
 
 ArePinsAt-taken_back : (g : Games) (pins : List Game) (table : List ℕ) (change : Change) → IsDoubleRoundRobin g → AllStand g pins →
-    Fits g pins change → AllStand (shifted g change) (pinned pins change) → length table ≡ 1600 →
+    Fits g pins change → AllStand (shifted g change) (pinned pins change) → length table ≡ pin_entries →
     ArePinsAt (shifted g change) (pinned pins change) table → ArePinsAt g pins (taken_back table change)
 ArePinsAt-taken_back g pins table (Shift mv) robin stand fits after size are =
     ArePinsAt-games (moved g mv) g pins table (sym (moved-teams g mv)) after stand are
@@ -313,20 +314,20 @@ IsGranted-undo {league} {k} version prefix change kept granted are =
 
 -- a new board
 
-pub FollowsHistory-start : (league : LeagueData) (room : ℕ) (cost : Cost) (best_g : Games) → IsLeague league → room ≤ max_room →
-    cost ≡ cost_of league (start_of league) →
+pub FollowsHistory-start : (league : LeagueData) (room : ℕ) (cost : Cost) (pins : List ℕ) (best_g : Games) → IsLeague league →
+    room ≤ max_room → cost ≡ cost_of league (start_of league) → IsFirstTable league pins →
     FollowsHistory league (record {
       room = room;
       history = [];
       changes = [];
       games = start_of league;
-      pins = replicate 1600 255;
+      pins = pins;
       cost = cost;
       best = led_by None cost 0;
       best_games = if leads None cost then start_of league else best_g;
     })
 unfolding cost_at
-FollowsHistory-start league room cost best_g is most cost_is =
+FollowsHistory-start league room cost pins best_g is most cost_is first =
     let start : start_of league ≡ games_of league [] = sym (games_of-none league) in
     let cost_here : cost ≡ cost_of league (games_of league []) = cost_is ∙ ap (cost_of league) start in
     record {
@@ -338,9 +339,8 @@ FollowsHistory-start league room cost best_g is most cost_is =
       no_more = omega arith;
       games_are = start;
       same_size = refl;
-      pins_length = length-replicate {A = ℕ} 1600 255;
-      pins_are = subst (λ q. ArePinsAt (start_of league) q (replicate 1600 255)) (sym pins_of-none)
-          (ArePinsAt-none (start_of league) is.table.most);
+      pins_length = first.size;
+      pins_are = subst (λ q. ArePinsAt (start_of league) q pins) (sym (pins_of-none league)) first.are;
       cost_is = cost_here;
       small = rw cost_is (score_below league (start_of league) is refl);
       leader = subst (λ found. IsLeader league found (led_by None cost 0) (if leads None cost then start_of league else best_g))

@@ -1,6 +1,7 @@
 pub mod OneMore
 pub mod Least
 pub mod Scores
+pub mod KeptGames
 pub mod Parts
 pub mod PartLimits
 pub mod Partial
@@ -12,6 +13,7 @@ pub mod Sound
 pub mod Credits
 pub mod Script
 pub mod PinTable
+pub mod BegunTables
 pub mod PinsLooked
 pub mod Keeps
 pub mod Weighed

@@ -67,9 +67,9 @@ hard_le l scope g = omega (
   where_le l.phased _ _ (unphased_part_le g (has scope.main.teams)),
 )
 
-soft_le : (l : LeagueData) (scope : Scope) (g : Games) → (penalties_part l scope g).soft ≤ (cost_of l g).soft
+soft_le : (l : LeagueData) (scope : Scope) (g : Games) → (penalties_part l scope g).soft + near_cost l g ≤ (cost_of l g).soft
 unfolding cost_of
-soft_le l scope g = rules_part_le soft_penalty soft_grows l.rules scope.main scope.turning g
+soft_le l scope g = omega (arith, rules_part_le soft_penalty soft_grows l.rules scope.main scope.turning g)
 
 -- A sum has its first terms, and each of its terms.
 

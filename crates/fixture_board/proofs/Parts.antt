@@ -26,7 +26,7 @@ use Rattle.tours.specs.Tours.{travel}
 use Rattle.tours.proofs.ForCallers.{unphased_balance_around}
 use Rattle.robinx.proofs.ForCallers.{deviation_balance}
 use Rattle.fixture_board.specs.Costs.{hard_penalty, soft_penalty, penalty_of, sum_over_rules, where_phased, cost_of, score_of}
-use Rattle.fixture_board.specs.Costs.{score_limit, IsCostWithin}
+use Rattle.fixture_board.specs.Costs.{near_cost, score_limit, IsCostWithin}
 use Rattle.fixture_board.specs.CostParts.{games_cost, rule_part, rules_part, penalties_part}
 use Rattle.fixture_board.specs.CostParts.{with_penalties, IsRest, IsScope, IsTold}
 use Rattle.fixture_board.specs.declared.scope.Scope.{Scope}
@@ -124,14 +124,15 @@ phases_balance l g scope are =
 record Balances (l : LeagueData) (g g' : Games) (scope : Scope) : Type 0 where
   hard : (cost_of l g').hard + (penalties_part l scope g).hard + games_cost l g ≡
       (cost_of l g).hard + (penalties_part l scope g').hard + games_cost l g'
-  soft : (cost_of l g').soft + (penalties_part l scope g).soft ≡ (cost_of l g).soft + (penalties_part l scope g').soft
+  soft : (cost_of l g').soft + (penalties_part l scope g).soft + near_cost l g ≡
+      (cost_of l g).soft + (penalties_part l scope g').soft + near_cost l g'
 
 penalties_balance : (l : LeagueData) (g : Games) (scope : Scope) → IsLeague l → teams l ≡ g.teams → IsScope g scope →
     Balances l g (exchanged_by g scope.attempt.exchange.now) scope
 unfolding cost_of
 penalties_balance l g scope is same are = record {
   hard = omega (arith, rules_balance hard_penalty hard_even l g scope is same are, phases_balance l g scope are);
-  soft = rules_balance soft_penalty soft_even l g scope is same are;
+  soft = omega (arith, rules_balance soft_penalty soft_even l g scope is same are);
 }
 
 pub same_cost : (one other : Cost) → one.travel ≡ other.travel → one.hard ≡ other.hard → one.soft ≡ other.soft → one ≡ other
@@ -163,16 +164,16 @@ unfolding cost_of
 games_alone l g none whole =
     omega (arith, no_rules hard_penalty l g none, ap (λ phased. if phased then unphased g else 0) whole)
 
-no_soft : (l : LeagueData) (g : Games) → length l.rules ≡ 0 → (cost_of l g).soft ≡ 0
+no_soft : (l : LeagueData) (g : Games) → length l.rules ≡ 0 → (cost_of l g).soft ≡ near_cost l g
 unfolding cost_of
-no_soft l g none = no_rules soft_penalty l g none
+no_soft l g none = omega (arith, no_rules soft_penalty l g none)
 
 told_whole : (l : LeagueData) (g : Games) (exchange : Exchange) (told : Cost) → IsTold l g exchange told → length l.rules ≡ 0 →
     l.phased ≡ false → told ≡ cost_of l (exchanged_by g exchange)
 told_whole l g exchange told is none whole =
     same_cost told (cost_of l (exchanged_by g exchange)) (is.travel_is ∙ sym (cost_travel l (exchanged_by g exchange)))
     (omega (arith, is.hard, games_alone l g none whole, games_alone l (exchanged_by g exchange) none whole))
-    (is.soft ∙ no_soft l g none ∙ sym (no_soft l (exchanged_by g exchange) none))
+    (omega (arith, is.soft, no_soft l g none, no_soft l (exchanged_by g exchange) none))
 
 pub games_le : (l : LeagueData) (g : Games) → games_cost l g ≤ (cost_of l g).hard
 unfolding cost_of

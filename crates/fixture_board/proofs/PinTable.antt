@@ -8,23 +8,24 @@ use Rattle.std.proofs.lemmas.Bool.{ltb-true}
 use Rattle.std.proofs.Math.Bool.{and-false, or-true}
 use Rattle.std.proofs.lemmas.List.Sums.{sum_by-cons}
 use Rattle.std.proofs.lemmas.List.{get_or-set_same, get_or-set_other, get_or-replicate}
+use Rattle.league.specs.Limits.{max_teams}
 use Rattle.fixtures.specs.declared.game.Game.{Game}
 use Rattle.fixtures.specs.Draft.{is_game_in_range}
 use Rattle.fixtures.specs.Games.{Games, round_of, IsPair, IsDoubleRoundRobin}
 use Rattle.fixtures.proofs.ForCallers.{game_passed}
 use Rattle.fixture_board.specs.History.{is_game, has_game, is_pinned, is_there, moves_pin, AllStand}
-use Rattle.fixture_board.specs.PinTable.{pin_at, ArePinsAt}
+use Rattle.fixture_board.specs.PinTable.{free, pin_at, pin_entries, ArePinsAt}
 
 -- what is read after a write
 
-pin_at-same : (table : List ℕ) (home away round : ℕ) → home < 40 → away < 40 → length table ≡ 1600 →
-    pin_at (slice_set table (home * 40 + away) round) home away ≡ round
-pin_at-same table home away round home_in away_in size = get_or-set_same table (home * 40 + away) round 0 (omega arith)
+pub pin_at-same : (table : List ℕ) (home away round : ℕ) → home < max_teams → away < max_teams → length table ≡ pin_entries →
+    pin_at (slice_set table (home * max_teams + away) round) home away ≡ round
+pin_at-same table home away round home_in away_in size = get_or-set_same table (home * max_teams + away) round 0 (omega arith)
 
-pin_at-other : (table : List ℕ) (home away round h a : ℕ) → away < 40 → a < 40 → (h ≡ home → a ≡ away → ⊥) →
-    pin_at (slice_set table (home * 40 + away) round) h a ≡ pin_at table h a
+pub pin_at-other : (table : List ℕ) (home away round h a : ℕ) → away < max_teams → a < max_teams → (h ≡ home → a ≡ away → ⊥) →
+    pin_at (slice_set table (home * max_teams + away) round) h a ≡ pin_at table h a
 pin_at-other table home away round h a away_in a_in other =
-    get_or-set_other table (home * 40 + away) (h * 40 + a) round 0
+    get_or-set_other table (home * max_teams + away) (h * max_teams + a) round 0
     (λ same. other (omega (arith, same)) (omega (arith, same)))
 
 -- one pin and one game, that both stand
@@ -98,8 +99,8 @@ rounds_of-pinned g other (pin ∷ pins) h a all all_other is =
 
 -- the table where the games change, and no pinned one
 
-ArePinsAt-if : (pinned : Bool) (x y p : ℕ) → (pinned ≡ true → x ≡ y) → p ≡ (if pinned then x else 255) →
-    p ≡ (if pinned then y else 255)
+ArePinsAt-if : (pinned : Bool) (x y p : ℕ) → (pinned ≡ true → x ≡ y) → p ≡ (if pinned then x else free) →
+    p ≡ (if pinned then y else free)
 ArePinsAt-if true x y p same is = is ∙ same refl
 ArePinsAt-if false x y p same is = is
 
@@ -111,19 +112,19 @@ ArePinsAt-games g other pins table teams all all_other are h a pair =
 
 -- the table where one pair is written
 
-ArePinsAt-written : (g : Games) (pins next : List Game) (table : List ℕ) (home away round : ℕ) → home < 40 → away < 40 →
-    g.teams ≤ 40 → length table ≡ 1600 → ArePinsAt g pins table →
-    round ≡ (if is_pinned next home away then round_of g home away else 255) →
+ArePinsAt-written : (g : Games) (pins next : List Game) (table : List ℕ) (home away round : ℕ) → home < max_teams → away < max_teams →
+    g.teams ≤ max_teams → length table ≡ pin_entries → ArePinsAt g pins table →
+    round ≡ (if is_pinned next home away then round_of g home away else free) →
     ((h a : ℕ) → (h ≡ home → a ≡ away → ⊥) → is_pinned next h a ≡ is_pinned pins h a) →
-    ArePinsAt g next (slice_set table (home * 40 + away) round)
+    ArePinsAt g next (slice_set table (home * max_teams + away) round)
 ArePinsAt-written g pins next table home away round home_in away_in forty size are own others h a pair =
-    let a_in : a < 40 = omega (arith, pair.away_in) in
+    let a_in : a < max_teams = omega (arith, pair.away_in) in
     let elsewhere : (h ≡ home → a ≡ away → ⊥) →
-    pin_at (slice_set table (home * 40 + away) round) h a ≡ (if is_pinned next h a then round_of g h a else 255) =
+    pin_at (slice_set table (home * max_teams + away) round) h a ≡ (if is_pinned next h a then round_of g h a else free) =
     λ other.
     pin_at-other table home away round h a away_in a_in other ∙
     are h a pair ∙
-    ap (λ b. if b then round_of g h a else 255) (sym (others h a other)) in
+    ap (λ b. if b then round_of g h a else free) (sym (others h a other)) in
     elim (cases_eq h home) [
       | inl same_home ↦ elim (cases_eq a away) [
         | inl same_away ↦ rw (same_home, same_away) (pin_at-same table home away round home_in away_in size ∙ own)
@@ -175,57 +176,57 @@ is_pinned-without_other (pin ∷ pins) game h a other =
     pair-other pin.home pin.away h a (λ home away. other (home ∙ sym homes) (away ∙ sym aways)))
     (is_pinned-without_other pins game h a other)
 
-module _ (g : Games) (pins : List Game) (table : List ℕ) (game : Game) (forty : g.teams ≤ 40) (size : length table ≡ 1600)
+module _ (g : Games) (pins : List Game) (table : List ℕ) (game : Game) (forty : g.teams ≤ max_teams) (size : length table ≡ pin_entries)
     (range : is_game_in_range g.teams game ≡ true) (there : is_there g game ≡ true) where
-  home_below : game.home < 40
+  home_below : game.home < max_teams
   home_below = omega (arith, (IsPair-in_range g game range).home_in)
 
-  away_below : game.away < 40
+  away_below : game.away < max_teams
   away_below = omega (arith, (IsPair-in_range g game range).away_in)
 
   round_is : game.round ≡ round_of g game.home game.away
   round_is = sym (eqb-true (round_of g game.home game.away) game.round there)
 
-  pub ArePinsAt-pin : ArePinsAt g pins table → ArePinsAt g (game ∷ pins) (slice_set table (game.home * 40 + game.away) game.round)
+  pub ArePinsAt-pin : ArePinsAt g pins table → ArePinsAt g (game ∷ pins) (slice_set table (game.home * max_teams + game.away) game.round)
   ArePinsAt-pin are =
       ArePinsAt-written g pins (game ∷ pins) table game.home game.away game.round home_below away_below forty size are
-      (round_is ∙ sym (ap (λ b. if b then round_of g game.home game.away else 255) (is_pinned-first pins game)))
+      (round_is ∙ sym (ap (λ b. if b then round_of g game.home game.away else free) (is_pinned-first pins game)))
       (is_pinned-rest pins game)
 
   pub ArePinsAt-unpin : AllStand g pins → ArePinsAt g pins table →
-      ArePinsAt g (without game pins) (slice_set table (game.home * 40 + game.away) 255)
+      ArePinsAt g (without game pins) (slice_set table (game.home * max_teams + game.away) free)
   ArePinsAt-unpin all are =
-      ArePinsAt-written g pins (without game pins) table game.home game.away 255 home_below away_below forty size are
-      (sym (ap (λ b. if b then round_of g game.home game.away else 255) (is_pinned-without_it g pins game all there)))
+      ArePinsAt-written g pins (without game pins) table game.home game.away free home_below away_below forty size are
+      (sym (ap (λ b. if b then round_of g game.home game.away else free) (is_pinned-without_it g pins game all there)))
       (is_pinned-without_other pins game)
 
   pub ArePinsAt-pin_back : AllStand g pins → has_game pins game ≡ false → ArePinsAt g (game ∷ pins) table →
-      ArePinsAt g pins (slice_set table (game.home * 40 + game.away) 255)
+      ArePinsAt g pins (slice_set table (game.home * max_teams + game.away) free)
   ArePinsAt-pin_back all few are =
-      ArePinsAt-written g (game ∷ pins) pins table game.home game.away 255 home_below away_below forty size are
-      (sym (ap (λ b. if b then round_of g game.home game.away else 255) (sym (has_game-pinned g pins game all there) ∙ few)))
+      ArePinsAt-written g (game ∷ pins) pins table game.home game.away free home_below away_below forty size are
+      (sym (ap (λ b. if b then round_of g game.home game.away else free) (sym (has_game-pinned g pins game all there) ∙ few)))
       (λ h a other. sym (is_pinned-rest pins game h a other))
 
   pub ArePinsAt-unpin_back : AllStand g pins → has_game pins game ≡ true → ArePinsAt g (without game pins) table →
-      ArePinsAt g pins (slice_set table (game.home * 40 + game.away) game.round)
+      ArePinsAt g pins (slice_set table (game.home * max_teams + game.away) game.round)
   ArePinsAt-unpin_back all has are =
       ArePinsAt-written g (without game pins) pins table game.home game.away game.round home_below away_below forty size are
       (round_is ∙
-      sym (ap (λ b. if b then round_of g game.home game.away else 255) (sym (has_game-pinned g pins game all there) ∙ has)))
+      sym (ap (λ b. if b then round_of g game.home game.away else free) (sym (has_game-pinned g pins game all there) ∙ has)))
       (λ h a other. sym (is_pinned-without_other pins game h a other))
 
 -- no game is pinned
-pub ArePinsAt-none : (g : Games) → g.teams ≤ 40 → ArePinsAt g [] (replicate 1600 255)
-ArePinsAt-none g forty h a pair = get_or-replicate 1600 (h * 40 + a) 255 0 (omega (arith, pair.home_in, pair.away_in))
+pub ArePinsAt-none : (g : Games) → g.teams ≤ max_teams → ArePinsAt g [] (replicate pin_entries free)
+ArePinsAt-none g forty h a pair = get_or-replicate pin_entries (h * max_teams + a) free 0 (omega (arith, pair.home_in, pair.away_in))
 
 -- what the table tells of a pair
 
-told-if : (pinned : Bool) (round entry : ℕ) → round < 255 → entry ≡ (if pinned then round else 255) → not (entry == 255) ≡ pinned
-told-if true round entry below is = ap not (ne_eqb entry 255 (λ same. omega (arith, same, is)))
-told-if false round entry below is = ap not (eq-eqb entry 255 is)
+told-if : (pinned : Bool) (round entry : ℕ) → round < free → entry ≡ (if pinned then round else free) → not (entry == free) ≡ pinned
+told-if true round entry below is = ap not (ne_eqb entry free (λ same. omega (arith, same, is)))
+told-if false round entry below is = ap not (eq-eqb entry free is)
 
 pub is_pinned-told : (g : Games) (pins : List Game) (table : List ℕ) (h a : ℕ) → IsDoubleRoundRobin g → ArePinsAt g pins table →
-    IsPair g.teams h a → not (pin_at table h a == 255) ≡ is_pinned pins h a
+    IsPair g.teams h a → not (pin_at table h a == free) ≡ is_pinned pins h a
 is_pinned-told g pins table h a robin are pair =
     told-if (is_pinned pins h a) (round_of g h a) (pin_at table h a) (omega (arith, robin.in_range h a pair, robin.most)) (are h a pair)
 
@@ -263,46 +264,46 @@ moves_pin-moved g other (pin ∷ pins) h a all is apart =
     ]
 
 -- what a pinned pair has in the table
-pub entry-pinned : (pinned : Bool) (round entry : ℕ) → entry ≡ (if pinned then round else 255) → entry ≢ 255 →
+pub entry-pinned : (pinned : Bool) (round entry : ℕ) → entry ≡ (if pinned then round else free) → entry ≢ free →
     (pinned ≡ true) × (entry ≡ round)
 entry-pinned true round entry is pin = (refl, is)
 entry-pinned false round entry is pin = absurd (pin is)
 
 pub moves_pin-none : (g other : Games) (pins : List Game) (table : List ℕ) → IsDoubleRoundRobin g → AllStand g pins →
     ArePinsAt g pins table →
-    ((h a : ℕ) → IsPair g.teams h a → pin_at table h a ≢ 255 → round_of other h a ≡ pin_at table h a) → moves_pin other pins ≡ false
+    ((h a : ℕ) → IsPair g.teams h a → pin_at table h a ≢ free → round_of other h a ≡ pin_at table h a) → moves_pin other pins ≡ false
 moves_pin-none g other pins table robin all are none =
     moves_pin-kept g other pins all
     (λ h a pair is.
-    let entry : pin_at table h a ≡ round_of g h a = are h a pair ∙ ap (λ b. if b then round_of g h a else 255) is in
+    let entry : pin_at table h a ≡ round_of g h a = are h a pair ∙ ap (λ b. if b then round_of g h a else free) is in
     none h a pair (λ same. omega (arith, same, entry, robin.in_range h a pair, robin.most)) ∙ entry)
 
 pub moves_pin-some : (g other : Games) (pins : List Game) (table : List ℕ) (h a : ℕ) → AllStand g pins → ArePinsAt g pins table →
-    IsPair g.teams h a → pin_at table h a ≢ 255 → round_of other h a ≢ pin_at table h a → moves_pin other pins ≡ true
+    IsPair g.teams h a → pin_at table h a ≢ free → round_of other h a ≢ pin_at table h a → moves_pin other pins ≡ true
 moves_pin-some g other pins table h a all are pair pin apart =
     let told = entry-pinned (is_pinned pins h a) (round_of g h a) (pin_at table h a) (are h a pair) pin in
     moves_pin-moved g other pins h a all told.0 (λ same. apart (same ∙ sym told.1))
 
 -- a table without a round has no pinned game
 
-none_pinned-if : (round rest : ℕ) → cond (not (round == 255)) 1 0 + rest ≡ 0 → (round ≡ 255) × (rest ≡ 0)
-none_pinned-if round rest none = go (round == 255) refl none
+none_pinned-if : (round rest : ℕ) → cond (not (round == free)) 1 0 + rest ≡ 0 → (round ≡ free) × (rest ≡ 0)
+none_pinned-if round rest none = go (round == free) refl none
   where
-    go : (b : Bool) → round == 255 ≡ b → cond (not b) 1 0 + rest ≡ 0 → (round ≡ 255) × (rest ≡ 0)
-    go true is sum = (eqb-true round 255 is, omega (arith, sum))
+    go : (b : Bool) → round == free ≡ b → cond (not b) 1 0 + rest ≡ 0 → (round ≡ free) × (rest ≡ 0)
+    go true is sum = (eqb-true round free is, omega (arith, sum))
     go false is sum = absurd (omega (arith, sum))
 
-none_pinned : (table : List ℕ) (i : ℕ) → i < length table → count_by (λ round. not (round == 255)) table ≡ 0 → slice_index table i ≡ 255
+none_pinned : (table : List ℕ) (i : ℕ) → i < length table → count_by (λ round. not (round == free)) table ≡ 0 → slice_index table i ≡ free
 none_pinned [] i within none = absurd (omega arith)
 none_pinned (round ∷ table) zero within none =
-    (none_pinned-if round (count_by (λ x. not (x == 255)) table) (sym (sum_by-cons (λ x. cond (not (x == 255)) 1 0) round table) ∙ none)).0
+    (none_pinned-if round (count_by (λ x. not (x == free)) table) (sym (sum_by-cons (λ x. cond (not (x == free)) 1 0) round table) ∙ none)).0
 none_pinned (round ∷ table) (suc i) within none =
     none_pinned table i (omega arith)
-    (none_pinned-if round (count_by (λ x. not (x == 255)) table) (sym (sum_by-cons (λ x. cond (not (x == 255)) 1 0) round table) ∙ none)).1
+    (none_pinned-if round (count_by (λ x. not (x == free)) table) (sym (sum_by-cons (λ x. cond (not (x == free)) 1 0) round table) ∙ none)).1
 
 pub moves_pin-unpinned : (g other : Games) (pins : List Game) (table : List ℕ) → IsDoubleRoundRobin g → AllStand g pins →
     ArePinsAt g pins table →
-    length table ≡ 1600 → count_by (λ round. not (round == 255)) table ≡ 0 → moves_pin other pins ≡ false
+    length table ≡ pin_entries → count_by (λ round. not (round == free)) table ≡ 0 → moves_pin other pins ≡ false
 moves_pin-unpinned g other pins table robin all are size none =
     moves_pin-none g other pins table robin all are
-    (λ h a pair pin. absurd (pin (none_pinned table (h * 40 + a) (omega (arith, pair.home_in, pair.away_in, robin.most)) none)))
+    (λ h a pair pin. absurd (pin (none_pinned table (h * max_teams + a) (omega (arith, pair.home_in, pair.away_in, robin.most)) none)))

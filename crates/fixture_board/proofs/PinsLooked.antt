@@ -10,22 +10,22 @@ use Rattle.moves.specs.declared.exchanges.Exchange.{Exchange}
 use Rattle.moves.specs.Exchanges.{exchanged_by, main_cells, IsExchange}
 use Rattle.moves.proofs.ForCallers.{each_tells, main_teams_below, main_rounds_below}
 use Rattle.fixture_board.specs.History.{is_pinned, moves_pin, AllStand}
-use Rattle.fixture_board.specs.PinTable.{pin_at, is_pinned_cell, ArePinsAt}
+use Rattle.fixture_board.specs.PinTable.{free, pin_at, is_pinned_cell, ArePinsAt}
 use Rattle.fixture_board.proofs.PinTable.{entry-pinned, moves_pin-none, moves_pin-some}
 
-is_pinned-no : (table : List ℕ) (t : ℕ) (c : Cell) → is_pinned_cell table t c ≡ false → cell_round (pin_at table) t c ≢ 255 → ⊥
+is_pinned-no : (table : List ℕ) (t : ℕ) (c : Cell) → is_pinned_cell table t c ≡ false → cell_round (pin_at table) t c ≢ free → ⊥
 unfolding is_pinned_cell
 is_pinned-no table t c is pin = ne (cell_round (pin_at table) t c) is pin
   where
-    ne : (x : ℕ) → not (x == 255) ≡ false → x ≢ 255 → ⊥
-    ne x is pin = elim (cases_eq x 255) [
+    ne : (x : ℕ) → not (x == free) ≡ false → x ≢ free → ⊥
+    ne x is pin = elim (cases_eq x free) [
       | inl e ↦ pin e
-      | inr other ↦ false≢true (sym is ∙ ap not (ne_eqb x 255 other))
+      | inr other ↦ false≢true (sym is ∙ ap not (ne_eqb x free other))
     ]
 
-is_pinned-yes : (table : List ℕ) (t : ℕ) (c : Cell) → is_pinned_cell table t c ≡ true → cell_round (pin_at table) t c ≢ 255
+is_pinned-yes : (table : List ℕ) (t : ℕ) (c : Cell) → is_pinned_cell table t c ≡ true → cell_round (pin_at table) t c ≢ free
 unfolding is_pinned_cell
-is_pinned-yes table t c is = eqb-false (cell_round (pin_at table) t c) 255 (not-true _ is)
+is_pinned-yes table t c is = eqb-false (cell_round (pin_at table) t c) free (not-true _ is)
 
 module _ (g : Games) (exchange : Exchange) (can : IsExchange g exchange) (table : List ℕ) where
   abbrev after : Games
@@ -49,7 +49,7 @@ module _ (g : Games) (exchange : Exchange) (can : IsExchange g exchange) (table 
       cell_is g can.round_robin t r (record { opponent = o; home = home }) (record { pair = pair; in_round = there })
 
   -- so a pinned game keeps its round
-  kept : NonePinned → (h a : ℕ) → IsPair g.teams h a → pin_at table h a ≢ 255 → round_of after h a ≡ round_of g h a
+  kept : NonePinned → (h a : ℕ) → IsPair g.teams h a → pin_at table h a ≢ free → round_of after h a ≡ round_of g h a
   kept none h a pair pin = elim (cases_eq (round_of after h a) (round_of g h a)) [
     | inl same ↦ same
     | inr other ↦

@@ -21,7 +21,7 @@ use Rattle.fixture_board.specs.declared.reply.Why.TheVariants as why
 use Rattle.fixture_board.specs.declared.reply.Reply.TheVariants.{Done, No}
 use Rattle.fixture_board.specs.History.{games_of, pins_of, has_game, is_there, moves_pin, AllStand}
 use Rattle.fixture_board.specs.History.{cost_at}
-use Rattle.fixture_board.specs.PinTable.{pin_at, ArePinsAt}
+use Rattle.fixture_board.specs.PinTable.{free, pin_at, ArePinsAt}
 use Rattle.fixture_board.specs.Kept.{Kept, FollowsHistory, IsRefused, IsGranted, IsStep, entered}
 use Rattle.fixture_board.specs.Replies.{first_of, version_rows, game_rows, move_rows, score_rows, refusal, entry}
 use Rattle.fixture_board.specs.Replies.{next_of, reply_of}
@@ -71,7 +71,7 @@ IsStep-stopped league k asked {reason} result is refused =
 
 -- whether a game that is in its round is pinned, by the table
 pub has_game-told : (g : Games) (game : Game) (table : List ℕ) (has : Bool) → IsDoubleRoundRobin g → is_game_in_range g.teams game ≡ true →
-    is_there g game ≡ true → has ≡ not (pin_at table game.home game.away == 255) → (held : List Game) → AllStand g held →
+    is_there g game ≡ true → has ≡ not (pin_at table game.home game.away == free) → (held : List Game) → AllStand g held →
     ArePinsAt g held table → has ≡ has_game held game
 has_game-told g game table has robin range there is held stand are =
     is ∙

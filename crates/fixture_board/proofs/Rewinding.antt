@@ -3,10 +3,11 @@ use Rattle.std.proofs.Common.{◌≡◌, ℕ, zero, suc, ◌+◌, ◌*◌, ◌<�
 use Rattle.std.proofs.Common.{unwrap_or, replicate, get_or, is_some, true≢false, refl, sym, ◌∙◌, ap, subst, take_all, arith}
 use Rattle.std.proofs.lemmas.Bool.{cases_lt}
 use Rattle.std.proofs.lemmas.List.{length-set, length-replicate, take-take, take_more}
+use Rattle.league.specs.Limits.{max_teams}
 use Rattle.league.specs.League.{LeagueData, teams, IsLeague}
 use Rattle.fixtures.specs.declared.game.Game.{Game}
 use Rattle.fixtures.specs.Games.{Games, IsDoubleRoundRobin}
-use Rattle.league.specs.Starts.{start_of}
+use Rattle.league.specs.Starts.{start_of, kept_games}
 use Rattle.fixture_board.specs.Costs.{cost_of, total_of}
 use Rattle.fixture_board.specs.declared.cost.Best.{Best}
 use Rattle.fixture_board.specs.declared.cost.Cost.{Cost}
@@ -18,13 +19,14 @@ use Rattle.fixture_board.specs.History.{pins_after, pins_of, AllStand}
 use Rattle.fixture_board.specs.History.{Fits, legal_after, IsLegal, cost_at, best_prefix, best_at, as_best, best_of}
 use Rattle.fixture_board.specs.History.{IsBestPrefix, IsBestOf}
 use Rattle.fixture_board.specs.Kept.{IsLeader, Kept, FollowsHistory}
-use Rattle.fixture_board.specs.PinTable.{ArePinsAt}
+use Rattle.fixture_board.specs.PinTable.{free, pin_entries, ArePinsAt}
 use Rattle.fixture_board.specs.Retraced.{HasPlace, written, written_after}
 use Rattle.fixture_board.specs.Rewound.{rewound, IsSameBestRewound}
 use Rattle.fixture_board.proofs.Keeps.{effect-length}
+use Rattle.fixture_board.proofs.KeptGames.{AllStand-kept}
 use Rattle.fixture_board.proofs.Least.{best_prefix-is_best}
 use Rattle.fixture_board.proofs.OneMore.{effective-more}
-use Rattle.fixture_board.proofs.PinTable.{IsPair-in_range, ArePinsAt-games, ArePinsAt-pin, ArePinsAt-unpin, ArePinsAt-none}
+use Rattle.fixture_board.proofs.PinTable.{IsPair-in_range, ArePinsAt-games, ArePinsAt-pin, ArePinsAt-unpin}
 use Rattle.fixture_board.proofs.Scores.{moved-teams, games_of-teams, score_below}
 use Rattle.league.proofs.ForCallers.{round_robin_start}
 use Rattle.fixture_board.proofs.Sound.{FitFrom-legal, IsDoubleRoundRobin-change}
@@ -110,7 +112,7 @@ same_best_rewound league room h =
 -- the table of pins, made anew
 
 ArePinsAt-change : (g : Games) (pins : List Game) (table : List ℕ) (change : Change) → IsDoubleRoundRobin g → AllStand g pins →
-    Fits g pins change → length table ≡ 1600 → ArePinsAt g pins table →
+    Fits g pins change → length table ≡ pin_entries → ArePinsAt g pins table →
     ArePinsAt (shifted g change) (pinned pins change) (written table change)
 ArePinsAt-change g pins table (Shift mv) robin stand fits size are =
     ArePinsAt-games g (shifted g (Shift mv)) pins table (moved-teams g mv) stand (AllStand-change g pins (Shift mv) stand fits) are
@@ -123,12 +125,12 @@ ArePinsAt-change g pins table Undo robin stand fits size are = absurd fits
 
 written-length : (table : List ℕ) (change : Change) → length (written table change) ≡ length table
 written-length table (Shift mv) = refl
-written-length table (Pin game) = length-set table (game.home * 40 + game.away) game.round
-written-length table (Unpin game) = length-set table (game.home * 40 + game.away) 255
+written-length table (Pin game) = length-set table (game.home * max_teams + game.away) game.round
+written-length table (Unpin game) = length-set table (game.home * max_teams + game.away) free
 written-length table Undo = refl
 
 record IsPinTable (g : Games) (pins : List Game) (table : List ℕ) : Type 0 where
-  size : length table ≡ 1600
+  size : length table ≡ pin_entries
   are : ArePinsAt g pins table
 
 IsPinTable-after : (g : Games) (pins : List Game) (table : List ℕ) (changes : List Change) → IsDoubleRoundRobin g → AllStand g pins →
@@ -143,15 +145,16 @@ IsPinTable-after g pins table (change ∷ changes) robin stand fit is =
       are = ArePinsAt-change g pins table change robin stand fit.0 is.size is.are;
     })
 
-IsPinTable-legal : (league : LeagueData) (room : ℕ) (h : List Entry) → IsLeague league → IsLegal league room h →
-    IsPinTable (games_of league h) (pins_of league h) (written_after (replicate 1600 255) (effective h))
+IsPinTable-legal : (league : LeagueData) (room : ℕ) (h : List Entry) (table : List ℕ) → IsLeague league → IsLegal league room h →
+    IsRetraced league (effective h) table → IsPinTable (games_of league h) (pins_of league h) table
 unfolding games_of pins_of
-IsPinTable-legal league room h is legal =
-    IsPinTable-after (start_of league) [] (replicate 1600 255) (effective h) (round_robin_start league is) tt
-    (FitFrom-legal league room h legal) (record {
-      size = length-replicate {A = ℕ} 1600 255;
-      are = ArePinsAt-none (start_of league) is.table.most;
-    })
+IsPinTable-legal league room h table is legal retraced =
+    subst (IsPinTable (games_of league h) (pins_of league h)) (sym retraced.after)
+    (IsPinTable-after (start_of league) (kept_games league) retraced.first (effective h) (round_robin_start league is)
+    (AllStand-kept league is) (FitFrom-legal league room h legal) (record {
+      size = retraced.first_is.size;
+      are = retraced.first_is.are;
+    }))
 
 -- the changes that fit have entries in the table
 
@@ -178,8 +181,8 @@ pub HavePlaces-kept : {league : LeagueData} {k : Kept} (n : ℕ) (changes : List
     changes ≡ effective (take n k.history) → (i : ℕ) (d : Change) → i < length changes → HasPlace (get_or changes i d)
 HavePlaces-kept {league} {k} n changes kept are =
     let fit = FitFrom-legal league k.room (take n k.history) (IsLegal-take league k.room n k.history kept.legal) in
-    HavePlaces (start_of league) [] changes (round_robin_start league kept.league_is) tt
-    (subst (Fit (start_of league) []) (sym are) fit)
+    HavePlaces (start_of league) (kept_games league) changes (round_robin_start league kept.league_is)
+    (AllStand-kept league kept.league_is) (subst (Fit (start_of league) (kept_games league)) (sym are) fit)
 
 -- what one step of a loop over the entries, or over the changes, adds
 
@@ -237,17 +240,18 @@ effective-length : (h : List Entry) → length (effective h) ≤ length h
 unfolding effective
 effective-length h = omega (arith, effective_after-length [] h)
 
-pub FollowsHistory-rewound : {league : LeagueData} {k : Kept} (best : Best) (h : List Entry) (cost : Cost) → FollowsHistory league k →
-    k.best ≡ Some best → h ≡ take best.at k.history → cost ≡ cost_of league k.best_games →
+pub FollowsHistory-rewound : {league : LeagueData} {k : Kept} (best : Best) (h : List Entry) (cost : Cost) (pins : List ℕ) →
+    FollowsHistory league k → k.best ≡ Some best → h ≡ take best.at k.history → cost ≡ cost_of league k.best_games →
+    IsRetraced league (effective h) pins →
     (h ≡ rewound league k.history) × FollowsHistory league (record k {
       history = h;
       changes = effective h;
       games = k.best_games;
-      pins = written_after (replicate 1600 255) (effective h);
+      pins = pins;
       cost = cost;
     })
 unfolding cost_at
-FollowsHistory-rewound {league} {k} best h cost kept best_is taken cost_is =
+FollowsHistory-rewound {league} {k} best h cost pins kept best_is taken cost_is retraced =
     let leader : IsLeader league (best_prefix league k.history) (Some best) k.best_games =
     subst (λ b. IsLeader league (best_prefix league k.history) b k.best_games) best_is kept.leader in
     let known : Best_is league k.history best k.best_games =
@@ -259,8 +263,8 @@ FollowsHistory-rewound {league} {k} best h cost kept best_is taken cost_is =
     subst (IsLegal league k.room) (sym taken) (IsLegal-take league k.room best.at k.history kept.legal) in
     let games_are : k.best_games ≡ games_of league h = known.games_are ∙ ap (games_of league) (sym same) in
     let size : k.best_games.teams ≡ teams league = ap (λ (g : Games). g.teams) games_are ∙ games_of-teams league h in
-    let table : IsPinTable (games_of league h) (pins_of league h) (written_after (replicate 1600 255) (effective h)) =
-    IsPinTable-legal league k.room h kept.league_is legal in
+    let table : IsPinTable (games_of league h) (pins_of league h) pins =
+    IsPinTable-legal league k.room h pins kept.league_is legal retraced in
     let short : length h ≤ length k.history = rw same prefix.short in (
       same ∙ ap (λ o. unwrap_or o k.history) (sym known.is),
       record {
@@ -273,7 +277,7 @@ FollowsHistory-rewound {league} {k} best h cost kept best_is taken cost_is =
         games_are = games_are;
         same_size = size;
         pins_length = table.size;
-        pins_are = subst (λ g. ArePinsAt g (pins_of league h) (written_after (replicate 1600 255) (effective h))) (sym games_are) table.are;
+        pins_are = subst (λ g. ArePinsAt g (pins_of league h) pins) (sym games_are) table.are;
         cost_is = cost_is ∙ ap (cost_of league) games_are;
         small = rw cost_is (score_below league k.best_games kept.league_is size);
         leader = subst (λ found. IsLeader league found k.best k.best_games)

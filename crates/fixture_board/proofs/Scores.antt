@@ -4,7 +4,7 @@ use Rattle.std.proofs.Common.{◌∷◌, length, slice_get, Option, Some, None, 
 use Rattle.std.proofs.lemmas.List.Elements.{All-from_recursion, All-get_or}
 use Rattle.std.proofs.lemmas.Option.{slice_get_within, get_or_from_slice_get}
 use Rattle.std.proofs.Math.Nat.{mul-le-mul}
-use Rattle.league.specs.Limits.{deviation_limit, max_rules, max_weight}
+use Rattle.league.specs.Limits.{deviation_limit, max_rules, max_weight, max_teams}
 use Rattle.league.specs.League.{LeagueData, teams, IsLeague}
 use Rattle.league.specs.RuleLimits.{IsRuleFor, IsWeight}
 use Rattle.league.specs.declared.rule.Rule.{Rule}
@@ -63,7 +63,7 @@ games_of-teams league h = games_after-teams (start_of league) (effective h)
 
 -- the parts of the cost
 
-pub travel_le : (l : LeagueData) (g : Games) → IsLeague l → g.teams ≤ 40 → travel l g ≤ 3160000000
+pub travel_le : (l : LeagueData) (g : Games) → IsLeague l → g.teams ≤ max_teams → travel l g ≤ 3160000000
 unfolding travel travel_of leg
 travel_le l g is forty =
     omega (
@@ -73,7 +73,7 @@ travel_le l g is forty =
           omega (arith, sum_below_le (leg_count g) 1000000 (leg l g t) (λ r below. is.table.near _ _))),
     )
 
-runs_over_le : (g : Games) (at_most : ℕ) → g.teams ≤ 40 → runs_over g at_most ≤ 3160
+runs_over_le : (g : Games) (at_most : ℕ) → g.teams ≤ max_teams → runs_over g at_most ≤ 3160
 unfolding runs_over runs_of
 runs_over_le g at_most forty =
     omega (
@@ -83,7 +83,7 @@ runs_over_le g at_most forty =
           omega (arith, count_where_le (windows g (at_most + 1)) (λ first. is_run g t first (at_most + 1)))),
     )
 
-repeats_after_le : (g : Games) (round : ℕ) → g.teams ≤ 40 → repeats_after g round ≤ 1600
+repeats_after_le : (g : Games) (round : ℕ) → g.teams ≤ max_teams → repeats_after g round ≤ 1600
 unfolding repeats_after
 repeats_after_le g round forty =
     omega (
@@ -93,7 +93,7 @@ repeats_after_le g round forty =
           (λ low high below under. if_le (meets g high low round && meets g high low (round + 1)) 1 1 (λ _. omega arith)),
     )
 
-repeats_le : (g : Games) → g.teams ≤ 40 → repeats g ≤ 123200
+repeats_le : (g : Games) → g.teams ≤ max_teams → repeats g ≤ 123200
 unfolding repeats
 repeats_le g forty =
     omega (
@@ -101,7 +101,7 @@ repeats_le g forty =
       sum_below_le (round_count g.teams - 1) 1600 (repeats_after g) (λ r under. repeats_after_le g r forty),
     )
 
-unphased_le : (g : Games) → g.teams ≤ 40 → unphased g ≤ 1600
+unphased_le : (g : Games) → g.teams ≤ max_teams → unphased g ≤ 1600
 unfolding unphased
 unphased_le g forty =
     omega (
@@ -146,14 +146,14 @@ sum_over_rules_le l g penalty most is each =
           (λ i under. penalty_le l g penalty most is each i (slice_get l.rules i) refl),
     )
 
-deviation_of : (l : LeagueData) (g : Games) (rule : Rule) → g.teams ≡ teams l → g.teams ≤ 40 → IsRuleFor (teams l) rule →
+deviation_of : (l : LeagueData) (g : Games) (rule : Rule) → g.teams ≡ teams l → g.teams ≤ max_teams → IsRuleFor (teams l) rule →
     deviation g rule.body ≤ deviation_limit
 deviation_of l g rule same forty is =
     let own : IsRuleFor g.teams rule = subst (λ n. IsRuleFor n rule) (sym same) is in
     omega (arith, deviation_below g rule.body forty own.body)
 
 -- hard limits count by the league's weight
-hard_le : (l : LeagueData) (g : Games) → IsLeague l → g.teams ≡ teams l → g.teams ≤ 40 →
+hard_le : (l : LeagueData) (g : Games) → IsLeague l → g.teams ≡ teams l → g.teams ≤ max_teams →
     (cost_of l g).hard ≤ max_rules * deviation_limit + 127960
 unfolding cost_of
 hard_le l g is same forty =
@@ -166,12 +166,16 @@ hard_le l g is same forty =
           (λ rule for. omega (arith, hard_penalty_le rule.weight (deviation g rule.body), deviation_of l g rule same forty for)),
     )
 
-soft_le : (l : LeagueData) (g : Games) → IsLeague l → g.teams ≡ teams l → g.teams ≤ 40 →
-    (cost_of l g).soft ≤ max_rules * (max_weight * deviation_limit)
+near_cost_le : (l : LeagueData) (g : Games) → IsLeague l → g.teams ≤ max_teams → near_cost l g ≤ max_weight * (max_teams * max_teams)
+near_cost_le l g is forty = mul-le-mul is.origin.near (moved_most (start_round l) g forty)
+
+soft_le : (l : LeagueData) (g : Games) → IsLeague l → g.teams ≡ teams l → g.teams ≤ max_teams →
+    (cost_of l g).soft ≤ max_rules * (max_weight * deviation_limit) + max_weight * (max_teams * max_teams)
 unfolding cost_of
 soft_le l g is same forty =
     omega (
       arith,
+      near_cost_le l g is forty,
       sum_over_rules_le l g soft_penalty (max_weight * deviation_limit) is
           (λ rule for. soft_penalty_le rule.weight (deviation g rule.body) for.weight (deviation_of l g rule same forty for)),
     )
@@ -182,7 +186,7 @@ cost_travel l g = refl
 
 pub score_below : (l : LeagueData) (g : Games) → IsLeague l → g.teams ≡ teams l → score_of l (cost_of l g) < score_limit
 score_below l g is same =
-    let forty : g.teams ≤ 40 = omega (arith, is.table.most) in
+    let forty : g.teams ≤ max_teams = omega (arith, is.table.most) in
     omega (
       arith,
       cost_travel l g,

@@ -22,7 +22,7 @@ use Rattle.tours.specs.Phased.{unphased_part}
 use Rattle.robinx.specs.Parts.{deviation_part}
 use Rattle.robinx.specs.LastCounts.{Counting}
 use Rattle.robinx.specs.declared.fairness_rules.Fairness.{Fairness}
-use Rattle.fixture_board.specs.Costs.{cost_of, hard_penalty, soft_penalty, score_limit, where_phased}
+use Rattle.fixture_board.specs.Costs.{cost_of, hard_penalty, near_cost, soft_penalty, score_limit, where_phased}
 use Rattle.fixture_board.specs.declared.cost.Cost.{Cost}
 use Rattle.fixture_board.specs.declared.penalties.Penalties.{Penalties}
 use Rattle.fixture_board.specs.declared.scope.Scope.{Scope}
@@ -79,11 +79,11 @@ with_penalties rest penalties =
 abbrev pub IsRest : LeagueData → Scope → Games → Cost → Type 0
 IsRest l scope after rest = with_penalties rest (penalties_part l scope after) ≡ cost_of l after
 
--- travel, runs and repeats as they are after the exchange, and all else as it is before it
+-- travel, runs, repeats and what leaving the start costs as they are after the exchange, and all else as it is before it
 pub record IsTold (l : LeagueData) (g : Games) (exchange : Exchange) (told : Cost) : Type 0 where
   pub travel_is : told.travel ≡ travel l (exchanged_by g exchange)
   pub hard : told.hard + games_cost l g ≡ (cost_of l g).hard + games_cost l (exchanged_by g exchange)
-  pub soft : told.soft ≡ (cost_of l g).soft
+  pub soft : told.soft + near_cost l g ≡ (cost_of l g).soft + near_cost l (exchanged_by g exchange)
 
 -- each of the costs is below the limit of scores
 pub record IsSmall (cost : Cost) : Type 0 where

@@ -6,6 +6,7 @@ use Rattle.league.specs.declared.rule.Rule.{Rule}
 use Rattle.league.specs.declared.rule.Weight.{Weight}
 use Rattle.league.specs.declared.rule.Weight.TheVariants.{Hard, Soft}
 use Rattle.fixtures.specs.Games.{Games}
+use Rattle.tours.specs.Moved.{moved_games}
 use Rattle.tours.specs.Tours.{travel}
 use Rattle.tours.specs.Runs.{runs_over}
 use Rattle.tours.specs.Repeats.{repeats}
@@ -36,13 +37,17 @@ sum_over_rules penalty rules g = sum_below (length rules) (λ i. penalty_of pena
 abbrev pub where_phased : LeagueData → ℕ → ℕ
 where_phased l count = if l.phased then count else 0
 
+-- what the games cost that have another round than at the start
+abbrev pub near_cost : LeagueData → Games → ℕ
+near_cost l g = l.origin.near * moved_games l g
+
 -- travel as it is; hard: runs, repeats, the deviations of hard rules, and in a phased league the pairs of teams with
--- both games in one half; soft: the weighted deviations of soft rules
+-- both games in one half; soft: the weighted deviations of soft rules, and what leaving the start costs
 unfoldable pub cost_of : LeagueData → Games → Cost
 cost_of l g = record {
   travel = travel l g;
   hard = runs_over g l.at_most + repeats g + sum_over_rules hard_penalty l.rules g + where_phased l (unphased g);
-  soft = sum_over_rules soft_penalty l.rules g;
+  soft = sum_over_rules soft_penalty l.rules g + near_cost l g;
 }
 
 -- what is compared if hard limits may be broken

@@ -1,6 +1,8 @@
 -- The table in which a board has the rounds of its pinned games.
-use Rattle.std.specs.Prelude.{◌≡◌, ℕ, ◌+◌, ◌*◌, ◌==◌, not, Bool, if◌then◌else◌, List, slice_index, slice_set}
+use Rattle.std.specs.Prelude.{◌≡◌, ℕ, ◌+◌, ◌*◌, ◌==◌, ◌&&◌, not, Bool, if◌then◌else◌, List, length, slice_index, slice_set}
+use Rattle.league.specs.League.{LeagueData, teams}
 use Rattle.league.specs.Limits.{max_teams}
+use Rattle.league.specs.Starts.{start_of, start_round, keeps, kept_games}
 use Rattle.fixtures.specs.declared.game.Game.{Game}
 use Rattle.fixtures.specs.declared.game.Cell.{Cell}
 use Rattle.fixtures.specs.Games.{Games, round_of, IsPair, cell_round}
@@ -32,6 +34,17 @@ abbrev pub ArePinsAt : Games → List Game → List ℕ → Type 0
 ArePinsAt g pins table =
     (home away : ℕ) → IsPair g.teams home away →
     pin_at table home away ≡ (if is_pinned pins home away then round_of g home away else free)
+
+-- of the pairs that pass a test, the table has the games that the league keeps, in their rounds of the start
+pub record AreBegun (league : LeagueData) (passes : ℕ → ℕ → Bool) (table : List ℕ) : Type 0 where
+  pub size : length table ≡ pin_entries
+  pub entries : (home away : ℕ) → IsPair (teams league) home away →
+      pin_at table home away ≡ (if passes home away && keeps league home away then start_round league home away else free)
+
+-- the table of a new board has the kept games of the start
+pub record IsFirstTable (league : LeagueData) (table : List ℕ) : Type 0 where
+  pub size : length table ≡ pin_entries
+  pub are : ArePinsAt (start_of league) (kept_games league) table
 
 -- the table of pins without a change that was the last
 abbrev pub taken_back : List ℕ → Change → List ℕ

@@ -1,9 +1,10 @@
 -- The table of pins, made anew from the changes in effect.
-use Rattle.std.specs.Prelude.{ℕ, ◌<◌, List, [], ◌∷◌, slice_set}
+use Rattle.std.specs.Prelude.{◌≡◌, ℕ, ◌<◌, List, [], ◌∷◌, slice_set}
+use Rattle.league.specs.League.{LeagueData}
 use Rattle.league.specs.Limits.{max_teams}
 use Rattle.fixture_board.specs.declared.change.Change.{Change}
 use Rattle.fixture_board.specs.declared.change.Change.TheVariants.{Pin, Unpin}
-use Rattle.fixture_board.specs.PinTable.{pin_index, free}
+use Rattle.fixture_board.specs.PinTable.{pin_index, free, IsFirstTable}
 
 -- the table has an entry for the game that the change pins or unpins
 abbrev pub HasPlace : Change → Type 0
@@ -20,3 +21,9 @@ written table _ = table
 abbrev pub written_after : List ℕ → List Change → List ℕ
 written_after table [] = table
 written_after table (change ∷ changes) = written_after (written table change) changes
+
+-- the table is that of a new board after these changes in effect
+pub record IsRetraced (league : LeagueData) (changes : List Change) (table : List ℕ) : Type 0 where
+  pub first : List ℕ
+  pub first_is : IsFirstTable league first
+  pub after : table ≡ written_after first changes

@@ -1,7 +1,8 @@
 //! Which games are pinned to their rounds.
 
-ghost use Rattle.std.specs.Prelude.{◌≡◌, ℕ, ◌+◌, ◌*◌, ◌<◌, ◌==◌, not, true, false, if◌then◌else◌, List};
+ghost use Rattle.std.specs.Prelude.{◌≡◌, ℕ, ◌+◌, ◌*◌, ◌<◌, ◌==◌, ◌&&◌, ◌||◌, not, Bool, true, false, if◌then◌else◌, List};
 ghost use Rattle.std.specs.Prelude.{replicate, length, slice_set, slice_index_or, IfOk};
+ghost use Rattle.league.specs.League.{teams};
 ghost use Rattle.league.specs.Limits.{max_teams};
 ghost use Rattle.league.specs.Sets.{has};
 ghost use Rattle.fixtures.specs.Games.{round_count, cell};
@@ -9,13 +10,13 @@ ghost use Rattle.fixtures.specs.declared.game.Game.{Game};
 ghost use Rattle.moves.specs.Exchanges.{exchanged_by, IsExchange};
 ghost use Rattle.fixture_board.specs.History.{moves_pin, AllStand};
 ghost use Rattle.fixture_board.specs.declared.change.Change.{Change};
-ghost use Rattle.fixture_board.specs.Retraced.{HasPlace, written, written_after};
-ghost use Rattle.fixture_board.specs.PinTable.{free, pin_at, pin_index, pin_entries, is_pinned_cell, ArePinsAt};
+ghost use Rattle.fixture_board.specs.Retraced.{HasPlace, written, IsRetraced};
+ghost use Rattle.fixture_board.specs.PinTable.{free, pin_at, pin_index, pin_entries, is_pinned_cell, AreBegun, ArePinsAt, IsFirstTable};
 
 use crate::change::Change;
 use fixtures::{Cell, Game, Schedule};
 use league::limits::MAX_TEAMS;
-use league::{SlotSet, TeamSet};
+use league::{League, SlotSet, TeamSet};
 use moves::Exchange;
 use std::alloc::{AllocError, Global};
 use std::marker::Model;
@@ -46,8 +47,17 @@ impl Model for Pins {
 }
 
 impl Pins {
+    /// Of a new board: the games that the league keeps are pinned.
+    pub(crate) fn of(alloc: Global, league: &League) -> Result<Pins, AllocError>
+        ensures { IfOk result (IsFirstTable league.now) }
+    {
+        let mut pins = Pins::none(alloc)?;
+        pins.begin(league);
+        Ok(pins)
+    }
+
     /// No game is pinned.
-    pub(crate) fn none(alloc: Global) -> Result<Pins, AllocError>
+    fn none(alloc: Global) -> Result<Pins, AllocError>
         ensures { IfOk result (λ p. p ≡ replicate pin_entries free) }
     {
         Ok(Pins {
@@ -103,12 +113,46 @@ impl Pins {
         }
     }
 
-    /// Makes the table anew from the changes in effect.
-    pub(crate) fn retrace(&mut self, changes: &[Change])
-        requires { (i : ℕ) (d : Change) → i < length changes.now → HasPlace (slice_index_or changes.now i d) }
-        ensures { self.new ≡ written_after (replicate pin_entries free) changes.now }
+    /// Makes the table that of a new board.
+    fn begin(&mut self, league: &League)
+        ensures { IsFirstTable league.now self.new }
     {
         self.clear();
+        for home in 0..league.teams() {
+            self.pin_kept_of(league, home);
+        }
+    }
+
+    /// Pins the kept games that the team has at home.
+    fn pin_kept_of(&mut self, league: &League, home: u8)
+        requires { home < teams league.now }
+        ensures { (passes : ℕ → ℕ → Bool) → AreBegun league.now passes self.old →
+            AreBegun league.now (λ h a. passes h a || h == home) self.new }
+    {
+        for away in 0..league.teams() {
+            self.pin_if_kept(league, home, away);
+        }
+    }
+
+    /// Pins the game of the start in which `home` receives `away`, if it is kept.
+    fn pin_if_kept(&mut self, league: &League, home: u8, away: u8)
+        requires home { home < teams league.now }
+        requires away { away < teams league.now }
+        ensures { (passes : ℕ → ℕ → Bool) → AreBegun league.now passes self.old →
+            AreBegun league.now (λ h a. passes h a || (h == home && a == away)) self.new }
+    {
+        if home != away && league.keeps(home, away) {
+            let round = league.start_round(home, away);
+            self.pin(Game { round, home, away });
+        }
+    }
+
+    /// Makes the table anew from the changes in effect.
+    pub(crate) fn retrace(&mut self, league: &League, changes: &[Change])
+        requires { (i : ℕ) (d : Change) → i < length changes.now → HasPlace (slice_index_or changes.now i d) }
+        ensures { IsRetraced league.now changes.now self.new }
+    {
+        self.begin(league);
         for change in changes {
             self.make(*change);
         }

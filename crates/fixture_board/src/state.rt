@@ -13,7 +13,7 @@ use crate::cost::{Best, Cost};
 use crate::pins::Pins;
 use crate::reply::Reply;
 use crate::whole_cost::cost_of;
-use fixtures::{Schedule, start};
+use fixtures::Schedule;
 use league::League;
 use robinx::KeptGaps;
 use std::alloc::{AllocError, Global};
@@ -53,8 +53,8 @@ impl State {
     {
         let history = Vec::with_capacity(alloc, room as usize)?;
         let changes = Vec::with_capacity(alloc, room as usize)?;
-        let pins = Pins::none(alloc)?;
-        let schedule = start(alloc, league)?;
+        let pins = Pins::of(alloc, league)?;
+        let schedule = league.start(alloc)?;
         let mut best_schedule = schedule.duplicate(alloc)?;
         let gaps = Box::new(alloc, KeptGaps::new())?;
         let cost = cost_of(&schedule, league);

@@ -2,12 +2,13 @@
 
 ghost use Rattle.std.specs.Prelude.{◌≡◌, ◌+◌, ◌*◌, ◌<◌, ◌≤◌, MatchOption};
 ghost use Rattle.league.specs.League.{teams};
-ghost use Rattle.league.specs.Limits.{max_distance, max_rounds, max_teams};
+ghost use Rattle.league.specs.Limits.{max_distance, max_rounds, max_teams, max_weight};
+ghost use Rattle.tours.specs.Moved.{moved_games};
 ghost use Rattle.tours.specs.Repeats.{repeats};
 ghost use Rattle.tours.specs.Runs.{runs_over};
 ghost use Rattle.tours.specs.Tours.{travel};
 ghost use Rattle.moves.specs.Exchanges.{exchanged_by, IsExchange};
-ghost use Rattle.fixture_board.specs.Costs.{cost_of, score_of};
+ghost use Rattle.fixture_board.specs.Costs.{cost_of, near_cost, score_of};
 ghost use Rattle.fixture_board.specs.CostParts.{IsTold};
 
 use crate::attempt::Attempt;
@@ -16,11 +17,11 @@ use fixtures::Schedule;
 use league::League;
 use moves::Exchange;
 use tours::{
-    Breaches, Legs, legs_of_rounds, legs_of_teams, repeats_of_rounds, repeats_of_teams,
+    Breaches, Legs, Moved, legs_of_rounds, legs_of_teams, moved_of_rounds, moved_of_teams, repeats_of_rounds, repeats_of_teams,
     runs_of_rounds, runs_of_teams,
 };
 
-/// The cost with the travel, the runs and the repeats after an exchange, and all else as it is before it. None if the travel
+/// The cost with the travel, the runs, the repeats and what leaving the start costs after an exchange, and all else as before it. None if the travel
 /// alone, or with some of the runs, scores over its limit: then the whole cost after it does so too.
 #[inline]
 pub(crate) fn told_within(
@@ -52,11 +53,56 @@ pub(crate) fn told_within(
         return None;
     }
     let repeats = repeats_of(schedule, exchange);
+    let leaving = leaving_of(schedule, league, exchange);
     Some(Cost {
         travel,
         hard: known.hard + runs.after + repeats.after - runs.before - repeats.before,
-        soft: known.soft,
+        soft: known.soft + leaving.after - leaving.before,
     })
+}
+
+/// What the games that an exchange alters cost for another round than at the start, before it and after it.
+#[derive(Clone, Copy)]
+struct Leaving {
+    before: u64,
+    after: u64,
+}
+
+/// That, with nothing counted if it has no price.
+fn leaving_of(schedule: &Schedule, league: &League, exchange: &Exchange) -> Leaving
+    requires same_size { teams league.now ≡ schedule.now.teams }
+    requires can_be_made { IsExchange schedule.now exchange.now }
+    ensures balance { near_cost league.now (exchanged_by schedule.now exchange.now) + result.before ≡
+        near_cost league.now schedule.now + result.after }
+    ensures after_most { result.after ≤ max_weight * (2 * max_rounds) }
+{
+    let near = u64::from(league.near());
+    if near == 0 {
+        return Leaving {
+            before: 0,
+            after: 0,
+        };
+    }
+    let moved = moved_of(schedule, league, exchange);
+    Leaving {
+        before: near * moved.before,
+        after: near * moved.after,
+    }
+}
+
+/// The games that an exchange alters and that have another round than at the start.
+fn moved_of(schedule: &Schedule, league: &League, exchange: &Exchange) -> Moved
+    requires same_size { teams league.now ≡ schedule.now.teams }
+    requires can_be_made { IsExchange schedule.now exchange.now }
+    ensures balance { moved_games league.now (exchanged_by schedule.now exchange.now) + result.before ≡
+        moved_games league.now schedule.now + result.after }
+    ensures before_most { result.before ≤ 2 * max_rounds }
+    ensures after_most { result.after ≤ 2 * max_rounds }
+{
+    match *exchange {
+        Exchange::Rounds { k, l, among } => moved_of_rounds(schedule, league, k, l, among),
+        Exchange::Teams { i, j, among } => moved_of_teams(schedule, league, i, j, among),
+    }
 }
 
 /// The travel after an exchange.

@@ -31,12 +31,12 @@ start_game l home away = record { round = start_round l home away; home = home; 
 -- the games of a home team that are kept, against the teams below m
 unfoldable pub kept_at : LeagueData → ℕ → ℕ → List Game
 kept_at l home zero = []
-kept_at l home (suc m) = if keeps l home m then start_game l home m ∷ kept_at l home m else kept_at l home m
+kept_at l home (suc m) = kept_at l home m ++ (if keeps l home m then start_game l home m ∷ [] else [])
 
 -- those of the home teams below m
 unfoldable pub kept_below : LeagueData → ℕ → List Game
 kept_below l zero = []
-kept_below l (suc m) = kept_at l m (teams l) ++ kept_below l m
+kept_below l (suc m) = kept_below l m ++ kept_at l m (teams l)
 
 -- the games of the start that the league keeps
 unfoldable pub kept_games : LeagueData → List Game

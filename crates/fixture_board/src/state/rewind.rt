@@ -28,7 +28,7 @@ impl State {
         };
         self.history.truncate(best.at as usize);
         retrace(&mut self.changes, &self.history);
-        self.pins.retrace(&self.changes);
+        self.pins.retrace(league, &self.changes);
         self.schedule.copy_from(&self.best_schedule);
         self.cost = cost_of(&self.schedule, league);
     }

@@ -2,6 +2,7 @@
 use Rattle.std.proofs.Common.{◌≡◌, ℕ, ◌<◌, ◌&&◌, ◌||◌, ◌==◌, not, nat_lt, Bool, true, false, if◌then◌else◌, refl, sym, ◌∙◌, ap}
 use Rattle.league.specs.Sets.{has, all_numbers}
 use Rattle.std.proofs.lemmas.Bool.{cond-true, cond-false, lt-ltb}
+use Rattle.league.specs.Limits.{max_teams}
 use Rattle.league.specs.Sums.{sum_below, sum_where, sum_of_pairs, any_below}
 use Rattle.league.specs.declared.rule.RuleBody.TheVariants.{Ca1, Ca2, Ca3, Ca4, Br1}
 use Rattle.league.specs.declared.rule.Side.{Side}
@@ -66,10 +67,10 @@ pairs_at_members n teams set f = sum_below_same n _ _ (λ j below. at (has teams
 
 -- one of a rule's teams counts otherwise
 pub one_is_met : (teams both : ℕ) (test : ℕ → Bool) → ((t : ℕ) → has both t ≡ (has teams t && test t)) →
-    any_below 40 (λ t. has both t && has teams t) ≡ has_touched_team teams test
+    any_below max_teams (λ t. has both t && has teams t) ≡ has_touched_team teams test
 unfolding has_touched_team
 one_is_met teams both test members =
-    any_below_same 40 (λ t. has both t && has teams t) (λ t. has teams t && test t)
+    any_below_same max_teams (λ t. has both t && has teams t) (λ t. has teams t && test t)
     (λ t below. ap (λ b. b && has teams t) (members t) ∙ and_again (has teams t) (test t))
 
 module _ (g : Games) (main rounds sides teams : ℕ) (side : Side) (opponents slots most : ℕ) where

@@ -4,6 +4,7 @@ use Rattle.std.proofs.Common.{◌∙◌, if◌then◌else◌, ap, arith}
 use Rattle.std.specs.List.{AllByRecursion, list_any}
 use Rattle.std.proofs.lemmas.Bool.{cases_Bool, cases_eq, cases_lt, cond-true, cond-false, eq-eqb, ne_eqb, lt-ltb, false≢true}
 use Rattle.std.proofs.lemmas.Bool.{and_cases, or_parts, not_from_false, not-false, not-true}
+use Rattle.league.specs.Limits.{max_teams}
 use Rattle.league.specs.Sets.{has, all_numbers, IsBelow}
 use Rattle.league.specs.Sums.{any_below}
 use Rattle.league.specs.Games.{IsGameFor}
@@ -63,11 +64,11 @@ module _ (g g' : Games) (size : g'.teams ≡ g.teams) (sides rounds : ℕ)
     side = λ t r k in_t in_r team slot until. home_kept t k in_t (omega arith) (others t in_t team);
   }
 
-  none_turns : (teams : ℕ) → g.teams ≤ 40 → has_touched_team teams (has sides) ≡ false → (t : ℕ) → t < g.teams → has teams t ≡ true →
+  none_turns : (teams : ℕ) → g.teams ≤ max_teams → has_touched_team teams (has sides) ≡ false → (t : ℕ) → t < g.teams → has teams t ≡ true →
       has sides t ≡ false
   unfolding has_touched_team
   none_turns teams forty none t in_t team =
-      other_fails (has teams t) (has sides t) (any_below_fails 40 (λ t. has teams t && has sides t) none t (omega arith)) team
+      other_fails (has teams t) (has sides t) (any_below_fails max_teams (λ t. has teams t && has sides t) none t (omega arith)) team
 
 module _ (g g' : Games) (rr : IsDoubleRoundRobin g) (rr' : IsDoubleRoundRobin g') (main rounds sides : ℕ)
     (differs : DiffersOnlyAround g g' (has main) (has rounds))
@@ -114,7 +115,7 @@ module _ (g g' : Games) (rr : IsDoubleRoundRobin g) (rr' : IsDoubleRoundRobin g'
       has_touched_team teams (counts_otherwise g main rounds sides opponents)
   unfolding has_touched_team
   one_counts_same opponents teams below =
-      any_below_same 40 (λ t. has teams t && counts_otherwise g' main rounds sides opponents t)
+      any_below_same max_teams (λ t. has teams t && counts_otherwise g' main rounds sides opponents t)
       (λ t. has teams t && counts_otherwise g main rounds sides opponents t)
       (λ t in_t. elim (cases_lt t g.teams) [
         | inl lt ↦ ap (λ (b : Bool). has teams t && b) (counts_same opponents t lt)
@@ -198,7 +199,7 @@ module _ (g g' : Games) (rr : IsDoubleRoundRobin g) (rr' : IsDoubleRoundRobin g'
       SeesSame-others opponents (has teams) slots
       (λ t in_t team.
       other_fails (has teams t) _
-      (any_below_fails 40 (λ t. has teams t && counts_otherwise g main rounds sides opponents t) none t (omega (arith, rr.most))) team)
+      (any_below_fails max_teams (λ t. has teams t && counts_otherwise g main rounds sides opponents t) none t (omega (arith, rr.most))) team)
 
   -- windows that have none of the rounds
   window_same : (side : Side) (opponents : ℕ → Bool) (window t first : ℕ) → t < g.teams → first + window ≤ round_count g.teams →

@@ -4,6 +4,7 @@ use Rattle.std.proofs.Common.{◌∙◌, ap, arith}
 use Rattle.std.specs.Bool.{beq}
 use Rattle.std.proofs.Math.Bool.{and-false, and-true, and_comm}
 use Rattle.std.proofs.lemmas.Bool.{cases_eq, lt-ltb, ne_eqb}
+use Rattle.league.specs.Limits.{max_rounds}
 use Rattle.league.specs.Sets.{has}
 use Rattle.league.specs.Sums.{sum_where, count_where, any_below}
 use Rattle.league.specs.declared.rule.Side.{Side}
@@ -118,9 +119,9 @@ together_by_teams g side teams opponents slots =
     sum_of_counts_swap g.teams (round_count g.teams) teams slots (is_counted g side opponents)
 
 -- the breaks that begin with one of some rounds: those after which the team doesn't change sides
-module _ (g : Games) (t firsts home changes : ℕ) (most : round_count g.teams ≤ 78)
+module _ (g : Games) (t firsts home changes : ℕ) (most : round_count g.teams ≤ max_rounds)
     (homes : (r : ℕ) → has home r ≡ (nat_lt r (round_count g.teams) && is_home g t r))
-    (all_changes : (r : ℕ) → r + 1 < 78 → not (has changes r) ≡ beq (has home r) (has home (r + 1))) where
+    (all_changes : (r : ℕ) → r + 1 < max_rounds → not (has changes r) ≡ beq (has home r) (has home (r + 1))) where
   at_home : (r : ℕ) → r < round_count g.teams → has home r ≡ is_home g t r
   at_home r in_r = homes r ∙ ap (λ b. b && is_home g t r) (lt-ltb r (round_count g.teams) in_r)
 

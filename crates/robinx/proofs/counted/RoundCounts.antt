@@ -1,6 +1,7 @@
 -- Games counted in all slots at once, team by team.
 use Rattle.std.proofs.Common.{◌≡◌, ℕ, ◌+◌, ◌-◌, ◌<◌, ◌≤◌, ◌&&◌, nat_lt, Bool, true, false, if◌then◌else◌, refl, sym, ◌∙◌, ap, subst, arith}
 use Rattle.std.proofs.lemmas.Bool.{lt-ltb}
+use Rattle.league.specs.Limits.{max_rounds, max_teams}
 use Rattle.league.specs.Sets.{has, IsBelow, IsWithoutLowest}
 use Rattle.league.specs.Sums.{sum_below, sum_where}
 use Rattle.league.specs.declared.rule.Side.{Side}
@@ -65,9 +66,9 @@ module _ (g : Games) (side : Side) (opponents slots most set : ℕ) where
       at true = omega arith
       at false = omega arith
 
-  module _ (left : ℕ) (numbers : RoundNumbers) (so_far : HasCounted g side opponents slots most set left numbers) (season : g.teams ≤ 40)
+  module _ (left : ℕ) (numbers : RoundNumbers) (so_far : HasCounted g side opponents slots most set left numbers) (season : g.teams ≤ max_teams)
     where
-      count_le : (r : ℕ) → number_at numbers r ≤ begin slots most r + 40
+      count_le : (r : ℕ) → number_at numbers r ≤ begin slots most r + max_teams
       count_le r = omega (arith, (so_far.counted r).within, so_far.least r)
 
       -- there is room for one more
@@ -99,10 +100,10 @@ module _ (g : Games) (side : Side) (opponents slots most set : ℕ) where
                 omega (arith, in_slot r below here, so_far.least r, ap {B = ℕ} (λ b. if b then 64 - most else 0) here, most_le)
             at false out = out_of_slots r out
 
-        pub over_of_numbers : sum_below 78 (λ r. over (number_at numbers r) 64) ≡
+        pub over_of_numbers : sum_below max_rounds (λ r. over (number_at numbers r) 64) ≡
             sum_where (round_count g.teams) (has slots) (λ r. over (games_in_round g side (has set) (has opponents) r) most)
         over_of_numbers =
-            sum_below_past (round_count g.teams) 78 (λ r. over (number_at numbers r) 64) (omega (arith, season))
+            sum_below_past (round_count g.teams) max_rounds (λ r. over (number_at numbers r) 64) (omega (arith, season))
             (λ r past below. out_of_slots r (has_beyond (round_count g.teams) slots r of_slots past)) ∙
             sum_below_same (round_count g.teams) (λ r. over (number_at numbers r) 64)
             (λ r. if has slots r then over (games_in_round g side (has set) (has opponents) r) most else 0) by_round

@@ -2,7 +2,7 @@
 use Rattle.std.proofs.Common.{ℕ, zero, suc, ◌+◌, ◌-◌, ◌*◌, ◌<◌, ◌≤◌, ◌&&◌, Bool, true, false, if◌then◌else◌, List, length, arith}
 use Rattle.std.proofs.Math.Nat.{mul-le-mul, mul-le-mul_left}
 use Rattle.std.proofs.lemmas.List.Sums.{count_by-le-length}
-use Rattle.league.specs.Limits.{max_teams, max_count, deviation_limit}
+use Rattle.league.specs.Limits.{max_teams, max_count, deviation_limit, max_rounds}
 use Rattle.league.specs.Sets.{has}
 use Rattle.league.specs.Sums.{sum_below, sum_where}
 use Rattle.league.specs.RuleLimits.{IsBodyFor}
@@ -40,7 +40,7 @@ unfolding over_in_windows
 over_in_windows_le g side opponents window most team forty within =
     omega (
       arith,
-      sum_below_le (round_count g.teams + 1 - window) 78
+      sum_below_le (round_count g.teams + 1 - window) max_rounds
           (λ first. over (games_in_window g side opponents window team first) most)
           (λ first under. omega (arith, count_in_window_le g side opponents window team first)),
     )
@@ -74,11 +74,11 @@ worst_gap_le g slots most i j =
     (λ r below. if_le (slots r) (gap g most i j r) (round_count g.teams) (λ _. omega (arith, gap_le g most i j r)))
 
 pub worst_gaps_le : (g : Games) (teams slots : ℕ → Bool) (most team : ℕ) → g.teams ≤ max_teams →
-    worst_gaps g teams slots most team ≤ team * 78
+    worst_gaps g teams slots most team ≤ team * max_rounds
 unfolding worst_gaps
 worst_gaps_le g teams slots most team forty =
-    sum_below_le team 78 (λ other. if teams other && teams team then worst_gap g slots most other team else 0)
-    (λ other lower. if_le (teams other && teams team) (worst_gap g slots most other team) 78
+    sum_below_le team max_rounds (λ other. if teams other && teams team then worst_gap g slots most other team else 0)
+    (λ other lower. if_le (teams other && teams team) (worst_gap g slots most other team) max_rounds
     (λ _. omega (arith, forty, worst_gap_le g slots most other team)))
 
 -- 10,000 for each pair below n, twice
@@ -96,20 +96,20 @@ over_teams_le g test f most forty few each =
 over_rounds_le : (g : Games) (test : ℕ → Bool) (f : ℕ → ℕ) → g.teams ≤ max_teams → ((r : ℕ) → f r ≤ g.teams) →
     sum_where (round_count g.teams) test f ≤ 3120
 over_rounds_le g test f forty each =
-    omega (arith, sum_where_le (round_count g.teams) 40 test f (λ r under is. omega (arith, each r)))
+    omega (arith, sum_where_le (round_count g.teams) max_teams test f (λ r under is. omega (arith, each r)))
 
 pub deviation_below : (g : Games) (body : RuleBody) → g.teams ≤ max_teams → IsBodyFor g.teams body → deviation g body < deviation_limit
 unfolding deviation
 deviation_below g (Ca1 teams side slots most) forty is =
     omega (
       arith,
-      over_teams_le g (has teams) (λ t. over (games_of_team g side (λ _. true) (has slots) t) most) 78 forty (omega arith)
+      over_teams_le g (has teams) (λ t. over (games_of_team g side (λ _. true) (has slots) t) most) max_rounds forty (omega arith)
           (λ t. omega (arith, count_in_le g side (λ _. true) (has slots) t)),
     )
 deviation_below g (Ca2 teams1 side teams2 slots most) forty is =
     omega (
       arith,
-      over_teams_le g (has teams1) (λ t. over (games_of_team g side (has teams2) (has slots) t) most) 78 forty (omega arith)
+      over_teams_le g (has teams1) (λ t. over (games_of_team g side (has teams2) (has slots) t) most) max_rounds forty (omega arith)
           (λ t. omega (arith, count_in_le g side (has teams2) (has slots) t)),
     )
 deviation_below g (Ca3 teams1 side teams2 window most) forty is =
@@ -139,13 +139,13 @@ deviation_below g (Ga1 games slots least most) forty is =
 deviation_below g (Br1 teams side slots most) forty is =
     omega (
       arith,
-      over_teams_le g (has teams) (λ t. over (breaks g t (has slots) side) most) 78 forty (omega arith)
+      over_teams_le g (has teams) (λ t. over (breaks g t (has slots) side) most) max_rounds forty (omega arith)
           (λ t. omega (arith, breaks_le g t (has slots) side)),
     )
 deviation_below g (Br2 teams slots most) forty is =
     omega (
       arith,
-      over_teams_le g (has teams) (λ t. breaks g t (has slots) Any) 78 forty (omega arith)
+      over_teams_le g (has teams) (λ t. breaks g t (has slots) Any) max_rounds forty (omega arith)
           (λ t. omega (arith, breaks_le g t (has slots) Any)),
     )
 deviation_below g (Se1 teams least) forty is =

@@ -6,6 +6,7 @@ use Rattle.std.proofs.Math.ListN.{set, replicate, get_or-eq_default}
 use Rattle.std.proofs.lemmas.Grind.{get_or-set_at, get_or_default_zero}
 use Rattle.std.proofs.lemmas.List.{get_or-replicate, length-set}
 use Rattle.std.proofs.lemmas.Bool.{cases_eq, cases_lt, eq-eqb, ne_eqb, false≢true, and_parts, not-true}
+use Rattle.league.specs.Limits.{max_teams}
 use Rattle.league.specs.Sets.{has, IsBelow}
 use Rattle.league.specs.Sums.{sum_below}
 use Rattle.league.proofs.ForCallers.{has_empty, count_where_none, sum_below_le}
@@ -39,14 +40,14 @@ zeros_row in_slots = record {
     none_of a = omega arith
 
 pub new_table : (playing slots empty : ℕ) (in_slots : List ℕ) (gaps : Gaps) → empty ≡ 0 → AreGaps gaps → gaps.teams ≡ 0 →
-    ((m : ℕ) → IsBelow m gaps.teams) → playing ≤ 40 → IsBelow (round_count playing) slots →
+    ((m : ℕ) → IsBelow m gaps.teams) → playing ≤ max_teams → IsBelow (round_count playing) slots →
     ((r : ℕ) → get_or in_slots r 0 ≡ one_in slots r) →
     IsGapTable (record {
       playing = playing;
       slots = slots;
       in_slots = in_slots;
-      homes = replicate 40 empty;
-      rows = replicate 40 (replicate 80 0);
+      homes = replicate max_teams empty;
+      rows = replicate max_teams (replicate 80 0);
       gaps = gaps;
       most = 0;
       over = 0;
@@ -58,9 +59,9 @@ new_table playing slots empty in_slots gaps nothing of_gaps none below forty in_
   homes_len = refl;
   rows_len = refl;
   rows = λ t t_below.
-      subst (λ (h : ℕ). IsHomeRow in_slots (has h) (row_of (replicate 40 (replicate 80 0)) t))
-      (sym (get_or-replicate 40 t empty 0 t_below ∙ nothing))
-      (subst (IsHomeRow in_slots (has 0)) (sym (get_or-replicate 40 t (replicate 80 0) [] t_below)) (zeros_row in_slots));
+      subst (λ (h : ℕ). IsHomeRow in_slots (has h) (row_of (replicate max_teams (replicate 80 0)) t))
+      (sym (get_or-replicate max_teams t empty 0 t_below ∙ nothing))
+      (subst (IsHomeRow in_slots (has 0)) (sym (get_or-replicate max_teams t (replicate 80 0) [] t_below)) (zeros_row in_slots));
   in_slots = ones;
   slots = in_season;
   worst = λ t o in_t in_o lower. absurd (false≢true (sym (no_team t) ∙ in_t));
@@ -96,8 +97,8 @@ other_most kept most told table is = record {
 }
 
 -- a team is out
-module _ (kept : GapTable) (team told : ℕ) (new : Gaps) (table : IsGapTable kept) (in_table : team < 40)
-    (is : told ≡ sum_below 40 (λ o. over (gap_at kept.gaps.worst team o) kept.most)) (of_new : AreGaps new)
+module _ (kept : GapTable) (team told : ℕ) (new : Gaps) (table : IsGapTable kept) (in_table : team < max_teams)
+    (is : told ≡ sum_below max_teams (λ o. over (gap_at kept.gaps.worst team o) kept.most)) (of_new : AreGaps new)
     (members : (t : ℕ) → has new.teams t ≡ (has kept.gaps.teams t && not (t == team)))
     (others : (t o : ℕ) → (t == team || o == team) ≡ false → gap_at new.worst t o ≡ gap_at kept.gaps.worst t o) where
   in_old : (t : ℕ) → has new.teams t ≡ true → (has kept.gaps.teams t ≡ true) × ((t == team) ≡ false)
@@ -148,13 +149,13 @@ module _ (kept : GapTable) (team told : ℕ) (new : Gaps) (table : IsGapTable ke
   }
 
 -- what a team has is a part of what is over
-pub told_under : (kept : GapTable) (team told : ℕ) → IsGapTable kept → team < 40 →
-    told ≡ sum_below 40 (λ o. over (gap_at kept.gaps.worst team o) kept.most) → told ≤ kept.over
+pub told_under : (kept : GapTable) (team told : ℕ) → IsGapTable kept → team < max_teams →
+    told ≡ sum_below max_teams (λ o. over (gap_at kept.gaps.worst team o) kept.most) → told ≤ kept.over
 told_under kept team told table in_table is =
     omega (arith, is, table.over, row_le kept.gaps team kept.most table.gaps in_table)
 
 -- a team's row turns
-pub row_to_turn : (kept : GapTable) (team row default homes changed : ℕ) → IsGapTable kept → row ≡ team → team < 40 →
+pub row_to_turn : (kept : GapTable) (team row default homes changed : ℕ) → IsGapTable kept → row ≡ team → team < max_teams →
     ((r : ℕ) → has changed r ≡
     (if has homes r then not (has (get_or kept.homes row default) r) else has (get_or kept.homes row default) r)) →
     IsHomeRow kept.in_slots (is_home_with homes changed) (get_or kept.rows row [])
@@ -166,7 +167,7 @@ row_to_turn kept team row default homes changed table here in_table members =
     (λ r. members r ∙ ap (λ (s : ℕ). if has homes r then not (has s r) else has s r) old))
     (table.rows row (omega (arith, here, in_table)))
 
-module _ (kept : GapTable) (team row homes : ℕ) (turned : List ℕ) (table : IsGapTable kept) (here : row ≡ team) (in_table : team < 40)
+module _ (kept : GapTable) (team row homes : ℕ) (turned : List ℕ) (table : IsGapTable kept) (here : row ≡ team) (in_table : team < max_teams)
     (row_is : IsHomeRow kept.in_slots (has homes) turned) where
   home_kept : (t : ℕ) → t ≢ team → get_or (set kept.homes row homes) t 0 ≡ get_or kept.homes t 0
   home_kept t apart = let other : t ≢ row = omega (arith, here, apart) in get_or-set_other kept.homes row t homes 0 other
@@ -180,7 +181,7 @@ module _ (kept : GapTable) (team row homes : ℕ) (turned : List ℕ) (table : I
   row_here : get_or (set kept.rows row turned) team [] ≡ turned
   row_here = get_or-set_at kept.rows row team turned [] (sym here) (omega (arith, here, in_table, table.rows_len))
 
-  rows_are : (t : ℕ) → t < 40 →
+  rows_are : (t : ℕ) → t < max_teams →
       IsHomeRow kept.in_slots (has (get_or (set kept.homes row homes) t 0)) (get_or (set kept.rows row turned) t [])
   rows_are t below = elim (cases_eq t team) [
     | inl same ↦
@@ -194,7 +195,7 @@ module _ (kept : GapTable) (team row homes : ℕ) (turned : List ℕ) (table : I
   ]
 
   -- it is less than a row's length apart from each other
-  pub turned_small : (o : ℕ) → o < 40 →
+  pub turned_small : (o : ℕ) → o < max_teams →
       worst_apart (get_or (set kept.rows row turned) team []) (get_or (set kept.rows row turned) o []) < 80
   turned_small o below =
       apart_small (round_count kept.playing) kept.slots _ _ (get_or (set kept.rows row turned) team [])
@@ -207,7 +208,7 @@ module _ (kept : GapTable) (team row homes : ℕ) (turned : List ℕ) (table : I
       (compared : (o : ℕ) → has kept.gaps.teams o ≡ true →
       gap_at new.worst team o ≡ worst_apart (get_or (set kept.rows row turned) team []) (get_or (set kept.rows row turned) o []))
       (others : (t o : ℕ) → (t == team || o == team) ≡ false → gap_at new.worst t o ≡ gap_at kept.gaps.worst t o)
-      (is : told ≡ sum_below 40 (λ o. over (gap_at new.worst team o) kept.most)) where
+      (is : told ≡ sum_below max_teams (λ o. over (gap_at new.worst team o) kept.most)) where
     was_in : (t : ℕ) → t ≢ team → has new.teams t ≡ true → has kept.gaps.teams t ≡ true
     was_in t apart in_new = ap (λ b. b || has kept.gaps.teams t) (sym (ne_eqb t team apart)) ∙ sym (members t) ∙ in_new
 
@@ -266,12 +267,12 @@ module _ (kept : GapTable) (team row homes : ℕ) (turned : List ℕ) (table : I
 
 -- there is little over
 pub over_few : (kept : GapTable) (new : Gaps) (team told : ℕ) → IsGapTable kept → AreGaps new →
-    told ≡ sum_below 40 (λ o. over (gap_at new.worst team o) kept.most) → kept.over + told ≤ 131200
+    told ≡ sum_below max_teams (λ o. over (gap_at new.worst team o) kept.most) → kept.over + told ≤ 131200
 over_few kept new team told table of_new is =
     omega (
       arith,
       table.over,
       gaps_few kept.gaps kept.most table.gaps,
       is,
-      sum_below_le 40 80 (λ o. over (gap_at new.worst team o) kept.most) (λ o below. omega (arith, of_new.small team o)),
+      sum_below_le max_teams 80 (λ o. over (gap_at new.worst team o) kept.most) (λ o below. omega (arith, of_new.small team o)),
     )

@@ -4,6 +4,7 @@ use Rattle.std.proofs.Common.{List, get_or, refl, sym, ◌∙◌, ap, arith}
 use Rattle.std.proofs.lemmas.Bool.{cases_eq, cases_lt, eq-eqb, ne_eqb, lt-ltb, le-ltb, cond-true, cond-false}
 use Rattle.std.proofs.Math.Bool.{and-true, and-false}
 use Rattle.std.proofs.Math.Nat.{add-zero}
+use Rattle.league.specs.Limits.{max_rounds}
 use Rattle.league.specs.Sets.{has, IsBelow}
 use Rattle.league.specs.Sums.{sum_where, count_where}
 use Rattle.league.proofs.ForCallers.{sum_below_none, sum_below_more, sum_below_same, sum_below_zero, sum_below_add, sum_where_split}
@@ -58,7 +59,7 @@ nearly_step true false m more is = elim (cases_eq m 0) [
 pub record HasFull (set starts k full nearly next : ℕ) : Type 0 where
   pub none : (s : ℕ) → has full s ≡ (has starts s && lacks set s k == 0)
   pub one : (s : ℕ) → has nearly s ≡ (has starts s && nat_lt (lacks set s k) 2)
-  pub later : (s : ℕ) → s + k < 78 → has next s ≡ has set (s + k)
+  pub later : (s : ℕ) → s + k < max_rounds → has next s ≡ has set (s + k)
   pub none_below : (m : ℕ) → IsBelow m starts → IsBelow m full
   pub one_below : (m : ℕ) → IsBelow m starts → IsBelow m nearly
 
@@ -75,9 +76,9 @@ full_none set starts = record {
     lacks_none s = sum_below_none (λ k. if not (has set (s + k)) then 1 else 0)
 
 pub full_more : (set starts k full nearly next window kept new_full new_nearly new_next : ℕ) → HasFull set starts k full nearly next →
-    IsBelow (79 - window) starts → k < window → window ≤ 78 →
+    IsBelow (79 - window) starts → k < window → window ≤ max_rounds →
     ((s : ℕ) → has kept s ≡ (has nearly s && has next s)) → ((s : ℕ) → has new_nearly s ≡ (has kept s || has full s)) →
-    ((s : ℕ) → has new_full s ≡ (has full s && has next s)) → ((s : ℕ) → s + 1 < 78 → has new_next s ≡ has next (s + 1)) →
+    ((s : ℕ) → has new_full s ≡ (has full s && has next s)) → ((s : ℕ) → s + 1 < max_rounds → has new_next s ≡ has next (s + 1)) →
     ((m : ℕ) → IsBelow m full → IsBelow m new_full) → ((m : ℕ) → IsBelow m nearly → IsBelow m kept) →
     ((m : ℕ) → IsBelow m kept → IsBelow m full → IsBelow m new_nearly) → HasFull set starts (k + 1) new_full new_nearly new_next
 full_more set starts k full nearly next window kept new_full new_nearly new_next so_far below in_window in_season keeps nears fulls nexts

@@ -2,6 +2,7 @@
 use Rattle.std.proofs.Common.{◌≡◌, ◌≢◌, ℕ, ◌+◌, ◌≤◌, ◌&&◌, ◌||◌, ◌==◌, not, Bool, true, false}
 use Rattle.std.proofs.Common.{List, refl, sym, ◌∙◌, ap, inl, inr, arith}
 use Rattle.std.proofs.lemmas.Bool.{cases_eq, eq-eqb, ne_eqb, false≢true, and_parts, or_parts}
+use Rattle.league.specs.Limits.{max_teams}
 use Rattle.league.specs.Sets.{has, IsBelow, IsWithoutLowest}
 use Rattle.league.specs.Sums.{sum_below}
 use Rattle.league.proofs.ForCallers.{has_empty, others_kept, lowest_below, sum_below_le}
@@ -18,7 +19,7 @@ not_there teams team other out here is = false≢true (sym out ∙ ap (has teams
 
 -- a team's gaps with those that aren't left have been counted
 pub record HasPut (before gaps : Gaps) (rows : List (List ℕ)) (more team left : ℕ) : Type 0 where
-  pub below : IsBelow 40 left
+  pub below : IsBelow max_teams left
   pub within : (k : ℕ) → has left k ≡ true → has before.teams k ≡ true
   pub are : AreGaps gaps
   pub teams : gaps.teams ≡ more
@@ -26,7 +27,7 @@ pub record HasPut (before gaps : Gaps) (rows : List (List ℕ)) (more team left 
       gap_at gaps.worst team o ≡ worst_apart (row_of rows team) (row_of rows o)
   pub others : (t o : ℕ) → (t == team || o == team) ≡ false → gap_at gaps.worst t o ≡ gap_at before.worst t o
 
-pub put_none : (before : Gaps) (rows : List (List ℕ)) (more team left : ℕ) → AreGaps before → IsBelow 40 more →
+pub put_none : (before : Gaps) (rows : List (List ℕ)) (more team left : ℕ) → AreGaps before → IsBelow max_teams more →
     ((t : ℕ) → has more t ≡ (t == team || has before.teams t)) → left ≡ before.teams →
     HasPut before (record { teams = more; worst = before.worst }) rows more team left
 put_none before rows more team left old below members whole = record {
@@ -89,7 +90,7 @@ put_more before gaps new rows more team left lowest rest out so_far taken of_new
 
 -- all gaps are told, one team after another, which is then out
 pub record HasTold (all gaps : Gaps) (most total left : ℕ) : Type 0 where
-  pub below : IsBelow 40 left
+  pub below : IsBelow max_teams left
   pub are : AreGaps gaps
   pub teams : (t : ℕ) → has gaps.teams t ≡ has left t
   pub sum : total + sum_of_gaps gaps.worst (λ gap. over gap most) ≡ sum_of_gaps all.worst (λ gap. over gap most)
@@ -103,7 +104,7 @@ told_none all most left old whole = record {
 }
 
 pub told_more : (all gaps new : Gaps) (most total left lowest rest told : ℕ) → HasTold all gaps most total left →
-    IsWithoutLowest left lowest rest → told ≡ sum_below 40 (λ o. over (gap_at gaps.worst lowest o) most) → AreGaps new →
+    IsWithoutLowest left lowest rest → told ≡ sum_below max_teams (λ o. over (gap_at gaps.worst lowest o) most) → AreGaps new →
     ((t : ℕ) → has new.teams t ≡ (has gaps.teams t && not (t == lowest))) →
     ((t o : ℕ) → (t == lowest || o == lowest) ≡ false → gap_at new.worst t o ≡ gap_at gaps.worst t o) →
     HasTold all new most (total + told) rest
@@ -115,7 +116,7 @@ told_more all gaps new most total left lowest rest told so_far taken is of_new m
     arith,
     so_far.sum,
     is,
-    gaps_without gaps lowest most so_far.are (lowest_below 40 left lowest rest so_far.below taken) new of_new
+    gaps_without gaps lowest most so_far.are (lowest_below max_teams left lowest rest so_far.below taken) new of_new
         (λ o. of_new.none lowest o (out o)) others,
   );
 }
@@ -129,7 +130,7 @@ told_more all gaps new most total left lowest rest told so_far taken is of_new m
 
 -- so far there are few
 pub told_few : (all gaps : Gaps) (most total left lowest rest told : ℕ) → HasTold all gaps most total left →
-    IsWithoutLowest left lowest rest → told ≡ sum_below 40 (λ o. over (gap_at gaps.worst lowest o) most) → AreGaps all →
+    IsWithoutLowest left lowest rest → told ≡ sum_below max_teams (λ o. over (gap_at gaps.worst lowest o) most) → AreGaps all →
     total + told ≤ 131200
 told_few all gaps most total left lowest rest told so_far taken is of_all =
     omega (
@@ -137,7 +138,7 @@ told_few all gaps most total left lowest rest told so_far taken is of_all =
       so_far.sum,
       gaps_few all most of_all,
       is,
-      sum_below_le 40 80 (λ o. over (gap_at gaps.worst lowest o) most) (λ o below. omega (arith, so_far.are.small lowest o)),
+      sum_below_le max_teams 80 (λ o. over (gap_at gaps.worst lowest o) most) (λ o below. omega (arith, so_far.are.small lowest o)),
     )
 
 pub told_all : (all gaps : Gaps) (most total left : ℕ) → left ≡ 0 → HasTold all gaps most total left →

@@ -2,6 +2,7 @@
 use Rattle.std.proofs.Common.{◌≡◌, ◌≢◌, ℕ, zero, suc, ◌+◌, ◌<◌, ◌≤◌, ◌&&◌, ◌||◌, ◌==◌, not, nat_lt, Bool, true, false, if◌then◌else◌}
 use Rattle.std.proofs.Common.{refl, sym, ◌∙◌, ap, inl, inr, arith}
 use Rattle.std.proofs.lemmas.Bool.{cases_eq, cases_lt, cond-true, cond-false, eq-eqb, ne_eqb, lt-ltb, le-ltb}
+use Rattle.league.specs.Limits.{max_teams}
 use Rattle.league.specs.Sets.{has}
 use Rattle.league.specs.Sums.{sum_below}
 use Rattle.league.proofs.ForCallers.{sum_below_zero, sum_below_same, sum_below_balance, sum_below_only, sum_of_pairs_le}
@@ -110,7 +111,7 @@ module _ (k : ℕ) (all rest : ℕ → ℕ → ℕ) (mirrored : (t o : ℕ) → 
       omega (arith, each_pair n, cond-true {A = ℕ} (nat_lt k n) (sum_below n (all k)) 0 (lt-ltb k n below))
 
 -- what is over the most, of all gaps and of those without one team's
-module _ (all : Gaps) (team most : ℕ) (of_all : AreGaps all) (in_table : team < 40) where
+module _ (all : Gaps) (team most : ℕ) (of_all : AreGaps all) (in_table : team < max_teams) where
   abbrev over_at : ℕ → ℕ → ℕ
   over_at t o = over (gap_at all.worst t o) most
 
@@ -131,17 +132,17 @@ module _ (all : Gaps) (team most : ℕ) (of_all : AreGaps all) (in_table : team 
   pub gaps_without : (rest : Gaps) → AreGaps rest → ((o : ℕ) → gap_at rest.worst team o ≡ 0) →
       ((t o : ℕ) → (t == team || o == team) ≡ false → gap_at rest.worst t o ≡ gap_at all.worst t o) →
       sum_of_gaps all.worst (λ gap. over gap most) ≡
-      sum_of_gaps rest.worst (λ gap. over gap most) + sum_below 40 (over_at team)
+      sum_of_gaps rest.worst (λ gap. over gap most) + sum_below max_teams (over_at team)
   gaps_without rest of_rest out others =
       pairs_with_one team over_at (λ t o. over (gap_at rest.worst t o) most) (λ t o. ap (λ n. over n most) (of_all.mirrored t o)) itself
       (λ o. nothing _ (out o)) (λ t. nothing _ (of_rest.mirrored t team ∙ out t))
-      (λ t o t_apart o_apart. ap (λ n. over n most) (others t o (rw (ne_eqb t team t_apart, ne_eqb o team o_apart) refl))) 40 in_table
+      (λ t o t_apart o_apart. ap (λ n. over n most) (others t o (rw (ne_eqb t team t_apart, ne_eqb o team o_apart) refl))) max_teams in_table
     where
       nothing : (gap : ℕ) → gap ≡ 0 → over gap most ≡ 0
       nothing gap none = omega (arith, none)
 
   -- the team's are a part of all
-  pub row_le : sum_below 40 (over_at team) ≤ sum_of_gaps all.worst (λ gap. over gap most)
+  pub row_le : sum_below max_teams (over_at team) ≤ sum_of_gaps all.worst (λ gap. over gap most)
   row_le =
       omega (
         arith,
@@ -150,7 +151,7 @@ module _ (all : Gaps) (team most : ℕ) (of_all : AreGaps all) (in_table : team 
             (λ t. cond-true {A = ℕ} (t == team || team == team) 0 (over_at t team) (rw (eq-eqb team team refl) (either (t == team))))
             (λ t o t_apart o_apart.
             cond-false {A = ℕ} (t == team || o == team) 0 (over_at t o) (rw (ne_eqb t team t_apart, ne_eqb o team o_apart) refl))
-            40 in_table,
+            max_teams in_table,
       )
     where
       rest : ℕ → ℕ → ℕ
@@ -163,9 +164,9 @@ module _ (all : Gaps) (team most : ℕ) (of_all : AreGaps all) (in_table : team 
 -- there is little over
 pub gaps_few : (gaps : Gaps) (most : ℕ) → AreGaps gaps → sum_of_gaps gaps.worst (λ gap. over gap most) ≤ 128000
 gaps_few gaps most of_gaps =
-    omega (arith, sum_of_pairs_le 40 80 (λ o t. over (gap_at gaps.worst t o) most) (λ o t lower below. omega (arith, of_gaps.small t o)))
+    omega (arith, sum_of_pairs_le max_teams 80 (λ o t. over (gap_at gaps.worst t o) most) (λ o t lower below. omega (arith, of_gaps.small t o)))
 
 -- nothing is over, if there are no teams
 pub no_gaps : (gaps : Gaps) (most : ℕ) → ((t o : ℕ) → gap_at gaps.worst t o ≡ 0) → sum_of_gaps gaps.worst (λ gap. over gap most) ≡ 0
 no_gaps gaps most none =
-    sum_below_zero 40 _ (λ t below. sum_below_zero t _ (λ o lower. omega (arith, none t o)))
+    sum_below_zero max_teams _ (λ t below. sum_below_zero t _ (λ o lower. omega (arith, none t o)))

@@ -2,6 +2,7 @@
 use Rattle.std.proofs.Common.{◌≡◌, ℕ, ◌+◌, ◌<◌, ◌≤◌, ◌&&◌, ◌==◌, not, Bool, true, false, if◌then◌else◌}
 use Rattle.std.proofs.Common.{List, get_or, refl, sym, ◌∙◌, ap, ap₂, inl, inr, arith}
 use Rattle.std.proofs.lemmas.Bool.{cases_lt, cond-false, false≢true}
+use Rattle.league.specs.Limits.{max_rounds, max_teams}
 use Rattle.league.specs.Sets.{has, IsBelow}
 use Rattle.league.specs.Sums.{sum_below, count_where}
 use Rattle.league.specs.declared.rule.RuleBody.TheVariants.{Fa2}
@@ -16,17 +17,17 @@ use Rattle.robinx.proofs.rows.GapWrites.{and_false}
 use Rattle.robinx.proofs.rows.HomeRows.{number_in, row_of_schedule, worst_gap_of_rows}
 
 -- two rows are less than a row's length apart
-pub apart_small : (rounds slots : ℕ) (home1 home2 : ℕ → Bool) (first second in_slots : List ℕ) → rounds ≤ 78 → IsBelow rounds slots →
+pub apart_small : (rounds slots : ℕ) (home1 home2 : ℕ → Bool) (first second in_slots : List ℕ) → rounds ≤ max_rounds → IsBelow rounds slots →
     ((r : ℕ) → get_or in_slots r 0 ≡ one_in slots r) → IsHomeRow in_slots home1 first → IsHomeRow in_slots home2 second →
     worst_apart first second < 80
 unfolding worst_apart
 apart_small rounds slots home1 home2 first second in_slots season below ones first_is second_is =
     omega (
       arith,
-      largest_below_le 80 78 (apart_in first second) (λ r in_row. omega (arith, le first home1 r first_is, le second home2 r second_is)),
+      largest_below_le 80 max_rounds (apart_in first second) (λ r in_row. omega (arith, le first home1 r first_is, le second home2 r second_is)),
     )
   where
-    le : (row : List ℕ) (home : ℕ → Bool) (r : ℕ) → IsHomeRow in_slots home row → get_or row r 0 ≤ 78
+    le : (row : List ℕ) (home : ℕ → Bool) (r : ℕ) → IsHomeRow in_slots home row → get_or row r 0 ≤ max_rounds
     le row home r is = elim (cases_lt r rounds) [
       | inl in_season ↦
           omega (
@@ -86,7 +87,7 @@ module _ (g : Games) (kept : GapTable) (teams slots most : ℕ) (rr : IsDoubleRo
   pub rule_told : sum_of_gaps kept.gaps.worst (λ gap. over gap most) ≡ deviation g (Fa2 teams slots most)
   unfolding deviation worst_gaps
   rule_told =
-      sum_below_past g.teams 40 (λ t. sum_below t (λ o. over (gap_at kept.gaps.worst t o) most)) rr.most
+      sum_below_past g.teams max_teams (λ t. sum_below t (λ o. over (gap_at kept.gaps.worst t o) most)) rr.most
       (λ t past below. sum_below_zero t _ (λ o lower. no_gap t o (ap (λ b. b && has kept.gaps.teams o) (out t past)))) ∙
       sum_below_same g.teams _ _ (λ t below. sum_below_same t _ _ (λ o lower. at t o lower below (has teams o) (has teams t) refl refl))
     where

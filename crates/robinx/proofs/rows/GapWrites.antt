@@ -5,6 +5,7 @@ use Rattle.std.proofs.Math.ListN.{set, replicate, get_or-eq_default}
 use Rattle.std.proofs.lemmas.Grind.{get_or-set_at}
 use Rattle.std.proofs.lemmas.List.{get_or-replicate, length-set}
 use Rattle.std.proofs.lemmas.Bool.{cases_eq, cases_lt, eq-eqb, ne_eqb, eqb-true, eqb-false, false≢true, and_parts, or_parts}
+use Rattle.league.specs.Limits.{max_teams}
 use Rattle.league.specs.Sets.{has, IsBelow}
 use Rattle.robinx.specs.Gaps.{AreGaps, gap_at}
 use Rattle.robinx.specs.Walked.{row_of}
@@ -27,14 +28,14 @@ without_one teams single empty rest team none one members t =
 
 -- a square table of so many rows
 pub record IsSquare (table : List (List ℕ)) : Type 0 where
-  pub rows : length table ≡ 40
-  pub columns : (t : ℕ) → t < 40 → length (row_of table t) ≡ 40
+  pub rows : length table ≡ max_teams
+  pub columns : (t : ℕ) → t < max_teams → length (row_of table t) ≡ max_teams
 
 -- one number of it is written
 abbrev pub written : List (List ℕ) → ℕ → ℕ → ℕ → List (List ℕ)
 written table row column number = set table row (set (get_or table row []) column number)
 
-module _ (table : List (List ℕ)) (row column number : ℕ) (square : IsSquare table) (in_rows : row < 40) (in_columns : column < 40) where
+module _ (table : List (List ℕ)) (row column number : ℕ) (square : IsSquare table) (in_rows : row < max_teams) (in_columns : column < max_teams) where
   row_written : get_or (written table row column number) row [] ≡ set (get_or table row []) column number
   row_written =
       get_or-set_at table row row (set (get_or table row []) column number) [] refl (omega (arith, in_rows, square.rows))
@@ -70,24 +71,24 @@ module _ (table : List (List ℕ)) (row column number : ℕ) (square : IsSquare 
 
 -- the gap of two teams is written in the rows of both
 module _ (gaps : Gaps) (first second gap row column row2 column2 : ℕ) (old : AreGaps gaps) (at_row : row ≡ first)
-    (at_column : column ≡ second) (at_row2 : row2 ≡ second) (at_column2 : column2 ≡ first) (in_first : first < 40)
-    (in_second : second < 40) (apart : first ≢ second) where
+    (at_column : column ≡ second) (at_row2 : row2 ≡ second) (at_column2 : column2 ≡ first) (in_first : first < max_teams)
+    (in_second : second < max_teams) (apart : first ≢ second) where
   abbrev once : List (List ℕ)
   once = written gaps.worst row column gap
 
   abbrev pub twice : List (List ℕ)
   twice = written once row2 column2 gap
 
-  in_row : row < 40
+  in_row : row < max_teams
   in_row = omega (arith, at_row, in_first)
 
-  in_column : column < 40
+  in_column : column < max_teams
   in_column = omega (arith, at_column, in_second)
 
-  in_row2 : row2 < 40
+  in_row2 : row2 < max_teams
   in_row2 = omega (arith, at_row2, in_second)
 
-  in_column2 : column2 < 40
+  in_column2 : column2 < max_teams
   in_column2 = omega (arith, at_column2, in_first)
 
   square : IsSquare gaps.worst
@@ -186,7 +187,7 @@ cleared_none table column square = record {
   others = λ t o other. refl;
 }
 
-pub cleared_more : (before table : List (List ℕ)) (column row : ℕ) → HasCleared before table column row → row < 40 → column < 40 →
+pub cleared_more : (before table : List (List ℕ)) (column row : ℕ) → HasCleared before table column row → row < max_teams → column < max_teams →
     HasCleared before (written table row column 0) column (row + 1)
 cleared_more before table column row so_far in_rows in_columns = record {
   square = written_square table row column 0 so_far.square in_rows in_columns;
@@ -204,14 +205,14 @@ cleared_more before table column row so_far in_rows in_columns = record {
 }
 
 -- past the last row there is nothing
-pub past_rows : (table : List (List ℕ)) (t o : ℕ) → length table ≡ 40 → 40 ≤ t → gap_at table t o ≡ 0
+pub past_rows : (table : List (List ℕ)) (t o : ℕ) → length table ≡ max_teams → max_teams ≤ t → gap_at table t o ≡ 0
 past_rows table t o len past =
     ap (λ (r : List ℕ). get_or r o 0) (get_or-eq_default {A = List ℕ} table [] (omega (arith, len, past)))
 
 -- a team's row is cleared
-module _ (gaps : Gaps) (team row : ℕ) (old : AreGaps gaps) (at : row ≡ team) (in_table : team < 40) where
+module _ (gaps : Gaps) (team row : ℕ) (old : AreGaps gaps) (at : row ≡ team) (in_table : team < max_teams) where
   abbrev pub without_row : List (List ℕ)
-  without_row = set gaps.worst row (replicate 40 0)
+  without_row = set gaps.worst row (replicate max_teams 0)
 
   pub without_row_square : IsSquare without_row
   without_row_square = record {
@@ -219,24 +220,24 @@ module _ (gaps : Gaps) (team row : ℕ) (old : AreGaps gaps) (at : row ≡ team)
     columns = λ t below. elim (cases_eq t row) [
       | inl same ↦
           ap (λ (r : List ℕ). length r)
-          (get_or-set_at gaps.worst row t (replicate 40 0) [] same (omega (arith, at, in_table, old.rows)))
-      | inr apart ↦ ap (λ (r : List ℕ). length r) (get_or-set_other gaps.worst row t (replicate 40 0) [] apart) ∙ old.columns t below
+          (get_or-set_at gaps.worst row t (replicate max_teams 0) [] same (omega (arith, at, in_table, old.rows)))
+      | inr apart ↦ ap (λ (r : List ℕ). length r) (get_or-set_other gaps.worst row t (replicate max_teams 0) [] apart) ∙ old.columns t below
     ];
   }
 
   row_cleared : (o : ℕ) → gap_at without_row team o ≡ 0
   row_cleared o =
       ap (λ (r : List ℕ). get_or r o 0)
-      (get_or-set_at gaps.worst row team (replicate 40 0) [] (sym at) (omega (arith, at, in_table, old.rows))) ∙
-      elim (cases_lt o 40) [
-        | inl below ↦ get_or-replicate 40 o 0 0 below
-        | inr past ↦ get_or-eq_default (replicate 40 0) 0 past
+      (get_or-set_at gaps.worst row team (replicate max_teams 0) [] (sym at) (omega (arith, at, in_table, old.rows))) ∙
+      elim (cases_lt o max_teams) [
+        | inl below ↦ get_or-replicate max_teams o 0 0 below
+        | inr past ↦ get_or-eq_default (replicate max_teams 0) 0 past
       ]
 
   other_rows : (t o : ℕ) → (t == team) ≡ false → gap_at without_row t o ≡ gap_at gaps.worst t o
   other_rows t o other =
       let apart : t ≢ row = omega (arith, at, eqb-false t team other) in
-      ap (λ (r : List ℕ). get_or r o 0) (get_or-set_other gaps.worst row t (replicate 40 0) [] apart)
+      ap (λ (r : List ℕ). get_or r o 0) (get_or-set_other gaps.worst row t (replicate max_teams 0) [] apart)
 
   -- and its column: it is out
   module _ (teams column : ℕ) (table : List (List ℕ)) (at_column : column ≡ team) (square : IsSquare table)
@@ -265,7 +266,7 @@ module _ (gaps : Gaps) (team row : ℕ) (old : AreGaps gaps) (at : row ≡ team)
         by false true is_a is_b = let here : o ≡ team = eqb-true o team is_b in inl (rw here (column_clear t, row_clear t))
         by false false is_a is_b = inr (rw (is_a, is_b) refl)
 
-    pub taken_out : IsBelow 40 teams → AreGaps (record { teams = teams; worst = table })
+    pub taken_out : IsBelow max_teams teams → AreGaps (record { teams = teams; worst = table })
     taken_out below = record {
       below = below;
       rows = square.rows;
@@ -298,21 +299,21 @@ module _ (gaps : Gaps) (team row : ℕ) (old : AreGaps gaps) (at : row ≡ team)
             and_true false = refl
 
 -- the gaps of no teams
-gap_of_none : (t o : ℕ) → gap_at (replicate 40 (replicate 40 0)) t o ≡ 0
-gap_of_none t o = elim (cases_lt t 40) [
-  | inr past ↦ past_rows (replicate 40 (replicate 40 0)) t o refl past
+gap_of_none : (t o : ℕ) → gap_at (replicate max_teams (replicate max_teams 0)) t o ≡ 0
+gap_of_none t o = elim (cases_lt t max_teams) [
+  | inr past ↦ past_rows (replicate max_teams (replicate max_teams 0)) t o refl past
   | inl below ↦
-      ap (λ (r : List ℕ). get_or r o 0) (get_or-replicate 40 t (replicate 40 0) [] below) ∙ elim (cases_lt o 40) [
-        | inl o_below ↦ get_or-replicate 40 o 0 0 o_below
-        | inr past ↦ get_or-eq_default (replicate 40 0) 0 past
+      ap (λ (r : List ℕ). get_or r o 0) (get_or-replicate max_teams t (replicate max_teams 0) [] below) ∙ elim (cases_lt o max_teams) [
+        | inl o_below ↦ get_or-replicate max_teams o 0 0 o_below
+        | inr past ↦ get_or-eq_default (replicate max_teams 0) 0 past
       ]
 ]
 
-pub no_teams : (teams : ℕ) → teams ≡ 0 → AreGaps (record { teams = teams; worst = replicate 40 (replicate 40 0) })
+pub no_teams : (teams : ℕ) → teams ≡ 0 → AreGaps (record { teams = teams; worst = replicate max_teams (replicate max_teams 0) })
 no_teams teams none = record {
   below = omega (arith, none);
   rows = refl;
-  columns = λ t below. ap (λ (r : List ℕ). length r) (get_or-replicate 40 t (replicate 40 0) [] below);
+  columns = λ t below. ap (λ (r : List ℕ). length r) (get_or-replicate max_teams t (replicate max_teams 0) [] below);
   small = λ t o. omega (arith, gap_of_none t o);
   mirrored = λ t o. gap_of_none t o ∙ sym (gap_of_none o t);
   none = λ t o out. gap_of_none t o;

@@ -4,6 +4,7 @@ use Rattle.std.proofs.Common.{List, length, get_or, refl, sym, ◌∙◌, ap, in
 use Rattle.std.proofs.Math.ListN.{get_or-eq_default}
 use Rattle.std.proofs.Math.Nat.{mul-le-mul_right}
 use Rattle.std.proofs.lemmas.Bool.{cases_eq, cases_lt, cond-true, cond-false, eq-eqb, ne_eqb, lt-ltb, le-ltb}
+use Rattle.league.specs.Limits.{max_rounds}
 use Rattle.league.specs.Sets.{has, IsBelow, IsWithoutLowest}
 use Rattle.league.specs.Sums.{count_where}
 use Rattle.league.proofs.ForCallers.{count_where_le, count_where_same, has_beyond, has_empty, others_kept, lowest_gone}
@@ -127,10 +128,10 @@ row_small in_slots row home ones is r = elim (cases_lt r 80) [
 
 -- a loop over the rounds that changed has turned those that aren't left
 pub record HasTurned (in_slots row : List ℕ) (homes left : ℕ) : Type 0 where
-  pub below : IsBelow 78 left
+  pub below : IsBelow max_rounds left
   pub is : IsHomeRow in_slots (is_home_with homes left) row
 
-pub turned_none : (in_slots row : List ℕ) (homes changed left : ℕ) → IsBelow 78 changed → left ≡ changed →
+pub turned_none : (in_slots row : List ℕ) (homes changed left : ℕ) → IsBelow max_rounds changed → left ≡ changed →
     IsHomeRow in_slots (is_home_with homes changed) row → HasTurned in_slots row homes left
 turned_none in_slots row homes changed left below whole is = rw whole (record { below = below; is = is })
 
@@ -152,7 +153,7 @@ module _ (in_slots row : List ℕ) (homes left lowest rest : ℕ) (so_far : HasT
   elsewhere k apart =
       ap (λ (b : Bool). if b then not (has homes k) else has homes k) (others_kept left lowest rest k taken apart)
 
-  below_still : IsBelow 78 rest
+  below_still : IsBelow max_rounds rest
   below_still = omega (arith, so_far.below, taken.fewer)
 
   pub turned_home : (new : List ℕ) → has homes lowest ≡ true → length new ≡ 80 →
@@ -212,7 +213,7 @@ row_of_schedule g t home slots in_slots row ones of_slots same is = record {
     nothing : (a b : ℕ) → 0 * a ≡ 0 * b
     nothing a b = omega arith
 
-module _ (g : Games) (most i j slots : ℕ) (first second in_slots : List ℕ) (season : round_count g.teams ≤ 78)
+module _ (g : Games) (most i j slots : ℕ) (first second in_slots : List ℕ) (season : round_count g.teams ≤ max_rounds)
     (of_slots : IsBelow (round_count g.teams) slots) (first_is : IsHomeRow in_slots (is_home g i) first)
     (second_is : IsHomeRow in_slots (is_home g j) second) (ones : (r : ℕ) → get_or in_slots r 0 ≡ one_in slots r) where
   in_season : (r : ℕ) → (if has slots r then gap g most i j r else 0) ≡ over (apart_in first second r) most

@@ -6,6 +6,7 @@ use Rattle.std.proofs.lemmas.Grind.{get_or-set_at, get_or_default_zero}
 use Rattle.std.proofs.lemmas.List.{length-set, get_or-replicate}
 use Rattle.std.proofs.Math.Bool.{or-true}
 use Rattle.std.proofs.lemmas.Bool.{cases_eq, eq-eqb, ne_eqb, lt-ltb, and_parts, and_from, false≢true}
+use Rattle.league.specs.Limits.{max_rounds}
 use Rattle.league.specs.Sets.{has, IsBelow, IsWithoutLowest}
 use Rattle.league.specs.Sums.{sum_where, count_where, any_below}
 use Rattle.league.specs.declared.rule.Side.{Side}
@@ -41,7 +42,7 @@ opponents_game g rr t r in_t in_r = by_home (cell g t r).opponent (cell g t r).h
 
 -- a loop over rounds has added in each the team whose game against the opponent counts
 pub record HasAdded (g : Games) (side : Side) (opponents opponent from next : ℕ) (old rows : List ℕ) : Type 0 where
-  pub len : length rows ≡ 78
+  pub len : length rows ≡ max_rounds
   pub counted : HaveCounted g side opponents rows
   pub kept : (t r : ℕ) → has (get_or old r 0) t ≡ true → has (get_or rows r 0) t ≡ true
   pub added : (r : ℕ) → from ≤ r → r < next → is_on_side side (not (cell g opponent r).home) ≡ true →
@@ -117,7 +118,7 @@ module _ (g : Games) (rr : IsDoubleRoundRobin g) (side : Side) (opponents oppone
 pub record HasAddedAll (g : Games) (side : Side) (opponents all left from past : ℕ) (old rows : List ℕ) : Type 0 where
   pub below : IsBelow g.teams left
   pub within : (k : ℕ) → has left k ≡ true → has all k ≡ true
-  pub len : length rows ≡ 78
+  pub len : length rows ≡ max_rounds
   pub counted : HaveCounted g side opponents rows
   pub kept : (t r : ℕ) → has (get_or old r 0) t ≡ true → has (get_or rows r 0) t ≡ true
   pub added : (t r : ℕ) → t < g.teams → from ≤ r → r < past → is_counted g side (has opponents) t r ≡ true →
@@ -125,7 +126,7 @@ pub record HasAddedAll (g : Games) (side : Side) (opponents all left from past :
 
 pub all_added_none : (g : Games) (side : Side) (opponents whole all left from past : ℕ) (rows : List ℕ) → IsDoubleRoundRobin g →
     past ≤ round_count g.teams → IsBelow g.teams left → left ≡ all → ((k : ℕ) → has whole k ≡ nat_lt k g.teams) →
-    ((k : ℕ) → has all k ≡ (has whole k && has opponents k)) → length rows ≡ 78 → HaveCounted g side opponents rows →
+    ((k : ℕ) → has all k ≡ (has whole k && has opponents k)) → length rows ≡ max_rounds → HaveCounted g side opponents rows →
     HasAddedAll g side opponents all left from past rows rows
 unfolding is_counted
 all_added_none g side opponents whole all left from past rows rr in_season below same wholes are len counted = record {
@@ -143,7 +144,7 @@ all_added_none g side opponents whole all left from past rows rr in_season below
 
 pub all_added_more : (g : Games) (rr : IsDoubleRoundRobin g) (side : Side) (opponents all left lowest rest from past : ℕ)
     (old rows new : List ℕ) → past ≤ round_count g.teams → HasAddedAll g side opponents all left from past old rows →
-    IsWithoutLowest left lowest rest → length new ≡ 78 → HaveCounted g side opponents new →
+    IsWithoutLowest left lowest rest → length new ≡ max_rounds → HaveCounted g side opponents new →
     ((t r : ℕ) → has (get_or rows r 0) t ≡ true → has (get_or new r 0) t ≡ true) →
     ((r : ℕ) → from ≤ r → r < past → is_on_side side (not (cell g lowest r).home) ≡ true →
     has (get_or new r 0) (cell g lowest r).opponent ≡ true) → HasAddedAll g side opponents all rest from past old new
@@ -176,19 +177,19 @@ all_added_more g rr side opponents all left lowest rest from past old rows new i
 -- a loop over rounds has added the teams that count in the rounds less than a window away from those that aren't left
 pub record HasAddedNear (g : Games) (side : Side) (opponents all left window : ℕ) (rows : List ℕ) : Type 0 where
   pub below : IsBelow (round_count g.teams) left
-  pub len : length rows ≡ 78
+  pub len : length rows ≡ max_rounds
   pub counted : HaveCounted g side opponents rows
   pub added : (t r c : ℕ) → t < g.teams → r < round_count g.teams → has all c ≡ true → has left c ≡ false → r < c + window →
       c < r + window → is_counted g side (has opponents) t r ≡ true → has (get_or rows r 0) t ≡ true
 
 -- rows that have no team yet
 pub none_counted : (g : Games) (side : Side) (opponents none : ℕ) → IsDoubleRoundRobin g → ((t : ℕ) → has none t ≡ false) →
-    HaveCounted g side opponents (replicate 78 none)
+    HaveCounted g side opponents (replicate max_rounds none)
 none_counted g side opponents none rr empty = λ t r in_r here.
-    absurd (false≢true (sym (empty t) ∙ sym (ap (λ s. has s t) (get_or-replicate 78 r none 0 (omega (arith, in_r, rr.most)))) ∙ here))
+    absurd (false≢true (sym (empty t) ∙ sym (ap (λ s. has s t) (get_or-replicate max_rounds r none 0 (omega (arith, in_r, rr.most)))) ∙ here))
 
 pub near_added_none : (g : Games) (side : Side) (opponents all left window : ℕ) (rows : List ℕ) → IsBelow (round_count g.teams) left →
-    left ≡ all → length rows ≡ 78 → HaveCounted g side opponents rows → HasAddedNear g side opponents all left window rows
+    left ≡ all → length rows ≡ max_rounds → HaveCounted g side opponents rows → HasAddedNear g side opponents all left window rows
 near_added_none g side opponents all left window rows below same len counted = record {
   below = below;
   len = len;
@@ -197,7 +198,7 @@ near_added_none g side opponents all left window rows below same len counted = r
 }
 
 pub near_added_more : (g : Games) (side : Side) (opponents all left lowest rest window from past : ℕ) (rows new : List ℕ) →
-    HasAddedNear g side opponents all left window rows → IsWithoutLowest left lowest rest → length new ≡ 78 →
+    HasAddedNear g side opponents all left window rows → IsWithoutLowest left lowest rest → length new ≡ max_rounds →
     HaveCounted g side opponents new → ((t r : ℕ) → has (get_or rows r 0) t ≡ true → has (get_or new r 0) t ≡ true) →
     ((t r : ℕ) → t < g.teams → from ≤ r → r < past → is_counted g side (has opponents) t r ≡ true → has (get_or new r 0) t ≡ true) →
     ((r : ℕ) → lowest < r + window → from ≤ r) → ((r : ℕ) → r < round_count g.teams → r < lowest + window → r < past) →

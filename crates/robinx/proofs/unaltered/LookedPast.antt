@@ -2,6 +2,7 @@
 use Rattle.std.proofs.Common.{◌≡◌, ℕ, ◌+◌, ◌-◌, ◌<◌, ◌&&◌, ◌||◌, not, Bool, true, false, List, [], ◌∷◌, inl, inr, refl, sym, ◌∙◌, ap, arith}
 use Rattle.std.specs.List.{AllByRecursion, list_any}
 use Rattle.std.proofs.lemmas.Bool.{false≢true, and_cases, and_parts, or_cases, or_parts, not-true}
+use Rattle.league.specs.Limits.{max_teams}
 use Rattle.league.specs.Sets.{has}
 use Rattle.league.specs.Sums.{any_below}
 use Rattle.league.specs.Games.{IsGameFor}
@@ -24,10 +25,10 @@ use Rattle.robinx.proofs.unaltered.SeesSame.{breaks_of_each-same, breaks_of_all-
 module _ (g g' : Games) (rr : IsDoubleRoundRobin g) (rr' : IsDoubleRoundRobin g') (main rounds : ℕ → Bool)
     (differs : DiffersOnlyAround g g' main rounds) where
   -- each team is one of 40
-  forty : (t : ℕ) → t < g.teams → t < 40
+  forty : (t : ℕ) → t < g.teams → t < max_teams
   forty t in_t = omega (arith, rr.most)
 
-  opponent_below' : (t r : ℕ) → t < g.teams → r < round_count g.teams → (cell g' t r).opponent < 40
+  opponent_below' : (t r : ℕ) → t < g.teams → r < round_count g.teams → (cell g' t r).opponent < max_teams
   opponent_below' t r in_t in_r =
       let in_t' : t < g'.teams = rw differs.same_size in_t in
       let in_r' : r < round_count g'.teams = rw differs.same_size in_r in
@@ -122,10 +123,10 @@ looked_past_deviation g g' main rounds (Fa2 teams slots most) rr rr' is differs 
 -- the test
 
 -- no number of the set passes
-none_passes : (set : ℕ) (test : ℕ → Bool) → any_below 40 (λ t. has set t && test t) ≡ false → (t : ℕ) → t < 40 → has set t ≡ true →
+none_passes : (set : ℕ) (test : ℕ → Bool) → any_below max_teams (λ t. has set t && test t) ≡ false → (t : ℕ) → t < max_teams → has set t ≡ true →
     test t ≡ false
 none_passes set test none t below is =
-    other_fails (has set t) (test t) (any_below_fails 40 (λ t. has set t && test t) none t below) is
+    other_fails (has set t) (test t) (any_below_fails max_teams (λ t. has set t && test t) none t below) is
   where
     other_fails : (p q : Bool) → (p && q) ≡ false → p ≡ true → q ≡ false
     other_fails p q fails passes = elim (and_cases p q fails) [

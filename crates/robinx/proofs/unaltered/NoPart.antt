@@ -4,6 +4,7 @@ use Rattle.std.proofs.Common.{◌∙◌, ap, arith}
 use Rattle.std.specs.List.{AllByRecursion, list_any}
 use Rattle.std.proofs.lemmas.Bool.{cases_lt, cond-false, false≢true, false_from_ne_true, and_cases, and_parts, and_left, and_right, or_from}
 use Rattle.std.proofs.lemmas.Bool.{or_parts, not-true}
+use Rattle.league.specs.Limits.{max_teams}
 use Rattle.league.specs.Sets.{has, all_numbers}
 use Rattle.league.specs.Games.{IsGameFor}
 use Rattle.league.specs.RuleLimits.{IsBodyFor}
@@ -44,7 +45,7 @@ module _ (g : Games) (rr : IsDoubleRoundRobin g) (main rounds sides : ℕ) where
   none_of_all : (teams : ℕ) (test : ℕ → Bool) → teams < 2 ^ g.teams → NonePasses teams test → has_touched_team teams test ≡ false
   unfolding has_touched_team
   none_of_all teams test below none =
-      any_below_from_none 40 (λ t. has teams t && test t)
+      any_below_from_none max_teams (λ t. has teams t && test t)
       (λ t in_t. not_both (has teams t) (test t) (λ is. elim (cases_lt t g.teams) [
         | inl lt ↦ none t lt is
         | inr past ↦ absurd (false≢true (sym (has_beyond g.teams teams t below past) ∙ is))
@@ -144,7 +145,7 @@ module _ (g : Games) (rr : IsDoubleRoundRobin g) (main rounds sides : ℕ) where
       untouched : (teams : ℕ) → has_touched_team teams touched ≡ false → NonePasses teams touched
       unfolding has_touched_team
       untouched teams none t in_t is =
-          elim (and_cases (has teams t) (touched t) (any_below_fails 40 (λ t. has teams t && touched t) none t (omega (arith, rr.most)))) [
+          elim (and_cases (has teams t) (touched t) (any_below_fails max_teams (λ t. has teams t && touched t) none t (omega (arith, rr.most)))) [
             | inl out ↦ absurd (false≢true (sym out ∙ is))
             | inr out ↦ out
           ]

@@ -3,6 +3,7 @@
 use Rattle.std.proofs.Common.{◌≡◌, ℕ, ◌+◌, ◌<◌, ◌&&◌, not, Bool, true, false, List, [], ◌∷◌, inl, inr, refl, sym, ◌∙◌, ap, arith}
 use Rattle.std.specs.List.{AllByRecursion}
 use Rattle.std.proofs.lemmas.Bool.{and_cases, and_right, false≢true, false_from_ne_true, not-false, not-true}
+use Rattle.league.specs.Limits.{max_rounds}
 use Rattle.league.specs.Sets.{has}
 use Rattle.league.specs.Sums.{count_where}
 use Rattle.league.specs.Games.{IsGameFor}
@@ -58,7 +59,7 @@ module _ (g g' : Games) (rr : IsDoubleRoundRobin g) (rr' : IsDoubleRoundRobin g'
     unfolding lacks_one
     slot_of r in_r is =
         not-false _ (other_fails (rounds r) (not (has slots r))
-        (any_below_fails 78 (λ r. rounds r && not (has slots r)) whole r (omega (arith, rr.most))) is)
+        (any_below_fails max_rounds (λ r. rounds r && not (has slots r)) whole r (omega (arith, rr.most))) is)
 
     games_of_team-whole : (side : Side) (opponents : ℕ → Bool) (t : ℕ) → t < g.teams →
         games_of_team g' side opponents (has slots) t ≡ games_of_team g side opponents (has slots) t

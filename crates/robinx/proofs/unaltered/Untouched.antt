@@ -3,6 +3,7 @@ use Rattle.std.proofs.Common.{◌≡◌, ℕ, ◌-◌, ◌<◌, ◌+◌, ◌&&�
 use Rattle.std.proofs.Common.{ap, arith}
 use Rattle.std.specs.List.{AllByRecursion, list_any}
 use Rattle.std.proofs.lemmas.Bool.{and_cases, and_left, and_right, or_parts, cases_eq, ne_eqb, false≢true}
+use Rattle.league.specs.Limits.{max_rounds, max_teams}
 use Rattle.league.specs.Sets.{has}
 use Rattle.league.specs.Sums.{any_below}
 use Rattle.league.specs.Games.{IsGameFor}
@@ -42,7 +43,7 @@ module _ (g g' : Games) (rr : IsDoubleRoundRobin g) (in_teams in_rounds : ℕ �
   unfolding has_touched_team has_touched_slot
   stays_in_slots teams slots untouched t r in_t in_r team slot =
       differs.same_cells t r in_t in_r
-      (not_both 40 78 (has teams) in_teams (has slots) in_rounds untouched t r (omega (arith, rr.most)) (omega (arith, rr.most)) team slot)
+      (not_both max_teams max_rounds (has teams) in_teams (has slots) in_rounds untouched t r (omega (arith, rr.most)) (omega (arith, rr.most)) team slot)
 
   SeesSame-slots : (teams slots : ℕ) (opponents : ℕ → Bool) →
       (has_touched_team teams in_teams && has_touched_slot slots in_rounds) ≡ false →
@@ -60,7 +61,7 @@ module _ (g g' : Games) (rr : IsDoubleRoundRobin g) (in_teams in_rounds : ℕ �
   unfolding has_touched_team has_touched_round
   stays teams untouched t r in_t in_r team =
       differs.same_cells t r in_t in_r
-      (not_both 40 78 (has teams) in_teams (λ _. true) in_rounds untouched t r (omega (arith, rr.most)) (omega (arith, rr.most)) team refl)
+      (not_both max_teams max_rounds (has teams) in_teams (λ _. true) in_rounds untouched t r (omega (arith, rr.most)) (omega (arith, rr.most)) team refl)
 
   SeesSame-rounds : (teams : ℕ) (opponents : ℕ → Bool) → (has_touched_team teams in_teams && has_touched_round in_rounds) ≡ false →
       SeesSame g g' (has teams) (λ _. true) opponents
@@ -77,7 +78,7 @@ module _ (g g' : Games) (rr : IsDoubleRoundRobin g) (in_teams in_rounds : ℕ �
   unfolding has_touched_team has_touched_slot
   stays_around teams slots untouched t r in_t in_r team slot =
       let neither : (in_teams t && (in_rounds r || (not (r == 0) && in_rounds (r - 1)))) ≡ false =
-      not_both 40 78 (has teams) in_teams (has slots) (or_before in_rounds) untouched t r (omega (arith, rr.most))
+      not_both max_teams max_rounds (has teams) in_teams (has slots) (or_before in_rounds) untouched t r (omega (arith, rr.most))
       (omega (arith, rr.most)) team slot in (
         differs.same_cells t r in_t in_r (here (in_teams t) (in_rounds r) _ neither),
         differs.same_cells t (r - 1) in_t (omega arith) (before r neither),
@@ -120,7 +121,7 @@ module _ (g g' : Games) (rr : IsDoubleRoundRobin g) (in_teams in_rounds : ℕ �
     same_size = differs.same_size;
     side = λ t r k in_t in_r team slot until.
         ap (λ (c : Cell). c.home) (differs.same_cells t k in_t (omega arith) (one_fails t r k until
-        (not_both 40 78 (has teams) in_teams (has slots) (λ r. any_below (r + 1) in_rounds) untouched t r (omega (arith, rr.most))
+        (not_both max_teams max_rounds (has teams) in_teams (has slots) (λ r. any_below (r + 1) in_rounds) untouched t r (omega (arith, rr.most))
         (omega (arith, rr.most)) team slot)));
   }
     where
@@ -172,13 +173,13 @@ module _ (g g' : Games) (rr : IsDoubleRoundRobin g) (in_teams in_rounds : ℕ �
     | inr none ↦ by_tests none (has slots (round_of g game.home game.away)) refl (has slots (round_of g' game.home game.away)) refl
   ]
     where
-      slot_kept : any_below 78 (λ r. has slots r && in_rounds r) ≡ false → (r : ℕ) → r < round_count g.teams → has slots r ≡ true →
+      slot_kept : any_below max_rounds (λ r. has slots r && in_rounds r) ≡ false → (r : ℕ) → r < round_count g.teams → has slots r ≡ true →
           in_rounds r ≡ false
       slot_kept none r below slot =
-          other_fails (has slots r) (in_rounds r) (any_below_fails 78 (λ r. has slots r && in_rounds r) none r (omega (arith, rr.most)))
+          other_fails (has slots r) (in_rounds r) (any_below_fails max_rounds (λ r. has slots r && in_rounds r) none r (omega (arith, rr.most)))
           slot
 
-      by_tests : any_below 78 (λ r. has slots r && in_rounds r) ≡ false → (b : Bool) → has slots (round_of g game.home game.away) ≡ b →
+      by_tests : any_below max_rounds (λ r. has slots r && in_rounds r) ≡ false → (b : Bool) → has slots (round_of g game.home game.away) ≡ b →
           (c : Bool) → has slots (round_of g' game.home game.away) ≡ c → c ≡ b
       by_tests none true slot c slot' =
           sym slot' ∙ ap (has slots) (game_stays rr' game is (and_right _ _ (slot_kept none _ (in_season game is) slot))) ∙ slot

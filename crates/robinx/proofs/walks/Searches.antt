@@ -5,6 +5,7 @@ use Rattle.std.specs.List.{slice_get, list_any}
 use Rattle.std.proofs.lemmas.Bool.{cases_eq, and_from, or_from, cases_lt, lt-ltb, le-ltb, and_right, false≢true, and_parts}
 use Rattle.std.proofs.lemmas.List.Folds.{list_any_more, list_any_at}
 use Rattle.std.proofs.lemmas.Option.{slice_get_within, get_or_from_slice_get}
+use Rattle.league.specs.Limits.{max_rounds}
 use Rattle.league.specs.Sets.{has, IsBelow, IsWithoutLowest}
 use Rattle.league.specs.Sums.{any_below}
 use Rattle.league.proofs.ForCallers.{any_below_found, any_below_from_none, any_below_same, lowest_below, has_empty, others_kept}
@@ -51,21 +52,21 @@ found_none n set left test so_far none_left =
     at k false is = refl
 
 -- one of all rounds
-pub touched_round : (all : ℕ) (touched : ℕ → Bool) → ((r : ℕ) → has all r ≡ nat_lt r 78) →
-    any_below 78 (λ r. has all r && touched r) ≡ has_touched_round touched
+pub touched_round : (all : ℕ) (touched : ℕ → Bool) → ((r : ℕ) → has all r ≡ nat_lt r max_rounds) →
+    any_below max_rounds (λ r. has all r && touched r) ≡ has_touched_round touched
 unfolding has_touched_round
 touched_round all touched members =
-    any_below_same 78 (λ r. has all r && touched r) touched
-    (λ r below. ap (λ (b : Bool). b && touched r) (members r ∙ lt-ltb r 78 below))
+    any_below_same max_rounds (λ r. has all r && touched r) touched
+    (λ r below. ap (λ (b : Bool). b && touched r) (members r ∙ lt-ltb r max_rounds below))
 
 -- one of the slots or of the rounds before them
 pub touched_break : (slots around : ℕ) (touched : ℕ → Bool) →
-    ((r : ℕ) → has around r ≡ (nat_lt r 78 && (touched r || (not (r == 0) && touched (r - 1))))) →
-    any_below 78 (λ r. has slots r && has around r) ≡ any_below 78 (λ r. has slots r && or_before touched r)
+    ((r : ℕ) → has around r ≡ (nat_lt r max_rounds && (touched r || (not (r == 0) && touched (r - 1))))) →
+    any_below max_rounds (λ r. has slots r && has around r) ≡ any_below max_rounds (λ r. has slots r && or_before touched r)
 touched_break slots around touched members =
-    any_below_same 78 (λ r. has slots r && has around r) (λ r. has slots r && or_before touched r)
+    any_below_same max_rounds (λ r. has slots r && has around r) (λ r. has slots r && or_before touched r)
     (λ r below. ap (λ (b : Bool). has slots r && b)
-    (members r ∙ ap (λ (b : Bool). b && (touched r || (not (r == 0) && touched (r - 1)))) (lt-ltb r 78 below)))
+    (members r ∙ ap (λ (b : Bool). b && (touched r || (not (r == 0) && touched (r - 1)))) (lt-ltb r max_rounds below)))
 
 pub and_again : (a b : Bool) → ((a && b) && a) ≡ (a && b)
 and_again true true = refl
@@ -74,20 +75,20 @@ and_again false b = refl
 
 -- one that isn't a slot
 pub touched_lacked : (slots lacked : ℕ) (touched : ℕ → Bool) → ((r : ℕ) → has lacked r ≡ (touched r && not (has slots r))) →
-    any_below 78 (λ r. has lacked r && touched r) ≡ lacks_one slots touched
+    any_below max_rounds (λ r. has lacked r && touched r) ≡ lacks_one slots touched
 unfolding lacks_one
 touched_lacked slots lacked touched members =
-    any_below_same 78 (λ r. has lacked r && touched r) (λ r. touched r && not (has slots r))
+    any_below_same max_rounds (λ r. has lacked r && touched r) (λ r. touched r && not (has slots r))
     (λ r below. ap (λ (b : Bool). b && touched r) (members r) ∙ and_again (touched r) (not (has slots r)))
 
 -- a round up to one of the slots, where the first is the lowest touched one
 pub touched_until : (slots touched first rest from : ℕ) → IsWithoutLowest touched first rest →
-    ((r : ℕ) → has from r ≡ (nat_lt r 78 && not (nat_lt r first))) →
-    any_below 78 (λ r. has from r && has slots r) ≡ has_touched_until slots (has touched)
+    ((r : ℕ) → has from r ≡ (nat_lt r max_rounds && not (nat_lt r first))) →
+    any_below max_rounds (λ r. has from r && has slots r) ≡ has_touched_until slots (has touched)
 unfolding has_touched_until
 touched_until slots touched first rest from taken members =
-    any_below_same 78 (λ r. has from r && has slots r) (λ r. has slots r && any_below (r + 1) (has touched))
-    (λ r below. ap (λ (b : Bool). b && has slots r) (members r ∙ ap (λ (b : Bool). b && not (nat_lt r first)) (lt-ltb r 78 below) ∙
+    any_below_same max_rounds (λ r. has from r && has slots r) (λ r. has slots r && any_below (r + 1) (has touched))
+    (λ r below. ap (λ (b : Bool). b && has slots r) (members r ∙ ap (λ (b : Bool). b && not (nat_lt r first)) (lt-ltb r max_rounds below) ∙
     since r) ∙
     exchanged (any_below (r + 1) (has touched)) (has slots r))
   where
@@ -110,7 +111,7 @@ touched_until slots touched first rest from taken members =
 pub untouched_until : (slots touched : ℕ) → touched ≡ 0 → has_touched_until slots (has touched) ≡ false
 unfolding has_touched_until
 untouched_until slots touched none =
-    any_below_from_none 78 (λ r. has slots r && any_below (r + 1) (has touched))
+    any_below_from_none max_rounds (λ r. has slots r && any_below (r + 1) (has touched))
     (λ r below. and_right (has slots r) (any_below (r + 1) (has touched))
     (any_below_from_none (r + 1) (has touched) (λ k k_below. ap (λ s. has s k) none ∙ has_empty k)))
 

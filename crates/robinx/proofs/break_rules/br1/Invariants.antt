@@ -1,3 +1,4 @@
+use Rattle.league.specs.Limits.{max_rounds}
 use Rattle.league.specs.Sets.{has}
 use Rattle.league.proofs.ForCallers.{IsSumWithout}
 use Rattle.robinx.specs.Deviations.{over, breaks}
@@ -5,5 +6,5 @@ use Rattle.robinx.proofs.break_rules.br1.Given as goal
 
 abbrev pub invariant-loop-team : goal.invariant-loop-team
 invariant-loop-team l =
-    IsSumWithout l.schedule.teams l.fn.teams l.team-iterator l.total 78
+    IsSumWithout l.schedule.teams l.fn.teams l.team-iterator l.total max_rounds
     (λ t. over (breaks l.schedule t (has l.fn.slots) l.side) l.most)

@@ -1,3 +1,4 @@
+use Rattle.league.specs.Limits.{max_rounds}
 use Rattle.league.specs.Sets.{has}
 use Rattle.league.specs.declared.rule.Side.TheVariants.{Any}
 use Rattle.league.proofs.ForCallers.{IsSumWithout}
@@ -6,5 +7,5 @@ use Rattle.robinx.proofs.break_rules.breaks_together.Given as goal
 
 abbrev pub invariant-loop-team : goal.invariant-loop-team
 invariant-loop-team l =
-    IsSumWithout l.schedule.teams l.fn.teams l.team-iterator l.count 78
+    IsSumWithout l.schedule.teams l.fn.teams l.team-iterator l.count max_rounds
     (λ t. breaks l.schedule t (has l.fn.slots) Any)

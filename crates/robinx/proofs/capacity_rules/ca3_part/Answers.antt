@@ -1,6 +1,7 @@
 use Rattle.std.proofs.Common.{ℕ, ◌+◌, ◌-◌, ◌^◌, ◌≤◌, get_or, refl, sym, ◌∙◌, ap, subst, arith}
 use Rattle.std.proofs.Math.Pow.{pow_mono}
 use Rattle.std.proofs.lemmas.Bool.{and_parts}
+use Rattle.league.specs.Limits.{max_teams}
 use Rattle.league.specs.Sets.{has, IsBelow}
 use Rattle.league.specs.Sums.{count_where}
 use Rattle.league.proofs.ForCallers.{sum_where_same}
@@ -12,7 +13,7 @@ use Rattle.robinx.proofs.capacity_rules.ca3_part.Goals as goal
 
 pub over_in_rows-requires-clause-teams : goal.over_in_rows-requires-clause-teams
 over_in_rows-requires-clause-teams c =
-    let grows : 2 ^ c.args.schedule.now.teams ≤ 2 ^ 40 = pow_mono c.requires.round_robin.most in
+    let grows : 2 ^ c.args.schedule.now.teams ≤ 2 ^ max_teams = pow_mono c.requires.round_robin.most in
     omega (arith, grows, c.requires.teams)
 
 pub over_in_rows-requires-clause-starts : goal.over_in_rows-requires-clause-starts

@@ -1,5 +1,6 @@
 use Rattle.std.proofs.Common.{inl, inr, arith}
 use Rattle.std.proofs.lemmas.Bool.{cases_lt}
+use Rattle.league.specs.Limits.{max_teams}
 use Rattle.robinx.proofs.rows.GapWrites.{cleared_none, cleared_more, past_rows}
 use Rattle.robinx.proofs.gaps.clear_column.Goals as goal
 
@@ -13,7 +14,7 @@ pub returns : goal.returns
 returns c = record {
   rows = c.loop-row.invariant.square.rows;
   columns = c.loop-row.invariant.square.columns;
-  cleared = λ t. elim (cases_lt t 40) [
+  cleared = λ t. elim (cases_lt t max_teams) [
     | inl below ↦ c.loop-row.invariant.cleared t (omega (arith, below, c.loop-row-test.false))
     | inr past ↦ past_rows _ t c.args.column c.loop-row.invariant.square.rows past
   ];

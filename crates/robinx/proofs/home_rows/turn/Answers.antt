@@ -1,4 +1,5 @@
 use Rattle.std.proofs.Common.{◌<◌, ◌∙◌, sym, arith}
+use Rattle.league.specs.Limits.{max_rounds}
 use Rattle.league.proofs.ForCallers.{lowest_below}
 use Rattle.robinx.proofs.rows.HomeRows.{row_small, turned_none, turned_all, turned_home, turned_away, turned_some}
 use Rattle.robinx.proofs.home_rows.turn.Goals as goal
@@ -11,7 +12,7 @@ has-requires c = lowest_below _ _ _ _ c.loop-round.invariant.below c.in-Some.ens
 
 pub gain-requires-clause-first : goal.gain-requires-clause-first
 gain-requires-clause-first c =
-    let in_season : c.in-Some.round < 78 = lowest_below _ _ _ _ c.loop-round.invariant.below c.in-Some.ensures.steps in
+    let in_season : c.in-Some.round < max_rounds = lowest_below _ _ _ _ c.loop-round.invariant.below c.in-Some.ensures.steps in
     omega (arith, in_season)
 
 pub gain-requires-clause-room : goal.gain-requires-clause-room
@@ -19,7 +20,7 @@ gain-requires-clause-room c = row_small _ _ _ c.requires.ones c.loop-round.invar
 
 pub lose-requires-clause-first : goal.lose-requires-clause-first
 lose-requires-clause-first c =
-    let in_season : c.in-Some.round < 78 = lowest_below _ _ _ _ c.loop-round.invariant.below c.in-Some.ensures.steps in
+    let in_season : c.in-Some.round < max_rounds = lowest_below _ _ _ _ c.loop-round.invariant.below c.in-Some.ensures.steps in
     omega (arith, in_season)
 
 pub lose-requires-clause-some : goal.lose-requires-clause-some

@@ -1,4 +1,5 @@
 use Rattle.std.proofs.Common.{arith, sym, ◌∙◌, refl}
+use Rattle.league.specs.Limits.{max_rounds}
 use Rattle.league.specs.Sets.{IsBelow}
 use Rattle.league.proofs.ForCallers.{lowest_below}
 use Rattle.robinx.proofs.walks.Searches.{touched_until, untouched_until}
@@ -6,8 +7,8 @@ use Rattle.robinx.proofs.touched_rules.has_touched_until.Goals as goal
 
 pub below-earlier-requires : goal.below-earlier-requires
 below-earlier-requires c =
-    let below : IsBelow 78 c.into_iter.result = omega arith in
-    omega (arith, lowest_below 78 _ _ _ below c.in-Some.ensures.steps)
+    let below : IsBelow max_rounds c.into_iter.result = omega arith in
+    omega (arith, lowest_below max_rounds _ _ _ below c.in-Some.ensures.steps)
 
 pub returns-in-Some : goal.returns-in-Some
 returns-in-Some c =

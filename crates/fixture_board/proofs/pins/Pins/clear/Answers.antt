@@ -1,7 +1,8 @@
 use Rattle.std.proofs.Common.{◌≡◌, ℕ, vec_len, ◌∙◌, ap, replicate, arith}
+use Rattle.fixture_board.specs.PinTable.{free, pin_entries}
 use Rattle.fixture_board.proofs.pins.Pins.clear.Goals as goal
 
 pub returns : goal.returns
 returns c =
-    let size : vec_len c.self.inside.rounds ≡ 1600 = omega (arith, c.self.invariant.0) in
-    c.fill.ensures.items (λ y is. is) ∙ ap (λ (n : ℕ). replicate n 255) size
+    let size : vec_len c.self.inside.rounds ≡ pin_entries = omega (arith, c.self.invariant.0) in
+    c.fill.ensures.items (λ y is. is) ∙ ap (λ (n : ℕ). replicate n free) size

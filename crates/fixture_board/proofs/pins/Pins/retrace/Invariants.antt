@@ -1,7 +1,6 @@
-use Rattle.std.proofs.Common.{◌≡◌, replicate, take}
-use Rattle.fixture_board.specs.PinTable.{free, pin_entries}
-use Rattle.fixture_board.specs.Retraced.{written_after}
+use Rattle.std.proofs.Common.{take}
+use Rattle.fixture_board.specs.Retraced.{IsRetraced}
 use Rattle.fixture_board.proofs.pins.Pins.retrace.Given as goal
 
 abbrev pub invariant-loop-change : goal.invariant-loop-change
-invariant-loop-change l = l.self ≡ written_after (replicate pin_entries free) (take l.change-index l.changes)
+invariant-loop-change l = IsRetraced l.league (take l.change-index l.changes) l.self

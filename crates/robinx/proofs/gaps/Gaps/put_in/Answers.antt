@@ -1,4 +1,5 @@
 use Rattle.std.proofs.Common.{◌<◌, ap, ◌∙◌, arith}
+use Rattle.league.specs.Limits.{max_teams}
 use Rattle.league.proofs.ForCallers.{has_empty, lowest_below}
 use Rattle.league.specs.Sets.{has}
 use Rattle.robinx.specs.Walked.{row_of, worst_apart}
@@ -7,12 +8,12 @@ use Rattle.robinx.proofs.gaps.Gaps.put_in.Goals as goal
 
 pub loop-other-init : goal.loop-other-init
 loop-other-init c =
-    put_none c.args.self.now _ _ _ _ c.requires.gaps (c.with-self.ensures.below 40 c.requires.gaps.below c.requires.team)
+    put_none c.args.self.now _ _ _ _ c.requires.gaps (c.with-self.ensures.below max_teams c.requires.gaps.below c.requires.team)
     c.with-self.ensures.members c.into_iter-other-iterator.ensures.into_iter_gives
 
 pub bounds-rows-from-in-loop-other : goal.bounds-rows-from-in-loop-other
 bounds-rows-from-in-loop-other c =
-    let below : c.in-Some.other < 40 = lowest_below _ _ _ _ c.loop-other.invariant.below c.in-Some.ensures.steps in
+    let below : c.in-Some.other < max_teams = lowest_below _ _ _ _ c.loop-other.invariant.below c.in-Some.ensures.steps in
     omega (arith, below, c.from-in-loop-other.ensures)
 
 pub set-requires-clause-second : goal.set-requires-clause-second
