@@ -1,7 +1,7 @@
 -- What the games of a team give, summed up by opponents, is what they give by rounds.
 use Rattle.std.proofs.Common.{◌≡◌, ◌≢◌, ℕ, ◌+◌, ◌<◌, Bool, true, false, inl, inr, refl, sym, ◌∙◌, ap, ap₂, arith}
 use Rattle.std.specs.Prelude.{◌==◌, if◌then◌else◌}
-use Rattle.std.proofs.lemmas.Bool.{cases_eq, cond-true, cond-false, eq-eqb, ne_eqb, eqb-true, false≢true, true≢false}
+use Rattle.std.proofs.lemmas.Bool.{cases_eq, cond-true, cond-false, eq-eqb, ne_eqb, false≢true, true≢false}
 use Rattle.league.specs.Sums.{sum_below}
 use Rattle.league.proofs.ForCallers.{sum_below_same, sum_below_zero, sum_below_add, sum_below_swap, sum_below_only}
 use Rattle.fixtures.specs.declared.game.Cell.{Cell}

@@ -1,13 +1,13 @@
 -- The games that have another round than at the start after an exchange, told by the cells before it.
 use Rattle.std.proofs.Common.{◌≡◌, ◌≢◌, ℕ, ◌+◌, ◌<◌, ◌⊎◌, Bool, true, false, not, ◌&&◌, inl, inr, refl, sym, ◌∙◌, ap, ap₂, subst, arith}
 use Rattle.std.specs.Prelude.{◌==◌, if◌then◌else◌}
-use Rattle.std.proofs.lemmas.Bool.{cases_Bool, cases_eq, cond-true, cond-false, eq-eqb, ne_eqb, or_left, or_right, or_from, or_parts}
-use Rattle.std.proofs.lemmas.Bool.{eqb-false, false≢true}
+use Rattle.std.proofs.lemmas.Bool.{cases_eq, cond-true, cond-false, eq-eqb, ne_eqb, or_left, or_right, or_from}
+use Rattle.std.proofs.lemmas.Bool.{false≢true}
 use Rattle.std.proofs.lemmas.Bool.Decides.{nat_tests}
 use Rattle.league.specs.Sums.{sum_below, sum_where, count_where}
 use Rattle.league.proofs.ForCallers.{sum_below_same, sum_below_zero, sum_below_add, sum_below_balance}
 use Rattle.fixtures.specs.declared.game.Cell.{Cell}
-use Rattle.fixtures.specs.Games.{Games, round_of, round_count, cell, cell_round, IsPair, IsCell, IsDoubleRoundRobin}
+use Rattle.fixtures.specs.Games.{Games, round_of, round_count, cell, IsPair, IsDoubleRoundRobin}
 use Rattle.fixtures.specs.Edits.{exchanged, rounds_exchanged, teams_exchanged, is_either}
 use Rattle.fixtures.proofs.ForCallers.{is_cell, round_of_games, meets_cell, Meets, cell_teams_exchanged, round_robin_teams_exchanged}
 use Rattle.fixtures.proofs.ForCallers.{round_of_teams_exchanged, other_cell, StaysAmong}
@@ -31,11 +31,11 @@ either_way false x y e = refl
 
 -- ---- rounds
 
--- a game of a team's cell, if it is at home, in the round that this gives for its own
+-- a home game of a team, in the round that this gives for its own
 abbrev moved_to : (ℕ → ℕ → ℕ) → ℕ → (ℕ → ℕ) → Cell → ℕ → ℕ
 moved_to start t to c r = home_moved start t c (to r)
 
--- the moved home games of a team, where its rounds are others of those that they were
+-- the moved home games of a team in a schedule whose rounds are given by those of another
 row_by_rounds : (start : ℕ → ℕ → ℕ) (g g' : Games) (to : ℕ → ℕ) (t : ℕ) → IsDoubleRoundRobin g → t < g.teams →
     ((x : ℕ) → IsPair g.teams t x → round_of g' t x ≡ to (round_of g t x)) →
     count_where g.teams (is_moved start g' t) ≡ sum_below (round_count g.teams) (λ r. home_moved start t (cell g t r) (to r))
@@ -61,7 +61,7 @@ module _ (start : ℕ → ℕ → ℕ) (g : Games) (rr : IsDoubleRoundRobin g) (
   abbrev after : Games
   after = rounds_exchanged g k l among
 
-  -- the moved home games of a team in rounds l and k, where these are the rounds of theirs
+  -- the moved ones of a team's home games in rounds l and k, played in these rounds
   abbrev in_two : ℕ → ℕ → ℕ → ℕ
   in_two of_l of_k t = home_moved start t (cell g t l) of_l + home_moved start t (cell g t k) of_k
 
@@ -125,7 +125,7 @@ around_by_rounds start g t rr in_t =
     turned : (x y : ℕ) → (x == y) ≡ (y == x)
     turned x y = grind (arith, nat_tests)
 
--- in a round of the set two teams don't meet whose games are in none of them
+-- two teams don't meet in a round of the set, where it has none of the rounds of their games
 pub apart : (g : Games) (rr : IsDoubleRoundRobin g) (among : ℕ → Bool) (t u r : ℕ) → t < g.teams → r < round_count g.teams →
     among r ≡ true → among (round_of g t u) ≡ false → among (round_of g u t) ≡ false → (cell g t r).opponent ≢ u
 apart g rr among t u r in_t in_r is out out' e =
@@ -177,7 +177,7 @@ module _ (start : ℕ → ℕ → ℕ) (g : Games) (rr : IsDoubleRoundRobin g) (
         (round_kept h a (record { home_in = in_h; away_in = in_a; distinct = other }) alike)
   ]
 
-  -- the moved games of j and i in a round, where they have the cells of these teams
+  -- the moved games of j and i in a round, if they have the cells of these teams
   abbrev in_cells : ℕ → ℕ → ℕ → ℕ
   in_cells of_j of_i r = cell_moved start j (cell g of_j r) r + cell_moved start i (cell g of_i r) r
 
@@ -195,18 +195,18 @@ module _ (start : ℕ → ℕ → ℕ) (g : Games) (rr : IsDoubleRoundRobin g) (
   own : (t r : ℕ) → t < g.teams → r < round_count g.teams → (cell g t r).opponent ≢ t
   own t r in_t in_r e = (is_cell g rr t r in_t in_r).pair.distinct (sym e)
 
-  in_round : (r : ℕ) (rounds : Bool) → r < round_count g.teams → rounds ≡ among r →
+  in_round : (r : ℕ) (is_in : Bool) → r < round_count g.teams → is_in ≡ among r →
       (cell_moved start j (cell after_teams j r) r + cell_moved start i (cell after_teams i r) r) +
-      (if rounds then in_cells j i r else 0) ≡
-      in_cells j i r + (if rounds then in_cells i j r else 0)
-  in_round r rounds in_r same =
-      where_balance rounds rounds _ _ _ _ refl
+      (if is_in then in_cells j i r else 0) ≡
+      in_cells j i r + (if is_in then in_cells i j r else 0)
+  in_round r is_in in_r same =
+      where_balance is_in is_in _ _ _ _ refl
       (λ is. let inside = sym same ∙ is in
       rw (
         cell_in j i r p.away_in p.home_in in_r (exchanged_second i j) inside (own i r p.home_in in_r)
             (apart g rr among i j r p.home_in in_r inside first_out second_out),
-        cell_in i j r p.home_in p.away_in in_r (exchanged_first i j) inside (apart g rr among j i r p.away_in in_r inside second_out first_out)
-            (own j r p.away_in in_r),
+        cell_in i j r p.home_in p.away_in in_r (exchanged_first i j) inside
+            (apart g rr among j i r p.away_in in_r inside second_out first_out) (own j r p.away_in in_r),
       )
       (omega arith))
       (λ out. ap₂ (λ (c d : Cell). cell_moved start j c r + cell_moved start i d r) (cell_out j r p.away_in in_r (sym same ∙ out))

@@ -1,10 +1,10 @@
 -- What is told of each game, where it differs at most at games that have one of two teams.
-use Rattle.std.proofs.Common.{◌≡◌, ◌≢◌, ℕ, ◌+◌, ◌<◌, Bool, true, false, inl, inr, refl, sym, ◌∙◌, ap, ap₂, arith}
-use Rattle.std.specs.Prelude.{◌==◌, if◌then◌else◌}
-use Rattle.std.proofs.lemmas.Bool.{cases_Bool, or_parts}
+use Rattle.std.proofs.Common.{◌≡◌, ℕ, ◌+◌, ◌<◌, true, inl, inr, refl, sym, ◌∙◌, arith}
+use Rattle.std.specs.Prelude.{if◌then◌else◌}
+use Rattle.std.proofs.lemmas.Bool.{cases_Bool}
 use Rattle.std.proofs.lemmas.Bool.Decides.{nat_tests}
 use Rattle.league.specs.Sums.{sum_below, sum_where}
-use Rattle.league.proofs.ForCallers.{sum_below_add, sum_below_balance, sum_below_only}
+use Rattle.league.proofs.ForCallers.{sum_below_add, sum_below_balance}
 use Rattle.fixtures.specs.Games.{IsPair}
 use Rattle.fixtures.specs.Edits.{is_either}
 use Rattle.tours.proofs.balances.Balances.{where_balance}

@@ -1,7 +1,6 @@
 use Rattle.std.proofs.Common.{refl, arith}
 use Rattle.league.specs.Sets.{has}
 use Rattle.league.specs.Starts.{start_round}
-use Rattle.fixtures.proofs.ForCallers.{exchanged_first, exchanged_second}
 use Rattle.tours.proofs.legs.TwoTotals.{totals_begun, next_in, totals_more, totals_ended}
 use Rattle.tours.proofs.moved_counts.MovedTold.{rounds_told}
 use Rattle.tours.proofs.moved_told.moved_of_rounds.Goals as goal

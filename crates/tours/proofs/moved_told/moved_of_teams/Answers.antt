@@ -1,7 +1,7 @@
-use Rattle.std.proofs.Common.{◌≡◌, ◌≢◌, ◌<◌, true, refl, sym, ◌∙◌, ap, arith}
+use Rattle.std.proofs.Common.{◌≡◌, ◌<◌, true, refl, sym, ◌∙◌, ap, arith}
 use Rattle.league.specs.Sets.{has}
 use Rattle.league.specs.Starts.{start_round}
-use Rattle.fixtures.specs.Games.{round_count, cell, IsPair}
+use Rattle.fixtures.specs.Games.{round_count, IsPair}
 use Rattle.fixtures.proofs.ForCallers.{stays_among_closed}
 use Rattle.tours.proofs.legs.TwoTotals.{totals_begun, next_in, totals_more, totals_ended}
 use Rattle.tours.proofs.moved_counts.MovedTold.{apart, teams_told}
