@@ -4,5 +4,6 @@ pub mod balances
 pub mod runs_and_repeats
 pub mod legs
 pub mod exchanged_legs
+pub mod moved_counts
 pub mod ForCallers
 mod Worked

@@ -3,19 +3,22 @@
 use Rattle.std.proofs.Common.{◌≡◌, ℕ, true, false, List, [], ◌∷◌, map, refl, ◌||◌, Bool}
 use Rattle.std.specs.Prelude.{◌==◌}
 use Rattle.std.specs.List.{range_with_len}
-use Rattle.league.specs.League.{LeagueData, league_data}
+use Rattle.league.specs.League.{LeagueData, league_data, with_origin}
+use Rattle.league.specs.Origins.{origin_at}
+use Rattle.league.specs.declared.origins.Start.TheVariants.{Berger, Fide, Given}
 use Rattle.league.specs.Sums.{sum_below, all_below, any_below}
 use Rattle.fixtures.specs.Games.{Games, place, is_home, meets}
-use Rattle.fixtures.specs.Berger.{berger_games}
+use Rattle.fixtures.specs.Berger.{berger_games, fide_games}
 use Rattle.fixtures.specs.Edits.{homes_exchanged, rounds_exchanged, all_games_exchanged}
 use Rattle.tours.specs.Tours.{tour, leg, travel_of, travel}
 use Rattle.tours.specs.Runs.{is_run, runs_of, runs_over}
 use Rattle.tours.specs.Parts.{touches_leg, travel_part_of, travel_part, touches_window, runs_part_of, runs_part, repeats_part}
 use Rattle.tours.specs.Repeats.{repeats_after, repeats}
+use Rattle.tours.specs.Moved.{moved_from, moved_games}
 
 -- the league of four teams with these distances
 abbrev four_teams : List (List ℕ) → LeagueData
-four_teams distances = league_data [] distances 3 100 [] false false
+four_teams distances = league_data ([] ∷ [] ∷ [] ∷ [] ∷ []) distances 3 100 [] (origin_at Berger) false
 
 abbrev circle : LeagueData
 circle = four_teams ((0 ∷ 1 ∷ 2 ∷ 1 ∷ []) ∷ (1 ∷ 0 ∷ 1 ∷ 2 ∷ []) ∷ (2 ∷ 1 ∷ 0 ∷ 1 ∷ []) ∷ (1 ∷ 2 ∷ 1 ∷ 0 ∷ []) ∷ [])
@@ -129,3 +132,31 @@ travel_part_with_homes_exchanged = refl
 repeats_part_in_the_middle : repeats_part (rounds_exchanged start 0 2 (λ _. true)) (λ r. r == 2) ≡ 2
 unfolding sum_below meets repeats_after repeats_part
 repeats_part_in_the_middle = refl
+
+-- games that have another round than at the start of the league, which is the Berger start
+
+no_game_of_the_start_is_moved : moved_games circle start ≡ 0
+unfolding sum_below moved_from
+no_game_of_the_start_is_moved = refl
+
+moved_with_homes_exchanged : moved_games circle (homes_exchanged start 0 1) ≡ 2
+unfolding sum_below moved_from
+moved_with_homes_exchanged = refl
+
+moved_with_first_and_third_round_exchanged : moved_games circle (rounds_exchanged start 0 2 (λ _. true)) ≡ 4
+unfolding sum_below moved_from
+moved_with_first_and_third_round_exchanged = refl
+
+moved_in_the_order_of_fide : moved_games circle (fide_games 4) ≡ 4
+unfolding sum_below moved_from
+moved_in_the_order_of_fide = refl
+
+-- or another one
+
+moved_from_the_order_of_fide : moved_games (with_origin (origin_at Fide) circle) start ≡ 4
+unfolding sum_below moved_from
+moved_from_the_order_of_fide = refl
+
+moved_from_a_given_start : moved_games (with_origin (origin_at (Given (homes_exchanged start 0 1))) circle) start ≡ 2
+unfolding sum_below moved_from
+moved_from_a_given_start = refl

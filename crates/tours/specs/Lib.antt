@@ -4,5 +4,6 @@ pub mod Repeats
 pub mod Parts
 pub mod Phased
 pub mod Walked
+pub mod Moved
 pub mod Told
 pub mod Exchanges

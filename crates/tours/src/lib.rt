@@ -1,11 +1,14 @@
 //! What a double round robin costs its teams: how far they travel, their long stretches at home or away, and the
-//! pairs of teams that meet twice in a row (Easton, Nemhauser, Trick 2001), or twice in one half of the season.
+//! pairs of teams that meet twice in a row (Easton, Nemhauser, Trick 2001), or twice in one half of the season; and how
+//! many games it has in other rounds than the start of the league.
 //!
 //! A call counts over the whole schedule, or over the part that a change of some teams and rounds can alter. None takes
 //! memory. Teams and rounds are numbered from 0.
 #![tactic(auto)]
 
 mod laws;
+mod moved;
+mod moved_told;
 mod repeat_counts;
 mod repeats_told;
 mod rounds_told;
@@ -19,13 +22,15 @@ mod unphased_pairs;
 mod whole_travel;
 
 pub use laws::{changes_around_balance, changes_balance, parts_balance, same_pairs_repeat_alike};
+pub use moved::moved_games;
+pub use moved_told::{moved_of_rounds, moved_of_teams};
 pub use repeat_counts::{repeats, repeats_part, repeats_with};
 pub use repeats_told::{repeats_of_rounds, repeats_of_teams};
 pub use rounds_told::legs_of_rounds;
-pub use runs::{runs_over, runs_part};
+pub use runs::{runs_over, runs_part, windows_spent};
 pub use runs_told::{runs_of_rounds, runs_of_teams};
 pub use teams_told::legs_of_teams;
-pub use told::{Breaches, Legs};
+pub use told::{Breaches, Legs, Moved};
 pub use travel_parts::{travel_around, travel_part};
-pub use unphased_pairs::{unphased, unphased_part};
+pub use unphased_pairs::{is_unphased, unphased, unphased_part};
 pub use whole_travel::{travel, travel_of};

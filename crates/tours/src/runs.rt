@@ -1,6 +1,6 @@
 //! Long stretches at home or away.
 
-ghost use Rattle.std.specs.Prelude.{◌≡◌, ℕ, ◌+◌, ◌*◌, ◌<◌, ◌≤◌, ◌&&◌};
+ghost use Rattle.std.specs.Prelude.{◌≡◌, ℕ, ◌+◌, ◌*◌, ◌<◌, ◌≤◌, ◌&&◌, nat_lt};
 ghost use Rattle.league.specs.League.{teams};
 ghost use Rattle.league.specs.Limits.{max_teams, max_rounds};
 ghost use Rattle.league.specs.Sets.{has, IsBelow};
@@ -12,6 +12,7 @@ ghost use Rattle.tours.specs.Told.{HasHomes, HasRuns};
 
 use crate::season::teams_in;
 use fixtures::{Schedule, Touched};
+use league::limits::MAX_ROUNDS;
 use league::{League, SlotSet, TeamSet};
 
 /// How many windows of consecutive rounds, one more than the league allows, a team spends at home throughout or
@@ -75,7 +76,8 @@ fn runs_of_team(schedule: &Schedule, at_most: u8, starts: SlotSet, team: u8) -> 
         is_run schedule.now team first (at_most + 1)) }
     ensures most { result ≤ max_rounds }
 {
-    let runs = run_starts(schedule.home_rounds(team), schedule.rounds(), at_most + 1);
+    prove!(schedule.rounds() <= MAX_ROUNDS);
+    let runs = windows_spent(schedule, at_most + 1, team);
     // most teams have none, and a test takes fewer instructions than a count
     if runs.intersects(starts) {
         let counted = runs.intersection(starts);
@@ -100,6 +102,17 @@ pub(crate) fn runs_in(home: SlotSet, rounds: u8, at_most: u8) -> u64
     } else {
         u64::from(runs.len())
     }
+}
+
+/// The first rounds of the windows of so many consecutive rounds that a team spends at home throughout or away throughout.
+pub fn windows_spent(schedule: &Schedule, length: u8, team: u8) -> SlotSet
+    requires least { 2 ≤ length }
+    requires most { length ≤ max_rounds + 1 }
+    requires team { team < schedule.now.teams }
+    ensures { (first : ℕ) → has result first ≡
+        (nat_lt first (windows schedule.now length) && is_run schedule.now team first length) }
+{
+    run_starts(schedule.home_rounds(team), schedule.rounds(), length)
 }
 
 /// The first rounds of the windows of so many rounds that a team spends at home throughout or away throughout, if it is at

@@ -14,3 +14,10 @@ pub struct Breaches {
     pub before: u64,
     pub after: u64,
 }
+
+/// How many of the games that an exchange alters have another round than at the start, before it and after it.
+#[derive(Clone, Copy, Debug, Drop, PartialEq, Eq)]
+pub struct Moved {
+    pub before: u64,
+    pub after: u64,
+}

@@ -70,11 +70,10 @@ fn unphased_of(schedule: &Schedule, lower: TeamSet, team: u8) -> u64
     total
 }
 
-/// Whether the two games of the pair are in the same half.
+/// Whether two teams play both their games in one half of the season.
 #[tactic(auto, unfolding(crate::specs::Phased::is_unphased))]
-fn is_unphased(schedule: &Schedule, i: u8, j: u8) -> bool
-    requires i { IsPair schedule.now.teams i j }
-    requires j { IsPair schedule.now.teams j i }
+pub fn is_unphased(schedule: &Schedule, i: u8, j: u8) -> bool
+    requires { IsPair schedule.now.teams i j }
     ensures { result ≡ is_unphased schedule.now i j }
 {
     let half = schedule.teams() - 1;

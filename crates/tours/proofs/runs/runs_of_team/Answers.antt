@@ -1,21 +1,16 @@
 use Rattle.std.proofs.Common.{◌≡◌, ◌+◌, sym, ◌∙◌, arith}
-use Rattle.tours.specs.Told.{HasRuns}
 use Rattle.tours.proofs.runs_and_repeats.RunStarts.{runs_counted, no_runs_counted}
 use Rattle.tours.proofs.runs.runs_of_team.Goals as goal
 
 pub returns-then-intersects-clause-value : goal.returns-then-intersects-clause-value
 returns-then-intersects-clause-value c =
     let same : c.from.result ≡ c.len.result = omega arith in
-    let runs : HasRuns c.args.schedule.now c.args.team (c.args.at_most + 1) c.run_starts-runs.result =
-    c.run_starts-runs.ensures.members c.args.schedule.now c.args.team (sym c.rounds.ensures.number) c.home_rounds.ensures.members in
     same ∙ c.len.ensures.value ∙
-    runs_counted c.args.schedule.now c.args.team (c.args.at_most + 1) c.run_starts-runs.result c.args.starts
+    runs_counted c.args.schedule.now c.args.team (c.args.at_most + 1) c.windows_spent-runs.result c.args.starts
     c.intersection-counted.result (omega arith)
-    (omega (arith, c.rounds.ensures.number, c.rounds.ensures.most)) runs c.intersection-counted.ensures.members
+    (omega (arith, c.rounds.ensures.number, c.rounds.ensures.most)) c.windows_spent-runs.ensures c.intersection-counted.ensures.members
 
 pub returns-else-intersects-clause-value : goal.returns-else-intersects-clause-value
 returns-else-intersects-clause-value c =
-    let runs : HasRuns c.args.schedule.now c.args.team (c.args.at_most + 1) c.run_starts-runs.result =
-    c.run_starts-runs.ensures.members c.args.schedule.now c.args.team (sym c.rounds.ensures.number) c.home_rounds.ensures.members in
-    sym (no_runs_counted c.args.schedule.now c.args.team (c.args.at_most + 1) c.run_starts-runs.result c.args.starts (omega arith)
-    (omega (arith, c.rounds.ensures.number, c.rounds.ensures.most)) runs (sym c.intersects.ensures ∙ c.if-intersects.false))
+    sym (no_runs_counted c.args.schedule.now c.args.team (c.args.at_most + 1) c.windows_spent-runs.result c.args.starts (omega arith)
+    (omega (arith, c.rounds.ensures.number, c.rounds.ensures.most)) c.windows_spent-runs.ensures (sym c.intersects.ensures ∙ c.if-intersects.false))

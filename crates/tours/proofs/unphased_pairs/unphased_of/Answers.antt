@@ -8,10 +8,7 @@ loop-low-init c = sum_without_none _ _ _ _ _ (omega arith) c.into_iter-low-itera
 pub is_unphased-requires : goal.is_unphased-requires
 is_unphased-requires c =
     let lower : c.in-Some.low < c.args.team = lowest_below _ _ _ _ c.loop-low.invariant.below c.in-Some.ensures.steps in
-    record {
-      i = record { home_in = omega arith; away_in = omega arith; distinct = omega arith };
-      j = record { home_in = omega arith; away_in = omega arith; distinct = omega arith };
-    }
+    record { home_in = omega arith; away_in = omega arith; distinct = omega arith }
 
 pub loop-low-preserved : goal.loop-low-preserved
 loop-low-preserved c = sum_without_more _ _ _ _ _ _ _ _ _ c.loop-low.invariant c.in-Some.ensures.steps (grind arith) (grind arith)
