@@ -16,7 +16,7 @@ use Rattle.tours.specs.Phased.{is_unphased, unphased, unphased_part}
 use Rattle.moves.specs.declared.exchanges.Exchange.{Exchange}
 use Rattle.robinx.specs.Parts.{deviation_part}
 use Rattle.robinx.proofs.ForCallers.{part_le}
-use Rattle.fixture_board.specs.Costs.{hard_penalty, soft_penalty, penalty_of, sum_over_rules, cost_of}
+use Rattle.fixture_board.specs.Costs.{hard_penalty, soft_penalty, penalty_of, sum_over_rules, near_cost, cost_of}
 use Rattle.fixture_board.specs.CostParts.{breakable_part, games_cost, may_break, rule_part, rules_part, penalties_part, IsTold}
 use Rattle.fixture_board.specs.declared.cost.Cost.{Cost}
 use Rattle.fixture_board.specs.declared.scope.Scope.{Scope}

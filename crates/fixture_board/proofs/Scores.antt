@@ -24,12 +24,13 @@ use Rattle.tours.specs.Repeats.{repeats_after, repeats}
 use Rattle.tours.specs.Phased.{is_unphased, unphased}
 use Rattle.robinx.specs.Deviations.{deviation}
 use Rattle.fixture_board.specs.Costs.{hard_penalty, soft_penalty, penalty_of, sum_over_rules, where_phased, cost_of, score_of}
-use Rattle.fixture_board.specs.Costs.{score_limit}
+use Rattle.fixture_board.specs.Costs.{near_cost, score_limit}
+use Rattle.tours.specs.Moved.{is_moved, moved_from}
 use Rattle.fixture_board.specs.CostParts.{IsSmall}
 use Rattle.fixture_board.specs.declared.change.Change.{Change}
 use Rattle.fixture_board.specs.declared.change.Change.TheVariants.{Shift, Pin, Unpin, Undo}
 use Rattle.fixture_board.specs.declared.change.Entry.{Entry}
-use Rattle.league.specs.Starts.{start_of}
+use Rattle.league.specs.Starts.{start_of, start_round}
 use Rattle.fixture_board.specs.History.{effective, shifted, games_after, games_of, cost_at}
 use Rattle.robinx.proofs.ForCallers.{deviation_below}
 
@@ -166,8 +167,18 @@ hard_le l g is same forty =
           (λ rule for. omega (arith, hard_penalty_le rule.weight (deviation g rule.body), deviation_of l g rule same forty for)),
     )
 
+moved_le : (start : ℕ → ℕ → ℕ) (g : Games) → g.teams ≤ max_teams → moved_from start g ≤ max_teams * max_teams
+unfolding moved_from
+moved_le start g forty =
+    omega (
+      arith,
+      mul-le-mul forty forty,
+      sum_below_le g.teams g.teams (λ home. count_where g.teams (is_moved start g home))
+          (λ home under. count_where_le g.teams (is_moved start g home)),
+    )
+
 near_cost_le : (l : LeagueData) (g : Games) → IsLeague l → g.teams ≤ max_teams → near_cost l g ≤ max_weight * (max_teams * max_teams)
-near_cost_le l g is forty = mul-le-mul is.origin.near (moved_most (start_round l) g forty)
+near_cost_le l g is forty = mul-le-mul is.origin.near (moved_le (start_round l) g forty)
 
 soft_le : (l : LeagueData) (g : Games) → IsLeague l → g.teams ≡ teams l → g.teams ≤ max_teams →
     (cost_of l g).soft ≤ max_rules * (max_weight * deviation_limit) + max_weight * (max_teams * max_teams)

@@ -10,7 +10,7 @@ use Rattle.tours.specs.Tours.{leg, leg_count, travel_of, travel}
 use Rattle.tours.specs.Runs.{runs_over}
 use Rattle.tours.specs.Repeats.{repeats}
 use Rattle.tours.specs.Phased.{unphased}
-use Rattle.fixture_board.specs.Costs.{cost_of, hard_penalty, soft_penalty, sum_over_rules, where_phased}
+use Rattle.fixture_board.specs.Costs.{cost_of, hard_penalty, soft_penalty, near_cost, sum_over_rules, where_phased}
 use Rattle.fixture_board.specs.Costs.{total_of}
 use Rattle.fixture_board.specs.declared.cost.Best.{Best}
 use Rattle.fixture_board.specs.declared.cost.Cost.{Cost}
@@ -93,7 +93,7 @@ cost_of-weight league weight g =
       hard =
           runs_over g league.at_most + repeats g + sum_over_rules hard_penalty league.rules g +
           where_phased league (unphased g);
-      soft = sum_over_rules soft_penalty league.rules g;
+      soft = sum_over_rules soft_penalty league.rules g + near_cost league g;
     }) (travel-weight league weight g)
 
 cost_at-weight : (league : LeagueData) (weight : ℕ) (h : List Entry) →

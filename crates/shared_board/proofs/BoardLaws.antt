@@ -9,7 +9,7 @@ use Rattle.fixture_board.specs.declared.reply.Why.{Why}
 use Rattle.shared_board.specs.Held.{AreOf}
 use Rattle.shared_board.proofs.Counts.{own_append}
 use Rattle.fixture_board.specs.History.{IsLegal, best_of, best_prefix, as_best, games_of, games_after, effective, cost_at}
-use Rattle.fixtures.specs.Start.{start_of}
+use Rattle.league.specs.Starts.{start_of}
 use Rattle.fixture_board.specs.Costs.{cost_of}
 use Rattle.fixture_board.specs.Laws.{least_of, as_number, TellsOf}
 use Rattle.fixture_board.specs.Replies.{entry, next_if, next_of, refusal, reply_of}

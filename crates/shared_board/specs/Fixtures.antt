@@ -1,7 +1,7 @@
 -- What the board has whenever the turn is free.
 use Rattle.std.specs.Prelude.{◌≡◌, List, length}
 use Rattle.fixtures.specs.Games.{IsDoubleRoundRobin}
-use Rattle.fixtures.specs.Start.{start_of}
+use Rattle.league.specs.Starts.{start_of}
 use Rattle.fixture_board.specs.declared.change.Entry.{Entry}
 use Rattle.fixture_board.specs.Costs.{cost_of}
 use Rattle.fixture_board.specs.History.{IsLegal, AllStand, IsBestOf, games_of, games_after, effective, pins_of, cost_at}
@@ -20,7 +20,7 @@ pub record HasFixtures (s : Table) : Type 0 where
   pub legal : IsLegal setting.league setting.room history
   pub games : games_of setting.league history ≡ games_after (start_of setting.league) (effective history)
   pub robin : IsDoubleRoundRobin (games_of setting.league history)
-  pub pinned_stand : AllStand (games_of setting.league history) (pins_of history)
+  pub pinned_stand : AllStand (games_of setting.league history) (pins_of setting.league history)
   pub cost : cost_at setting.league history ≡ cost_of setting.league (games_of setting.league history)
   pub best : best_of setting.league history ≡ as_best setting.league (best_prefix setting.league history)
   pub best_is : IsBestOf setting.league history (best_prefix setting.league history)
