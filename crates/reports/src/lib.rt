@@ -12,4 +12,3 @@ mod runs;
 pub use costs::class_name;
 pub use laws::figures_add_up;
 pub use report::{is_feasible, write_report};
-pub use runs::windows_spent;
