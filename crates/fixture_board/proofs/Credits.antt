@@ -5,7 +5,7 @@ use Rattle.std.specs.Option.{option_map}
 use Rattle.std.proofs.lemmas.List.{length-map, map-append}
 use Rattle.league.specs.League.{LeagueData}
 use Rattle.fixtures.specs.Games.{Games}
-use Rattle.fixtures.specs.Start.{start_of}
+use Rattle.league.specs.Starts.{start_of, kept_games}
 use Rattle.fixture_board.specs.Costs.{cost_of, total_of}
 use Rattle.fixture_board.specs.declared.cost.Best.{Best}
 use Rattle.fixture_board.specs.declared.cost.Cost.{Cost}
@@ -44,9 +44,9 @@ games_of-credited league caller h =
     games_of-by league (credited caller h) (effective h) (effective-credited caller h) ∙
     sym (games_of-by league h (effective h) refl)
 
-pub pins_of-credited : (caller : ℕ) (h : List Entry) → pins_of (credited caller h) ≡ pins_of h
-pins_of-credited caller h =
-    pins_of-by (credited caller h) (effective h) (effective-credited caller h) ∙ sym (pins_of-by h (effective h) refl)
+pub pins_of-credited : (league : LeagueData) (caller : ℕ) (h : List Entry) → pins_of league (credited caller h) ≡ pins_of league h
+pins_of-credited league caller h =
+    pins_of-by league (credited caller h) (effective h) (effective-credited caller h) ∙ sym (pins_of-by league h (effective h) refl)
 
 cost_at-credited : (league : LeagueData) (caller : ℕ) (h : List Entry) →
     cost_at league (credited caller h) ≡ cost_at league h
@@ -117,11 +117,11 @@ May-alike : (league : LeagueData) (a b : List Entry) (change : Change) → effec
     May league b change
 unfolding games_of pins_of
 May-alike league a b (Shift mv) same may =
-    subst (λ changes. Fits (games_after (start_of league) changes) (pins_after [] changes) (Shift mv)) same may
+    subst (λ changes. Fits (games_after (start_of league) changes) (pins_after (kept_games league) changes) (Shift mv)) same may
 May-alike league a b (Pin game) same may =
-    subst (λ changes. Fits (games_after (start_of league) changes) (pins_after [] changes) (Pin game)) same may
+    subst (λ changes. Fits (games_after (start_of league) changes) (pins_after (kept_games league) changes) (Pin game)) same may
 May-alike league a b (Unpin game) same may =
-    subst (λ changes. Fits (games_after (start_of league) changes) (pins_after [] changes) (Unpin game)) same may
+    subst (λ changes. Fits (games_after (start_of league) changes) (pins_after (kept_games league) changes) (Unpin game)) same may
 May-alike league a b Undo same may = subst (λ changes. 0 < length changes) same may
 
 IsAlike-more : (a b : List Entry) (x y : Entry) → IsAlike a b → x.change ≡ y.change → IsAlike (a ++ x ∷ []) (b ++ y ∷ [])
@@ -168,7 +168,7 @@ same_credited league room caller h = record {
   legal_before = IsLegal-before league room caller h;
   effective = effective-credited caller h;
   games = games_of-credited league caller h;
-  pins = pins_of-credited caller h;
+  pins = pins_of-credited league caller h;
   cost = cost_at-credited league caller h;
   prefix = best_prefix-credited league caller h;
   best = best_of-credited league caller h;
@@ -196,7 +196,7 @@ FollowsHistory-credited {league} {k} caller kept = record {
   games_are = kept.games_are ∙ sym (games_of-credited league caller k.history);
   same_size = kept.same_size;
   pins_length = kept.pins_length;
-  pins_are = subst (λ pins. ArePinsAt k.games pins k.pins) (sym (pins_of-credited caller k.history)) kept.pins_are;
+  pins_are = subst (λ pins. ArePinsAt k.games pins k.pins) (sym (pins_of-credited league caller k.history)) kept.pins_are;
   cost_is = kept.cost_is ∙ sym (cost_at-credited league caller k.history);
   small = kept.small;
   leader = subst (λ found. IsLeader league found k.best k.best_games) (sym (best_prefix-credited league caller k.history))

@@ -16,9 +16,10 @@ use Rattle.fixture_board.specs.declared.change.Entry.{Entry}
 use Rattle.fixture_board.specs.declared.ask.Ask.{Ask}
 use Rattle.fixture_board.specs.declared.ask.Ask.TheVariants as ask
 use Rattle.fixture_board.specs.declared.ask.Proposal.{Proposal}
-use Rattle.fixtures.specs.Start.{start_of}
+use Rattle.league.specs.Starts.{start_of, kept_games}
+use Rattle.fixtures.specs.Draft.{is_game_in_range}
 use Rattle.fixture_board.specs.History.{effect, effective, shifted, games_after, games_of, pinned, pins_after, pins_of}
-use Rattle.fixture_board.specs.History.{is_game_in_range, is_there, AllStand, Fits, May, IsLegal, max_room, cost_at, better}
+use Rattle.fixture_board.specs.History.{is_there, AllStand, Fits, May, IsLegal, max_room, cost_at, better}
 use Rattle.fixture_board.specs.History.{best_prefix, best_at, as_best, best_of}
 use Rattle.fixture_board.specs.PinTable.{ArePinsAt, taken_back}
 use Rattle.fixture_board.specs.Kept.{IsLeader, Kept, FollowsHistory, IsGranted, entered, CanTakeBack, leads, led_by}
@@ -80,7 +81,7 @@ length-more h e = omega (arith, length-append h (e ∷ []))
 
 FollowsHistory-more : {league : LeagueData} {k : Kept} (e : Entry) (changes : List Change) (g : Games) (pins : List ℕ) (cost : Cost) →
     FollowsHistory league k → length k.history < k.room → May league k.history e.change → changes ≡ effect k.changes e.change →
-    g ≡ games_of league (k.history ++ e ∷ []) → length pins ≡ 1600 → ArePinsAt g (pins_of (k.history ++ e ∷ [])) pins →
+    g ≡ games_of league (k.history ++ e ∷ []) → length pins ≡ 1600 → ArePinsAt g (pins_of league (k.history ++ e ∷ [])) pins →
     cost ≡ cost_of league g →
     FollowsHistory league (entered (record k { changes = changes; games = g; pins = pins; cost = cost }) e)
 unfolding cost_at
@@ -112,11 +113,11 @@ FollowsHistory-more {league} {k} e changes g pins cost kept under may changes_ar
 -- what is known of a board's schedule and its pins
 
 pub IsSound-kept : {league : LeagueData} {k : Kept} → FollowsHistory league k → IsDoubleRoundRobin k.games × AllStand k.games
-    (pins_of k.history)
+    (pins_of league k.history)
 IsSound-kept {league} {k} kept =
     let sound : IsSound league k.history = IsSound-legal league k.room k.history kept.league_is kept.legal in
     let is = sym kept.games_are in
-    (subst IsDoubleRoundRobin is sound.robin, subst (λ x. AllStand x (pins_of k.history)) is sound.stand)
+    (subst IsDoubleRoundRobin is sound.robin, subst (λ x. AllStand x (pins_of league k.history)) is sound.stand)
 
 pub known_cost : {league : LeagueData} {k : Kept} → FollowsHistory league k → k.cost ≡ cost_of league k.games
 unfolding cost_at
@@ -127,7 +128,7 @@ known_cost {league} kept = kept.cost_is ∙ ap (cost_of league) (sym kept.games_
 IsGranted-by : {league : LeagueData} {k : Kept} (asked : Ask) (changes : List Change) (g : Games) (pins : List ℕ) (cost : Cost) →
     FollowsHistory league k → refusal league k.room k.history asked ≡ None → changes ≡ effect k.changes (change_of asked) →
     ((caller : ℕ) → g ≡ games_of league (k.history ++ entry caller asked ∷ [])) → length pins ≡ 1600 →
-    ((caller : ℕ) → ArePinsAt g (pins_of (k.history ++ entry caller asked ∷ [])) pins) → cost ≡ cost_of league g →
+    ((caller : ℕ) → ArePinsAt g (pins_of league (k.history ++ entry caller asked ∷ [])) pins) → cost ≡ cost_of league g →
     IsGranted league k (record k { changes = changes; games = g; pins = pins; cost = cost }) asked
 IsGranted-by {league} {k} asked changes g pins cost kept granted changes_are games_are size pins_are cost_is =
     let can = can_make league k.room k.history asked kept.within granted in
@@ -146,7 +147,7 @@ IsGranted-pins : {league : LeagueData} {k : Kept} (asked : Ask) (table : List �
     refusal league k.room k.history asked ≡ None →
     ((changes : List Change) → effect changes (change_of asked) ≡ changes ++ change_of asked ∷ []) →
     ((g : Games) → shifted g (change_of asked) ≡ g) → length table ≡ length k.pins →
-    ArePinsAt k.games (pinned (pins_of k.history) (change_of asked)) table →
+    ArePinsAt k.games (pinned (pins_of league k.history) (change_of asked)) table →
     IsGranted league k (record k { changes = k.changes ++ change_of asked ∷ []; pins = table }) asked
 IsGranted-pins {league} {k} asked table kept granted appended stays size are =
     IsGranted-by asked (k.changes ++ change_of asked ∷ []) k.games table k.cost kept granted (sym (appended k.changes))
@@ -155,7 +156,7 @@ IsGranted-pins {league} {k} asked table kept granted appended stays size are =
     sym (games_of-more league k.history (entry caller asked) (appended (effective k.history)) ∙ stays (games_of league k.history)))
     (size ∙ kept.pins_length)
     (λ caller.
-    subst (λ p. ArePinsAt k.games p table) (sym (pins_of-more k.history (entry caller asked) (appended (effective k.history)))) are)
+    subst (λ p. ArePinsAt k.games p table) (sym (pins_of-more league k.history (entry caller asked) (appended (effective k.history)))) are)
     (known_cost kept)
 
 pub IsGranted-pin : {league : LeagueData} {k : Kept} (version : ℕ) (game : Game) → FollowsHistory league k →
@@ -163,27 +164,27 @@ pub IsGranted-pin : {league : LeagueData} {k : Kept} (version : ℕ) (game : Gam
     IsGranted league k (record k { changes = k.changes ++ Pin game ∷ []; pins = slice_set k.pins (game.home * 40 + game.away) game.round })
     (ask.Pin version game)
 IsGranted-pin {league} {k} version game kept granted =
-    let fits : Fits (games_of league k.history) (pins_of k.history) (Pin game) =
+    let fits : Fits (games_of league k.history) (pins_of league k.history) (Pin game) =
     (can_make league k.room k.history (ask.Pin version game) kept.within granted).may in
-    let range : is_game_in_range k.games game ≡ true = subst (λ x. is_game_in_range x game ≡ true) (sym kept.games_are) fits.0 in
+    let range : is_game_in_range k.games.teams game ≡ true = subst (λ (x : Games). is_game_in_range x.teams game ≡ true) (sym kept.games_are) fits.0 in
     let there : is_there k.games game ≡ true = subst (λ x. is_there x game ≡ true) (sym kept.games_are) fits.1 in
     IsGranted-pins (ask.Pin version game) (slice_set k.pins (game.home * 40 + game.away) game.round) kept granted (λ changes. refl)
     (λ g. refl)
     (length-set k.pins (game.home * 40 + game.away) game.round)
-    (ArePinsAt-pin k.games (pins_of k.history) k.pins game (IsSound-kept kept).0.most kept.pins_length range there kept.pins_are)
+    (ArePinsAt-pin k.games (pins_of league k.history) k.pins game (IsSound-kept kept).0.most kept.pins_length range there kept.pins_are)
 
 pub IsGranted-unpin : {league : LeagueData} {k : Kept} (version : ℕ) (game : Game) → FollowsHistory league k →
     refusal league k.room k.history (ask.Unpin version game) ≡ None →
     IsGranted league k (record k { changes = k.changes ++ Unpin game ∷ []; pins = slice_set k.pins (game.home * 40 + game.away) 255 })
     (ask.Unpin version game)
 IsGranted-unpin {league} {k} version game kept granted =
-    let fits : Fits (games_of league k.history) (pins_of k.history) (Unpin game) =
+    let fits : Fits (games_of league k.history) (pins_of league k.history) (Unpin game) =
     (can_make league k.room k.history (ask.Unpin version game) kept.within granted).may in
     let sound = IsSound-kept kept in
-    let stands = pinned_stands k.games (pins_of k.history) game sound.1 fits in
+    let stands = pinned_stands k.games (pins_of league k.history) game sound.1 fits in
     IsGranted-pins (ask.Unpin version game) (slice_set k.pins (game.home * 40 + game.away) 255) kept granted (λ changes. refl) (λ g. refl)
     (length-set k.pins (game.home * 40 + game.away) 255)
-    (ArePinsAt-unpin k.games (pins_of k.history) k.pins game sound.0.most kept.pins_length stands.0 stands.1 sound.1 kept.pins_are)
+    (ArePinsAt-unpin k.games (pins_of league k.history) k.pins game sound.0.most kept.pins_length stands.0 stands.1 sound.1 kept.pins_are)
 
 pub IsGranted-shift : {league : LeagueData} {k : Kept} (p : Proposal) (g : Games) (cost : Cost) → FollowsHistory league k →
     refusal league k.room k.history (ask.Shift p) ≡ None → g ≡ moved k.games p.mv → cost ≡ cost_of league g →
@@ -195,18 +196,18 @@ IsGranted-shift {league} {k} p g cost kept granted moved_is cost_is =
     moved_is ∙
     ap (λ x. moved x p.mv) kept.games_are ∙
     sym (games_of-more league k.history (entry caller (ask.Shift p)) refl) in
-    let pins_are : (caller : ℕ) → pins_of (k.history ++ entry caller (ask.Shift p) ∷ []) ≡ pins_of k.history =
-    λ caller. pins_of-more k.history (entry caller (ask.Shift p)) refl in
+    let pins_are : (caller : ℕ) → pins_of league (k.history ++ entry caller (ask.Shift p) ∷ []) ≡ pins_of league k.history =
+    λ caller. pins_of-more league k.history (entry caller (ask.Shift p)) refl in
     let after : IsSound league (k.history ++ entry 0 (ask.Shift p) ∷ []) =
     IsSound-legal league k.room (k.history ++ entry 0 (ask.Shift p) ∷ []) kept.league_is
     (IsLegal-more league k.room k.history (entry 0 (ask.Shift p)) kept.legal can.under can.may) in
-    let stand : AllStand g (pins_of k.history) =
-    subst (λ x. AllStand x (pins_of k.history)) (sym (games_are 0))
+    let stand : AllStand g (pins_of league k.history) =
+    subst (λ x. AllStand x (pins_of league k.history)) (sym (games_are 0))
     (subst (AllStand (games_of league (k.history ++ entry 0 (ask.Shift p) ∷ []))) (pins_are 0) after.stand) in
     IsGranted-by (ask.Shift p) (k.changes ++ Shift p.mv ∷ []) g k.pins cost kept granted refl games_are kept.pins_length
     (λ caller.
     subst (λ q. ArePinsAt g q k.pins) (sym (pins_are caller))
-    (ArePinsAt-games k.games g (pins_of k.history) k.pins (ap (λ (x : Games). x.teams) moved_is ∙ moved-teams k.games p.mv)
+    (ArePinsAt-games k.games g (pins_of league k.history) k.pins (ap (λ (x : Games). x.teams) moved_is ∙ moved-teams k.games p.mv)
     (IsSound-kept kept).1 stand kept.pins_are))
     cost_is
 
@@ -215,7 +216,7 @@ IsGranted-shift {league} {k} p g cost kept granted moved_is cost_is =
 record LastKept (league : LeagueData) (h : List Entry) (g : Games) (prefix : List Change) (change : Change) : Type 0 where
   last : IsLastMade league prefix change
   games_are : g ≡ shifted (games_after (start_of league) prefix) change
-  pins_are : pins_of h ≡ pinned (pins_after [] prefix) change
+  pins_are : pins_of league h ≡ pinned (pins_after (kept_games league) prefix) change
 
 last_kept : {league : LeagueData} {k : Kept}
     (prefix : List Change) (change : Change) → FollowsHistory league k →
@@ -227,7 +228,7 @@ last_kept {league} {k} prefix change kept are =
       games_are = kept.games_are ∙
           games_of-by league k.history (prefix ++ change ∷ []) last ∙
           games_after-more (start_of league) prefix change;
-      pins_are = pins_of-by k.history (prefix ++ change ∷ []) last ∙ pins_after-more [] prefix change;
+      pins_are = pins_of-by league k.history (prefix ++ change ∷ []) last ∙ pins_after-more (kept_games league) prefix change;
     }
 
 can_take_back : (g : Games) (pins : List Game) (change : Change) → IsDoubleRoundRobin g → AllStand g pins → Fits g pins change →
@@ -306,7 +307,7 @@ IsGranted-undo {league} {k} version prefix change kept granted are =
     (taken_back-length k.pins change ∙ kept.pins_length)
     (λ caller.
     subst (λ q. ArePinsAt (shifted k.games change) q (taken_back k.pins change))
-    (sym (pins_of-by (k.history ++ entry caller (ask.Undo version) ∷ []) prefix (effective_is caller)))
+    (sym (pins_of-by league (k.history ++ entry caller (ask.Undo version) ∷ []) prefix (effective_is caller)))
     (subst (λ x. ArePinsAt x held (taken_back k.pins change)) (sym back) written))
     refl
 

@@ -4,6 +4,7 @@ use Rattle.std.proofs.Common.{[], ◌∷◌, ◌++◌, length, Option, Some, Non
 use Rattle.std.proofs.Common.{sym, ◌∙◌, ap, subst, append_assoc, append-nil, length-append, arith}
 use Rattle.std.proofs.lemmas.Bool.{not-false, eqb-false, ltb-true, and_parts}
 use Rattle.league.specs.League.{LeagueData, IsLeague}
+use Rattle.fixtures.specs.Draft.{is_game_in_range}
 use Rattle.fixtures.specs.Games.{Games}
 use Rattle.moves.specs.declared.fault.MoveFault.{MoveFault}
 use Rattle.moves.specs.declared.fault.MoveFault.TheVariants.{BadMove, Meet}
@@ -14,7 +15,7 @@ use Rattle.fixture_board.specs.declared.ask.Ask.{Ask}
 use Rattle.fixture_board.specs.declared.ask.Ask.TheVariants as ask
 use Rattle.fixture_board.specs.declared.reply.Why.{Why}
 use Rattle.fixture_board.specs.declared.reply.Why.TheVariants as why
-use Rattle.fixture_board.specs.History.{effect, effective, games_of, pins_of, has_game, is_game_in_range, is_there}
+use Rattle.fixture_board.specs.History.{effect, effective, games_of, pins_of, has_game, is_there}
 use Rattle.fixture_board.specs.History.{moves_pin, May, legal_after, IsLegal, cost_at, better, best_prefix, as_best}
 use Rattle.fixture_board.specs.History.{best_of}
 use Rattle.fixture_board.specs.Replies.{change_of, is_bad, is_meeting, first_of, version_rows, game_rows, move_rows}
@@ -57,24 +58,24 @@ can_make league room h (ask.Shift p) within none =
     let g : Games = games_of league h in
     let after : ℕ = score_of league (cost_of league (moved g p.mv)) in
     let rows = passed (move_rows (length h) room p.version g p.mv ++
-    (moves_pin (moved g p.mv) (pins_of h), why.Pinned) ∷ score_rows (length h) p (score_of league (cost_of league g)) after) none in
+    (moves_pin (moved g p.mv) (pins_of league h), why.Pinned) ∷ score_rows (length h) p (score_of league (cost_of league g)) after) none in
     record {
       under = has_room (length h) room within rows.1.0;
       may = (no_fault (fault_of g p.mv) rows.1.1.0 rows.1.1.1.0, rows.1.1.1.1.0);
     }
 can_make league room h (ask.Pin version game) within none =
     let g : Games = games_of league h in
-    let rows = passed (game_rows (length h) room version g game ++ (has_game (pins_of h) game, why.AlreadyPinned) ∷ []) none in
+    let rows = passed (game_rows (length h) room version g game ++ (has_game (pins_of league h) game, why.AlreadyPinned) ∷ []) none in
     record {
       under = has_room (length h) room within rows.1.1.0;
-      may = (not-false (is_game_in_range g game) rows.1.1.1.0, not-false (is_there g game) rows.1.1.1.1.0, rows.1.1.1.1.1.0);
+      may = (not-false (is_game_in_range g.teams game) rows.1.1.1.0, not-false (is_there g game) rows.1.1.1.1.0, rows.1.1.1.1.1.0);
     }
 can_make league room h (ask.Unpin version game) within none =
-    let rows = passed (game_rows (length h) room version (games_of league h) game ++ (not (has_game (pins_of h) game), why.NotPinned) ∷ [])
+    let rows = passed (game_rows (length h) room version (games_of league h) game ++ (not (has_game (pins_of league h) game), why.NotPinned) ∷ [])
     none in
     record {
       under = has_room (length h) room within rows.1.1.0;
-      may = not-false (has_game (pins_of h) game) rows.1.1.1.1.1.0;
+      may = not-false (has_game (pins_of league h) game) rows.1.1.1.1.1.0;
     }
 can_make league room h (ask.Undo version) within none =
     let rows = passed (version_rows (length h) room version ++ (length (effective h) == 0, why.NothingToUndo) ∷ []) none in

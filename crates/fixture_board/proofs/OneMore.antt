@@ -14,7 +14,7 @@ use Rattle.fixture_board.specs.declared.change.Entry.{Entry}
 use Rattle.fixture_board.specs.declared.ask.Ask.{Ask}
 use Rattle.fixture_board.specs.declared.reply.Why.{Why}
 use Rattle.fixture_board.specs.declared.reply.Reply.TheVariants.{Done, No}
-use Rattle.fixtures.specs.Start.{start_of}
+use Rattle.league.specs.Starts.{start_of, kept_games}
 use Rattle.fixture_board.specs.History.{effect, effective, effective_after, shifted, games_after, games_of, pinned}
 use Rattle.fixture_board.specs.History.{pins_after, pins_of, May, legal_after, IsLegal, cost_at, better, best_after}
 use Rattle.fixture_board.specs.History.{best_prefix}
@@ -30,9 +30,9 @@ pub games_of-none : (league : LeagueData) → games_of league [] ≡ start_of le
 unfolding games_of effective games_after
 games_of-none league = refl
 
-pub pins_of-none : pins_of [] ≡ []
+pub pins_of-none : (league : LeagueData) → pins_of league [] ≡ kept_games league
 unfolding pins_of effective pins_after
-pins_of-none = refl
+pins_of-none league = refl
 
 pub IsLegal-none : (league : LeagueData) (room : ℕ) → IsLegal league room []
 unfolding IsLegal
@@ -72,9 +72,10 @@ pub games_of-by : (league : LeagueData) (h : List Entry) (changes : List Change)
 unfolding games_of
 games_of-by league h changes same = ap (games_after (start_of league)) same
 
-pub pins_of-by : (h : List Entry) (changes : List Change) → effective h ≡ changes → pins_of h ≡ pins_after [] changes
+pub pins_of-by : (league : LeagueData) (h : List Entry) (changes : List Change) → effective h ≡ changes →
+    pins_of league h ≡ pins_after (kept_games league) changes
 unfolding pins_of
-pins_of-by h changes same = ap (pins_after []) same
+pins_of-by league h changes same = ap (pins_after (kept_games league)) same
 
 -- an entry whose change is no undo: `refl` proves the premise
 
@@ -86,12 +87,12 @@ games_of-more league h e appended =
     games_after-more (start_of league) (effective h) e.change ∙
     ap (λ g. shifted g e.change) (sym (games_of-by league h (effective h) refl))
 
-pub pins_of-more : (h : List Entry) (e : Entry) → effect (effective h) e.change ≡ effective h ++ e.change ∷ [] →
-    pins_of (h ++ e ∷ []) ≡ pinned (pins_of h) e.change
-pins_of-more h e appended =
-    pins_of-by (h ++ e ∷ []) (effective h ++ e.change ∷ []) (effective-more h e ∙ appended) ∙
-    pins_after-more [] (effective h) e.change ∙
-    ap (λ pins. pinned pins e.change) (sym (pins_of-by h (effective h) refl))
+pub pins_of-more : (league : LeagueData) (h : List Entry) (e : Entry) → effect (effective h) e.change ≡ effective h ++ e.change ∷ [] →
+    pins_of league (h ++ e ∷ []) ≡ pinned (pins_of league h) e.change
+pins_of-more league h e appended =
+    pins_of-by league (h ++ e ∷ []) (effective h ++ e.change ∷ []) (effective-more h e ∙ appended) ∙
+    pins_after-more (kept_games league) (effective h) e.change ∙
+    ap (λ pins. pinned pins e.change) (sym (pins_of-by league h (effective h) refl))
 
 -- an entry that undoes the change that was the last in effect
 

@@ -9,8 +9,10 @@ use Rattle.std.proofs.Math.Bool.{and-false, or-true}
 use Rattle.std.proofs.lemmas.List.Sums.{sum_by-cons}
 use Rattle.std.proofs.lemmas.List.{get_or-set_same, get_or-set_other, get_or-replicate}
 use Rattle.fixtures.specs.declared.game.Game.{Game}
-use Rattle.fixtures.specs.Games.{Games, round_of, round_count, IsPair, IsDoubleRoundRobin}
-use Rattle.fixture_board.specs.History.{is_game, has_game, is_pinned, is_game_in_range, is_there, moves_pin, AllStand}
+use Rattle.fixtures.specs.Draft.{is_game_in_range}
+use Rattle.fixtures.specs.Games.{Games, round_of, IsPair, IsDoubleRoundRobin}
+use Rattle.fixtures.proofs.ForCallers.{game_passed}
+use Rattle.fixture_board.specs.History.{is_game, has_game, is_pinned, is_there, moves_pin, AllStand}
 use Rattle.fixture_board.specs.PinTable.{pin_at, ArePinsAt}
 
 -- what is read after a write
@@ -69,19 +71,8 @@ is_game-pair g game pin there pin_there =
 
 -- the range of a game's numbers
 
-pub IsPair-in_range : (g : Games) (game : Game) → is_game_in_range g game ≡ true → IsPair g.teams game.home game.away
-IsPair-in_range g game range =
-    let round : Bool = nat_lt game.round (round_count g.teams) in
-    let home : Bool = nat_lt game.home g.teams in
-    let away : Bool = nat_lt game.away g.teams in
-    let first = and_parts (round && home && away) (not (game.home == game.away)) range in
-    let second = and_parts (round && home) away first.0 in
-    let third = and_parts round home second.0 in
-    record {
-      home_in = ltb-true game.home g.teams third.1;
-      away_in = ltb-true game.away g.teams second.1;
-      distinct = eqb-false game.home game.away (not-true (game.home == game.away) first.1);
-    }
+pub IsPair-in_range : (g : Games) (game : Game) → is_game_in_range g.teams game ≡ true → IsPair g.teams game.home game.away
+IsPair-in_range g game range = (game_passed g.teams game range).pair
 
 pub has_game-pinned : (g : Games) (pins : List Game) (game : Game) → AllStand g pins → is_there g game ≡ true →
     has_game pins game ≡ is_pinned pins game.home game.away
@@ -185,7 +176,7 @@ is_pinned-without_other (pin ∷ pins) game h a other =
     (is_pinned-without_other pins game h a other)
 
 module _ (g : Games) (pins : List Game) (table : List ℕ) (game : Game) (forty : g.teams ≤ 40) (size : length table ≡ 1600)
-    (range : is_game_in_range g game ≡ true) (there : is_there g game ≡ true) where
+    (range : is_game_in_range g.teams game ≡ true) (there : is_there g game ≡ true) where
   home_below : game.home < 40
   home_below = omega (arith, (IsPair-in_range g game range).home_in)
 

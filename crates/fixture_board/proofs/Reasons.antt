@@ -7,6 +7,7 @@ use Rattle.std.proofs.lemmas.Result.{err_from_is_err_and}
 use Rattle.std.proofs.lemmas.Bool.{ne_eqb}
 use Rattle.league.specs.League.{LeagueData}
 use Rattle.fixtures.specs.declared.game.Game.{Game}
+use Rattle.fixtures.specs.Draft.{is_game_in_range}
 use Rattle.fixtures.specs.Games.{Games, IsDoubleRoundRobin}
 use Rattle.moves.specs.Moves.{moved}
 use Rattle.fixture_board.specs.Costs.{cost_of, score_of}
@@ -18,7 +19,7 @@ use Rattle.fixture_board.specs.declared.ask.Proposal.{Proposal}
 use Rattle.fixture_board.specs.declared.reply.Why.{Why}
 use Rattle.fixture_board.specs.declared.reply.Why.TheVariants as why
 use Rattle.fixture_board.specs.declared.reply.Reply.TheVariants.{Done, No}
-use Rattle.fixture_board.specs.History.{games_of, pins_of, has_game, is_game_in_range, is_there, moves_pin, AllStand}
+use Rattle.fixture_board.specs.History.{games_of, pins_of, has_game, is_there, moves_pin, AllStand}
 use Rattle.fixture_board.specs.History.{cost_at}
 use Rattle.fixture_board.specs.PinTable.{pin_at, ArePinsAt}
 use Rattle.fixture_board.specs.Kept.{Kept, FollowsHistory, IsRefused, IsGranted, IsStep, entered}
@@ -69,7 +70,7 @@ IsStep-stopped league k asked {reason} result is refused =
     rw (p.1, p.2) (record { reason = refused; same = refl })
 
 -- whether a game that is in its round is pinned, by the table
-pub has_game-told : (g : Games) (game : Game) (table : List ℕ) (has : Bool) → IsDoubleRoundRobin g → is_game_in_range g game ≡ true →
+pub has_game-told : (g : Games) (game : Game) (table : List ℕ) (has : Bool) → IsDoubleRoundRobin g → is_game_in_range g.teams game ≡ true →
     is_there g game ≡ true → has ≡ not (pin_at table game.home game.away == 255) → (held : List Game) → AllStand g held →
     ArePinsAt g held table → has ≡ has_game held game
 has_game-told g game table has robin range there is held stand are =
@@ -81,10 +82,10 @@ has_game-told g game table has robin range there is held stand are =
 
 pin_rows : {league : LeagueData} {k : Kept} (version : ℕ) (game : Game) → FollowsHistory league k →
     refusal league k.room k.history (ask.Pin version game) ≡
-    first_of (game_rows (length k.history) k.room version k.games game ++ (has_game (pins_of k.history) game, why.AlreadyPinned) ∷ [])
+    first_of (game_rows (length k.history) k.room version k.games game ++ (has_game (pins_of league k.history) game, why.AlreadyPinned) ∷ [])
 unfolding refusal
 pin_rows {league} {k} version game kept =
-    ap (λ g. first_of (game_rows (length k.history) k.room version g game ++ (has_game (pins_of k.history) game, why.AlreadyPinned) ∷ []))
+    ap (λ g. first_of (game_rows (length k.history) k.room version g game ++ (has_game (pins_of league k.history) game, why.AlreadyPinned) ∷ []))
     (sym kept.games_are)
 
 pub pin_stopped : {league : LeagueData} {k : Kept} {answer : Result Bool Why} {reason : Why} (version : ℕ) (game : Game) →
@@ -92,24 +93,24 @@ pub pin_stopped : {league : LeagueData} {k : Kept} {answer : Result Bool Why} {r
     answer ≡ Err reason → refusal league k.room k.history (ask.Pin version game) ≡ Some reason
 pin_stopped {league} {k} version game kept told is =
     pin_rows version game kept ∙
-    stopped (game_rows (length k.history) k.room version k.games game) ((has_game (pins_of k.history) game, why.AlreadyPinned) ∷ []) told is
+    stopped (game_rows (length k.history) k.room version k.games game) ((has_game (pins_of league k.history) game, why.AlreadyPinned) ∷ []) told is
 
 pub pin_told : {league : LeagueData} {k : Kept} {answer : Result Bool Why} {has : Bool} (version : ℕ) (game : Game) →
     FollowsHistory league k → result_err answer ≡ first_of (game_rows (length k.history) k.room version k.games game) →
-    answer ≡ Ok has → has ≡ has_game (pins_of k.history) game →
+    answer ≡ Ok has → has ≡ has_game (pins_of league k.history) game →
     refusal league k.room k.history (ask.Pin version game) ≡ (if has then Some why.AlreadyPinned else None)
 pin_told {league} {k} version game kept told is has_is =
     pin_rows version game kept ∙
     went_on (game_rows (length k.history) k.room version k.games game)
-    ((has_game (pins_of k.history) game, why.AlreadyPinned) ∷ []) told is ∙
+    ((has_game (pins_of league k.history) game, why.AlreadyPinned) ∷ []) told is ∙
     ap (λ (b : Bool). if b then Some why.AlreadyPinned else None) (sym has_is)
 
 unpin_rows : {league : LeagueData} {k : Kept} (version : ℕ) (game : Game) → FollowsHistory league k →
     refusal league k.room k.history (ask.Unpin version game) ≡
-    first_of (game_rows (length k.history) k.room version k.games game ++ (not (has_game (pins_of k.history) game), why.NotPinned) ∷ [])
+    first_of (game_rows (length k.history) k.room version k.games game ++ (not (has_game (pins_of league k.history) game), why.NotPinned) ∷ [])
 unfolding refusal
 unpin_rows {league} {k} version game kept =
-    ap (λ g. first_of (game_rows (length k.history) k.room version g game ++ (not (has_game (pins_of k.history) game), why.NotPinned) ∷ []))
+    ap (λ g. first_of (game_rows (length k.history) k.room version g game ++ (not (has_game (pins_of league k.history) game), why.NotPinned) ∷ []))
     (sym kept.games_are)
 
 pub unpin_stopped : {league : LeagueData} {k : Kept} {answer : Result Bool Why} {reason : Why} (version : ℕ) (game : Game) →
@@ -118,16 +119,16 @@ pub unpin_stopped : {league : LeagueData} {k : Kept} {answer : Result Bool Why} 
 unpin_stopped {league} {k} version game kept told is =
     unpin_rows version game kept ∙
     stopped (game_rows (length k.history) k.room version k.games game)
-    ((not (has_game (pins_of k.history) game), why.NotPinned) ∷ []) told is
+    ((not (has_game (pins_of league k.history) game), why.NotPinned) ∷ []) told is
 
 pub unpin_told : {league : LeagueData} {k : Kept} {answer : Result Bool Why} {has : Bool} (version : ℕ) (game : Game) →
     FollowsHistory league k → result_err answer ≡ first_of (game_rows (length k.history) k.room version k.games game) →
-    answer ≡ Ok has → has ≡ has_game (pins_of k.history) game →
+    answer ≡ Ok has → has ≡ has_game (pins_of league k.history) game →
     refusal league k.room k.history (ask.Unpin version game) ≡ (if not has then Some why.NotPinned else None)
 unpin_told {league} {k} version game kept told is has_is =
     unpin_rows version game kept ∙
     went_on (game_rows (length k.history) k.room version k.games game)
-    ((not (has_game (pins_of k.history) game), why.NotPinned) ∷ []) told is ∙
+    ((not (has_game (pins_of league k.history) game), why.NotPinned) ∷ []) told is ∙
     ap (λ (b : Bool). if not b then Some why.NotPinned else None) (sym has_is)
 
 undo_rows : {league : LeagueData} {k : Kept} (version : ℕ) → FollowsHistory league k →
@@ -161,7 +162,7 @@ some_last changes prefix change are =
 -- the rows of a proposal that come after the check of its move
 abbrev rows_after : LeagueData → Kept → Proposal → List (Bool × Why)
 rows_after league k p =
-    (moves_pin (moved k.games p.mv) (pins_of k.history), why.Pinned) ∷
+    (moves_pin (moved k.games p.mv) (pins_of league k.history), why.Pinned) ∷
     score_rows (length k.history) p (score_of league k.cost) (score_of league (cost_of league (moved k.games p.mv)))
 
 shift_rows : {league : LeagueData} {k : Kept} (p : Proposal) → FollowsHistory league k →
@@ -183,7 +184,7 @@ shift_stopped {league} {k} p kept told is =
 
 pub shift_told : {league : LeagueData} {k : Kept} {answer : Result (Unit {0}) Why} {value : Unit {0}} {moves : Bool} (p : Proposal) →
     FollowsHistory league k → result_err answer ≡ first_of (move_rows (length k.history) k.room p.version k.games p.mv) →
-    answer ≡ Ok value → moves ≡ moves_pin (moved k.games p.mv) (pins_of k.history) →
+    answer ≡ Ok value → moves ≡ moves_pin (moved k.games p.mv) (pins_of league k.history) →
     refusal league k.room k.history (ask.Shift p) ≡
     (if moves then Some why.Pinned
     else first_of (score_rows (length k.history) p (score_of league k.cost) (score_of league (cost_of league (moved k.games p.mv)))))
@@ -198,7 +199,7 @@ shift_told {league} {k} p kept told is moves_is =
 pub shift_judged : {league : LeagueData} {k : Kept} {tested : Result (Unit {0}) Why} {value : Unit {0}} (p : Proposal)
     (g1 g2 : Games) (cost : Cost) (before after : ℕ) (moves : Bool) (judged : Result (Unit {0}) Why) →
     FollowsHistory league k → result_err tested ≡ first_of (move_rows (length k.history) k.room p.version k.games p.mv) →
-    tested ≡ Ok value → moves ≡ moves_pin (moved k.games p.mv) (pins_of k.history) → moves ≡ false →
+    tested ≡ Ok value → moves ≡ moves_pin (moved k.games p.mv) (pins_of league k.history) → moves ≡ false →
     g1 ≡ k.games → g2 ≡ moved g1 p.mv → cost ≡ cost_of league g2 → before ≡ score_of league k.cost → after ≡ score_of league cost →
     result_err judged ≡ first_of (score_rows (length k.history) p before after) →
     refusal league k.room k.history (ask.Shift p) ≡ result_err judged

@@ -6,7 +6,7 @@ use Rattle.std.proofs.lemmas.List.{length-set, length-replicate, take-take, take
 use Rattle.league.specs.League.{LeagueData, teams, IsLeague}
 use Rattle.fixtures.specs.declared.game.Game.{Game}
 use Rattle.fixtures.specs.Games.{Games, IsDoubleRoundRobin}
-use Rattle.fixtures.specs.Start.{start_of}
+use Rattle.league.specs.Starts.{start_of}
 use Rattle.fixture_board.specs.Costs.{cost_of, total_of}
 use Rattle.fixture_board.specs.declared.cost.Best.{Best}
 use Rattle.fixture_board.specs.declared.cost.Cost.{Cost}
@@ -26,7 +26,8 @@ use Rattle.fixture_board.proofs.Least.{best_prefix-is_best}
 use Rattle.fixture_board.proofs.OneMore.{effective-more}
 use Rattle.fixture_board.proofs.PinTable.{IsPair-in_range, ArePinsAt-games, ArePinsAt-pin, ArePinsAt-unpin, ArePinsAt-none}
 use Rattle.fixture_board.proofs.Scores.{moved-teams, games_of-teams, score_below}
-use Rattle.fixture_board.proofs.Sound.{FitFrom-legal, IsDoubleRoundRobin-change, IsDoubleRoundRobin-start}
+use Rattle.league.proofs.ForCallers.{round_robin_start}
+use Rattle.fixture_board.proofs.Sound.{FitFrom-legal, IsDoubleRoundRobin-change}
 use Rattle.fixture_board.proofs.Stand.{Fit, AllStand-change, pinned_stands}
 
 -- a prefix of a legal history is legal
@@ -143,10 +144,10 @@ IsPinTable-after g pins table (change ∷ changes) robin stand fit is =
     })
 
 IsPinTable-legal : (league : LeagueData) (room : ℕ) (h : List Entry) → IsLeague league → IsLegal league room h →
-    IsPinTable (games_of league h) (pins_of h) (written_after (replicate 1600 255) (effective h))
+    IsPinTable (games_of league h) (pins_of league h) (written_after (replicate 1600 255) (effective h))
 unfolding games_of pins_of
 IsPinTable-legal league room h is legal =
-    IsPinTable-after (start_of league) [] (replicate 1600 255) (effective h) (IsDoubleRoundRobin-start league is) tt
+    IsPinTable-after (start_of league) [] (replicate 1600 255) (effective h) (round_robin_start league is) tt
     (FitFrom-legal league room h legal) (record {
       size = length-replicate {A = ℕ} 1600 255;
       are = ArePinsAt-none (start_of league) is.table.most;
@@ -177,7 +178,7 @@ pub HavePlaces-kept : {league : LeagueData} {k : Kept} (n : ℕ) (changes : List
     changes ≡ effective (take n k.history) → (i : ℕ) (d : Change) → i < length changes → HasPlace (get_or changes i d)
 HavePlaces-kept {league} {k} n changes kept are =
     let fit = FitFrom-legal league k.room (take n k.history) (IsLegal-take league k.room n k.history kept.legal) in
-    HavePlaces (start_of league) [] changes (IsDoubleRoundRobin-start league kept.league_is) tt
+    HavePlaces (start_of league) [] changes (round_robin_start league kept.league_is) tt
     (subst (Fit (start_of league) []) (sym are) fit)
 
 -- what one step of a loop over the entries, or over the changes, adds
@@ -258,7 +259,7 @@ FollowsHistory-rewound {league} {k} best h cost kept best_is taken cost_is =
     subst (IsLegal league k.room) (sym taken) (IsLegal-take league k.room best.at k.history kept.legal) in
     let games_are : k.best_games ≡ games_of league h = known.games_are ∙ ap (games_of league) (sym same) in
     let size : k.best_games.teams ≡ teams league = ap (λ (g : Games). g.teams) games_are ∙ games_of-teams league h in
-    let table : IsPinTable (games_of league h) (pins_of h) (written_after (replicate 1600 255) (effective h)) =
+    let table : IsPinTable (games_of league h) (pins_of league h) (written_after (replicate 1600 255) (effective h)) =
     IsPinTable-legal league k.room h kept.league_is legal in
     let short : length h ≤ length k.history = rw same prefix.short in (
       same ∙ ap (λ o. unwrap_or o k.history) (sym known.is),
@@ -272,7 +273,7 @@ FollowsHistory-rewound {league} {k} best h cost kept best_is taken cost_is =
         games_are = games_are;
         same_size = size;
         pins_length = table.size;
-        pins_are = subst (λ g. ArePinsAt g (pins_of h) (written_after (replicate 1600 255) (effective h))) (sym games_are) table.are;
+        pins_are = subst (λ g. ArePinsAt g (pins_of league h) (written_after (replicate 1600 255) (effective h))) (sym games_are) table.are;
         cost_is = cost_is ∙ ap (cost_of league) games_are;
         small = rw cost_is (score_below league k.best_games kept.league_is size);
         leader = subst (λ found. IsLeader league found k.best k.best_games)

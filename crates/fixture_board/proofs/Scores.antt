@@ -29,7 +29,7 @@ use Rattle.fixture_board.specs.CostParts.{IsSmall}
 use Rattle.fixture_board.specs.declared.change.Change.{Change}
 use Rattle.fixture_board.specs.declared.change.Change.TheVariants.{Shift, Pin, Unpin, Undo}
 use Rattle.fixture_board.specs.declared.change.Entry.{Entry}
-use Rattle.fixtures.specs.Start.{start_of}
+use Rattle.league.specs.Starts.{start_of}
 use Rattle.fixture_board.specs.History.{effective, shifted, games_after, games_of, cost_at}
 use Rattle.robinx.proofs.ForCallers.{deviation_below}
 

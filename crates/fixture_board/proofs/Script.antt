@@ -40,7 +40,7 @@ not_full : (at room : ℕ) → at < room → (at == room) ≡ false
 not_full at room under = ne_eqb at room (omega arith)
 
 granted-shift : (league : LeagueData) (room : ℕ) (h : List Entry) (mv : Move) → IsScored league → length h < room →
-    Fits (games_of league h) (pins_of h) (Shift mv) → refusal league room h (ask_of (length h) (Shift mv)) ≡ None
+    Fits (games_of league h) (pins_of league h) (Shift mv) → refusal league room h (ask_of (length h) (Shift mv)) ≡ None
 unfolding refusal
 granted-shift league room h mv scored under fits =
     let e : Entry = record { caller = 0; change = Shift mv } in
@@ -61,7 +61,7 @@ granted-shift league room h mv scored under fits =
     refl))))))
 
 granted-pin : (league : LeagueData) (room : ℕ) (h : List Entry) (game : Game) → length h < room →
-    Fits (games_of league h) (pins_of h) (Pin game) → refusal league room h (ask_of (length h) (Pin game)) ≡ None
+    Fits (games_of league h) (pins_of league h) (Pin game) → refusal league room h (ask_of (length h) (Pin game)) ≡ None
 unfolding refusal
 granted-pin league room h game under fits =
     none_after _ (not_ahead (length h))
@@ -70,11 +70,11 @@ granted-pin league room h game under fits =
     (none_after _ (ap not fits.0) (none_after _ (ap not fits.1) (none_after _ fits.2 refl)))))
 
 granted-unpin : (league : LeagueData) (room : ℕ) (h : List Entry) (game : Game) → length h < room →
-    FitFrom league (effective h) → Fits (games_of league h) (pins_of h) (Unpin game) →
+    FitFrom league (effective h) → Fits (games_of league h) (pins_of league h) (Unpin game) →
     refusal league room h (ask_of (length h) (Unpin game)) ≡ None
 unfolding refusal
 granted-unpin league room h game under all fits =
-    let stands = pinned_stands (games_of league h) (pins_of h) game (AllStand-fit league h all) fits in
+    let stands = pinned_stands (games_of league h) (pins_of league h) game (AllStand-fit league h all) fits in
     none_after _ (not_ahead (length h))
     (none_after _ (not_ahead (length h))
     (none_after _ (not_full (length h) room under)
@@ -104,13 +104,13 @@ refusal-under : (league : LeagueData) (room : ℕ) (h : List Entry) (change : Ch
 unfolding refusal
 refusal-under league room h change =
     ap (λ at. refusal_at league room at (length (effective (under_caller_0 h))) (games_of league (under_caller_0 h))
-    (pins_of (under_caller_0 h)) (ask_of at change)) (length-credited 0 h) ∙
+    (pins_of league (under_caller_0 h)) (ask_of at change)) (length-credited 0 h) ∙
     ap (λ changes. refusal_at league room (length h) (length changes) (games_of league (under_caller_0 h))
-    (pins_of (under_caller_0 h)) (ask_of (length h) change)) (effective-credited 0 h) ∙
-    ap (λ g. refusal_at league room (length h) (length (effective h)) g (pins_of (under_caller_0 h))
+    (pins_of league (under_caller_0 h)) (ask_of (length h) change)) (effective-credited 0 h) ∙
+    ap (λ g. refusal_at league room (length h) (length (effective h)) g (pins_of league (under_caller_0 h))
     (ask_of (length h) change)) (games_of-credited league 0 h) ∙
     ap (λ pins. refusal_at league room (length h) (length (effective h)) (games_of league h) pins
-    (ask_of (length h) change)) (pins_of-credited 0 h)
+    (ask_of (length h) change)) (pins_of-credited league 0 h)
 
 -- a line after another
 
@@ -178,6 +178,6 @@ replayed league room h scored legal =
       history = all.history;
       accepted = all.accepted;
       games = games_of-credited league 0 h;
-      pins = pins_of-credited 0 h;
+      pins = pins_of-credited league 0 h;
       best = best_of-credited league 0 h;
     }

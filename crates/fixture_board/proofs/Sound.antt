@@ -6,12 +6,13 @@ use Rattle.fixtures.specs.Games.{Games, IsDoubleRoundRobin}
 use Rattle.fixture_board.specs.declared.change.Change.{Change}
 use Rattle.fixture_board.specs.declared.change.Change.TheVariants.{Shift, Pin, Unpin, Undo}
 use Rattle.fixture_board.specs.declared.change.Entry.{Entry}
-use Rattle.fixtures.specs.Start.{start_of}
+use Rattle.league.specs.Starts.{start_of, kept_games}
 use Rattle.fixture_board.specs.History.{effective, shifted, games_after, games_of, pinned, pins_after, AllStand}
 use Rattle.fixture_board.specs.History.{legal_after, IsLegal, Fits}
 use Rattle.fixture_board.specs.Laws.{IsSound}
-use Rattle.fixtures.proofs.ForCallers.{round_robin_start}
+use Rattle.league.proofs.ForCallers.{round_robin_start}
 use Rattle.moves.proofs.ForCallers.{each_double_round_robin}
+use Rattle.fixture_board.proofs.KeptGames.{AllStand-kept}
 use Rattle.fixture_board.proofs.Stand.{Fit, FitFrom, FitFrom-more, AllStand-after, AllStand-fit}
 
 -- the changes in effect of a legal history fit
@@ -42,24 +43,21 @@ IsDoubleRoundRobin-after g pins (change ∷ changes) robin all =
     IsDoubleRoundRobin-after (shifted g change) (pinned pins change) changes
     (IsDoubleRoundRobin-change g pins change robin all.0) all.1
 
-pub IsDoubleRoundRobin-start : (league : LeagueData) → IsLeague league → IsDoubleRoundRobin (start_of league)
-IsDoubleRoundRobin-start league is = round_robin_start league is.table.even is.table.least is.table.most
-
 pub IsSound-legal : (league : LeagueData) (room : ℕ) (h : List Entry) → IsLeague league → IsLegal league room h →
     IsSound league h
 unfolding games_of
 IsSound-legal league room h is legal =
     let all : FitFrom league (effective h) = FitFrom-legal league room h legal in
     record {
-      robin = IsDoubleRoundRobin-after (start_of league) [] (effective h) (IsDoubleRoundRobin-start league is) all;
-      stand = AllStand-fit league h all;
+      robin = IsDoubleRoundRobin-after (start_of league) (kept_games league) (effective h) (round_robin_start league is) all;
+      stand = AllStand-fit league h is all;
     }
 
 -- the change that was the last in effect, by the games and the pins before it
 pub record IsLastMade (league : LeagueData) (prefix : List Change) (change : Change) : Type 0 where
   pub robin : IsDoubleRoundRobin (games_after (start_of league) prefix)
-  pub stand : AllStand (games_after (start_of league) prefix) (pins_after [] prefix)
-  pub fits : Fits (games_after (start_of league) prefix) (pins_after [] prefix) change
+  pub stand : AllStand (games_after (start_of league) prefix) (pins_after (kept_games league) prefix)
+  pub fits : Fits (games_after (start_of league) prefix) (pins_after (kept_games league) prefix) change
 
 Fit-prefix : (g : Games) (pins : List Game) (changes : List Change) (change : Change) → Fit g pins (changes ++ change ∷ []) →
     Fit g pins changes
@@ -76,9 +74,9 @@ pub IsLastMade-legal : (league : LeagueData) (room : ℕ) (h : List Entry) (pref
     IsLeague league → IsLegal league room h → effective h ≡ prefix ++ change ∷ [] → IsLastMade league prefix change
 IsLastMade-legal league room h prefix change is legal last =
     let all : FitFrom league (prefix ++ change ∷ []) = subst (FitFrom league) last (FitFrom-legal league room h legal) in
-    let before : FitFrom league prefix = Fit-prefix (start_of league) [] prefix change all in
+    let before : FitFrom league prefix = Fit-prefix (start_of league) (kept_games league) prefix change all in
     record {
-      robin = IsDoubleRoundRobin-after (start_of league) [] prefix (IsDoubleRoundRobin-start league is) before;
-      stand = AllStand-after (start_of league) [] prefix tt before;
-      fits = Fit-last (start_of league) [] prefix change all;
+      robin = IsDoubleRoundRobin-after (start_of league) (kept_games league) prefix (round_robin_start league is) before;
+      stand = AllStand-after (start_of league) (kept_games league) prefix (AllStand-kept league is) before;
+      fits = Fit-last (start_of league) (kept_games league) prefix change all;
     }

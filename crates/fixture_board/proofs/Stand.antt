@@ -2,29 +2,29 @@
 use Rattle.std.proofs.Common.{◌≡◌, ℕ, zero, suc, ◌-◌, Bool, true, false, not, nat_lt, cond, ◌&&◌, ◌==◌, inl, inr, List}
 use Rattle.std.proofs.Common.{[], ◌∷◌, ◌++◌, length, take, filter, true≢false, sym, ◌∙◌, ap, subst}
 use Rattle.std.proofs.lemmas.Bool.{or_cases, or_parts, and_parts, not-false, eqb-true}
-use Rattle.league.specs.League.{LeagueData}
+use Rattle.league.specs.League.{LeagueData, IsLeague}
 use Rattle.fixtures.specs.declared.game.Game.{Game}
-use Rattle.fixtures.specs.Games.{Games, round_count}
+use Rattle.fixtures.specs.Draft.{is_game_in_range}
+use Rattle.fixtures.specs.Games.{Games}
 use Rattle.moves.specs.declared.moves.Move.{Move}
 use Rattle.moves.specs.Moves.{moved}
 use Rattle.fixture_board.specs.declared.change.Change.{Change}
 use Rattle.fixture_board.specs.declared.change.Change.TheVariants.{Shift, Pin, Unpin, Undo}
 use Rattle.fixture_board.specs.declared.change.Entry.{Entry}
-use Rattle.fixtures.specs.Start.{start_of}
+use Rattle.league.specs.Starts.{start_of, kept_games}
 use Rattle.fixture_board.specs.History.{effect, effective, shifted, games_after, games_of, is_game, has_game, pinned}
-use Rattle.fixture_board.specs.History.{pins_after, pins_of, is_game_in_range, is_there, moves_pin, AllStand, Fits, May}
+use Rattle.fixture_board.specs.History.{pins_after, pins_of, is_there, moves_pin, AllStand, Fits, May}
 use Rattle.fixture_board.proofs.OneMore.{effective-more}
+use Rattle.fixture_board.proofs.KeptGames.{AllStand-kept}
 use Rattle.fixture_board.proofs.Scores.{moved-teams}
 
 -- the game is one of the schedule
 abbrev pub Stands : Games → Game → Type 0
-Stands g game = (is_game_in_range g game ≡ true) × (is_there g game ≡ true)
+Stands g game = (is_game_in_range g.teams game ≡ true) × (is_there g game ≡ true)
 
 -- a move keeps the range of numbers
-in_range-moved : (g : Games) (mv : Move) (game : Game) → is_game_in_range g game ≡ is_game_in_range (moved g mv) game
-in_range-moved g mv game =
-    ap (λ n. nat_lt game.round (round_count n) && nat_lt game.home n && nat_lt game.away n && not (game.home == game.away))
-    (sym (moved-teams g mv))
+in_range-moved : (g : Games) (mv : Move) (game : Game) → is_game_in_range g.teams game ≡ is_game_in_range (moved g mv).teams game
+in_range-moved g mv game = ap (λ n. is_game_in_range n game) (sym (moved-teams g mv))
 
 -- after each change that fits, the pinned games stand
 
@@ -99,20 +99,21 @@ AllStand-after g pins (change ∷ changes) stand all =
 
 -- the changes in effect after a history fit
 abbrev pub FitFrom : LeagueData → List Change → Type 0
-FitFrom league changes = Fit (start_of league) [] changes
+FitFrom league changes = Fit (start_of league) (kept_games league) changes
 
 FitFrom-effect : (league : LeagueData) (h : List Entry) (change : Change) → FitFrom league (effective h) → May league h change →
     FitFrom league (effect (effective h) change)
 unfolding games_of pins_of
-FitFrom-effect league h (Shift mv) all may = Fit-more (start_of league) [] (effective h) (Shift mv) all may
-FitFrom-effect league h (Pin game) all may = Fit-more (start_of league) [] (effective h) (Pin game) all may
-FitFrom-effect league h (Unpin game) all may = Fit-more (start_of league) [] (effective h) (Unpin game) all may
-FitFrom-effect league h Undo all may = Fit-take (start_of league) [] (length (effective h) - 1) (effective h) all
+FitFrom-effect league h (Shift mv) all may = Fit-more (start_of league) (kept_games league) (effective h) (Shift mv) all may
+FitFrom-effect league h (Pin game) all may = Fit-more (start_of league) (kept_games league) (effective h) (Pin game) all may
+FitFrom-effect league h (Unpin game) all may = Fit-more (start_of league) (kept_games league) (effective h) (Unpin game) all may
+FitFrom-effect league h Undo all may = Fit-take (start_of league) (kept_games league) (length (effective h) - 1) (effective h) all
 
 pub FitFrom-more : (league : LeagueData) (h : List Entry) (e : Entry) → FitFrom league (effective h) → May league h e.change →
     FitFrom league (effective (h ++ e ∷ []))
 FitFrom-more league h e all may = subst (FitFrom league) (sym (effective-more h e)) (FitFrom-effect league h e.change all may)
 
-pub AllStand-fit : (league : LeagueData) (h : List Entry) → FitFrom league (effective h) → AllStand (games_of league h) (pins_of h)
+pub AllStand-fit : (league : LeagueData) (h : List Entry) → IsLeague league → FitFrom league (effective h) →
+    AllStand (games_of league h) (pins_of league h)
 unfolding games_of pins_of
-AllStand-fit league h all = AllStand-after (start_of league) [] (effective h) tt all
+AllStand-fit league h is all = AllStand-after (start_of league) (kept_games league) (effective h) (AllStand-kept league is) all

@@ -16,7 +16,7 @@ pub record IsSameCredited (league : LeagueData) (room caller : ℕ) (h : List En
   pub legal_before : IsLegal league room (credited caller h) → IsLegal league room h
   pub effective : effective (credited caller h) ≡ effective h
   pub games : games_of league (credited caller h) ≡ games_of league h
-  pub pins : pins_of (credited caller h) ≡ pins_of h
+  pub pins : pins_of league (credited caller h) ≡ pins_of league h
   pub cost : cost_at league (credited caller h) ≡ cost_at league h
   pub prefix : best_prefix league (credited caller h) ≡ option_map (credited caller) (best_prefix league h)
   pub best : best_of league (credited caller h) ≡ best_of league h

@@ -3,8 +3,9 @@ use Rattle.std.specs.Prelude.{◌≡◌, ◌≢◌, ℕ, ◌-◌, ◌<◌, ◌�
 use Rattle.std.specs.Prelude.{List, [], ◌∷◌, ◌++◌, length, take, filter, Option, Some, None, Ok}
 use Rattle.std.specs.List.{list_any}
 use Rattle.fixtures.specs.declared.game.Game.{Game}
-use Rattle.fixtures.specs.Games.{Games, round_of, round_count}
-use Rattle.fixtures.specs.Start.{start_of}
+use Rattle.fixtures.specs.Draft.{is_game_in_range}
+use Rattle.fixtures.specs.Games.{Games, round_of}
+use Rattle.league.specs.Starts.{start_of, kept_games}
 use Rattle.moves.specs.Moves.{moved, fault_of}
 use Rattle.fixture_board.specs.declared.cost.Cost.{Cost}
 use Rattle.league.specs.League.{LeagueData}
@@ -56,19 +57,13 @@ unfoldable pub pins_after : List Game → List Change → List Game
 pins_after pins [] = pins
 pins_after pins (change ∷ changes) = pins_after (pinned pins change) changes
 
--- the pinned games, the newest first
-unfoldable pub pins_of : List Entry → List Game
-pins_of h = pins_after [] (effective h)
+-- the pinned games, the newest first: at the beginning those that the league keeps
+unfoldable pub pins_of : LeagueData → List Entry → List Game
+pins_of league h = pins_after (kept_games league) (effective h)
 
 -- whether the game of this pair is pinned
 abbrev pub is_pinned : List Game → ℕ → ℕ → Bool
 is_pinned pins home away = list_any (λ pin. pin.home == home && pin.away == away) pins
-
--- whether the numbers of the game are in range and its teams distinct
-abbrev pub is_game_in_range : Games → Game → Bool
-is_game_in_range g game =
-    nat_lt game.round (round_count g.teams) && nat_lt game.home g.teams && nat_lt game.away g.teams &&
-    not (game.home == game.away)
 
 -- whether the pair plays in that round
 abbrev pub is_there : Games → Game → Bool
@@ -81,19 +76,19 @@ moves_pin g pins = list_any (λ pin. not (is_there g pin)) pins
 -- the pinned games are games of the schedule
 abbrev pub AllStand : Games → List Game → Type 0
 AllStand g [] = Unit {0}
-AllStand g (pin ∷ pins) = ((is_game_in_range g pin ≡ true) × (is_there g pin ≡ true)) × AllStand g pins
+AllStand g (pin ∷ pins) = ((is_game_in_range g.teams pin ≡ true) × (is_there g pin ≡ true)) × AllStand g pins
 
 -- a change that is no undo can be made of these games and pins
 abbrev pub Fits : Games → List Game → Change → Type 0
 Fits g pins (Shift mv) = (fault_of g mv ≡ Ok tt) × (moves_pin (moved g mv) pins ≡ false)
-Fits g pins (Pin game) = (is_game_in_range g game ≡ true) × (is_there g game ≡ true) × (has_game pins game ≡ false)
+Fits g pins (Pin game) = (is_game_in_range g.teams game ≡ true) × (is_there g game ≡ true) × (has_game pins game ≡ false)
 Fits g pins (Unpin game) = has_game pins game ≡ true
 Fits g pins Undo = ⊥
 
 -- a change can be made after a history
 abbrev pub May : LeagueData → List Entry → Change → Type 0
 May league h Undo = 0 < length (effective h)
-May league h change = Fits (games_of league h) (pins_of h) change
+May league h change = Fits (games_of league h) (pins_of league h) change
 
 -- the greatest room of a board
 abbrev pub max_room : ℕ

@@ -72,7 +72,7 @@ pub record FollowsHistory (league : LeagueData) (k : Kept) : Type 0 where
   pub games_are : k.games ≡ games_of league k.history
   pub same_size : k.games.teams ≡ teams league
   pub pins_length : length k.pins ≡ pin_entries
-  pub pins_are : ArePinsAt k.games (pins_of k.history) k.pins
+  pub pins_are : ArePinsAt k.games (pins_of league k.history) k.pins
   pub cost_is : k.cost ≡ cost_at league k.history
   pub small : score_of league k.cost < score_limit
   pub leader : IsLeader league (best_prefix league k.history) k.best k.best_games

@@ -26,4 +26,4 @@ TellsOf league h e next (No at reason) = (next ≡ h) × (at ≡ length next)
 -- the schedule of a history is a double round robin, and has the pinned games
 pub record IsSound (league : LeagueData) (h : List Entry) : Type 0 where
   pub robin : IsDoubleRoundRobin (games_of league h)
-  pub stand : AllStand (games_of league h) (pins_of h)
+  pub stand : AllStand (games_of league h) (pins_of league h)

@@ -28,5 +28,5 @@ pub record IsReplayed (league : LeagueData) (room : ℕ) (h : List Entry) : Type
   pub history : played_from league room [] (changes_of h) ≡ under_caller_0 h
   pub accepted : AllDone (answers_from league room [] (changes_of h))
   pub games : games_of league (under_caller_0 h) ≡ games_of league h
-  pub pins : pins_of (under_caller_0 h) ≡ pins_of h
+  pub pins : pins_of league (under_caller_0 h) ≡ pins_of league h
   pub best : best_of league (under_caller_0 h) ≡ best_of league h

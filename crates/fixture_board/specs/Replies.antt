@@ -2,6 +2,7 @@
 use Rattle.std.specs.Prelude.{ℕ, ◌+◌, ◌-◌, ◌^◌, Bool, true, false, not, ◌&&◌, ◌==◌, nat_lt, if◌then◌else◌, List, []}
 use Rattle.std.specs.Prelude.{◌∷◌, ◌++◌, length, Option, Some, None, Result, Err}
 use Rattle.fixtures.specs.declared.game.Game.{Game}
+use Rattle.fixtures.specs.Draft.{is_game_in_range}
 use Rattle.fixtures.specs.Games.{Games}
 use Rattle.moves.specs.declared.fault.MoveFault.{MoveFault}
 use Rattle.moves.specs.declared.fault.MoveFault.TheVariants.{BadMove, Meet}
@@ -19,7 +20,7 @@ use Rattle.fixture_board.specs.declared.reply.Why.{Why}
 use Rattle.fixture_board.specs.declared.reply.Why.TheVariants as why
 use Rattle.fixture_board.specs.declared.reply.Reply.{Reply}
 use Rattle.fixture_board.specs.declared.reply.Reply.TheVariants.{Done, No}
-use Rattle.fixture_board.specs.History.{effective, games_of, pins_of, has_game, is_game_in_range, is_there, moves_pin}
+use Rattle.fixture_board.specs.History.{effective, games_of, pins_of, has_game, is_there, moves_pin}
 use Rattle.fixture_board.specs.History.{cost_at}
 
 -- the change that is asked for
@@ -56,7 +57,7 @@ version_rows at room version =
 -- of a pin and an unpin, whatever is pinned
 abbrev pub game_rows : ℕ → ℕ → ℕ → Games → Game → List (Bool × Why)
 game_rows at room version g game =
-    version_rows at room version ++ (not (is_game_in_range g game), why.BadGame) ∷ (not (is_there g game), why.NotThere) ∷ []
+    version_rows at room version ++ (not (is_game_in_range g.teams game), why.BadGame) ∷ (not (is_there g game), why.NotThere) ∷ []
 
 -- of a move, before it is tried
 abbrev pub move_rows : ℕ → ℕ → ℕ → Games → Move → List (Bool × Why)
@@ -87,7 +88,7 @@ refusal_at league room at count g pins (ask.Undo version) =
     first_of (version_rows at room version ++ (count == 0, why.NothingToUndo) ∷ [])
 
 unfoldable pub refusal : LeagueData → ℕ → List Entry → Ask → Option Why
-refusal league room h ask = refusal_at league room (length h) (length (effective h)) (games_of league h) (pins_of h) ask
+refusal league room h ask = refusal_at league room (length h) (length (effective h)) (games_of league h) (pins_of league h) ask
 
 abbrev pub entry : ℕ → Ask → Entry
 entry caller ask = record { caller = caller; change = change_of ask }

@@ -23,7 +23,9 @@ use Rattle.league.specs.declared.rule.Weight.{Weight}
 use Rattle.league.specs.declared.rule.Weight.TheVariants.{Hard, Soft}
 use Rattle.league.specs.Checks.{IsDistanceTable}
 use Rattle.league.specs.Games.{is_same_game, is_same_game_equiv}
-use Rattle.league.specs.League.{LeagueData, league_data}
+use Rattle.league.specs.League.{LeagueData, league_data, with_origin}
+use Rattle.league.specs.declared.origins.Start.TheVariants.{Berger}
+use Rattle.league.specs.Origins.{OriginData, origin_at}
 use Rattle.league.specs.Rows.{joined, table_of}
 use Rattle.league.specs.Views.{texts}
 use Rattle.league.proofs.Rows.{table_of-joined}
@@ -126,7 +128,11 @@ same_tables : (n m : ℕ) (d e : List (List ℕ)) → IsDistanceTable n d → Is
 same_tables n m d e d_is e_is same numbers =
     sym (table_of-joined n d d_is.rows d_is.columns) ∙ (λ i. table_of (same i) (numbers i)) ∙ table_of-joined m e e_is.rows e_is.columns
 
--- the tests of the parts, one after another, decide whether the leagues are equal
+-- the origin that stands for any
+abbrev pub berger : OriginData
+berger = origin_at Berger
+
+-- the tests of the parts, one after another, decide whether the leagues are equal in all but their origins
 leagues_decide : (names others : List (String Global)) (d e : List (List ℕ)) (t u : Terms) (rules more : List Rule)
     → IsDistanceTable (length (texts names)) d → IsDistanceTable (length (texts others)) e
     → Decides (((terms_eq.eq-value.it t u && are_same_texts names others) && pointwise nat_eq (joined d) (joined e))
@@ -177,3 +183,7 @@ then_and s t v on is = is ∙ ap (λ b. b && t) (sym on)
 
 pub else_and : (s t v : Bool) → s ≡ false → v ≡ s → v ≡ (s && t)
 else_and s t v off is = is ∙ off ∙ ap (λ b. b && t) (sym off)
+
+-- leagues are equal that are so in all but their origins, and in these
+pub same_with_origins : (o : OriginData) (l m : LeagueData) → with_origin o l ≡ with_origin o m → l.origin ≡ m.origin → l ≡ m
+same_with_origins o l m rest origins = λ i. record (rest i) { origin = origins i }

@@ -1,7 +1,9 @@
 pub mod ForCallers
+mod Beginnings
 mod Equality
 mod GameLists
 pub mod Items
+mod Keeping
 mod MadeLeagues
 pub mod OnLiterals
 mod Rows

@@ -1,5 +1,5 @@
 -- The leagues that are made are leagues.
-use Rattle.std.proofs.Common.{◌≡◌, ℕ, zero, suc, ◌+◌, ◌%◌, ◌<◌, ◌≤◌, ◌&&◌, ◌==◌, nat_le, List, [], ◌∷◌, map, true, false, refl}
+use Rattle.std.proofs.Common.{◌≡◌, ℕ, zero, suc, ◌+◌, ◌%◌, ◌<◌, ◌≤◌, ◌&&◌, ◌==◌, nat_le, List, [], ◌∷◌, length, map, true, false, refl}
 use Rattle.std.proofs.Common.{sym, ◌∙◌, zero-add, arith}
 use Rattle.std.proofs.lemmas.Bool.{agree_below_at, and_from, and_parts, leb-true}
 use Rattle.std.proofs.lemmas.Bool.Decides.{nat_tests}
@@ -14,6 +14,9 @@ use Rattle.league.specs.League.{league_data, IsLeague}
 use Rattle.league.specs.Limits.{min_teams, max_teams, max_distance, default_at_most, default_hard_weight}
 use Rattle.league.specs.LeagueMembers.{is_team_name}
 use Rattle.league.specs.Made.{apart, made_name, made_names, made_row, made_rows}
+use Rattle.league.specs.declared.origins.Start.TheVariants.{Berger}
+use Rattle.league.specs.Origins.{origin_at}
+use Rattle.league.proofs.Beginnings.{origin_for_none}
 use Rattle.league.proofs.Tables.{HasColumns, IsDistanceTable-from_within}
 
 columns : (layout : Layout) (n : ℕ) (places : List ℕ) → HasColumns n (map (made_row layout n) places)
@@ -77,7 +80,7 @@ IsLeague-made layout n counted = record {
   names = made_names_pass n 0 (omega (arith, most_teams n counted));
   rule_count = omega arith;
   rules = tt;
-  origin = IsOriginFor-none n Berger tt;
+  origin = origin_for_none (length (made_names n)) Berger tt;
 }
 
 pub IsLeague-as_made : (layout : Layout) (n : ℕ) (names distances : List (List ℕ)) (rules : List Rule)

@@ -1,7 +1,8 @@
 -- Worked leagues and faults, by computation.
 use Rattle.std.proofs.Common.{◌≡◌, ℕ, Bool, List, [], ◌∷◌, ◌++◌, take, true, false, Ok, Err, refl}
 use Rattle.std.specs.Prelude.{codes}
-use Rattle.league.specs.declared.fault.Field.TheVariants.{Whole, Format, Teams, AtMost, Rules, Start, Phased}
+use Rattle.league.specs.declared.fault.Field.TheVariants as field
+use Rattle.league.specs.declared.fault.Field.TheVariants.{Whole, Format, Teams, AtMost, Rules, Phased}
 use Rattle.league.specs.declared.fault.LeagueFault.TheVariants.{NotJson, MissingField, WrongKind, TeamCount}
 use Rattle.league.specs.declared.fault.LeagueFault.TheVariants.{DistanceShape, DistanceRange, Diagonal, Asymmetric}
 use Rattle.league.specs.declared.fault.LeagueFault.TheVariants.{RuleClass, RuleValue}
@@ -9,6 +10,9 @@ use Rattle.league.specs.declared.rule.Rule.{Rule}
 use Rattle.league.specs.declared.rule.RuleBody.TheVariants.{Ca1, Ga1, Fa2}
 use Rattle.league.specs.declared.rule.Side.TheVariants.{Away}
 use Rattle.league.specs.declared.rule.Weight.TheVariants.{Hard, Soft}
+use Rattle.league.specs.declared.origins.Start.{Start}
+use Rattle.league.specs.declared.origins.Start.TheVariants as start
+use Rattle.league.specs.Origins.{origin_at}
 use Rattle.league.specs.League.{LeagueData, league_data, league_of}
 use Rattle.league.specs.Made.{circular_of, constant_of}
 use Rattle.league.proofs.OnLiterals.{league_on_literals}
@@ -17,12 +21,12 @@ abbrev four_names : List (List ℕ)
 four_names = codes "T1" ∷ codes "T2" ∷ codes "T3" ∷ codes "T4" ∷ []
 
 pub circular_of-four : circular_of 4 ≡ Ok (league_data four_names
-    ((0 ∷ 1 ∷ 2 ∷ 1 ∷ []) ∷ (1 ∷ 0 ∷ 1 ∷ 2 ∷ []) ∷ (2 ∷ 1 ∷ 0 ∷ 1 ∷ []) ∷ (1 ∷ 2 ∷ 1 ∷ 0 ∷ []) ∷ []) 3 100 [] false false)
+    ((0 ∷ 1 ∷ 2 ∷ 1 ∷ []) ∷ (1 ∷ 0 ∷ 1 ∷ 2 ∷ []) ∷ (2 ∷ 1 ∷ 0 ∷ 1 ∷ []) ∷ (1 ∷ 2 ∷ 1 ∷ 0 ∷ []) ∷ []) 3 100 [] (origin_at start.Berger) false)
 unfolding league_on_literals
 circular_of-four = refl
 
 pub constant_of-four : constant_of 4 ≡ Ok (league_data four_names
-    ((0 ∷ 1 ∷ 1 ∷ 1 ∷ []) ∷ (1 ∷ 0 ∷ 1 ∷ 1 ∷ []) ∷ (1 ∷ 1 ∷ 0 ∷ 1 ∷ []) ∷ (1 ∷ 1 ∷ 1 ∷ 0 ∷ []) ∷ []) 3 100 [] false false)
+    ((0 ∷ 1 ∷ 1 ∷ 1 ∷ []) ∷ (1 ∷ 0 ∷ 1 ∷ 1 ∷ []) ∷ (1 ∷ 1 ∷ 0 ∷ 1 ∷ []) ∷ (1 ∷ 1 ∷ 1 ∷ 0 ∷ []) ∷ []) 3 100 [] (origin_at start.Berger) false)
 unfolding league_on_literals
 constant_of-four = refl
 
@@ -52,7 +56,7 @@ league_of-four = refl
 
 pub league_of-far : league_of (four_teams (codes "[[0,1000000,0,0],[1000000,0,0,0],[0,0,0,0],[0,0,0,0]]")
     (codes ",\"at_most\":78,\"hard_weight\":1000000")) ≡ Ok (league_data four_names
-    ((0 ∷ 1000000 ∷ 0 ∷ 0 ∷ []) ∷ (1000000 ∷ 0 ∷ 0 ∷ 0 ∷ []) ∷ (0 ∷ 0 ∷ 0 ∷ 0 ∷ []) ∷ (0 ∷ 0 ∷ 0 ∷ 0 ∷ []) ∷ []) 78 1000000 [] false false)
+    ((0 ∷ 1000000 ∷ 0 ∷ 0 ∷ []) ∷ (1000000 ∷ 0 ∷ 0 ∷ 0 ∷ []) ∷ (0 ∷ 0 ∷ 0 ∷ 0 ∷ []) ∷ (0 ∷ 0 ∷ 0 ∷ 0 ∷ []) ∷ []) 78 1000000 [] (origin_at start.Berger) false)
 unfolding league_on_literals
 league_of-far = refl
 
@@ -120,7 +124,7 @@ with_rules rules = four_teams circle (codes ",\"rules\":[" ++ rules ++ codes "]"
 abbrev circle_with : List Rule → LeagueData
 circle_with rules =
     league_data four_names ((0 ∷ 1 ∷ 2 ∷ 1 ∷ []) ∷ (1 ∷ 0 ∷ 1 ∷ 2 ∷ []) ∷ (2 ∷ 1 ∷ 0 ∷ 1 ∷ []) ∷ (1 ∷ 2 ∷ 1 ∷ 0 ∷ []) ∷ []) 3 100 rules
-    false false
+    (origin_at start.Berger) false
 
 -- team 4 away in rounds 1, 3 and 5: as sets 2^3, and 2^0 + 2^2 + 2^4
 pub league_of-CA1 : league_of (with_rules
@@ -158,14 +162,14 @@ league_of-FA2 = refl
 abbrev second_format : List ℕ → List ℕ
 second_format more = codes "{\"format\":2,\"teams\":[\"T1\",\"T2\",\"T3\",\"T4\"],\"distances\":" ++ circle ++ more ++ codes "}"
 
-abbrev circle_in_order : List Rule → Bool → Bool → LeagueData
-circle_in_order rules fide phased = record {
+abbrev circle_in_order : List Rule → Start → Bool → LeagueData
+circle_in_order rules at phased = record {
   names = four_names;
   distances = (circle_with []).distances;
   at_most = 3;
   hard_weight = 100;
   rules = rules;
-  fide = fide;
+  origin = origin_at at;
   phased = phased;
 }
 
@@ -173,11 +177,11 @@ pub league_of-second_format : league_of (second_format []) ≡ circular_of 4
 unfolding league_on_literals
 league_of-second_format = refl
 
-pub league_of-fide : league_of (second_format (codes ",\"start\":\"fide\"")) ≡ Ok (circle_in_order [] true false)
+pub league_of-fide : league_of (second_format (codes ",\"start\":\"fide\"")) ≡ Ok (circle_in_order [] start.Fide false)
 unfolding league_on_literals
 league_of-fide = refl
 
-pub league_of-phased : league_of (second_format (codes ",\"start\":\"plain\",\"phased\":true")) ≡ Ok (circle_in_order [] false true)
+pub league_of-phased : league_of (second_format (codes ",\"start\":\"plain\",\"phased\":true")) ≡ Ok (circle_in_order [] start.Berger true)
 unfolding league_on_literals
 league_of-phased = refl
 
@@ -186,7 +190,7 @@ pub league_of-first_format : league_of (four_teams circle (codes ",\"start\":\"f
 unfolding league_on_literals
 league_of-first_format = refl
 
-pub league_of-capitals : league_of (second_format (codes ",\"start\":\"FIDE\"")) ≡ Err (WrongKind Start)
+pub league_of-capitals : league_of (second_format (codes ",\"start\":\"FIDE\"")) ≡ Err (WrongKind field.Start)
 unfolding league_on_literals
 league_of-capitals = refl
 
@@ -197,6 +201,6 @@ league_of-phased_number = refl
 -- teams 1 to 4 after each of rounds 1 to 6
 pub league_of-second_FA2 : league_of
     (second_format (codes ",\"rules\":[{\"class\":\"FA2\",\"kind\":\"hard\",\"teams\":[1,2,3,4],\"intp\":1}]"))
-    ≡ Ok (circle_in_order (record { weight = Hard; body = Fa2 15 63 1 } ∷ []) false false)
+    ≡ Ok (circle_in_order (record { weight = Hard; body = Fa2 15 63 1 } ∷ []) start.Berger false)
 unfolding league_on_literals
 league_of-second_FA2 = refl

@@ -1,5 +1,5 @@
 -- The members of a league's text, in the order of their checks.
-use Rattle.std.specs.Prelude.{ℕ, ◌&&◌, ◌==◌, List, codes, length, Bool, true, false, not, nat_le, Option, Some, None}
+use Rattle.std.specs.Prelude.{ℕ, ◌&&◌, ◌==◌, List, codes, length, Bool, false, not, nat_le, Option, Some, None}
 use Rattle.std.specs.Prelude.{option_and_then, if◌then◌else◌, Result, Ok}
 use Rattle.std.specs.List.{list_all}
 use Rattle.std.specs.Str.{bytes_eq}

@@ -1,7 +1,7 @@
 -- Where the boards of a league begin: the schedule, the games of it that are kept, and what leaving it costs.
-use Rattle.std.specs.Prelude.{◌≡◌, ℕ, ◌≤◌, List, length}
+use Rattle.std.specs.Prelude.{◌≡◌, ℕ, ◌≤◌, true, List, length}
 use Rattle.fixtures.specs.Berger.{berger_round, fide_round}
-use Rattle.fixtures.specs.Games.{Games, round_of, IsDoubleRoundRobin, IsPair}
+use Rattle.fixtures.specs.Games.{round_of, IsDoubleRoundRobin, IsPair}
 use Rattle.sets.specs.Limits.{max_teams}
 use Rattle.sets.specs.Pairs.{has_pair, no_pairs}
 use Rattle.league.specs.declared.origins.Start.{Start}

@@ -1,5 +1,6 @@
 -- The schedule that a league starts with, and the games of it that are kept.
-use Rattle.std.specs.Prelude.{◌≡◌, ℕ, ◌||◌, ◌==◌, Bool}
+use Rattle.std.specs.Prelude.{◌≡◌, ℕ, zero, suc, ◌||◌, Bool, true, false, if◌then◌else◌, List, [], ◌∷◌, ◌++◌}
+use Rattle.fixtures.specs.declared.game.Game.{Game}
 use Rattle.fixtures.specs.Games.{Games, games, IsPair}
 use Rattle.sets.specs.Pairs.{has_pair, no_pairs, with_pair}
 use Rattle.league.specs.declared.origins.Start.TheVariants.{Fide, Given}
@@ -23,6 +24,24 @@ is_fide _ = false
 abbrev pub keeps : LeagueData → ℕ → ℕ → Bool
 keeps l home away = has_pair l.origin.kept home away
 
+-- the game of a pair, in the round that it has at the start
+abbrev pub start_game : LeagueData → ℕ → ℕ → Game
+start_game l home away = record { round = start_round l home away; home = home; away = away }
+
+-- the games of a home team that are kept, against the teams below m
+unfoldable pub kept_at : LeagueData → ℕ → ℕ → List Game
+kept_at l home zero = []
+kept_at l home (suc m) = if keeps l home m then start_game l home m ∷ kept_at l home m else kept_at l home m
+
+-- those of the home teams below m
+unfoldable pub kept_below : LeagueData → ℕ → List Game
+kept_below l zero = []
+kept_below l (suc m) = kept_at l m (teams l) ++ kept_below l m
+
+-- the games of the start that the league keeps
+unfoldable pub kept_games : LeagueData → List Game
+kept_games l = kept_below l (teams l)
+
 -- the league that begins at a schedule, and keeps none of its games
 abbrev pub beginning_at : Games → LeagueData → LeagueData
 beginning_at g l = record l { origin = record l.origin { start = Given g; kept = no_pairs } }
@@ -35,7 +54,7 @@ keeping home away l = record l { origin = record l.origin { kept = with_pair l.o
 abbrev pub near_at : ℕ → LeagueData → LeagueData
 near_at weight l = record l { origin = record l.origin { near = weight } }
 
--- the second is the first that keeps all games of a round of the start besides
-pub record KeepsRound (round : ℕ) (l m : LeagueData) : Type 0 where
+-- the second league is the first that keeps besides the games of the start that pass a test
+pub record KeepsMore (passes : ℕ → ℕ → Bool) (l m : LeagueData) : Type 0 where
   pub same : m ≡ record l { origin = record l.origin { kept = m.origin.kept } }
-  pub kept : (home away : ℕ) → IsPair (teams l) home away → keeps m home away ≡ (keeps l home away || start_round l home away == round)
+  pub kept : (home away : ℕ) → IsPair (teams l) home away → keeps m home away ≡ (keeps l home away || passes home away)

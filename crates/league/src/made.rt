@@ -10,8 +10,8 @@ ghost use Rattle.league.specs.Views.{texts, rows};
 use crate::checks::is_team_count;
 use crate::fault::LeagueFault;
 use crate::leagues::{League, Terms};
-use crate::origins::Start;
 use crate::limits::{DEFAULT_AT_MOST, DEFAULT_HARD_WEIGHT};
+use crate::origins::Start;
 use std::alloc::{AllocError, Global};
 
 /// How the homes of a made league lie.
@@ -81,7 +81,14 @@ fn made(alloc: Global, layout: Layout, n: u8) -> Result<League, LeagueFault>
     }
     let names = made_names(alloc, n)?;
     let distances = made_rows(alloc, layout, n)?;
-    Ok(League::new(alloc, names, &distances, Vec::new(alloc), Start::Berger, DEFAULT_TERMS)?)
+    Ok(League::new(
+        alloc,
+        names,
+        &distances,
+        Vec::new(alloc),
+        Start::Berger,
+        DEFAULT_TERMS,
+    )?)
 }
 
 /// The league of `n` teams T1 to Tn whose homes lie in a circle, each at distance 1 from the next, with at most

@@ -3,7 +3,8 @@
 ghost use Rattle.std.specs.Prelude.{◌≡◌, ◌%◌, ◌<◌, ◌≤◌, ◌↔◌, IfOk, IsTrue};
 ghost use Rattle.fixtures.specs.Games.{games, round_count, IsDoubleRoundRobin, IsPair};
 ghost use Rattle.sets.specs.Limits.{max_teams};
-ghost use Rattle.league.specs.Origins.{origin_at, round_at_start, IsStartFor};
+ghost use Rattle.sets.specs.Pairs.{no_pairs, with_pair};
+ghost use Rattle.league.specs.Origins.{origin_at, origin_data, round_at_start, IsStartFor};
 
 use fixtures::{Schedule, berger, berger_fide, berger_round, fide_round};
 use sets::PairSet;
@@ -23,7 +24,7 @@ pub enum Start {
 
 impl Start {
     /// Makes the schedule, of so many teams.
-    pub(crate) fn make(&self, alloc: Global, teams: u8) -> Result<Schedule, AllocError>
+    fn make(&self, alloc: Global, teams: u8) -> Result<Schedule, AllocError>
         requires fits { IsStartFor teams self.now }
         requires even { teams % 2 ≡ 0 }
         requires four { 4 ≤ teams }
@@ -105,10 +106,41 @@ impl Origin {
         }
     }
 
+    /// Makes the schedule of the start, of so many teams.
+    pub(crate) fn make(&self, alloc: Global, teams: u8) -> Result<Schedule, AllocError>
+        requires fits { IsStartFor teams self.now.start }
+        requires even { teams % 2 ≡ 0 }
+        requires four { 4 ≤ teams }
+        requires most { teams ≤ max_teams }
+        ensures games { IfOk result (λ s. s ≡ games teams (λ home away. round_at_start teams self.now.start home away)) }
+        ensures round_robin { IfOk result IsDoubleRoundRobin }
+    {
+        self.start.make(alloc, teams)
+    }
+
+    /// Goes on to a schedule, and keeps none of its games.
+    pub(crate) fn begin_at(&mut self, start: Schedule)
+        ensures { self.new ≡ origin_data (Start.Given start) no_pairs self.old.near }
+    {
+        self.start = Start::Given(start);
+        self.kept = PairSet::empty();
+    }
+
+    /// Keeps one game more.
+    pub(crate) fn keep(&mut self, home: u8, away: u8)
+        requires home { home < max_teams }
+        requires away { away < max_teams }
+        ensures { self.new ≡ origin_data self.old.start (with_pair self.old.kept home away) self.old.near }
+    {
+        self.kept.add(home, away);
+    }
+
     pub(crate) fn is_same(&self, other: &Origin) -> bool
         ensures { IsTrue result ↔ (self.now ≡ other.now) }
     {
-        self.near == other.near && self.kept.is_same(&other.kept) && self.start.is_same(&other.start)
+        self.near == other.near
+            && self.kept.is_same(&other.kept)
+            && self.start.is_same(&other.start)
     }
 
     pub(crate) fn duplicate(&self, alloc: Global) -> Result<Origin, AllocError>

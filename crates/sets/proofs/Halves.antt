@@ -1,5 +1,5 @@
 -- A set of slots by its halves: the numbers below 64, and those from 64 on, each 64 further down.
-use Rattle.std.proofs.Common.{◌≡◌, ℕ, ◌+◌, ◌-◌, ◌*◌, ◌^◌, ◌<◌, ◌≤◌, ◌&&◌, ◌==◌, not, bit_and, true, false}
+use Rattle.std.proofs.Common.{◌≡◌, ℕ, ◌+◌, ◌-◌, ◌*◌, ◌^◌, ◌<◌, ◌≤◌, ◌&&◌, ◌==◌, not, bit_and, false}
 use Rattle.std.proofs.Math.Bool.{and-true}
 use Rattle.std.proofs.Common.{sym, ◌∙◌, ap, inl, inr, arith}
 use Rattle.std.proofs.Math.Nat.{mul-lt-mul_of_pos_right}

@@ -6,4 +6,5 @@ mod Halves
 mod SetBits
 mod SetRows
 mod SetWords
+mod PairSets
 pub mod ForCallers

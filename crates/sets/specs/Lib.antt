@@ -1,3 +1,4 @@
 pub mod Limits
 pub mod Sums
 pub mod Sets
+pub mod Pairs

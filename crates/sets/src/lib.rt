@@ -3,8 +3,10 @@
 #![tactic(auto)]
 
 pub mod limits;
+mod pairs;
 mod slots;
 mod teams;
 
+pub use pairs::PairSet;
 pub use slots::{SlotSet, Slots};
 pub use teams::{TeamSet, Teams};

@@ -4,14 +4,14 @@ ghost use Rattle.std.specs.Prelude.{◌≡◌, ◌≢◌, ℕ, ◌^◌, ◌<◌,
 ghost use Rattle.std.specs.Result.{result_err};
 ghost use Rattle.league.specs.Limits.{max_teams};
 ghost use Rattle.fixtures.specs.declared.game.Game.{Game};
-ghost use Rattle.fixture_board.specs.History.{has_game, is_game_in_range, AllStand};
+ghost use Rattle.fixture_board.specs.History.{has_game, AllStand};
 ghost use Rattle.fixture_board.specs.PinTable.{ArePinsAt};
 ghost use Rattle.fixture_board.specs.Replies.{first_of, is_wrong, version_rows, game_rows, move_rows, score_rows};
 
 use crate::ask::Proposal;
 use crate::reply::Why;
 use crate::state::State;
-use fixtures::{Game, Schedule};
+use fixtures::Game;
 use moves::{Move, MoveFault, check};
 
 /// A score, and why a proposal is refused whose score after its move is above it.
@@ -49,7 +49,7 @@ impl State {
         ensures away { IfOk result (λ _. game.away < max_teams) }
     {
         self.check_version(version)?;
-        if !is_game_in_range(&self.schedule, game) {
+        if !game.is_in_range(self.schedule.teams()) {
             return Err(Why::BadGame);
         }
         if self.schedule.round_of(game.home, game.away) != game.round {
@@ -109,16 +109,6 @@ impl State {
             Ok(())
         }
     }
-}
-
-/// Whether the numbers of the game are in range and its teams distinct.
-fn is_game_in_range(schedule: &Schedule, game: Game) -> bool
-    ensures { result ≡ is_game_in_range schedule.now game }
-{
-    game.round < schedule.rounds()
-        && game.home < schedule.teams()
-        && game.away < schedule.teams()
-        && game.home != game.away
 }
 
 /// Whether a score is claimed, and another one than this.

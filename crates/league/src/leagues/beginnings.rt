@@ -1,25 +1,25 @@
 //! What a league says of where its boards begin.
 
 use super::League;
-use fixtures::Schedule;
 use crate::origins::Start;
+use fixtures::Schedule;
 use sets::PairSet;
 use std::alloc::{AllocError, Global};
 
 impl League {
-    ghost use Rattle.std.specs.Prelude.{◌≡◌, ℕ, ◌<◌, ◌≤◌, IfOk, true};
+    ghost use Rattle.std.specs.Prelude.{◌≡◌, ◌==◌, ◌&&◌, ℕ, ◌<◌, ◌≤◌, IfOk, true};
     ghost use Rattle.fixtures.specs.Games.{round_count, IsDoubleRoundRobin, IsPair};
     ghost use Rattle.sets.specs.Pairs.{has_pair};
     ghost use Rattle.league.specs.League.{teams};
     ghost use Rattle.league.specs.Limits.{max_weight};
-    ghost use Rattle.league.specs.Starts.{beginning_at, is_fide, keeping, keeps, near_at, start_of, start_round, KeepsRound};
+    ghost use Rattle.league.specs.Starts.{beginning_at, is_fide, keeping, keeps, near_at, start_of, start_round, KeepsMore};
 
     /// Makes the schedule that the boards of the league begin at. Answers an error only if there is no memory.
     pub fn start(&self, alloc: Global) -> Result<Schedule, AllocError>
         ensures games { IfOk result (λ s. s ≡ start_of self.now) }
         ensures round_robin { IfOk result IsDoubleRoundRobin }
     {
-        self.origin.start.make(alloc, self.teams())
+        self.origin.make(alloc, self.teams())
     }
 
     /// The round in which `home` receives `away` at the start. Takes no memory.
@@ -44,22 +44,22 @@ impl League {
         ensures { self.new ≡ beginning_at start self.old }
     {
         prove_eq!(start.teams(), self.teams());
-        self.origin.start = Start::Given(start);
-        self.origin.kept = PairSet::empty();
+        self.origin.begin_at(start);
     }
 
     /// Keeps the game of the start in which `home` receives `away`: boards begin with it pinned. One that is kept stays so.
     /// Takes no memory.
     pub fn keep(&mut self, home: u8, away: u8)
         requires { IsPair (teams self.old) home away }
-        ensures { self.new ≡ keeping home away self.old }
+        ensures value { self.new ≡ keeping home away self.old }
+        ensures more { KeepsMore (λ h a. h == home && a == away) self.old self.new }
     {
-        self.origin.kept.add(home, away);
+        self.origin.keep(home, away);
     }
 
     /// Keeps all games of a round of the start. Takes no memory.
     pub fn keep_round(&mut self, round: u8)
-        ensures { KeepsRound round self.old self.new }
+        ensures { KeepsMore (λ home away. start_round self.old home away == round) self.old self.new }
     {
         for home in 0..self.teams() {
             self.keep_home_game(home, round);
@@ -69,11 +69,21 @@ impl League {
     /// Keeps the game of a round of the start in which the team is at home, if there is one.
     fn keep_home_game(&mut self, home: u8, round: u8)
         requires { home < teams self.old }
+        ensures { KeepsMore (λ h a. h == home && start_round self.old h a == round) self.old self.new }
     {
         for away in 0..self.teams() {
-            if away != home && self.start_round(home, away) == round {
-                self.keep(home, away);
-            }
+            self.keep_in_round(home, away, round);
+        }
+    }
+
+    /// Keeps the game in which `home` receives `away` if it is in this round of the start.
+    fn keep_in_round(&mut self, home: u8, away: u8, round: u8)
+        requires home { home < teams self.old }
+        requires away { away < teams self.old }
+        ensures { KeepsMore (λ h a. (h == home && a == away) && start_round self.old h a == round) self.old self.new }
+    {
+        if home != away && self.start_round(home, away) == round {
+            self.keep(home, away);
         }
     }
 
@@ -82,7 +92,7 @@ impl League {
         requires { IsPair (teams self.now) home away }
         ensures { result ≡ keeps self.now home away }
     {
-        prove!(self.teams() <= MAX_TEAMS);
+        let _teams = self.teams();
         self.origin.kept.has(home, away)
     }
 

@@ -1,7 +1,14 @@
-use Rattle.std.proofs.Common.{arith, rules}
+use Rattle.std.proofs.Common.{arith, length, rules}
 use Rattle.std.proofs.lemmas.Grind.{common_steps}
 use Rattle.league.specs.League.{league_of_data}
+use Rattle.league.specs.Views.{texts}
+use Rattle.league.proofs.Beginnings.{origin_for_none}
 use Rattle.league.proofs.reader.league_of_data.Goals as goal
+
+pub new-requires : goal.new-requires
+new-requires c =
+    let origin = origin_for_none (length (texts c.in_ok-names.names.items)) c.in_ok-start.start (c.in_ok-start.ensures.fits _) in
+    grind (arith, common_steps)
 
 pub returns-clause-exact : goal.returns-clause-exact
 unfolding league_of_data

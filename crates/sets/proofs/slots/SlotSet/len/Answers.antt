@@ -1,4 +1,4 @@
-use Rattle.std.proofs.Common.{◌≡◌, ℕ, ◌-◌, ◌^◌, ◌≤◌, bit_and, sym, ◌∙◌, ap, subst, arith}
+use Rattle.std.proofs.Common.{◌≡◌, ℕ, ◌-◌, ◌^◌, bit_and, sym, ◌∙◌, ap, subst, arith}
 use Rattle.std.proofs.lemmas.Nat.{ones_le_self}
 use Rattle.std.specs.Int.RustNames.{count_ones}
 use Rattle.sets.specs.Limits.{max_rounds}
