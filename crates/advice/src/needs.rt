@@ -10,7 +10,7 @@ ghost use Rattle.advice.specs.Needs.{member_of, is_kind, number_member, are_in_o
 
 use crate::forms::{is_game_array, is_number_set, number_within, text_member};
 use crate::hint::RuleMember;
-use league::limits::{MAX_COUNT, MAX_WEIGHT};
+use league::limits::{MAX_COUNT, MAX_WEIGHT, round_count};
 use serde_json::Value;
 
 /// What a class asks of a member.
@@ -68,7 +68,7 @@ impl Need {
         ensures { result ≡ is_met teams (view rule.now) self }
     {
         let most = u64::from(teams);
-        let rounds = 2 * (most - 1);
+        let rounds = u64::from(round_count(teams));
         match self {
             Need::Kind => has_kind(rule),
             Need::Weight => has_weight(rule),

@@ -50,7 +50,7 @@ fn time_moves<R: Runtime + AllocGlobal>(
     count: u32,
 ) -> io::Result<(Count, u128)> {
     let league = league_of(rt.alloc(), teams)?;
-    let mut schedule = fixtures::start(rt.alloc(), &league)?;
+    let mut schedule = league.start(rt.alloc())?;
     let start = Instant::now(rt)?;
     let counted = measure(&mut schedule, kind, count);
     let each = nanoseconds_each(rt, start, counted.made)?;
@@ -95,7 +95,7 @@ fn time_tries<R: Runtime + AllocGlobal>(
     plan: Plan,
 ) -> io::Result<(Tries, u128)> {
     let league = league_of(rt.alloc(), teams)?;
-    let mut schedule = fixtures::start(rt.alloc(), &league)?;
+    let mut schedule = league.start(rt.alloc())?;
     let start = Instant::now(rt)?;
     let tries = try_moves(&mut schedule, &league, tried, plan);
     let each = nanoseconds_each(rt, start, plan.count)?;
@@ -229,7 +229,7 @@ fn league_of(alloc: Global, teams: u8) -> io::Result<League> {
 /// That league and its start.
 fn league_and_start(alloc: Global, teams: u8) -> io::Result<(League, Schedule)> {
     let league = league_of(alloc, teams)?;
-    let start = fixtures::start(alloc, &league)?;
+    let start = league.start(alloc)?;
     Ok((league, start))
 }
 

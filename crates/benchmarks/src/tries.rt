@@ -11,6 +11,7 @@ use crate::plan::Plan;
 use fixture_board::{Attempt, Cost, KeptGaps, cost_of, make_within};
 use fixtures::Schedule;
 use league::League;
+use league::limits::round_count;
 use moves::{Move, check, exchange};
 use rand_pcg::Lcg64Xsh32;
 use search::draw;
@@ -46,7 +47,7 @@ impl Tried {
     {
         match self {
             Tried::Drawn => draw(generator, teams),
-            Tried::Of(kind) => kind.nth(index, teams, 2 * (teams - 1)),
+            Tried::Of(kind) => kind.nth(index, teams, round_count(teams)),
         }
     }
 }

@@ -4,7 +4,6 @@ mod answers;
 mod between_phases;
 mod boards;
 mod callers;
-mod change_lines;
 mod changes;
 mod checks;
 mod drawn_numbers;

@@ -4,6 +4,7 @@ ghost use Rattle.std.specs.Prelude.{◌<◌, ◌≤◌};
 ghost use Rattle.league.specs.Limits.{max_teams};
 
 use fixture_board::Proposal;
+use league::limits::round_count;
 use moves::Move;
 use rand::RngExt;
 use rand_pcg::Lcg64Xsh32;
@@ -19,7 +20,7 @@ pub(crate) fn proposal(version: u64, generator: &mut Lcg64Xsh32, teams: u8) -> P
     requires least { 2 ≤ teams }
     requires most { teams ≤ max_teams }
 {
-    let rounds = 2 * (teams - 1);
+    let rounds = round_count(teams);
     let (i, k) = (below(generator, teams), below(generator, rounds));
     let mv = if below(generator, 4) < 3 {
         let j = below(generator, teams);

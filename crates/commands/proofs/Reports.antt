@@ -10,7 +10,7 @@ use Rattle.advice.specs.Remarks.{remarks_on}
 use Rattle.fixtures.specs.Games.{Games}
 use Rattle.league.specs.League.{LeagueData, league_of, teams}
 use Rattle.texts.specs.Input.{lines_after, text_before}
-use Rattle.reports.specs.Given.{IsVerdict}
+use Rattle.schedule_texts.specs.Given.{IsVerdict}
 use Rattle.report_formats.specs.declared.format.Format.{Format}
 use Rattle.report_formats.specs.Format.{report_in}
 use Rattle.commands.specs.declared.report_command.Verdict.{Verdict}

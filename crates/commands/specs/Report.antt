@@ -7,7 +7,7 @@ use Rattle.advice.specs.declared.hint.Hint.{Hint}
 use Rattle.league.specs.declared.fault.LeagueFault.{LeagueFault}
 use Rattle.league.specs.League.{LeagueData, league_of, teams}
 use Rattle.texts.specs.Input.{lines_after, text_before}
-use Rattle.reports.specs.Given.{IsVerdict}
+use Rattle.schedule_texts.specs.Given.{IsVerdict}
 use Rattle.reports.specs.Report.{is_feasible}
 use Rattle.report_formats.specs.declared.format.Format.{Format}
 use Rattle.report_formats.specs.Format.{report_in}

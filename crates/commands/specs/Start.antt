@@ -1,6 +1,6 @@
 -- What `ttp start` answers to an input.
 use Rattle.std.specs.Prelude.{◌≡◌, ℕ, List, Result, Ok, Err}
-use Rattle.fixtures.specs.Start.{start_of}
+use Rattle.league.specs.Starts.{start_of}
 use Rattle.league.specs.League.{LeagueData, league_of}
 use Rattle.texts.specs.Sheet.{sheet_of}
 use Rattle.commands.specs.declared.fault.ProgramFault.{ProgramFault}

@@ -9,7 +9,8 @@ use crate::fault::{ProgramFault, after_writing};
 use advice::{hint_on, remarks_on};
 use league::{LeagueFault, read_league};
 use report_formats::{Format, prepare, write_prepared};
-use reports::judge;
+use reports::is_feasible;
+use schedule_texts::judge;
 use std::alloc::Global;
 use streams::{Sink, Source, read_all};
 use texts::split_at_line;
@@ -73,7 +74,7 @@ pub fn report_from<R: Source, W: Sink>(
         return Err(ProgramFault::NoSheet);
     };
     let judged = judge(alloc, &league, sheet)?;
-    let verdict = Verdict::of(judged.is_feasible(&league));
+    let verdict = Verdict::of(is_feasible(&judged, &league));
     let prepared = prepare(alloc, format, &league, &judged, remarks_on(alloc, text)?)?;
     let outcome = write_prepared(&league, sheet, &judged, &prepared, sink);
     after_writing(outcome, verdict)

@@ -33,7 +33,7 @@ pub fn start_from<R: Source, W: Sink>(
 {
     let input = read_all(alloc, source)?;
     let league = read_league(alloc, &input)?;
-    let schedule = fixtures::start(alloc, &league)?;
+    let schedule = league.start(alloc)?;
     sheet(&schedule, &league, sink)?;
     Ok(())
 }

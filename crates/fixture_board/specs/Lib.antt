@@ -12,4 +12,3 @@ pub mod Retraced
 pub mod Kept
 pub mod Looks
 pub mod Laws
-pub mod Lines

@@ -28,7 +28,24 @@ pub enum Ask {
 
 impl Ask {
     ghost use Rattle.std.specs.Prelude.{◌≡◌};
-    ghost use Rattle.fixture_board.specs.Replies.{change_of};
+    ghost use Rattle.fixture_board.specs.Replies.{ask_with, change_of};
+
+    /// The change as it is asked for at the version. A move has no claim and this slack.
+    pub fn of(change: Change, version: u64, slack: u64) -> Ask
+        ensures { result ≡ ask_with version slack change }
+    {
+        match change {
+            Change::Shift(mv) => Ask::Shift(Proposal {
+                version,
+                mv,
+                claim: None,
+                slack,
+            }),
+            Change::Pin(game) => Ask::Pin { version, game },
+            Change::Unpin(game) => Ask::Unpin { version, game },
+            Change::Undo => Ask::Undo { version },
+        }
+    }
 
     /// The change that is asked for.
     pub(crate) fn change(self) -> Change

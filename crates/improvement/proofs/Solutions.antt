@@ -7,7 +7,7 @@ use Rattle.std.proofs.lemmas.List.Sums.{fold-append}
 use Rattle.std.specs.List.{cons_option, last_or}
 use Rattle.std.specs.Option.{option_map, unwrap_or}
 use Rattle.league.specs.League.{IsLeague, LeagueData}
-use Rattle.fixtures.specs.Start.{start_of}
+use Rattle.league.specs.Starts.{start_of}
 use Rattle.fixture_board.specs.Costs.{cost_of, total_of}
 use Rattle.fixture_board.specs.declared.change.Entry.{Entry}
 use Rattle.fixture_board.specs.declared.cost.Best.{Best}

@@ -3,7 +3,7 @@ use Rattle.std.specs.Prelude.{◌≡◌, ℕ, ◌≤◌, true, List, [], ◌∷�
 use Rattle.std.specs.List.{last_or}
 use Rattle.league.specs.League.{LeagueData, teams}
 use Rattle.fixtures.specs.Games.{IsDoubleRoundRobin}
-use Rattle.fixtures.specs.Start.{start_of}
+use Rattle.league.specs.Starts.{start_of}
 use Rattle.fixture_board.specs.Costs.{cost_of, total_of}
 use Rattle.fixture_board.specs.declared.change.Entry.{Entry}
 use Rattle.fixture_board.specs.declared.cost.Best.{Best}

@@ -6,14 +6,14 @@ ghost use Rattle.fixture_board.specs.declared.change.Entry.{Entry};
 ghost use Rattle.fixture_board.specs.History.{IsLegal};
 ghost use Rattle.fixture_board.specs.Record.{book};
 ghost use Rattle.fixture_board.specs.Replay.{changes_of};
-ghost use Rattle.fixture_board.specs.Replies.{ask_of, played_from};
+ghost use Rattle.fixture_board.specs.Replies.{played_from};
 ghost use Rattle.fixture_board.specs.Rewound.{rewound};
 ghost use Rattle.shared_board.specs.Held.{AreOf};
 ghost use Rattle.improvement.specs.Runs.{ahead, is_behind, leads, outcome_of, room_of};
 ghost use Rattle.improvement.specs.Kept.{IsLead, best_of_outcome};
 
 use crate::setting::Setting;
-use fixture_board::{Ask, Board, Change, Proposal};
+use fixture_board::{Ask, Board, Change};
 use phases::PhaseOutcome;
 use std::alloc::{AllocError, Global};
 
@@ -125,30 +125,13 @@ fn first_changes(alloc: Global, board: &Board, count: u64) -> Result<Vec<Change>
     Ok(changes)
 }
 
-/// Asks for the changes one by one, as caller 0.
+/// Asks for the changes one by one, as caller 0 and with the greatest slack.
 fn replay(board: &mut Board, changes: &[Change])
     ensures { board.new ≡ book board.old.league board.old.room
         (played_from board.old.league board.old.room board.old.history changes.now) }
 {
     for change in changes {
         let version = board.version();
-        board.answer(0, asked(*change, version));
-    }
-}
-
-/// A change as a call at the version. A move has the greatest slack.
-fn asked(change: Change, version: u64) -> Ask
-    ensures { result ≡ ask_of version change }
-{
-    match change {
-        Change::Shift(mv) => Ask::Shift(Proposal {
-            version,
-            mv,
-            claim: None,
-            slack: u64::MAX,
-        }),
-        Change::Pin(game) => Ask::Pin { version, game },
-        Change::Unpin(game) => Ask::Unpin { version, game },
-        Change::Undo => Ask::Undo { version },
+        board.answer(0, Ask::of(*change, version, u64::MAX));
     }
 }

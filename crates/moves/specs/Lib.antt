@@ -1,4 +1,3 @@
 pub mod Moves
 pub mod Exchanges
 pub mod Laws
-pub mod Lines

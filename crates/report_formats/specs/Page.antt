@@ -29,7 +29,7 @@ total_text cost =
 
 abbrev pub figures_text : LeagueData → Cost → List ℕ
 figures_text l cost =
-    concat (codes "<h1>" ∷ decimal (teams l) ∷ codes " teams, " ∷ decimal (2 * (teams l - 1)) ∷
+    concat (codes "<h1>" ∷ decimal (teams l) ∷ codes " teams, " ∷ decimal (round_count (teams l)) ∷
     codes " rounds</h1><ul><li>travel <b>" ∷ decimal cost.travel ∷ codes "</b></li><li>hard <b>" ∷ decimal cost.hard ∷
     codes "</b></li><li>soft <b>" ∷ decimal cost.soft ∷ codes "</b></li>" ∷ [])
     ++ total_text cost

@@ -7,14 +7,16 @@ ghost use Rattle.league.specs.League.{teams};
 ghost use Rattle.streams.specs.Limits.{write_limit};
 ghost use Rattle.streams.specs.Sending.{AppendsPrefix};
 ghost use Rattle.streams.specs.Tally.{FailsWriting};
-ghost use Rattle.reports.specs.Report.{report_text, IsJudgedBy};
+ghost use Rattle.schedule_texts.specs.Judged.{IsJudgedBy};
+ghost use Rattle.reports.specs.Report.{report_text};
 ghost use Rattle.report_formats.specs.Format.{prepared_of, text_with, IsPrepared};
 
 use crate::page::page;
 use crate::table::table;
 use fixtures::Schedule;
 use league::League;
-use reports::{Judged, write_report};
+use reports::write_report;
+use schedule_texts::Judged;
 use std::alloc::{AllocError, Global};
 use streams::{Sink, WriteFault, write_all};
 
@@ -82,7 +84,7 @@ pub fn write_prepared<W: Sink>(
     prepared: &Prepared,
     sink: &mut W,
 ) -> Result<(), WriteFault>
-    requires { IsJudgedBy league.now (lines text.now) judged.now }
+    requires { IsJudgedBy (teams league.now) (lines text.now) judged.now }
     ensures ok { OnOk result (Appends (W.held sink.old) (W.held sink.new)
         (text_with prepared.now (report_text league.now (lines text.now) judged.now.schedule))) }
     ensures prefix { OnErr result (AppendsPrefix (W.held sink.old) (W.held sink.new)

@@ -12,8 +12,8 @@ ghost use Rattle.report_formats.specs.Grid.{team_head, word_if};
 use crate::pieces::{Piece, push_pieces};
 use fixtures::Schedule;
 use league::{League, SlotSet};
-use reports::windows_spent;
 use std::alloc::AllocError;
+use tours::windows_spent;
 
 /// Adds the grid: a head with the rounds, and a row for each team.
 #[tactic(auto, unfolding(crate::specs::Grid::grid_text))]

@@ -14,6 +14,7 @@ use crate::pieces::{Piece, push_pieces};
 use crate::style::push_style;
 use fixture_board::{Cost, cost_of};
 use fixtures::Schedule;
+use league::limits::round_count;
 use league::{League, Rule, Weight};
 use reports::class_name;
 use robinx::deviation;
@@ -92,14 +93,14 @@ fn push_figures(page: &mut Vec<u8>, league: &League, cost: Cost) -> Result<(), A
     requires { total_of cost < 2 ^ 64 }
     ensures { OnOk result (page.new.items ≡ page.old.items ++ figures_text league.now cost) }
 {
-    let teams = league.teams() as u64;
+    let teams = league.teams();
     push_pieces(
         page,
         &[
             Piece::Html(b"<h1>"),
-            Piece::Number(teams),
+            Piece::Number(teams as u64),
             Piece::Html(b" teams, "),
-            Piece::Number(2 * (teams - 1)),
+            Piece::Number(round_count(teams) as u64),
             Piece::Html(b" rounds</h1><ul><li>travel <b>"),
             Piece::Number(cost.travel),
             Piece::Html(b"</b></li><li>hard <b>"),

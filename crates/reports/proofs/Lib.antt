@@ -1,9 +1,2 @@
-pub mod Lists
 pub mod Streaks
 pub mod Figures
-pub mod Lone
-pub mod Tallies
-pub mod Tests
-pub mod OnceEach
-pub mod Found
-pub mod Faultless

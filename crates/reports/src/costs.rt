@@ -4,7 +4,6 @@ ghost use Rattle.std.specs.Prelude.{◌≡◌, ◌+◌, ◌-◌, ◌^◌, ◌<�
 ghost use Rattle.league.specs.League.{teams};
 ghost use Rattle.league.specs.RuleLimits.{IsBodyFor};
 ghost use Rattle.fixtures.specs.Games.{round_count, IsPair};
-ghost use Rattle.tours.specs.Phased.{is_unphased};
 ghost use Rattle.fixture_board.specs.Costs.{total_of};
 ghost use Rattle.streams.specs.Pieces.{pieces_below};
 ghost use Rattle.streams.specs.Writing.{Writes};
@@ -18,7 +17,7 @@ use league::{League, Rule, RuleBody, Weight};
 use robinx::deviation;
 use streams::{BufferedSink, Sink, WriteFault};
 use texts::{Piece, write_pieces};
-use tours::travel_of;
+use tours::{is_unphased, travel_of};
 
 /// Writes the cost of a schedule, a line for each part of it, and the total if no hard limit is broken.
 pub(crate) fn write_costs<W: Sink>(
@@ -218,21 +217,11 @@ fn write_half<W: Sink>(
     requires low { low < high }
     ensures { Writes W.held W.tally out.old out.new result (half_line schedule.now high low) }
 {
-    if !is_one_half(schedule, high, low) {
+    if !is_unphased(schedule, low, high) {
         return Ok(());
     }
     let rounds = (schedule.round_of(low, high), schedule.round_of(high, low));
     write_meetings(out, b"half ", (low, high), rounds)
-}
-
-#[tactic(auto, unfolding(tours::specs::Phased::is_unphased))]
-fn is_one_half(schedule: &Schedule, high: u8, low: u8) -> bool
-    requires high { high < schedule.now.teams }
-    requires low { low < high }
-    ensures { result ≡ is_unphased schedule.now low high }
-{
-    let half = schedule.teams() - 1;
-    (schedule.round_of(low, high) < half) == (schedule.round_of(high, low) < half)
 }
 
 fn write_rules<W: Sink>(

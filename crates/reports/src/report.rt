@@ -1,6 +1,6 @@
 //! The report of what a text gives for a league.
 
-ghost use Rattle.std.specs.Prelude.{◌≡◌, ◌++◌, OnOk, OnErr};
+ghost use Rattle.std.specs.Prelude.{◌≡◌, ◌++◌, IfSome, OnOk, OnErr};
 ghost use Rattle.std.specs.Io.KnownBytes.{Appends};
 ghost use Rattle.std.specs.Str.Lines.{lines};
 ghost use Rattle.league.specs.League.{teams};
@@ -9,16 +9,28 @@ ghost use Rattle.streams.specs.Sending.{AppendsPrefix};
 ghost use Rattle.streams.specs.Tally.{FailsWriting};
 ghost use Rattle.streams.specs.Writing.{Writes};
 ghost use Rattle.texts.specs.Sheet.{sheet_of};
+ghost use Rattle.schedule_texts.specs.Judged.{IsJudgedBy};
 ghost use Rattle.reports.specs.CostText.{cost_text};
-ghost use Rattle.reports.specs.Report.{report_text, IsJudgedBy};
+ghost use Rattle.reports.specs.Report.{is_feasible, report_text};
 
 use crate::costs::write_costs;
-use crate::faults::write_faults;
-use crate::judged::Judged;
+use fixture_board::cost_of;
 use fixtures::Schedule;
 use league::League;
+use schedule_texts::Judged;
 use streams::{BufferedSink, Sink, WriteFault};
 use texts::write_sheet;
+
+/// Whether there is a double round robin that breaks no hard limit of the league that it was judged for.
+pub fn is_feasible(judged: &Judged, league: &League) -> bool
+    requires { IfSome judged.now.schedule (λ s. s.teams ≡ teams league.now) }
+    ensures { result ≡ is_feasible league.now judged.now.schedule }
+{
+    match judged.schedule() {
+        Some(schedule) => cost_of(schedule, league).is_feasible(),
+        None => false,
+    }
+}
 
 /// Writes the report of what was judged, if this is the text that it was read from, and behind it the remarks. Takes no
 /// memory. After a fault a prefix of both went out.
@@ -29,7 +41,7 @@ pub fn write_report<W: Sink>(
     remarks: &[u8],
     sink: &mut W,
 ) -> Result<(), WriteFault>
-    requires { IsJudgedBy league.now (lines text.now) judged.now }
+    requires { IsJudgedBy (teams league.now) (lines text.now) judged.now }
     ensures ok { OnOk result (Appends (W.held sink.old) (W.held sink.new)
         (report_text league.now (lines text.now) judged.now.schedule ++ remarks.now)) }
     ensures prefix { OnErr result (AppendsPrefix (W.held sink.old) (W.held sink.new)
@@ -48,7 +60,7 @@ fn write_remarked<W: Sink>(
     judged: &Judged,
     remarks: &[u8],
 ) -> Result<(), WriteFault>
-    requires { IsJudgedBy league.now (lines text.now) judged.now }
+    requires { IsJudgedBy (teams league.now) (lines text.now) judged.now }
     ensures { Writes W.held W.tally out.old out.new result
         (report_text league.now (lines text.now) judged.now.schedule ++ remarks.now) }
 {
@@ -62,13 +74,13 @@ fn write_judged<W: Sink>(
     text: &[u8],
     judged: &Judged,
 ) -> Result<(), WriteFault>
-    requires { IsJudgedBy league.now (lines text.now) judged.now }
+    requires { IsJudgedBy (teams league.now) (lines text.now) judged.now }
     ensures { Writes W.held W.tally out.old out.new result
         (report_text league.now (lines text.now) judged.now.schedule) }
 {
-    match &judged.schedule {
+    match judged.schedule() {
         Some(schedule) => write_schedule(out, league, schedule),
-        None => write_faults(out, league.teams(), text, &judged.written, &judged.games),
+        None => judged.write_faults(out, league, text),
     }
 }
 

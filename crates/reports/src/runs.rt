@@ -1,19 +1,16 @@
 //! The stretches of each team at home or away that are longer than the league allows.
 
-ghost use Rattle.std.specs.Prelude.{◌≡◌, ℕ, ◌+◌, ◌<◌, ◌≤◌, ◌&&◌, nat_lt, if◌then◌else◌};
-ghost use Rattle.league.specs.League.{teams};
+ghost use Rattle.std.specs.Prelude.{◌≡◌, ◌+◌, ◌<◌, ◌≤◌, if◌then◌else◌};
 ghost use Rattle.league.specs.Limits.{max_rounds};
-ghost use Rattle.league.specs.Sets.{has};
 ghost use Rattle.fixtures.specs.Games.{round_count};
 ghost use Rattle.streams.specs.Pieces.{pieces_below};
 ghost use Rattle.streams.specs.Writing.{Writes};
 ghost use Rattle.reports.specs.CostText.{run_line, run_lines, side_word};
-ghost use Rattle.tours.specs.Runs.{is_run, windows};
 
 use fixtures::Schedule;
-use league::SlotSet;
 use streams::{BufferedSink, Sink, WriteFault};
 use texts::{Piece, write_pieces};
+use tours::windows_spent;
 
 /// Writes a line for each stretch of a team that is longer than this number of rounds.
 pub(crate) fn write_runs<W: Sink>(
@@ -81,20 +78,6 @@ fn lengthened(goes_on: bool, streak: u8) -> u8
     ensures { result ≡ (if goes_on then streak + 1 else 0) }
 {
     if goes_on { streak + 1 } else { 0 }
-}
-
-/// The rounds with which a window of this length begins that the team spends at home or away.
-pub fn windows_spent(schedule: &Schedule, length: u8, team: u8) -> SlotSet
-    requires least { 2 ≤ length }
-    requires most { length ≤ max_rounds + 1 }
-    requires team { team < schedule.now.teams }
-    ensures { (first : ℕ) → has result first ≡
-        (nat_lt first (windows schedule.now length) && is_run schedule.now team first length) }
-{
-    let home = schedule.home_rounds(team);
-    let like_next = home.like_next_below(schedule.rounds());
-    // each round of a window but the last is as the next one is
-    like_next.starts_within(length - 1)
 }
 
 /// Writes the stretch, unless it has no window.

@@ -5,6 +5,7 @@ ghost use Rattle.league.specs.Limits.{max_teams};
 ghost use Rattle.fixtures.specs.Games.{round_count};
 ghost use Rattle.search.specs.Draws.{stream_of_generator, number, drawn_move, IsInRange};
 
+use league::limits::round_count;
 use moves::Move;
 use rand::RngExt;
 use rand_pcg::Lcg64Xsh32;
@@ -20,7 +21,7 @@ pub fn draw(generator: &mut Lcg64Xsh32, teams: u8) -> Move
     ensures drawn { (result, stream_of_generator generator.new) ≡ drawn_move teams (stream_of_generator generator.old) }
     ensures within { IsInRange teams (round_count teams) result }
 {
-    let rounds = 2 * (teams - 1);
+    let rounds = round_count(teams);
     match number_below(generator, KINDS) {
         0 => {
             let i = number_below(generator, teams);

@@ -3,6 +3,7 @@ use Rattle.std.proofs.Common.{◌≡◌, ℕ, ◌<◌, ◌≤◌, nat_lt, not, �
 use Rattle.std.proofs.Common.{Option, Some, None, Ok, is_ok, true≢false, refl, sym, ap, ◌∙◌, arith}
 use Rattle.std.specs.Str.Lines.{lines}
 use Rattle.std.proofs.lemmas.Bool.{and_parts, ltb-true}
+use Rattle.league.specs.Limits.{max_teams}
 use Rattle.league.specs.League.{LeagueData, IsLeague}
 use Rattle.fixtures.specs.declared.game.Game.{Game}
 use Rattle.fixtures.specs.Games.{Games, round_count}
@@ -34,7 +35,7 @@ distinct_small n i j few are =
     let both = and_parts (nat_lt i n) (nat_lt j n) parts.0 in
     (omega (arith, ltb-true i n both.0), omega (arith, ltb-true j n both.1))
 
-IsSmallMove-in_range : (g : Games) (mv : Move) → g.teams ≤ 40 → is_move g mv ≡ true → IsSmallMove mv
+IsSmallMove-in_range : (g : Games) (mv : Move) → g.teams ≤ max_teams → is_move g mv ≡ true → IsSmallMove mv
 IsSmallMove-in_range g (Homes i j) few in_range = distinct_small g.teams i j (omega arith) in_range
 IsSmallMove-in_range g (Rounds k l) few in_range = distinct_small (round_count g.teams) k l (omega arith) in_range
 IsSmallMove-in_range g (Teams i j) few in_range = distinct_small g.teams i j (omega arith) in_range
@@ -55,7 +56,7 @@ in_range_of g mv none = go (is_move g mv) refl
     go true is = refl
     go false is = absurd (true≢false (sym (ap is_ok (rw is at none))))
 
-IsSmallGame-in_range : (g : Games) (game : Game) → g.teams ≤ 40 → is_game_in_range g game ≡ true → IsSmallGame game
+IsSmallGame-in_range : (g : Games) (game : Game) → g.teams ≤ max_teams → is_game_in_range g game ≡ true → IsSmallGame game
 IsSmallGame-in_range g game few in_range =
     let round : Bool = nat_lt game.round (round_count g.teams) in
     let all = and_parts (round && nat_lt game.home g.teams && nat_lt game.away g.teams) (not (game.home == game.away)) in_range in
@@ -66,7 +67,7 @@ IsSmallGame-in_range g game few in_range =
       omega (arith, ltb-true game.away g.teams three.1),
     )
 
-few_teams : (league : LeagueData) (h : List Entry) → IsLeague league → (games_of league h).teams ≤ 40
+few_teams : (league : LeagueData) (h : List Entry) → IsLeague league → (games_of league h).teams ≤ max_teams
 few_teams league h is = omega (arith, games_of_teams league h, is.table.most)
 
 IsSmall-may : (league : LeagueData) (h : List Entry) (c : Change) → IsLeague league → FitFrom league (effective h) → May league h c →
@@ -75,7 +76,7 @@ IsSmall-may league h (change.Shift mv) is all may =
     IsSmallMove-in_range (games_of league h) mv (few_teams league h is) (in_range_of (games_of league h) mv may.0)
 IsSmall-may league h (change.Pin game) is all may = IsSmallGame-in_range (games_of league h) game (few_teams league h is) may.0
 IsSmall-may league h (change.Unpin game) is all may =
-    let stands = pinned_stands (games_of league h) (pins_of h) game (all_stand_fit league h all) may in
+    let stands = pinned_stands (games_of league h) (pins_of league h) game (all_stand_fit league h all) may in
     IsSmallGame-in_range (games_of league h) game (few_teams league h is) stands.0
 IsSmall-may league h change.Undo is all may = tt
 

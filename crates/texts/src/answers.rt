@@ -4,14 +4,13 @@ ghost use Rattle.std.specs.Prelude.{◌≡◌, [], OnOk};
 ghost use Rattle.std.specs.Str.Lines.{lines};
 ghost use Rattle.streams.specs.Writing.{Writes};
 ghost use Rattle.fixture_board.specs.Record.{book};
-ghost use Rattle.fixture_board.specs.Replies.{ask_with};
 ghost use Rattle.texts.specs.PlayText.{answer_to, answers, costs_of, done_line, history_after, no_line};
 ghost use Rattle.texts.specs.PlayText.{played, reply_line, slack_after, why_text};
 
 use crate::input::next_line;
 use crate::lines::{write_counted, write_numbered};
 use crate::script_line::{ScriptLine, parse_line};
-use fixture_board::{Ask, Board, Change, Cost, Proposal, Reply, Why};
+use fixture_board::{Ask, Board, Cost, Reply, Why};
 use streams::{BufferedSink, Sink, WriteFault};
 
 /// Plays the lines of a script on a new board, and writes an answer to each that isn't skipped.
@@ -57,27 +56,10 @@ fn write_answer<W: Sink>(
             write_numbered(out, b"slack ", given)
         }
         ScriptLine::Asks(change) => {
-            let ask = asked(board.version(), *slack, change);
+            let ask = Ask::of(change, board.version(), *slack);
             write_reply(out, board.answer(0, ask))
         }
         ScriptLine::Bad => write_numbered(out, b"bad line ", number),
-    }
-}
-
-/// The change as it is asked for at this version, a proposal with this slack.
-fn asked(version: u64, slack: u64, change: Change) -> Ask
-    ensures { result ≡ ask_with version slack change }
-{
-    match change {
-        Change::Shift(mv) => Ask::Shift(Proposal {
-            version,
-            mv,
-            claim: None,
-            slack,
-        }),
-        Change::Pin(game) => Ask::Pin { version, game },
-        Change::Unpin(game) => Ask::Unpin { version, game },
-        Change::Undo => Ask::Undo { version },
     }
 }
 

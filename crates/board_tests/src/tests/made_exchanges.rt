@@ -5,7 +5,7 @@ use crate::tests::checks::check_same;
 use crate::tests::drawn_numbers::drawn_move;
 use crate::tests::kept_cost::{league, league_with};
 use fixture_board::{Attempt, Cost, KeptGaps, cost_of, make_at_cost, make_within};
-use fixtures::{Schedule, start};
+use fixtures::Schedule;
 use league::League;
 use moves::{Move, check, exchange};
 use std::alloc::Global;
@@ -155,7 +155,7 @@ fn check_moves(
     moves: u64,
 ) -> Result<(), Fail> {
     let teams = league.teams();
-    let mut schedule = start(alloc, league)?;
+    let mut schedule = league.start(alloc)?;
     let mut made: u64 = 0;
     for _ in 0..moves {
         let mv = drawn_move(&mut shared.word, teams);

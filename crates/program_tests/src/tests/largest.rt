@@ -52,27 +52,33 @@ fn largest(alloc: Global, kind: &str, at_most: u8) -> Result<String, AllocError>
 }
 
 const LINES: &str =
-    "rounds 1 78\nhomes 1 40\nteams 1 40\npart-rounds 3 5 9\npart-teams 1 2 3\nundo\nslack 0\n\
-    rounds 40 41\n";
+    "pin 1 10 31\nunpin 1 10 31\nrounds 1 78\nhomes 1 40\nteams 1 40\npart-rounds 3 5 9\n\
+    part-teams 1 2 3\nundo\nslack 0\nrounds 40 41\n";
 
 const SOFT: &str = "start travel 3063000000 hard 0 soft 1989212160000000\n\
-    done 1 travel 3061000000 hard 0 soft 1989222400000000\n\
-    done 2 travel 3061000000 hard 0 soft 1989222400000000\n\
+    done 1 travel 3063000000 hard 0 soft 1989212160000000\n\
+    done 2 travel 3063000000 hard 0 soft 1989212160000000\n\
     done 3 travel 3061000000 hard 0 soft 1989222400000000\n\
-    done 4 travel 3055000000 hard 0 soft 1989222400000000\n\
-    no 4 meet\n\
-    done 5 travel 3061000000 hard 0 soft 1989222400000000\n";
+    done 4 travel 3061000000 hard 0 soft 1989222400000000\n\
+    done 5 travel 3061000000 hard 0 soft 1989222400000000\n\
+    done 6 travel 3055000000 hard 0 soft 1989222400000000\n\
+    no 6 meet\n\
+    done 7 travel 3061000000 hard 0 soft 1989222400000000\n";
 
 const HARD: &str = "start travel 3063000000 hard 1989212274 soft 0\n\
-    done 1 travel 3061000000 hard 1989222518 soft 0\n\
-    done 2 travel 3061000000 hard 1989222518 soft 0\n\
+    done 1 travel 3063000000 hard 1989212274 soft 0\n\
+    done 2 travel 3063000000 hard 1989212274 soft 0\n\
     done 3 travel 3061000000 hard 1989222518 soft 0\n\
-    done 4 travel 3055000000 hard 1989222530 soft 0\n\
-    no 4 meet\n\
-    done 5 travel 3061000000 hard 1989222518 soft 0\n";
+    done 4 travel 3061000000 hard 1989222518 soft 0\n\
+    done 5 travel 3061000000 hard 1989222518 soft 0\n\
+    done 6 travel 3055000000 hard 1989222530 soft 0\n\
+    no 6 meet\n\
+    done 7 travel 3061000000 hard 1989222518 soft 0\n";
 
 /// The lines that follow in both plays.
-const REST: &str = "slack 0\nno 5 worse\nhistory 5\n";
+const REST: &str =
+    "slack 0\nno 7 worse\nhistory 7\npin 1 10 31\nunpin 1 10 31\nrounds 1 78\nhomes 1 40\nteams 1 40\n\
+    part-rounds 3 5 9\nundo\nend\n";
 
 /// Where the rules are soft, and where they are hard: how many rounds in a row are allowed, how the play text of the script begins
 /// before the rest and how it ends, and a part of the text of a search.

@@ -3,7 +3,7 @@
 
 use crate::tests::checks::check_same;
 use crate::tests::small_leagues::{HOMES_EXCHANGED, Plan, last_two_rounds, league_of, schedule};
-use fixtures::{Schedule, Touched, start};
+use fixtures::{Schedule, Touched};
 use league::{League, SlotSet, TeamSet, circular};
 use std::alloc::Global;
 use std::process::Abort;
@@ -84,7 +84,7 @@ fn homes_follow(schedule: &mut Schedule, league: &League, i: u8, j: u8) -> Optio
 /// Exchanges the homes of each team and the next in a circle of so many, and has the parts follow each time.
 fn check_neighbours(rt: &impl Abort, alloc: Global, teams: u8) -> Result<(), Fail> {
     let league = circular(alloc, teams)?;
-    let mut schedule = start(alloc, &league)?;
+    let mut schedule = league.start(alloc)?;
     for i in 1..teams {
         let found = homes_follow(&mut schedule, &league, i - 1, i);
         check_same(rt, &found, &Some(true));

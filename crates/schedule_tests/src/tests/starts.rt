@@ -4,7 +4,7 @@ use crate::tests::checks::{check_holds, check_same};
 use crate::tests::number_sets::rounds_of;
 use crate::tests::sheets::{FOUR, SIX, check_sheet};
 use crate::tests::small_leagues::{Plan, circle_of_four, schedule};
-use fixtures::{Schedule, berger, start};
+use fixtures::{Schedule, berger};
 use league::{League, circular};
 use std::alloc::Global;
 use std::process::Abort;
@@ -92,7 +92,7 @@ fn check_start_of(
     teams: u8,
     sheet: &str,
 ) -> Result<(), Fail> {
-    let start = start(alloc, league)?;
+    let start = league.start(alloc)?;
     check_same(rt, &start.teams(), &teams);
     check_sheet(rt, alloc, &start, sheet)
 }

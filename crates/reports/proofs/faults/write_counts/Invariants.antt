@@ -1,8 +1,0 @@
-use Rattle.streams.specs.Pieces.{pieces_below}
-use Rattle.streams.specs.Writing.{Adds}
-use Rattle.reports.specs.Faults.{count_lines}
-use Rattle.reports.proofs.faults.write_counts.Given as goal
-
-abbrev pub invariant-loop-team : goal.invariant-loop-team
-invariant-loop-team g l =
-    Adds g.W.Sink.held g.W.Sink.tally l.initial.out l.out (pieces_below (count_lines l.counted l.teams l.games) l.team)

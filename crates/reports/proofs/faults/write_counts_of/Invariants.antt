@@ -1,9 +1,0 @@
-use Rattle.streams.specs.Pieces.{pieces_below}
-use Rattle.streams.specs.Writing.{Adds}
-use Rattle.reports.specs.Faults.{count_in, count_line}
-use Rattle.reports.proofs.faults.write_counts_of.Given as goal
-
-abbrev pub invariant-loop-number : goal.invariant-loop-number
-invariant-loop-number g l =
-    Adds g.W.Sink.held g.W.Sink.tally l.initial.out l.out
-    (pieces_below (λ number. count_line l.counted l.team number (count_in l.counted l.teams l.games l.team number)) l.number)

@@ -1,4 +1,0 @@
-use Rattle.reports.proofs.faults.write_times.Goals as goal
-
-pub returns-then-count-eq0 : goal.returns-then-count-eq0
-returns-then-count-eq0 g c = rw c.if-count-eq0.true c.write_pieces.ensures
