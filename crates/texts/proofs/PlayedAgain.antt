@@ -15,10 +15,14 @@ use Rattle.fixture_board.specs.declared.change.Change.{Change}
 use Rattle.fixture_board.specs.declared.change.Change.TheVariants as change
 use Rattle.fixture_board.specs.declared.change.Entry.{Entry}
 use Rattle.fixture_board.specs.declared.reply.Why.{Why}
-use Rattle.fixture_board.specs.History.{best_of, effective, games_of, is_game_in_range, pins_of, legal_after, IsLegal, May}
+use Rattle.fixture_board.specs.History.{best_of, effective, games_of, pins_of, legal_after, IsLegal, May}
 use Rattle.fixture_board.specs.Replay.{changes_of, under_caller_0}
 use Rattle.fixture_board.specs.Replies.{ask_of, ask_with, entry, greatest, next_if, next_of, refusal, played_from as changes_played}
+use Rattle.fixtures.specs.Draft.{is_game_in_range}
+use Rattle.fixtures.proofs.ForCallers.{game_passed}
 use Rattle.fixture_board.proofs.ForCallers.{FitFrom, all_stand_fit, fit_from_more, games_of_teams, is_legal_next}
+use Rattle.fixtures.specs.Draft.{is_game_in_range}
+use Rattle.fixtures.proofs.ForCallers.{game_passed}
 use Rattle.fixture_board.proofs.ForCallers.{is_legal_none, is_scored_league, pinned_stands, replayed}
 use Rattle.texts.specs.Command.{line_of}
 use Rattle.texts.specs.PlayText.{IsPlayedAgain, change_lines, history_after, played, played_from, slack_after}
@@ -56,16 +60,10 @@ in_range_of g mv none = go (is_move g mv) refl
     go true is = refl
     go false is = absurd (true≢false (sym (ap is_ok (rw is at none))))
 
-IsSmallGame-in_range : (g : Games) (game : Game) → g.teams ≤ max_teams → is_game_in_range g game ≡ true → IsSmallGame game
+IsSmallGame-in_range : (g : Games) (game : Game) → g.teams ≤ max_teams → is_game_in_range g.teams game ≡ true → IsSmallGame game
 IsSmallGame-in_range g game few in_range =
-    let round : Bool = nat_lt game.round (round_count g.teams) in
-    let all = and_parts (round && nat_lt game.home g.teams && nat_lt game.away g.teams) (not (game.home == game.away)) in_range in
-    let three = and_parts (round && nat_lt game.home g.teams) (nat_lt game.away g.teams) all.0 in
-    let two = and_parts round (nat_lt game.home g.teams) three.0 in (
-      omega (arith, ltb-true game.round (round_count g.teams) two.0),
-      omega (arith, ltb-true game.home g.teams two.1),
-      omega (arith, ltb-true game.away g.teams three.1),
-    )
+    let is = game_passed g.teams game in_range in
+    (omega (arith, is.in_range), omega (arith, is.pair.home_in), omega (arith, is.pair.away_in))
 
 few_teams : (league : LeagueData) (h : List Entry) → IsLeague league → (games_of league h).teams ≤ max_teams
 few_teams league h is = omega (arith, games_of_teams league h, is.table.most)
@@ -76,7 +74,7 @@ IsSmall-may league h (change.Shift mv) is all may =
     IsSmallMove-in_range (games_of league h) mv (few_teams league h is) (in_range_of (games_of league h) mv may.0)
 IsSmall-may league h (change.Pin game) is all may = IsSmallGame-in_range (games_of league h) game (few_teams league h is) may.0
 IsSmall-may league h (change.Unpin game) is all may =
-    let stands = pinned_stands (games_of league h) (pins_of league h) game (all_stand_fit league h all) may in
+    let stands = pinned_stands (games_of league h) (pins_of league h) game (all_stand_fit league h is all) may in
     IsSmallGame-in_range (games_of league h) game (few_teams league h is) stands.0
 IsSmall-may league h change.Undo is all may = tt
 
