@@ -87,9 +87,9 @@ begun_left l passes table home away left begun = record {
   entries = λ h a pair.
       begun.entries h a pair
       ∙ entry_like l (passes h a) (passes h a || (h == home && a == away)) h a
-        (λ kept. sym (ap (λ b. passes h a || b) (apart_pairs h home a away (λ same_home same_away.
-        true≢false (sym kept ∙ rw (same_home, same_away) (left (subst (λ x. IsPair (teams l) x away) same_home
-        (subst (λ x. IsPair (teams l) h x) same_away pair)))))) ∙ or-false (passes h a)));
+      (λ kept. sym (ap (λ b. passes h a || b) (apart_pairs h home a away (λ same_home same_away.
+      true≢false (sym kept ∙ rw (same_home, same_away) (left (subst (λ x. IsPair (teams l) x away) same_home
+      (subst (λ x. IsPair (teams l) h x) same_away pair)))))) ∙ or-false (passes h a)));
 }
 
 -- a table in which all pairs were looked at is the first

@@ -42,7 +42,7 @@ below_pinned l (suc m) h a =
     list_any-append (is_of h a) (kept_below l m) (kept_at l m (teams l))
     ∙ ap (λ b. b || is_pinned (kept_at l m (teams l)) h a) (below_pinned l m h a)
     ∙ ap (λ b. any_below m (λ home. any_below (teams l) (λ k. keeps l home k && is_of h a (start_game l home k))) || b)
-      (at_pinned l m (teams l) h a)
+    (at_pinned l m (teams l) h a)
 
 -- a kept game is pinned, and no other
 pub pinned_if_kept : (l : LeagueData) (h a : ℕ) → IsPair (teams l) h a → is_pinned (kept_games l) h a ≡ keeps l h a
@@ -51,12 +51,12 @@ pinned_if_kept l h a pair = elim (cases_Bool (keeps l h a)) [
   | inl kept ↦
       below_pinned l (teams l) h a
       ∙ any_below_found (teams l) (λ home. any_below (teams l) (passes home)) h pair.home_in
-        (any_below_found (teams l) (passes h) a pair.away_in (both kept))
+      (any_below_found (teams l) (passes h) a pair.away_in (both kept))
       ∙ sym kept
   | inr left ↦
       below_pinned l (teams l) h a
       ∙ any_below_from_none (teams l) (λ home. any_below (teams l) (passes home))
-        (λ home below. any_below_from_none (teams l) (passes home) (λ k in_k. neither left home k))
+      (λ home below. any_below_from_none (teams l) (passes home) (λ k in_k. neither left home k))
       ∙ sym left
 ]
   where
@@ -84,8 +84,7 @@ module _ (l : LeagueData) (is : IsLeague l) where
   one_stands home away true kept =
       let pair : IsPair (teams l) home away = kept_pair l home away is (sym kept) in
       let robin = round_robin_start l is in
-      let round = round_of_start l home away pair in
-      (
+      let round = round_of_start l home away pair in (
         (
           game_passes (teams l) (start_game l home away) (record {
             pair = pair;

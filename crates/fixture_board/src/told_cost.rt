@@ -17,8 +17,8 @@ use fixtures::Schedule;
 use league::League;
 use moves::Exchange;
 use tours::{
-    Breaches, Legs, Moved, legs_of_rounds, legs_of_teams, moved_of_rounds, moved_of_teams, repeats_of_rounds, repeats_of_teams,
-    runs_of_rounds, runs_of_teams,
+    Breaches, Legs, Moved, legs_of_rounds, legs_of_teams, moved_of_rounds, moved_of_teams,
+    repeats_of_rounds, repeats_of_teams, runs_of_rounds, runs_of_teams,
 };
 
 /// The cost with the travel, the runs, the repeats and what leaving the start costs after an exchange, and all else as before it. None if the travel

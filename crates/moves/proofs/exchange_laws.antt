@@ -6,3 +6,4 @@ pub mod KeptMeetings
 pub mod ChangedGames
 pub mod EachExchange
 pub mod TurnedSides
+pub mod MovedPairs

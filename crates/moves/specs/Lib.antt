@@ -1,3 +1,4 @@
 pub mod Moves
 pub mod Exchanges
+pub mod Kept
 pub mod Laws

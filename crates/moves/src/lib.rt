@@ -12,6 +12,7 @@ mod exchange_of;
 mod exchanges;
 mod fault;
 mod laws;
+mod moved_pairs;
 mod moves;
 mod refusals;
 

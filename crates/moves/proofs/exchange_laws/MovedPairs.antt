@@ -1,0 +1,116 @@
+-- An exchange gives the game of one of some pairs another round where a main team has one in a round of the exchange.
+use Rattle.std.proofs.Common.{◌≡◌, ◌≢◌, ℕ, ◌<◌, Bool, true, false, not, ◌||◌, ◌&&◌, ◌==◌, inl, inr, List, refl, sym, ◌∙◌, ap, subst}
+use Rattle.std.proofs.lemmas.Bool.{cases_eq, and_parts, and_from, or_cases, or_left, or_right, eq-eqb, ne_eqb, true≢false}
+use Rattle.league.specs.Sets.{has}
+use Rattle.league.specs.Pairs.{has_pair, no_pairs}
+use Rattle.league.proofs.ForCallers.{any_below_found, any_below_from_none, has_no_pairs}
+use Rattle.fixtures.specs.declared.game.Cell.{Cell}
+use Rattle.fixtures.specs.Games.{Games, round_of, cell, cell_round, IsPair, IsCell}
+use Rattle.fixtures.proofs.ForCallers.{cell_is, is_cell, pair_swapped}
+use Rattle.moves.specs.declared.exchanges.Exchange.{Exchange}
+use Rattle.moves.specs.Exchanges.{exchanged_by, main_cells, IsExchange}
+use Rattle.moves.specs.Kept.{has_game, moves_one_of}
+use Rattle.moves.proofs.exchange_laws.ChangedGames.{each-tells, main_teams_below, main_rounds_below}
+
+-- no pair's game moves where each keeps its round
+pub moves_one_of-no : (g other : Games) (pairs : List ℕ) →
+    ((h a : ℕ) → h < g.teams → a < g.teams → has_pair pairs h a ≡ true → round_of other h a ≡ round_of g h a) →
+    moves_one_of g other pairs ≡ false
+unfolding moves_one_of
+moves_one_of-no g other pairs kept =
+    any_below_from_none g.teams _
+    (λ h h_in. any_below_from_none g.teams _ (λ a a_in. one h a (has_pair pairs h a) refl (kept h a h_in a_in)))
+  where
+    one : (h a : ℕ) (is : Bool) → has_pair pairs h a ≡ is → (is ≡ true → round_of other h a ≡ round_of g h a) →
+        (is && not (round_of other h a == round_of g h a)) ≡ false
+    one h a false is kept = refl
+    one h a true is kept = ap not (eq-eqb (round_of other h a) (round_of g h a) (kept refl))
+
+pub moves_one_of-yes : (g other : Games) (pairs : List ℕ) (h a : ℕ) → IsPair g.teams h a → has_pair pairs h a ≡ true →
+    round_of other h a ≢ round_of g h a → moves_one_of g other pairs ≡ true
+unfolding moves_one_of
+moves_one_of-yes g other pairs h a pair is apart =
+    any_below_found g.teams _ h pair.home_in
+    (any_below_found g.teams _ a pair.away_in
+    (and_from (has_pair pairs h a) _ is (ap not (ne_eqb (round_of other h a) (round_of g h a) apart))))
+
+pub moves_one_of-empty : (g other : Games) (pairs : List ℕ) → pairs ≡ no_pairs → moves_one_of g other pairs ≡ false
+moves_one_of-empty g other pairs none =
+    moves_one_of-no g other pairs
+    (λ h a h_in a_in is. absurd (true≢false (sym is ∙ ap (λ p. has_pair p h a) none ∙ has_no_pairs h a)))
+
+module _ (g : Games) (exchange : Exchange) (can : IsExchange g exchange) (pairs : List ℕ) where
+  abbrev after : Games
+  after = exchanged_by g exchange
+
+  abbrev Within : Type 0
+  Within = (home away : ℕ) → has_pair pairs home away ≡ true → IsPair g.teams home away
+
+  -- no main team has the game of one of the pairs in a round of the exchange
+  abbrev None : Type 0
+  None =
+      (t r : ℕ) → has (main_cells exchange).teams t ≡ true → has (main_cells exchange).rounds r ≡ true →
+      has_game pairs t (cell g t r) ≡ false
+
+  -- one has
+  abbrev Some : Type 0
+  Some =
+      (t : ℕ) × (r : ℕ) × (has (main_cells exchange).teams t ≡ true) × (has (main_cells exchange).rounds r ≡ true) ×
+      (has_game pairs t (cell g t r) ≡ true)
+
+  cell_there : (t o : ℕ) (home : Bool) → IsPair g.teams t o →
+      cell g t (cell_round (round_of g) t (record { opponent = o; home = home })) ≡ record { opponent = o; home = home }
+  cell_there t o home pair =
+      cell_is g can.round_robin t (cell_round (round_of g) t (record { opponent = o; home = home }))
+      (record { opponent = o; home = home }) (record { pair = pair; in_round = refl })
+
+  not_found : (t o : ℕ) (home : Bool) → None → IsPair g.teams t o → has (main_cells exchange).teams t ≡ true →
+      has (main_cells exchange).rounds (cell_round (round_of g) t (record { opponent = o; home = home })) ≡ true →
+      has_game pairs t (record { opponent = o; home = home }) ≡ false
+  not_found t o home none pair main in_round =
+      subst (λ (c : Cell). has_game pairs t c ≡ false) (cell_there t o home pair)
+      (none t (cell_round (round_of g) t (record { opponent = o; home = home })) main in_round)
+
+  -- so the game of each of the pairs keeps its round
+  kept : None → (h a : ℕ) → IsPair g.teams h a → has_pair pairs h a ≡ true → round_of after h a ≡ round_of g h a
+  unfolding has_game
+  kept none h a pair is = elim (cases_eq (round_of after h a) (round_of g h a)) [
+    | inl same ↦ same
+    | inr other ↦
+        let main = and_parts (has (main_cells exchange).rounds (round_of g h a)) _ ((each-tells g exchange can h a pair).1 other) in
+        absurd (true≢false (sym is ∙ elim (or_cases (has (main_cells exchange).teams h) _ main.1) [
+          | inl home ↦ not_found h a true none pair home main.0
+          | inr away ↦ not_found a h false none (pair_swapped g.teams h a pair) away main.0
+        ]))
+  ]
+
+  changed : (h a r : ℕ) → IsPair g.teams h a → round_of g h a ≡ r → has (main_cells exchange).rounds r ≡ true →
+      (has (main_cells exchange).teams h || has (main_cells exchange).teams a) ≡ true → round_of after h a ≢ round_of g h a
+  changed h a r pair there in_round main =
+      (each-tells g exchange can h a pair).0
+      (and_from _ _ (subst (λ x. has (main_cells exchange).rounds x ≡ true) (sym there) in_round) main)
+
+  found : (t r o : ℕ) (home : Bool) → has (main_cells exchange).teams t ≡ true → has (main_cells exchange).rounds r ≡ true →
+      IsCell g t r (record { opponent = o; home = home }) →
+      has_game pairs t (record { opponent = o; home = home }) ≡ true → moves_one_of g after pairs ≡ true
+  unfolding has_game
+  found t r o true main in_round there is =
+      moves_one_of-yes g after pairs t o there.pair is
+      (changed t o r there.pair there.in_round in_round (or_left _ _ main))
+  found t r o false main in_round there is =
+      let pair = pair_swapped g.teams t o there.pair in
+      moves_one_of-yes g after pairs o t pair is
+      (changed o t r pair there.in_round in_round (or_right (has (main_cells exchange).teams o) _ main))
+
+  -- what is found at the main cells
+  pub moves_one_of-looked : (moves : Bool) → Within → (moves ≡ false → None) → (moves ≡ true → Some) →
+      moves ≡ moves_one_of g after pairs
+  moves_one_of-looked false within none some =
+      sym (moves_one_of-no g after pairs (λ h a _ _ is. kept (none refl) h a (within h a is) is))
+  moves_one_of-looked true within none some =
+      let at = some refl in
+      let c = cell g at.0 at.1 in
+      let there : IsCell g at.0 at.1 c =
+      is_cell g can.round_robin at.0 at.1 (main_teams_below g exchange can at.0 at.2)
+      (main_rounds_below g exchange can at.1 at.3) in
+      sym (found at.0 at.1 c.opponent c.home at.2 at.3 there at.4)
