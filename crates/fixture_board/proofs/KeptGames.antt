@@ -9,7 +9,7 @@ use Rattle.league.specs.Starts.{start_of, start_round, start_game, keeps, kept_a
 use Rattle.league.specs.Sums.{any_below}
 use Rattle.league.proofs.ForCallers.{any_below_found, any_below_from_none, kept_pair, round_of_start, round_robin_start}
 use Rattle.fixtures.specs.declared.game.Game.{Game}
-use Rattle.fixtures.specs.Games.{Games, IsPair, IsDoubleRoundRobin}
+use Rattle.fixtures.specs.Games.{Games, round_count, IsPair}
 use Rattle.fixtures.proofs.ForCallers.{game_passes}
 use Rattle.fixture_board.specs.History.{is_pinned, AllStand}
 
@@ -88,7 +88,7 @@ module _ (l : LeagueData) (is : IsLeague l) where
         (
           game_passes (teams l) (start_game l home away) (record {
             pair = pair;
-            in_range = subst (λ r. r < _) round (robin.in_range home away pair);
+            in_range = subst (λ r. r < round_count (teams l)) round (robin.in_range home away pair);
           }),
           eq-eqb _ _ round,
         ),

@@ -179,6 +179,10 @@ pub games_le : (l : LeagueData) (g : Games) → games_cost l g ≤ (cost_of l g)
 unfolding cost_of
 games_le l g = omega arith
 
+pub near_le : (l : LeagueData) (g : Games) → near_cost l g ≤ (cost_of l g).soft
+unfolding cost_of
+near_le l g = omega arith
+
 -- penalties only add to a score
 score_grows : (l : LeagueData) (cost : Cost) (penalties : Penalties) → score_of l cost ≤ score_of l (with_penalties cost penalties)
 score_grows l cost penalties =

@@ -20,7 +20,7 @@ use Rattle.fixture_board.specs.History.{Fits, legal_after, IsLegal, cost_at, bes
 use Rattle.fixture_board.specs.History.{IsBestPrefix, IsBestOf}
 use Rattle.fixture_board.specs.Kept.{IsLeader, Kept, FollowsHistory}
 use Rattle.fixture_board.specs.PinTable.{free, pin_entries, ArePinsAt}
-use Rattle.fixture_board.specs.Retraced.{HasPlace, written, written_after}
+use Rattle.fixture_board.specs.Retraced.{HasPlace, written, written_after, IsRetraced}
 use Rattle.fixture_board.specs.Rewound.{rewound, IsSameBestRewound}
 use Rattle.fixture_board.proofs.Keeps.{effect-length}
 use Rattle.fixture_board.proofs.KeptGames.{AllStand-kept}

@@ -10,6 +10,7 @@ use Rattle.league.specs.RuleLimits.{IsRuleFor, IsWeight}
 use Rattle.league.specs.declared.rule.Rule.{Rule}
 use Rattle.league.specs.declared.rule.Weight.{Weight}
 use Rattle.league.specs.declared.rule.Weight.TheVariants.{Hard, Soft}
+use Rattle.league.specs.Sums.{count_where}
 use Rattle.league.proofs.ForCallers.{sum_below_le, sum_of_pairs_le, count_where_le, if_le}
 use Rattle.fixtures.specs.Games.{Games, round_count, meets}
 use Rattle.moves.specs.declared.exchanges.Exchange.{Exchange}

@@ -17,7 +17,8 @@ use Rattle.fixture_board.specs.declared.cost.Cost.{Cost}
 use Rattle.fixture_board.specs.declared.change.Change.{Change}
 use Rattle.fixture_board.specs.declared.change.Change.TheVariants.{Shift, Pin, Unpin, Undo}
 use Rattle.fixture_board.specs.declared.change.Entry.{Entry}
-use Rattle.fixture_board.specs.History.{games_of, May, legal_after, IsLegal, cost_at, better, best_after, best_prefix}
+use Rattle.league.specs.Starts.{kept_at, kept_below, kept_games}
+use Rattle.fixture_board.specs.History.{games_of, pins_of, May, legal_after, IsLegal, cost_at, better, best_after, best_prefix}
 use Rattle.fixture_board.specs.History.{as_best, best_of}
 use Rattle.fixture_board.specs.Kept.{IsLeader, Kept, FollowsHistory}
 use Rattle.fixture_board.specs.Weights.{IsSameReweighted}
@@ -32,7 +33,7 @@ games_of-weight league weight h = refl
 
 May-weight : (league : LeagueData) (weight : ℕ) (h : List Entry) (change : Change) → May league h change →
     May (reweighted weight league) h change
-unfolding games_of
+unfolding games_of pins_of kept_games kept_below kept_at
 May-weight league weight h (Shift mv) may = may
 May-weight league weight h (Pin game) may = may
 May-weight league weight h (Unpin game) may = may
@@ -40,7 +41,7 @@ May-weight league weight h Undo may = may
 
 May-before : (league : LeagueData) (weight : ℕ) (h : List Entry) (change : Change) → May (reweighted weight league) h change →
     May league h change
-unfolding games_of
+unfolding games_of pins_of kept_games kept_below kept_at
 May-before league weight h (Shift mv) may = may
 May-before league weight h (Pin game) may = may
 May-before league weight h (Unpin game) may = may
@@ -163,6 +164,7 @@ IsLeague-weight league weight least most is = record {
   names = is.names;
   rule_count = is.rule_count;
   rules = is.rules;
+  origin = is.origin;
 }
 
 IsLeader-weight : (league : LeagueData) (weight : ℕ) (found : Option (List Entry)) (best : Option Best) (g : Games) →
@@ -175,6 +177,7 @@ IsLeader-weight league weight (Some p) best g leader = (
 
 pub FollowsHistory-weight : {league : LeagueData} {k : Kept} (weight : ℕ) → 1 ≤ weight → weight ≤ max_weight → FollowsHistory league k →
     FollowsHistory (reweighted weight league) k
+unfolding pins_of kept_games kept_below kept_at
 FollowsHistory-weight {league} {k} weight least most kept =
     let is : IsLeague (reweighted weight league) = IsLeague-weight league weight least most kept.league_is in
     let known : k.cost ≡ cost_of (reweighted weight league) k.games =

@@ -133,7 +133,7 @@ impl Board {
     pub fn schedule(&self) -> &Schedule
         ensures games { result.now ≡ games_of self.now.league self.now.history }
         ensures size { result.now.teams ≡ teams self.now.league }
-        ensures pinned_stand { AllStand result.now (pins_of league self.now.history) }
+        ensures pinned_stand { AllStand result.now (pins_of self.now.league self.now.history) }
         ensures legal { IsLegal self.now.league self.now.room self.now.history }
     {
         &self.state.schedule
@@ -156,7 +156,7 @@ impl Board {
     /// Whether the game in which `home` receives `away` is pinned.
     pub fn is_pinned(&self, home: u8, away: u8) -> bool
         requires { IsPair (teams self.now.league) home away }
-        ensures { result ≡ is_pinned (pins_of league self.now.history) home away }
+        ensures { result ≡ is_pinned (pins_of self.now.league self.now.history) home away }
     {
         prove_eq!(self.state.schedule.teams(), self.league.teams());
         self.state.pins.has(home, away)

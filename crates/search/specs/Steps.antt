@@ -1,7 +1,13 @@
 -- The steps of a worker.
-use Rattle.std.specs.Prelude.{◌≡◌, ℕ, ◌+◌, ◌-◌, ◌*◌, ◌/◌, ◌^◌, ◌==◌, min, if◌then◌else◌, Bool, IsTrue, Option, Some, None}
+use Rattle.std.specs.Prelude.{◌≡◌, ◌≢◌, ◌⊎◌, ℕ, ◌+◌, ◌-◌, ◌*◌, ◌/◌, ◌^◌, ◌==◌, min, if◌then◌else◌, Bool, true, false, IsTrue}
+use Rattle.std.specs.Prelude.{Option, Some, None, Ok}
 use Rattle.league.specs.League.{LeagueData}
 use Rattle.fixtures.specs.Games.{Games}
+use Rattle.moves.specs.declared.exchanges.Exchange.{Exchange}
+use Rattle.moves.specs.declared.moves.Move.{Move}
+use Rattle.moves.specs.Exchanges.{IsExchangeOf}
+use Rattle.moves.specs.Kept.{moves_one_of}
+use Rattle.moves.specs.Moves.{fault_of, moved}
 use Rattle.fixture_board.specs.declared.cost.Cost.{Cost}
 use Rattle.fixture_board.specs.Costs.{cost_of, score_of}
 use Rattle.search.specs.declared.workers.Report.{Report}
@@ -50,6 +56,18 @@ least_with least cost = if cost.hard == 0 then Some (lesser least (min (cost.tra
 -- each board that may be had is of this league, if it is said to be
 abbrev pub IsMeasured : Bool → LeagueData → (LeagueData → ℕ → Type 0) → Type 0
 IsMeasured of_boards league may_have = IsTrue of_boards → (other : LeagueData) (room : ℕ) → may_have other room → other ≡ league
+
+-- whether the move would give another round to a game that the league keeps
+abbrev pub moves_kept : LeagueData → Games → Move → Bool
+moves_kept league g mv = moves_one_of g (moved g mv) league.origin.kept
+
+-- the move is left out: it can't be made, or a kept game would get another round
+abbrev pub IsLeftOut : LeagueData → Games → Move → Type 0
+IsLeftOut league g mv = (fault_of g mv ≢ Ok tt) ⊎ (moves_kept league g mv ≡ true)
+
+-- the exchange that the move is, which can be made, and leaves each kept game its round
+abbrev pub IsCandidate : LeagueData → Games → Move → Exchange → Type 0
+IsCandidate league g mv exchange = IsExchangeOf g mv exchange × (moves_kept league g mv ≡ false)
 
 -- the cost and the score of the copy
 pub record IsKnown (league : LeagueData) (copy : Games) (cost : Cost) (score : ℕ) : Type 0 where

@@ -79,8 +79,8 @@ impl Report {
 /// teams; with another one no step is taken. The league has to be the board's own, since the claims are counted with it:
 /// with another one most proposals are refused for a wrong claim. Takes no memory.
 ///
-/// A step draws a move. If the move can be made, and the score after it is above the copy's by no more than the slack, it
-/// is made on the copy. If the board has another version than the copy by then, the move is withdrawn, and the worker
+/// A step draws a move. If the move can be made, gives no game another round that the league keeps, and the score after it is
+/// above the copy's by no more than the slack, it is made on the copy. If the board has another version than the copy by then, the move is withdrawn, and the worker
 /// looks again. Otherwise the move is proposed for the copy's version, with the score as claim and with the slack. After
 /// the reply the copy is the board's schedule as far as the worker can tell: if the version isn't the one that it
 /// expects, it looks.

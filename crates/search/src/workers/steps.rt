@@ -1,11 +1,11 @@
 //! One step of a worker.
 
-ghost use Rattle.std.specs.Prelude.{◌≡◌, ◌+◌, ◌^◌, ◌<◌};
+ghost use Rattle.std.specs.Prelude.{◌≡◌, ◌+◌, ◌^◌, ◌<◌, MatchOption};
 ghost use Rattle.league.specs.League.{teams};
 ghost use Rattle.moves.specs.Exchanges.{exchanged_by, IsExchange};
 ghost use Rattle.fixture_board.specs.declared.reply.Reply.{Reply};
 ghost use Rattle.search.specs.Doors.{done_count};
-ghost use Rattle.search.specs.Steps.{IsKnown, IsMeasured, IsProposed, accepted_count, least_with};
+ghost use Rattle.search.specs.Steps.{IsCandidate, IsKnown, IsLeftOut, IsMeasured, IsProposed, accepted_count, least_with};
 
 use crate::Door;
 use crate::gates::HearingGate;
@@ -128,10 +128,9 @@ pub(crate) fn step<R: Wait, D: Door, G: HearingGate>(
 {
     let Means { rt, gate, measure } = means;
     let mv = trial.mv;
-    if let Err(_) = check(copy, mv) {
+    let Some(exchange) = candidate(copy, measure.league, mv) else {
         return StepResult::Nothing;
-    }
-    let exchange = exchange(copy, mv);
+    };
     let attempt = Attempt {
         exchange: &exchange,
         known: kept.known.cost,
@@ -162,6 +161,21 @@ pub(crate) fn step<R: Wait, D: Door, G: HearingGate>(
         reply,
     };
     settle(means, door, copy, &mut kept.known, made)
+}
+
+/// The exchange that a drawn move is, unless it can't be made or would give a game another round that the league keeps.
+fn candidate(copy: &Schedule, league: &League, mv: Move) -> Option<Exchange>
+    requires { teams league.now ≡ copy.now.teams }
+    ensures { MatchOption result (IsLeftOut league.now copy.now mv) (IsCandidate league.now copy.now mv) }
+{
+    if let Err(_) = check(copy, mv) {
+        return None;
+    }
+    let exchange = exchange(copy, mv);
+    if exchange.moves_one_of(copy, league.kept()) {
+        return None;
+    }
+    Some(exchange)
 }
 
 /// Keeps the move that was proposed, or withdraws it, and looks if the board has gone on.

@@ -2,7 +2,7 @@ use Rattle.std.proofs.Common.{◌∙◌, ap, arith}
 use Rattle.moves.specs.Exchanges.{exchanged_by}
 use Rattle.fixture_board.specs.declared.cost.Cost.{Cost}
 use Rattle.fixture_board.proofs.Scores.{cost_small, cost_travel}
-use Rattle.fixture_board.proofs.Parts.{games_le, least_scores, score_after, travel_scores}
+use Rattle.fixture_board.proofs.Parts.{games_le, near_le, least_scores, score_after, travel_scores}
 use Rattle.fixture_board.proofs.told_cost.told_within.Goals as goal
 
 pub travel_after-travel-requires-clause-known : goal.travel_after-travel-requires-clause-known
@@ -73,6 +73,24 @@ overflow_sub-result-2 c =
       c.repeats_of-repeats.ensures.balance,
     )
 
+pub overflow_add-result-3 : goal.overflow_add-result-3
+overflow_add-result-3 c =
+    omega (
+      arith,
+      ap (λ (cost : Cost). cost.soft) c.requires.known,
+      c.leaving_of-leaving.ensures.after_most,
+      (cost_small c.args.league.now c.args.schedule.now c.teams.ensures.limits c.requires.same_size).soft,
+    )
+
+pub overflow_sub-result-3 : goal.overflow_sub-result-3
+overflow_sub-result-3 c =
+    omega (
+      arith,
+      ap (λ (cost : Cost). cost.soft) c.requires.known,
+      near_le c.args.league.now c.args.schedule.now,
+      c.leaving_of-leaving.ensures.balance,
+    )
+
 pub returns : goal.returns
 returns c = record {
   travel_is = c.travel_after-travel.ensures;
@@ -83,5 +101,6 @@ returns c = record {
     c.runs_of-runs.ensures.balance,
     c.repeats_of-repeats.ensures.balance,
   );
-  soft = ap (λ (cost : Cost). cost.soft) c.requires.known;
+  soft = omega (arith, ap (λ (cost : Cost). cost.soft) c.requires.known, near_le c.args.league.now c.args.schedule.now,
+      c.leaving_of-leaving.ensures.balance);
 }

@@ -18,7 +18,7 @@ returns-in_err-check_move-clause-step c =
 pub returns-then-would_be_moved-clause-step : goal.returns-then-would_be_moved-clause-step
 returns-then-would_be_moved-clause-step c =
     let moves = c.would_be_moved.ensures _ (IsSound-kept c.requires.kept).1 c.requires.kept.pins_are ∙
-    ap (λ (g : Games). moves_pin g (pins_of league c.args.self.now.history.items)) (sym c.exchange-exchange.ensures.is_move.is) in
+    ap (λ (g : Games). moves_pin g (pins_of c.args.league.now c.args.self.now.history.items)) (sym c.exchange-exchange.ensures.is_move.is) in
     let told = shift_told c.args.proposal c.requires.kept c.check_move.ensures c.in_ok-check_move.was moves in
     record {
       reason = rw c.if-would_be_moved.true at told;
@@ -31,7 +31,7 @@ make_within-requires-clause-known c = known_cost c.requires.kept
 pub returns-in_default-clause-step : goal.returns-in_default-clause-step
 returns-in_default-clause-step c =
     let moves = c.would_be_moved.ensures _ (IsSound-kept c.requires.kept).1 c.requires.kept.pins_are ∙
-    ap (λ (g : Games). moves_pin g (pins_of league c.args.self.now.history.items)) (sym c.exchange-exchange.ensures.is_move.is) in
+    ap (λ (g : Games). moves_pin g (pins_of c.args.league.now c.args.self.now.history.items)) (sym c.exchange-exchange.ensures.is_move.is) in
     let after = exchanged_by c.args.self.now.schedule c.exchange-exchange.result in
     let small = score_after c.args.league.now c.args.self.now.schedule c.exchange-exchange.result c.requires.kept.league_is
     (sym c.requires.kept.same_size) in
@@ -46,7 +46,7 @@ returns-in_default-clause-step c =
 pub returns-in-Err-clause-step : goal.returns-in-Err-clause-step
 returns-in-Err-clause-step c =
     let moves = c.would_be_moved.ensures _ (IsSound-kept c.requires.kept).1 c.requires.kept.pins_are ∙
-    ap (λ (g : Games). moves_pin g (pins_of league c.args.self.now.history.items)) (sym c.exchange-exchange.ensures.is_move.is) in
+    ap (λ (g : Games). moves_pin g (pins_of c.args.league.now c.args.self.now.history.items)) (sym c.exchange-exchange.ensures.is_move.is) in
     let cost_is = c.in-Some.ensures.value.0 ∙ ap (cost_of c.args.league.now) (sym c.in-Some.ensures.schedule) in
     let made = c.in-Some.ensures.schedule ∙ sym c.exchange-exchange.ensures.is_move.is in
     record {
@@ -61,7 +61,7 @@ returns-in-Err-clause-step c =
 pub returns-clause-step : goal.returns-clause-step
 returns-clause-step c =
     let moves = c.would_be_moved.ensures _ (IsSound-kept c.requires.kept).1 c.requires.kept.pins_are ∙
-    ap (λ (g : Games). moves_pin g (pins_of league c.args.self.now.history.items)) (sym c.exchange-exchange.ensures.is_move.is) in
+    ap (λ (g : Games). moves_pin g (pins_of c.args.league.now c.args.self.now.history.items)) (sym c.exchange-exchange.ensures.is_move.is) in
     let cost_is = c.in-Some.ensures.value.0 ∙ ap (cost_of c.args.league.now) (sym c.in-Some.ensures.schedule) in
     let made = c.in-Some.ensures.schedule ∙ sym c.exchange-exchange.ensures.is_move.is in
     let none = shift_judged c.args.proposal _ _ _ _ _ _ _ c.requires.kept c.check_move.ensures c.in_ok-check_move.was moves

@@ -12,6 +12,6 @@ returns-clause-kept c =
       c.keep_best.ensures.best,
       c.keep_best.ensures.schedule,
       c.in_ok-schedule.ensures.games,
-      c.in_ok-pins.ensures,
     )
-    (FollowsHistory-start c.args.league.now c.args.room c.cost_of-cost.result _ c.cost_of-cost.ensures.limits c.requires cost_is)
+    (FollowsHistory-start c.args.league.now c.args.room c.cost_of-cost.result c.in_ok-pins.pins _ c.cost_of-cost.ensures.limits c.requires
+    cost_is c.in_ok-pins.ensures)
