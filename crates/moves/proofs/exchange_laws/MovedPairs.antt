@@ -1,5 +1,6 @@
 -- An exchange gives the game of one of some pairs another round where a main team has one in a round of the exchange.
-use Rattle.std.proofs.Common.{◌≡◌, ◌≢◌, ℕ, ◌<◌, Bool, true, false, not, ◌||◌, ◌&&◌, ◌==◌, inl, inr, List, [], map, slice_index, if◌then◌else◌, refl, sym, ◌∙◌, ap, subst, arith}
+use Rattle.std.proofs.Common.{◌≡◌, ◌≢◌, ℕ, ◌<◌, Bool, true, false, not, ◌||◌, ◌&&◌, ◌==◌, inl, inr, List, [], map, slice_index}
+use Rattle.std.proofs.Common.{if◌then◌else◌, refl, sym, ◌∙◌, ap, subst, arith}
 use Rattle.std.proofs.lemmas.Bool.{cases_eq, and_parts, and_from, or_cases, or_left, or_right, eq-eqb, ne_eqb, cond-true, true≢false}
 use Rattle.std.specs.List.{range_with_len}
 use Rattle.std.proofs.lemmas.List.FromFn.{get_or-map-range_with_len}
@@ -46,7 +47,8 @@ moves_one_of-empty g other pairs none =
 -- no game is of a team against itself
 no_own_game : (n : ℕ) (at : ℕ → ℕ → ℕ) (h : ℕ) → h < n → round_of (games n at) h h ≡ 0
 no_own_game n at h within =
-    ap (λ (r : List ℕ). slice_index r h) (get_or-map-range_with_len (λ t. map (λ o. if t == o then 0 else at t o) (range_with_len 0 n)) 0 n h h [] within (omega arith)) ∙
+    ap (λ (r : List ℕ). slice_index r h)
+    (get_or-map-range_with_len (λ t. map (λ o. if t == o then 0 else at t o) (range_with_len 0 n)) 0 n h h [] within (omega arith)) ∙
     get_or-map-range_with_len (λ o. if h == o then 0 else at h o) 0 n h h 0 within (omega arith) ∙
     cond-true (h == h) 0 (at h h) (eq-eqb h h refl)
 
