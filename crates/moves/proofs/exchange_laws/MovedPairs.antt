@@ -18,7 +18,7 @@ use Rattle.moves.proofs.exchange_laws.EachExchange.{each-undone}
 use Rattle.moves.proofs.exchange_laws.ChangedGames.{each-tells, main_teams_below, main_rounds_below}
 
 -- no pair's game moves where each keeps its round
-pub moves_one_of-no : (g other : Games) (pairs : List ℕ) →
+moves_one_of-no : (g other : Games) (pairs : List ℕ) →
     ((h a : ℕ) → h < g.teams → a < g.teams → has_pair pairs h a ≡ true → round_of other h a ≡ round_of g h a) →
     moves_one_of g other pairs ≡ false
 unfolding moves_one_of
@@ -100,14 +100,17 @@ module _ (g : Games) (exchange : Exchange) (can : IsExchange g exchange) (pairs 
         ]))
   ]
 
-  each_kept : None → (h a : ℕ) → h < g.teams → a < g.teams → has_pair pairs h a ≡ true →
-      round_of after h a ≡ round_of g h a
-  each_kept none h a h_in a_in is = elim (cases_eq h a) [
-    | inl same ↦
-        rw (← same) (own_game_kept g after h can.round_robin (each-undone g exchange can).again.round_robin
-        (each-around g exchange can).same_size h_in)
-    | inr distinct ↦ kept none h a (record { home_in = h_in; away_in = a_in; distinct = distinct }) is
-  ]
+  -- none moves where the game of each of the pairs keeps its round
+  pub moves_one_of-kept : ((h a : ℕ) → IsPair g.teams h a → has_pair pairs h a ≡ true → round_of after h a ≡ round_of g h a) →
+      moves_one_of g after pairs ≡ false
+  moves_one_of-kept each =
+      moves_one_of-no g after pairs
+      (λ h a h_in a_in is. elim (cases_eq h a) [
+        | inl same ↦
+            rw (← same) (own_game_kept g after h can.round_robin (each-undone g exchange can).again.round_robin
+            (each-around g exchange can).same_size h_in)
+        | inr distinct ↦ each h a (record { home_in = h_in; away_in = a_in; distinct = distinct }) is
+      ])
 
   changed : (h a r : ℕ) → IsPair g.teams h a → round_of g h a ≡ r → has (main_cells exchange).rounds r ≡ true →
       (has (main_cells exchange).teams h || has (main_cells exchange).teams a) ≡ true → round_of after h a ≢ round_of g h a
@@ -131,7 +134,7 @@ module _ (g : Games) (exchange : Exchange) (can : IsExchange g exchange) (pairs 
   pub moves_one_of-looked : (moves : Bool) → (moves ≡ false → None) → (moves ≡ true → Some) →
       moves ≡ moves_one_of g after pairs
   moves_one_of-looked false none some =
-      sym (moves_one_of-no g after pairs (each_kept (none refl)))
+      sym (moves_one_of-kept (kept (none refl)))
   moves_one_of-looked true none some =
       let at = some refl in
       let c = cell g at.0 at.1 in
