@@ -10,4 +10,4 @@ pub use Rattle.moves.proofs.exchange_laws.TurnedSides.{each-sides as each_sides}
 pub use Rattle.moves.proofs.exchange_laws.ChangedGames.{each-tells as each_tells}
 pub use Rattle.moves.proofs.exchange_laws.ChangedGames.{main_teams_below, main_rounds_below}
 -- whether it gives the game of one of some pairs another round
-pub use Rattle.moves.proofs.exchange_laws.MovedPairs.{moves_one_of-no as moves_one_of_no, moves_one_of-yes as moves_one_of_yes}
+pub use Rattle.moves.proofs.exchange_laws.MovedPairs.{moves_one_of-kept as moves_one_of_kept, moves_one_of-yes as moves_one_of_yes}

@@ -2,9 +2,8 @@
 
 ghost use Rattle.std.specs.Prelude.{◌≡◌, ℕ, ◌<◌, true, false};
 ghost use Rattle.league.specs.Limits.{max_teams};
-ghost use Rattle.league.specs.Pairs.{has_pair};
 ghost use Rattle.league.specs.Sets.{has};
-ghost use Rattle.fixtures.specs.Games.{round_count, cell, IsPair};
+ghost use Rattle.fixtures.specs.Games.{round_count, cell};
 ghost use Rattle.moves.specs.Exchanges.{exchanged_by, IsExchange};
 ghost use Rattle.moves.specs.Kept.{has_game, moves_one_of};
 
@@ -16,8 +15,7 @@ impl Exchange {
     /// Whether the exchange gives another round to the game of one of these pairs, the home team first: whether a main
     /// team has one in a round of the exchange. Takes no memory.
     pub fn moves_one_of(&self, schedule: &Schedule, pairs: &PairSet) -> bool
-        requires can_be_made { IsExchange schedule.now self.now }
-        requires pairs { (home away : ℕ) → has_pair pairs.now home away ≡ true → IsPair schedule.now.teams home away }
+        requires { IsExchange schedule.now self.now }
         ensures { result ≡ moves_one_of schedule.now (exchanged_by schedule.now self.now) pairs.now }
     {
         if pairs.is_empty() {

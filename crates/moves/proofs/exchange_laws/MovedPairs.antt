@@ -1,19 +1,24 @@
 -- An exchange gives the game of one of some pairs another round where a main team has one in a round of the exchange.
-use Rattle.std.proofs.Common.{◌≡◌, ◌≢◌, ℕ, ◌<◌, Bool, true, false, not, ◌||◌, ◌&&◌, ◌==◌, inl, inr, List, refl, sym, ◌∙◌, ap, subst}
-use Rattle.std.proofs.lemmas.Bool.{cases_eq, and_parts, and_from, or_cases, or_left, or_right, eq-eqb, ne_eqb, true≢false}
+use Rattle.std.proofs.Common.{◌≡◌, ◌≢◌, ℕ, ◌<◌, Bool, true, false, not, ◌||◌, ◌&&◌, ◌==◌, inl, inr, List, [], map, slice_index}
+use Rattle.std.proofs.Common.{if◌then◌else◌, refl, sym, ◌∙◌, ap, subst, arith}
+use Rattle.std.proofs.lemmas.Bool.{cases_eq, and_parts, and_from, or_cases, or_left, or_right, eq-eqb, ne_eqb, cond-true, true≢false}
+use Rattle.std.specs.List.{range_with_len}
+use Rattle.std.proofs.lemmas.List.FromFn.{get_or-map-range_with_len}
 use Rattle.league.specs.Sets.{has}
 use Rattle.league.specs.Pairs.{has_pair, no_pairs}
 use Rattle.league.proofs.ForCallers.{any_below_found, any_below_from_none, has_no_pairs}
 use Rattle.fixtures.specs.declared.game.Cell.{Cell}
-use Rattle.fixtures.specs.Games.{Games, round_of, cell, cell_round, IsPair, IsCell}
+use Rattle.fixtures.specs.Games.{Games, games, round_of, cell, cell_round, IsPair, IsCell, IsDoubleRoundRobin}
 use Rattle.fixtures.proofs.ForCallers.{cell_is, is_cell, pair_swapped}
 use Rattle.moves.specs.declared.exchanges.Exchange.{Exchange}
 use Rattle.moves.specs.Exchanges.{exchanged_by, main_cells, IsExchange}
 use Rattle.moves.specs.Kept.{has_game, moves_one_of}
+use Rattle.moves.proofs.exchange_laws.Around.{each-around}
+use Rattle.moves.proofs.exchange_laws.EachExchange.{each-undone}
 use Rattle.moves.proofs.exchange_laws.ChangedGames.{each-tells, main_teams_below, main_rounds_below}
 
 -- no pair's game moves where each keeps its round
-pub moves_one_of-no : (g other : Games) (pairs : List ℕ) →
+moves_one_of-no : (g other : Games) (pairs : List ℕ) →
     ((h a : ℕ) → h < g.teams → a < g.teams → has_pair pairs h a ≡ true → round_of other h a ≡ round_of g h a) →
     moves_one_of g other pairs ≡ false
 unfolding moves_one_of
@@ -39,12 +44,23 @@ moves_one_of-empty g other pairs none =
     moves_one_of-no g other pairs
     (λ h a h_in a_in is. absurd (true≢false (sym is ∙ ap (λ p. has_pair p h a) none ∙ has_no_pairs h a)))
 
+-- no game is of a team against itself
+no_own_game : (n : ℕ) (at : ℕ → ℕ → ℕ) (h : ℕ) → h < n → round_of (games n at) h h ≡ 0
+no_own_game n at h within =
+    ap (λ (r : List ℕ). slice_index r h)
+    (get_or-map-range_with_len (λ t. map (λ o. if t == o then 0 else at t o) (range_with_len 0 n)) 0 n h h [] within (omega arith)) ∙
+    get_or-map-range_with_len (λ o. if h == o then 0 else at h o) 0 n h h 0 within (omega arith) ∙
+    cond-true (h == h) 0 (at h h) (eq-eqb h h refl)
+
+own_game_kept : (g other : Games) (h : ℕ) → IsDoubleRoundRobin g → IsDoubleRoundRobin other → other.teams ≡ g.teams →
+    h < g.teams → round_of other h h ≡ round_of g h h
+own_game_kept g other h robin other_robin teams within =
+    ap (λ (x : Games). round_of x h h) other_robin.pairs_alone ∙ no_own_game other.teams (round_of other) h (rw teams within) ∙
+    sym (ap (λ (x : Games). round_of x h h) robin.pairs_alone ∙ no_own_game g.teams (round_of g) h within)
+
 module _ (g : Games) (exchange : Exchange) (can : IsExchange g exchange) (pairs : List ℕ) where
   abbrev after : Games
   after = exchanged_by g exchange
-
-  abbrev Within : Type 0
-  Within = (home away : ℕ) → has_pair pairs home away ≡ true → IsPair g.teams home away
 
   -- no main team has the game of one of the pairs in a round of the exchange
   abbrev None : Type 0
@@ -84,6 +100,18 @@ module _ (g : Games) (exchange : Exchange) (can : IsExchange g exchange) (pairs 
         ]))
   ]
 
+  -- none moves where the game of each of the pairs keeps its round
+  pub moves_one_of-kept : ((h a : ℕ) → IsPair g.teams h a → has_pair pairs h a ≡ true → round_of after h a ≡ round_of g h a) →
+      moves_one_of g after pairs ≡ false
+  moves_one_of-kept each =
+      moves_one_of-no g after pairs
+      (λ h a h_in a_in is. elim (cases_eq h a) [
+        | inl same ↦
+            rw (← same) (own_game_kept g after h can.round_robin (each-undone g exchange can).again.round_robin
+            (each-around g exchange can).same_size h_in)
+        | inr distinct ↦ each h a (record { home_in = h_in; away_in = a_in; distinct = distinct }) is
+      ])
+
   changed : (h a r : ℕ) → IsPair g.teams h a → round_of g h a ≡ r → has (main_cells exchange).rounds r ≡ true →
       (has (main_cells exchange).teams h || has (main_cells exchange).teams a) ≡ true → round_of after h a ≢ round_of g h a
   changed h a r pair there in_round main =
@@ -103,11 +131,11 @@ module _ (g : Games) (exchange : Exchange) (can : IsExchange g exchange) (pairs 
       (changed o t r pair there.in_round in_round (or_right (has (main_cells exchange).teams o) _ main))
 
   -- what is found at the main cells
-  pub moves_one_of-looked : (moves : Bool) → Within → (moves ≡ false → None) → (moves ≡ true → Some) →
+  pub moves_one_of-looked : (moves : Bool) → (moves ≡ false → None) → (moves ≡ true → Some) →
       moves ≡ moves_one_of g after pairs
-  moves_one_of-looked false within none some =
-      sym (moves_one_of-no g after pairs (λ h a _ _ is. kept (none refl) h a (within h a is) is))
-  moves_one_of-looked true within none some =
+  moves_one_of-looked false none some =
+      sym (moves_one_of-kept (kept (none refl)))
+  moves_one_of-looked true none some =
       let at = some refl in
       let c = cell g at.0 at.1 in
       let there : IsCell g at.0 at.1 c =

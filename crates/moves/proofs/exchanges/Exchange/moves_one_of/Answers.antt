@@ -17,18 +17,17 @@ pub are_in-requires-clause-teams : goal.are_in-requires-clause-teams
 are_in-requires-clause-teams c =
     subst (λ (cells : TouchedCells). (t : ℕ) → has cells.teams t ≡ true → t < c.args.schedule.now.teams)
     (sym (c.main.view_is ∙ c.main-main.ensures))
-    (main_teams_below c.args.schedule.now c.args.self.now c.requires.can_be_made)
+    (main_teams_below c.args.schedule.now c.args.self.now c.requires)
 
 pub are_in-requires-clause-rounds : goal.are_in-requires-clause-rounds
 are_in-requires-clause-rounds c =
     subst (λ (cells : TouchedCells). (r : ℕ) → has cells.rounds r ≡ true → r < round_count c.args.schedule.now.teams)
     (sym (c.main.view_is ∙ c.main-main.ensures))
-    (main_rounds_below c.args.schedule.now c.args.self.now c.requires.can_be_made)
+    (main_rounds_below c.args.schedule.now c.args.self.now c.requires)
 
 pub returns : goal.returns
 returns c =
-    moves_one_of-looked c.args.schedule.now c.args.self.now c.requires.can_be_made c.args.pairs.now c.are_in.result
-    c.requires.pairs
+    moves_one_of-looked c.args.schedule.now c.args.self.now c.requires c.args.pairs.now c.are_in.result
     (subst (λ (cells : TouchedCells). c.are_in.result ≡ false → (t r : ℕ) → has cells.teams t ≡ true → has cells.rounds r ≡ true →
     has_game c.args.pairs.now t (cell c.args.schedule.now t r) ≡ false)
     (c.main.view_is ∙ c.main-main.ensures) c.are_in.ensures.none)
