@@ -42,7 +42,7 @@ module _ (n i j : ℕ) (new old : ℕ → ℕ → ℕ) (p : IsPair n i j)
         rw (is, of_i, of_j) (omega arith)
     | inr out ↦
         let games : sum_below n (new h) + sum_where n (is_either i j) (old h) ≡
-            sum_below n (old h) + sum_where n (is_either i j) (new h) =
+        sum_below n (old h) + sum_where n (is_either i j) (new h) =
         sum_below_balance n (new h) (old h) (λ a. if is_either i j a then new h a else 0) (λ a. if is_either i j a then old h a else 0)
         (λ a in_a. where_balance (is_either i j a) (is_either i j a) (new h a) (old h a) (new h a) (old h a) refl
         (λ is. omega arith) (λ not_a. stays h a in_h in_a (out ∙ sym not_a))) in

@@ -15,9 +15,11 @@ loop-round-init c =
 -- a round of the set
 in_set : (c : In-Some) → (c.in-Some.round < round_count c.args.schedule.now.teams) × (has c.args.among c.in-Some.round ≡ true)
 in_set c =
-    let next = next_in _ _ _ _ _ _ _ _ _ _ c.loop-round.invariant c.in-Some.ensures.steps in
-    (next.0, sym (c.rounds_in-rounds.ensures.members c.in-Some.round next.0) ∙
-    ap (λ set. has set c.in-Some.round) (sym c.into_iter-round-iterator.ensures.into_iter_gives) ∙ next.1)
+    let next = next_in _ _ _ _ _ _ _ _ _ _ c.loop-round.invariant c.in-Some.ensures.steps in (
+      next.0,
+      sym (c.rounds_in-rounds.ensures.members c.in-Some.round next.0) ∙
+          ap (λ set. has set c.in-Some.round) (sym c.into_iter-round-iterator.ensures.into_iter_gives) ∙ next.1,
+    )
 
 pub moved_of_two-moved-requires-clause-round : goal.moved_of_two-moved-requires-clause-round
 moved_of_two-moved-requires-clause-round c = (in_set c).0
