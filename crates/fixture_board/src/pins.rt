@@ -1,6 +1,6 @@
 //! Which games are pinned to their rounds.
 
-ghost use Rattle.std.specs.Prelude.{◌≡◌, ℕ, ◌+◌, ◌*◌, ◌<◌, ◌==◌, ◌&&◌, ◌||◌, not, Bool, true, false, if◌then◌else◌, List};
+ghost use Rattle.std.specs.Prelude.{◌≡◌, ℕ, ◌+◌, ◌*◌, ◌<◌, ◌≤◌, ◌==◌, ◌&&◌, ◌||◌, not, Bool, true, false, if◌then◌else◌, List};
 ghost use Rattle.std.specs.Prelude.{replicate, length, slice_set, slice_index_or, IfOk};
 ghost use Rattle.league.specs.League.{teams};
 ghost use Rattle.league.specs.Limits.{max_teams};
@@ -138,6 +138,7 @@ impl Pins {
     fn pin_if_kept(&mut self, league: &League, home: u8, away: u8)
         requires home { home < teams league.now }
         requires away { away < teams league.now }
+        requires most { teams league.now ≤ max_teams }
         ensures { (passes : ℕ → ℕ → Bool) → AreBegun league.now passes self.old →
             AreBegun league.now (λ h a. passes h a || (h == home && a == away)) self.new }
     {

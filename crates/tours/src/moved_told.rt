@@ -15,8 +15,8 @@ use crate::told::Moved;
 use fixtures::{Cell, Schedule};
 use league::{League, SlotSet, TeamSet};
 
-/// The games that are moved if rounds `k` and `l` are exchanged for the teams of the set, which has the opponents of its
-/// teams in the two rounds.
+/// How many of the games that change their rounds have another than at the start of the league, if rounds `k` and `l` are
+/// exchanged for the teams of the set, which has the opponents of its teams in the two rounds.
 pub fn moved_of_rounds(schedule: &Schedule, league: &League, k: u8, l: u8, among: TeamSet) -> Moved
     requires same { teams league.now ≡ schedule.now.teams }
     requires k { k < round_count schedule.now.teams }
@@ -39,7 +39,7 @@ pub fn moved_of_rounds(schedule: &Schedule, league: &League, k: u8, l: u8, among
     Moved { before, after }
 }
 
-/// Those of a team at home.
+/// Those that a team plays at home in the two rounds.
 fn moved_of_team(schedule: &Schedule, league: &League, k: u8, l: u8, team: u8) -> Moved
     requires same { teams league.now ≡ schedule.now.teams }
     requires k { k < round_count schedule.now.teams }
@@ -62,7 +62,7 @@ fn moved_of_team(schedule: &Schedule, league: &League, k: u8, l: u8, team: u8) -
     }
 }
 
-/// Whether a game of a team at home is moved in one round, and whether it is in another.
+/// Whether the start has a home game of a team in another round than before, and than after. A game away isn't counted.
 fn moved_at_home(league: &League, team: u8, game: Cell, before: u8, after: u8) -> Moved
     requires { IsPair (teams league.now) team game.opponent }
     ensures before { result.before ≡ home_moved (start_round league.now) team game before }
@@ -83,8 +83,9 @@ fn moved_at_home(league: &League, team: u8, game: Cell, before: u8, after: u8) -
     }
 }
 
-/// The games that are moved if teams `i` and `j` are exchanged in the games of the rounds of the set. In none of them the
-/// two meet, and if one of them meets a team in a round of the set, so does the other.
+/// How many of the games that change their rounds have another than at the start of the league, if teams `i` and `j` are
+/// exchanged in the games of the rounds of the set. In none of them the two meet, and if one of them meets a team in a
+/// round of the set, so does the other.
 pub fn moved_of_teams(schedule: &Schedule, league: &League, i: u8, j: u8, among: SlotSet) -> Moved
     requires same { teams league.now ≡ schedule.now.teams }
     requires i { i < schedule.now.teams }
@@ -110,7 +111,7 @@ pub fn moved_of_teams(schedule: &Schedule, league: &League, i: u8, j: u8, among:
     Moved { before, after }
 }
 
-/// Those of a round, in which the two don't meet.
+/// Those that the two play in a round, in which they don't meet.
 fn moved_of_two(schedule: &Schedule, league: &League, i: u8, j: u8, round: u8) -> Moved
     requires same { teams league.now ≡ schedule.now.teams }
     requires i { i < schedule.now.teams }
@@ -135,7 +136,7 @@ fn moved_of_two(schedule: &Schedule, league: &League, i: u8, j: u8, round: u8) -
     }
 }
 
-/// 1 if the start has the game of a team with this opponent, at home or away, in another round.
+/// 1 if the start has the game of a team with this opponent, at home or away, in another round than this, and else 0.
 fn moved_in(league: &League, team: u8, game: Cell, round: u8) -> u64
     requires home { IsPair (teams league.now) team game.opponent }
     requires away { IsPair (teams league.now) game.opponent team }

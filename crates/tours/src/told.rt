@@ -15,7 +15,8 @@ pub struct Breaches {
     pub after: u64,
 }
 
-/// How many of the games that an exchange alters have another round than at the start, before it and after it.
+/// How many of the games that change their rounds in an exchange have another than at the start of the league, before it
+/// and after it.
 #[derive(Clone, Copy, Debug, Drop, PartialEq, Eq)]
 pub struct Moved {
     pub before: u64,

@@ -101,6 +101,10 @@ returns c = record {
     c.runs_of-runs.ensures.balance,
     c.repeats_of-repeats.ensures.balance,
   );
-  soft = omega (arith, ap (λ (cost : Cost). cost.soft) c.requires.known, near_le c.args.league.now c.args.schedule.now,
-      c.leaving_of-leaving.ensures.balance);
+  soft = omega (
+    arith,
+    ap (λ (cost : Cost). cost.soft) c.requires.known,
+    near_le c.args.league.now c.args.schedule.now,
+    c.leaving_of-leaving.ensures.balance,
+  );
 }
