@@ -6,14 +6,15 @@ use Rattle.std.specs.List.{count_by, list_any}
 use Rattle.std.proofs.lemmas.Bool.{cases_eq, or_cases, and_parts, eq-eqb, ne_eqb, eqb-true}
 use Rattle.std.proofs.Math.Bool.{and-false, or-true}
 use Rattle.std.proofs.lemmas.List.Sums.{sum_by-cons}
-use Rattle.std.proofs.lemmas.List.{get_or-set_same, get_or-set_other, get_or-replicate}
+use Rattle.std.proofs.lemmas.List.{get_or-set_same, get_or-set_other, get_or-replicate, length-set, length-replicate}
 use Rattle.league.specs.Limits.{max_teams}
+use Rattle.league.specs.Pairs.{has_pair}
 use Rattle.fixtures.specs.declared.game.Game.{Game}
 use Rattle.fixtures.specs.Draft.{is_game_in_range}
 use Rattle.fixtures.specs.Games.{Games, round_of, IsPair, IsDoubleRoundRobin}
 use Rattle.fixtures.proofs.ForCallers.{game_passed}
 use Rattle.fixture_board.specs.History.{is_game, has_game, is_pinned, is_there, moves_pin, AllStand}
-use Rattle.fixture_board.specs.PinTable.{free, pin_at, pin_entries, ArePinsAt}
+use Rattle.fixture_board.specs.PinTable.{free, pin_at, pin_entries, ArePinsAt, ArePinnedPairs}
 
 -- what is read after a write
 
@@ -283,26 +284,11 @@ moves_pin-some g other pins table h a all are pair pin apart =
     let told = entry-pinned (is_pinned pins h a) (round_of g h a) (pin_at table h a) (are h a pair) pin in
     moves_pin-moved g other pins h a all told.0 (λ same. apart (same ∙ sym told.1))
 
--- a table without a round has no pinned game
+-- the set of the pinned pairs
 
-none_pinned-if : (round rest : ℕ) → cond (not (round == free)) 1 0 + rest ≡ 0 → (round ≡ free) × (rest ≡ 0)
-none_pinned-if round rest none = go (round == free) refl none
-  where
-    go : (b : Bool) → round == free ≡ b → cond (not b) 1 0 + rest ≡ 0 → (round ≡ free) × (rest ≡ 0)
-    go true is sum = (eqb-true round free is, omega (arith, sum))
-    go false is sum = absurd (omega (arith, sum))
-
-none_pinned : (table : List ℕ) (i : ℕ) → i < length table → count_by (λ round. not (round == free)) table ≡ 0 → slice_index table i ≡ free
-none_pinned [] i within none = absurd (omega arith)
-none_pinned (round ∷ table) zero within none =
-    (none_pinned-if round (count_by (λ x. not (x == free)) table) (sym (sum_by-cons (λ x. cond (not (x == free)) 1 0) round table) ∙ none)).0
-none_pinned (round ∷ table) (suc i) within none =
-    none_pinned table i (omega arith)
-    (none_pinned-if round (count_by (λ x. not (x == free)) table) (sym (sum_by-cons (λ x. cond (not (x == free)) 1 0) round table) ∙ none)).1
-
-pub moves_pin-unpinned : (g other : Games) (pins : List Game) (table : List ℕ) → IsDoubleRoundRobin g → AllStand g pins →
-    ArePinsAt g pins table →
-    length table ≡ pin_entries → count_by (λ round. not (round == free)) table ≡ 0 → moves_pin other pins ≡ false
-moves_pin-unpinned g other pins table robin all are size none =
-    moves_pin-none g other pins table robin all are
-    (λ h a pair pin. absurd (pin (none_pinned table (h * max_teams + a) (omega (arith, pair.home_in, pair.away_in, robin.most)) none)))
+pub ArePinnedPairs-none : (pairs : List ℕ) → ((h a : ℕ) → has_pair pairs h a ≡ false) → ArePinnedPairs (replicate pin_entries free) pairs
+ArePinnedPairs-none pairs none = record {
+  size = length-replicate {A = ℕ} 1600 255;
+  members = λ h a h_in a_in.
+      none h a ∙ sym (ap (λ x. not (x == free)) (get_or-replicate 1600 (h * max_teams + a) 255 0 (omega arith)));
+}

@@ -1,11 +1,11 @@
 -- The table in which a board has the rounds of its pinned games.
-use Rattle.std.specs.Prelude.{◌≡◌, ℕ, ◌+◌, ◌*◌, ◌==◌, ◌&&◌, not, Bool, if◌then◌else◌, List, length, slice_index, slice_set}
+use Rattle.std.specs.Prelude.{◌≡◌, ℕ, ◌+◌, ◌*◌, ◌<◌, ◌==◌, ◌&&◌, not, Bool, if◌then◌else◌, List, length, slice_index, slice_set}
 use Rattle.league.specs.League.{LeagueData, teams}
 use Rattle.league.specs.Limits.{max_teams}
+use Rattle.league.specs.Pairs.{has_pair}
 use Rattle.league.specs.Starts.{start_of, start_round, keeps, kept_games}
 use Rattle.fixtures.specs.declared.game.Game.{Game}
-use Rattle.fixtures.specs.declared.game.Cell.{Cell}
-use Rattle.fixtures.specs.Games.{Games, round_of, IsPair, cell_round}
+use Rattle.fixtures.specs.Games.{Games, round_of, IsPair}
 use Rattle.fixture_board.specs.declared.change.Change.{Change}
 use Rattle.fixture_board.specs.declared.change.Change.TheVariants.{Pin, Unpin}
 use Rattle.fixture_board.specs.History.{is_pinned}
@@ -25,9 +25,10 @@ free = 255
 abbrev pub pin_at : List ℕ → ℕ → ℕ → ℕ
 pin_at table home away = slice_index table (pin_index home away)
 
--- whether the game of a team with this cell is pinned
-unfoldable pub is_pinned_cell : List ℕ → ℕ → Cell → Bool
-is_pinned_cell table team c = not (cell_round (pin_at table) team c == free)
+-- the pairs are those whose games are pinned
+pub record ArePinnedPairs (table pairs : List ℕ) : Type 0 where
+  pub size : length table ≡ pin_entries
+  pub members : (home away : ℕ) → home < max_teams → away < max_teams → has_pair pairs home away ≡ not (pin_at table home away == free)
 
 -- the table has the rounds of the pinned games
 abbrev pub ArePinsAt : Games → List Game → List ℕ → Type 0

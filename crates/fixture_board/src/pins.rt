@@ -4,19 +4,17 @@ ghost use Rattle.std.specs.Prelude.{◌≡◌, ℕ, ◌+◌, ◌*◌, ◌<◌, �
 ghost use Rattle.std.specs.Prelude.{replicate, length, slice_set, slice_index_or, IfOk};
 ghost use Rattle.league.specs.League.{teams};
 ghost use Rattle.league.specs.Limits.{max_teams};
-ghost use Rattle.league.specs.Sets.{has};
-ghost use Rattle.fixtures.specs.Games.{round_count, cell};
 ghost use Rattle.fixtures.specs.declared.game.Game.{Game};
 ghost use Rattle.moves.specs.Exchanges.{exchanged_by, IsExchange};
 ghost use Rattle.fixture_board.specs.History.{moves_pin, AllStand};
 ghost use Rattle.fixture_board.specs.declared.change.Change.{Change};
 ghost use Rattle.fixture_board.specs.Retraced.{HasPlace, written, IsRetraced};
-ghost use Rattle.fixture_board.specs.PinTable.{free, pin_at, pin_index, pin_entries, is_pinned_cell, AreBegun, ArePinsAt, IsFirstTable};
+ghost use Rattle.fixture_board.specs.PinTable.{free, pin_at, pin_index, pin_entries, AreBegun, ArePinsAt, IsFirstTable};
 
 use crate::change::Change;
-use fixtures::{Cell, Game, Schedule};
+use fixtures::{Game, Schedule};
 use league::limits::MAX_TEAMS;
-use league::{League, SlotSet, TeamSet};
+use league::{League, PairSet};
 use moves::Exchange;
 use std::alloc::{AllocError, Global};
 use std::marker::Model;
@@ -30,20 +28,19 @@ const MOST_TEAMS: usize = MAX_TEAMS as usize;
 #[derive(Drop)]
 pub(crate) struct Pins {
     rounds: Vec<u8>,
-    /// How many games are pinned.
-    count: u16,
+    /// The pairs whose games are pinned.
+    pairs: PairSet,
 }
 
 impl Model for Pins {
-    ghost use Rattle.std.specs.Prelude.{◌≡◌, ◌==◌, ℕ, List, length, count_by, not};
-    ghost use Rattle.fixture_board.specs.PinTable.{free, pin_entries};
+    ghost use Rattle.std.specs.Prelude.{ℕ, List};
+    ghost use Rattle.fixture_board.specs.PinTable.{ArePinnedPairs};
 
     ghost Value = { List ℕ };
 
     ghost view = { λ p. p.rounds.items };
 
-    ghost invariant = { λ p. (length p.rounds.items ≡ pin_entries) ×
-        (p.count ≡ count_by (λ round. not (round == free)) p.rounds.items) };
+    ghost invariant = { λ p. ArePinnedPairs p.rounds.items p.pairs };
 }
 
 impl Pins {
@@ -62,7 +59,7 @@ impl Pins {
     {
         Ok(Pins {
             rounds: vec![in alloc; FREE; MOST_TEAMS * MOST_TEAMS]?,
-            count: 0,
+            pairs: PairSet::empty(),
         })
     }
 
@@ -81,7 +78,7 @@ impl Pins {
         requires away { game.away < max_teams }
         ensures { self.new ≡ slice_set self.old (pin_index game.home game.away) game.round }
     {
-        self.write(pin_index(game.home, game.away), game.round);
+        self.write(game.home, game.away, game.round);
     }
 
     /// Lets the game get another round again.
@@ -90,7 +87,7 @@ impl Pins {
         requires away { game.away < max_teams }
         ensures { self.new ≡ slice_set self.old (pin_index game.home game.away) free }
     {
-        self.write(pin_index(game.home, game.away), FREE);
+        self.write(game.home, game.away, FREE);
     }
 
     /// No game is pinned any more.
@@ -98,7 +95,7 @@ impl Pins {
         ensures { self.new ≡ replicate pin_entries free }
     {
         self.rounds.fill(FREE);
-        self.count = 0;
+        self.pairs = PairSet::empty();
     }
 
     /// Makes the pin or the unpin that a change is.
@@ -159,74 +156,26 @@ impl Pins {
         }
     }
 
-    fn write(&mut self, index: usize, round: u8)
-        requires { index < pin_entries }
-        ensures { self.new ≡ slice_set self.old index round }
+    fn write(&mut self, home: u8, away: u8, round: u8)
+        requires home { home < max_teams }
+        requires away { away < max_teams }
+        ensures { self.new ≡ slice_set self.old (pin_index home away) round }
     {
-        self.count = self.count + pinned(round) - pinned(self.rounds[index]);
-        self.rounds[index] = round;
+        self.rounds[pin_index(home, away)] = round;
+        if round == FREE {
+            self.pairs.remove(home, away);
+        } else {
+            self.pairs.add(home, away);
+        }
     }
 
-    /// Whether the exchange would give a pinned game another round, if pinned games stand in their rounds: whether a
-    /// main team has one in a round of the exchange.
+    /// Whether the exchange would give a pinned game another round, if pinned games stand in their rounds.
     pub(crate) fn would_be_moved(&self, schedule: &Schedule, exchange: &Exchange) -> bool
         requires { IsExchange schedule.now exchange.now }
         ensures { (held : List Game) → AllStand schedule.now held → ArePinsAt schedule.now held self.now →
             result ≡ moves_pin (exchanged_by schedule.now exchange.now) held }
     {
-        if self.count == 0 {
-            return false;
-        }
-        let main = exchange.main();
-        self.are_in(schedule, main.teams, main.rounds)
-    }
-
-    /// Whether a game of one of the teams in one of the rounds is pinned.
-    fn are_in(&self, schedule: &Schedule, teams: TeamSet, rounds: SlotSet) -> bool
-        requires teams { (t : ℕ) → has teams t ≡ true → t < schedule.now.teams }
-        requires rounds { (r : ℕ) → has rounds r ≡ true → r < round_count schedule.now.teams }
-        ensures none { result ≡ false → (t r : ℕ) → has teams t ≡ true → has rounds r ≡ true →
-            is_pinned_cell self.now t (cell schedule.now t r) ≡ false }
-        ensures some { result ≡ true → (t : ℕ) × (r : ℕ) × (has teams t ≡ true) × (has rounds r ≡ true) ×
-            (is_pinned_cell self.now t (cell schedule.now t r) ≡ true) }
-    {
-        for team in teams {
-            if self.are_of(schedule, team, rounds) {
-                return true;
-            }
-        }
-        false
-    }
-
-    /// Whether a game of the team in one of the rounds is pinned.
-    fn are_of(&self, schedule: &Schedule, team: u8, rounds: SlotSet) -> bool
-        requires team { team < schedule.now.teams }
-        requires rounds { (r : ℕ) → has rounds r ≡ true → r < round_count schedule.now.teams }
-        ensures none { result ≡ false → (r : ℕ) → has rounds r ≡ true →
-            is_pinned_cell self.now team (cell schedule.now team r) ≡ false }
-        ensures some { result ≡ true → (r : ℕ) × (has rounds r ≡ true) ×
-            (is_pinned_cell self.now team (cell schedule.now team r) ≡ true) }
-    {
-        for round in rounds {
-            if self.has_cell(team, schedule.game_at(team, round)) {
-                return true;
-            }
-        }
-        false
-    }
-
-    /// Whether the game of the team with this cell is pinned.
-    #[tactic(auto, unfolding(crate::specs::PinTable::is_pinned_cell))]
-    fn has_cell(&self, team: u8, cell: Cell) -> bool
-        requires team { team < max_teams }
-        requires opponent { cell.opponent < max_teams }
-        ensures { result ≡ is_pinned_cell self.now team cell }
-    {
-        if cell.home {
-            self.has(team, cell.opponent)
-        } else {
-            self.has(cell.opponent, team)
-        }
+        exchange.moves_one_of(schedule, &self.pairs)
     }
 }
 
@@ -235,11 +184,4 @@ fn pin_index(home: u8, away: u8) -> usize
     ensures { result ≡ pin_index home away }
 {
     usize::from(home) * MOST_TEAMS + usize::from(away)
-}
-
-/// 1 for a pinned game's round, and 0 for none.
-fn pinned(round: u8) -> u16
-    ensures { result ≡ (if not (round == free) then 1 else 0) }
-{
-    if round == FREE { 0 } else { 1 }
 }
