@@ -1,12 +1,11 @@
 -- The table of pins, and the pinned games that it stands for.
-use Rattle.std.proofs.Common.{◌≡◌, ◌≢◌, ℕ, zero, suc, ◌+◌, ◌*◌, ◌<◌, ◌≤◌, Bool, true, false, not, cond, if◌then◌else◌}
-use Rattle.std.proofs.Common.{◌&&◌, ◌||◌, ◌==◌, inl, inr, List, [], ◌∷◌, length, filter, replicate, slice_index}
+use Rattle.std.proofs.Common.{◌≡◌, ◌≢◌, ℕ, ◌+◌, ◌*◌, ◌<◌, ◌≤◌, Bool, true, false, not, cond, if◌then◌else◌}
+use Rattle.std.proofs.Common.{◌&&◌, ◌||◌, ◌==◌, inl, inr, List, [], ◌∷◌, length, filter, replicate}
 use Rattle.std.proofs.Common.{slice_set, true≢false, refl, sym, ◌∙◌, ap, subst, arith}
-use Rattle.std.specs.List.{count_by, list_any}
+use Rattle.std.specs.List.{list_any}
 use Rattle.std.proofs.lemmas.Bool.{cases_eq, or_cases, and_parts, eq-eqb, ne_eqb, eqb-true}
 use Rattle.std.proofs.Math.Bool.{and-false, or-true}
-use Rattle.std.proofs.lemmas.List.Sums.{sum_by-cons}
-use Rattle.std.proofs.lemmas.List.{get_or-set_same, get_or-set_other, get_or-replicate, length-set, length-replicate}
+use Rattle.std.proofs.lemmas.List.{get_or-set_same, get_or-set_other, get_or-replicate, length-replicate}
 use Rattle.league.specs.Limits.{max_teams}
 use Rattle.league.specs.Pairs.{has_pair}
 use Rattle.fixtures.specs.declared.game.Game.{Game}
@@ -288,7 +287,7 @@ moves_pin-some g other pins table h a all are pair pin apart =
 
 pub ArePinnedPairs-none : (pairs : List ℕ) → ((h a : ℕ) → has_pair pairs h a ≡ false) → ArePinnedPairs (replicate pin_entries free) pairs
 ArePinnedPairs-none pairs none = record {
-  size = length-replicate {A = ℕ} 1600 255;
+  size = length-replicate {A = ℕ} pin_entries free;
   members = λ h a h_in a_in.
-      none h a ∙ sym (ap (λ x. not (x == free)) (get_or-replicate 1600 (h * max_teams + a) 255 0 (omega arith)));
+      none h a ∙ sym (ap (λ x. not (x == free)) (get_or-replicate pin_entries (h * max_teams + a) free 0 (omega arith)));
 }

@@ -1,7 +1,6 @@
 -- An exchange gives a pinned game another round where it does so to the game of one of the pinned pairs.
-use Rattle.std.proofs.Common.{◌≡◌, ◌≢◌, ℕ, ◌<◌, Bool, true, false, not, ◌==◌, inl, inr, List, refl, sym, ◌∙◌, ap, arith}
+use Rattle.std.proofs.Common.{◌≡◌, ◌≢◌, ℕ, Bool, true, false, not, ◌==◌, inl, inr, List, refl, sym, ◌∙◌, ap, arith}
 use Rattle.std.proofs.lemmas.Bool.{cases_eq, not-true, eqb-false, ne_eqb, true≢false, true_from_ne_false}
-use Rattle.league.specs.Limits.{max_teams}
 use Rattle.league.specs.Pairs.{has_pair}
 use Rattle.fixtures.specs.declared.game.Game.{Game}
 use Rattle.fixtures.specs.Games.{Games, round_of, IsPair}
@@ -19,7 +18,8 @@ module _ (g : Games) (exchange : Exchange) (can : IsExchange g exchange) (table 
   after = exchanged_by g exchange
 
   pair_is : (h a : ℕ) → IsPair g.teams h a → has_pair pairs h a ≡ not (pin_at table h a == free)
-  pair_is h a pair = members.members h a (omega (arith, pair.home_in, can.round_robin.most)) (omega (arith, pair.away_in, can.round_robin.most))
+  pair_is h a pair =
+      members.members h a (omega (arith, pair.home_in, can.round_robin.most)) (omega (arith, pair.away_in, can.round_robin.most))
 
   stands : (h a : ℕ) → IsPair g.teams h a → pin_at table h a ≢ free → pin_at table h a ≡ round_of g h a
   stands h a pair pin = (entry-pinned (is_pinned pins h a) (round_of g h a) (pin_at table h a) (are h a pair) pin).1

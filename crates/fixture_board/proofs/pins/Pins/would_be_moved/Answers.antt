@@ -1,4 +1,4 @@
-use Rattle.std.proofs.Common.{sym, ◌∙◌}
+use Rattle.std.proofs.Common.{◌∙◌}
 use Rattle.fixture_board.proofs.PinsLooked.{moves_pin-looked}
 use Rattle.fixture_board.proofs.pins.Pins.would_be_moved.Goals as goal
 
