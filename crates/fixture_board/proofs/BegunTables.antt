@@ -1,14 +1,14 @@
 -- The table of pins of a new board, filled pair by pair.
-use Rattle.std.proofs.Common.{◌≡◌, ◌≢◌, ℕ, ◌<◌, ◌≤◌, ◌&&◌, ◌||◌, ◌==◌, Bool, true, false, cond, List, length, slice_set, replicate}
+use Rattle.std.proofs.Common.{◌≡◌, ℕ, ◌≤◌, ◌&&◌, ◌||◌, ◌==◌, Bool, true, false, cond, List, slice_set, replicate}
 use Rattle.std.proofs.Common.{arith, refl, sym, ◌∙◌, ap, subst, inl, inr, true≢false}
 use Rattle.std.proofs.lemmas.Bool.{cases_Bool, cases_eq, eq-eqb, ne_eqb}
 use Rattle.std.proofs.Math.Bool.{and-false, or-false, or-true}
 use Rattle.std.proofs.lemmas.List.{get_or-replicate, length-replicate, length-set}
 use Rattle.league.specs.League.{LeagueData, teams, IsLeague}
 use Rattle.league.specs.Limits.{max_teams}
-use Rattle.league.specs.Starts.{start_of, start_round, keeps, kept_games}
+use Rattle.league.specs.Starts.{start_round, keeps, kept_games}
 use Rattle.league.proofs.ForCallers.{round_of_start}
-use Rattle.fixtures.specs.Games.{IsPair, round_of}
+use Rattle.fixtures.specs.Games.{IsPair}
 use Rattle.fixture_board.specs.History.{is_pinned}
 use Rattle.fixture_board.specs.PinTable.{free, pin_at, pin_index, pin_entries, AreBegun, IsFirstTable}
 use Rattle.fixture_board.proofs.KeptGames.{pinned_if_kept}

@@ -1,8 +1,8 @@
 -- What a board keeps behind its history, after one entry more.
 use Rattle.std.proofs.Common.{◌≡◌, ℕ, ◌+◌, ◌*◌, ◌-◌, ◌<◌, ◌≤◌, Bool, true, false, if◌then◌else◌, ◌&&◌, ◌==◌, nat_lt}
-use Rattle.std.proofs.Common.{List, [], ◌∷◌, ◌++◌, length, Option, Some, None, replicate, slice_set, is_some}
+use Rattle.std.proofs.Common.{List, [], ◌∷◌, ◌++◌, length, Option, Some, None, slice_set, is_some}
 use Rattle.std.proofs.Common.{true≢false, refl, sym, ◌∙◌, ap, subst, length-append, arith}
-use Rattle.std.proofs.lemmas.List.{length-set, length-replicate, length-take}
+use Rattle.std.proofs.lemmas.List.{length-set, length-take}
 use Rattle.league.specs.Limits.{max_teams}
 use Rattle.league.specs.League.{LeagueData, teams, IsLeague}
 use Rattle.fixtures.specs.declared.game.Game.{Game}
@@ -288,7 +288,7 @@ pub IsGranted-undo : {league : LeagueData} {k : Kept} (version : ℕ) (prefix : 
 IsGranted-undo {league} {k} version prefix change kept granted are =
     let known = last_kept prefix change kept are in
     let before : Games = games_after (start_of league) prefix in
-    let held : List Game = pins_after [] prefix in
+    let held : List Game = pins_after (kept_games league) prefix in
     let back : shifted k.games change ≡ before =
     ap (λ x. shifted x change) known.games_are ∙ unshifted before held change known.last.robin known.last.fits in
     let stand : AllStand (shifted before change) (pinned held change) =

@@ -1,11 +1,11 @@
 -- The games of the start that a league keeps: they stand there, and they alone are pinned at the beginning.
-use Rattle.std.proofs.Common.{◌≡◌, ℕ, zero, suc, ◌<◌, ◌≤◌, Bool, true, false, ◌&&◌, ◌||◌, ◌==◌, cond, inl, inr, List, [], ◌∷◌, ◌++◌}
-use Rattle.std.proofs.Common.{true≢false, refl, sym, ◌∙◌, ap, subst, arith}
+use Rattle.std.proofs.Common.{◌≡◌, ℕ, zero, suc, ◌<◌, Bool, true, false, ◌&&◌, ◌||◌, ◌==◌, cond, inl, inr, List, [], ◌∷◌, ◌++◌}
+use Rattle.std.proofs.Common.{true≢false, refl, sym, ◌∙◌, ap, subst}
 use Rattle.std.proofs.lemmas.Bool.{cases_Bool, eq-eqb, and_parts, eqb-true, false_from_ne_true}
 use Rattle.std.proofs.Math.Bool.{or-false}
 use Rattle.std.proofs.lemmas.List.Folds.{list_any-append}
 use Rattle.league.specs.League.{LeagueData, teams, IsLeague}
-use Rattle.league.specs.Starts.{start_of, start_round, start_game, keeps, kept_at, kept_below, kept_games}
+use Rattle.league.specs.Starts.{start_of, start_game, keeps, kept_at, kept_below, kept_games}
 use Rattle.league.specs.Sums.{any_below}
 use Rattle.league.proofs.ForCallers.{any_below_found, any_below_from_none, kept_pair, round_of_start, round_robin_start}
 use Rattle.fixtures.specs.declared.game.Game.{Game}

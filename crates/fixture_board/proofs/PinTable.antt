@@ -1,10 +1,9 @@
 -- The table of pins, and the pinned games that it stands for.
 use Rattle.std.proofs.Common.{◌≡◌, ◌≢◌, ℕ, zero, suc, ◌+◌, ◌*◌, ◌<◌, ◌≤◌, Bool, true, false, not, cond, if◌then◌else◌}
-use Rattle.std.proofs.Common.{◌&&◌, ◌||◌, ◌==◌, inl, inr, List, [], ◌∷◌, length, filter, replicate, nat_lt, slice_index}
+use Rattle.std.proofs.Common.{◌&&◌, ◌||◌, ◌==◌, inl, inr, List, [], ◌∷◌, length, filter, replicate, slice_index}
 use Rattle.std.proofs.Common.{slice_set, true≢false, refl, sym, ◌∙◌, ap, subst, arith}
 use Rattle.std.specs.List.{count_by, list_any}
-use Rattle.std.proofs.lemmas.Bool.{cases_eq, or_cases, and_parts, not-true, eq-eqb, ne_eqb, eqb-true, eqb-false}
-use Rattle.std.proofs.lemmas.Bool.{ltb-true}
+use Rattle.std.proofs.lemmas.Bool.{cases_eq, or_cases, and_parts, eq-eqb, ne_eqb, eqb-true}
 use Rattle.std.proofs.Math.Bool.{and-false, or-true}
 use Rattle.std.proofs.lemmas.List.Sums.{sum_by-cons}
 use Rattle.std.proofs.lemmas.List.{get_or-set_same, get_or-set_other, get_or-replicate}

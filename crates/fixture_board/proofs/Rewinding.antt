@@ -1,8 +1,8 @@
 -- A history that is taken back to its best version, and what is kept then.
 use Rattle.std.proofs.Common.{◌≡◌, ℕ, zero, suc, ◌+◌, ◌*◌, ◌<◌, ◌≤◌, inl, inr, List, [], ◌∷◌, ◌++◌, length, take, Option, Some, None}
-use Rattle.std.proofs.Common.{unwrap_or, replicate, get_or, is_some, true≢false, refl, sym, ◌∙◌, ap, subst, take_all, arith}
+use Rattle.std.proofs.Common.{unwrap_or, get_or, is_some, true≢false, refl, sym, ◌∙◌, ap, subst, take_all, arith}
 use Rattle.std.proofs.lemmas.Bool.{cases_lt}
-use Rattle.std.proofs.lemmas.List.{length-set, length-replicate, take-take, take_more}
+use Rattle.std.proofs.lemmas.List.{length-set, take-take, take_more}
 use Rattle.league.specs.Limits.{max_teams}
 use Rattle.league.specs.League.{LeagueData, teams, IsLeague}
 use Rattle.fixtures.specs.declared.game.Game.{Game}

@@ -3,7 +3,7 @@ use Rattle.std.proofs.Common.{◌≡◌, ℕ, ◌+◌, ◌^◌, ◌<◌, Bool, f
 use Rattle.std.proofs.Common.{List, [], ◌∷◌, ◌++◌, length, Option, Some, None, refl, sym, ◌∙◌, ap, subst, append_assoc}
 use Rattle.std.proofs.Common.{append-nil, arith}
 use Rattle.std.proofs.lemmas.Bool.{and_right, le-ltb, ne_eqb}
-use Rattle.league.specs.League.{LeagueData}
+use Rattle.league.specs.League.{LeagueData, IsLeague}
 use Rattle.fixtures.specs.declared.game.Game.{Game}
 use Rattle.moves.specs.declared.moves.Move.{Move}
 use Rattle.moves.specs.Moves.{moved}
@@ -23,7 +23,7 @@ use Rattle.fixture_board.specs.Replay.{changes_of, under_caller_0, AllDone, IsRe
 use Rattle.fixture_board.proofs.Credits.{credited-more, length-credited, effective-credited, games_of-credited}
 use Rattle.fixture_board.proofs.Credits.{pins_of-credited, best_of-credited}
 use Rattle.fixture_board.proofs.OneMore.{games_of-more, accepted, replies_done}
-use Rattle.fixture_board.proofs.Scores.{IsScored}
+use Rattle.fixture_board.proofs.Scores.{IsScored, IsScored-league}
 use Rattle.fixture_board.proofs.Stand.{FitFrom, FitFrom-more, AllStand-fit, pinned_stands}
 
 -- the row doesn't apply, and none after it
@@ -69,12 +69,12 @@ granted-pin league room h game under fits =
     (none_after _ (not_full (length h) room under)
     (none_after _ (ap not fits.0) (none_after _ (ap not fits.1) (none_after _ fits.2 refl)))))
 
-granted-unpin : (league : LeagueData) (room : ℕ) (h : List Entry) (game : Game) → length h < room →
+granted-unpin : (league : LeagueData) (room : ℕ) (h : List Entry) (game : Game) → IsLeague league → length h < room →
     FitFrom league (effective h) → Fits (games_of league h) (pins_of league h) (Unpin game) →
     refusal league room h (ask_of (length h) (Unpin game)) ≡ None
 unfolding refusal
-granted-unpin league room h game under all fits =
-    let stands = pinned_stands (games_of league h) (pins_of league h) game (AllStand-fit league h all) fits in
+granted-unpin league room h game is under all fits =
+    let stands = pinned_stands (games_of league h) (pins_of league h) game (AllStand-fit league h is all) fits in
     none_after _ (not_ahead (length h))
     (none_after _ (not_ahead (length h))
     (none_after _ (not_full (length h) room under)
@@ -89,12 +89,12 @@ granted-undo league room h under some =
     (none_after _ (not_full (length h) room under)
     (none_after _ (ne_eqb (length (effective h)) 0 (omega arith)) refl)))
 
-granted : (league : LeagueData) (room : ℕ) (h : List Entry) (change : Change) → IsScored league → length h < room →
+granted : (league : LeagueData) (room : ℕ) (h : List Entry) (change : Change) → IsLeague league → length h < room →
     FitFrom league (effective h) → May league h change → refusal league room h (ask_of (length h) change) ≡ None
-granted league room h (Shift mv) scored under all may = granted-shift league room h mv scored under may
-granted league room h (Pin game) scored under all may = granted-pin league room h game under may
-granted league room h (Unpin game) scored under all may = granted-unpin league room h game under all may
-granted league room h Undo scored under all may = granted-undo league room h under may
+granted league room h (Shift mv) is under all may = granted-shift league room h mv (IsScored-league league is) under may
+granted league room h (Pin game) is under all may = granted-pin league room h game under may
+granted league room h (Unpin game) is under all may = granted-unpin league room h game is under all may
+granted league room h Undo is under all may = granted-undo league room h under may
 
 -- a call is refused alike after a history and after the same under caller 0
 
@@ -127,13 +127,13 @@ record Granted (league : LeagueData) (room : ℕ) (before : List Entry) (e : Ent
   cost : Cost
   reply : reply_of league room (under_caller_0 before) ask ≡ Done at cost
 
-line-granted : (league : LeagueData) (room : ℕ) (before : List Entry) (e : Entry) → IsScored league →
+line-granted : (league : LeagueData) (room : ℕ) (before : List Entry) (e : Entry) → IsLeague league →
     length before < room → FitFrom league (effective before) → May league before e.change →
     Granted league room before e (ask_of (length (under_caller_0 before)) e.change)
-line-granted league room before e scored under all may =
+line-granted league room before e is under all may =
     let ask : Ask = ask_of (length (under_caller_0 before)) e.change in
     let none : refusal league room (under_caller_0 before) ask ≡ None =
-    refusal-under league room before e.change ∙ granted league room before e.change scored under all may in
+    refusal-under league room before e.change ∙ granted league room before e.change is under all may in
     record {
       next = accepted league room (under_caller_0 before) 0 ask none ∙
           ap (λ change. under_caller_0 before ++ record { caller = 0; change = change } ∷ [])
@@ -149,16 +149,16 @@ record Played (league : LeagueData) (room : ℕ) (before h : List Entry) : Type 
   history : played_from league room (under_caller_0 before) (changes_of h) ≡ under_caller_0 (before ++ h)
   accepted : AllDone (answers_from league room (under_caller_0 before) (changes_of h))
 
-played : (league : LeagueData) (room : ℕ) (before h : List Entry) → IsScored league → FitFrom league (effective before) →
+played : (league : LeagueData) (room : ℕ) (before h : List Entry) → IsLeague league → FitFrom league (effective before) →
     legal_after league room before h → Played league room before h
-played league room before [] scored all legal = record {
+played league room before [] is all legal = record {
   history = ap under_caller_0 (sym (append-nil before));
   accepted = tt;
 }
-played league room before (e ∷ h) scored all legal =
-    let line = line-granted league room before e scored legal.0.0 all legal.0.1 in
+played league room before (e ∷ h) is all legal =
+    let line = line-granted league room before e is legal.0.0 all legal.0.1 in
     let later : Played league room (before ++ e ∷ []) h =
-    played league room (before ++ e ∷ []) h scored (FitFrom-more league before e all legal.0.1) legal.1 in
+    played league room (before ++ e ∷ []) h is (FitFrom-more league before e all legal.0.1) legal.1 in
     record {
       history = ap (λ x. played_from league room x (changes_of h)) line.next ∙ later.history ∙
           ap under_caller_0 (append_assoc before (e ∷ []) h);
@@ -169,11 +169,11 @@ played league room before (e ∷ h) scored all legal =
           (subst (λ x. AllDone (answers_from league room x (changes_of h))) (sym line.next) later.accepted);
     }
 
-pub replayed : (league : LeagueData) (room : ℕ) (h : List Entry) → IsScored league → IsLegal league room h →
+pub replayed : (league : LeagueData) (room : ℕ) (h : List Entry) → IsLeague league → IsLegal league room h →
     IsReplayed league room h
 unfolding IsLegal effective
-replayed league room h scored legal =
-    let all : Played league room [] h = played league room [] h scored tt legal in
+replayed league room h is legal =
+    let all : Played league room [] h = played league room [] h is tt legal in
     record {
       history = all.history;
       accepted = all.accepted;

@@ -1,5 +1,5 @@
 -- The pinned games of a legal history are games of its schedule.
-use Rattle.std.proofs.Common.{◌≡◌, ℕ, zero, suc, ◌-◌, Bool, true, false, not, nat_lt, cond, ◌&&◌, ◌==◌, inl, inr, List}
+use Rattle.std.proofs.Common.{◌≡◌, ℕ, zero, suc, ◌-◌, Bool, true, false, not, cond, ◌&&◌, ◌==◌, inl, inr, List}
 use Rattle.std.proofs.Common.{[], ◌∷◌, ◌++◌, length, take, filter, true≢false, sym, ◌∙◌, ap, subst}
 use Rattle.std.proofs.lemmas.Bool.{or_cases, or_parts, and_parts, not-false, eqb-true}
 use Rattle.league.specs.League.{LeagueData, IsLeague}
