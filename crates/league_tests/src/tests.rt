@@ -1,5 +1,6 @@
 //! The tests by subject, and what they share.
 
+mod beginnings;
 mod checks;
 mod equality;
 mod faults;
