@@ -6,7 +6,7 @@ ghost use Rattle.league.specs.League.{teams};
 use crate::tests::drawn_numbers::{among, drawn, drawn_move, next_word, part};
 use crate::tests::kept_cost::push_names;
 use fixtures::{Schedule, berger};
-use league::limits::{MAX_TEAMS, MAX_WEIGHT, MIN_TEAMS};
+use league::limits::{MAX_TEAMS, MAX_WEIGHT, MIN_TEAMS, round_count};
 use league::{League, read_league};
 use moves::{apply, check};
 use std::alloc::Global;
@@ -35,13 +35,7 @@ fn distance(key: u64, a: u8, b: u8) -> u8 {
 }
 
 /// Adds a row of the distances.
-fn push_row(
-    alloc: Global,
-    text: &mut String,
-    key: u64,
-    teams: u8,
-    from: u8,
-) -> Result<(), Fail> {
+fn push_row(alloc: Global, text: &mut String, key: u64, teams: u8, from: u8) -> Result<(), Fail> {
     text.push_str(if from == 0 { "[" } else { ",[" })?;
     for to in 0..teams {
         let separator = if to == 0 { "" } else { "," };
@@ -133,7 +127,7 @@ fn keep(league: &mut League, home: u8, away: u8) {
 }
 
 fn keep_drawn_rounds(league: &mut League, state: &mut u64) {
-    let rounds = league.teams() * 2 - 2;
+    let rounds = round_count(league.teams());
     for _ in 0..drawn(state, 3) {
         league.keep_round(drawn(state, rounds));
     }

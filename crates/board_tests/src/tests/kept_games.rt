@@ -175,7 +175,7 @@ fn check_drawn(rt: &impl Abort, board: &mut Board, known: &mut Known, ask: Ask) 
 }
 
 /// A new board of the league, and what is known of it.
-fn known(alloc: Global, league: League) -> Result<(Board, Known), Fail> {
+fn begun(alloc: Global, league: League) -> Result<(Board, Known), Fail> {
     let mut unpriced = league.duplicate(alloc)?;
     unpriced.set_near(0);
     let standing = league.kept().duplicate();
@@ -198,7 +198,7 @@ fn drawn_board(
     changes: u64,
 ) -> Result<Board, Fail> {
     let league = beginning(alloc, state, teams)?;
-    let (mut board, mut known) = known(alloc, league)?;
+    let (mut board, mut known) = begun(alloc, league)?;
     for _ in 0..changes {
         let ask = drawn_ask(&board, state);
         check_drawn(rt, &mut board, &mut known, ask);

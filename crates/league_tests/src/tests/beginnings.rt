@@ -4,6 +4,7 @@ use crate::tests::checks::check_same;
 use crate::tests::equality::check_each;
 use crate::tests::league_texts::circle_with;
 use fixtures::{Schedule, berger, berger_fide};
+use league::limits::round_count;
 use league::{League, TeamSet, circular, constant};
 use std::alloc::Global;
 use std::process::Abort;
@@ -175,7 +176,7 @@ fn a_round_is_kept_by_its_games(rt: HostRuntime) -> Result<(), Fail> {
 /// Keeps each round of the league in turn, each of which has half as many games as there are teams. There is no round after the last.
 fn check_rounds(rt: &impl Abort, league: &mut League) {
     let teams = u32::from(league.teams());
-    let rounds = league.teams() * 2 - 2;
+    let rounds = round_count(league.teams());
     let mut wanted: u32 = 0;
     for round in 0..rounds {
         league.keep_round(round);
