@@ -78,15 +78,23 @@ fn told(schedule: &Schedule, league: &League, exchange: &Exchange) -> Moved
     }
 }
 
-/// A league and its start, and a schedule.
+/// A league and its start, and a schedule with the number of games that have another round in it.
 #[derive(Drop)]
 struct Drawn {
     league: League,
     start: Schedule,
     schedule: Schedule,
+    moved: u64,
 }
 
-/// Makes the move if it can be made. The count after it is that before it and what was told, and is the number of games that differ.
+/// So many games are moved, as a count over both schedules says and the call.
+fn check_count(rt: &impl Abort, drawn: &Drawn) {
+    let (league, schedule) = (&drawn.league, &drawn.schedule);
+    assert!(rt; league.teams() == schedule.teams());
+    check_same(rt, &moved_games(schedule, league), &drawn.moved);
+}
+
+/// Makes the move if it can be made. So many games are moved after it as before it and as was told.
 fn check_move(rt: &impl Abort, drawn: &mut Drawn, mv: Move) {
     let (league, schedule) = (&drawn.league, &mut drawn.schedule);
     assert!(rt; league.teams() == schedule.teams());
@@ -94,22 +102,16 @@ fn check_move(rt: &impl Abort, drawn: &mut Drawn, mv: Move) {
         return;
     }
     let exchange = exchange(schedule, mv);
-    let before = moved_games(schedule, league);
     let told = told(schedule, league, &exchange);
     exchange.make(schedule);
     let after = differing(schedule, &drawn.start);
     check_same(
         rt,
         &(mv, after.saturating_add(told.before)),
-        &(mv, before.saturating_add(told.after)),
+        &(mv, drawn.moved.saturating_add(told.after)),
     );
-    check_count(rt, drawn, after);
-}
-
-fn check_count(rt: &impl Abort, drawn: &Drawn, wanted: u64) {
-    let (league, schedule) = (&drawn.league, &drawn.schedule);
-    assert!(rt; league.teams() == schedule.teams());
-    check_same(rt, &moved_games(schedule, league), &wanted);
+    drawn.moved = after;
+    check_count(rt, drawn);
 }
 
 fn begun(alloc: Global, teams: u8) -> Result<Drawn, Fail> {
@@ -118,15 +120,16 @@ fn begun(alloc: Global, teams: u8) -> Result<Drawn, Fail> {
         league: beginning_at(alloc, start.duplicate(alloc)?)?,
         schedule: start.duplicate(alloc)?,
         start,
+        moved: 0,
     })
 }
 
-/// At the start none is moved, and then moves are made one after another.
-fn check_moves(rt: &impl Abort, alloc: Global, teams: u8) -> Result<(), Fail> {
+/// At the start none is moved, and then moves by each team and some others are made one after another.
+fn check_moves(rt: &impl Abort, alloc: Global, teams: u8, others: u8) -> Result<(), Fail> {
     let mut drawn = begun(alloc, teams)?;
-    check_count(rt, &drawn, 0);
+    check_count(rt, &drawn);
     for i in 0..teams {
-        for j in 0..teams {
+        for j in 0..others {
             for mv in moves_of(i, j) {
                 check_move(rt, &mut drawn, mv);
             }
@@ -135,10 +138,13 @@ fn check_moves(rt: &impl Abort, alloc: Global, teams: u8) -> Result<(), Fail> {
     Ok(())
 }
 
+/// Numbers of teams, and of those that each moves with.
+const SIZES: &[(u8, u8)] = &[(4, 4), (6, 6), (8, 8), (14, 8), (20, 4), (40, 2)];
+
 #[test]
 fn moved_games_are_counted_and_told(rt: HostRuntime) -> Result<(), Fail> {
-    for teams in [4, 6, 8, 14, 20, 40] {
-        check_moves(&rt, rt.alloc(), teams)?;
+    for &(teams, others) in SIZES {
+        check_moves(&rt, rt.alloc(), teams, others)?;
     }
     Ok(())
 }
