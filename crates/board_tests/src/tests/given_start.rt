@@ -2,7 +2,7 @@
 
 ghost use Rattle.std.specs.Prelude.{◌≡◌, [], IfOk};
 
-use crate::tests::answers::Answer::{self, Done, No};
+use crate::tests::answers::Answer::{Done, No, Soft};
 use crate::tests::drawn_leagues::begin_at;
 use crate::tests::steps::Act::{Homes, Pin, Rounds, Teams, Undo, Unpin};
 use crate::tests::steps::Sight::{Best, Cost, Pinned, Round};
@@ -28,15 +28,6 @@ fn given_board(alloc: Global) -> Result<Board, Fail>
     Ok(Board::new(alloc, league, 12)?)
 }
 
-/// A travel without a breach, and what leaving the start costs.
-const fn cost(travel: u64, soft: u64) -> fixture_board::Cost {
-    fixture_board::Cost {
-        travel,
-        hard: 0,
-        soft,
-    }
-}
-
 const KEPT: &[Step] = &[
     See(Cost(28, 0, 0)),
     See(Best(0, 28)),
@@ -59,11 +50,11 @@ fn kept_games_begin_pinned(rt: HostRuntime) -> Result<(), Fail> {
 
 /// All four games of rounds 5 and 6 leave their rounds, and then 1-2 and 2-1 besides, of which one had left its own.
 const AWAY: &[Step] = &[
-    Do(Rounds(5, 6, Answer::Cost(1, cost(30, 40)))),
+    Do(Rounds(5, 6, Soft(1, 30, 40))),
     See(Best(0, 28)),
-    Do(Homes(1, 2, Answer::Cost(2, cost(26, 50)))),
+    Do(Homes(1, 2, Soft(2, 26, 50))),
     See(Best(0, 28)),
-    Do(Undo(Answer::Cost(3, cost(30, 40)))),
+    Do(Undo(Soft(3, 30, 40))),
     Do(Undo(Done(4, 28, 0))),
     Do(Undo(No(4, Why::NothingToUndo))),
     See(Pinned(1, 4, true)),
@@ -79,11 +70,11 @@ const UNPINNED: &[Step] = &[
     Do(Unpin((1, 1, 4), Done(1, 28, 0))),
     See(Pinned(1, 4, false)),
     Do(Rounds(1, 2, No(1, Why::Pinned))),
-    Do(Homes(1, 4, Answer::Cost(2, cost(28, 20)))),
+    Do(Homes(1, 4, Soft(2, 28, 20))),
     See(Round(1, 4, 4)),
-    Do(Pin((4, 1, 4), Answer::Cost(3, cost(28, 20)))),
+    Do(Pin((4, 1, 4), Soft(3, 28, 20))),
     Do(Homes(1, 4, No(3, Why::Pinned))),
-    Do(Undo(Answer::Cost(4, cost(28, 20)))),
+    Do(Undo(Soft(4, 28, 20))),
     Do(Undo(Done(5, 28, 0))),
     Do(Undo(Done(6, 28, 0))),
     See(Pinned(1, 4, true)),

@@ -255,7 +255,7 @@ fn check_replayed(rt: &impl Abort, alloc: Global, board: &Board) -> Result<(), F
 }
 
 /// Numbers of teams, and of changes on a board of so many.
-const SIZES: &[(u8, u64)] = &[(4, 1000), (6, 1000), (10, 1000), (20, 1000), (40, 1000)];
+const SIZES: &[(u8, u64)] = &[(4, 1000), (6, 1000), (10, 1000), (20, 300), (40, 100)];
 
 #[test]
 fn drawn_changes_of_a_given_start(rt: HostRuntime) -> Result<(), Fail> {
@@ -278,7 +278,7 @@ fn ask_both<R: Wait + Abort>(
     requires { seat.old.table ≡ shared.now }
     ensures { seat.new.table ≡ shared.now }
 {
-    for _ in 0..1000 {
+    for _ in 0..300 {
         let ask = drawn_ask(board, state);
         let reply = board.answer(0, ask);
         check_ask(rt, shared, seat, ask, reply);
