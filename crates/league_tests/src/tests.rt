@@ -9,6 +9,7 @@ mod hostile;
 mod league_texts;
 mod members;
 mod memory;
+mod pair_sets;
 mod rule_faults;
 mod rules;
 mod team_and_slot_sets;

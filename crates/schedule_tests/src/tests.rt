@@ -12,6 +12,7 @@ mod exchanges;
 mod halves;
 mod home_games;
 mod moved_games;
+mod moved_pairs;
 mod number_sets;
 mod parts;
 mod refusals;
