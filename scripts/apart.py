@@ -1,6 +1,9 @@
 """Schedules, moves, costs, play texts and reports of leagues of both formats, written from docs/model.md, docs/rules.md,
-docs/league-format.md, docs/script.md, docs/sheet.md and docs/report.md. It shares no code with the crates:
-scripts/worker-steps, scripts/bench-counts, scripts/play-apart, scripts/search-again and scripts/report-apart hold the crates to it."""
+docs/league-format.md, docs/script.md, docs/sheet.md and docs/report.md. It shares no code with the crates: scripts/worker-steps,
+scripts/bench-counts, scripts/play-apart, scripts/search-again, scripts/report-apart and scripts/starts-apart hold the crates to it.
+
+A league may say here what no text says: `begin` is the round of each pair of teams at the start, home first, `keep` the pairs whose games
+are kept, and `near` what each game costs that has another round than at the start. Teams and rounds count from 0 in these."""
 import json
 from itertools import accumulate, combinations, groupby
 
@@ -33,7 +36,10 @@ def start(teams):
 
 
 def start_of(league):
-    """The start in the order that the league asks for: in FIDE's the last two rounds of the first cycle are reversed."""
+    """The start that is given or, if none is, in the order that the league asks for: in FIDE's the last two rounds of the first cycle
+    are reversed."""
+    if "begin" in league:
+        return league["begin"]
     teams = len(league["teams"])
     games = start(teams)
     if league.get("format") == 2 and league.get("start") == "fide":
@@ -131,10 +137,15 @@ def deviation(rule, games, table):
     return sum(over(rule["min"], between(a, b)) for a, b in combinations(teams, 2))
 
 
+def away_from_start(games, league):
+    """How many games have another round than at the start."""
+    return sum(games[pair] != r for pair, r in start_of(league).items())
+
+
 def cost(games, league):
     """Travel, hard and soft."""
-    distances, at_most = league["distances"], league.get("at_most", 3)
-    table, travel, hard, soft = cells(games, len(distances)), 0, 0, 0
+    distances, at_most, near = league["distances"], league.get("at_most", 3), league.get("near", 0)
+    table, travel, hard, soft = cells(games, len(distances)), 0, 0, near and near * away_from_start(games, league)
     for t, row in enumerate(table):
         places = [t, *(t if home else opponent for opponent, home in row), t]
         travel += sum(distances[a][b] for a, b in zip(places, places[1:]))
@@ -168,7 +179,7 @@ class Board:
 
     def __init__(self, league, room):
         self.league, self.room, self.teams, self.slack = league, room, len(league["teams"]), GREATEST
-        self.states = [(start_of(league), frozenset())]
+        self.states = [(start_of(league), frozenset(league.get("keep", ())))]
         self.history, self.best = [], None
         self.cost = cost(self.states[-1][0], league)
         self.keep_best()

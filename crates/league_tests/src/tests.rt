@@ -1,5 +1,6 @@
 //! The tests by subject, and what they share.
 
+mod beginnings;
 mod checks;
 mod equality;
 mod faults;
@@ -8,6 +9,7 @@ mod hostile;
 mod league_texts;
 mod members;
 mod memory;
+mod pair_sets;
 mod rule_faults;
 mod rules;
 mod team_and_slot_sets;

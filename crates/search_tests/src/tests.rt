@@ -4,6 +4,7 @@ mod boards;
 mod checks;
 mod doors;
 mod first_moves;
+mod kept_games;
 mod memory;
 mod own_streams;
 mod phased;

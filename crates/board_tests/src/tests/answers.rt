@@ -25,6 +25,8 @@ pub(crate) enum Answer {
     Done(u64, u64, u64),
     /// The version, and a cost that may be soft.
     Cost(u64, Cost),
+    /// The version, the travel and the soft cost, with no breach.
+    Soft(u64, u64, u64),
     /// The version.
     No(u64, Why),
 }
@@ -34,6 +36,11 @@ impl Answer {
         match self {
             Answer::Done(at, travel, hard) => done(at, travel, hard),
             Answer::Cost(at, cost) => Reply::Done { at, cost },
+            Answer::Soft(at, travel, soft) => {
+                let hard = 0;
+                let cost = Cost { travel, hard, soft };
+                Reply::Done { at, cost }
+            }
             Answer::No(at, why) => no(at, why),
         }
     }

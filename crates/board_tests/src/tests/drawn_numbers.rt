@@ -23,6 +23,12 @@ pub(crate) fn drawn(state: &mut u64, bound: u8) -> u8 {
     part(*state, 33, bound.max(1))
 }
 
+/// One of the numbers, or 0 where there are none.
+pub(crate) fn among(state: &mut u64, numbers: &[u64]) -> u64 {
+    let at = drawn(state, numbers.len() as u8);
+    numbers.get(usize::from(at)).copied().unwrap_or(0)
+}
+
 /// A move of drawn numbers, of each kind in turn.
 pub(crate) fn drawn_move(state: &mut u64, teams: u8) -> Move {
     let rounds = teams.saturating_mul(2).saturating_sub(2);

@@ -24,7 +24,7 @@ const RULES: &str = r#"[
     {"class":"FA2","kind":"soft","weight":4,"teams":[1,3,4],"slots":[2,5],"intp":0}]"#;
 
 /// Adds the names of the teams to a league's text.
-fn push_names(alloc: Global, text: &mut String, teams: u8) -> Result<(), Fail> {
+pub(crate) fn push_names(alloc: Global, text: &mut String, teams: u8) -> Result<(), Fail> {
     text.push_str("\"teams\":[\"T0\"")?;
     for team in 1..teams {
         text.push_str(&format!(in alloc; ",\"T{team}\"")?)?;

@@ -120,7 +120,7 @@ fn check_sight(rt: &impl Abort, board: &Board, sight: Sight) {
     }
 }
 
-fn check_steps(rt: &impl Abort, board: &mut Board, steps: &[Step]) {
+pub(crate) fn check_steps(rt: &impl Abort, board: &mut Board, steps: &[Step]) {
     for &step in steps {
         match step {
             Step::Do(act) => check_act(rt, board, act),

@@ -49,7 +49,7 @@ fn made(alloc: Global, (teams, distances, more): (&str, &str, &str)) -> Result<L
 }
 
 // each of the leagues is the same as itself and its duplicate, and as no other
-fn check_each(rt: &impl Abort, alloc: Global, leagues: &[League]) -> Result<(), Fail> {
+pub(crate) fn check_each(rt: &impl Abort, alloc: Global, leagues: &[League]) -> Result<(), Fail> {
     for (i, one) in leagues.iter().enumerate() {
         check_same(rt, &(i, one.is_same(&one.duplicate(alloc)?)), &(i, true));
         for (j, other) in leagues.iter().enumerate() {

@@ -10,6 +10,7 @@ use crate::tests::league_texts::{
 use crate::tests::rules::{
     GameRule, TWO_GAMES, check_all_games, check_body, check_games, weight_of,
 };
+use fixtures::{Schedule, berger};
 use league::{League, LeagueFault, SlotSet, TeamSet, Weight, circular, constant, read_league};
 use std::alloc::{AllocError, Global};
 use std::process::Abort;
@@ -208,6 +209,78 @@ fn duplicate_tells_refused_memory(rt: HostRuntime) {
     if let Some(league) = told(&rt, circular(rt.alloc(), 4)) {
         check_copied(&rt, rt.alloc(), &league, 0);
     }
+}
+
+// four teams in a circle that begin at the Berger table with its last two rounds exchanged and keep the first
+fn begun_elsewhere(alloc: Global) -> Option<League> {
+    let mut league = circular(alloc, 4).ok()?;
+    let mut start = berger(alloc, 4).ok()?;
+    start.exchange_rounds(4, 5, TeamSet::below(4));
+    if start.teams() == league.teams() {
+        league.begin_at(start);
+        league.keep_round(0);
+    }
+    Some(league)
+}
+
+// the rounds of the four games of four teams that stand in the last two rounds of the Berger table
+fn last_rounds(rt: &impl Abort, start: &Schedule) -> [u8; 4] {
+    assert!(rt; start.teams() == 4);
+    [
+        start.round_of(1, 0),
+        start.round_of(2, 3),
+        start.round_of(0, 2),
+        start.round_of(3, 1),
+    ]
+}
+
+const BERGER: &[u8; 4] = &[4, 4, 5, 5];
+
+const EXCHANGED: &[u8; 4] = &[5, 5, 4, 4];
+
+// the league begins there, whether or not there is memory for it
+fn check_begun(rt: &impl Abort, alloc: Global, league: &League, rounds: &[u8; 4]) {
+    check_same(rt, &league.teams(), &4);
+    if let Ok(start) = league.start(alloc) {
+        check_same(rt, &last_rounds(rt, &start), rounds);
+    }
+}
+
+#[test]
+fn a_start_with_ample_memory(rt: HostRuntime) -> Result<(), Fail> {
+    let start = circular(rt.alloc(), 4)?.start(rt.alloc())?;
+    check_same(&rt, &last_rounds(&rt, &start), BERGER);
+    Ok(())
+}
+
+#[test]
+fn a_given_start_with_ample_memory(rt: HostRuntime) -> Result<(), Fail> {
+    let league = begun_elsewhere(rt.alloc()).expect(&rt, "a league");
+    let start = league.duplicate(rt.alloc())?.start(rt.alloc())?;
+    check_same(&rt, &last_rounds(&rt, &start), EXCHANGED);
+    check_same(&rt, &league.kept().is_empty(), &false);
+    Ok(())
+}
+
+#[test]
+fn refused_memory_makes_no_start(rt: HostRuntime) {
+    if let Ok(league) = circular(rt.alloc(), 4) {
+        check_begun(&rt, rt.alloc(), &league, BERGER);
+        check_begun(&rt, rt.alloc(), &league, BERGER);
+    }
+}
+
+#[test]
+fn refused_memory_leaves_the_given_start(rt: HostRuntime) {
+    let Some(league) = begun_elsewhere(rt.alloc()) else {
+        return;
+    };
+    check_begun(&rt, rt.alloc(), &league, EXCHANGED);
+    if let Ok(copy) = league.duplicate(rt.alloc()) {
+        check_same(&rt, &copy.is_same(&league), &true);
+        check_begun(&rt, rt.alloc(), &copy, EXCHANGED);
+    }
+    check_begun(&rt, rt.alloc(), &league, EXCHANGED);
 }
 
 const WRONG_COUNTS: &[u8] = &[0, 5, 42];

@@ -5,8 +5,9 @@ ghost use Rattle.std.specs.Prelude.{◌≡◌, [], IfOk};
 use crate::tests::checks::{check_holds, check_same};
 use fixture_board::{Best, Board, Change, Cost, Entry, Proposal, Reply};
 use fixtures::Schedule;
+use league::limits::MAX_WEIGHT;
 use league::{League, circular};
-use moves::Move;
+use moves::{Move, apply, check};
 use std::alloc::Global;
 use std::process::Abort;
 use std::test::Fail;
@@ -26,6 +27,57 @@ pub(crate) fn board(alloc: Global, teams: u8, room: u32) -> Result<Board, Fail>
     ensures { IfOk result (λ b. b.history ≡ []) }
 {
     Ok(Board::new(alloc, circular(alloc, teams)?, room)?)
+}
+
+/// Where a league begins.
+#[derive(Clone, Copy)]
+pub(crate) struct Beginning {
+    /// The move that makes its start of the Berger table.
+    pub(crate) mv: Move,
+    /// The rounds whose games are kept.
+    pub(crate) kept: &'static [u8],
+    /// What a game costs that has left its round.
+    pub(crate) near: u32,
+}
+
+/// A league in a circle that begins at the Berger table after a move.
+fn league_after(alloc: Global, teams: u8, mv: Move) -> Result<League, Fail> {
+    let mut league = circular(alloc, teams)?;
+    let mut start = league.start(alloc)?;
+    check(&start, mv)?;
+    apply(&mut start, mv);
+    if start.teams() != league.teams() {
+        return Err("another number of teams".into());
+    }
+    league.begin_at(start);
+    Ok(league)
+}
+
+/// A league in a circle that begins there.
+fn league_from(alloc: Global, teams: u8, beginning: Beginning) -> Result<League, Fail> {
+    let mut league = league_after(alloc, teams, beginning.mv)?;
+    for &round in beginning.kept {
+        league.keep_round(round);
+    }
+    if beginning.near <= MAX_WEIGHT {
+        league.set_near(beginning.near);
+    }
+    Ok(league)
+}
+
+/// A league in a circle that begins there, a new board of it, and a copy of the board's schedule.
+pub(crate) fn begun(
+    alloc: Global,
+    teams: u8,
+    room: u32,
+    beginning: Beginning,
+) -> Result<(League, Board, Schedule), Fail>
+    ensures { IfOk result (λ c. c.1.history ≡ []) }
+{
+    let league = league_from(alloc, teams, beginning)?;
+    let board = Board::new(alloc, league.duplicate(alloc)?, room)?;
+    let copy = board.schedule().duplicate(alloc)?;
+    Ok((league, board, copy))
 }
 
 /// The move, proposed at a version whatever it costs.

@@ -19,7 +19,7 @@ pub(crate) struct Recorder<'a> {
     pub(crate) change: Option<(u32, Change)>,
 }
 
-/// Has another caller move or pin.
+/// Has another caller move, pin or unpin.
 fn enter(board: &mut Board, change: Change) {
     let version = board.version();
     match change {
@@ -29,7 +29,10 @@ fn enter(board: &mut Board, change: Change) {
         Change::Pin(game) => {
             board.pin(9, version, game);
         }
-        Change::Unpin(_) | Change::Undo => {}
+        Change::Unpin(game) => {
+            board.unpin(9, version, game);
+        }
+        Change::Undo => {}
     }
 }
 

@@ -1,6 +1,6 @@
 //! What a worker asks of its board, step by step. The expected lines are those of `scripts/worker-steps`.
 
-use crate::tests::boards::circle;
+use crate::tests::boards::{Beginning, begun, circle};
 use crate::tests::checks::check_same;
 use crate::tests::recorder::{Passed, Recorder};
 use crate::tests::steps::Asked::{Front, Look, Turn};
@@ -35,6 +35,8 @@ struct Scene {
     room: u32,
     /// What another caller does before a call of this number.
     change: Option<(u32, Change)>,
+    /// Where the board begins, if not at the Berger table.
+    beginning: Option<Beginning>,
     asked: &'static [Asked],
     /// How many proposals the worker made, and how many of them were accepted and refused.
     told: [u32; 3],
@@ -49,17 +51,22 @@ const OF_FOUR: Scene = Scene {
     slack: 4,
     room: 1024,
     change: None,
+    beginning: None,
     asked: &[],
     told: [0; 3],
 };
 
 const EXCHANGE: Change = Change::Shift(Move::Rounds { k: 0, l: 1 });
 
-const PINNED: Change = Change::Pin(Game {
+const OPENING: Game = Game {
     round: 0,
     home: 0,
     away: 3,
-});
+};
+
+const PINNED: Change = Change::Pin(OPENING);
+
+const UNPINNED: Change = Change::Unpin(OPENING);
 
 /// `asks 5 0 6 16 100 1024`.
 const ALONE: Scene = Scene {
@@ -162,6 +169,67 @@ const FULL: Scene = Scene {
     ..OF_FOUR
 };
 
+/// `asks 4 0 6 24 100 1024` with the variables BEGIN `Homes 1 3`, KEEP `0 5` and NEAR 1. Of all that pass the slack, the moves that
+/// kept games speak against are left out.
+const GAMES_KEPT: Scene = Scene {
+    seed: 4,
+    teams: 6,
+    steps: 24,
+    slack: 100,
+    beginning: Some(Beginning {
+        mv: Move::Homes { i: 1, j: 3 },
+        kept: &[0, 5],
+        near: 1,
+    }),
+    asked: &[
+        Look(0),
+        Turn("0 Homes { i: 5, j: 3 } claim Some(98) slack 79 answer Done 1"),
+        Turn("1 Homes { i: 3, j: 5 } claim Some(100) slack 50 answer Done 2"),
+        Turn("2 PartRounds { i: 1, k: 3, l: 4 } claim Some(102) slack 25 answer Done 3"),
+        Turn("3 Homes { i: 2, j: 1 } claim Some(99) slack 20 answer Done 4"),
+        Turn("4 PartRounds { i: 1, k: 8, l: 7 } claim Some(96) slack 16 answer Done 5"),
+        Turn("5 Homes { i: 1, j: 3 } claim Some(101) slack 8 answer Done 6"),
+    ],
+    told: [6, 6, 0],
+    ..OF_FOUR
+};
+
+/// `asks 9 0 4 12 100 1024 1 Unpin 0 3` with the variables BEGIN `Rounds 4 5`, KEEP `0` and NEAR 1. The move Homes 0 3, which passes the
+/// slack, is left out though its game was unpinned: the league keeps it.
+const KEPT_GAME_UNPINNED: Scene = Scene {
+    seed: 9,
+    steps: 12,
+    slack: 100,
+    change: Some((1, UNPINNED)),
+    beginning: Some(Beginning {
+        mv: Move::Rounds { k: 4, l: 5 },
+        kept: &[0],
+        near: 1,
+    }),
+    asked: &[
+        Look(1),
+        Turn("1 Homes { i: 0, j: 1 } claim Some(26) slack 50 answer Done 2"),
+        Turn("2 Rounds { k: 2, l: 1 } claim Some(29) slack 33 answer Done 3"),
+        Turn("3 Rounds { k: 5, l: 4 } claim Some(34) slack 16 answer Done 4"),
+    ],
+    told: [3, 3, 0],
+    ..OF_FOUR
+};
+
+/// `asks 9 0 4 12 100 1024` with the variables BEGIN `Rounds 4 5` and KEEP `0 1 2 3 4 5`.
+const ALL_KEPT: Scene = Scene {
+    seed: 9,
+    steps: 12,
+    slack: 100,
+    beginning: Some(Beginning {
+        mv: Move::Rounds { k: 4, l: 5 },
+        kept: &[0, 1, 2, 3, 4, 5],
+        near: 0,
+    }),
+    asked: &[Look(0)],
+    ..OF_FOUR
+};
+
 /// The lines of what a scene's worker asks.
 fn lines_of(alloc: Global, scene: &Scene) -> Result<String, Fail> {
     let mut text = String::new(alloc);
@@ -195,7 +263,10 @@ impl Scene {
 
 /// Has the worker of a scene search a board of a league in a circle: what it asks, and what it reports.
 fn recorded<R: Wait>(rt: &R, alloc: Global, scene: &Scene) -> Result<(String, Report), Fail> {
-    let (league, board, mut copy) = circle(alloc, scene.teams, scene.room)?;
+    let (league, board, mut copy) = match scene.beginning {
+        Some(beginning) => begun(alloc, scene.teams, scene.room, beginning)?,
+        None => circle(alloc, scene.teams, scene.room)?,
+    };
     let board = Mutex::new(board);
     let log = Mutex::new(String::new(alloc));
     let mut door = Recorder {
@@ -249,4 +320,12 @@ fn withdraws_and_goes_on_where_a_game_is_pinned(rt: HostRuntime) -> Result<(), F
 #[test]
 fn stops_where_the_board_is_full(rt: HostRuntime) -> Result<(), Fail> {
     check_scene(&rt, rt.alloc(), &FULL)
+}
+
+#[test]
+fn leaves_out_moves_of_games_that_the_league_keeps(rt: HostRuntime) -> Result<(), Fail> {
+    for scene in [GAMES_KEPT, KEPT_GAME_UNPINNED, ALL_KEPT] {
+        check_scene(&rt, rt.alloc(), &scene)?;
+    }
+    Ok(())
 }

@@ -1,0 +1,89 @@
+//! Four teams in a circle on a given start, with figures that were worked out by hand.
+
+ghost use Rattle.std.specs.Prelude.{◌≡◌, [], IfOk};
+
+use crate::tests::answers::Answer::{Done, No, Soft};
+use crate::tests::drawn_leagues::begin_at;
+use crate::tests::steps::Act::{Homes, Pin, Rounds, Teams, Undo, Unpin};
+use crate::tests::steps::Sight::{Best, Cost, Pinned, Round};
+use crate::tests::steps::Step::{self, Do, See};
+use crate::tests::steps::check_steps;
+use fixture_board::{Board, Why};
+use fixtures::berger;
+use league::{TeamSet, circular};
+use std::alloc::Global;
+use std::test::Fail;
+
+/// The start is the Berger table with rounds 5 and 6 exchanged. Its games 1-4 and 2-3 of round 1 are kept, and a game that has left its
+/// round costs 10.
+fn given_board(alloc: Global) -> Result<Board, Fail>
+    ensures { IfOk result (λ b. b.history ≡ []) }
+{
+    let mut league = circular(alloc, 4)?;
+    let mut start = berger(alloc, 4)?;
+    start.exchange_rounds(4, 5, TeamSet::below(4));
+    begin_at(&mut league, start)?;
+    league.keep_round(0);
+    league.set_near(10);
+    Ok(Board::new(alloc, league, 12)?)
+}
+
+const KEPT: &[Step] = &[
+    See(Cost(28, 0, 0)),
+    See(Best(0, 28)),
+    See(Pinned(1, 4, true)),
+    See(Pinned(2, 3, true)),
+    See(Pinned(4, 1, false)),
+    Do(Undo(No(0, Why::NothingToUndo))),
+    Do(Rounds(1, 2, No(0, Why::Pinned))),
+    Do(Homes(1, 4, No(0, Why::Pinned))),
+    Do(Teams(1, 2, No(0, Why::Pinned))),
+    Do(Pin((1, 1, 4), No(0, Why::AlreadyPinned))),
+    See(Round(1, 4, 1)),
+];
+
+#[test]
+fn kept_games_begin_pinned(rt: HostRuntime) -> Result<(), Fail> {
+    check_steps(&rt, &mut given_board(rt.alloc())?, KEPT);
+    Ok(())
+}
+
+/// All four games of rounds 5 and 6 leave their rounds, and then 1-2 and 2-1 besides, of which one had left its own.
+const AWAY: &[Step] = &[
+    Do(Rounds(5, 6, Soft(1, 30, 40))),
+    See(Best(0, 28)),
+    Do(Homes(1, 2, Soft(2, 26, 50))),
+    See(Best(0, 28)),
+    Do(Undo(Soft(3, 30, 40))),
+    Do(Undo(Done(4, 28, 0))),
+    Do(Undo(No(4, Why::NothingToUndo))),
+    See(Pinned(1, 4, true)),
+];
+
+#[test]
+fn games_away_from_their_rounds_cost_their_price(rt: HostRuntime) -> Result<(), Fail> {
+    check_steps(&rt, &mut given_board(rt.alloc())?, AWAY);
+    Ok(())
+}
+
+const UNPINNED: &[Step] = &[
+    Do(Unpin((1, 1, 4), Done(1, 28, 0))),
+    See(Pinned(1, 4, false)),
+    Do(Rounds(1, 2, No(1, Why::Pinned))),
+    Do(Homes(1, 4, Soft(2, 28, 20))),
+    See(Round(1, 4, 4)),
+    Do(Pin((4, 1, 4), Soft(3, 28, 20))),
+    Do(Homes(1, 4, No(3, Why::Pinned))),
+    Do(Undo(Soft(4, 28, 20))),
+    Do(Undo(Done(5, 28, 0))),
+    Do(Undo(Done(6, 28, 0))),
+    See(Pinned(1, 4, true)),
+    Do(Homes(1, 4, No(6, Why::Pinned))),
+    Do(Undo(No(6, Why::NothingToUndo))),
+];
+
+#[test]
+fn a_kept_game_is_unpinned_moved_and_pinned_again(rt: HostRuntime) -> Result<(), Fail> {
+    check_steps(&rt, &mut given_board(rt.alloc())?, UNPINNED);
+    Ok(())
+}

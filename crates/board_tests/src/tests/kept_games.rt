@@ -1,0 +1,310 @@
+//! Boards on drawn starts with whole rounds kept and a price for leaving the start, against the definitions after each change.
+
+ghost use Rattle.std.specs.Prelude.{◌≡◌};
+
+use crate::tests::checks::check_same;
+use crate::tests::drawn_asks::drawn_ask;
+use crate::tests::drawn_leagues::{begin_at, drawn_league, drawn_start, set_near};
+use crate::tests::drawn_numbers::{among, drawn};
+use crate::tests::questions::{pin_from_0, propose, unpin_from_0};
+use crate::tests::seat_checks::{check_ask, close};
+use fixture_board::{Ask, Best, Board, Change, Reply, Why, cost_of};
+use fixtures::Schedule;
+use league::{League, PairSet};
+use moves::{apply, check};
+use shared_board::{Seat, Shared};
+use std::alloc::Global;
+use std::process::Abort;
+use std::sync::Wait;
+use std::test::Fail;
+
+/// A drawn league that begins at a drawn schedule, keeps two of its rounds and asks a price for leaving it.
+fn beginning(alloc: Global, state: &mut u64, teams: u8) -> Result<League, Fail> {
+    let mut league = drawn_league(alloc, state, teams)?;
+    begin_at(&mut league, drawn_start(alloc, state, teams, 50)?)?;
+    league.keep_round(0);
+    league.keep_round(drawn(state, teams));
+    set_near(&mut league, among(state, &[1, 30, 1_000_000]));
+    Ok(league)
+}
+
+/// How many games in which the team is at home have another round than at the start.
+fn moved_at_home(league: &League, schedule: &Schedule, home: u8) -> u64 {
+    let teams = league.teams();
+    if home >= teams || schedule.teams() != teams {
+        return 0;
+    }
+    let mut count: u64 = 0;
+    for away in 0..teams {
+        if away != home && schedule.round_of(home, away) != league.start_round(home, away) {
+            count = count.saturating_add(1);
+        }
+    }
+    count
+}
+
+fn moved_games(league: &League, schedule: &Schedule) -> u64 {
+    let mut count: u64 = 0;
+    for home in 0..league.teams() {
+        count = count.saturating_add(moved_at_home(league, schedule, home));
+    }
+    count
+}
+
+/// The kept cost is that of the whole schedule, and its soft part what the league costs without a price, and the price of each game
+/// that has left its round.
+fn check_cost(rt: &impl Abort, board: &Board, unpriced: &League) {
+    let (league, schedule) = (board.league(), board.schedule());
+    check_same(rt, &board.cost(), &cost_of(schedule, league));
+    assert!(rt; unpriced.teams() == schedule.teams());
+    let rules = cost_of(schedule, unpriced).soft;
+    let away = moved_games(league, schedule).saturating_mul(u64::from(league.near()));
+    check_same(rt, &board.cost().soft, &rules.saturating_add(away));
+}
+
+/// Whether each game at home of the team that is to stand is pinned, and in its round of the start.
+fn stand_at_home(board: &Board, standing: &PairSet, home: u8) -> bool {
+    let (league, schedule) = (board.league(), board.schedule());
+    let teams = league.teams();
+    if home >= teams {
+        return false;
+    }
+    for away in 0..teams {
+        if away != home && standing.has(home, away) {
+            let is_there = schedule.round_of(home, away) == league.start_round(home, away);
+            if !is_there || !board.is_pinned(home, away) {
+                return false;
+            }
+        }
+    }
+    true
+}
+
+fn check_standing(rt: &impl Abort, board: &Board, standing: &PairSet) {
+    for home in 0..board.league().teams() {
+        let stand = stand_at_home(board, standing, home);
+        check_same(rt, &(home, stand), &(home, true));
+    }
+}
+
+/// Whether a pinned game at home of the team has another round in the schedule.
+fn is_pinned_moved_at_home(board: &Board, after: &Schedule, home: u8) -> bool {
+    let (teams, schedule) = (board.league().teams(), board.schedule());
+    if home >= teams || after.teams() != teams {
+        return false;
+    }
+    for away in 0..teams {
+        if away != home && board.is_pinned(home, away) {
+            if schedule.round_of(home, away) != after.round_of(home, away) {
+                return true;
+            }
+        }
+    }
+    false
+}
+
+fn is_pinned_moved(board: &Board, after: &Schedule) -> bool {
+    for home in 0..board.league().teams() {
+        if is_pinned_moved_at_home(board, after, home) {
+            return true;
+        }
+    }
+    false
+}
+
+/// Whether a move that can be made gives a pinned game another round. The copy is one to make it on.
+fn is_held(board: &Board, copy: &mut Schedule, ask: Ask) -> bool {
+    let Ask::Shift(proposal) = ask else {
+        return false;
+    };
+    copy.copy_from(board.schedule());
+    if check(copy, proposal.mv).is_err() {
+        return false;
+    }
+    apply(copy, proposal.mv);
+    is_pinned_moved(board, copy)
+}
+
+/// The best so far, with the version that there is now.
+fn best_now(board: &Board, before: Option<Best>) -> Option<Best> {
+    let cost = board.cost();
+    let total = cost.travel.saturating_add(cost.soft);
+    let is_better = match before {
+        Some(best) => total < best.total,
+        None => true,
+    };
+    if cost.hard == 0 && is_better {
+        let at = board.version();
+        return Some(Best { at, total });
+    }
+    before
+}
+
+/// What is known of a board beside it.
+#[derive(Drop)]
+struct Known {
+    /// The league without a price.
+    unpriced: League,
+    /// The kept games that weren't unpinned.
+    standing: PairSet,
+    best: Option<Best>,
+    /// A schedule to make moves on.
+    copy: Schedule,
+}
+
+/// Asks, and compares.
+fn check_drawn(rt: &impl Abort, board: &mut Board, known: &mut Known, ask: Ask) {
+    let held = is_held(board, &mut known.copy, ask);
+    let reply = board.answer(0, ask);
+    let is_refused = matches!(
+        reply,
+        Reply::No {
+            why: Why::Pinned,
+            ..
+        }
+    );
+    check_same(rt, &(ask, is_refused), &(ask, held));
+    if let (Ask::Unpin { game, .. }, Reply::Done { .. }) = (ask, reply) {
+        assert!(rt; game.is_in_range(board.league().teams()));
+        known.standing.remove(game.home, game.away);
+    }
+    known.best = best_now(board, known.best);
+    check_same(rt, &(ask, board.best()), &(ask, known.best));
+    check_cost(rt, board, &known.unpriced);
+    check_standing(rt, board, &known.standing);
+}
+
+/// A new board of the league, and what is known of it.
+fn begun(alloc: Global, league: League) -> Result<(Board, Known), Fail> {
+    let mut unpriced = league.duplicate(alloc)?;
+    unpriced.set_near(0);
+    let standing = league.kept().duplicate();
+    let board = Board::new(alloc, league, 2048)?;
+    let known = Known {
+        unpriced,
+        standing,
+        best: best_now(&board, None),
+        copy: board.schedule().duplicate(alloc)?,
+    };
+    Ok((board, known))
+}
+
+/// After each of so many changes that are drawn.
+fn drawn_board(
+    rt: &impl Abort,
+    alloc: Global,
+    state: &mut u64,
+    teams: u8,
+    changes: u64,
+) -> Result<Board, Fail> {
+    let league = beginning(alloc, state, teams)?;
+    let (mut board, mut known) = begun(alloc, league)?;
+    for _ in 0..changes {
+        let ask = drawn_ask(&board, state);
+        check_drawn(rt, &mut board, &mut known, ask);
+    }
+    Ok(board)
+}
+
+/// Whether both boards have the same games at home of the team pinned.
+fn pin_alike(one: &Board, other: &Board, home: u8) -> bool {
+    let teams = one.league().teams();
+    if home >= teams || other.league().teams() != teams {
+        return false;
+    }
+    for away in 0..teams {
+        if away != home && one.is_pinned(home, away) != other.is_pinned(home, away) {
+            return false;
+        }
+    }
+    true
+}
+
+/// The boards show the same.
+fn check_same_boards(rt: &impl Abort, one: &Board, other: &Board) {
+    let shown = (one.version(), one.cost(), one.best());
+    check_same(rt, &shown, &(other.version(), other.cost(), other.best()));
+    check_same(rt, &one.schedule().is_same(other.schedule()), &true);
+    for home in 0..one.league().teams() {
+        check_same(rt, &(home, pin_alike(one, other, home)), &(home, true));
+    }
+}
+
+/// The change once more, at this version and whatever it costs.
+fn again(version: u64, change: Change) -> Ask {
+    match change {
+        Change::Shift(mv) => propose(version, mv, None, u64::MAX),
+        Change::Pin(game) => pin_from_0(version, game.round, game.home, game.away),
+        Change::Unpin(game) => unpin_from_0(version, game.round, game.home, game.away),
+        Change::Undo => Ask::Undo { version },
+    }
+}
+
+/// The history as a script for a new board of the league leads to the same.
+fn check_replayed(rt: &impl Abort, alloc: Global, board: &Board) -> Result<(), Fail> {
+    let league = board.league().duplicate(alloc)?;
+    let mut other = Board::new(alloc, league, board.room())?;
+    for i in 0..board.version() {
+        let ask = again(i, board.entry(i).change);
+        let reply = other.answer(0, ask);
+        let is_granted = matches!(reply, Reply::Done { .. });
+        check_same(rt, &(i, is_granted), &(i, true));
+    }
+    check_same_boards(rt, &other, board);
+    Ok(())
+}
+
+/// Numbers of teams, and of changes on a board of so many.
+const SIZES: &[(u8, u64)] = &[(4, 1000), (6, 1000), (10, 1000), (20, 300), (40, 100)];
+
+#[test]
+fn drawn_changes_of_a_given_start(rt: HostRuntime) -> Result<(), Fail> {
+    let mut state = 3;
+    for &(teams, changes) in SIZES {
+        let board = drawn_board(&rt, rt.alloc(), &mut state, teams, changes)?;
+        check_replayed(&rt, rt.alloc(), &board)?;
+    }
+    Ok(())
+}
+
+/// A seat is answered as the board.
+fn ask_both<R: Wait + Abort>(
+    rt: &R,
+    shared: &Shared,
+    seat: &mut Seat,
+    board: &mut Board,
+    state: &mut u64,
+)
+    requires { seat.old.table ≡ shared.now }
+    ensures { seat.new.table ≡ shared.now }
+{
+    for _ in 0..300 {
+        let ask = drawn_ask(board, state);
+        let reply = board.answer(0, ask);
+        check_ask(rt, shared, seat, ask, reply);
+    }
+}
+
+fn check_shared<R: Wait + Abort>(
+    rt: &R,
+    alloc: Global,
+    state: &mut u64,
+    teams: u8,
+) -> Result<(), Fail> {
+    let league = beginning(alloc, state, teams)?;
+    let mut board = Board::new(alloc, league.duplicate(alloc)?, 2048)?;
+    let (shared, mut seat) = Shared::new(alloc, Board::new(alloc, league, 2048)?)?;
+    ask_both(rt, &shared, &mut seat, &mut board, state);
+    let closed = close(rt, shared, seat, true);
+    check_same_boards(rt, &closed, &board);
+    Ok(())
+}
+
+#[test]
+fn a_shared_board_of_a_given_start(rt: HostRuntime) -> Result<(), Fail> {
+    let mut state = 11;
+    for teams in [4, 8, 40] {
+        check_shared(&rt, rt.alloc(), &mut state, teams)?;
+    }
+    Ok(())
+}
