@@ -6,9 +6,8 @@ use crate::tests::checks::check_same;
 use crate::tests::drawn_asks::drawn_ask;
 use crate::tests::drawn_leagues::{begin_at, drawn_league, drawn_start, set_near};
 use crate::tests::drawn_numbers::{among, drawn};
-use crate::tests::questions::{pin_from_0, propose, unpin_from_0};
 use crate::tests::seat_checks::{check_ask, close};
-use fixture_board::{Ask, Best, Board, Change, Reply, Why, cost_of};
+use fixture_board::{Ask, Best, Board, Reply, Why, cost_of};
 use fixtures::Schedule;
 use league::{League, PairSet};
 use moves::{apply, check};
@@ -230,22 +229,12 @@ fn check_same_boards(rt: &impl Abort, one: &Board, other: &Board) {
     }
 }
 
-/// The change once more, at this version and whatever it costs.
-fn again(version: u64, change: Change) -> Ask {
-    match change {
-        Change::Shift(mv) => propose(version, mv, None, u64::MAX),
-        Change::Pin(game) => pin_from_0(version, game.round, game.home, game.away),
-        Change::Unpin(game) => unpin_from_0(version, game.round, game.home, game.away),
-        Change::Undo => Ask::Undo { version },
-    }
-}
-
 /// The history as a script for a new board of the league leads to the same.
 fn check_replayed(rt: &impl Abort, alloc: Global, board: &Board) -> Result<(), Fail> {
     let league = board.league().duplicate(alloc)?;
     let mut other = Board::new(alloc, league, board.room())?;
     for i in 0..board.version() {
-        let ask = again(i, board.entry(i).change);
+        let ask = Ask::of(board.entry(i).change, i, u64::MAX);
         let reply = other.answer(0, ask);
         let is_granted = matches!(reply, Reply::Done { .. });
         check_same(rt, &(i, is_granted), &(i, true));
