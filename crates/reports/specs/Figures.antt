@@ -6,7 +6,7 @@ use Rattle.fixtures.specs.Games.{Games, round_count}
 use Rattle.tours.specs.Tours.{travel_of}
 use Rattle.tours.specs.Phased.{is_unphased}
 use Rattle.fixture_board.specs.declared.cost.Cost.{Cost}
-use Rattle.fixture_board.specs.Costs.{cost_of, hard_penalty, soft_penalty, sum_over_rules, where_phased}
+use Rattle.fixture_board.specs.Costs.{cost_of, hard_penalty, near_cost, soft_penalty, sum_over_rules, where_phased}
 use Rattle.reports.specs.CostText.{repeats_lower}
 use Rattle.reports.specs.Runs.{is_over, ended_streak}
 
@@ -22,13 +22,13 @@ repeats_told g = sum_below (round_count g.teams - 1) (λ round. count_where g.te
 abbrev pub halves_told : Games → ℕ
 halves_told g = sum_below g.teams (λ high. count_where high (λ low. is_unphased g low high))
 
--- the lines of a report, added up
+-- the lines of a report, added up, and the price of leaving the start, which no line tells: no text of a league sets one
 unfoldable pub told_cost : LeagueData → Games → Cost
 told_cost l g = record {
   travel = sum_below g.teams (travel_of l g);
   hard = sum_below g.teams (windows_told g l.at_most) + repeats_told g + sum_over_rules hard_penalty l.rules g +
       where_phased l (halves_told g);
-  soft = sum_over_rules soft_penalty l.rules g;
+  soft = sum_over_rules soft_penalty l.rules g + near_cost l g;
 }
 
 -- they are the first line

@@ -5,7 +5,7 @@ ghost use Rattle.fixtures.specs.Games.{Games, IsDoubleRoundRobin};
 ghost use Rattle.reports.specs.Figures.{AddsUp};
 
 /// The tours, the windows of the runs, the repeats, the halves and the deviations that a report tells add up to its first
-/// line.
+/// line, with the price of leaving the start, which no text of a league sets.
 #[tactic(auto, using(crate::proofs::Figures::adds_up))]
 pub fn figures_add_up()
     ensures { (l : LeagueData) (g : Games) → IsLeague l → IsDoubleRoundRobin g → AddsUp l g }

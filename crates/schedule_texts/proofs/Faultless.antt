@@ -9,6 +9,7 @@ use Rattle.fixtures.specs.declared.game.Game.{Game}
 use Rattle.fixtures.specs.Games.{Games, round_count}
 use Rattle.fixtures.specs.GameList.{AreGamesOf}
 use Rattle.fixtures.specs.Draft.{is_game_in_range, IsGame}
+use Rattle.fixtures.proofs.ForCallers.{game_passed, game_passes}
 use Rattle.streams.specs.Pieces.{pieces_below}
 use Rattle.schedule_texts.specs.declared.schedule_text.ScheduleLine.{ScheduleLine}
 use Rattle.schedule_texts.specs.declared.schedule_text.ScheduleLine.TheVariants.{Other, Bad, Round}
@@ -20,7 +21,6 @@ use Rattle.schedule_texts.specs.Given.{given_games, placed, IsGivenBy}
 use Rattle.schedule_texts.specs.ScheduleText.{has_bad_line, is_bad, line_of, written_games}
 use Rattle.schedule_texts.proofs.Found.{found, IsFaultless}
 use Rattle.schedule_texts.proofs.OnceEach.{is_game_of, no_game, pair_once, team_once}
-use Rattle.schedule_texts.proofs.Tests.{game_passed, game_passes}
 
 is_nil : List ℕ → Bool
 is_nil [] = true

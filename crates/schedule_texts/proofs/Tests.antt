@@ -6,24 +6,11 @@ use Rattle.league.specs.Limits.{max_rounds, max_teams}
 use Rattle.fixtures.specs.declared.game.Cell.{Cell}
 use Rattle.fixtures.specs.declared.game.Game.{Game}
 use Rattle.fixtures.specs.Games.{Games, round_of, IsCell, IsPair}
-use Rattle.fixtures.specs.Draft.{game_of, is_game_in_range, IsGame}
-use Rattle.fixtures.proofs.ForCallers.{pair_swapped}
+use Rattle.fixtures.specs.Draft.{game_of, IsGame}
+use Rattle.fixtures.proofs.ForCallers.{game_passes, pair_swapped}
 use Rattle.schedule_texts.specs.declared.counts.Counted.{Counted}
 use Rattle.schedule_texts.specs.declared.counts.Counted.TheVariants.{Rounds, Guests}
 use Rattle.schedule_texts.specs.Faults.{count_in, games_in, games_of_pair, is_of_pair, is_of_team, number_of, numbers, takes}
-
-pub game_passes : (n : ℕ) (x : Game) → IsGame n x → is_game_in_range n x ≡ true
-game_passes n x is = grind (arith, nat_tests, is.pair.home_in, is.pair.away_in, is.pair.distinct, is.in_range)
-
-pub game_passed : (n : ℕ) (x : Game) → is_game_in_range n x ≡ true → IsGame n x
-game_passed n x passes = record {
-  pair = record {
-    home_in = grind (arith, nat_tests);
-    away_in = grind (arith, nat_tests);
-    distinct = grind (arith, nat_tests);
-  };
-  in_range = grind (arith, nat_tests);
-}
 
 pub pair_passes : (n home away : ℕ) (x : Game) → IsGame n x → x.home ≡ home → x.away ≡ away → is_of_pair n home away x ≡ true
 pair_passes n home away x is e f = grind (arith, nat_tests, game_passes n x is)

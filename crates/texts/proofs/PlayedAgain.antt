@@ -21,9 +21,7 @@ use Rattle.fixture_board.specs.Replies.{ask_of, ask_with, entry, greatest, next_
 use Rattle.fixtures.specs.Draft.{is_game_in_range}
 use Rattle.fixtures.proofs.ForCallers.{game_passed}
 use Rattle.fixture_board.proofs.ForCallers.{FitFrom, all_stand_fit, fit_from_more, games_of_teams, is_legal_next}
-use Rattle.fixtures.specs.Draft.{is_game_in_range}
-use Rattle.fixtures.proofs.ForCallers.{game_passed}
-use Rattle.fixture_board.proofs.ForCallers.{is_legal_none, is_scored_league, pinned_stands, replayed}
+use Rattle.fixture_board.proofs.ForCallers.{is_legal_none, pinned_stands, replayed}
 use Rattle.texts.specs.Command.{line_of}
 use Rattle.texts.specs.PlayText.{IsPlayedAgain, change_lines, history_after, played, played_from, slack_after}
 use Rattle.texts.specs.SearchText.{PlaysBack}
@@ -152,7 +150,7 @@ written_played league room h is legal =
     let small = AreSmall-legal league room h is legal in
     ap (λ script. played_from league room [] greatest script) (lines-change_lines h small) ∙
     lines_played league room [] h small ∙
-    (replayed league room h (is_scored_league league is) legal).history
+    (replayed league room h is legal).history
 
 pub played_again : (league : LeagueData) (room : ℕ) (script : List (List ℕ)) → IsLeague league → IsPlayedAgain league room script
 played_again league room script is =
@@ -162,7 +160,7 @@ played_again league room script is =
 -- so it leads to the same games and the same best
 pub plays_back : (league : LeagueData) (room : ℕ) (h : List Entry) → IsLeague league → IsLegal league room h → PlaysBack league room h
 plays_back league room h is legal =
-    let again = replayed league room h (is_scored_league league is) legal in
+    let again = replayed league room h is legal in
     let history = written_played league room h is legal in
     record {
       history = history;
