@@ -4,7 +4,7 @@ use Rattle.std.proofs.Common.{◌∷◌, length, slice_get, Option, Some, None, 
 use Rattle.std.proofs.lemmas.List.Elements.{All-from_recursion, All-get_or}
 use Rattle.std.proofs.lemmas.Option.{slice_get_within, get_or_from_slice_get}
 use Rattle.std.proofs.Math.Nat.{mul-le-mul}
-use Rattle.league.specs.Limits.{deviation_limit, max_rules, max_weight, max_teams}
+use Rattle.league.specs.Limits.{deviation_limit, max_rules, max_weight, max_teams, max_rounds}
 use Rattle.league.specs.League.{LeagueData, teams, IsLeague}
 use Rattle.league.specs.RuleLimits.{IsRuleFor, IsWeight}
 use Rattle.league.specs.declared.rule.Rule.{Rule}
@@ -80,12 +80,12 @@ unfolding runs_over runs_of
 runs_over_le g at_most forty =
     omega (
       arith,
-      sum_below_le g.teams 79 (runs_of g at_most)
+      sum_below_le g.teams (max_rounds + 1) (runs_of g at_most)
           (λ t under.
           omega (arith, count_where_le (windows g (at_most + 1)) (λ first. is_run g t first (at_most + 1)))),
     )
 
-repeats_after_le : (g : Games) (round : ℕ) → g.teams ≤ max_teams → repeats_after g round ≤ 1600
+repeats_after_le : (g : Games) (round : ℕ) → g.teams ≤ max_teams → repeats_after g round ≤ max_teams * max_teams
 unfolding repeats_after
 repeats_after_le g round forty =
     omega (
@@ -100,10 +100,10 @@ unfolding repeats
 repeats_le g forty =
     omega (
       arith,
-      sum_below_le (round_count g.teams - 1) 1600 (repeats_after g) (λ r under. repeats_after_le g r forty),
+      sum_below_le (round_count g.teams - 1) (max_teams * max_teams) (repeats_after g) (λ r under. repeats_after_le g r forty),
     )
 
-unphased_le : (g : Games) → g.teams ≤ max_teams → unphased g ≤ 1600
+unphased_le : (g : Games) → g.teams ≤ max_teams → unphased g ≤ max_teams * max_teams
 unfolding unphased
 unphased_le g forty =
     omega (
@@ -163,7 +163,7 @@ hard_le l g is same forty =
       arith,
       runs_over_le g l.at_most forty,
       repeats_le g forty,
-      where_phased_le l (unphased g) 1600 (unphased_le g forty),
+      where_phased_le l (unphased g) (max_teams * max_teams) (unphased_le g forty),
       sum_over_rules_le l g hard_penalty deviation_limit is
           (λ rule for. omega (arith, hard_penalty_le rule.weight (deviation g rule.body), deviation_of l g rule same forty for)),
     )

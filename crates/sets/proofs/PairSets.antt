@@ -6,6 +6,7 @@ use Rattle.std.proofs.lemmas.List.{get_or_past, get_or-replicate, get_or-set_sam
 use Rattle.std.proofs.lemmas.Grind.{same_number_lists}
 use Rattle.std.proofs.lemmas.Nat.Bits.{same_from_bits, bit_at-lt}
 use Rattle.std.specs.Int.{bit_at}
+use Rattle.sets.specs.Limits.{max_teams}
 use Rattle.sets.specs.Sets.{has, with_number}
 use Rattle.sets.specs.Pairs.{seconds_of, has_pair, no_pairs, with_pair, AreFirsts}
 use Rattle.sets.proofs.Bits.{has_with_number}
@@ -35,10 +36,10 @@ has_pair_beyond pairs f s beyond = ap (λ row. has row s) (get_or_past pairs f 0
 
 pub has_no_pairs : (f s : ℕ) → has_pair no_pairs f s ≡ false
 unfolding has_pair
-has_no_pairs f s = elim (cases_lt f 40) [
-  | inl within ↦ ap (λ row. has row s) (get_or-replicate 40 f 0 0 within) ∙ has_empty s
+has_no_pairs f s = elim (cases_lt f max_teams) [
+  | inl within ↦ ap (λ row. has row s) (get_or-replicate max_teams f 0 0 within) ∙ has_empty s
   | inr beyond ↦
-      ap (λ row. has row s) (get_or_past no_pairs f 0 (rw (length-replicate {A = ℕ} 40 0) beyond)) ∙ has_empty s
+      ap (λ row. has row s) (get_or_past no_pairs f 0 (rw (length-replicate {A = ℕ} max_teams 0) beyond)) ∙ has_empty s
 ]
 
 -- sets of pairs with the same members are the same
@@ -101,19 +102,19 @@ has_with_pair pairs first second f s within =
 
 pub AreFirsts-none : AreFirsts no_pairs 0
 AreFirsts-none = record {
-  rows = length-replicate {A = ℕ} 40 0;
-  members = λ t. has_empty t ∙ sym (ap (λ row. not (row == 0)) (elim (cases_lt t 40) [
-    | inl within ↦ get_or-replicate 40 t 0 0 within
-    | inr beyond ↦ get_or_past no_pairs t 0 (rw (length-replicate {A = ℕ} 40 0) beyond)
+  rows = length-replicate {A = ℕ} max_teams 0;
+  members = λ t. has_empty t ∙ sym (ap (λ row. not (row == 0)) (elim (cases_lt t max_teams) [
+    | inl within ↦ get_or-replicate max_teams t 0 0 within
+    | inr beyond ↦ get_or_past no_pairs t 0 (rw (length-replicate {A = ℕ} max_teams 0) beyond)
   ]));
 }
 
 -- no team is first in a pair exactly where there is no pair
 pub no_firsts : (pairs : List ℕ) (firsts : ℕ) → AreFirsts pairs firsts → firsts ≡ 0 → pairs ≡ no_pairs
 no_firsts pairs firsts are none =
-    same_number_lists pairs no_pairs (are.rows ∙ sym (length-replicate {A = ℕ} 40 0))
+    same_number_lists pairs no_pairs (are.rows ∙ sym (length-replicate {A = ℕ} max_teams 0))
     (λ f within. no_row (seconds_of pairs f) (sym (are.members f) ∙ ap (λ s. has s f) none ∙ has_empty f)
-    ∙ sym (get_or-replicate 40 f 0 0 (omega (arith, are.rows))))
+    ∙ sym (get_or-replicate max_teams f 0 0 (omega (arith, are.rows))))
   where
     no_row : (row : ℕ) → not (row == 0) ≡ false → row ≡ 0
     no_row row none = elim (cases_eq row 0) [

@@ -2,7 +2,7 @@
 use Rattle.std.proofs.Common.{ℕ, zero, suc, ◌+◌, ◌-◌, ◌*◌, ◌<◌, ◌≤◌, ◌&&◌, Bool, true, false, if◌then◌else◌, List, length, arith}
 use Rattle.std.proofs.Math.Nat.{mul-le-mul, mul-le-mul_left}
 use Rattle.std.proofs.lemmas.List.Sums.{count_by-le-length}
-use Rattle.league.specs.Limits.{max_teams, max_count, deviation_limit, max_rounds}
+use Rattle.league.specs.Limits.{max_teams, max_count, deviation_limit, max_rounds, max_games}
 use Rattle.league.specs.Sets.{has}
 use Rattle.league.specs.Sums.{sum_below, sum_where}
 use Rattle.league.specs.RuleLimits.{IsBodyFor}
@@ -94,7 +94,7 @@ over_teams_le g test f most forty few each =
     omega (arith, sum_where_le g.teams 6162 test f (λ t under is. omega (arith, each t)))
 
 over_rounds_le : (g : Games) (test : ℕ → Bool) (f : ℕ → ℕ) → g.teams ≤ max_teams → ((r : ℕ) → f r ≤ g.teams) →
-    sum_where (round_count g.teams) test f ≤ 3120
+    sum_where (round_count g.teams) test f ≤ max_teams * max_rounds
 over_rounds_le g test f forty each =
     omega (arith, sum_where_le (round_count g.teams) max_teams test f (λ r under is. omega (arith, each r)))
 
@@ -132,7 +132,7 @@ deviation_below g (Ca4 teams1 side teams2 slots true most) forty is =
           (λ r. omega (arith, count_at_le g side (has teams1) (has teams2) r)),
     )
 deviation_below g (Ga1 games slots least most) forty is =
-    let len : length games ≤ 1600 = is.1 in
+    let len : length games ≤ max_games = is.1 in
     let least_le : least ≤ most = is.3 in
     let most_le : most ≤ 10000 = is.4 in
     omega (arith, games_in_le g (has slots) games)
@@ -161,6 +161,6 @@ deviation_below g (Fa2 teams slots most) forty is =
     omega (
       arith,
       forty,
-      sum_below_le g.teams 3120 (worst_gaps g (has teams) (has slots) most)
+      sum_below_le g.teams (max_teams * max_rounds) (worst_gaps g (has teams) (has slots) most)
           (λ t under. omega (arith, forty, under, worst_gaps_le g (has teams) (has slots) most t forty)),
     )

@@ -76,7 +76,7 @@ full_none set starts = record {
     lacks_none s = sum_below_none (λ k. if not (has set (s + k)) then 1 else 0)
 
 pub full_more : (set starts k full nearly next window kept new_full new_nearly new_next : ℕ) → HasFull set starts k full nearly next →
-    IsBelow (79 - window) starts → k < window → window ≤ max_rounds →
+    IsBelow (max_rounds + 1 - window) starts → k < window → window ≤ max_rounds →
     ((s : ℕ) → has kept s ≡ (has nearly s && has next s)) → ((s : ℕ) → has new_nearly s ≡ (has kept s || has full s)) →
     ((s : ℕ) → has new_full s ≡ (has full s && has next s)) → ((s : ℕ) → s + 1 < max_rounds → has new_next s ≡ has next (s + 1)) →
     ((m : ℕ) → IsBelow m full → IsBelow m new_full) → ((m : ℕ) → IsBelow m nearly → IsBelow m kept) →
@@ -85,21 +85,21 @@ full_more set starts k full nearly next window kept new_full new_nearly new_next
     full_below kept_below near_below = record {
       none = λ s.
           fulls s ∙ ap (λ b. b && has next s) (so_far.none s) ∙
-          elim (cases_lt s (79 - window)) [
+          elim (cases_lt s (max_rounds + 1 - window)) [
             | inl start ↦
                 ap (λ b. (has starts s && lacks set s k == 0) && b) (so_far.later s (omega arith)) ∙
                 full_step (has starts s) (has set (s + k)) (lacks set s k) (lacks set s (k + 1)) (more s)
-            | inr past ↦ rw (has_beyond (79 - window) starts s below past) refl
+            | inr past ↦ rw (has_beyond (max_rounds + 1 - window) starts s below past) refl
           ];
       one = λ s.
           nears s ∙ ap (λ b. b || has full s) (keeps s) ∙ ap (λ b. (b && has next s) || has full s) (so_far.one s) ∙
           ap (λ b. ((has starts s && nat_lt (lacks set s k) 2) && has next s) || b) (so_far.none s) ∙
-          elim (cases_lt s (79 - window)) [
+          elim (cases_lt s (max_rounds + 1 - window)) [
             | inl start ↦
                 ap (λ b. ((has starts s && nat_lt (lacks set s k) 2) && b) || (has starts s && lacks set s k == 0))
                 (so_far.later s (omega arith)) ∙
                 nearly_step (has starts s) (has set (s + k)) (lacks set s k) (lacks set s (k + 1)) (more s)
-            | inr past ↦ rw (has_beyond (79 - window) starts s below past) refl
+            | inr past ↦ rw (has_beyond (max_rounds + 1 - window) starts s below past) refl
           ];
       later = λ s in_next. nexts s (omega arith) ∙ so_far.later (s + 1) (omega arith) ∙ ap (has set) (omega arith);
       none_below = λ m m_below. full_below m (so_far.none_below m m_below);

@@ -3,7 +3,7 @@ use Rattle.std.proofs.Common.{List, [], get_or}
 use Rattle.std.proofs.Common.{◌≡◌, ℕ, ◌+◌, ◌*◌, ◌<◌, ◌≤◌, nat_le, min, true}
 use Rattle.std.proofs.Common.{arith}
 use Rattle.std.proofs.lemmas.Bool.{le-leb}
-use Rattle.league.specs.Limits.{max_teams}
+use Rattle.league.specs.Limits.{max_teams, max_rounds}
 use Rattle.league.specs.Sets.{has}
 use Rattle.league.specs.Sums.{sum_below}
 use Rattle.league.specs.declared.rule.RuleBody.TheVariants.{Fa2}
@@ -37,7 +37,7 @@ unfolding deviation
 few_gaps g teams slots most forty =
     omega (
       arith,
-      sum_below_le g.teams 3120 (worst_gaps g (has teams) (has slots) most)
+      sum_below_le g.teams (max_teams * max_rounds) (worst_gaps g (has teams) (has slots) most)
           (λ t below. omega (arith, below, worst_gaps_le g (has teams) (has slots) most t forty)),
     )
 

@@ -6,6 +6,7 @@ use Rattle.std.specs.Bool.{beq}
 use Rattle.std.proofs.Math.Bool.{or-not_self}
 use Rattle.std.proofs.lemmas.Bool.{cases_lt, lt-ltb, le-ltb}
 use Rattle.std.proofs.lemmas.Bool.Decides.{nat_tests}
+use Rattle.league.specs.Limits.{max_rounds}
 use Rattle.league.specs.Sets.{has, is_like_next}
 use Rattle.league.specs.Sums.{sum_where, count_where, all_below, any_below}
 use Rattle.league.proofs.ForCallers.{all_below_same, all_below_fails, sum_below_past, sum_where_same, count_where_same}
@@ -83,12 +84,12 @@ if_below : (k n : ℕ) (b : Bool) → n ≤ k → ◌≡◌ {A = ℕ} (if nat_lt
 if_below k n b past = grind (arith, nat_tests)
 
 -- a set of windows has as many as pass its test
-windows_counted : (g : Games) (length set : ℕ) (test : ℕ → Bool) → 1 ≤ length → round_count g.teams ≤ 78 →
+windows_counted : (g : Games) (length set : ℕ) (test : ℕ → Bool) → 1 ≤ length → round_count g.teams ≤ max_rounds →
     ((first : ℕ) → has set first ≡ (nat_lt first (windows g length) && test first)) →
-    count_where 78 (has set) ≡ count_where (windows g length) test
+    count_where max_rounds (has set) ≡ count_where (windows g length) test
 windows_counted g length set test least season is_set =
-    count_where_same 78 (has set) (λ f. nat_lt f (windows g length) && test f) (λ f below. is_set f) ∙
-    sum_below_past (windows g length) 78 (λ f. if nat_lt f (windows g length) && test f then 1 else 0) (omega arith)
+    count_where_same max_rounds (has set) (λ f. nat_lt f (windows g length) && test f) (λ f below. is_set f) ∙
+    sum_below_past (windows g length) max_rounds (λ f. if nat_lt f (windows g length) && test f then 1 else 0) (omega arith)
     (λ f past below. if_below f (windows g length) (test f) past) ∙
     count_where_same (windows g length) (λ f. nat_lt f (windows g length) && test f) test
     (λ f below. ap (λ b. b && test f) (lt-ltb f (windows g length) below))
@@ -101,31 +102,31 @@ regroup true false false = refl
 regroup false run start = refl
 
 -- how many of a team's runs begin with a round of the set
-pub runs_counted : (g : Games) (team length runs starts counted : ℕ) → 1 ≤ length → round_count g.teams ≤ 78 → HasRuns g team length runs →
+pub runs_counted : (g : Games) (team length runs starts counted : ℕ) → 1 ≤ length → round_count g.teams ≤ max_rounds → HasRuns g team length runs →
     ((first : ℕ) → has counted first ≡ (has runs first && has starts first)) →
-    count_where 78 (has counted) ≡ count_where (windows g length) (λ first. has starts first && is_run g team first length)
+    count_where max_rounds (has counted) ≡ count_where (windows g length) (λ first. has starts first && is_run g team first length)
 runs_counted g team length runs starts counted least season is_runs is_counted =
     windows_counted g length counted (λ f. has starts f && is_run g team f length) least season
     (λ f. is_counted f ∙ ap (λ b. b && has starts f) (is_runs f) ∙
     regroup (nat_lt f (windows g length)) (is_run g team f length) (has starts f))
 
 -- how many there are
-pub all_runs_counted : (g : Games) (team most runs : ℕ) → round_count g.teams ≤ 78 → HasRuns g team (most + 1) runs →
-    count_where 78 (has runs) ≡ runs_of g most team
+pub all_runs_counted : (g : Games) (team most runs : ℕ) → round_count g.teams ≤ max_rounds → HasRuns g team (most + 1) runs →
+    count_where max_rounds (has runs) ≡ runs_of g most team
 unfolding runs_of
 all_runs_counted g team most runs season is_runs =
     windows_counted g (most + 1) runs (λ f. is_run g team f (most + 1)) (omega arith) season is_runs
 
 -- none, where none of its runs does
-pub no_runs_counted : (g : Games) (team length runs starts : ℕ) → 1 ≤ length → round_count g.teams ≤ 78 → HasRuns g team length runs →
-    any_below 78 (λ s. has runs s && has starts s) ≡ false →
+pub no_runs_counted : (g : Games) (team length runs starts : ℕ) → 1 ≤ length → round_count g.teams ≤ max_rounds → HasRuns g team length runs →
+    any_below max_rounds (λ s. has runs s && has starts s) ≡ false →
     count_where (windows g length) (λ first. has starts first && is_run g team first length) ≡ 0
 no_runs_counted g team length runs starts least season is_runs out =
     count_where_none (windows g length) (λ first. has starts first && is_run g team first length)
     (λ f below. neither (is_run g team f length) (has starts f)
     (ap (λ b. b && has starts f)
     (sym (is_runs f ∙ ap (λ b. b && is_run g team f length) (lt-ltb f (windows g length) below))) ∙
-    any_below_fails 78 (λ s. has runs s && has starts s) out f (omega arith)))
+    any_below_fails max_rounds (λ s. has runs s && has starts s) out f (omega arith)))
   where
     neither : (a b : Bool) → (a && b) ≡ false → (b && a) ≡ false
     neither true true e = e

@@ -1,7 +1,7 @@
 use Rattle.std.proofs.Common.{ℕ, ◌+◌, ◌-◌, ◌^◌, ◌≤◌, get_or, refl, sym, ◌∙◌, ap, subst, arith}
 use Rattle.std.proofs.Math.Pow.{pow_mono}
 use Rattle.std.proofs.lemmas.Bool.{and_parts}
-use Rattle.league.specs.Limits.{max_teams}
+use Rattle.league.specs.Limits.{max_teams, max_rounds}
 use Rattle.league.specs.Sets.{has, IsBelow}
 use Rattle.league.specs.Sums.{count_where}
 use Rattle.league.proofs.ForCallers.{sum_where_same}
@@ -18,7 +18,7 @@ over_in_rows-requires-clause-teams c =
 
 pub over_in_rows-requires-clause-starts : goal.over_in_rows-requires-clause-starts
 over_in_rows-requires-clause-starts c =
-    let grows : 2 ^ (c.rounds.result + 1 - c.args.window) ≤ 2 ^ (79 - c.args.window) = pow_mono (omega (arith, c.rounds.ensures.most)) in
+    let grows : 2 ^ (c.rounds.result + 1 - c.args.window) ≤ 2 ^ (max_rounds + 1 - c.args.window) = pow_mono (omega (arith, c.rounds.ensures.most)) in
     omega (arith, grows, c.intersection-starts.ensures.below _ c.below.ensures.below)
 
 pub returns-then-goes_by_rounds : goal.returns-then-goes_by_rounds

@@ -1,5 +1,5 @@
-use Rattle.std.proofs.Common.{◌-◌, ◌<◌, refl, arith}
-use Rattle.league.specs.Limits.{max_teams}
+use Rattle.std.proofs.Common.{◌+◌, ◌-◌, ◌<◌, refl, arith}
+use Rattle.league.specs.Limits.{max_teams, max_rounds}
 use Rattle.league.proofs.ForCallers.{sum_without_none, sum_without_more, sum_without_all, lowest_below}
 use Rattle.robinx.proofs.team_windows.over_in_rows.Goals as goal
 
@@ -10,8 +10,8 @@ loop-first-init c = λ n m teams_below starts_below.
 
 pub over_in_window-total-requires-clause-season : goal.over_in_window-total-requires-clause-season
 over_in_window-total-requires-clause-season c =
-    let in_range : c.in-Some.first < 79 - c.args.window =
-    lowest_below _ _ _ _ (c.loop-first.invariant max_teams (79 - c.args.window) c.requires.teams c.requires.starts).below c.in-Some.ensures.steps
+    let in_range : c.in-Some.first < max_rounds + 1 - c.args.window =
+    lowest_below _ _ _ _ (c.loop-first.invariant max_teams (max_rounds + 1 - c.args.window) c.requires.teams c.requires.starts).below c.in-Some.ensures.steps
     in
     omega arith
 
@@ -19,7 +19,7 @@ pub overflow_add-total : goal.overflow_add-total
 overflow_add-total c =
     omega (
       arith,
-      (c.loop-first.invariant max_teams (79 - c.args.window) c.requires.teams c.requires.starts).within,
+      (c.loop-first.invariant max_teams (max_rounds + 1 - c.args.window) c.requires.teams c.requires.starts).within,
       c.over_in_window-total.ensures.most,
     )
 

@@ -1,17 +1,18 @@
 use Rattle.std.proofs.Common.{◌+◌, ◌-◌, ◌≤◌, ◌^◌, sym, ◌∙◌, arith}
 use Rattle.std.proofs.Math.Pow.{pow_mono}
+use Rattle.league.specs.Limits.{max_rounds}
 use Rattle.league.specs.Sets.{has}
 use Rattle.robinx.proofs.rows.FullWindows.{over_without_room, over_by_full, over_by_both}
 use Rattle.robinx.proofs.windows.over_in_windows_of.Goals as goal
 
 pub full_windows-requires-clause-starts : goal.full_windows-requires-clause-starts
 full_windows-requires-clause-starts c =
-    let grows : 2 ^ (c.args.rounds + 1 - c.args.window) ≤ 2 ^ (79 - c.args.window) = pow_mono (omega (arith, c.requires.season)) in
+    let grows : 2 ^ (c.args.rounds + 1 - c.args.window) ≤ 2 ^ (max_rounds + 1 - c.args.window) = pow_mono (omega (arith, c.requires.season)) in
     omega (arith, grows, c.requires.starts)
 
 pub full_windows-windows-requires-clause-starts : goal.full_windows-windows-requires-clause-starts
 full_windows-windows-requires-clause-starts c =
-    let grows : 2 ^ (c.args.rounds + 1 - c.args.window) ≤ 2 ^ (79 - c.args.window) = pow_mono (omega (arith, c.requires.season)) in
+    let grows : 2 ^ (c.args.rounds + 1 - c.args.window) ≤ 2 ^ (max_rounds + 1 - c.args.window) = pow_mono (omega (arith, c.requires.season)) in
     omega (arith, grows, c.requires.starts)
 
 pub returns-in-0-clause-value : goal.returns-in-0-clause-value

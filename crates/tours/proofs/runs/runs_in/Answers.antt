@@ -1,5 +1,6 @@
 use Rattle.std.proofs.Common.{◌≡◌, ℕ, sym, ◌∙◌, ap, arith}
 use Rattle.std.proofs.lemmas.Bool.{eqb-true}
+use Rattle.league.specs.Limits.{max_rounds}
 use Rattle.league.specs.Sets.{has}
 use Rattle.league.specs.Sums.{count_where}
 use Rattle.league.proofs.ForCallers.{count_where_none, has_empty}
@@ -10,7 +11,7 @@ pub returns-then-eq-clause-value : goal.returns-then-eq-clause-value
 returns-then-eq-clause-value c = λ g t season homes.
     let none : c.run_starts-runs.result ≡ 0 =
     eqb-true _ _ (sym c.eq.ensures ∙ c.if-eq.true) ∙ c.empty.ensures.value in
-    sym (count_where_none 78 (has 0) (λ k below. has_empty k)) ∙ ap (λ (set : ℕ). count_where 78 (has set)) (sym none) ∙
+    sym (count_where_none max_rounds (has 0) (λ k below. has_empty k)) ∙ ap (λ (set : ℕ). count_where max_rounds (has set)) (sym none) ∙
     all_runs_counted g t c.args.at_most c.run_starts-runs.result (omega (arith, season, c.requires.season))
     (c.run_starts-runs.ensures.members g t season homes)
 
