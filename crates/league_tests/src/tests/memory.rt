@@ -211,11 +211,17 @@ fn duplicate_tells_refused_memory(rt: HostRuntime) {
     }
 }
 
-// four teams in a circle that begin at the Berger table with its last two rounds exchanged and keep the first
+// the Berger table of four teams with its last two rounds exchanged
+fn exchanged(alloc: Global) -> Result<Schedule, AllocError> {
+    let mut start = berger(alloc, 4)?;
+    start.exchange_rounds(4, 5, TeamSet::below(4));
+    Ok(start)
+}
+
+// four teams in a circle that begin there and keep the first round
 fn begun_elsewhere(alloc: Global) -> Option<League> {
     let mut league = circular(alloc, 4).ok()?;
-    let mut start = berger(alloc, 4).ok()?;
-    start.exchange_rounds(4, 5, TeamSet::below(4));
+    let start = exchanged(alloc).ok()?;
     if start.teams() == league.teams() {
         league.begin_at(start);
         league.keep_round(0);
