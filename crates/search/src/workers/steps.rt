@@ -164,6 +164,8 @@ pub(crate) fn step<R: Wait, D: Door, G: HearingGate>(
 }
 
 /// The exchange that a drawn move is, unless it can't be made or would give a game another round that the league keeps.
+// a call would copy the exchange, in each step
+#[inline(always)]
 fn candidate(copy: &Schedule, league: &League, mv: Move) -> Option<Exchange>
     requires { teams league.now ≡ copy.now.teams }
     ensures { MatchOption result (IsLeftOut league.now copy.now mv) (IsCandidate league.now copy.now mv) }
