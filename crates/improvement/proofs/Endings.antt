@@ -11,7 +11,7 @@ use Rattle.fixture_board.specs.History.{IsLegal}
 use Rattle.fixture_board.specs.Record.{Book, book}
 use Rattle.fixture_board.specs.Replies.{played_from}
 use Rattle.fixture_board.specs.Rewound.{rewound}
-use Rattle.fixture_board.proofs.ForCallers.{is_scored_league, replayed}
+use Rattle.fixture_board.proofs.ForCallers.{replayed}
 use Rattle.fixture_board.proofs.Rewinding.{same_best_rewound}
 use Rattle.phases.specs.Stages.{phase_count}
 use Rattle.streams.specs.declared.buffered.BufferedSink.{BufferedSink}
@@ -47,7 +47,7 @@ final_is league room leading lead limits is =
     let legal : IsLegal league room (rewound league h) = (same_best_rewound league room h).legal is.legal in
     record {
       history = ap (played_from league room []) is.changes_are ∙
-          (replayed league room (rewound league h) (is_scored_league league limits) legal).history ∙
+          (replayed league room (rewound league h) limits legal).history ∙
           credited_same 0 (rewound league h) (rewound_of league h is.of_caller);
       legal = legal;
     }
