@@ -48,12 +48,12 @@ fn push_row(alloc: Global, text: &mut String, key: u64, teams: u8, from: u8) -> 
 
 /// Adds those of the rules that are drawn.
 fn push_rules(text: &mut String, state: &mut u64) -> Result<(), Fail> {
-    let mut separator = "";
+    let mut is_first = true;
     for &rule in RULES {
         if drawn(state, 3) == 0 {
-            text.push_str(separator)?;
+            text.push_str(if is_first { "" } else { "," })?;
             text.push_str(rule)?;
-            separator = ",";
+            is_first = false;
         }
     }
     Ok(())

@@ -25,7 +25,7 @@ pub(crate) fn drawn(state: &mut u64, bound: u8) -> u8 {
 
 /// One of the numbers, or 0 where there are none.
 pub(crate) fn among(state: &mut u64, numbers: &[u64]) -> u64 {
-    let at = drawn(state, numbers.len() as u8);
+    let at = drawn(state, numbers.len().min(255) as u8);
     numbers.get(usize::from(at)).copied().unwrap_or(0)
 }
 
