@@ -54,7 +54,7 @@ fn league_after(alloc: Global, teams: u8, mv: Move) -> Result<League, Fail> {
 }
 
 /// A league in a circle that begins there.
-fn league_from(alloc: Global, teams: u8, beginning: Beginning) -> Result<League, Fail> {
+pub(crate) fn league_from(alloc: Global, teams: u8, beginning: Beginning) -> Result<League, Fail> {
     let mut league = league_after(alloc, teams, beginning.mv)?;
     for &round in beginning.kept {
         league.keep_round(round);

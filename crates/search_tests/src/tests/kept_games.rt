@@ -1,8 +1,9 @@
 //! Runs of workers on a league that keeps games of its start.
 
-use crate::tests::boards::{Beginning, begun};
+use crate::tests::boards::{Beginning, league_from};
 use crate::tests::checks::{check_holds, check_same};
-use fixture_board::Board;
+use fixture_board::{Board, cost_of};
+use league::{League, circular};
 use moves::Move;
 use search::{Outcome, SearchPlan, run};
 use std::alloc::Global;
@@ -11,13 +12,6 @@ use std::sync::Wait;
 use std::test::Fail;
 use std::thread::Threads;
 
-/// Two rounds of six teams are kept.
-const TWO_ROUNDS: Beginning = Beginning {
-    mv: Move::Homes { i: 1, j: 3 },
-    kept: &[0, 5],
-    near: 1,
-};
-
 /// All games of six teams are kept.
 const ALL_ROUNDS: Beginning = Beginning {
     mv: Move::Rounds { k: 2, l: 7 },
@@ -25,24 +19,43 @@ const ALL_ROUNDS: Beginning = Beginning {
     near: 0,
 };
 
-/// What so many workers come to.
+/// What so many workers come to on a new board of the league, if none of their moves costs too much.
 fn searched<R: Threads + Wait + Sync>(
     rt: &R,
     alloc: Global,
-    beginning: Beginning,
+    league: &League,
     workers: u32,
 ) -> Result<Outcome, Fail> {
-    let (league, board, _) = begun(alloc, 6, 4096, beginning)?;
+    let board = Board::new(alloc, league.duplicate(alloc)?, 4096)?;
     let plan = SearchPlan {
         workers,
         seed: 5,
         steps: 200,
         slack: u64::MAX,
     };
-    match run(rt, alloc, &league, board, plan) {
+    match run(rt, alloc, league, board, plan) {
         Ok(outcome) => Ok(outcome),
         Err(refused) => Err(refused.why.into()),
     }
+}
+
+/// A league in a circle that begins where a worker has come to, keeps two rounds and asks a price for leaving the start.
+fn drawn_league<R: Threads + Wait + Sync>(
+    rt: &R,
+    alloc: Global,
+    teams: u8,
+) -> Result<League, Fail> {
+    let mut league = circular(alloc, teams)?;
+    let outcome = searched(rt, alloc, &league, 1)?;
+    let start = outcome.board.schedule().duplicate(alloc)?;
+    if start.teams() != league.teams() {
+        return Err("another number of teams".into());
+    }
+    league.begin_at(start);
+    league.keep_round(0);
+    league.keep_round(teams);
+    league.set_near(30);
+    Ok(league)
 }
 
 /// How many games at home of the team are kept, or none if one of them isn't pinned in its round of the start.
@@ -75,12 +88,33 @@ fn check_standing(rt: &impl Abort, board: &Board, wanted: u32) {
     check_same(rt, &count, &wanted);
 }
 
+/// Teams and workers.
+const SEARCHES: [(u8, u32); 6] = [(4, 1), (6, 2), (8, 1), (10, 16), (20, 2), (40, 4)];
+
+/// Whatever the workers do, kept games stand, and the cost is that of the whole schedule.
+fn check_search<R: Threads + Wait + Sync + Abort>(
+    rt: &R,
+    alloc: Global,
+    teams: u8,
+    workers: u32,
+) -> Result<(), Fail> {
+    let league = drawn_league(rt, alloc, teams)?;
+    let outcome = searched(rt, alloc, &league, workers)?;
+    let board = &outcome.board;
+    check_standing(rt, board, u32::from(teams));
+    check_same(
+        rt,
+        &board.cost(),
+        &cost_of(board.schedule(), board.league()),
+    );
+    check_holds(rt, board.version() > 0);
+    Ok(())
+}
+
 #[test]
 fn kept_games_stand_whatever_workers_do(rt: HostRuntime) -> Result<(), Fail> {
-    for workers in [1, 2, 4, 16] {
-        let outcome = searched(&rt, rt.alloc(), TWO_ROUNDS, workers)?;
-        check_standing(&rt, &outcome.board, 6);
-        check_holds(&rt, outcome.board.version() > 0);
+    for (teams, workers) in SEARCHES {
+        check_search(&rt, rt.alloc(), teams, workers)?;
     }
     Ok(())
 }
@@ -91,7 +125,8 @@ fn check_none_made<R: Threads + Wait + Sync + Abort>(
     alloc: Global,
     workers: u32,
 ) -> Result<(), Fail> {
-    let outcome = searched(rt, alloc, ALL_ROUNDS, workers)?;
+    let league = league_from(alloc, 6, ALL_ROUNDS)?;
+    let outcome = searched(rt, alloc, &league, workers)?;
     for worker in 0..outcome.reports.len() {
         check_same(rt, &(worker, outcome.reports.at(worker).made), &(worker, 0));
     }
