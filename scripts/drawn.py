@@ -62,3 +62,10 @@ def league(draw, teams, form, rules):
         "start": draw.choice(["plain", "fide"]),
         "phased": draw.choice([True, False]),
     }
+
+
+def league_of(draw, sizes, most):
+    """A league of one of these sizes, in either format, with up to so many rules."""
+    teams, form = draw.choice(sizes), draw.choice([1, 2])
+    classes = [name for name in CLASSES if form == 2 or name != "FA2"]
+    return league(draw, teams, form, [rule(draw, teams, draw.choice(classes)) for _ in range(draw.randint(0, most))])

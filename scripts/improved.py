@@ -7,7 +7,7 @@ TOP = os.path.dirname(os.path.dirname(os.path.abspath(__file__)))
 
 
 def league(kind, teams, weight=100, extras=()):
-    """The text of a league of scripts/made-league. The phases of `improve` have hard weights of their own."""
+    """The text of a league of scripts/made-league. The legs of `improve` have hard weights of their own."""
     words = [f"{TOP}/scripts/made-league", kind, str(teams), str(weight), *extras]
     return subprocess.run(words, capture_output=True, check=True).stdout
 

@@ -142,6 +142,7 @@ fn try_move(
     let attempt = Attempt {
         exchange: &exchange,
         known: known.cost,
+        weight: league.hard_weight(),
         most: known.score.saturating_add(slack),
     };
     let Some(cost) = make_within(schedule, league, gaps, &attempt) else {

@@ -1,7 +1,6 @@
 //! The tests by subject, and what they share.
 
 mod answers;
-mod between_phases;
 mod boards;
 mod callers;
 mod changes;
@@ -18,7 +17,7 @@ mod memory;
 mod phased;
 mod pins;
 mod questions;
-mod resumed;
+mod rewinding;
 mod room;
 mod rules;
 mod seat_callers;
@@ -28,3 +27,4 @@ mod seats;
 mod starts_apart;
 mod steps;
 mod threads;
+mod trials;

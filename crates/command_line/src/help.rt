@@ -33,12 +33,13 @@ Example:
   (cat leagues/circular-4.json; echo script; echo 'homes 1 2'; echo undo) | ttp play --room 8";
 
 pub(crate) const IMPROVE_ABOUT: &str =
-    "Reads a league from standard input, searches in phases that it chooses by itself, and writes
-each better schedule as soon as it has it, then the history that leads to the best";
+    "Reads a league from standard input, anneals its schedule, and writes each better one as soon as
+it has it, then the history that leads to the best";
 
 pub(crate) const IMPROVE_EXAMPLE: &str =
-    "It needs no hard weight, slack or room. It can be ended at any time: what is written above a line
-`----------` is whole, and the last schedule there is the best so far (docs/improve.md).
+    "It chooses all numbers by itself, and writes the same whatever the number of workers. It can be
+ended at any time: what is written above a line `----------` is whole, and the last schedule there
+is the best so far (docs/improve.md).
 
 Example:
   ttp improve --workers 4 --effort 100 < leagues/circular-10.json";

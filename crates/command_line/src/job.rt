@@ -18,7 +18,7 @@ use search::SearchPlan;
 use std::alloc::{AllocError, Global};
 
 /// How many steps one unit of `--effort` stands for.
-const STEPS_OF_EFFORT: u32 = 1_000_000;
+const STEPS_OF_EFFORT: u64 = 1_000_000;
 
 /// What the program is asked to do.
 #[derive(Clone, Copy, Debug, PartialEq, Eq)]
@@ -29,11 +29,11 @@ pub enum Job {
     Play {
         room: u32,
     },
-    /// Look in phases for cheaper schedules of the league on standard input. The effort is in steps of all workers together.
+    /// Anneal the schedule of the league on standard input. The effort is in steps of all workers together.
     Improve {
         workers: u32,
         seed: u64,
-        effort: u32,
+        effort: u64,
     },
     /// Search for a cheaper schedule of the league on standard input, on a board with room for so many changes.
     Find {
@@ -97,7 +97,7 @@ fn improve_of(values: &ArgMatches) -> Job
     Job::Improve {
         workers: WORKERS.number(values) as u32,
         seed: SEED.number(values),
-        effort: EFFORT.number(values) as u32 * STEPS_OF_EFFORT,
+        effort: EFFORT.number(values) * STEPS_OF_EFFORT,
     }
 }
 

@@ -90,7 +90,7 @@ module _ (room : â„•) (plan : SearchPlan) (league : LeagueData) (bytes : List â„
       room_is = room_is;
       of_run = of_run;
       text_is = refl;
-      again = plays_back league room outcome.board.history limits (rw (of_run.ended.league, of_run.ended.room) at of_run.ended.legal);
+      again = plays_back league room outcome.board.history limits (rw (of_run.league, of_run.room) at of_run.legal);
     },
   )
 

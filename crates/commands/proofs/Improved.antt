@@ -2,7 +2,6 @@
 use Rattle.std.proofs.Common.{◌≡◌, ℕ, List, Option, Result, Ok, Err, inr}
 use Rattle.streams.specs.declared.tally.Tally.{Tally}
 use Rattle.league.specs.League.{LeagueData, league_of}
-use Rattle.search.specs.declared.runs.RunFault.TheVariants as run
 use Rattle.improvement.specs.declared.plan.ImproveFault.{ImproveFault}
 use Rattle.improvement.specs.declared.plan.ImproveFault.TheVariants as improve
 use Rattle.improvement.specs.declared.plan.ImprovePlan.{ImprovePlan}
@@ -30,10 +29,8 @@ module _ {R W : Type 0} {left : R → Option (List ℕ)} {pulls : R → Tally} (
 
   stopped : (why : ImproveFault) → Improves held pushes league plan before after (Err why) →
       EndsImproveBy left pulls held pushes plan old new before after (Err (of_improve why))
-  stopped (improve.Run run.Workers) is = (league, had, is)
-  stopped (improve.Run run.Spawn) is = (league, had, is)
-  stopped (improve.Run run.Receipts) is = (league, had, is)
-  stopped (improve.Run run.Memory) is = inr (league, had, is)
+  stopped improve.Workers is = (league, had, is)
+  stopped improve.Memory is = inr (league, had, is)
   stopped improve.Write is = (league, had, is)
 
   -- or didn't

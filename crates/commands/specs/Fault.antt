@@ -35,7 +35,8 @@ of_run run.Receipts = Receipts
 of_run run.Memory = Memory
 
 abbrev pub of_improve : ImproveFault → ProgramFault
-of_improve (improve.Run fault) = of_run fault
+of_improve improve.Workers = Workers
+of_improve improve.Memory = Memory
 of_improve improve.Write = Write
 
 -- the value of a command whose text was to be written, unless a write failed

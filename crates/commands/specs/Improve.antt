@@ -6,11 +6,10 @@ use Rattle.streams.specs.declared.tally.Tally.{Tally}
 use Rattle.league.specs.League.{LeagueData, league_of}
 use Rattle.improvement.specs.declared.plan.ImproveFault.{ImproveFault}
 use Rattle.improvement.specs.declared.plan.ImproveFault.TheVariants as improve
-use Rattle.search.specs.declared.runs.RunFault.TheVariants as run
 use Rattle.improvement.specs.declared.plan.ImprovePlan.{ImprovePlan}
 use Rattle.improvement.specs.Outcome.{Improves}
 use Rattle.commands.specs.declared.fault.ProgramFault.{ProgramFault}
-use Rattle.commands.specs.declared.fault.ProgramFault.TheVariants.{Read, League, Workers, Spawn, Receipts, Write, Memory}
+use Rattle.commands.specs.declared.fault.ProgramFault.TheVariants.{Read, League, Workers, Write, Memory}
 use Rattle.commands.specs.Outcome.{Answers, EndsBy}
 
 -- the first fault of the league's text
@@ -37,11 +36,9 @@ module _ {R W : Type 0} (left : R → Option (List ℕ)) (pulls : R → Tally) (
   -- Before a fault of reading or of the league nothing was written. Memory may be wanting while the league is read, or later
   abbrev pub EndsImproveBy : R → R → W → W → Result Unit ProgramFault → Type 0
   EndsImproveBy old new before after (Ok done) = ImprovesIt old new before after (Ok done)
-  EndsImproveBy old new before after (Err Workers) = ImprovesIt old new before after (Err (improve.Run run.Workers))
-  EndsImproveBy old new before after (Err Spawn) = ImprovesIt old new before after (Err (improve.Run run.Spawn))
-  EndsImproveBy old new before after (Err Receipts) = ImprovesIt old new before after (Err (improve.Run run.Receipts))
+  EndsImproveBy old new before after (Err Workers) = ImprovesIt old new before after (Err improve.Workers)
   EndsImproveBy old new before after (Err Write) = ImprovesIt old new before after (Err improve.Write)
-  EndsImproveBy old new before after (Err Memory) = (after ≡ before) ⊎ ImprovesIt old new before after (Err (improve.Run run.Memory))
+  EndsImproveBy old new before after (Err Memory) = (after ≡ before) ⊎ ImprovesIt old new before after (Err improve.Memory)
   EndsImproveBy old new before after result = EndsBy left pulls held pushes RefusesLeague old new before after result
 
   -- the command's whole outcome: how it ends, and how often it read

@@ -1,10 +1,9 @@
 -- The line that tells on a terminal how far the workers of a search, or of one run after another, are.
-use Rattle.std.specs.Prelude.{ℕ, ◌+◌, ◌-◌, ◌*◌, ◌/◌, ◌^◌, ◌||◌, min, max, nat_le, nat_lt, if◌then◌else◌, Bool, true}
-use Rattle.std.specs.Prelude.{false, List, [], Option, Some, None}
+use Rattle.std.specs.Prelude.{ℕ, ◌+◌, ◌-◌, ◌*◌, ◌/◌, ◌^◌, ◌||◌, min, max, nat_le, nat_lt, if◌then◌else◌, Bool}
+use Rattle.std.specs.Prelude.{false, Option, Some, None}
 use Rattle.std.specs.Time.{instant_nanos}
 use Rattle.std.specs.declared.time.Instant.{Instant}
 use Rattle.search.specs.declared.gates.Progress.{Progress}
-use Rattle.texts.specs.SearchText.{clear_line}
 use Rattle.commands.specs.declared.progress.Reached.{Reached}
 
 -- the lesser of two totals, each of which may be unknown
@@ -25,15 +24,15 @@ reached_with r p = record {
 abbrev pub millis : Instant → Instant → ℕ
 millis before now = (instant_nanos now - instant_nanos before) / 1_000_000
 
--- a line was taken away, or a quarter of a second has passed since it was written or first asked for
+-- a line is to come again, or a quarter of a second has passed since it was written, taken away or first asked for
 abbrev pub is_due : Bool → Option Instant → Instant → Bool
-is_due taken None now = false
-is_due taken (Some last) now = taken || nat_le 250 (millis last now)
+is_due again None now = false
+is_due again (Some last) now = again || nat_le 250 (millis last now)
 
--- when a line was last written or first asked for, after one more time
+-- when a line was last written, taken away or first asked for, after one more time
 abbrev pub last_after : Bool → Option Instant → Instant → Option Instant
-last_after taken None now = Some now
-last_after taken (Some last) now = if is_due taken (Some last) now then Some now else Some last
+last_after again None now = Some now
+last_after again (Some last) now = if is_due again (Some last) now then Some now else Some last
 
 -- the time that was noted, or this one if there was none
 abbrev pub first : Option Instant → Instant → Option Instant
@@ -48,8 +47,3 @@ pause_after pause (Some told) now =
     if nat_lt (millis told now) 8 then min pause 2048 * 2
     else if nat_lt 64 (millis told now) then max (pause / 2) 1
     else pause
-
--- what takes the line away if one stands
-abbrev pub line_to_clear : Bool → List ℕ
-line_to_clear false = []
-line_to_clear true = clear_line

@@ -103,7 +103,8 @@ impl From<ImproveFault> for ProgramFault {
 
     fn from(fault: ImproveFault) -> ProgramFault {
         match fault {
-            ImproveFault::Run(fault) => ProgramFault::from(fault),
+            ImproveFault::Workers => ProgramFault::Workers,
+            ImproveFault::Memory => ProgramFault::Memory,
             ImproveFault::Write => ProgramFault::Write,
         }
     }

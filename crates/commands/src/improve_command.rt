@@ -1,21 +1,21 @@
 //! The command `improve`.
 
 ghost use Rattle.std.specs.Prelude.{◌≤◌};
+ghost use Rattle.policy.specs.Limits.{most_effort};
 ghost use Rattle.commands.specs.Improve.{EndsImprove};
 
 use crate::fault::ProgramFault;
 use improvement::ImprovePlan;
 use league::read_league;
-use phases::MIN_EFFORT;
 use search::{Gate, Workplace};
 use std::sync::Wait;
 use std::thread::Threads;
 use streams::{Sink, Source, read_all};
 
-/// Reads a league to the end of the source, runs the phases of the policy on it, and writes a line for each phase and each
+/// Reads a league to the end of the source, anneals its schedule in the legs of the policy, and writes a line for each leg and each
 /// better schedule as soon as it is known, then the history that leads to the best. That history, given to `play` as a script,
 /// leads to the same best. Nothing is written before the faults of reading and a wrong number of workers are past. After any
-/// other fault what was written stands. The workers of all phases pass the workplace's gate, which is told how far they are.
+/// other fault what was written stands. The workplace's gate is told how far the legs are.
 ///
 /// The outcome is that of [`improve_from`]. What the source became is some later state of it, which nobody can ask.
 pub fn improve<T: Threads + Wait + Sync, G: Gate + Sync, R: Source + Drop, W: Sink>(
@@ -24,7 +24,8 @@ pub fn improve<T: Threads + Wait + Sync, G: Gate + Sync, R: Source + Drop, W: Si
     sink: &mut W,
     plan: ImprovePlan,
 ) -> Result<(), ProgramFault>
-    requires effort { MIN_EFFORT ≤ plan.effort }
+    requires least { 1 ≤ plan.effort }
+    requires most { plan.effort ≤ most_effort }
     ensures { (after : R)
         × EndsImprove R.left R.tally W.held W.tally plan source after sink.old sink.new result }
 {
@@ -38,7 +39,8 @@ pub fn improve_from<T: Threads + Wait + Sync, G: Gate + Sync, R: Source, W: Sink
     sink: &mut W,
     plan: ImprovePlan,
 ) -> Result<(), ProgramFault>
-    requires effort { MIN_EFFORT ≤ plan.effort }
+    requires least { 1 ≤ plan.effort }
+    requires most { plan.effort ≤ most_effort }
     ensures { EndsImprove R.left R.tally W.held W.tally plan source.old source.new sink.old sink.new result }
 {
     let alloc = workplace.alloc;

@@ -1,10 +1,10 @@
 //! The line that tells on a terminal how far a search is.
 
-ghost use Rattle.std.specs.Prelude.{◌≡◌, ◌||◌, OnOk, OnErr, Some, true, false};
+ghost use Rattle.std.specs.Prelude.{◌≡◌, OnOk, OnErr, Some, true, false};
 ghost use Rattle.std.specs.Io.KnownBytes.{Appends};
 ghost use Rattle.streams.specs.Sending.{AppendsPrefix};
-ghost use Rattle.texts.specs.SearchText.{progress_line};
-ghost use Rattle.commands.specs.Progress.{first, is_due, last_after, line_to_clear, pause_after, reached_with};
+ghost use Rattle.texts.specs.SearchText.{clear_line, progress_line};
+ghost use Rattle.commands.specs.Progress.{first, is_due, last_after, pause_after, reached_with};
 
 use search::{Gate, Progress, SearchPlan};
 use std::sync::atomic::{AtomicU32, Ordering};
@@ -26,9 +26,9 @@ const LATE: u128 = 64;
 const MOST_STEPS: u32 = 4096;
 
 /// Writes on a terminal how many steps the workers took, the latest version that one of them has, and the least total that
-/// they told of. The line is written a few times a second, each over the one before, and taken away when the workers have
-/// ended. If another run comes after that one, its first telling writes the line again. No worker waits for the terminal but the
-/// one that writes.
+/// they told of. The line is written a few times a second, each over the one before. At an end it is written a last time and taken
+/// away, so that a text can be written. If workers begin after that, the next telling writes it again. No worker waits for the
+/// terminal but the one that writes.
 #[derive(Drop)]
 pub struct ProgressLine<'a, C, W> {
     clock: &'a C,
@@ -58,8 +58,9 @@ impl<'a, C: Clock, W: Sink> ProgressLine<'a, C, W> {
             last: None,
             told: None,
             pause: 1,
-            shown: false,
+            written: false,
             taken: false,
+            again: false,
         };
         ProgressLine {
             clock,
@@ -103,7 +104,12 @@ impl<C: Clock, W: Sink> Gate for ProgressLine<'_, C, W> {
     }
 
     fn ended<R: Wait>(&self, rt: &R) {
-        let _ = self.line.lock(rt).clear();
+        let mut line = self.line.lock(rt);
+        if line.written {
+            let _ = line.show(*self.reached.lock(rt));
+            let _ = line.clear();
+            line.last = Instant::now(self.clock).ok().or(line.last);
+        }
     }
 }
 
@@ -135,22 +141,27 @@ struct Line<W> {
     terminal: W,
     /// How many steps the workers take in all.
     all: u64,
-    /// When the line was written last or, before the first one, was first asked for.
+    /// When the line was written or taken away last or, before the first one, was first asked for.
     last: Option<Instant>,
     /// When a worker last told.
     told: Option<Instant>,
     /// After how many steps a worker tells.
     pause: u32,
-    shown: bool,
+    /// Whether it was ever written.
+    written: bool,
     /// Whether it was taken away since it was last written.
     taken: bool,
+    /// Whether a worker has begun since then.
+    again: bool,
 }
 
 impl<W: Sink> Line<W> {
-    /// Notes when the first worker began.
+    /// Notes when the first worker began, and that one has.
     fn begin(&mut self, now: Instant)
-        ensures { self.new ≡ record self.old { last = first self.old.last now; told = first self.old.told now } }
+        ensures { self.new ≡ record self.old
+            { last = first self.old.last now; told = first self.old.told now; again = self.old.taken } }
     {
+        self.again = self.taken;
         self.last = self.last.or(Some(now));
         self.told = self.told.or(Some(now));
     }
@@ -170,14 +181,14 @@ impl<W: Sink> Line<W> {
         self.told = Some(now);
     }
 
-    /// Whether the line is to be written now: if it was taken away, or stood long enough. Notes the time if it is, or if this is asked
-    /// for the first time.
+    /// Whether the line is to be written now: if it is to come again, or stood or was away long enough. Notes the time if it is, or if
+    /// this is asked for the first time.
     fn is_due(&mut self, now: Instant) -> bool
-        ensures due { result ≡ is_due self.old.taken self.old.last now }
-        ensures last { self.new ≡ record self.old { last = last_after self.old.taken self.old.last now } }
+        ensures due { result ≡ is_due self.old.again self.old.last now }
+        ensures last { self.new ≡ record self.old { last = last_after self.old.again self.old.last now } }
     {
         let due = match self.last {
-            Some(last) => self.taken || PAUSE <= now.duration_since(last).as_millis(),
+            Some(last) => self.again || PAUSE <= now.duration_since(last).as_millis(),
             None => false,
         };
         if due || self.last.is_none() {
@@ -192,11 +203,13 @@ impl<W: Sink> Line<W> {
             (progress_line reached.steps self.old.all reached.version reached.least)) }
         ensures prefix { OnErr result (AppendsPrefix (W.held self.old.terminal) (W.held self.new.terminal)
             (progress_line reached.steps self.old.all reached.version reached.least)) }
-        ensures shown { self.new.shown ≡ true }
+        ensures written { self.new.written ≡ true }
         ensures taken { self.new.taken ≡ false }
+        ensures again { self.new.again ≡ false }
     {
-        self.shown = true;
+        self.written = true;
         self.taken = false;
+        self.again = false;
         let mut out = BufferedSink::new(&mut self.terminal);
         write_progress(
             &mut out,
@@ -208,19 +221,12 @@ impl<W: Sink> Line<W> {
         out.flush()
     }
 
-    /// Takes the line away if one stands.
+    /// Takes the line away.
     fn clear(&mut self) -> Result<(), WriteFault>
-        ensures ok { OnOk result (Appends (W.held self.old.terminal) (W.held self.new.terminal)
-            (line_to_clear self.old.shown)) }
-        ensures prefix { OnErr result (AppendsPrefix (W.held self.old.terminal) (W.held self.new.terminal)
-            (line_to_clear self.old.shown)) }
-        ensures shown { self.new.shown ≡ false }
-        ensures taken { self.new.taken ≡ (self.old.shown || self.old.taken) }
+        ensures ok { OnOk result (Appends (W.held self.old.terminal) (W.held self.new.terminal) clear_line) }
+        ensures prefix { OnErr result (AppendsPrefix (W.held self.old.terminal) (W.held self.new.terminal) clear_line) }
+        ensures taken { self.new.taken ≡ true }
     {
-        if !self.shown {
-            return Ok(());
-        }
-        self.shown = false;
         self.taken = true;
         let mut out = BufferedSink::new(&mut self.terminal);
         write_clear(&mut out)?;

@@ -10,13 +10,13 @@ pub mod Fitting
 pub mod Stand
 pub mod Next
 pub mod Sound
-pub mod Credits
+pub mod Callers
 pub mod Script
+pub mod Trials
 pub mod PinTable
 pub mod BegunTables
 pub mod PinsLooked
 pub mod Keeps
-pub mod Weighed
 pub mod Rewinding
 pub mod Reasons
 pub mod ForCallers

@@ -1,5 +1,5 @@
 -- The rest with the halves and the first of the rules costs no more than with all of them.
-use Rattle.std.proofs.Common.{◌≡◌, ℕ, ◌+◌, ◌*◌, ◌<◌, ◌≤◌, length, slice_get, Some, sym, ap, ◌∙◌, arith}
+use Rattle.std.proofs.Common.{◌≡◌, ℕ, ◌+◌, ◌*◌, ◌^◌, ◌<◌, ◌≤◌, length, slice_get, Some, sym, ap, ◌∙◌, arith}
 use Rattle.std.proofs.Math.Nat.{mul-le-mul_left}
 use Rattle.league.specs.League.{LeagueData, teams, IsLeague}
 use Rattle.league.specs.Sets.{has}
@@ -9,13 +9,13 @@ use Rattle.league.specs.declared.rule.Weight.{Weight}
 use Rattle.league.proofs.ForCallers.{sum_below_none, sum_below_more}
 use Rattle.fixtures.specs.Games.{Games}
 use Rattle.tours.specs.Phased.{unphased_part}
-use Rattle.fixture_board.specs.Costs.{cost_of, hard_penalty, soft_penalty, where_phased, score_of, score_limit}
+use Rattle.fixture_board.specs.Costs.{cost_of, hard_penalty, soft_penalty, where_phased, score_by, score_limit}
 use Rattle.fixture_board.specs.CostParts.{rule_part, rules_part, penalties_part, with_penalties, IsRest, IsSmall}
 use Rattle.fixture_board.specs.declared.cost.Cost.{Cost}
 use Rattle.fixture_board.specs.declared.scope.Scope.{Scope}
 use Rattle.fixture_board.proofs.PartLimits.{sum_below_grows}
 use Rattle.fixture_board.proofs.Parts.{same_cost}
-use Rattle.fixture_board.proofs.Scores.{cost_small, score_below}
+use Rattle.fixture_board.proofs.Scores.{cost_small, score_fits}
 
 -- the rest with the halves and the rules before this index
 pub record IsCountedTo (l : LeagueData) (scope : Scope) (g : Games) (rest : Cost) (index : ℕ) (cost : Cost) : Type 0 where
@@ -26,17 +26,17 @@ pub record IsCountedTo (l : LeagueData) (scope : Scope) (g : Games) (rest : Cost
       sum_below index (λ i. rule_part hard_penalty scope.main scope.turning g (slice_get l.rules i))
   pub soft : cost.soft ≡ rest.soft + sum_below index (λ i. rule_part soft_penalty scope.main scope.turning g (slice_get l.rules i))
 
--- a cost that the schedule's is not below, and that is small
-pub record IsNoMore (l : LeagueData) (g : Games) (cost : Cost) : Type 0 where
-  pub scores : score_of l cost ≤ score_of l (cost_of l g)
-  pub scored : score_of l cost < score_limit
+-- a cost whose score by a weight the schedule's is not below, and that is small
+pub record IsNoMore (l : LeagueData) (weight : ℕ) (g : Games) (cost : Cost) : Type 0 where
+  pub scores : score_by weight cost ≤ score_by weight (cost_of l g)
+  pub scored : score_by weight cost < 2 ^ 64
   pub hard : cost.hard < score_limit
   pub soft : cost.soft < score_limit
 
-pub no_more : {l : LeagueData} {scope : Scope} {g : Games} {rest cost : Cost} {index : ℕ} → IsLeague l → teams l ≡ g.teams →
-    IsRest l scope g rest → index ≤ length l.rules → IsCountedTo l scope g rest index cost → IsNoMore l g cost
+pub no_more : {l : LeagueData} {scope : Scope} {g : Games} {rest cost : Cost} {index : ℕ} (weight : ℕ) → weight < 2 ^ 32 → IsLeague l →
+    teams l ≡ g.teams → IsRest l scope g rest → index ≤ length l.rules → IsCountedTo l scope g rest index cost → IsNoMore l weight g cost
 unfolding rules_part
-no_more {l} {scope} {g} {rest} {cost} {index} league same whole within is =
+no_more {l} {scope} {g} {rest} {cost} {index} weight few league same whole within is =
     let grown : (penalty : Weight → ℕ → ℕ) →
     sum_below index (λ i. rule_part penalty scope.main scope.turning g (slice_get l.rules i)) ≤
     rules_part penalty l.rules scope.main scope.turning g =
@@ -46,9 +46,9 @@ no_more {l} {scope} {g} {rest} {cost} {index} league same whole within is =
     let soft : cost.soft ≤ (cost_of l g).soft =
     omega (arith, is.soft, grown soft_penalty, ap (λ (cost : Cost). cost.soft) whole) in
     let travel : cost.travel ≡ (cost_of l g).travel = is.travel ∙ ap (λ (cost : Cost). cost.travel) whole in
-    let weighed : l.hard_weight * cost.hard ≤ l.hard_weight * (cost_of l g).hard = mul-le-mul_left l.hard_weight hard in
+    let weighed : weight * cost.hard ≤ weight * (cost_of l g).hard = mul-le-mul_left weight hard in
     let small : IsSmall (cost_of l g) = cost_small l g league same in
-    let below : score_of l (cost_of l g) < score_limit = score_below l g league (sym same) in
+    let below : score_by weight (cost_of l g) < 2 ^ 64 = score_fits l g weight league (sym same) few in
     record {
       scores = omega (arith, travel, soft, weighed);
       scored = omega (arith, travel, soft, weighed, below);

@@ -1,5 +1,5 @@
 -- An exchange changes no more of the costs than their parts.
-use Rattle.std.proofs.Common.{◌≡◌, ℕ, ◌+◌, ◌*◌, ◌<◌, ◌≤◌, Bool, true, false, if◌then◌else◌, length, slice_get, Option, Some, None}
+use Rattle.std.proofs.Common.{◌≡◌, ℕ, ◌+◌, ◌*◌, ◌^◌, ◌<◌, ◌≤◌, Bool, true, false, if◌then◌else◌, length, slice_get, Option, Some, None}
 use Rattle.std.proofs.Common.{IfSome, refl, sym, ◌∙◌, ap, subst, arith, rules}
 use Rattle.std.specs.Option.{IsSome}
 use Rattle.std.proofs.Math.Nat.{mul-add, mul-le-mul_left}
@@ -25,14 +25,14 @@ use Rattle.tours.specs.Phased.{unphased, unphased_part}
 use Rattle.tours.specs.Tours.{travel}
 use Rattle.tours.proofs.ForCallers.{unphased_balance_around}
 use Rattle.robinx.proofs.ForCallers.{deviation_balance}
-use Rattle.fixture_board.specs.Costs.{hard_penalty, soft_penalty, penalty_of, sum_over_rules, where_phased, cost_of, score_of}
+use Rattle.fixture_board.specs.Costs.{hard_penalty, soft_penalty, penalty_of, sum_over_rules, where_phased, cost_of, score_by, score_of}
 use Rattle.fixture_board.specs.Costs.{near_cost, score_limit, IsCostWithin}
 use Rattle.fixture_board.specs.CostParts.{games_cost, rule_part, rules_part, penalties_part}
 use Rattle.fixture_board.specs.CostParts.{with_penalties, IsRest, IsScope, IsTold}
 use Rattle.fixture_board.specs.declared.scope.Scope.{Scope}
 use Rattle.fixture_board.specs.declared.cost.Cost.{Cost}
 use Rattle.fixture_board.specs.declared.penalties.Penalties.{Penalties}
-use Rattle.fixture_board.proofs.Scores.{cost_travel, exchanged-teams, score_below}
+use Rattle.fixture_board.proofs.Scores.{cost_travel, exchanged-teams, score_below, score_fits}
 
 -- what differs
 
@@ -184,56 +184,62 @@ unfolding cost_of
 near_le l g = omega arith
 
 -- penalties only add to a score
-score_grows : (l : LeagueData) (cost : Cost) (penalties : Penalties) → score_of l cost ≤ score_of l (with_penalties cost penalties)
-score_grows l cost penalties =
-    let weighed : l.hard_weight * cost.hard ≤ l.hard_weight * (cost.hard + penalties.hard) = mul-le-mul_left l.hard_weight (omega arith) in
+score_grows : (weight : ℕ) (cost : Cost) (penalties : Penalties) → score_by weight cost ≤ score_by weight (with_penalties cost penalties)
+score_grows weight cost penalties =
+    let weighed : weight * cost.hard ≤ weight * (cost.hard + penalties.hard) = mul-le-mul_left weight (omega arith) in
     omega (arith, weighed)
 
 pub score_after : (l : LeagueData) (g : Games) (exchange : Exchange) → IsLeague l → teams l ≡ g.teams →
     score_of l (cost_of l (exchanged_by g exchange)) < score_limit
 score_after l g exchange is same = score_below l (exchanged_by g exchange) is (exchanged-teams g exchange ∙ sym same)
 
+pub score_fits_after : (l : LeagueData) (g : Games) (exchange : Exchange) (weight : ℕ) → IsLeague l → teams l ≡ g.teams → weight < 2 ^ 32 →
+    score_by weight (cost_of l (exchanged_by g exchange)) < 2 ^ 64
+score_fits_after l g exchange weight is same = score_fits l (exchanged_by g exchange) weight is (exchanged-teams g exchange ∙ sym same)
+
 -- a told cost that is the cost after
-pub record IsWhole (l : LeagueData) (after : Games) (told : Cost) : Type 0 where
+pub record IsWhole (l : LeagueData) (weight : ℕ) (after : Games) (told : Cost) : Type 0 where
   pub is : told ≡ cost_of l after
-  pub score_is : score_of l told ≡ score_of l (cost_of l after)
+  pub score_is : score_by weight told ≡ score_by weight (cost_of l after)
+  pub fits : score_by weight told < 2 ^ 64
   pub small : score_of l told < score_limit
 
-pub told_alone : {l : LeagueData} {g : Games} {exchange : Exchange} {told : Cost} → IsTold l g exchange told → IsLeague l →
-    teams l ≡ g.teams → length l.rules ≡ 0 → l.phased ≡ false → IsWhole l (exchanged_by g exchange) told
-told_alone {l} {g} {exchange} {told} known is same none whole =
+pub told_alone : {l : LeagueData} {g : Games} {exchange : Exchange} {told : Cost} (weight : ℕ) → weight < 2 ^ 32 → IsTold l g exchange told →
+    IsLeague l → teams l ≡ g.teams → length l.rules ≡ 0 → l.phased ≡ false → IsWhole l weight (exchanged_by g exchange) told
+told_alone {l} {g} {exchange} {told} weight few known is same none whole =
     let cost_is : told ≡ cost_of l (exchanged_by g exchange) = told_whole l g exchange told known none whole in
     record {
       is = cost_is;
-      score_is = ap (score_of l) cost_is;
+      score_is = ap (score_by weight) cost_is;
+      fits = omega (arith, ap (score_by weight) cost_is, score_fits_after l g exchange weight is same few);
       small = omega (arith, ap (score_of l) cost_is, score_after l g exchange is same);
     }
 
 -- the travel is no more than the score
-pub travel_scores : (l : LeagueData) (g : Games) → travel l g ≤ score_of l (cost_of l g)
-travel_scores l g = omega (arith, cost_travel l g)
+pub travel_scores : (l : LeagueData) (weight : ℕ) (g : Games) → travel l g ≤ score_by weight (cost_of l g)
+travel_scores l weight g = omega (arith, cost_travel l g)
 
 -- nor the travel with some of the runs
-pub least_scores : (l : LeagueData) (g : Games) (runs : ℕ) → runs ≤ runs_over g l.at_most →
-    score_of l (record { travel = travel l g; hard = runs; soft = 0 }) ≤ score_of l (cost_of l g)
-least_scores l g runs some =
-    let weighed : l.hard_weight * runs ≤ l.hard_weight * (cost_of l g).hard =
-    mul-le-mul_left l.hard_weight (omega (arith, some, games_le l g)) in
+pub least_scores : (l : LeagueData) (weight : ℕ) (g : Games) (runs : ℕ) → runs ≤ runs_over g l.at_most →
+    score_by weight (record { travel = travel l g; hard = runs; soft = 0 }) ≤ score_by weight (cost_of l g)
+least_scores l weight g runs some =
+    let weighed : weight * runs ≤ weight * (cost_of l g).hard =
+    mul-le-mul_left weight (omega (arith, some, games_le l g)) in
     omega (arith, cost_travel l g, weighed)
 
-pub rest_scores : (l : LeagueData) (scope : Scope) (after : Games) (rest : Cost) → IsRest l scope after rest →
-    score_of l rest ≤ score_of l (cost_of l after)
-rest_scores l scope after rest is =
-    subst (λ cost. score_of l rest ≤ score_of l cost) is (score_grows l rest (penalties_part l scope after))
+pub rest_scores : (l : LeagueData) (weight : ℕ) (scope : Scope) (after : Games) (rest : Cost) → IsRest l scope after rest →
+    score_by weight rest ≤ score_by weight (cost_of l after)
+rest_scores l weight scope after rest is =
+    subst (λ cost. score_by weight rest ≤ score_by weight cost) is (score_grows weight rest (penalties_part l scope after))
 
 -- a cost within a limit is a small one
-pub within_is_small : (l : LeagueData) (g : Games) (most : ℕ) (cost : Option Cost) → IsCostWithin l most g cost →
+pub within_is_small : (l : LeagueData) (weight : ℕ) (g : Games) (most : ℕ) (cost : Option Cost) → IsCostWithin l weight most g cost →
     score_of l (cost_of l g) < score_limit → IfSome cost (λ cost. score_of l cost < score_limit)
-within_is_small l g most (Some cost) within below = subst (λ cost. score_of l cost < score_limit) (sym within.0) below
-within_is_small l g most None within below = tt
+within_is_small l weight g most (Some cost) within below = subst (λ cost. score_of l cost < score_limit) (sym within.0) below
+within_is_small l weight g most None within below = tt
 
 -- no score is above the greatest limit
-pub within_greatest : (l : LeagueData) (g : Games) (result : Option Cost) → IsCostWithin l 18446744073709551615 g result →
-    score_of l (cost_of l g) < score_limit → IsSome result
-within_greatest l g (Some cost) within below = search rules
-within_greatest l g None within below = absurd (omega (arith, within))
+pub within_greatest : (l : LeagueData) (weight : ℕ) (g : Games) (result : Option Cost) → IsCostWithin l weight 18446744073709551615 g result →
+    score_by weight (cost_of l g) < 2 ^ 64 → IsSome result
+within_greatest l weight g (Some cost) within below = search rules
+within_greatest l weight g None within below = absurd (omega (arith, within))

@@ -224,7 +224,7 @@ refused_call league old new v caller asked reason is view =
 
 pub granted_call : (league : LeagueData) (old new : Kept) (v : Book) (caller : ℕ) (asked : Ask) →
     IsGranted league old new asked → book league old.room old.history ≡ v →
-    (Done (length new.history + 1) new.cost ≡ reply_of v.league v.room v.history asked) ×
+    (Done (length (new.history ++ entry caller asked ∷ [])) new.cost ≡ reply_of v.league v.room v.history asked) ×
     (book league new.room (new.history ++ entry caller asked ∷ []) ≡ book v.league v.room (next_of v.league v.room v.history caller asked))
 granted_call league old new v caller asked is view =
     let kept : FollowsHistory league (entered new (entry caller asked)) = is.kept caller in
@@ -232,7 +232,9 @@ granted_call league old new v caller asked is view =
     kept.cost_is ∙
     ap (λ h. cost_at league (h ++ entry caller asked ∷ [])) is.same_history ∙
     cost_at-callers league old.history (entry caller asked) (entry 0 asked) refl in
+    let version : length (old.history ++ entry caller asked ∷ []) ≡ length old.history + 1 =
+    omega (arith, length-append old.history (entry caller asked ∷ [])) in
     rw (← view, is.same_history, is.same_room, cost) (
-      sym (replies_done league old.room old.history asked is.no_reason),
+      rw version (sym (replies_done league old.room old.history asked is.no_reason)),
       ap (book league old.room) (sym (accepted league old.room old.history caller asked is.no_reason)),
     )

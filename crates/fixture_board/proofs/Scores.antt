@@ -24,7 +24,7 @@ use Rattle.tours.specs.Runs.{windows, is_run, runs_of, runs_over}
 use Rattle.tours.specs.Repeats.{repeats_after, repeats}
 use Rattle.tours.specs.Phased.{is_unphased, unphased}
 use Rattle.robinx.specs.Deviations.{deviation}
-use Rattle.fixture_board.specs.Costs.{hard_penalty, soft_penalty, penalty_of, sum_over_rules, where_phased, cost_of, score_of}
+use Rattle.fixture_board.specs.Costs.{hard_penalty, soft_penalty, penalty_of, sum_over_rules, where_phased, cost_of, score_by, score_of}
 use Rattle.fixture_board.specs.Costs.{near_cost, score_limit}
 use Rattle.tours.specs.Moved.{is_moved, moved_from}
 use Rattle.fixture_board.specs.CostParts.{IsSmall}
@@ -205,6 +205,20 @@ score_below l g is same =
       travel_le l g is forty,
       soft_le l g is same forty,
       mul-le-mul is.weight_most (hard_le l g is same forty),
+    )
+
+-- by any weight of 32 bits each score fits 64 bits
+pub score_fits : (l : LeagueData) (g : Games) (weight : ℕ) → IsLeague l → g.teams ≡ teams l → weight < 2 ^ 32 →
+    score_by weight (cost_of l g) < 2 ^ 64
+score_fits l g weight is same few =
+    let forty : g.teams ≤ max_teams = omega (arith, is.table.most) in
+    let most : weight ≤ 4294967295 = omega arith in
+    omega (
+      arith,
+      cost_travel l g,
+      travel_le l g is forty,
+      soft_le l g is same forty,
+      mul-le-mul most (hard_le l g is same forty),
     )
 
 pub cost_small : (l : LeagueData) (g : Games) → IsLeague l → teams l ≡ g.teams → IsSmall (cost_of l g)

@@ -20,8 +20,7 @@ use Rattle.fixture_board.specs.History.{IsLegal, cost_at}
 use Rattle.fixture_board.specs.Replies.{change_of, is_bad, is_meeting, refusal_at, refusal, entry, next_of, reply_of}
 use Rattle.fixture_board.specs.Replies.{ask_of, played_from, answers_from}
 use Rattle.fixture_board.specs.Replay.{changes_of, under_caller_0, AllDone, IsReplayed}
-use Rattle.fixture_board.proofs.Credits.{credited-more, length-credited, effective-credited, games_of-credited}
-use Rattle.fixture_board.proofs.Credits.{pins_of-credited, best_of-credited}
+use Rattle.fixture_board.proofs.Callers.{under-more, length-under, effective-under, games_of-under, pins_of-under, best_of-under}
 use Rattle.fixture_board.proofs.OneMore.{games_of-more, accepted, replies_done}
 use Rattle.fixture_board.proofs.Scores.{IsScored, IsScored-league}
 use Rattle.fixture_board.proofs.Stand.{FitFrom, FitFrom-more, AllStand-fit, pinned_stands}
@@ -39,7 +38,7 @@ not_ahead at = le-ltb at at (omega arith)
 not_full : (at room : ℕ) → at < room → (at == room) ≡ false
 not_full at room under = ne_eqb at room (omega arith)
 
-granted-shift : (league : LeagueData) (room : ℕ) (h : List Entry) (mv : Move) → IsScored league → length h < room →
+pub granted-shift : (league : LeagueData) (room : ℕ) (h : List Entry) (mv : Move) → IsScored league → length h < room →
     Fits (games_of league h) (pins_of league h) (Shift mv) → refusal league room h (ask_of (length h) (Shift mv)) ≡ None
 unfolding refusal
 granted-shift league room h mv scored under fits =
@@ -104,13 +103,13 @@ refusal-under : (league : LeagueData) (room : ℕ) (h : List Entry) (change : Ch
 unfolding refusal
 refusal-under league room h change =
     ap (λ at. refusal_at league room at (length (effective (under_caller_0 h))) (games_of league (under_caller_0 h))
-    (pins_of league (under_caller_0 h)) (ask_of at change)) (length-credited 0 h) ∙
+    (pins_of league (under_caller_0 h)) (ask_of at change)) (length-under h) ∙
     ap (λ changes. refusal_at league room (length h) (length changes) (games_of league (under_caller_0 h))
-    (pins_of league (under_caller_0 h)) (ask_of (length h) change)) (effective-credited 0 h) ∙
+    (pins_of league (under_caller_0 h)) (ask_of (length h) change)) (effective-under h) ∙
     ap (λ g. refusal_at league room (length h) (length (effective h)) g (pins_of league (under_caller_0 h))
-    (ask_of (length h) change)) (games_of-credited league 0 h) ∙
+    (ask_of (length h) change)) (games_of-under league h) ∙
     ap (λ pins. refusal_at league room (length h) (length (effective h)) (games_of league h) pins
-    (ask_of (length h) change)) (pins_of-credited league 0 h)
+    (ask_of (length h) change)) (pins_of-under league h)
 
 -- a line after another
 
@@ -138,7 +137,7 @@ line-granted league room before e is under all may =
       next = accepted league room (under_caller_0 before) 0 ask none ∙
           ap (λ change. under_caller_0 before ++ record { caller = 0; change = change } ∷ [])
           (change_of-ask_of (length (under_caller_0 before)) e.change) ∙
-          sym (credited-more 0 before e);
+          sym (under-more before e);
       at = length (under_caller_0 before) + 1;
       cost = cost_at league (under_caller_0 before ++ entry 0 ask ∷ []);
       reply = replies_done league room (under_caller_0 before) ask none;
@@ -177,7 +176,7 @@ replayed league room h is legal =
     record {
       history = all.history;
       accepted = all.accepted;
-      games = games_of-credited league 0 h;
-      pins = pins_of-credited league 0 h;
-      best = best_of-credited league 0 h;
+      games = games_of-under league h;
+      pins = pins_of-under league h;
+      best = best_of-under league h;
     }

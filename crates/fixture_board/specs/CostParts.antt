@@ -91,10 +91,10 @@ pub record IsSmall (cost : Cost) : Type 0 where
   pub hard : cost.hard < score_limit
   pub soft : cost.soft < score_limit
 
--- what a deviation of 1 from a rule of this weight adds to the score
-abbrev pub score_weight : LeagueData → Weight → ℕ
-score_weight l Hard = l.hard_weight
-score_weight l (Soft weight) = weight
+-- what a deviation of 1 from a rule of this weight adds to the score by a weight of hard breaches
+abbrev pub score_weight : ℕ → Weight → ℕ
+score_weight hard_weight Hard = hard_weight
+score_weight hard_weight (Soft weight) = weight
 
 -- whether the rule is of class FA2 and asks this
 unfoldable pub asks : RuleBody → Fairness → Bool
@@ -102,13 +102,13 @@ asks (Fa2 teams slots most) asked = teams == asked.teams && slots == asked.slots
 asks body asked = false
 
 -- what a deviation of 1 adds to the score from the rule that stands somewhere, if it asks this
-abbrev pub weight_at : LeagueData → Fairness → Option Rule → ℕ
-weight_at l asked None = 0
-weight_at l asked (Some rule) = if asks rule.body asked then score_weight l rule.weight else 0
+abbrev pub weight_at : ℕ → Fairness → Option Rule → ℕ
+weight_at hard_weight asked None = 0
+weight_at hard_weight asked (Some rule) = if asks rule.body asked then score_weight hard_weight rule.weight else 0
 
 -- the sum over all rules, by their indices
-unfoldable pub weight_of : LeagueData → Fairness → ℕ
-weight_of l asked = sum_below (length l.rules) (λ i. weight_at l asked (slice_get l.rules i))
+unfoldable pub weight_of : LeagueData → ℕ → Fairness → ℕ
+weight_of l hard_weight asked = sum_below (length l.rules) (λ i. weight_at hard_weight asked (slice_get l.rules i))
 
 -- what the rule asks if it is of class FA2, and else what was asked earlier
 unfoldable pub asked_by : RuleBody → Option Fairness → Option Fairness
@@ -136,7 +136,7 @@ pub record IsFound (l : LeagueData) (rule : Rule) (asked : Fairness) : Type 0 wh
 abbrev pub asked_part : LeagueData → Scope → Games → Option Fairness → ℕ
 asked_part l scope g None = 0
 asked_part l scope g (Some asked) =
-    weight_of l asked * deviation_part g scope.main.teams scope.main.rounds scope.turning (Fa2 asked.teams asked.slots asked.most)
+    weight_of l scope.attempt.weight asked * deviation_part g scope.main.teams scope.main.rounds scope.turning (Fa2 asked.teams asked.slots asked.most)
 
 -- the same of those that ask what the last rule of class FA2 does
 abbrev pub fairness_part : LeagueData → Scope → Games → ℕ

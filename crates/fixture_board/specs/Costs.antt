@@ -50,19 +50,23 @@ cost_of l g = record {
   soft = sum_over_rules soft_penalty l.rules g + near_cost l g;
 }
 
--- what is compared if hard limits may be broken
+-- what is compared if hard limits may be broken, with this weight for each breach of one
+abbrev pub score_by : ℕ → Cost → ℕ
+score_by weight cost = cost.travel + cost.soft + weight * cost.hard
+
+-- the same by the league's weight
 abbrev pub score_of : LeagueData → Cost → ℕ
-score_of l cost = cost.travel + cost.soft + l.hard_weight * cost.hard
+score_of l cost = score_by l.hard_weight cost
 
 -- what is compared among schedules that break none
 abbrev pub total_of : Cost → ℕ
 total_of cost = cost.travel + cost.soft
 
--- the cost of the games if their score is at most this, and none if it is more
-abbrev pub IsCostWithin : LeagueData → ℕ → Games → Option Cost → Type 0
-IsCostWithin l most g (Some cost) = (cost ≡ cost_of l g) × (score_of l cost ≤ most)
-IsCostWithin l most g None = most < score_of l (cost_of l g)
+-- the cost of the games if their score by this weight is at most this, and none if it is more
+abbrev pub IsCostWithin : LeagueData → ℕ → ℕ → Games → Option Cost → Type 0
+IsCostWithin l weight most g (Some cost) = (cost ≡ cost_of l g) × (score_by weight cost ≤ most)
+IsCostWithin l weight most g None = most < score_by weight (cost_of l g)
 
--- no score of a league's schedules reaches this
+-- no score of a league's schedules by its own weight reaches this
 abbrev pub score_limit : ℕ
 score_limit = 10 ^ 16

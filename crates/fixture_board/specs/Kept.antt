@@ -1,5 +1,5 @@
 -- What a board keeps behind what it shows.
-use Rattle.std.specs.Prelude.{◌≡◌, ℕ, ◌+◌, ◌<◌, ◌≤◌, Bool, if◌then◌else◌, List, [], ◌∷◌, ◌++◌, length, Option, Some}
+use Rattle.std.specs.Prelude.{◌≡◌, ℕ, ◌+◌, ◌<◌, ◌≤◌, Bool, true, false, if◌then◌else◌, List, [], ◌∷◌, ◌++◌, length, Option, Some}
 use Rattle.std.specs.Prelude.{None, ◌&&◌, ◌==◌, nat_lt, Result, Ok, Err}
 use Rattle.std.specs.Vec.{vec_capacity}
 use Rattle.league.specs.Limits.{max_teams}
@@ -14,10 +14,12 @@ use Rattle.fixture_board.specs.declared.cost.Best.{Best}
 use Rattle.fixture_board.specs.declared.cost.Cost.{Cost}
 use Rattle.fixture_board.specs.declared.reply.Why.{Why}
 use Rattle.fixture_board.specs.declared.state.State.{State}
+use Rattle.fixture_board.specs.declared.trial.Trial.{Trial}
 use Rattle.fixture_board.specs.Costs.{score_of, score_limit, total_of}
 use Rattle.fixture_board.specs.History.{effective, games_of, pins_of, cost_at, best_prefix, best_at, max_room, IsLegal}
 use Rattle.fixture_board.specs.PinTable.{ArePinsAt, pin_entries}
 use Rattle.fixture_board.specs.Replies.{refusal, entry}
+use Rattle.fixture_board.specs.Trials.{passes, trial_entry}
 
 -- the kept best, and the schedule beside it, are those of the best prefix
 abbrev pub IsLeader : LeagueData → Option (List Entry) → Option Best → Games → Type 0
@@ -101,6 +103,23 @@ pub record IsGranted (league : LeagueData) (old new : Kept) (asked : Ask) : Type
 abbrev pub IsStep : LeagueData → Kept → Kept → Ask → Result (Unit {0}) Why → Type 0
 IsStep league old new asked (Ok done) = IsGranted league old new asked
 IsStep league old new asked (Err why) = IsRefused league old new asked why
+
+-- a trial that doesn't make its move leaves all as it was
+pub record IsLeft (league : LeagueData) (old new : Kept) (trial : Trial) : Type 0 where
+  pub fails : passes league old.room old.history trial ≡ false
+  pub same : new ≡ old
+
+-- a trial that makes its move makes all of it but the entry
+pub record IsMade (league : LeagueData) (old new : Kept) (trial : Trial) : Type 0 where
+  pub passed : passes league old.room old.history trial ≡ true
+  pub same_room : new.room ≡ old.room
+  pub same_history : new.history ≡ old.history
+  pub under : length new.history < new.room
+  pub kept : (caller : ℕ) → FollowsHistory league (entered new (trial_entry caller trial))
+
+abbrev pub IsTried : LeagueData → Kept → Kept → Trial → Option Cost → Type 0
+IsTried league old new trial None = IsLeft league old new trial
+IsTried league old new trial (Some cost) = IsMade league old new trial × (cost ≡ new.cost)
 
 -- the change can be taken back from this schedule
 abbrev pub CanTakeBack : Games → Change → Type 0

@@ -2,9 +2,8 @@ pub mod Costs
 pub mod CostParts
 pub mod History
 pub mod Replies
+pub mod Trials
 pub mod Record
-pub mod Weights
-pub mod Credited
 pub mod Rewound
 pub mod Replay
 pub mod PinTable

@@ -5,7 +5,6 @@ use Rattle.fixture_board.specs.declared.change.Change.{Change}
 use Rattle.fixture_board.specs.declared.change.Entry.{Entry}
 use Rattle.fixture_board.specs.declared.reply.Reply.{Reply}
 use Rattle.fixture_board.specs.declared.reply.Reply.TheVariants.{Done, No}
-use Rattle.fixture_board.specs.Credited.{credited}
 use Rattle.fixture_board.specs.History.{games_of, pins_of, best_of}
 use Rattle.fixture_board.specs.Replies.{played_from, answers_from}
 
@@ -16,7 +15,8 @@ changes_of (e ∷ es) = e.change ∷ changes_of es
 
 -- the same changes under caller 0
 abbrev pub under_caller_0 : List Entry → List Entry
-under_caller_0 = credited 0
+under_caller_0 [] = []
+under_caller_0 (e ∷ es) = record { caller = 0; change = e.change } ∷ under_caller_0 es
 
 abbrev pub AllDone : List Reply → Type 0
 AllDone [] = Unit {0}

@@ -10,6 +10,7 @@ ghost use Rattle.fixture_board.specs.Record.{book};
 ghost use Rattle.fixture_board.specs.declared.change.Entry.{Entry};
 
 mod calls;
+mod copies;
 
 use crate::change::Entry;
 use crate::cost::{Best, Cost};

@@ -16,7 +16,7 @@ pub struct Cost {
 
 impl Cost {
     ghost use Rattle.std.specs.Prelude.{◌≡◌, ◌^◌, ◌<◌, ◌==◌};
-    ghost use Rattle.fixture_board.specs.Costs.{score_of, total_of};
+    ghost use Rattle.fixture_board.specs.Costs.{score_by, score_of, total_of};
     ghost use Rattle.fixture_board.specs.CostParts.{may_break};
 
     /// What is compared if hard limits may be broken: travel and soft, and the league's hard weight for each
@@ -25,7 +25,15 @@ impl Cost {
         requires { score_of league.now self < 2 ^ 64 }
         ensures { result ≡ score_of league.now self }
     {
-        self.total() + u64::from(league.hard_weight()) * self.hard
+        self.score_by(league.hard_weight())
+    }
+
+    /// The same with this weight for each breach of a hard limit.
+    pub fn score_by(self, weight: u32) -> u64
+        requires { score_by weight self < 2 ^ 64 }
+        ensures { result ≡ score_by weight self }
+    {
+        self.total() + u64::from(weight) * self.hard
     }
 
     /// What is compared among feasible schedules: travel and soft.

@@ -7,7 +7,7 @@ ghost use Rattle.league.specs.Limits.{max_teams};
 ghost use Rattle.league.specs.Sets.{has};
 ghost use Rattle.tours.specs.Phased.{unphased_part};
 ghost use Rattle.moves.specs.Exchanges.{exchanged_by};
-ghost use Rattle.fixture_board.specs.Costs.{cost_of, score_of, where_phased, IsCostWithin};
+ghost use Rattle.fixture_board.specs.Costs.{cost_of, score_by, where_phased, IsCostWithin};
 ghost use Rattle.fixture_board.specs.CostParts.{IsRest, IsScope, IsTold};
 
 use crate::cost::Cost;
@@ -59,14 +59,15 @@ pub(crate) fn rest_within(
     requires same_size { teams league.now ≡ schedule.now.teams }
     requires scope { IsScope schedule.now scope.now }
     requires known { scope.now.attempt.known ≡ cost_of league.now schedule.now }
+    requires weight { 1 ≤ scope.now.attempt.weight }
     requires told { IsTold league.now schedule.now scope.now.attempt.exchange.now told }
     ensures { MatchOption result
-        (scope.now.attempt.most < score_of league.now (cost_of league.now (exchanged_by schedule.now scope.now.attempt.exchange.now)))
+        (scope.now.attempt.most < score_by scope.now.attempt.weight (cost_of league.now (exchanged_by schedule.now scope.now.attempt.exchange.now)))
         (λ rest. IsRest league.now scope.now (exchanged_by schedule.now scope.now.attempt.exchange.now) rest) }
 {
     prove_eq!(league.teams(), schedule.teams());
     let rest = rest_of(schedule, league, gaps, scope, told);
-    let score = rest.score(league);
+    let score = rest.score_by(scope.attempt.weight);
     let most = scope.attempt.most;
     if score > most || !leaves_room(schedule, league, gaps, scope, most - score) {
         return None;
@@ -85,17 +86,17 @@ pub(crate) fn whole_within(
 ) -> Option<Cost>
     requires same_size { teams league.now ≡ schedule.now.teams }
     requires rest { IsRest league.now scope.now schedule.now rest }
-    ensures { IsCostWithin league.now scope.now.attempt.most schedule.now result }
+    ensures { IsCostWithin league.now scope.now.attempt.weight scope.now.attempt.most schedule.now result }
 {
     prove_eq!(league.teams(), schedule.teams());
-    let most = scope.attempt.most;
+    let (weight, most) = (scope.attempt.weight, scope.attempt.most);
     let mut cost = Cost {
         hard: rest.hard + phases_part(schedule, league, scope.main),
         ..rest
     };
     let mut parts = PartCounter::new(schedule, scope.main, scope.turning);
     for i in 0..league.rule_count() {
-        if cost.score(league) > most {
+        if cost.score_by(weight) > most {
             return None;
         }
         let rule = league.rule(i);
@@ -103,7 +104,7 @@ pub(crate) fn whole_within(
         cost.hard += added.hard;
         cost.soft += added.soft;
     }
-    if cost.score(league) > most {
+    if cost.score_by(weight) > most {
         return None;
     }
     Some(cost)

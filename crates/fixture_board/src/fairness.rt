@@ -1,8 +1,7 @@
 //! What the rules of class FA2 that ask what the last one does add to the score after an exchange, told before it is made.
 
-ghost use Rattle.std.specs.Prelude.{◌≡◌, ◌≤◌, length, nat_le, option_map, IfSome};
+ghost use Rattle.std.specs.Prelude.{◌≡◌, ◌^◌, ◌<◌, ◌≤◌, length, nat_le, option_map, IfSome};
 ghost use Rattle.league.specs.League.{teams};
-ghost use Rattle.league.specs.Limits.{max_weight};
 ghost use Rattle.league.specs.RuleLimits.{IsWeight};
 ghost use Rattle.moves.specs.Exchanges.{exchanged_by};
 ghost use Rattle.fixture_board.specs.CostParts.{asks, fairness_part, last_fairness, score_weight, weight_of, IsFound, IsScope};
@@ -23,6 +22,7 @@ pub(crate) fn leaves_room(
 ) -> bool
     requires same_size { teams league.now ≡ schedule.now.teams }
     requires scope { IsScope schedule.now scope.now }
+    requires weight { 1 ≤ scope.now.attempt.weight }
     ensures { result ≡
         nat_le (fairness_part league.now scope.now (exchanged_by schedule.now scope.now.attempt.exchange.now)) left }
 {
@@ -40,7 +40,7 @@ pub(crate) fn leaves_room(
         schedule,
         turned,
         &fairness,
-        left / weight_of(league, &fairness),
+        left / weight_of(league, scope.attempt.weight, &fairness),
         gaps,
     )
 }
@@ -63,14 +63,14 @@ fn last_fairness(league: &League) -> Option<(&Rule, Fairness)>
 
 /// What a deviation of 1 adds to the score from all rules that ask this.
 #[tactic(auto, using(league::proofs::ForCallers::sums), unfolding(crate::specs::CostParts::weight_of))]
-fn weight_of(league: &League, asked: &Fairness) -> u64
-    ensures { result ≡ weight_of league.now asked.now }
+fn weight_of(league: &League, hard_weight: u32, asked: &Fairness) -> u64
+    ensures { result ≡ weight_of league.now hard_weight asked.now }
 {
     let mut weight = 0;
     for i in 0..league.rule_count() {
         let rule = league.rule(i);
         if asks(rule, asked) {
-            weight += score_weight(league, rule.weight);
+            weight += score_weight(hard_weight, rule.weight);
         }
     }
     weight
@@ -90,13 +90,13 @@ fn asks(rule: &Rule, asked: &Fairness) -> bool
 }
 
 /// What a deviation of 1 from a rule of this weight adds to the score.
-fn score_weight(league: &League, weight: Weight) -> u64
+fn score_weight(hard_weight: u32, weight: Weight) -> u64
     requires { IsWeight weight }
-    ensures value { result ≡ score_weight league.now weight }
-    ensures most { result ≤ max_weight }
+    ensures value { result ≡ score_weight hard_weight weight }
+    ensures most { result < 2 ^ 32 }
 {
     match weight {
-        Weight::Hard => u64::from(league.hard_weight()),
+        Weight::Hard => u64::from(hard_weight),
         Weight::Soft(weight) => u64::from(weight),
     }
 }

@@ -8,9 +8,9 @@ ghost use Rattle.fixture_board.specs.History.{IsLegal, best_prefix, IsBestOf};
 ghost use Rattle.fixture_board.specs.Replies.{entry, next_of, reply_of};
 ghost use Rattle.fixture_board.specs.Replay.{IsReplayed};
 ghost use Rattle.fixture_board.specs.Laws.{least_of, TellsOf, IsSound};
-ghost use Rattle.fixture_board.specs.Credited.{IsSameCredited};
 ghost use Rattle.fixture_board.specs.Rewound.{IsSameBestRewound};
-ghost use Rattle.fixture_board.specs.Weights.{IsSameReweighted};
+ghost use Rattle.fixture_board.specs.Trials.{trial_cost, trial_entry, trial_history, TellsOfTrial};
+ghost use Rattle.fixture_board.specs.declared.trial.Trial.{Trial};
 
 /// The empty history is legal.
 pub fn empty_history_is_legal()
@@ -27,6 +27,18 @@ pub fn next_history_is_legal()
 pub fn answer_tells_history()
     ensures { (league : LeagueData) (room : ℕ) (h : List Entry) (caller : ℕ) (ask : Ask) →
         TellsOf league h (entry caller ask) (next_of league room h caller ask) (reply_of league room h ask) }
+{}
+
+/// After a trial of any caller the history is legal if it was so before.
+pub fn trial_is_legal()
+    ensures { (league : LeagueData) (room : ℕ) (h : List Entry) (caller : ℕ) (trial : Trial) →
+        IsLegal league room h → IsLegal league room (trial_history league room h caller trial) }
+{}
+
+/// The answer to a trial tells the history after it: the one before with the caller's entry, or the one before.
+pub fn trial_tells_history()
+    ensures { (league : LeagueData) (room : ℕ) (h : List Entry) (caller : ℕ) (trial : Trial) →
+        TellsOfTrial league h (trial_entry caller trial) (trial_history league room h caller trial) (trial_cost league room h trial) }
 {}
 
 /// The schedule of a legal history is a double round robin, and has the pinned games.
@@ -50,18 +62,6 @@ pub fn best_never_rises()
 pub fn replay()
     ensures { (league : LeagueData) (room : ℕ) (h : List Entry) →
         IsLeague league → IsLegal league room h → IsReplayed league room h }
-{}
-
-/// Under another weight of hard limits a history is legal if it was so before, with the same games, cost and best. Its
-/// changes in effect and its pins are no functions of the league.
-pub fn weight_is_for_scores_alone()
-    ensures { (league : LeagueData) (weight room : ℕ) (h : List Entry) → IsSameReweighted league weight room h }
-{}
-
-/// With all its changes under one caller a history is legal if it was so before, with the same changes in effect, games,
-/// pins, cost and best.
-pub fn callers_are_names_alone()
-    ensures { (league : LeagueData) (room caller : ℕ) (h : List Entry) → IsSameCredited league room caller h }
 {}
 
 /// A history that is taken back to its best version is legal if it was so before, with the same best.

@@ -1,6 +1,6 @@
 //! An exchange that is made on a schedule of known cost: always, or if the score after is within a limit.
 
-ghost use Rattle.std.specs.Prelude.{◌≡◌, ◌<◌, IfSome, MatchOption};
+ghost use Rattle.std.specs.Prelude.{◌≡◌, ◌<◌, ◌≤◌, IfSome, MatchOption};
 ghost use Rattle.league.specs.League.{teams};
 ghost use Rattle.moves.specs.Exchanges.{exchanged_by, IsExchange};
 ghost use Rattle.fixture_board.specs.Costs.{cost_of, score_of, score_limit, IsCostWithin};
@@ -37,14 +37,16 @@ pub fn make_at_cost(
     let attempt = Attempt {
         exchange,
         known,
+        weight: 1,
         most: u64::MAX,
     };
     make_within(schedule, league, gaps, &attempt).unwrap()
 }
 
-/// Makes the exchange of an attempt as `make_at_cost` does if the score after is at most the greatest allowed, and gives the cost
-/// after. Otherwise the schedule is left as it was, and what costs little to count is counted first: travel, runs and repeats, then some
-/// rules on fairness, for all of which nothing is made, and last the other rules. What FA2 counts is kept in `gaps`. Takes no memory.
+/// Makes the exchange of an attempt as `make_at_cost` does if the score after by the attempt's weight is at most the greatest allowed, and
+/// gives the cost after. Otherwise the schedule is left as it was, and what costs little to count is counted first: travel, runs and repeats,
+/// then some rules on fairness, for all of which nothing is made, and last the other rules. What FA2 counts is kept in `gaps`. Takes no
+/// memory.
 pub fn make_within(
     schedule: &mut Schedule,
     league: &League,
@@ -54,7 +56,8 @@ pub fn make_within(
     requires same_size { teams league.now ≡ schedule.old.teams }
     requires can_be_made { IsExchange schedule.old attempt.now.exchange.now }
     requires known { attempt.now.known ≡ cost_of league.now schedule.old }
-    ensures value { IsCostWithin league.now attempt.now.most (exchanged_by schedule.old attempt.now.exchange.now) result }
+    requires weight { 1 ≤ attempt.now.weight }
+    ensures value { IsCostWithin league.now attempt.now.weight attempt.now.most (exchanged_by schedule.old attempt.now.exchange.now) result }
     ensures schedule { MatchOption result (schedule.new ≡ schedule.old)
         (λ cost. schedule.new ≡ exchanged_by schedule.old attempt.now.exchange.now) }
     ensures again { IsExchange schedule.new attempt.now.exchange.now }
@@ -64,9 +67,8 @@ pub fn make_within(
     prove_eq!(league.teams(), schedule.teams());
     let told = told_within(schedule, league, attempt)?;
     let exchange = attempt.exchange;
-    let most = attempt.most;
     if league.rule_count() == 0 && !league.phased() {
-        if told.score(league) > most {
+        if told.score_by(attempt.weight) > attempt.most {
             return None;
         }
         exchange.make(schedule);

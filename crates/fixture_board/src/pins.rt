@@ -63,6 +63,16 @@ impl Pins {
         })
     }
 
+    /// The same with memory of its own.
+    pub(crate) fn duplicate(&self, alloc: Global) -> Result<Pins, AllocError>
+        ensures { IfOk result (λ p. p ≡ self.now) }
+    {
+        Ok(Pins {
+            rounds: Vec::from_slice(alloc, &self.rounds)?,
+            pairs: self.pairs.duplicate(),
+        })
+    }
+
     /// Whether the game of the pair is pinned.
     pub(crate) fn has(&self, home: u8, away: u8) -> bool
         requires home { home < max_teams }

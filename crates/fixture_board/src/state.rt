@@ -1,17 +1,14 @@
 //! What a board keeps beside its league.
 
 mod checks;
+mod copies;
 mod rewind;
 mod steps;
-
-ghost use Rattle.std.specs.Prelude.{◌≡◌};
-ghost use Rattle.fixture_board.specs.Credited.{credited};
 
 use crate::best::keep_best;
 use crate::change::{Change, Entry};
 use crate::cost::{Best, Cost};
 use crate::pins::Pins;
-use crate::reply::Reply;
 use crate::whole_cost::cost_of;
 use fixtures::Schedule;
 use league::League;
@@ -39,7 +36,6 @@ pub(crate) struct State {
 impl State {
     ghost use Rattle.std.specs.Prelude.{◌≡◌, ◌+◌, ◌^◌, ◌<◌, ◌≤◌, [], length, IfOk};
     ghost use Rattle.fixture_board.specs.Costs.{total_of};
-    ghost use Rattle.fixture_board.specs.Credited.{credited};
     ghost use Rattle.fixture_board.specs.History.{max_room};
     ghost use Rattle.fixture_board.specs.Kept.{kept_of, entered, HasMemory, FollowsHistory};
 
@@ -81,44 +77,21 @@ impl State {
     }
 
     /// Enters a change that was made: it comes into the history, and the best version is kept.
-    pub(crate) fn enter(&mut self, entry: Entry) -> Reply
+    pub(crate) fn enter(&mut self, entry: Entry)
         requires memory { HasMemory self.old }
         requires under { length self.old.history.items < self.old.room }
         requires total { total_of self.old.cost < 2 ^ 64 }
         ensures memory { HasMemory self.new }
         ensures entered { kept_of self.new ≡ entered (kept_of self.old) entry }
-        ensures reply { result ≡ Reply.Done (length self.old.history.items + 1) self.old.cost }
     {
         self.history.push_reserved(entry);
         let at = self.version();
-        let cost = self.cost;
         keep_best(
             &mut self.best,
             &mut self.best_schedule,
             &self.schedule,
-            cost,
+            self.cost,
             at,
         );
-        Reply::Done { at, cost }
-    }
-
-    /// Puts all changes under one caller.
-    pub(crate) fn credit(&mut self, caller: u32)
-        requires memory { HasMemory self.old }
-        ensures memory { HasMemory self.new }
-        ensures credited { kept_of self.new ≡ record (kept_of self.old) {
-          history = credited caller self.old.history.items;
-        } }
-    {
-        put_under(&mut self.history, caller);
-    }
-}
-
-/// Puts each entry under the caller.
-fn put_under(history: &mut [Entry], caller: u32)
-    ensures { history.new ≡ credited caller history.old }
-{
-    for entry in history.iter_mut() {
-        entry.caller = caller;
     }
 }

@@ -8,7 +8,7 @@ ghost use Rattle.tours.specs.Repeats.{repeats};
 ghost use Rattle.tours.specs.Runs.{runs_over};
 ghost use Rattle.tours.specs.Tours.{travel};
 ghost use Rattle.moves.specs.Exchanges.{exchanged_by, IsExchange};
-ghost use Rattle.fixture_board.specs.Costs.{cost_of, near_cost, score_of};
+ghost use Rattle.fixture_board.specs.Costs.{cost_of, near_cost, score_by};
 ghost use Rattle.fixture_board.specs.CostParts.{IsTold};
 
 use crate::attempt::Attempt;
@@ -33,7 +33,7 @@ pub(crate) fn told_within(
     requires can_be_made { IsExchange schedule.now attempt.now.exchange.now }
     requires known { attempt.now.known ≡ cost_of league.now schedule.now }
     ensures { MatchOption result
-        (attempt.now.most < score_of league.now (cost_of league.now (exchanged_by schedule.now attempt.now.exchange.now)))
+        (attempt.now.most < score_by attempt.now.weight (cost_of league.now (exchanged_by schedule.now attempt.now.exchange.now)))
         (λ told. IsTold league.now schedule.now attempt.now.exchange.now told) }
 {
     prove_eq!(league.teams(), schedule.teams());
@@ -49,7 +49,7 @@ pub(crate) fn told_within(
         hard: runs.after,
         soft: 0,
     };
-    if least.score(league) > most {
+    if least.score_by(attempt.weight) > most {
         return None;
     }
     let repeats = repeats_of(schedule, exchange);

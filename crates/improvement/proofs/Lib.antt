@@ -1,10 +1,5 @@
-pub mod Callers
-pub mod Rewinds
-pub mod Boards
-pub mod Runs
 pub mod Leads
-pub mod Texts
-pub mod PhaseRuns
-pub mod UnderWay
-pub mod Endings
 pub mod Solutions
+pub mod Lines
+pub mod UnderWay
+pub mod Ends

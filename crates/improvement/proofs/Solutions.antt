@@ -1,10 +1,9 @@
--- What is written, and what all runs together come to.
-use Rattle.std.proofs.Common.{◌≡◌, ℕ, ◌<◌, ◌≤◌, nat_lt, min, Bool, true, false, if◌then◌else◌, List, [], ◌∷◌, ◌++◌, length, fold, All}
-use Rattle.std.proofs.Common.{Option, Some, None, refl, sym, ◌∙◌, ap, subst, append_assoc, append-nil, arith}
+-- What is written, and what all legs together come to.
+use Rattle.std.proofs.Common.{◌≡◌, ℕ, ◌<◌, ◌≤◌, nat_lt, min, Bool, true, false, if◌then◌else◌, List, [], ◌∷◌, length, All}
+use Rattle.std.proofs.Common.{Option, Some, None, refl, sym, ◌∙◌, ap, subst, arith}
 use Rattle.std.proofs.lemmas.Bool.{ltb-true, ltb-false}
-use Rattle.std.proofs.lemmas.List.Elements.{All-cons, All-nil}
-use Rattle.std.proofs.lemmas.List.Sums.{fold-append}
-use Rattle.std.specs.List.{cons_option, last_or}
+use Rattle.std.proofs.lemmas.List.Elements.{All-cons, All-nil, All-weaker}
+use Rattle.std.specs.List.{cons_option}
 use Rattle.std.specs.Option.{option_map, unwrap_or}
 use Rattle.league.specs.League.{IsLeague, LeagueData}
 use Rattle.league.specs.Starts.{start_of}
@@ -14,69 +13,55 @@ use Rattle.fixture_board.specs.declared.cost.Best.{Best}
 use Rattle.fixture_board.specs.declared.cost.Cost.{Cost}
 use Rattle.fixture_board.specs.History.{IsBestOf, IsLegal, as_best, best_of, best_prefix, cost_at, effective, games_after, games_of}
 use Rattle.fixture_board.specs.Rewound.{rewound}
-use Rattle.fixture_board.proofs.ForCallers.{games_of_teams, is_legal_none}
+use Rattle.fixture_board.proofs.ForCallers.{games_of_teams}
 use Rattle.fixture_board.proofs.Least.{best_prefix-is_best}
 use Rattle.fixture_board.proofs.Rewinding.{same_best_rewound}
 use Rattle.fixture_board.proofs.Sound.{IsSound-legal}
-use Rattle.phases.specs.Chains.{lesser}
-use Rattle.phases.specs.Laws.{least_told, lesser_told}
-use Rattle.phases.specs.Stages.{phase_count}
 use Rattle.texts.specs.SearchText.{games_at_best}
-use Rattle.improvement.specs.declared.plan.ImprovePlan.{ImprovePlan}
-use Rattle.improvement.specs.Kept.{best_of_outcome}
-use Rattle.improvement.specs.Laws.{Fall, IsAtMost, IsEnd, IsSolution}
-use Rattle.improvement.specs.Runs.{AreRuns, AreRunsFrom, PhaseRun, ahead, final_of, is_behind, lead_after, lead_of}
-use Rattle.improvement.specs.Runs.{leads, leads_by, least_in, outcome_in, outcome_of, outcomes_of, room_of, total_in}
-use Rattle.improvement.specs.Solutions.{Solution, below, best_solution, best_with, is_below, solution_after, solutions_from, solutions_of}
-use Rattle.improvement.proofs.Leads.{least_leads}
-use Rattle.improvement.proofs.Runs.{lead_more, outcomes_more}
+use Rattle.annealing.specs.Legs.{total_in}
+use Rattle.improvement.specs.Laws.{Fall, IsAtMost, IsEnd, IsSolution, newest, newest_total}
+use Rattle.improvement.specs.Legs.{AreLegs, LegRun, lead_of, leads, leads_by, least_in, least_told, lesser, standing_of}
+use Rattle.improvement.specs.Solutions.{Solution, below, best_solution, best_with, is_below, solutions_of}
+use Rattle.improvement.proofs.Leads.{lead_legal, least_leads}
 
 -- ---- the totals fall
 
-abbrev total_of_best : Option Solution → Option ℕ
-total_of_best best = option_map (λ (s : Solution). s.total) best
+total_by : (least : ℕ) (s : Solution) (older : List Solution) (c : Bool) → nat_lt s.total least ≡ c → newest_total older ≡ Some least →
+    newest_total (cons_option (if c then Some s else None) older) ≡ Some (min least s.total)
+total_by least s older true is same = let under : s.total < least = ltb-true s.total least is in ap Some (omega arith)
+total_by least s older false is same = let over : least ≤ s.total = ltb-false s.total least is in same ∙ ap Some (omega arith)
 
-best_total : (league : LeagueData) (h : List Entry) (least : Option ℕ) → total_of_best (option_map (best_with league h) least) ≡ least
-best_total league h None = refl
-best_total league h (Some total) = refl
+newest_more : (league : LeagueData) (h : List Entry) (least best : Option ℕ) (older : List Solution) → newest_total older ≡ least →
+    newest_total (cons_option (below least (option_map (best_with league h) best)) older) ≡ lesser least best
+newest_more league h None None older same = same
+newest_more league h (Some least) None older same = same
+newest_more league h None (Some total) older same = refl
+newest_more league h (Some least) (Some total) older same =
+    total_by least (best_with league h total) older (nat_lt total least) refl same
 
-fall_by : (least : ℕ) (s : Solution) (later : List Solution) (c : Bool) → nat_lt s.total least ≡ c → Fall (Some (min least s.total)) later →
-    Fall (Some least) (cons_option (if c then Some s else None) later)
-fall_by least s later true is fall =
-    let under : s.total < least = ltb-true s.total least is in
-    let same : min least s.total ≡ s.total = omega arith in
-    (is, subst (λ (n : ℕ). Fall (Some n) later) same fall)
-fall_by least s later false is fall =
-    let over : least ≤ s.total = ltb-false s.total least is in
-    let same : min least s.total ≡ least = omega arith in
-    subst (λ (n : ℕ). Fall (Some n) later) same fall
-
-fall_more : (least : Option ℕ) (best : Option Solution) (later : List Solution) → Fall (lesser least (total_of_best best)) later →
-    Fall least (cons_option (below least best) later)
-fall_more None None later fall = fall
-fall_more (Some least) None later fall = fall
-fall_more None (Some s) later fall = (refl, fall)
-fall_more (Some least) (Some s) later fall = fall_by least s later (nat_lt s.total least) refl fall
-
-told_more : (league : LeagueData) (before : List PhaseRun) (run : PhaseRun) →
-    least_told (outcomes_of league (before ++ run ∷ [])) ≡ lesser (least_told (outcomes_of league before)) (least_in league run.history)
-told_more league before run =
-    ap least_told (outcomes_more league before run) ∙
-    fold-append lesser_told None (outcomes_of league before) (outcome_in league run ∷ [])
-
-fall_from : (league : LeagueData) (before runs : List PhaseRun) →
-    Fall (least_told (outcomes_of league before)) (solutions_from league before runs)
-fall_from league before [] = tt
-fall_from league before (run ∷ runs) =
-    let later = solutions_from league (before ++ run ∷ []) runs in
-    let least = least_told (outcomes_of league before) in
-    fall_more least (best_solution league run.history) later
-    (subst (λ (o : Option ℕ). Fall (lesser least o) later) (sym (best_total league run.history (least_in league run.history)))
-    (subst (λ (o : Option ℕ). Fall o later) (told_more league before run) (fall_from league (before ++ run ∷ []) runs)))
-
-pub totals_fall : (league : LeagueData) (runs : List PhaseRun) → Fall None (solutions_of league runs)
+newest_is : (league : LeagueData) (legs : List LegRun) → newest_total (solutions_of league legs) ≡ least_told league legs
 unfolding solutions_of
-totals_fall league runs = fall_from league [] runs
+newest_is league [] = refl
+newest_is league (run ∷ before) =
+    newest_more league run.history (least_told league before) (least_in league run.history) (solutions_of league before)
+    (newest_is league before)
+
+fall_by : (s : Solution) (older : List Solution) (c : Bool) → is_below s.total (newest_total older) ≡ c → Fall older →
+    Fall (cons_option (if c then Some s else None) older)
+fall_by s older true is fall = (is, fall)
+fall_by s older false is fall = fall
+
+fall_more : (best : Option Solution) (older : List Solution) → Fall older → Fall (cons_option (below (newest_total older) best) older)
+fall_more None older fall = fall
+fall_more (Some s) older fall = fall_by s older (is_below s.total (newest_total older)) refl fall
+
+pub totals_fall : (league : LeagueData) (legs : List LegRun) → Fall (solutions_of league legs)
+unfolding solutions_of
+totals_fall league [] = tt
+totals_fall league (run ∷ before) =
+    let older = solutions_of league before in
+    subst (λ (least : Option ℕ). Fall (cons_option (below least (best_solution league run.history)) older)) (newest_is league before)
+    (fall_more (best_solution league run.history) older (totals_fall league before))
 
 -- ---- each is feasible
 
@@ -87,7 +72,7 @@ IfBest P (Some s) = P s
 best_is : (league : LeagueData) (room : ℕ) (h : List Entry) (found : Option (List Entry)) → IsLeague league → IsBestOf league h found →
     IsLegal league room (unwrap_or found h) →
     IfBest (IsSolution league) (option_map (λ (total : ℕ). record { games = games_at_best league h found; total = total })
-    (option_map total_in (as_best league found)))
+    (total_in (as_best league found)))
 unfolding cost_at
 best_is league room h None limits best legal = tt
 best_is league room h (Some p) limits best legal = record {
@@ -103,112 +88,38 @@ unfolding best_of
 best_holds league room h limits legal =
     best_is league room h (best_prefix league h) limits (best_prefix-is_best league h) ((same_best_rewound league room h).legal legal)
 
-each_by : (P : Solution → Type 0) (s : Solution) (c : Bool) (later : List Solution) → P s → All P later →
-    All P (cons_option (if c then Some s else None) later)
-each_by P s true later holds all = All-cons P s later holds all
-each_by P s false later holds all = all
+each_by : (P : Solution → Type 0) (s : Solution) (c : Bool) (older : List Solution) → P s → All P older →
+    All P (cons_option (if c then Some s else None) older)
+each_by P s true older holds all = All-cons P s older holds all
+each_by P s false older holds all = all
 
-each_more : (P : Solution → Type 0) (least : Option ℕ) (best : Option Solution) (later : List Solution) → IfBest P best → All P later →
-    All P (cons_option (below least best) later)
-each_more P least None later holds all = all
-each_more P least (Some s) later holds all = each_by P s (is_below s.total least) later holds all
+each_more : (P : Solution → Type 0) (least : Option ℕ) (best : Option Solution) (older : List Solution) → IfBest P best → All P older →
+    All P (cons_option (below least best) older)
+each_more P least None older holds all = all
+each_more P least (Some s) older holds all = each_by P s (is_below s.total least) older holds all
 
-each_from : (league : LeagueData) (plan : ImprovePlan) (before runs : List PhaseRun) → IsLeague league →
-    AreRunsFrom league plan before runs →
-    All (IsSolution league) (solutions_from league before runs)
-each_from league plan before [] limits are = All-nil (IsSolution league)
-each_from league plan before (run ∷ runs) limits are =
-    each_more (IsSolution league) (least_told (outcomes_of league before)) (best_solution league run.history)
-    (solutions_from league (before ++ run ∷ []) runs) (best_holds league (room_of plan.effort) run.history limits are.0.legal)
-    (each_from league plan (before ++ run ∷ []) runs limits are.1)
+pub solutions_are_feasible : (league : LeagueData) (room : ℕ) (legs : List LegRun) → IsLeague league → AreLegs league room legs →
+    All (IsSolution league) (solutions_of league legs)
+unfolding solutions_of
+solutions_are_feasible league room [] limits are = All-nil (IsSolution league)
+solutions_are_feasible league room (run ∷ before) limits are =
+    each_more (IsSolution league) (least_told league before) (best_solution league run.history) (solutions_of league before)
+    (best_holds league room run.history limits are.0.legal) (solutions_are_feasible league room before limits are.1)
 
-pub solutions_are_feasible : (league : LeagueData) (plan : ImprovePlan) (runs : List PhaseRun) → IsLeague league →
-    AreRuns league plan runs →
-    All (IsSolution league) (solutions_of league runs)
-unfolding AreRuns solutions_of
-solutions_are_feasible league plan runs limits are = each_from league plan [] runs limits are
-
--- ---- the last one is that of the history that leads
-
--- the second, if there is one
-abbrev newest : Option Solution → Option Solution → Option Solution
-newest last None = last
-newest last (Some s) = Some s
-
-last_more : (last next : Option Solution) (later : List Solution) → last_or last (cons_option next later) ≡ last_or (newest last next) later
-last_more last None later = refl
-last_more last (Some s) later = refl
-
-newest_first : (best : Option Solution) → newest None (below None best) ≡ best
-newest_first None = refl
-newest_first (Some s) = refl
-
-newest_by : (a b : Solution) (c : Bool) → newest (Some b) (if c then Some a else None) ≡ (if c then Some a else Some b)
-newest_by a b true = refl
-newest_by a b false = refl
-
-newest_of : (league : LeagueData) (h l : List Entry) (x y : Option ℕ) (fewer : Bool) →
-    newest (option_map (best_with league l) y) (below y (option_map (best_with league h) x)) ≡
-    (if leads_by x y fewer then option_map (best_with league h) x else option_map (best_with league l) y)
-newest_of league h l (Some x) (Some y) fewer = newest_by (best_with league h x) (best_with league l y) (nat_lt x y)
-newest_of league h l (Some x) None fewer = refl
-newest_of league h l None (Some y) fewer = refl
-newest_of league h l None None true = refl
-newest_of league h l None None false = refl
-
-chosen : (league : LeagueData) (h l : List Entry) (c : Bool) →
-    (if c then best_solution league h else best_solution league l) ≡ best_solution league (if c then h else l)
-chosen league h l true = refl
-chosen league h l false = refl
-
-abbrev lead_solution : LeagueData → Option (List Entry) → Option Solution
-lead_solution league None = None
-lead_solution league (Some h) = best_solution league h
-
-newest_leads : (league : LeagueData) (leading : Option (List Entry)) (h : List Entry) →
-    newest (lead_solution league leading) (below (best_of_outcome (option_map (outcome_of league) leading)) (best_solution league h)) ≡
-    best_solution league (ahead league leading h)
-unfolding leads
-newest_leads league None h = newest_first (best_solution league h)
-newest_leads league (Some l) h =
-    newest_of league h l (least_in league h) (least_in league l) (nat_lt (outcome_of league h).hard (outcome_of league l).hard) ∙
-    chosen league h l (leads (outcome_of league h) (outcome_of league l))
-
-last_from : (league : LeagueData) (before runs : List PhaseRun) →
-    last_or (lead_solution league (lead_of league before)) (solutions_from league before runs) ≡
-    lead_solution league (lead_of league (before ++ runs))
-last_from league before [] = ap (λ (b : List PhaseRun). lead_solution league (lead_of league b)) (sym (append-nil before))
-last_from league before (run ∷ runs) =
-    let last = lead_solution league (lead_of league before) in
-    let more = before ++ run ∷ [] in
-    let later = solutions_from league more runs in
-    let next : newest last (solution_after league before run) ≡ lead_solution league (lead_of league more) =
-    ap (λ (t : Option ℕ). newest last (below t (best_solution league run.history))) (sym (least_leads league before)) ∙
-    newest_leads league (lead_of league before) run.history ∙ ap (lead_solution league) (sym (lead_more league before run)) in
-    last_more last (solution_after league before run) later ∙ ap (λ (o : Option Solution). last_or o later) next ∙
-    last_from league more runs ∙ ap (λ (b : List PhaseRun). lead_solution league (lead_of league b)) (append_assoc before (run ∷ []) runs)
-
-last_leads : (league : LeagueData) (runs : List PhaseRun) →
-    last_or None (solutions_of league runs) ≡ lead_solution league (lead_of league runs)
-unfolding solutions_of lead_of
-last_leads league runs = last_from league [] runs
-
--- ---- no phase has a lesser total
+-- ---- no leg has a lesser total, nor has the start
 
 at_most_same : (a : Option ℕ) → IsAtMost a a
 at_most_same None = tt
 at_most_same (Some x) = omega arith
 
 at_most_along : (a b c : Option ℕ) → IsAtMost a b → IsAtMost b c → IsAtMost a c
-at_most_along None b None ab bc = tt
-at_most_along (Some x) b None ab bc = tt
+at_most_along a b None ab bc = tt
 at_most_along a None (Some z) ab bc = absurd bc
 at_most_along None (Some y) (Some z) ab bc = absurd ab
 at_most_along (Some x) (Some y) (Some z) ab bc = omega arith
 
 lesser_first : (a b : Option ℕ) → IsAtMost (lesser a b) a
-lesser_first None None = tt
-lesser_first None (Some y) = tt
+lesser_first None b = tt
 lesser_first (Some x) None = omega arith
 lesser_first (Some x) (Some y) = omega arith
 
@@ -217,34 +128,25 @@ lesser_second None b = at_most_same b
 lesser_second (Some x) None = tt
 lesser_second (Some x) (Some y) = omega arith
 
-record AreAtLeast (league : LeagueData) (total least : Option ℕ) (runs : List PhaseRun) : Type 0 where
-  first : IsAtMost total least
-  each : All (λ (run : PhaseRun). IsAtMost total (least_in league run.history)) runs
+abbrev IsNotBelow : LeagueData → Option ℕ → LegRun → Type 0
+IsNotBelow league total run = IsAtMost total (least_in league run.history)
 
-told_least : (league : LeagueData) (least : Option ℕ) (runs : List PhaseRun) →
-    AreAtLeast league (fold lesser_told least (outcomes_of league runs)) least runs
-told_least league least [] = record {
-  first = at_most_same least;
-  each = All-nil (λ (run : PhaseRun). IsAtMost least (least_in league run.history));
-}
-told_least league least (run ∷ runs) =
+told_least : (league : LeagueData) (legs : List LegRun) → All (IsNotBelow league (least_told league legs)) legs
+told_least league [] = All-nil (IsNotBelow league None)
+told_least league (run ∷ before) =
+    let told = least_told league before in
     let best = least_in league run.history in
-    let total = fold lesser_told (lesser least best) (outcomes_of league runs) in
-    let rest = told_least league (lesser least best) runs in
-    record {
-      first = at_most_along total (lesser least best) least rest.first (lesser_first least best);
-      each = All-cons (λ (r : PhaseRun). IsAtMost total (least_in league r.history)) run runs
-          (at_most_along total (lesser least best) best rest.first (lesser_second least best)) rest.each;
-    }
-
--- ---- nor has the start
+    All-cons (IsNotBelow league (lesser told best)) run before (lesser_second told best)
+    (All-weaker (IsNotBelow league told) (IsNotBelow league (lesser told best))
+    (λ r most. at_most_along (lesser told best) told (least_in league r.history) (lesser_first told best) most) before
+    (told_least league before))
 
 start_cost : (league : LeagueData) → cost_at league [] ≡ cost_of league (start_of league)
 unfolding cost_at games_of games_after effective
 start_cost league = refl
 
 start_by : (league : LeagueData) (h : List Entry) (found : Option (List Entry)) → IsBestOf league h found → (cost_at league []).hard ≡ 0 →
-    IsAtMost (option_map total_in (as_best league found)) (Some (total_of (cost_at league [])))
+    IsAtMost (total_in (as_best league found)) (Some (total_of (cost_at league [])))
 start_by league h None best free = best 0 (omega arith) free
 start_by league h (Some p) best free = best.least 0 (omega arith) free
 
@@ -255,42 +157,12 @@ start_most league h free =
     let P : Cost → Type 0 = λ c. c.hard ≡ 0 → IsAtMost (least_in league h) (Some (total_of c)) in
     subst P (start_cost league) (start_by league h (best_prefix league h) (best_prefix-is_best league h)) free
 
--- ---- the end
-
-ahead_legal : (league : LeagueData) (room : ℕ) (l h : List Entry) (c : Bool) → IsLegal league room l → IsLegal league room h →
-    IsLegal league room (if c then h else l)
-ahead_legal league room l h true before legal = legal
-ahead_legal league room l h false before legal = before
-
-lead_legal : (league : LeagueData) (plan : ImprovePlan) (before runs : List PhaseRun) →
-    IsLegal league (room_of plan.effort) (unwrap_or (lead_of league before) []) → AreRunsFrom league plan before runs →
-    IsLegal league (room_of plan.effort) (unwrap_or (lead_of league (before ++ runs)) [])
-lead_legal league plan before [] legal are =
-    subst (λ (b : List PhaseRun). IsLegal league (room_of plan.effort) (unwrap_or (lead_of league b) [])) (sym (append-nil before)) legal
-lead_legal league plan before (run ∷ runs) legal are =
-    let room = room_of plan.effort in
-    let leading = lead_of league before in
-    let more = before ++ run ∷ [] in
-    let next = ahead_legal league room (unwrap_or leading []) run.history
-    (is_behind (option_map (outcome_of league) leading) (outcome_of league run.history)) legal are.0.legal in
-    subst (λ (b : List PhaseRun). IsLegal league room (unwrap_or (lead_of league b) [])) (append_assoc before (run ∷ []) runs)
-    (lead_legal league plan more runs
-    (subst (λ (l : Option (List Entry)). IsLegal league room (unwrap_or l [])) (sym (lead_more league before run)) next) are.1)
-
-lead_more_than_none : (league : LeagueData) (h : List Entry) (runs : List PhaseRun) →
-    fold (lead_after league) (Some h) runs ≡ Some (unwrap_or (fold (lead_after league) (Some h) runs) [])
-lead_more_than_none league h [] = refl
-lead_more_than_none league h (run ∷ runs) = lead_more_than_none league (ahead league (Some h) run.history) runs
-
-lead_is : (league : LeagueData) (runs : List PhaseRun) → 1 ≤ length runs → lead_of league runs ≡ Some (unwrap_or (lead_of league runs) [])
-unfolding lead_of
-lead_is league [] some = absurd (omega arith)
-lead_is league (run ∷ runs) some = lead_more_than_none league (ahead league None run.history) runs
+-- ---- the last one is that of the history that leads
 
 -- the best schedule of a history with this best prefix
 abbrev with_prefix : LeagueData → List Entry → Option (List Entry) → Option Solution
 with_prefix league h found =
-    option_map (λ (total : ℕ). record { games = games_at_best league h found; total = total }) (option_map total_in (as_best league found))
+    option_map (λ (total : ℕ). record { games = games_at_best league h found; total = total }) (total_in (as_best league found))
 
 same_with_prefix : (league : LeagueData) (h l : List Entry) (found : Option (List Entry)) →
     with_prefix league l found ≡ with_prefix league h found
@@ -303,45 +175,86 @@ rewound_solution league h =
     same_with_prefix league (rewound league h) h (best_prefix league h) ∙
     ap (with_prefix league (rewound league h)) (sym (same_best_rewound league 0 h).prefix)
 
+first_is : (league : LeagueData) (h : List Entry) (best : Option ℕ) →
+    newest (cons_option (below None (option_map (best_with league h) best)) []) ≡ option_map (best_with league h) best
+first_is league h None = refl
+first_is league h (Some total) = refl
+
+by_test : (a b : Solution) (older : List Solution) (c : Bool) → newest older ≡ Some b →
+    newest (cons_option (if c then Some a else None) older) ≡ (if c then Some a else Some b)
+by_test a b older true same = refl
+by_test a b older false same = same
+
+newest_by : (league : LeagueData) (h l : List Entry) (x y : Option ℕ) (fewer : Bool) (older : List Solution) →
+    newest older ≡ option_map (best_with league l) y →
+    newest (cons_option (below y (option_map (best_with league h) x)) older) ≡
+    (if leads_by x y fewer then option_map (best_with league h) x else option_map (best_with league l) y)
+newest_by league h l (Some x) (Some y) fewer older same = by_test (best_with league h x) (best_with league l y) older (nat_lt x y) same
+newest_by league h l (Some x) None fewer older same = refl
+newest_by league h l None (Some y) fewer older same = same
+newest_by league h l None None true older same = same
+newest_by league h l None None false older same = same
+
+chosen : (league : LeagueData) (h l : List Entry) (c : Bool) →
+    (if c then best_solution league h else best_solution league l) ≡ best_solution league (if c then rewound league h else l)
+chosen league h l true = rewound_solution league h
+chosen league h l false = refl
+
+newest_leads : (league : LeagueData) (h l : List Entry) (older : List Solution) → newest older ≡ best_solution league l →
+    newest (cons_option (below (least_in league l) (best_solution league h)) older) ≡
+    best_solution league (if leads (standing_of league h) (standing_of league l) then rewound league h else l)
+unfolding leads
+newest_leads league h l older same =
+    let h_is = standing_of league h in
+    let l_is = standing_of league l in
+    newest_by league h l h_is.best l_is.best (nat_lt h_is.hard l_is.hard) older same ∙ chosen league h l (leads h_is l_is)
+
+last_leads : (league : LeagueData) (run : LegRun) (before : List LegRun) →
+    newest (solutions_of league (run ∷ before)) ≡ best_solution league (lead_of league (run ∷ before))
+unfolding solutions_of lead_of
+last_leads league run [] = first_is league run.history (least_in league run.history) ∙ rewound_solution league run.history
+last_leads league run (r ∷ before) =
+    let older = solutions_of league (r ∷ before) in
+    let l = lead_of league (r ∷ before) in
+    ap (λ (least : Option ℕ). newest (cons_option (below least (best_solution league run.history)) older))
+    (sym (least_leads league r before)) ∙
+    newest_leads league run.history l older (last_leads league r before)
+
+-- ---- the end
+
+abbrev IsWhole : LeagueData → List Entry → Type 0
+IsWhole league h = (best : Best) → best_of league h ≡ Some best → best.at ≡ length h
+
 whole_by : (league : LeagueData) (h : List Entry) (found : Option (List Entry)) (best : Best) → as_best league found ≡ Some best →
     best.at ≡ length (unwrap_or found h)
 whole_by league h None best same = absurd (cc)
 whole_by league h (Some p) best same = ap (λ (o : Option Best). (unwrap_or o best).at) (sym same)
 
-rewound_whole : (league : LeagueData) (h : List Entry) (best : Best) → best_of league h ≡ Some best → best.at ≡ length (rewound league h)
+rewound_whole : (league : LeagueData) (h : List Entry) → IsWhole league (rewound league h)
 unfolding best_of
-rewound_whole league h best same = whole_by league h (best_prefix league h) best same
+rewound_whole league h best same =
+    whole_by league h (best_prefix league h) best (sym (same_best_rewound league 0 h).best ∙ same)
 
-end_by : (league : LeagueData) (plan : ImprovePlan) (run : PhaseRun) (runs : List PhaseRun) → AreRuns league plan (run ∷ runs) →
-    IsEnd league (room_of plan.effort) (run ∷ runs) (rewound league (unwrap_or (lead_of league (run ∷ runs)) []))
-unfolding AreRuns lead_of
-end_by league plan run runs are =
-    let room = room_of plan.effort in
-    let all = run ∷ runs in
-    let h = unwrap_or (lead_of league all) [] in
-    let back = same_best_rewound league room h in
-    let leads : lead_of league all ≡ Some h = lead_is league all (omega arith) in
-    let total : least_in league (rewound league h) ≡ least_told (outcomes_of league all) =
-    ap (option_map total_in) back.best ∙
-    ap (λ (l : Option (List Entry)). best_of_outcome (option_map (outcome_of league) l)) (sym leads) ∙ least_leads league all in
-    let told = told_least league None all in
-    let phases = subst (λ (t : Option ℕ). All (λ (r : PhaseRun). IsAtMost t (least_in league r.history)) all) (sym total) told.each in
+chosen_whole : (league : LeagueData) (h l : List Entry) (c : Bool) → IsWhole league l → IsWhole league (if c then rewound league h else l)
+chosen_whole league h l true before = rewound_whole league h
+chosen_whole league h l false before = before
+
+lead_whole : (league : LeagueData) (run : LegRun) (before : List LegRun) → IsWhole league (lead_of league (run ∷ before))
+unfolding lead_of
+lead_whole league run [] = rewound_whole league run.history
+lead_whole league run (r ∷ before) =
+    let l = lead_of league (r ∷ before) in
+    chosen_whole league run.history l (leads (standing_of league run.history) (standing_of league l)) (lead_whole league r before)
+
+pub end_is_least : (league : LeagueData) (room : ℕ) (legs : List LegRun) → AreLegs league room legs → 0 < length legs →
+    IsEnd league room legs (lead_of league legs)
+end_is_least league room [] are some = absurd (omega arith)
+end_is_least league room (run ∷ before) are some =
+    let all = run ∷ before in
     record {
-      legal = back.legal (lead_legal league plan [] all (is_legal_none league room) are);
-      phases = phases;
-      start = λ free. at_most_along (least_in league (rewound league h)) (least_in league run.history) _
-          (phases 0 run (omega arith)) (start_most league run.history free);
-      whole = λ best same. rewound_whole league h best (sym back.best ∙ same);
-      last = last_leads league all ∙ ap (lead_solution league) leads ∙ rewound_solution league h;
+      legal = lead_legal league room all are;
+      each = subst (λ (total : Option ℕ). All (IsNotBelow league total) all) (sym (least_leads league run before)) (told_least league all);
+      start = start_most league (lead_of league all);
+      whole = lead_whole league run before;
+      last = last_leads league run before;
     }
-
-end_of : (league : LeagueData) (plan : ImprovePlan) (runs : List PhaseRun) → AreRuns league plan runs → 1 ≤ length runs →
-    IsEnd league (room_of plan.effort) runs (final_of league runs)
-unfolding final_of
-end_of league plan [] are some = absurd (omega arith)
-end_of league plan (run ∷ runs) are some = end_by league plan run runs are
-
-pub end_is_least : (league : LeagueData) (plan : ImprovePlan) (runs : List PhaseRun) → AreRuns league plan runs →
-    length runs ≡ phase_count →
-    IsEnd league (room_of plan.effort) runs (final_of league runs)
-end_is_least league plan runs are all = end_of league plan runs are (omega arith)

@@ -1,243 +1,246 @@
--- An improvement between two phases.
-use Rattle.std.proofs.Common.{◌≡◌, ℕ, ◌+◌, ◌-◌, ◌<◌, nat_lt, Bool, true, false, List, [], ◌∷◌, ◌++◌, length, get_or, set, map, replicate}
-use Rattle.std.proofs.Common.{All}
-use Rattle.std.proofs.Common.{Option, Some, None, Err, refl, sym, ◌∙◌, ap, subst, subst₂, length-append, length-set, set-set, arith}
-use Rattle.std.proofs.lemmas.Bool.{cond-true, lt-ltb}
+-- One leg more.
+use Rattle.std.proofs.Common.{◌≡◌, ℕ, suc, ◌+◌, ◌<◌, ◌≤◌, ◌==◌, false, List, [], ◌∷◌, ◌++◌, length, inl, inr, sum_by, All, Option, Some, None, IfSome, IfNone, Err}
+use Rattle.std.proofs.Common.{refl, sym, ◌∙◌, ap, subst, subst₂, arith}
 use Rattle.std.proofs.lemmas.Bool.Decides.{nat_tests}
-use Rattle.std.proofs.lemmas.List.{map-set}
-use Rattle.std.proofs.lemmas.List.Elements.{All-replicate, All-set}
-use Rattle.std.proofs.Math.ListN.{get_or-map}
-use Rattle.league.specs.League.{IsLeague, LeagueData}
+use Rattle.std.proofs.lemmas.List.Elements.{All-cons, All-nil, All-weaker}
+use Rattle.std.proofs.lemmas.List.Sums.{sum_by-cons}
+use Rattle.league.specs.League.{LeagueData}
 use Rattle.fixture_board.specs.declared.change.Entry.{Entry}
-use Rattle.fixture_board.specs.Record.{Book}
-use Rattle.phases.specs.declared.chain.PhaseOutcome.{PhaseOutcome}
-use Rattle.phases.specs.declared.policy.Phase.{Phase}
-use Rattle.phases.specs.Policy.{PolicyData, new_policy, next_phase, policy_after}
-use Rattle.phases.specs.Stages.{phase_count}
+use Rattle.fixture_board.specs.History.{IsLegal}
+use Rattle.fixture_board.specs.Laws.{least_of}
+use Rattle.fixture_board.specs.Record.{Book, book}
 use Rattle.streams.specs.declared.buffered.BufferedSink.{BufferedSink}
 use Rattle.streams.specs.declared.tally.Tally.{Tally}
-use Rattle.improvement.specs.declared.chains.Chains.{Chains}
-use Rattle.improvement.specs.declared.lead.Lead.{Lead}
-use Rattle.improvement.specs.declared.phase_run.EndedPhase.{EndedPhase}
-use Rattle.improvement.specs.declared.plan.ImprovePlan.{ImprovePlan}
 use Rattle.streams.specs.Writing.{Adds, Stops, waiting_in}
 use Rattle.streams.proofs.Pieces.{Adds-nothing, Adds-stops, Adds-then, Stops-more}
-use Rattle.phases.specs.Laws.{least_told}
+use Rattle.annealing.specs.declared.chain.Annealed.{Annealed}
+use Rattle.annealing.specs.declared.unit.Unit.{Unit as Measure}
+use Rattle.annealing.specs.Legs.{AreFigures}
+use Rattle.improvement.specs.declared.field.Entrant.{Entrant}
+use Rattle.improvement.specs.declared.leg_text.LegTold.{LegTold}
+use Rattle.improvement.specs.declared.legs.RunningLeg.{RunningLeg}
+use Rattle.improvement.specs.declared.legs.Turn.{Turn}
+use Rattle.improvement.specs.declared.legs.WaitingLeg.{WaitingLeg}
+use Rattle.improvement.specs.declared.line.Line.{Line}
 use Rattle.improvement.specs.declared.plan.ImproveFault.{ImproveFault}
-use Rattle.improvement.specs.declared.plan.ImproveFault.TheVariants.{Run, Write}
-use Rattle.search.specs.declared.runs.RunFault.TheVariants.{Workers, Spawn, Receipts, Memory}
-use Rattle.improvement.specs.Kept.{EndsBy, HasRun, IsChainBoard, IsKeptAfter, IsLead, IsRunFault, IsSlot, IsUnderWay, Sends}
-use Rattle.improvement.specs.Kept.{StopsAfterPhases}
-use Rattle.improvement.specs.Kept.{best_of_outcome, history_in, run_of}
-use Rattle.improvement.specs.PhaseText.{ending, improve_text, phase_text, phases_text}
-use Rattle.improvement.specs.Runs.{AreRuns, IsRunAfter, PhaseRun, ahead, beginning, histories_of, lead_of, outcome_in, outcome_of}
-use Rattle.improvement.specs.Runs.{outcomes_of, room_of}
-use Rattle.improvement.proofs.Leads.{least_leads}
-use Rattle.improvement.proofs.Texts.{no_text, text_more}
-use Rattle.improvement.proofs.Runs.{histories_more, lead_more, no_runs, policy_more, runs_more}
+use Rattle.improvement.specs.declared.plan.ImproveFault.TheVariants.{Workers, Memory, Write}
+use Rattle.improvement.specs.declared.told.Told.{Told}
+use Rattle.improvement.specs.Fields.{StageData}
+use Rattle.improvement.specs.Legs.{AreLegs, IsLegAfter, LegRun, lead_after, lead_of, least_in, least_told, lesser, steps_in, steps_of}
+use Rattle.improvement.specs.LegText.{ending, improve_text, leg_text, legs_text, told_as}
+use Rattle.improvement.specs.Lines.{CanEnd, IsAtBeginning, IsEntrant, IsLine, IsRunning, IsStage, IsWaiting, MayBegin, anew, left_in}
+use Rattle.improvement.specs.Lines.{running_steps, turn_steps}
+use Rattle.improvement.specs.UnderWay.{EndsBy, HasRunAll, HasSent, HasStopped, HasTold, IsUnderWay, Sends}
+use Rattle.improvement.proofs.Lines.{state_weaker}
 
--- ---- before the first phase
+-- ---- what may go on after some legs may do so after one more
 
-pub kept_none : (league : LeagueData) (plan : ImprovePlan) (policy : PolicyData) (chains : Chains) (lead : Lead) →
-    policy ≡ new_policy league plan.seed plan.effort → chains.boards.items ≡ replicate 8 None →
-    IsLead league (room_of plan.effort) None lead → IsKeptAfter league plan [] policy chains lead
-unfolding histories_of lead_of
-kept_none league plan policy chains lead policy_is none lead_is = record {
-  are = no_runs league plan;
-  policy_is = policy_is;
-  told = ap (λ (p : PolicyData). p.told) policy_is;
-  told_most = rw policy_is (omega arith);
-  chains_are = record {
-    count = ap length none;
-    each = subst (All (IsSlot league (room_of plan.effort))) (sym none)
-        (All-replicate {X = Option Book} (IsSlot league (room_of plan.effort)) 8 None tt);
-  };
-  histories = ap (map history_in) none;
-  lead_is = lead_is;
-  limits = λ some. absurd (omega arith);
-}
+module _ (start : Book) (legs : List LegRun) (run : LegRun) where
+  begins_later : (chain : ℕ) (board : Book) → IsAtBeginning start legs chain board → IsAtBeginning start (run ∷ legs) chain board
+  begins_later chain board is = record { alike = is.alike; begins = inr is.begins }
 
--- ---- one phase more
+  entrant_later : (e : Entrant) → IsEntrant start legs e → IsEntrant start (run ∷ legs) e
+  entrant_later e is = record { alike = is.alike; begins = inr is.begins }
 
-told_by : (p : PolicyData) (phase : Phase) (c : Bool) → nat_lt p.told phase_count ≡ c → next_phase p ≡ Some phase → p.told < phase_count
-told_by p phase true is next = grind (arith, nat_tests)
-told_by p phase false is next = absurd (grind (arith, is))
+  may_later : (chain : ℕ) (board : Option Book) → MayBegin start legs chain board → MayBegin start (run ∷ legs) chain board
+  may_later chain None may = tt
+  may_later chain (Some board) may = begins_later chain board may
 
-told_below : (p : PolicyData) (phase : Phase) → next_phase p ≡ Some phase → p.told < phase_count
-told_below p phase next = told_by p phase (nat_lt p.told phase_count) refl next
+  waiting_later : (w : WaitingLeg) → IsWaiting start legs w → IsWaiting start (run ∷ legs) w
+  waiting_later w is = record { leg = is.leg; begins = may_later w.turn.chain w.board is.begins }
 
-pub told_more : (p : PolicyData) (o : PhaseOutcome) → p.told < phase_count → (policy_after p o).told ≡ p.told + 1
-told_more p o below = ap (λ (q : PolicyData). q.told) (cond-true _ _ _ (lt-ltb p.told phase_count below))
-
-pub run_is : {league : LeagueData} {plan : ImprovePlan} {runs : List PhaseRun} {policy : PolicyData} {chains : Chains} {lead : Lead}
-    (phase : Phase) (ended : EndedPhase) → IsKeptAfter league plan runs policy chains lead → next_phase policy ≡ Some phase →
-    HasRun league (room_of plan.effort)
-    (beginning league (room_of plan.effort) phase.start (history_in (get_or chains.boards.items phase.chain None))) phase ended →
-    IsRunAfter league plan runs (run_of ended)
-run_is {league} {plan} {runs} {policy} {chains} {lead} phase ended kept next ran =
-    let history_is : history_in (get_or chains.boards.items phase.chain None) ≡ get_or (histories_of runs) phase.chain [] =
-    sym (get_or-map history_in chains.boards.items phase.chain None) ∙
-    ap (λ (hs : List (List Entry)). get_or hs phase.chain []) kept.histories in
-    let start = λ (p : Phase). beginning league (room_of plan.effort) p.start (get_or (histories_of runs) p.chain []) in
-    record {
-      phase_is = ap next_phase (sym kept.policy_is) ∙ next ∙ ap Some (sym ran.phase_is);
-      legal = ran.legal;
-      added = ran.added;
-      goes_on = ran.goes_on ∙
-          ap (λ (h : List Entry). beginning league (room_of plan.effort) phase.start h ++ ran.added) history_is ∙
-          ap (λ (p : Phase). start p ++ ran.added) (sym ran.phase_is);
-      accepted_are = ran.accepted_are;
-    }
-
-kept_more : {league : LeagueData} {plan : ImprovePlan} {runs : List PhaseRun} {policy : PolicyData} {chains : Chains} {lead : Lead}
-    (phase : Phase) (ended : EndedPhase) (policy' : PolicyData) (chains' : Chains) (lead' : Lead) →
-    IsKeptAfter league plan runs policy chains lead → next_phase policy ≡ Some phase → phase.chain < 8 →
-    IsRunAfter league plan runs (run_of ended) → ended.phase ≡ phase → IsChainBoard league (room_of plan.effort) ended.board →
-    policy' ≡ policy_after policy (outcome_of league ended.board.history) →
-    chains'.boards.items ≡ set (set chains.boards.items phase.chain None) phase.chain (Some ended.board) →
-    IsLead league (room_of plan.effort) (Some (ahead league (lead_of league runs) ended.board.history)) lead' → IsLeague league →
-    IsKeptAfter league plan (runs ++ run_of ended ∷ []) policy' chains' lead'
-kept_more {league} {plan} {runs} {policy} {chains} {lead} phase ended policy' chains' lead' kept next chain_in run phase_is board
-    policy_is items lead_is limits =
-    let r : PhaseRun = run_of ended in
-    let items_are : chains'.boards.items ≡ set chains.boards.items phase.chain (Some ended.board) =
-    items ∙ set-set chains.boards.items phase.chain None (Some ended.board) in
-    let count : length (runs ++ r ∷ []) ≡ length runs + 1 = omega (arith, length-append runs (r ∷ [])) in
-    let below : policy.told < phase_count = told_below policy phase next in
-    let told : policy'.told ≡ policy.told + 1 =
-    ap (λ (p : PolicyData). p.told) policy_is ∙ told_more policy (outcome_of league ended.board.history) below in
-    record {
-      are = runs_more league plan runs r kept.are run;
-      policy_is = policy_is ∙ ap (λ (p : PolicyData). policy_after p (outcome_in league r)) kept.policy_is ∙
-          sym (policy_more league plan.seed plan.effort runs r);
-      told = omega (arith, told, count, kept.told);
-      told_most = omega (arith, told, below);
-      chains_are = record {
-        count = ap length items_are ∙ length-set chains.boards.items phase.chain (Some ended.board) ∙ kept.chains_are.count;
-        each = subst (All (IsSlot league (room_of plan.effort))) (sym items_are)
-            (All-set (IsSlot league (room_of plan.effort)) chains.boards.items phase.chain (Some ended.board) board kept.chains_are.each);
-      };
-      histories = ap (map history_in) items_are ∙ map-set history_in chains.boards.items phase.chain (Some ended.board) ∙
-          ap (λ (hs : List (List Entry)). set hs phase.chain ended.board.history) kept.histories ∙
-          ap (λ (p : Phase). set (histories_of runs) p.chain ended.board.history) (sym phase_is) ∙
-          sym (histories_more runs r);
-      lead_is = subst (λ (h : Option (List Entry)). IsLead league (room_of plan.effort) h lead') (sym (lead_more league runs r)) lead_is;
-      limits = λ some. limits;
-    }
-
--- ---- what is written
-
-least_is : (league : LeagueData) (room : ℕ) (runs : List PhaseRun) (lead : Lead) (least : Option ℕ) →
-    IsLead league room (lead_of league runs) lead → least ≡ best_of_outcome lead.outcome → least ≡ least_told (outcomes_of league runs)
-least_is league room runs lead least lead_is same = same ∙ ap best_of_outcome lead_is.outcome_is ∙ least_leads league runs
-
--- the text of a phase, with the least total as it is kept
-text_is : (league : LeagueData) (plan : ImprovePlan) (runs : List PhaseRun) (lead : Lead) (ended : EndedPhase) (least : Option ℕ) →
-    ended.board.league ≡ league → IsLead league (room_of plan.effort) (lead_of league runs) lead → least ≡ best_of_outcome lead.outcome →
-    phase_text ended.board.league plan.workers least (run_of ended) ≡
-    phase_text league plan.workers (least_told (outcomes_of league runs)) (run_of ended)
-text_is league plan runs lead ended least league_is lead_is same =
-    ap (λ (l : LeagueData). phase_text l plan.workers least (run_of ended)) league_is ∙
-    ap (λ (t : Option ℕ). phase_text league plan.workers t (run_of ended))
-    (least_is league (room_of plan.effort) runs lead least lead_is same)
-
-module _ {W : Type 0} (held : W → Option (List ℕ)) (tally : W → Tally) (league : LeagueData) (plan : ImprovePlan) where
-  pub under_way_none : (a : BufferedSink W) (policy : PolicyData) (chains : Chains) (lead : Lead) → waiting_in a ≡ [] →
-      IsKeptAfter league plan [] policy chains lead → IsUnderWay held tally league plan a a policy chains lead
-  under_way_none a policy chains lead none kept = record {
-    runs = [];
-    kept = kept;
-    sends = record { adds = rw (no_text league plan.workers) (Adds-nothing a); sent = none };
+  end_later : (turn : Turn) (now : Annealed) → CanEnd start legs turn now → CanEnd start (run ∷ legs) turn now
+  end_later turn now e = record {
+    weights = e.weights;
+    old = e.old;
+    begins = begins_later turn.chain e.old.board e.begins;
+    annealed = e.annealed;
   }
 
-  -- one phase more, with its text
-  pub record Wrote (old new : BufferedSink W) (runs : List PhaseRun) : Type 0 where
-    pub are : AreRuns league plan runs
-    pub sends : Sends held tally league plan old new (phases_text league plan.workers runs)
+  running_later : (r : RunningLeg) → IsRunning start legs r → IsRunning start (run ∷ legs) r
+  running_later r is = state_weaker (CanEnd start legs r.turn) (CanEnd start (run ∷ legs) r.turn) (end_later r.turn) r.state is
 
-  pub wrote_more : {a b c : BufferedSink W} {policy : PolicyData} {chains : Chains} {lead : Lead} (ended : EndedPhase) (least : Option ℕ)
-      (under : IsUnderWay held tally league plan a b policy chains lead) → IsRunAfter league plan under.runs (run_of ended) →
-      ended.board.league ≡ league → least ≡ best_of_outcome lead.outcome →
-      Adds held tally b c (phase_text ended.board.league plan.workers least (run_of ended)) → waiting_in c ≡ [] →
-      Wrote a c (under.runs ++ run_of ended ∷ [])
-  wrote_more {a} {b} {c} {policy} {chains} {lead} ended least under run league_is same adds none =
-      let text = text_is league plan under.runs lead ended least league_is under.kept.lead_is same in
+  stage_later : (s : StageData) → IsStage start legs s → IsStage start (run ∷ legs) s
+  stage_later s is = record {
+    before = All-weaker (IsEntrant start legs) (IsEntrant start (run ∷ legs)) entrant_later s.before is.before;
+    field = All-weaker (IsEntrant start legs) (IsEntrant start (run ∷ legs)) entrant_later s.field is.field;
+  }
+
+  pub line_later : (line : Line) → IsLine start legs line → IsLine start (run ∷ legs) line
+  line_later line is = record {
+    stage = stage_later line.stage is.stage;
+    running = All-weaker (IsRunning start legs) (IsRunning start (run ∷ legs)) running_later line.running.items is.running;
+    waiting = All-weaker (IsWaiting start legs) (IsWaiting start (run ∷ legs)) waiting_later line.waiting.items is.waiting;
+  }
+
+-- ---- a leg that has ended
+
+abbrev pub run_of : Turn → Annealed → LegRun
+run_of turn now = record { chain = turn.chain; leg = turn.leg; end = now.end; history = now.chain.board.history }
+
+module _ {start : Book} {legs : List LegRun} (turn : Turn) (now : Annealed) (e : CanEnd start legs turn now) where
+  pub league_is : now.chain.board.league ≡ start.league
+  league_is = e.annealed.board.league ∙ e.begins.alike.league_is
+
+  pub room_is : now.chain.board.room ≡ start.room
+  room_is = e.annealed.board.room ∙ e.begins.alike.room_is
+
+  pub leg_is : IsLegAfter start.league start.room legs (run_of turn now)
+  leg_is =
+      let h = now.chain.board.history in
       record {
-        are = runs_more league plan under.runs (run_of ended) under.kept.are run;
-        sends = record {
-          adds = rw (text_more league plan.workers under.runs (run_of ended)) (Adds-then under.sends.adds (rw text at adds));
-          sent = none;
-        };
+        start = e.old.board.history;
+        begins = e.begins.begins;
+        goes_on = e.annealed.board.goes_on;
+        legal = subst₂ (λ (l : LeagueData) (r : ℕ). IsLegal l r h) league_is room_is e.annealed.legal;
+        never_worse = subst (λ (l : LeagueData). least_of l h ≤ least_of l e.old.board.history) e.begins.alike.league_is
+            e.annealed.never_worse;
+        figures = subst₂ (λ (l : LeagueData) (r : ℕ). AreFigures turn.leg (book l r h) now.end) league_is room_is e.annealed.figures;
       }
 
-  pub stops_more : {T : Type 0} {a b c : BufferedSink W} {policy : PolicyData} {chains : Chains} {lead : Lead} (done : T → Type 0)
-      (ended : EndedPhase)
-      (least : Option ℕ) (under : IsUnderWay held tally league plan a b policy chains lead) →
-      IsRunAfter league plan under.runs (run_of ended) → ended.board.league ≡ league → least ≡ best_of_outcome lead.outcome →
-      Stops held tally b c (phase_text ended.board.league plan.workers least (run_of ended)) →
-      EndsBy held tally league plan a c done (Err Write)
-  unfolding improve_text
-  stops_more {T} {a} {b} {c} {policy} {chains} {lead} done ended least under run league_is same stops =
-      let text = text_is league plan under.runs lead ended least league_is under.kept.lead_is same in
-      let runs = under.runs ++ run_of ended ∷ [] in (
-        improve_text league plan.workers runs,
-        record { runs = runs; are = runs_more league plan under.runs (run_of ended) under.kept.are run; text_is = refl },
-        Stops-more (ending league plan.workers runs)
-            (rw (text_more league plan.workers under.runs (run_of ended)) (Adds-stops under.sends.adds (rw text at stops))),
-      )
+  pub entrant_is : IsEntrant start (run_of turn now ∷ legs) (record { number = turn.chain; chain = now.chain })
+  entrant_is = record { alike = record { league_is = league_is; room_is = room_is }; begins = inl (refl, refl) }
 
-  pub stopped : {a b : BufferedSink W} (runs : List PhaseRun) → AreRuns league plan runs →
-      Sends held tally league plan a b (phases_text league plan.workers runs) → StopsAfterPhases held tally league plan a b
-  stopped runs are sends = (phases_text league plan.workers runs, record { runs = runs; are = are; text_is = refl }, sends)
+legs_few : (league : LeagueData) (room : ℕ) (legs : List LegRun) → AreLegs league room legs → length legs ≤ steps_in legs
+legs_few league room [] are = omega arith
+legs_few league room (run ∷ before) are =
+    omega (arith, legs_few league room before are.1, are.0.figures.some, sum_by-cons steps_of run before)
 
-  pub ends_run : {T : Type 0} {a b : BufferedSink W} (done : T → Type 0) (fault : ImproveFault) → IsRunFault fault →
-      StopsAfterPhases held tally league plan a b → EndsBy held tally league plan a b done (Err fault)
-  ends_run done (Run Workers) is stops = is
-  ends_run done (Run Spawn) is stops = stops
-  ends_run done (Run Receipts) is stops = stops
-  ends_run done Write is stops = absurd is
-  ends_run done (Run Memory) is stops = stops
+-- ---- what is known of the legs
 
-  pub stopped_none : (a : BufferedSink W) → waiting_in a ≡ [] → StopsAfterPhases held tally league plan a a
-  stopped_none a none =
-      stopped [] (no_runs league plan) (record { adds = rw (no_text league plan.workers) (Adds-nothing a); sent = none })
+not_first : (n : ℕ) → (suc n == 0) ≡ false
+not_first n = grind (arith, nat_tests)
 
-  pub under_way_more : {a b c : BufferedSink W} (policy : PolicyData) (chains : Chains) (lead : Lead) (phase : Phase) (ended : EndedPhase)
-      (least : Option ℕ)
-      (outcome : PhaseOutcome) (policy' : PolicyData) (chains' : Chains) (lead' : Lead) →
-      IsUnderWay held tally league plan a b policy chains lead → next_phase policy ≡ Some phase → phase.chain < 8 →
-      HasRun league (room_of plan.effort)
-      (beginning league (room_of plan.effort) phase.start (history_in (get_or chains.boards.items phase.chain None))) phase ended →
-      least ≡ best_of_outcome lead.outcome →
-      Adds held tally b c (phase_text ended.board.league plan.workers least (run_of ended)) → waiting_in c ≡ [] →
-      outcome ≡ outcome_of ended.board.league ended.board.history → policy' ≡ policy_after policy outcome →
-      chains'.boards.items ≡ set (set chains.boards.items phase.chain None) phase.chain (Some ended.board) →
-      ((leading : Option (List Entry)) → IsLead ended.board.league ended.board.room leading lead →
-      IsLead ended.board.league ended.board.room (Some (ahead ended.board.league leading ended.board.history)) lead') →
-      IsLeague ended.board.league → IsUnderWay held tally league plan a c policy' chains' lead'
-  under_way_more {a} {b} {c} policy chains lead phase ended least outcome policy' chains' lead' under next chain_in ran same adds none
-      outcome_is
-      policy_is items meets limits =
-      let league_is : ended.board.league ≡ league = ran.board_is.league_is in
-      let run = run_is phase ended under.kept next ran in
-      let wrote = wrote_more ended least under run league_is same adds none in
-      let h : List Entry = ended.board.history in
-      let leading : Option (List Entry) = lead_of league under.runs in
-      let lead_is : IsLead league (room_of plan.effort) (Some (ahead league leading h)) lead' =
-      subst₂ (λ (l : LeagueData) (r : ℕ). (x : Option (List Entry)) → IsLead l r x lead → IsLead l r (Some (ahead l x h)) lead')
-      league_is ran.board_is.room_is meets leading under.kept.lead_is in
+lead_next : (league : LeagueData) (run : LegRun) (legs : List LegRun) →
+    lead_after league (length legs) (lead_of league legs) run.history ≡ lead_of league (run ∷ legs)
+unfolding lead_of
+lead_next league run [] = refl
+lead_next league run (r ∷ before) = rw (not_first (length before)) refl
+
+pub told_more : (start : Book) (legs : List LegRun) (told new : Told) (turn : Turn) (now : Annealed) → HasTold start legs told →
+    new.lead ≡ book told.lead.league told.lead.room (lead_after told.lead.league told.legs told.lead.history now.chain.board.history) →
+    new.least ≡ lesser told.least (least_in told.lead.league now.chain.board.history) → new.legs ≡ told.legs + 1 →
+    HasTold start (run_of turn now ∷ legs) new
+told_more start legs told new turn now is lead least count = record {
+  lead_is = lead ∙ rw (is.lead_is, is.count) (ap (book start.league start.room) (lead_next start.league (run_of turn now) legs));
+  least_is = least ∙ rw (is.lead_is, is.least_is) refl;
+  count = omega (arith, count, is.count);
+}
+
+abbrev pub leg_told : Told → Turn → Annealed → LegTold
+leg_told told turn now = record { number = told.legs + 1; chain = turn.chain; leg = turn.leg; end = now.end }
+
+text_is : (start : Book) (legs : List LegRun) (unit : Measure) (told : Told) (turn : Turn) (now : Annealed) → CanEnd start legs turn now →
+    HasTold start legs told → leg_text now.chain.board.league unit (leg_told told turn now) told.least now.chain.board.history ≡
+    leg_text start.league unit (told_as (length legs + 1) (run_of turn now)) (least_told start.league legs) now.chain.board.history
+text_is start legs unit told turn now e is = rw (league_is turn now e, is.count, is.least_is) refl
+
+module _ {W : Type 0} (held : W → Option (List ℕ)) (tally : W → Tally) (start : Book) (unit : Measure) (effort : ℕ) where
+  pub sends_more : {a b c : BufferedSink W} (w : HasSent held tally start unit effort a b) (told : Told) (turn : Turn) (now : Annealed) →
+      CanEnd start w.legs turn now → HasTold start w.legs told →
+      Adds held tally b c (leg_text now.chain.board.league unit (leg_told told turn now) told.least now.chain.board.history) →
+      waiting_in c ≡ [] → Sends held tally start unit effort a c (legs_text start.league unit (run_of turn now ∷ w.legs))
+  unfolding legs_text
+  sends_more {a} {b} {c} w told turn now e is adds none = record {
+    adds = Adds-then w.sends.adds (subst (Adds held tally b c) (text_is start w.legs unit told turn now e is) adds);
+    sent = none;
+  }
+
+  abbrev pub sent_more : {a b c : BufferedSink W} (w : HasSent held tally start unit effort a b) (told : Told) (turn : Turn)
+      (now : Annealed) → CanEnd start w.legs turn now → HasTold start w.legs told →
+      Adds held tally b c (leg_text now.chain.board.league unit (leg_told told turn now) told.least now.chain.board.history) →
+      waiting_in c ≡ [] → HasSent held tally start unit effort a c
+  sent_more w told turn now e is adds none = record {
+    legs = run_of turn now ∷ w.legs;
+    are = (leg_is turn now e, w.are);
+    sends = sends_more w told turn now e is adds none;
+  }
+
+  pub stopped_more : {a b c : BufferedSink W} (w : HasSent held tally start unit effort a b) (told : Told) (turn : Turn) (now : Annealed) →
+      CanEnd start w.legs turn now → HasTold start w.legs told →
+      Stops held tally b c (leg_text now.chain.board.league unit (leg_told told turn now) told.least now.chain.board.history) →
+      HasStopped held tally start unit effort a c
+  unfolding legs_text improve_text
+  stopped_more {a} {b} {c} w told turn now e is stops = record {
+    legs = run_of turn now ∷ w.legs;
+    are = (leg_is turn now e, w.are);
+    stops = Stops-more (ending start.league effort (run_of turn now ∷ w.legs))
+        (Adds-stops w.sends.adds (subst (Stops held tally b c) (text_is start w.legs unit told turn now e is) stops));
+  }
+
+  -- the line goes on with the chain of the leg
+  pub under_way_more : {a b c : BufferedSink W} (leg : RunningLeg) (line new : Line) (told told' : Told) (now : Annealed)
+      (w : IsUnderWay held tally start unit effort a b (leg ∷ []) line told) → CanEnd start w.sent.legs leg.turn now →
+      Adds held tally b c (leg_text now.chain.board.league unit (leg_told told leg.turn now) told.least now.chain.board.history) →
+      waiting_in c ≡ [] →
+      told'.lead ≡ book told.lead.league told.lead.room (lead_after told.lead.league told.legs told.lead.history now.chain.board.history) →
+      told'.least ≡ lesser told.least (least_in told.lead.league now.chain.board.history) → told'.legs ≡ told.legs + 1 →
+      ((legs : List LegRun) → IsEntrant start legs (record { number = leg.turn.chain; chain = now.chain }) → IsLine start legs line →
+      IsLine start legs new) → left_in new + now.end.steps ≡ left_in line + turn_steps leg.turn →
+      IsUnderWay held tally start unit effort a c [] new told'
+  under_way_more leg line new told told' now w e adds none lead least count goes_on left =
+      let run = run_of leg.turn now in
       record {
-        runs = under.runs ++ run_of ended ∷ [];
-        kept = kept_more phase ended policy' chains' lead' under.kept next chain_in run ran.phase_is ran.board_is
-            (policy_is ∙ ap (policy_after policy) (outcome_is ∙ ap (λ (l : LeagueData). outcome_of l h) league_is)) items lead_is
-            (subst IsLeague league_is limits);
-        sends = wrote.sends;
+        sent = sent_more w.sent told leg.turn now e w.told_is adds none;
+        steps = omega (arith, w.steps, left, sum_by-cons steps_of run w.sent.legs, sum_by-cons running_steps leg []);
+        running = All-nil (IsRunning start (run ∷ w.sent.legs));
+        line_is = goes_on (run ∷ w.sent.legs) (entrant_is leg.turn now e) (line_later start w.sent.legs run line w.line_is);
+        told_is = told_more start w.sent.legs told told' leg.turn now w.told_is lead least count;
       }
 
--- fewer phases are left
-pub fewer_left : (p p' : PolicyData) (o : PhaseOutcome) (phase : Phase) → next_phase p ≡ Some phase → p' ≡ policy_after p o →
-    380 - p'.told < 380 - p.told
-fewer_left p p' o phase next same =
-    let below : p.told < phase_count = told_below p phase next in
-    let told : p'.told ≡ p.told + 1 = ap (λ (q : PolicyData). q.told) same ∙ told_more p o below in
-    omega (arith, below, told)
+  -- each leg took a step
+  pub few_told : {a b : BufferedSink W} (legs : List RunningLeg) (line : Line) (told : Told) →
+      IsUnderWay held tally start unit effort a b legs line told → told.legs ≤ effort
+  few_told legs line told w =
+      omega (arith, w.steps, w.told_is.count, legs_few start.league start.room w.sent.legs w.sent.are)
+
+  -- no leg was told
+  pub sent_none : (a : BufferedSink W) → waiting_in a ≡ [] → HasSent held tally start unit effort a a
+  unfolding legs_text
+  sent_none a none = record { legs = []; are = tt; sends = record { adds = Adds-nothing a; sent = none } }
+
+  pub under_way_none : (a : BufferedSink W) (line : Line) (told : Told) → waiting_in a ≡ [] →
+      ((legs : List LegRun) → IsLine start legs line) → left_in line ≡ effort → told.lead ≡ anew start → told.least ≡ None → told.legs ≡ 0 →
+      IsUnderWay held tally start unit effort a a [] line told
+  unfolding legs_text lead_of
+  under_way_none a line told none goes_on left lead least count = record {
+    sent = record { legs = []; are = tt; sends = record { adds = Adds-nothing a; sent = none } };
+    steps = omega (arith, left);
+    running = All-nil (IsRunning start []);
+    line_is = goes_on [];
+    told_is = record { lead_is = lead; least_is = least; count = count };
+  }
+
+  -- a leg is taken out of the line
+  pub under_way_next : {a b : BufferedSink W} (line new : Line) (told : Told) (first : Option RunningLeg) (leg : RunningLeg) →
+      IsUnderWay held tally start unit effort a b [] line told → first ≡ Some leg →
+      ((legs : List LegRun) → IsLine start legs line → IsLine start legs new) →
+      ((legs : List LegRun) → IsLine start legs line → IfSome first (IsRunning start legs)) →
+      IfSome first (λ leg. turn_steps leg.turn + left_in new ≡ left_in line) →
+      IsUnderWay held tally start unit effort a b (leg ∷ []) new told
+  under_way_next line new told first leg w same goes_on runs left =
+      let legs = w.sent.legs in
+      let is : IsRunning start legs leg = rw same at (runs legs w.line_is) in
+      let fewer : turn_steps leg.turn + left_in new ≡ left_in line = rw same at left in
+      record {
+        sent = w.sent;
+        steps = omega (arith, w.steps, fewer, sum_by-cons running_steps leg []);
+        running = All-cons (IsRunning start legs) leg [] is (All-nil (IsRunning start legs));
+        line_is = goes_on legs w.line_is;
+        told_is = w.told_is;
+      }
+
+  pub run_all_is : {a b : BufferedSink W} (line : Line) (told : Told) → IsUnderWay held tally start unit effort a b [] line told →
+      left_in line ≡ 0 → HasRunAll held tally start unit effort a b told
+  run_all_is line told w none = record { sent = w.sent; all = omega (arith, w.steps, none); told_is = w.told_is }
+
+  -- a part that did not end well did so for the whole
+  pub ends_early : {S T : Type 0} (a b : BufferedSink W) (part : S → Type 0) (whole : T → Type 0) (fault : ImproveFault) →
+      EndsBy held tally start unit effort a b part (Err fault) → EndsBy held tally start unit effort a b whole (Err fault)
+  ends_early a b part whole Workers ends = ends
+  ends_early a b part whole Memory ends = ends
+  ends_early a b part whole Write ends = ends
+
+pub none_left : {P : Type 0} (first : Option RunningLeg) → ((leg : RunningLeg) → first ≡ Some leg → ⊥) → IfNone first P → P
+none_left None others left = left
+none_left (Some leg) others left = absurd (others leg refl)

@@ -1,6 +1,9 @@
-pub mod Runs
+pub mod Legs
 pub mod Solutions
-pub mod PhaseText
+pub mod LegText
 pub mod Outcome
-pub mod Kept
 pub mod Laws
+pub mod Fields
+pub mod Lines
+pub mod UnderWay
+pub mod Settings

@@ -1,13 +1,12 @@
 -- The schedules that an improvement writes.
-use Rattle.std.specs.Prelude.{ℕ, nat_lt, if◌then◌else◌, Bool, true, List, [], ◌∷◌, ◌++◌, Option, Some, None, option_map}
+use Rattle.std.specs.Prelude.{ℕ, nat_lt, if◌then◌else◌, Bool, true, List, [], ◌∷◌, Option, Some, None, option_map}
 use Rattle.std.specs.List.{cons_option}
 use Rattle.league.specs.League.{LeagueData}
 use Rattle.fixtures.specs.Games.{Games}
 use Rattle.fixture_board.specs.declared.change.Entry.{Entry}
 use Rattle.fixture_board.specs.History.{best_prefix}
-use Rattle.phases.specs.Laws.{least_told}
 use Rattle.texts.specs.SearchText.{games_at_best}
-use Rattle.improvement.specs.Runs.{PhaseRun, least_in, outcomes_of}
+use Rattle.improvement.specs.Legs.{LegRun, least_in, least_told}
 
 -- a schedule that is written, and the total behind it
 pub record Solution : Type 0 where
@@ -32,15 +31,8 @@ abbrev pub below : Option ℕ → Option Solution → Option Solution
 below least None = None
 below least (Some s) = if is_below s.total least then Some s else None
 
--- what is written of a run after those before it: its best schedule, if its total is below all before
-abbrev pub solution_after : LeagueData → List PhaseRun → PhaseRun → Option Solution
-solution_after league before run = below (least_told (outcomes_of league before)) (best_solution league run.history)
-
-abbrev pub solutions_from : LeagueData → List PhaseRun → List PhaseRun → List Solution
-solutions_from league before [] = []
-solutions_from league before (run ∷ runs) =
-    cons_option (solution_after league before run) (solutions_from league (before ++ run ∷ []) runs)
-
--- what is written of these runs, in its order
-unfoldable pub solutions_of : LeagueData → List PhaseRun → List Solution
-solutions_of league runs = solutions_from league [] runs
+-- what is written of these legs, the newest first: the best schedule of each whose total is below all before
+unfoldable pub solutions_of : LeagueData → List LegRun → List Solution
+solutions_of league [] = []
+solutions_of league (run ∷ before) =
+    cons_option (below (least_told league before) (best_solution league run.history)) (solutions_of league before)

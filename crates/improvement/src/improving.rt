@@ -1,87 +1,172 @@
 //! The improvement of a league's schedule.
 
-ghost use Rattle.std.specs.Prelude.{◌≡◌, ◌≤◌, []};
+ghost use Rattle.std.specs.Prelude.{◌≡◌, ◌+◌, ◌<◌, ◌≤◌, [], ◌∷◌, OnOk};
+ghost use Rattle.policy.specs.Limits.{most_effort};
+ghost use Rattle.streams.specs.declared.buffered.BufferedSink.{BufferedSink};
 ghost use Rattle.streams.specs.Writing.{waiting_in};
-ghost use Rattle.improvement.specs.Kept.{EndsBy, HasRunAll, HasWritten};
+ghost use Rattle.improvement.specs.Lines.{left_in, turn_steps};
 ghost use Rattle.improvement.specs.Outcome.{Improves};
-ghost use Rattle.improvement.specs.Runs.{IsWorkers};
+ghost use Rattle.improvement.specs.Settings.{IsSetting};
+ghost use Rattle.improvement.specs.UnderWay.{EndsBy, HasRunAll, HasWritten, IsUnderWay};
 
-use crate::chains::Chains;
-use crate::lead::Lead;
-use crate::phase_text::write_phase;
+use crate::field::Entrant;
+use crate::leg_text::{LegTold, write_leg};
+use crate::legs::RunningLeg;
+use crate::line::Line;
 use crate::plan::{ImproveFault, ImprovePlan};
-use crate::setting::Setting;
+use crate::rounds::free_rounds;
+use crate::setting::{Setting, start_board};
+use crate::told::Told;
+use annealing::{Annealed, measure};
 use league::League;
-use phases::{MIN_EFFORT, Policy};
-use search::{Gate, MAX_WORKERS, RunFault, Workplace};
+use search::{Gate, MAX_WORKERS, Workplace};
 use std::sync::Wait;
-use std::thread::Threads;
+use std::thread;
+use std::thread::{Scope, Threads};
 use streams::{BufferedSink, Sink};
 use texts::write_found;
 
-/// Runs the phases of the policy on the league, and writes each better schedule as soon as its phase has ended. The workers
-/// pass the workplace's gate, which is told how far they are.
+/// Runs the legs of the policy on chains of the league, and writes each better schedule as soon as it is known. The legs pass the
+/// workplace's gate, which is told how far they are.
 pub fn improve<T: Threads + Wait + Sync, G: Gate + Sync, W: Sink>(
     workplace: Workplace<'_, T, G>,
     league: League,
     plan: ImprovePlan,
     sink: &mut W,
 ) -> Result<(), ImproveFault>
-    requires { MIN_EFFORT ≤ plan.effort }
+    requires least { 1 ≤ plan.effort }
+    requires most { plan.effort ≤ most_effort }
     ensures { Improves W.held W.tally league plan sink.old sink.new result }
 {
     if plan.workers < 1 || MAX_WORKERS < plan.workers {
-        return Err(ImproveFault::Run(RunFault::Workers));
+        return Err(ImproveFault::Workers);
     }
+    let unit = measure(workplace.alloc, &league)?;
+    let start = start_board(workplace.alloc, league, plan.effort)?;
+    let rounds = free_rounds(workplace.alloc, &start)?;
     let setting = Setting {
         workplace,
-        league: &league,
         plan,
+        unit,
+        rounds: &rounds,
+        start: &start,
     };
-    run_and_write(&setting, &mut BufferedSink::new(sink))
+    let (ended, sink) = in_scope(&setting, sink);
+    take_back(sink);
+    ended
 }
 
-/// Runs all phases, and writes what they come to, each as it has ended and then all together.
-fn run_and_write<T: Threads + Wait + Sync, G: Gate + Sync, W: Sink>(
+/// Improves in a scope of threads, which all have ended in the end. The sink comes back, since no contract says what is written behind a
+/// reference in a scope.
+fn in_scope<'w, T: Threads + Wait + Sync, G: Gate + Sync, W: Sink>(
     setting: &Setting<'_, T, G>,
+    sink: &'w mut W,
+) -> (Result<(), ImproveFault>, &'w mut W)
+    requires setting { IsSetting setting.now }
+    ensures same { result.1.ghost_name ≡ sink.entry.ghost_name }
+    ensures ended { Improves W.held W.tally setting.now.start.now.league setting.now.plan sink.entry.now result.1.now result.0 }
+{
+    thread::scope(
+        thread::scope_env(),
+        setting.workplace.rt,
+        move |scope| -> (Result<(), ImproveFault>, &mut W)
+            requires setting { IsSetting setting.now }
+            ensures same { result.1.ghost_name ≡ sink.entry.ghost_name }
+            ensures ended { Improves W.held W.tally setting.entry.now.start.now.league setting.entry.now.plan sink.entry.now result.1.now result.0 }
+        { within(scope, *setting, sink) },
+    )
+}
+
+/// Improves within a scope.
+fn within<'s, 'w, E, T: Threads + Wait + Sync, G: Gate + Sync, W: Sink>(
+    scope: &Scope<'s, E>,
+    setting: Setting<'s, T, G>,
+    sink: &'w mut W,
+) -> (Result<(), ImproveFault>, &'w mut W)
+    requires setting { IsSetting setting }
+    ensures same { result.1.ghost_name ≡ sink.entry.ghost_name }
+    ensures ended { Improves W.held W.tally setting.entry.start.now.league setting.entry.plan sink.entry.now result.1.now result.0 }
+{
+    let ended = run_and_write(scope, setting, &mut BufferedSink::new(sink));
+    (ended, sink)
+}
+
+/// Does nothing, but ties the sink that came back to the one that was lent.
+fn take_back<W>(sink: &mut W)
+    ensures { sink.new ≡ sink.old }
+{}
+
+/// Runs all legs, and writes what they come to, each as it has ended and then all together.
+fn run_and_write<'s, E, T: Threads + Wait + Sync, G: Gate + Sync, W: Sink>(
+    scope: &Scope<'s, E>,
+    setting: Setting<'s, T, G>,
     out: &mut BufferedSink<'_, W>,
 ) -> Result<(), ImproveFault>
-    requires workers { IsWorkers setting.now.plan }
-    requires effort { MIN_EFFORT ≤ setting.now.plan.effort }
+    requires setting { IsSetting setting }
     requires none { waiting_in out.old ≡ [] }
-    ensures { EndsBy W.held W.tally setting.now.league.now setting.now.plan out.old out.new
-        (HasWritten W.held W.tally setting.now.league.now setting.now.plan out.old out.new) result }
+    ensures { EndsBy W.held W.tally setting.entry.start.now setting.entry.unit setting.entry.plan.effort out.old out.new
+        (HasWritten W.held W.tally setting.entry.start.now setting.entry.unit setting.entry.plan.effort out.old out.new) result }
 {
-    let lead = run_all(setting, out)?;
-    let board = lead.board(setting)?;
-    write_found(out, &board)?;
+    let told = run_all(scope, setting, out)?;
+    write_found(out, &told.lead)?;
     out.flush()?;
     Ok(())
 }
 
-/// Runs all phases, and writes what each comes to as it has ended.
-fn run_all<T: Threads + Wait + Sync, G: Gate + Sync, W: Sink>(
-    setting: &Setting<'_, T, G>,
+/// Runs all legs, and writes what each comes to as it has ended.
+fn run_all<'s, E, T: Threads + Wait + Sync, G: Gate + Sync, W: Sink>(
+    scope: &Scope<'s, E>,
+    setting: Setting<'s, T, G>,
     out: &mut BufferedSink<'_, W>,
-) -> Result<Lead, ImproveFault>
-    requires workers { IsWorkers setting.now.plan }
-    requires effort { MIN_EFFORT ≤ setting.now.plan.effort }
+) -> Result<Told, ImproveFault>
+    requires setting { IsSetting setting }
     requires none { waiting_in out.old ≡ [] }
-    ensures { EndsBy W.held W.tally setting.now.league.now setting.now.plan out.old out.new
-        (HasRunAll W.held W.tally setting.now.league.now setting.now.plan out.old out.new) result }
+    ensures { EndsBy W.held W.tally setting.entry.start.now setting.entry.unit setting.entry.plan.effort out.old out.new
+        (HasRunAll W.held W.tally setting.entry.start.now setting.entry.unit setting.entry.plan.effort out.old out.new) result }
 {
-    let alloc = setting.workplace.alloc;
-    let plan = setting.plan;
-    let mut policy = Policy::new(setting.league, plan.seed, plan.effort);
-    let mut chains = Chains::new(alloc)?;
-    let mut lead = Lead::none(alloc);
-    while let Some(phase) = policy.next() {
-        let ended = chains.run(setting, phase)?;
-        write_phase(out, plan.workers, lead.least(), &ended)?;
-        let outcome = ended.outcome();
-        policy.tell(outcome);
-        lead.meet(alloc, &ended.board, outcome)?;
-        chains.keep(phase.chain, ended.board);
+    let mut line = Line::new(&setting);
+    let mut told = Told {
+        lead: setting.board_or_new(None)?,
+        least: None,
+        legs: 0,
+    };
+    while let Some(leg) = line.next(scope, setting)? {
+        tell(setting, leg, &mut line, &mut told, out)?;
     }
-    Ok(lead)
+    Ok(told)
+}
+
+/// Waits for a leg's end, writes what it came to, and has its chain go on.
+fn tell<T: Threads + Wait + Sync, G: Gate + Sync, W: Sink>(
+    setting: Setting<'_, T, G>,
+    leg: RunningLeg,
+    line: &mut Line,
+    told: &mut Told,
+    out: &mut BufferedSink<'_, W>,
+) -> Result<(), ImproveFault>
+    requires setting { IsSetting setting }
+    requires under_way { (first : BufferedSink W) × IsUnderWay W.held W.tally setting.start.now setting.unit setting.plan.effort
+        first out.old (leg ∷ []) line.old told.old }
+    ensures under_way { (first : BufferedSink W) → IsUnderWay W.held W.tally setting.entry.start.now setting.entry.unit setting.entry.plan.effort
+        first out.old (leg ∷ []) line.old told.old →
+        EndsBy W.held W.tally setting.entry.start.now setting.entry.unit setting.entry.plan.effort first out.new
+        (λ done. IsUnderWay W.held W.tally setting.entry.start.now setting.entry.unit setting.entry.plan.effort first out.new []
+        line.new told.new) result }
+    ensures fewer { OnOk result (left_in line.new < turn_steps leg.turn + left_in line.old) }
+{
+    let workplace = setting.workplace;
+    let RunningLeg { turn, state } = leg;
+    let Annealed { chain, end } = state.outcome(workplace.rt)?;
+    workplace.gate.ended(workplace.rt);
+    let ended = LegTold {
+        number: told.legs + 1,
+        chain: turn.chain,
+        leg: turn.leg,
+        end,
+    };
+    write_leg(out, setting.unit, ended, told.least, &chain.board)?;
+    told.meet(workplace.alloc, &chain.board)?;
+    let number = turn.chain;
+    line.go_on(turn, end, Entrant { number, chain })?;
+    Ok(())
 }

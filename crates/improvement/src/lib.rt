@@ -1,17 +1,21 @@
-//! An improvement: the phases of the policy, run one after another on up to eight chains of schedules, each better schedule
-//! written as soon as it is known.
+//! An improvement: the legs of the policy, run wave by wave on chains of schedules, several at once, each better schedule written as
+//! soon as it is known.
 //!
-//! Teams, rounds and chains are numbered from 0 in calls, phases from 1.
+//! Teams, rounds and bouts are numbered from 0 in calls, chains and legs from 1.
 #![tactic(auto)]
 
-mod chains;
+mod field;
 mod improving;
 mod laws;
-mod lead;
-mod phase_run;
-mod phase_text;
+mod leg_text;
+mod legs;
+mod line;
 mod plan;
+mod rounds;
 mod setting;
+mod stage;
+mod standing;
+mod told;
 
 pub use improving::improve;
 pub use laws::{end_is_least, solutions_are_feasible, totals_fall};

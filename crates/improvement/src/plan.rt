@@ -1,10 +1,8 @@
 //! What an improvement is to do, and why it ends early.
 
 ghost use Rattle.std.specs.Prelude.{◌≡◌};
-ghost use Rattle.improvement.specs.declared.plan.ImproveFault.TheVariants.{Run, Write};
-ghost use Rattle.search.specs.declared.runs.RunFault.TheVariants.{Memory};
+ghost use Rattle.improvement.specs.declared.plan.ImproveFault.TheVariants.{Memory, Write};
 
-use search::RunFault;
 use std::alloc::AllocError;
 use streams::WriteFault;
 use thiserror::Error;
@@ -12,31 +10,26 @@ use thiserror::Error;
 /// What an improvement is to do.
 #[derive(Clone, Copy, Debug, PartialEq, Eq)]
 pub struct ImprovePlan {
-    /// 1 to 16.
+    /// How many legs run at once, each in a thread: 1 to 16. What is written doesn't depend on it.
     pub workers: u32,
-    /// The seed of a phase is this one and the number of the phase.
+    /// What the draws of all legs begin with.
     pub seed: u64,
-    /// The steps of all workers in all phases: at least `phases::MIN_EFFORT`.
-    pub effort: u32,
+    /// The steps of all legs: at least 1.
+    pub effort: u64,
 }
 
 /// Why an improvement ended early.
 #[derive(Clone, Copy, Debug, PartialEq, Eq, Error)]
 pub enum ImproveFault {
-    /// A run of workers came to nothing, or memory ran out between two of them.
-    #[error("{0}")]
-    Run(RunFault),
+    /// The number of workers is not 1 to 16.
+    #[error("the number of workers is not 1 to 16")]
+    Workers,
+    /// Memory ran out.
+    #[error("out of memory")]
+    Memory,
     /// A write failed, took no byte or was interrupted too often in a row.
     #[error("output cannot be written")]
     Write,
-}
-
-impl From<RunFault> for ImproveFault {
-    ghost from_gives = { λ fault gives. gives ≡ Run fault };
-
-    fn from(fault: RunFault) -> ImproveFault {
-        ImproveFault::Run(fault)
-    }
 }
 
 impl From<WriteFault> for ImproveFault {
@@ -48,9 +41,9 @@ impl From<WriteFault> for ImproveFault {
 }
 
 impl From<AllocError> for ImproveFault {
-    ghost from_gives = { λ _ gives. gives ≡ Run Memory };
+    ghost from_gives = { λ _ gives. gives ≡ Memory };
 
     fn from(_error: AllocError) -> ImproveFault {
-        ImproveFault::Run(RunFault::Memory)
+        ImproveFault::Memory
     }
 }

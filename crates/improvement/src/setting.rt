@@ -1,42 +1,48 @@
-//! What all phases of an improvement share.
+//! What all legs of an improvement share.
 
-ghost use Rattle.std.specs.Prelude.{◌≡◌, ◌≤◌, [], IfOk};
-ghost use Rattle.fixture_board.specs.History.{max_room};
+ghost use Rattle.std.specs.Prelude.{◌≡◌, [], IfOk, unwrap_or};
 ghost use Rattle.fixture_board.specs.Record.{book};
-ghost use Rattle.improvement.specs.Runs.{room_of};
+ghost use Rattle.improvement.specs.Legs.{room_of};
+ghost use Rattle.improvement.specs.Lines.{anew};
 
 use crate::plan::ImprovePlan;
+use annealing::Unit;
 use fixture_board::{Board, MAX_ROOM};
 use league::League;
 use search::Workplace;
-use std::alloc::AllocError;
+use std::alloc::{AllocError, Global};
 
-/// What all phases share.
-#[derive(Drop)]
+/// What all legs share.
+#[derive_where(Clone, Copy)]
 pub(crate) struct Setting<'a, T, G> {
     pub(crate) workplace: Workplace<'a, T, G>,
-    pub(crate) league: &'a League,
     pub(crate) plan: ImprovePlan,
+    pub(crate) unit: Unit,
+    /// The rounds that a move may name.
+    pub(crate) rounds: &'a [u8],
+    /// A board at the league's start.
+    pub(crate) start: &'a Board,
 }
 
 impl<T, G> Setting<'_, T, G> {
-    /// A board at the league's start, with the room of the plan's effort.
-    pub(crate) fn new_board(&self) -> Result<Board, AllocError>
-        ensures { IfOk result (λ b. b ≡ book self.now.league.now (room_of self.now.plan.effort) []) }
+    /// The board, or another one at the start.
+    pub(crate) fn board_or_new(&self, board: Option<Board>) -> Result<Board, AllocError>
+        ensures { IfOk result (λ b. b ≡ unwrap_or board (anew self.now.start.now)) }
     {
-        let league = self.league.duplicate(self.workplace.alloc)?;
-        match Board::new(self.workplace.alloc, league, room_of(self.plan.effort)) {
-            Ok(board) => Ok(board),
-            Err(_) => Err(AllocError),
+        match board {
+            Some(board) => Ok(board),
+            None => self.start.anew(self.workplace.alloc),
         }
     }
 }
 
-/// The room of a board on which all phases together have so many steps. Far fewer of them than a 64th are accepted.
-#[tactic(auto, unfolding(crate::specs::Runs::room_of))]
-fn room_of(effort: u32) -> u32
-    ensures value { result ≡ room_of effort }
-    ensures most { result ≤ max_room }
+/// A board at the league's start, with room for so many steps.
+pub(crate) fn start_board(alloc: Global, league: League, effort: u64) -> Result<Board, AllocError>
+    ensures { IfOk result (λ b. b ≡ book league (room_of effort) []) }
 {
-    effort.min(65_536 + effort / 64).min(MAX_ROOM)
+    let room = effort.min(u64::from(MAX_ROOM)) as u32;
+    match Board::new(alloc, league, room) {
+        Ok(board) => Ok(board),
+        Err(_) => Err(AllocError),
+    }
 }

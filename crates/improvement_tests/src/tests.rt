@@ -1,4 +1,77 @@
 //! The tests by subject, and what they share.
 
-mod circles;
 mod ends;
+mod legs;
+
+ghost use Rattle.std.specs.Prelude.{◌≡◌, ◌≤◌};
+
+use improvement::{ImproveFault, ImprovePlan, improve};
+use league::{League, LeagueFault, read_league};
+use search::{NoGate, Workplace};
+use std::alloc::{AllocError, Global};
+use std::sync::Wait;
+use std::thread::Threads;
+use streams::{MemorySink, RehearsedSink, Sink, Step};
+
+/// Team 1 is to have no game at home.
+const NEVER_AT_HOME: &str = r#"{
+    "format": 1,
+    "teams": ["A", "B", "C", "D"],
+    "distances": [[0, 1, 1, 1], [1, 0, 1, 1], [1, 1, 0, 1], [1, 1, 1, 0]],
+    "rules": [{"class": "CA1", "kind": "hard", "teams": [1], "mode": "H", "max": 0}]
+}"#;
+
+fn impossible(alloc: Global) -> Result<League, LeagueFault> {
+    read_league(alloc, NEVER_AT_HOME.as_bytes())
+}
+
+fn asked(workers: u32, effort: u64) -> ImprovePlan
+    ensures { result.effort ≡ effort }
+{
+    ImprovePlan {
+        workers,
+        seed: 1,
+        effort,
+    }
+}
+
+/// What an improvement came to: how it ended, how often it wrote, and what went out.
+#[derive(Debug, Drop, PartialEq)]
+struct Improved {
+    ended: Result<(), ImproveFault>,
+    calls: u64,
+    text: Vec<u8>,
+}
+
+/// Improves a league to a sink whose writes go by these steps.
+fn improved_by<T: Threads + Wait + Sync>(
+    rt: &T,
+    alloc: Global,
+    league: League,
+    plan: ImprovePlan,
+    writes: &[Step],
+) -> Result<Improved, AllocError>
+    requires least { 1 ≤ plan.effort }
+    requires most { plan.effort ≤ 1000000 }
+{
+    let mut room = vec![in alloc; 0; 400_000]?;
+    let mut memory = MemorySink::new(&mut room);
+    let mut sink = RehearsedSink::new(&mut memory, writes);
+    let gate = &NoGate;
+    let ended = improve(Workplace { rt, alloc, gate }, league, plan, &mut sink);
+    let calls = sink.tally().calls;
+    let text = Vec::from_slice(alloc, memory.held())?;
+    Ok(Improved { ended, calls, text })
+}
+
+fn improvement_of<T: Threads + Wait + Sync>(
+    rt: &T,
+    alloc: Global,
+    league: League,
+    plan: ImprovePlan,
+) -> Result<Improved, AllocError>
+    requires least { 1 ≤ plan.effort }
+    requires most { plan.effort ≤ 1000000 }
+{
+    improved_by(rt, alloc, league, plan, &[])
+}

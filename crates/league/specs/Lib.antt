@@ -16,5 +16,4 @@ pub mod RuleClasses
 pub mod Origins
 pub mod League
 pub mod Starts
-pub mod Reweighted
 pub mod Made

@@ -48,7 +48,6 @@ impl Model for League {
 impl League {
     ghost use Rattle.league.specs.League.{league_data, teams, name_of, distance, with_origin, IsLeague};
     ghost use Rattle.league.specs.Origins.{origin_at};
-    ghost use Rattle.league.specs.Reweighted.{reweighted};
     ghost use Rattle.league.specs.RuleLimits.{IsRuleFor};
 
     pub(crate) fn new(
@@ -119,15 +118,6 @@ impl League {
         ensures most { result ≤ max_weight }
     {
         self.terms.hard_weight
-    }
-
-    /// Sets what each breach of a hard limit adds to a schedule's score, from 1 to 1,000,000. All else stays.
-    pub fn set_hard_weight(&mut self, weight: u32)
-        requires least { 1 ≤ weight }
-        requires most { weight ≤ max_weight }
-        ensures { self.new ≡ reweighted weight self.old }
-    {
-        self.terms.hard_weight = weight;
     }
 
     /// How many rules there are.

@@ -5,8 +5,18 @@ use Rattle.fixtures.specs.Edits.{homes_exchanged, rounds_exchanged, teams_exchan
 use Rattle.fixtures.specs.Closed.{member, moved_teams_of, moved_rounds_of}
 use Rattle.moves.specs.declared.moves.Move.{Move}
 use Rattle.moves.specs.declared.moves.Move.TheVariants.{Homes, Rounds, Teams, PartRounds, PartTeams}
+use Rattle.moves.specs.declared.moves.MoveKind.{MoveKind}
+use Rattle.moves.specs.declared.moves.MoveKind.TheVariants as kind
 use Rattle.moves.specs.declared.fault.MoveFault.{MoveFault}
 use Rattle.moves.specs.declared.fault.MoveFault.TheVariants.{BadMove, Meet}
+
+-- which of the five moves it is
+abbrev pub kind_of : Move → MoveKind
+kind_of (Homes i j) = kind.Homes
+kind_of (Rounds k l) = kind.Rounds
+kind_of (Teams i j) = kind.Teams
+kind_of (PartRounds i k l) = kind.PartRounds
+kind_of (PartTeams i j k) = kind.PartTeams
 
 -- two distinct numbers below n
 abbrev pub are_distinct_below : ℕ → ℕ → ℕ → Bool

@@ -27,5 +27,5 @@ pub use laws::{
     meetings_are_kept, moves_are_exchanges, moves_back, sides_differ_at_turning,
     stays_double_round_robin,
 };
-pub use moves::Move;
+pub use moves::{Move, MoveKind};
 pub use refusals::check;

@@ -16,3 +16,31 @@ pub enum Move {
     /// Teams `i` and `j` are exchanged in round `k` and the rounds that have to follow.
     PartTeams { i: u8, j: u8, k: u8 },
 }
+
+/// Which of the five moves one is.
+#[derive(Clone, Copy, Debug, PartialEq, Eq)]
+pub enum MoveKind {
+    Homes,
+    Rounds,
+    Teams,
+    PartRounds,
+    PartTeams,
+}
+
+impl Move {
+    ghost use Rattle.std.specs.Prelude.{◌≡◌};
+    ghost use Rattle.moves.specs.Moves.{kind_of};
+
+    /// Which of the five moves it is.
+    pub fn kind(self) -> MoveKind
+        ensures { result ≡ kind_of self }
+    {
+        match self {
+            Move::Homes { .. } => MoveKind::Homes,
+            Move::Rounds { .. } => MoveKind::Rounds,
+            Move::Teams { .. } => MoveKind::Teams,
+            Move::PartRounds { .. } => MoveKind::PartRounds,
+            Move::PartTeams { .. } => MoveKind::PartTeams,
+        }
+    }
+}

@@ -64,7 +64,7 @@ pub(crate) fn perform<
 /// How many steps the workers of a job take in all.
 fn steps_of(job: Job) -> u64 {
     match job {
-        Job::Improve { effort, .. } => u64::from(effort),
+        Job::Improve { effort, .. } => effort,
         Job::Find { plan, .. } => u64::from(plan.workers) * u64::from(plan.steps),
         _ => 0,
     }

@@ -8,23 +8,19 @@ use Rattle.std.proofs.lemmas.List.{get_or_append_left, map-append}
 use Rattle.std.proofs.lemmas.List.Elements.{All-push, All-same, All-weaker}
 use mathlib.Core.Logic.{dite}
 use native.Mathlib.Decide.{ℕ_discrete}
-use Rattle.fixture_board.specs.declared.change.Entry.{Entry}
-use Rattle.shared_board.specs.Held.{under}
 use Rattle.shared_board.specs.Seats.{BoardId, SeatValue, IsNew, given_at}
 use Rattle.shared_board.specs.Setting.{Setting}
 use Rattle.search.specs.declared.runs.threads.Job.{Job}
-use Rattle.search.specs.Crews.{IsFresh, IsJob, JobIn, JobSaw, job_number}
+use Rattle.search.specs.Crews.{IsFresh, IsJob, JobIn, job_number}
 
 -- The seats of the jobs are fresh, and their numbers rise up to that of the run's own, which is fresh too. All have one
--- setting, and have seen one history
-pub record IsChain (table : BoardId) (setting : Setting) (start : List Entry) (jobs : List Job) (seat : SeatValue) : Type 0 where
+-- setting
+pub record IsChain (table : BoardId) (setting : Setting) (jobs : List Job) (seat : SeatValue) : Type 0 where
   pub fresh : IsFresh table seat
   pub setting_is : seat.setting ≡ setting
   pub jobs_are : All (IsJob table) jobs
   pub rising : IsStrictlyIncreasing (map job_number jobs)
   pub below : All (λ n. n < seat.number) (map job_number jobs)
-  pub seen : seat.seen ≡ start
-  pub saw : All (JobSaw start) jobs
   pub in_setting : All (JobIn setting) jobs
 
 increasing_push : (ns : List ℕ) (n : ℕ) → IsStrictlyIncreasing ns → All (λ m. m < n) ns → IsStrictlyIncreasing (ns ++ n ∷ [])
@@ -52,14 +48,14 @@ fresh_next : (table : BoardId) (a b : SeatValue) → IsFresh table a → IsNew a
 fresh_next table a b fresh new = record {
   table_is = ap (λ (s : SeatValue). s.table) new.now ∙ fresh.table_is;
   held = ap (λ (s : SeatValue). s.held) new.now;
+  seen = ap (λ (s : SeatValue). s.seen) new.now ∙ fresh.seen;
   given = omega (arith, ap (λ (s : SeatValue). s.given) new.now);
-  few = omega (arith, ap (λ (s : SeatValue). under s.held s.seen) new.now, new.no_entry);
 }
 
 -- and the old one stays so
 fresh_still : (table : BoardId) (a b : SeatValue) → IsFresh table a → IsNew a b → IsFresh table (given_at a (b.number + 1))
 fresh_still table a b fresh new =
-    record { table_is = fresh.table_is; held = fresh.held; given = omega (arith, fresh.given, new.later); few = fresh.few }
+    record { table_is = fresh.table_is; held = fresh.held; seen = fresh.seen; given = omega (arith, fresh.given, new.later) }
 
 -- the first of what is left comes to the end of what is done
 pub numbers_more : (done done' left left' all : List ℕ) (n m : ℕ) → done' ≡ done ++ n ∷ [] → left ≡ m ∷ left' → n ≡ m → done ++
@@ -69,17 +65,17 @@ numbers_more done done' left left' all n m one_more one_less same is =
     ap (λ (ns : List ℕ). done ++ ns) (sym one_less) ∙ is
 
 -- one more job gets the seat, and the run the one that was split from it
-pub chain_more : (table : BoardId) (setting : Setting) (start : List Entry) (jobs jobs' : List Job) (job : Job) (a b own : SeatValue) →
-    IsChain table setting start jobs a → IsNew a b → own ≡ b → jobs' ≡ jobs ++ job ∷ [] → job.seat ≡ given_at a (b.number + 1) →
-    IsChain table setting start jobs' own
-chain_more table setting start jobs jobs' job a b own was new own_is items given =
+pub chain_more : (table : BoardId) (setting : Setting) (jobs jobs' : List Job) (job : Job) (a b own : SeatValue) →
+    IsChain table setting jobs a → IsNew a b → own ≡ b → jobs' ≡ jobs ++ job ∷ [] → job.seat ≡ given_at a (b.number + 1) →
+    IsChain table setting jobs' own
+chain_more table setting jobs jobs' job a b own was new own_is items given =
     let fresh = was.fresh in
     let later = new.later in
     let rises : a.number < b.number = omega (arith, fresh.given) in
     let numbers : map job_number jobs' ≡ map job_number jobs ++ a.number ∷ [] =
     ap (map job_number) items ∙ map-append job_number jobs (job ∷ []) ∙ ap (λ (s : SeatValue). map job_number jobs ++ s.number ∷ []) given
     in
-    let P : SeatValue → Type 0 = λ s. IsChain table setting start jobs' s in
+    let P : SeatValue → Type 0 = λ s. IsChain table setting jobs' s in
     let Rises : List ℕ → Type 0 = λ ns. IsStrictlyIncreasing ns in
     let Below : List ℕ → Type 0 = λ ns. All (λ n. n < b.number) ns in
     let Fresh : SeatValue → Type 0 = λ s. IsFresh table s in
@@ -90,9 +86,6 @@ chain_more table setting start jobs jobs' job a b own was new own_is items given
           (All-push (IsJob table) jobs job was.jobs_are (subst Fresh (sym given) (fresh_still table a b was.fresh new)));
       rising = subst Rises (sym numbers) (increasing_push (map job_number jobs) a.number was.rising was.below);
       below = subst Below (sym numbers) (below_push (map job_number jobs) a.number b.number was.below rises);
-      seen = ap (λ (s : SeatValue). s.seen) new.now ∙ was.seen;
-      saw = All-same (JobSaw start) jobs' (jobs ++ job ∷ []) items
-          (All-push (JobSaw start) jobs job was.saw (ap (λ (s : SeatValue). s.seen) given ∙ was.seen));
       in_setting = All-same (JobIn setting) jobs' (jobs ++ job ∷ []) items
           (All-push (JobIn setting) jobs job was.in_setting (ap (λ (s : SeatValue). s.setting) given ∙ was.setting_is));
     })

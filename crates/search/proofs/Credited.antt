@@ -1,32 +1,37 @@
 -- What the run's seat knows of the entries of the seats that it took in.
-use Rattle.std.proofs.Common.{◌≡◌, ℕ, ◌+◌, List, [], ◌∷◌, ◌++◌, map, refl, sym, ap, ◌∙◌, subst, arith, append_assoc}
+use Rattle.std.proofs.Common.{◌≡◌, ℕ, Bool, true, List, [], ◌∷◌, ◌++◌, Vec, map, refl, sym, ap, ◌∙◌, subst, arith, append_assoc}
 use Rattle.std.specs.List.{All}
+use Rattle.std.specs.List.Sorted.{IsStrictlyIncreasing}
+use Rattle.std.specs.declared.alloc.Global.{Global}
 use Rattle.std.specs.declared.thread.PromisedHandle.{PromisedHandle}
 use mathlib.Core.Logic.{inl, inr}
 use Rattle.std.proofs.lemmas.List.{map-append}
 use Rattle.std.proofs.lemmas.List.Elements.{All-push, All-same}
 use Rattle.fixture_board.specs.declared.change.Entry.{Entry}
 use Rattle.fixture_board.specs.declared.reply.Reply.{Reply}
+use Rattle.fixture_board.specs.Record.{Book}
+use Rattle.shared_board.specs.declared.shared.Closed.{Closed}
 use Rattle.shared_board.specs.Held.{under}
-use Rattle.shared_board.specs.Seats.{BoardId, SeatValue, Absorbed}
+use Rattle.shared_board.specs.Seats.{BoardId, SeatValue, Absorbed, ClosedBy}
 use Rattle.shared_board.proofs.ForCallers.{under_append, under_both}
 use Rattle.search.specs.declared.runs.threads.Ended.{Ended}
 use Rattle.search.specs.declared.runs.threads.Given.{Given}
+use Rattle.search.specs.declared.runs.threads.Job.{Job}
 use Rattle.search.specs.declared.workers.Report.{Report}
-use Rattle.search.specs.Crews.{AreCredited, HandleSaw, IsBack, IsHandle, handle_number}
-use Rattle.search.specs.Outcomes.{accepted_of, made_by}
+use Rattle.search.specs.Crews.{AreStarted, IsBack, IsHandle, handle_number, job_number}
+use Rattle.search.specs.Outcomes.{AreCredited, Credits, accepted_of, made_by}
 use Rattle.search.specs.Heard.{IsOfWorker}
 use Rattle.search.proofs.SeatLaws.{under_known}
 
 -- What was taken in of the threads: their numbers, and their reports, each with as many accepted proposals as there are
--- entries under its number, after what the run's seat had seen
+-- entries under its number
 pub record IsGathered {G : Type 0} (heard : ℕ → ℕ → Reply → Type 0) (steps : ℕ) (table : BoardId) (was seat : SeatValue)
     (done : List (PromisedHandle Ended (Given G))) (reports : List Report) : Type 0 where
   pub table_is : seat.table ≡ table
   pub setting : seat.setting ≡ was.setting
   pub held : seat.held ≡ was.held ++ map handle_number done
   pub each : All (IsOfWorker heard steps) reports
-  pub credits : AreCredited was.seen (map handle_number done) reports seat.seen
+  pub credits : AreCredited (map handle_number done) reports seat.seen
 
 -- entries under none of the numbers change none of their counts
 unmoved : (ns : List ℕ) (seen after : List Entry) → under ns after ≡ 0 →
@@ -40,66 +45,46 @@ unmoved (n ∷ ns) seen after none =
     cc
 
 -- after a seat with one number was taken in, the earlier numbers' counts are what they were, and this one's is its own
-record IsJoined (start after : List Entry) (other b : SeatValue) (ns : List ℕ) (n : ℕ) : Type 0 where
-  more : List Entry
-  seen : b.seen ≡ start ++ more
-  earlier : map (λ m. made_by m more) ns ≡ map (λ m. made_by m after) ns
-  own : made_by n b.seen ≡ made_by n other.seen
-
-counts_joined : (start after : List Entry) (a other b : SeatValue) (own ns : List ℕ) (n : ℕ) → a.seen ≡ start ++ after →
-    Absorbed a other b → a.held ≡ own ++ ns → other.held ≡ n ∷ [] →
-    IsJoined start after other b ns n
-counts_joined start after a other b own ns n begins joined mine theirs =
+counts_joined : (a other b : SeatValue) (own ns : List ℕ) (n : ℕ) → Absorbed a other b → a.held ≡ own ++ ns → other.held ≡ n ∷ [] →
+    (map (λ m. made_by m b.seen) ns ≡ map (λ m. made_by m a.seen) ns) × (made_by n b.seen ≡ made_by n other.seen)
+counts_joined a other b own ns n joined mine theirs =
     elim joined.kept [
       | inl k ↦
           let own_is : made_by n a.seen ≡ under other.held a.seen = ap (λ (hs : List ℕ). under hs a.seen) (sym theirs) in
           let other_is : under other.held other.seen ≡ made_by n other.seen = ap (λ (hs : List ℕ). under hs other.seen) theirs in
           let seen : made_by n b.seen ≡ made_by n a.seen = ap (made_by n) k.0 in
-          record {
-            more = after;
-            seen = k.0 ∙ begins;
-            earlier = refl;
-            own = seen ∙ own_is ∙ under_known other.held other.seen a.seen k.1 ∙ other_is;
-          }
+          (ap (λ (s : List Entry). map (λ m. made_by m s) ns) k.0, seen ∙ own_is ∙ under_known other.held other.seen a.seen k.1 ∙ other_is)
       | inr k ↦
-          let later = k.1.after in
-          let parts = under_both own ns later in
-          let held : under a.held later ≡ under (own ++ ns) later = ap (λ (hs : List ℕ). under hs later) mine in
+          let after = k.1.after in
+          let parts = under_both own ns after in
+          let held : under a.held after ≡ under (own ++ ns) after = ap (λ (hs : List ℕ). under hs after) mine in
           let gone = k.1.none_after in
-          let none : under ns later ≡ 0 = omega arith in
-          record {
-            more = after ++ later;
-            seen = k.0 ∙ k.1.begins ∙ ap (λ (s : List Entry). s ++ later) begins ∙ append_assoc start after later;
-            earlier = unmoved ns after later none;
-            own = ap (made_by n) k.0;
-          }
+          let none : under ns after ≡ 0 = omega arith in
+          let seen : b.seen ≡ a.seen ++ after = k.0 ∙ k.1.begins in
+          (ap (λ (s : List Entry). map (λ m. made_by m s) ns) seen ∙ unmoved ns a.seen after none, ap (made_by n) k.0)
     ]
 
 -- one more thread's seat is taken in
 pub gathered_more : {G : Type 0} (hears : G → ℕ → ℕ → Reply → Type 0) (gate : G) (steps : ℕ) (table : BoardId)
     (was a other b : SeatValue) (done : List (PromisedHandle Ended (Given G))) (h : PromisedHandle Ended (Given G))
     (reports reports' : List Report) (report : Report) →
-    IsGathered (hears gate) steps table was a done reports → IsHandle gate steps table h → HandleSaw was.seen h →
-    IsBack (hears h.promise.gate.value) h.promise.steps h.promise.seat.value report other → Absorbed a other b → reports' ≡ reports ++
-    report ∷ [] →
+    IsGathered (hears gate) steps table was a done reports → IsHandle gate steps table h →
+    IsBack (hears h.promise.gate.value) h.promise.steps h.promise.seat.value report other → Absorbed a other b →
+    reports' ≡ reports ++ report ∷ [] →
     IsGathered (hears gate) steps table was b (done ++ h ∷ []) reports'
-gathered_more {G} hears gate steps table was a other b done h reports reports' report so given saw back joined items =
-    let start = was.seen in
+gathered_more {G} hears gate steps table was a other b done h reports reports' report so given back joined items =
     let numbers = map handle_number done in
     let n = handle_number h in
     let fresh = given.1 in
     let theirs : other.held ≡ n ∷ [] = sym back.held ∙ fresh.held in
-    let joint = counts_joined start so.credits.after a other b was.held numbers n so.credits.begins joined so.held theirs in
+    let counts = counts_joined a other b was.held numbers n joined so.held theirs in
     let longer : map handle_number (done ++ h ∷ []) ≡ numbers ++ n ∷ [] = map-append handle_number done (h ∷ []) in
-    let of : ℕ → ℕ = λ m. made_by m joint.more in
-    let old : map of numbers ≡ map accepted_of reports = joint.earlier ∙ so.credits.each in
+    let of : ℕ → ℕ = λ m. made_by m b.seen in
+    let old : map of numbers ≡ map accepted_of reports = counts.0 ∙ so.credits in
     let other_is : made_by n other.seen ≡ under other.held other.seen = ap (λ (hs : List ℕ). under hs other.seen) (sym theirs) in
-    let first : under h.promise.seat.value.held h.promise.seat.value.seen ≡ made_by n start =
-    ap (λ (hs : List ℕ). under hs h.promise.seat.value.seen) fresh.held ∙ ap (made_by n) saw in
+    let nothing : under h.promise.seat.value.held h.promise.seat.value.seen ≡ 0 = ap (under h.promise.seat.value.held) fresh.seen in
     let told = back.counted in
-    let split : made_by n b.seen ≡ made_by n start + made_by n joint.more = ap (made_by n) joint.seen ∙
-    under_append (n ∷ []) start joint.more in
-    let same = joint.own in
+    let same = counts.1 in
     let new : of n ≡ report.accepted = omega arith in
     let front : map of (numbers ++ n ∷ []) ≡ map of numbers ++ (of n ∷ []) = map-append of numbers (n ∷ []) in
     let back_is : map accepted_of reports' ≡ map accepted_of reports ++ (report.accepted ∷ []) = ap (map accepted_of) items ∙
@@ -116,5 +101,20 @@ gathered_more {G} hears gate steps table was a other b done h reports reports' r
       each = All-same (IsOfWorker (hears gate) steps) reports' (reports ++ report ∷ []) items
           (All-push (IsOfWorker (hears gate) steps) reports report so.each
           (subst IsAfter given.0 (subst IsThrough given.2 back.report_is)));
-      credits = record { after = joint.more; begins = joint.seen; each = ap (map of) longer ∙ front ∙ ends ∙ sym back_is };
+      credits = ap (map of) longer ∙ front ∙ ends ∙ sym back_is;
+    }
+
+-- if all threads were started and the board is whole, the reports are credited with its entries
+pub credits_of : {G : Type 0} (gate : G) (steps : ℕ) (table : BoardId) (all : Bool) (jobs : Vec Job Global)
+    (handles : Vec (PromisedHandle Ended (Given G)) Global) (reports : List Report) (seat : SeatValue) (closed : Closed) →
+    AreStarted gate steps table jobs all handles → all ≡ true → IsStrictlyIncreasing (map job_number jobs.items) →
+    AreCredited (map handle_number handles.items) reports seat.seen → ClosedBy seat closed →
+    closed.whole ≡ true → Credits reports closed.board.history
+credits_of gate steps table all jobs handles reports seat closed started is_all rising credits is_closed whole =
+    let history : closed.board.history ≡ seat.seen = ap (λ (b : Book). b.history) is_closed.board ∙ (is_closed.whole whole).0 in
+    let P : List ℕ → Type 0 = λ ns. IsStrictlyIncreasing ns in
+    record {
+      numbers = map handle_number handles.items;
+      rising = subst P (sym (started.numbers is_all)) rising;
+      each = ap (λ (h : List Entry). map (λ n. made_by n h) (map handle_number handles.items)) history ∙ credits;
     }

@@ -1,6 +1,6 @@
 pub mod Measures
 pub mod SeatLaws
 pub mod Chains
+pub mod EachRound
 pub mod Credited
-pub mod Conclusions
 pub mod Hearing

@@ -1,24 +1,18 @@
 -- The parts of a run, as its own functions hand them on: memory, seats, jobs and threads.
-use Rattle.std.specs.Prelude.{◌≡◌, ℕ, ◌+◌, ◌^◌, ◌<◌, ◌≤◌, List, [], ◌∷◌, ◌++◌, length, Bool, IsTrue, map, All, Vec, vec_len, vec_capacity}
+use Rattle.std.specs.Prelude.{◌≡◌, ℕ, ◌+◌, ◌<◌, ◌≤◌, [], ◌∷◌, Bool, IsTrue, map, All, Vec, vec_len, vec_capacity}
 use Rattle.std.specs.declared.alloc.Global.{Global}
 use Rattle.std.specs.declared.thread.PromisedHandle.{PromisedHandle}
 use Rattle.league.specs.League.{LeagueData}
-use Rattle.fixture_board.specs.declared.change.Entry.{Entry}
 use Rattle.fixture_board.specs.declared.reply.Reply.{Reply}
-use Rattle.fixture_board.specs.History.{IsLegal}
-use Rattle.shared_board.specs.declared.shared.Closed.{Closed}
 use Rattle.shared_board.specs.Held.{under}
 use Rattle.shared_board.specs.Seats.{BoardId, SeatValue}
 use Rattle.shared_board.specs.Setting.{Setting}
 use Rattle.search.specs.declared.workers.Report.{Report}
-use Rattle.search.specs.declared.runs.SearchPlan.{SearchPlan}
-use Rattle.search.specs.declared.runs.Outcome.{Outcome}
 use Rattle.search.specs.declared.runs.crew.Crew.{Crew}
 use Rattle.search.specs.declared.runs.threads.Job.{Job}
 use Rattle.search.specs.declared.runs.threads.Ended.{Ended}
 use Rattle.search.specs.declared.runs.threads.Given.{Given}
 use Rattle.search.specs.Heard.{IsOfWorker}
-use Rattle.search.specs.Outcomes.{IsWorkers, accepted_in, accepted_of, made_by}
 
 -- a copy for each worker, and room for its job, its thread and its report
 pub record HasRoom {H : Type 0} (workers : ℕ) (c : Crew H) : Type 0 where
@@ -30,19 +24,15 @@ pub record HasRoom {H : Type 0} (workers : ℕ) (c : Crew H) : Type 0 where
   pub no_report : c.reports.items ≡ []
   pub reports : workers ≤ vec_capacity c.reports
 
--- a seat that holds its own number alone, and knows that it is given out. Few of the entries that it has seen are its own
+-- a seat that has seen nothing, holds its own number alone, and knows that it is given out
 pub record IsFresh (table : BoardId) (s : SeatValue) : Type 0 where
   pub table_is : s.table ≡ table
   pub held : s.held ≡ s.number ∷ []
+  pub seen : s.seen ≡ []
   pub given : s.number < s.given
-  pub few : under s.held s.seen < 2 ^ 62
 
 abbrev pub IsJob : BoardId → Job → Type 0
 IsJob table j = IsFresh table j.seat
-
--- the seat of the job has seen this history
-abbrev pub JobSaw : List Entry → Job → Type 0
-JobSaw start j = j.seat.seen ≡ start
 
 -- the seat of the job has this setting
 abbrev pub JobIn : Setting → Job → Type 0
@@ -58,10 +48,6 @@ job_number j = j.seat.number
 -- a thread that takes so many steps at most, by a fresh seat, through the gate
 abbrev pub IsHandle : {G : Type 0} → G → ℕ → BoardId → PromisedHandle Ended (Given G) → Type 0
 IsHandle gate steps table h = (h.promise.steps ≡ steps) × IsFresh table h.promise.seat.value × (h.promise.gate.value ≡ gate)
-
--- the seat that the thread was given has seen this history
-abbrev pub HandleSaw : {G : Type 0} → List Entry → PromisedHandle Ended (Given G) → Type 0
-HandleSaw start h = h.promise.seat.value.seen ≡ start
 
 abbrev pub handle_number : {G : Type 0} → PromisedHandle Ended (Given G) → ℕ
 handle_number h = h.promise.seat.value.number
@@ -79,7 +65,6 @@ pub record AreStarted {G : Type 0} (gate : G) (steps : ℕ) (table : BoardId) (j
     (handles : Vec (PromisedHandle Ended (Given G)) Global) : Type 0 where
   pub handles_are : All (IsHandle gate steps table) handles.items
   pub few : vec_len handles ≤ vec_len jobs
-  pub saw : (start : List Entry) → All (JobSaw start) jobs.items → All (HandleSaw start) handles.items
   pub numbers : IsTrue all → map handle_number handles.items ≡ map job_number jobs.items
 
 -- what comes back from a thread that takes so many steps at most, with the seat that it was given, if the gate heard
@@ -89,20 +74,3 @@ pub record IsBack (heard : ℕ → ℕ → Reply → Type 0) (steps : ℕ) (give
   pub table : given.table ≡ seat.table
   pub held : given.held ≡ seat.held
   pub counted : under seat.held seat.seen ≡ under given.held given.seen + report.accepted
-
--- The history begins with `start`, and after it each number has as many entries as its report has accepted
-pub record AreCredited (start : List Entry) (numbers : List ℕ) (reports : List Report) (h : List Entry) : Type 0 where
-  pub after : List Entry
-  pub begins : h ≡ start ++ after
-  pub each : map (λ n. made_by n after) numbers ≡ map accepted_of reports
-
--- The outcome has the board and the reports. The board is whole, and has as many entries more than before as were accepted
-pub record IsConcluded (plan : SearchPlan) (before : ℕ) (closed : Closed) (reports : List Report) (o : Outcome) : Type 0 where
-  pub workers : IsWorkers plan
-  pub plan_is : o.plan ≡ plan
-  pub many : length o.reports ≡ plan.workers
-  pub board_is : o.board ≡ closed.board
-  pub reports_are : o.reports ≡ reports
-  pub whole : IsTrue closed.whole
-  pub legal : IsLegal closed.board.league closed.board.room closed.board.history
-  pub sum : before + accepted_in reports ≡ length closed.board.history

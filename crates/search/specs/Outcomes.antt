@@ -1,5 +1,5 @@
 -- What a run answers.
-use Rattle.std.specs.Prelude.{◌≡◌, ◌⊎◌, ℕ, ◌≤◌, List, [], ◌∷◌, ◌++◌, length, map, sum_by, All, Option, Some, None}
+use Rattle.std.specs.Prelude.{◌≡◌, ◌⊎◌, ℕ, ◌≤◌, List, [], ◌∷◌, length, map, sum_by, All, Option, Some, None}
 use Rattle.std.specs.List.Sorted.{IsStrictlyIncreasing}
 use Rattle.fixture_board.specs.declared.change.Entry.{Entry}
 use Rattle.fixture_board.specs.History.{IsLegal}
@@ -26,21 +26,19 @@ accepted_of r = r.accepted
 abbrev pub accepted_in : List Report → ℕ
 accepted_in = sum_by accepted_of
 
+-- each number has as many entries as its report has accepted
+abbrev pub AreCredited : List ℕ → List Report → List Entry → Type 0
+AreCredited numbers reports h = map (λ n. made_by n h) numbers ≡ map accepted_of reports
+
 -- The workers have numbers, each below the next, and each worker's accepted count is the number of entries under its own
 pub record Credits (reports : List Report) (h : List Entry) : Type 0 where
   pub numbers : List ℕ
   pub rising : IsStrictlyIncreasing numbers
-  pub each : map (λ n. made_by n h) numbers ≡ map accepted_of reports
+  pub each : AreCredited numbers reports h
 
--- The history begins with `start`. As many entries come after it as were accepted, and the reports are credited with these
-pub record AreAdded (reports : List Report) (start h : List Entry) : Type 0 where
-  pub after : List Entry
-  pub begins : h ≡ start ++ after
-  pub sum : accepted_in reports ≡ length after
-  pub credits : Credits reports after
-
--- however a run began: its plan, a board of the same league and room at a legal history, and a report for each worker
-pub record IsEnded (plan : SearchPlan) (was : Book) (o : Outcome) : Type 0 where
+-- The plan, a board of the same league and room at a legal history, and a report for each worker. Each entry of the history was
+-- accepted, and the reports are credited with it
+pub record IsOutcome (plan : SearchPlan) (was : Book) (o : Outcome) : Type 0 where
   pub plan_is : o.plan ≡ plan
   pub workers : IsWorkers plan
   pub league : o.board.league ≡ was.league
@@ -48,15 +46,6 @@ pub record IsEnded (plan : SearchPlan) (was : Book) (o : Outcome) : Type 0 where
   pub legal : IsLegal o.board.league o.board.room o.board.history
   pub many : length o.reports ≡ plan.workers
   pub each : All (IsReport plan.steps) o.reports
-
--- the outcome of a run that went on from a board's history
-pub record IsResumed (plan : SearchPlan) (was : Book) (o : Outcome) : Type 0 where
-  pub ended : IsEnded plan was o
-  pub added : AreAdded o.reports was.history o.board.history
-
--- the outcome of a run from a board without an entry
-pub record IsOutcome (plan : SearchPlan) (was : Book) (o : Outcome) : Type 0 where
-  pub ended : IsEnded plan was o
   pub sum : accepted_in o.reports ≡ length o.board.history
   pub credits : Credits o.reports o.board.history
 

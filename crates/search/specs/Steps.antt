@@ -11,8 +11,6 @@ use Rattle.moves.specs.Moves.{fault_of, moved}
 use Rattle.fixture_board.specs.declared.cost.Cost.{Cost}
 use Rattle.fixture_board.specs.Costs.{cost_of, score_of}
 use Rattle.search.specs.declared.workers.Report.{Report}
-use Rattle.search.specs.declared.workers.SlackCourse.{SlackCourse}
-use Rattle.search.specs.declared.workers.SlackCourse.TheVariants.{Falls, Stays}
 use Rattle.search.specs.declared.workers.steps.StepResult.{StepResult}
 use Rattle.search.specs.declared.workers.steps.StepResult.TheVariants.{Nothing, Accepted, Refused, Full}
 
@@ -20,11 +18,6 @@ use Rattle.search.specs.declared.workers.steps.StepResult.TheVariants.{Nothing, 
 -- as there are steps
 abbrev pub slack_of : ℕ → ℕ → ℕ → ℕ
 slack_of slack steps s = slack * (steps - s) / steps
-
--- the slack of step s, as the plan's goes on
-abbrev pub slack_in : SlackCourse → ℕ → ℕ → ℕ → ℕ
-slack_in Falls slack steps s = slack_of slack steps s
-slack_in Stays slack steps s = slack
 
 -- how many of its proposals a step had accepted
 abbrev pub accepted_count : StepResult → ℕ

@@ -29,7 +29,7 @@ pub trait Gate {
     /// After its reply.
     fn left<R: Wait>(&self, rt: &R, worker: u32, made: u32);
 
-    /// Before the first step of a worker.
+    /// Before the first step of a worker, or before workers go on after a text was written.
     fn begun<R: Wait>(&self, _rt: &R, _worker: u32) {}
 
     /// After how many steps a worker is to tell. It is asked after each step.
@@ -37,10 +37,11 @@ pub trait Gate {
         STEPS_TO_TELL
     }
 
-    /// When the worker took so many steps, or more, since it last told.
+    /// When the worker took so many steps, or more, since it last told, and when it ends, if it took one since then. So the steps that are
+    /// told add up to those that it took.
     fn told<R: Wait>(&self, _rt: &R, _worker: u32, _progress: Progress) {}
 
-    /// When all workers of a run have ended.
+    /// When all workers of a run have ended, or before a text is written while some go on.
     fn ended<R: Wait>(&self, _rt: &R) {}
 }
 

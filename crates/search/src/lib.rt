@@ -12,11 +12,8 @@ mod workers;
 mod workplace;
 
 pub use doors::{Door, LockedDoor, OwnDoor, SeatDoor};
-pub use draws::draw;
+pub use draws::{Draws, draw, draw_among, each_round};
 pub use gates::{Gate, NoGate, Progress};
-pub use runs::{
-    MAX_WORKERS, Outcome, PhasePlan, Reports, RunFault, RunRefused, SearchPlan, resume,
-    resume_with, run, run_with,
-};
-pub use workers::{Report, SlackCourse, WorkerPlan, worker};
+pub use runs::{MAX_WORKERS, Outcome, Reports, RunFault, RunRefused, SearchPlan, run, run_with};
+pub use workers::{Report, WorkerPlan, worker};
 pub use workplace::Workplace;

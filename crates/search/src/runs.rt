@@ -1,12 +1,12 @@
 //! A run: workers in threads, on one shared board.
 
-ghost use Rattle.std.specs.Prelude.{◌≡◌, ◌<◌, ◌≤◌, [], Some, length, slice_index_or, All, IfOk, IfErr, IsTrue};
-ghost use Rattle.shared_board.specs.Held.{AreOf};
+ghost use Rattle.std.specs.Prelude.{◌≡◌, ◌<◌, [], Some, length, slice_index_or, All, IfOk, IfErr, IsTrue};
 ghost use Rattle.shared_board.specs.Setting.{board_at};
-ghost use Rattle.search.specs.Outcomes.{IsAlike, IsOutcome, IsRefusal, IsResumed, IsWorkers};
+ghost use Rattle.search.specs.Outcomes.{Credits, IsAlike, IsOutcome, IsRefusal, IsWorkers};
 ghost use Rattle.search.specs.Heard.{IsOfWorker};
 ghost use Rattle.search.specs.declared.runs.RunFault.TheVariants.{Receipts};
-ghost use Rattle.search.specs.Crews.{HasRoom, IsConcluded, IsFresh};
+ghost use Rattle.search.specs.Crews.{HasRoom, IsFresh};
+ghost use Rattle.search.specs.Reports.{IsReport};
 ghost use Rattle.search.specs.declared.workers.Report.{Report};
 
 mod crew;
@@ -14,7 +14,7 @@ mod threads;
 
 use crate::gates::{Hearing, HearingGate};
 use crate::workers::{Means, Measure, Report};
-use crate::{Gate, NoGate, SlackCourse, Workplace};
+use crate::{Gate, NoGate, Workplace};
 use crew::Crew;
 use fixture_board::Board;
 use league::League;
@@ -40,15 +40,6 @@ pub struct SearchPlan {
     pub steps: u32,
     /// By how much a score may rise at a worker's first step.
     pub slack: u64,
-}
-
-/// What a run is to do that goes on from a board's history.
-#[derive(Clone, Copy, Debug, PartialEq, Eq)]
-pub struct PhasePlan {
-    /// What each worker is to do. The slack is that of its first step.
-    pub search: SearchPlan,
-    /// How the slack goes on from each worker's first step.
-    pub course: SlackCourse,
 }
 
 /// The reports of a run's workers, in their order. Contracts see the list.
@@ -149,53 +140,17 @@ pub fn run_with<R: Threads + Wait + Sync, G: Gate + Sync>(
     ensures done { IfOk result (IsOutcome plan board) }
     ensures refused { IfErr result (IsRefusal plan board) }
 {
-    let course = SlackCourse::Falls;
-    let search = plan;
-    resume_with(workplace, league, board, PhasePlan { search, course })
-}
-
-/// As `run`, from a board whose entries are all of caller 0. The history goes on from there, and the reports count the
-/// entries after it. The slack falls as in a run, or stays. The league has to be the board's own here too.
-pub fn resume<R: Threads + Wait + Sync>(
-    rt: &R,
-    alloc: Global,
-    league: &League,
-    board: Board,
-    phase: PhasePlan,
-) -> Result<Outcome, RunRefused>
-    requires { AreOf 0 board.history }
-    ensures done { IfOk result (IsResumed phase.search board) }
-    ensures refused { IfErr result (IsRefusal phase.search board) }
-{
-    let gate = &NoGate;
-    resume_with(Workplace { rt, alloc, gate }, league, board, phase)
-}
-
-/// As `resume`, in a workplace, whose gate the workers pass. The league has to be the board's own here too.
-pub fn resume_with<R: Threads + Wait + Sync, G: Gate + Sync>(
-    workplace: Workplace<'_, R, G>,
-    league: &League,
-    board: Board,
-    phase: PhasePlan,
-) -> Result<Outcome, RunRefused>
-    requires { AreOf 0 board.history }
-    ensures done { IfOk result (IsResumed phase.search board) }
-    ensures refused { IfErr result (IsRefusal phase.search board) }
-{
     let Workplace { rt, alloc, gate } = workplace;
-    let (crew, board) = crew_for(alloc, board, phase.search)?;
-    let version = board.version();
-    let room = board.room();
-    prove!(version <= u64::from(room));
+    let (crew, board) = crew_for(alloc, board, plan)?;
     let of_boards = league.is_same(board.league());
     let measure = Measure { league, of_boards };
-    let Ok((shared, seat)) = Shared::resume(alloc, board) else {
+    let Ok((shared, seat)) = Shared::new(alloc, board) else {
         let why = RunFault::Memory;
         return Err(RunRefused { why, board: None });
     };
     let gate = &Hearing { gate };
     let means = Means { rt, gate, measure };
-    search(means, shared, seat, crew, phase)
+    search(means, shared, seat, crew, plan)
 }
 
 /// The crew of a plan, beside the board. If there is none, the board comes back as it was.
@@ -232,18 +187,17 @@ fn search<R: Threads + Wait + Sync, G: HearingGate + Sync>(
     shared: Shared,
     mut seat: Seat,
     crew: Crew<Handle<G>>,
-    phase: PhasePlan,
+    plan: SearchPlan,
 ) -> Result<Outcome, RunRefused>
     requires seat { IsFresh shared seat }
     requires measured { IsTrue means.measure.of_boards → seat.setting.league ≡ means.measure.league.now }
-    requires crew { HasRoom phase.search.workers crew }
-    requires workers { IsWorkers phase.search }
-    ensures done { IfOk result (IsResumed phase.search (board_at seat.setting seat.seen)) }
-    ensures heard { IfOk result (λ o. All (IsOfWorker (G.heard means.entry.gate.now) phase.search.steps) o.reports) }
-    ensures refused { IfErr result (IsRefusal phase.search (board_at seat.setting seat.seen)) }
+    requires crew { HasRoom plan.workers crew }
+    requires workers { IsWorkers plan }
+    ensures done { IfOk result (IsOutcome plan (board_at seat.setting [])) }
+    ensures heard { IfOk result (λ o. All (IsOfWorker (G.heard means.entry.gate.now) plan.steps) o.reports) }
+    ensures refused { IfErr result (IsRefusal plan (board_at seat.setting [])) }
 {
     let rt = means.rt;
-    let before = seat.seen();
     let Crew {
         copies,
         jobs,
@@ -258,7 +212,7 @@ fn search<R: Threads + Wait + Sync, G: HearingGate + Sync>(
     let run = Run {
         means,
         shared: &shared,
-        phase,
+        plan,
     };
     let (all, handles) = launch(run, jobs, handles);
     let reports = gather(run, &mut seat, handles, reports);
@@ -268,25 +222,22 @@ fn search<R: Threads + Wait + Sync, G: HearingGate + Sync>(
         let board = Some(closed.board);
         return Err(RunRefused { why, board });
     }
-    conclude(phase.search, before, closed, reports)
+    conclude(plan, closed, reports)
 }
 
-/// The outcome, if the board is whole and the accepted proposals of the reports are its entries after so many.
-fn conclude(
-    plan: SearchPlan,
-    before: u64,
-    closed: Closed,
-    reports: Vec<Report>,
-) -> Result<Outcome, RunRefused>
+/// The outcome, if the board is whole and the accepted proposals of the reports are its entries.
+fn conclude(plan: SearchPlan, closed: Closed, reports: Vec<Report>) -> Result<Outcome, RunRefused>
     requires workers { IsWorkers plan }
     requires many { length reports.items ≡ plan.workers }
-    requires begins { IsTrue closed.whole → before ≤ length closed.board.history }
-    ensures done { IfOk result (IsConcluded plan before closed reports.items) }
+    requires each { All (IsReport plan.steps) reports.items }
+    requires credits { IsTrue closed.whole → Credits reports.items closed.board.history }
+    ensures done { IfOk result (IsOutcome plan closed.board) }
+    ensures reports { IfOk result (λ o. o.reports ≡ reports.items) }
     ensures refused { IfErr result (λ e. (e.why ≡ Receipts) × IsAlike closed.board e.board) }
 {
     let accepted = accepted_in(&reports);
     let Closed { board, whole } = closed;
-    if !whole || accepted != board.version() - before {
+    if !whole || accepted != board.version() {
         let why = RunFault::Receipts;
         let board = Some(board);
         return Err(RunRefused { why, board });

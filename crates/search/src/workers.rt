@@ -4,7 +4,7 @@ ghost use Rattle.std.specs.Prelude.{◌≡◌, ◌+◌, ◌^◌, ◌<◌};
 ghost use Rattle.league.specs.League.{teams};
 ghost use Rattle.search.specs.Heard.{IsHeard};
 ghost use Rattle.search.specs.Reports.{IsReport};
-ghost use Rattle.search.specs.Steps.{IsMeasured, report_with, slack_in};
+ghost use Rattle.search.specs.Steps.{IsMeasured, report_with, slack_of};
 
 mod steps;
 
@@ -30,15 +30,6 @@ pub struct WorkerPlan {
     /// By how much the score may rise at the first step. It falls in a line, from each step to the next by one part of
     /// as many as there are steps.
     pub slack: u64,
-}
-
-/// How the slack goes on from a worker's first step.
-#[derive(Clone, Copy, Debug, PartialEq, Eq)]
-pub enum SlackCourse {
-    /// In a line, from each step to the next by one part of as many as there are steps.
-    Falls,
-    /// At each step it is what it was at the first.
-    Stays,
 }
 
 /// How many proposals a worker made, and what the board answered.
@@ -105,15 +96,14 @@ pub fn worker<R: Wait, D: Door, G: Gate>(
     };
     let gate = &Hearing { gate };
     let means = Means { rt, gate, measure };
-    take_steps(means, door, plan, SlackCourse::Falls, copy)
+    take_steps(means, door, plan, copy)
 }
 
-/// What a worker does, with a slack that falls or stays. Its report counts the replies that the gate heard.
+/// What a worker does. Its report counts the replies that the gate heard.
 pub(crate) fn take_steps<R: Wait, D: Door, G: HearingGate>(
     means: Means<'_, R, G>,
     door: &mut D,
     plan: WorkerPlan,
-    course: SlackCourse,
     copy: &mut Schedule,
 ) -> Report
     requires few { D.granted door.old < 2 ^ 62 }
@@ -147,44 +137,52 @@ pub(crate) fn take_steps<R: Wait, D: Door, G: HearingGate>(
             let trial = Trial {
                 worker: plan.worker,
                 made: report.made,
-                slack: slack_at(plan, course, s),
+                slack: slack_at(plan, s),
                 mv: draw(&mut generator, teams),
             };
             let told = step(means, door, copy, &mut kept, trial);
             report = report.with(told);
-            match told {
-                StepResult::Nothing | StepResult::Refused => {}
-                StepResult::Accepted(cost) => progress.least = least_with(progress.least, cost),
-                StepResult::Full => break,
+            progress = progress_after(progress, told, kept.known.version);
+            if let StepResult::Full = told {
+                break;
             }
-            progress.version = kept.known.version;
-            tell(means, plan.worker, &mut progress);
+            if means.gate.pause() <= progress.steps {
+                tell(means, plan.worker, &mut progress);
+            }
         }
+        tell(means, plan.worker, &mut progress);
     }
     report
 }
 
-/// Counts a step, and tells the gate how far the worker is once its pause is over.
+/// How far the worker is after one more step, with a copy of this version.
+fn progress_after(progress: Progress, told: StepResult, version: u64) -> Progress {
+    let least = match told {
+        StepResult::Accepted(cost) => least_with(progress.least, cost),
+        _ => progress.least,
+    };
+    Progress {
+        steps: progress.steps.saturating_add(1),
+        version,
+        least,
+    }
+}
+
+/// Tells the gate how far the worker is, if it took a step since it last told.
 fn tell<R: Wait, G: HearingGate>(means: Means<'_, R, G>, worker: u32, progress: &mut Progress) {
-    progress.steps = progress.steps.saturating_add(1);
-    if means.gate.pause() <= progress.steps {
+    if 0 < progress.steps {
         means.gate.told(means.rt, worker, *progress);
         progress.steps = 0;
     }
 }
 
 /// The slack of a step, from 0.
-fn slack_at(plan: WorkerPlan, course: SlackCourse, s: u32) -> u64
+fn slack_at(plan: WorkerPlan, s: u32) -> u64
     requires { s < plan.steps }
-    ensures { result ≡ slack_in course plan.slack plan.steps s }
+    ensures { result ≡ slack_of plan.slack plan.steps s }
 {
-    match course {
-        SlackCourse::Falls => {
-            let steps = u64::from(plan.steps);
-            let left = u64::from(plan.steps - s);
-            // the slack times the steps left may need 128 bits, and its quotient and remainder need 64 each
-            plan.slack / steps * left + plan.slack % steps * left / steps
-        }
-        SlackCourse::Stays => plan.slack,
-    }
+    let steps = u64::from(plan.steps);
+    let left = u64::from(plan.steps - s);
+    // the slack times the steps left may need 128 bits, and its quotient and remainder need 64 each
+    plan.slack / steps * left + plan.slack % steps * left / steps
 }

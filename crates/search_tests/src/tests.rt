@@ -9,7 +9,6 @@ mod memory;
 mod own_streams;
 mod phased;
 mod recorder;
-mod resumed;
 mod runs;
 mod searches;
 mod sizes;

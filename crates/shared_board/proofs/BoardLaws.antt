@@ -1,34 +1,22 @@
 -- The laws of one thread's board, as this crate's lemmas name them.
-use Rattle.std.proofs.Common.{◌≡◌, ℕ, ◌≤◌, Option, Some, None, List, [], ◌∷◌, ◌++◌, refl, subst, sym, arith, append_assoc}
+use Rattle.std.proofs.Common.{◌≡◌, ℕ, ◌≤◌, List, [], ◌∷◌, ◌++◌, refl, subst, sym, arith, append_assoc}
 use Rattle.std.proofs.lemmas.List.{append-nil}
 use Rattle.league.specs.League.{LeagueData, IsLeague}
 use Rattle.fixture_board.specs.declared.ask.Ask.{Ask}
-use Rattle.fixture_board.specs.declared.change.Change.{Change}
 use Rattle.fixture_board.specs.declared.change.Entry.{Entry}
-use Rattle.fixture_board.specs.declared.reply.Why.{Why}
-use Rattle.shared_board.specs.Held.{AreOf}
-use Rattle.shared_board.proofs.Counts.{own_append}
 use Rattle.fixture_board.specs.History.{IsLegal, best_of, best_prefix, as_best, games_of, games_after, effective, cost_at}
 use Rattle.league.specs.Starts.{start_of}
 use Rattle.fixture_board.specs.Costs.{cost_of}
 use Rattle.fixture_board.specs.Laws.{least_of, as_number, TellsOf}
-use Rattle.fixture_board.specs.Replies.{entry, next_if, next_of, refusal, reply_of}
-use Rattle.fixture_board.proofs.ForCallers.{is_legal_next, tells_of_reply, least_of_falls}
+use Rattle.fixture_board.specs.Replies.{entry, next_of, reply_of}
+use Rattle.fixture_board.proofs.ForCallers.{is_legal_none, is_legal_next, tells_of_reply, least_of_falls}
+
+pub legal_start : (league : LeagueData) (room : ℕ) → IsLegal league room []
+legal_start league room = is_legal_none league room
 
 pub legal_next : (league : LeagueData) (room : ℕ) (h : List Entry) (caller : ℕ) (ask : Ask) → IsLegal league room h →
     IsLegal league room (next_of league room h caller ask)
 legal_next league room h caller ask legal = is_legal_next league room h caller ask legal
-
-are_of_if : (why : Option Why) (n : ℕ) (h : List Entry) (change : Change) → AreOf n h →
-    AreOf n (next_if why h (record { caller = n; change = change }))
-are_of_if None n h change own = own_append n h (record { caller = n; change = change } ∷ []) own (refl, tt)
-are_of_if (Some why) n h change own = own
-
--- a call under the number of all entries leaves them so
-pub are_of_next : (league : LeagueData) (room : ℕ) (h : List Entry) (caller : ℕ) (ask : Ask) → AreOf caller h →
-    AreOf caller (next_of league room h caller ask)
-unfolding next_of
-are_of_next league room h caller ask own = are_of_if (refusal league room h ask) caller h (entry caller ask).change own
 
 pub reply_tells : (league : LeagueData) (room : ℕ) (h : List Entry) (caller : ℕ) (ask : Ask) →
     TellsOf league h (entry caller ask) (next_of league room h caller ask) (reply_of league room h ask)

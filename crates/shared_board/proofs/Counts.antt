@@ -7,7 +7,7 @@ use mathlib.Core.Logic.{dite}
 use native.Mathlib.Decide.{ℕ_discrete, dec_le}
 use lib.ListN.{get_elem?}
 use Rattle.fixture_board.specs.declared.change.Entry.{Entry}
-use Rattle.shared_board.specs.Held.{times, once_below, total, under, HoldsEach, AreOf, callers_below}
+use Rattle.shared_board.specs.Held.{times, once_below, total, under, HoldsEach, callers_below}
 
 pub times_append : (x : ℕ) (a b : List ℕ) → times x (a ++ b) ≡ times x a + times x b
 times_append x [] b = omega arith
@@ -41,14 +41,6 @@ pub under_all : (held : List ℕ) (n : ℕ) (es : List Entry) → callers_below 
     under held es ≡ length es
 under_all held n [] below all = refl
 under_all held n (e ∷ es) below all = omega (arith, all e.caller below.0, under_all held n es below.1 all)
-
-pub own_append : (n : ℕ) (a b : List Entry) → AreOf n a → AreOf n b → AreOf n (a ++ b)
-own_append n [] b p q = q
-own_append n (e ∷ a) b p q = (p.0, own_append n a b p.1 q)
-
-pub callers_own : (n : ℕ) (es : List Entry) → AreOf n es → callers_below (n + 1) es
-callers_own n [] own = tt
-callers_own n (e ∷ es) own = let first = own.0 in (omega arith, callers_own n es own.1)
 
 pub callers_append : (n : ℕ) (a b : List Entry) → callers_below n a → callers_below n b → callers_below n (a ++ b)
 callers_append n [] b p q = q
@@ -101,11 +93,6 @@ times_one n x = grind (arith, nat_tests)
 
 pub times_self : (n : ℕ) → times n (n ∷ []) ≡ 1
 times_self n = grind (arith, nat_tests)
-
--- entries that are all one's own
-pub under_own : (n : ℕ) (es : List Entry) → AreOf n es → under (n ∷ []) es ≡ length es
-under_own n [] own = refl
-under_own n (e ∷ es) own = omega (arith, ap (λ x. times x (n ∷ [])) own.0 ∙ times_self n, under_own n es own.1)
 
 module _ {A : Type 0} (f : A → ℕ) where
   pub total_append : (xs ys : List A) → total f (xs ++ ys) ≡ total f xs + total f ys

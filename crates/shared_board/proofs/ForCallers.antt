@@ -1,3 +1,2 @@
 -- The lemmas that other crates may cite.
-pub use Rattle.shared_board.proofs.Counts.{under_append, under_both, under_own}
-pub use Rattle.shared_board.proofs.BoardLaws.{are_of_next}
+pub use Rattle.shared_board.proofs.Counts.{under_append, under_both}

@@ -1,4 +1,4 @@
-pub mod BoardLaws
+mod BoardLaws
 pub mod Counts
 mod Views
 mod Steps

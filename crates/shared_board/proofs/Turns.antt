@@ -14,19 +14,19 @@ use Rattle.atomic_table.proofs.Lists.{at_set}
 use Rattle.fixture_board.specs.declared.change.Entry.{Entry}
 use Rattle.fixture_board.specs.History.{IsLegal}
 use Rattle.fixture_board.specs.Laws.{least_of}
-use Rattle.fixture_board.specs.Record.{Book}
+use Rattle.fixture_board.specs.Record.{Book, book}
 use Rattle.league.specs.League.{IsLeague}
 use Rattle.shared_board.specs.declared.view.View.{View}
 use Rattle.shared_board.specs.Setting.{Setting, board_at}
 use Rattle.shared_board.specs.Stage.{Stage, away, holds, counts, owes, kept, owed, IsSettled}
-use Rattle.shared_board.specs.Held.{times, once_below, AreOf, callers_below}
+use Rattle.shared_board.specs.Held.{times, once_below, callers_below}
 use Rattle.shared_board.specs.Rule.{Knows, Lowest, Fits, upto, Added, IsHolder, IsDrawn, Ruled, first_view}
 use Rattle.shared_board.specs.Plays.{Token, Meets, took, committed, posted, left, quit, counted, drawn, drawing}
 use Rattle.shared_board.specs.Plays.{counting, at_stage, saw, on_board}
 use Rattle.shared_board.specs.Between.{Table}
 use Rattle.shared_board.specs.Seats.{HasBoard}
-use Rattle.shared_board.proofs.BoardLaws.{least_falls}
-use Rattle.shared_board.proofs.Counts.{under_both, under_none, callers_own, callers_append, callers_after, callers_more}
+use Rattle.shared_board.proofs.BoardLaws.{legal_start, least_falls}
+use Rattle.shared_board.proofs.Counts.{under_both, under_none, callers_append, callers_after, callers_more}
 use Rattle.shared_board.proofs.Counts.{once_most, once_next, times_own, held_below, total_two}
 use Rattle.shared_board.proofs.Views.{owned, settled_not_away, settled_knows, settled_upto, fits_at, fits_stage}
 use Rattle.shared_board.proofs.Views.{fits_longer, fits_more, fits_saw, knows_all, lowest_all, formers_held, read_set}
@@ -362,44 +362,42 @@ only_one : (v : View) (j : ℕ) (u : View) → get_elem? (v ∷ []) j ≡ some u
 only_one v zero u at = some-injective v u at
 only_one v (suc j) u at = absurd (some-ne-none u (sym at))
 
-first_fits : (b : Book) → Fits (record { league = b.league; room = b.room }) b.history (length b.history) 1 (first_view b)
+first_fits : (b : Book) → Fits (record { league = b.league; room = b.room }) [] 0 1 (first_view b)
 first_fits b = record {
   setting_is = refl;
-  knows = knows_all (0 ∷ []) b.history;
+  knows = knows_all (0 ∷ []) [];
   glanced = omega arith;
-  lowest = lowest_all (record { league = b.league; room = b.room }) b.history;
+  lowest = lowest_all (record { league = b.league; room = b.room }) [];
   given = omega arith;
   formers = tt;
 }
 
--- a board whose entries are all of caller 0, and its first seat
-pub opens : (b : Book) (long best : ℕ) → AreOf 0 b.history → IsLegal b.league b.room b.history → IsLeague b.league →
-    long ≡ length b.history → best ≡ least_of b.league b.history
-    → Ruled (opening (0 ∷ long ∷ 1 ∷ best ∷ []) (Some b ∷ []) (first_view b))
-opens b long best own legal limits long_is best_is =
+-- a board without an entry, and its first seat
+pub opens : (b : Book) (best : ℕ) → b.history ≡ [] → IsLeague b.league → best ≡ least_of b.league [] →
+    Ruled (opening (0 ∷ 0 ∷ 1 ∷ best ∷ []) (Some b ∷ []) (first_view b))
+opens b best empty limits best_is =
     let setting : Setting = record { league = b.league; room = b.room } in
-    let h : List Entry = b.history in
     let v = first_view b in
     record {
       setting = setting;
-      posted = h;
-      history = h;
+      posted = [];
+      history = [];
       turn = 0;
       numbers = 1;
       home = some (Some b);
-      words = ap (λ (n : ℕ). 0 ∷ n ∷ 1 ∷ best ∷ []) long_is ∙ ap (λ (n : ℕ). 0 ∷ length h ∷ 1 ∷ n ∷ []) best_is;
+      words = ap (λ (n : ℕ). 0 ∷ 0 ∷ 1 ∷ n ∷ []) best_is;
       homes = refl;
       limits = limits;
-      legal = legal;
-      callers = callers_own 0 h own;
+      legal = legal_start b.league b.room;
+      callers = tt;
       few = omega arith;
       once = λ x. opens_once x;
       drawn = λ n some_below less. absurd (omega arith);
-      seats = λ j u at live. (let F : View → Type 0 = λ t. Fits setting (upto t.stage h h) (length h) 1 t in
+      seats = λ j u at live. (let F : View → Type 0 = λ t. Fits setting (upto t.stage [] []) 0 1 t in
           subst F (only_one v j u at) (first_fits b));
       turns = inl (record {
         turn_is = refl;
-        home_is = refl;
+        home_is = ap (λ (h : List Entry). some (Some (book b.league b.room h))) empty;
         all_posted = refl;
         all_away = λ j u at. ap (λ (t : View). t.stage) (sym (only_one v j u at));
       });

@@ -1,5 +1,5 @@
 -- Numbers that seats hold, and entries under them.
-use Rattle.std.specs.Prelude.{◌≡◌, ℕ, ◌+◌, ◌<◌, List, [], ◌∷◌, cond, ◌==◌, nat_lt}
+use Rattle.std.specs.Prelude.{ℕ, ◌+◌, ◌<◌, List, [], ◌∷◌, cond, ◌==◌, nat_lt}
 use Rattle.fixture_board.specs.declared.change.Entry.{Entry}
 
 -- how often x stands in the list
@@ -24,11 +24,6 @@ under held (e ∷ es) = times e.caller held + under held es
 -- each number below n is held
 abbrev pub HoldsEach : ℕ → List ℕ → Type 0
 HoldsEach n held = (x : ℕ) → x < n → 0 < times x held
-
--- each entry is under this number
-abbrev pub AreOf : ℕ → List Entry → Type 0
-AreOf n [] = Unit {0}
-AreOf n (e ∷ es) = (e.caller ≡ n) × AreOf n es
 
 abbrev pub callers_below : ℕ → List Entry → Type 0
 callers_below n [] = Unit {0}

@@ -14,15 +14,15 @@ use Rattle.shared_board.specs.Setting.{Setting, board_at}
 use Rattle.shared_board.specs.Stage.{Stage, Former, away, holds, counts, owes}
 use Rattle.shared_board.specs.Held.{times, once_below, total, under, callers_below}
 
--- the first seat of a board, which has seen its history
+-- the first seat of a board without an entry
 abbrev pub first_view : Book → View
 first_view b = record {
   setting = record { league = b.league; room = b.room };
   live = true;
   held = 0 ∷ [];
-  seen = b.history;
-  glanced = length b.history;
-  lowest = least_of b.league b.history;
+  seen = [];
+  glanced = 0;
+  lowest = least_of b.league [];
   given = 1;
   formers = [];
   stage = away;

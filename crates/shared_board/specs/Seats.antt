@@ -91,7 +91,7 @@ pub record Answered (a b : SeatValue) (ask : Ask) (reply : Reply) : Type 0 where
   pub replied : reply ≡ reply_of a.setting.league a.setting.room history ask
   pub now : b ≡ now_seen a (next_of a.setting.league a.setting.room history a.number ask)
 
--- the first seat of a board without an entry
+-- the first seat of a board
 abbrev pub first_seat : BoardId → Setting → SeatValue
 first_seat table setting = record {
   table = table;

@@ -1,8 +1,8 @@
 //! The board behind a turn, and the seats of its callers.
 
 ghost use Rattle.std.specs.Prelude.{◌≡◌, [], length, IfOk};
-ghost use Rattle.shared_board.specs.Seats.{IsConsistent, first_seat, now_seen};
-ghost use Rattle.shared_board.specs.Held.{AreOf, under};
+ghost use Rattle.shared_board.specs.Seats.{IsConsistent, first_seat};
+ghost use Rattle.shared_board.specs.Held.{under};
 
 mod calls;
 mod seats;
@@ -146,22 +146,11 @@ impl Shared {
         requires { board.history ≡ [] }
         ensures { IfOk result (λ r. r.1 ≡ first_seat r.0 (record { league = board.league; room = board.room })) }
     {
-        Shared::resume(alloc, board)
-    }
-
-    /// A shared board that goes on from a history, and its first seat, number 0. Each entry has to be of caller 0: they
-    /// are the seat's, which has seen them all. If there is no memory the board is dropped.
-    pub fn resume(alloc: Global, board: Board) -> Result<(Shared, Seat), AllocError>
-        requires { AreOf 0 board.history }
-        ensures { IfOk result (λ r. r.1 ≡
-            now_seen (first_seat r.0 (record { league = board.league; room = board.room })) board.history) }
-    {
         let best = turn::number_of(board.best());
-        let version = board.version();
         let key = Snapshot::of(&board);
         let mut slots = Vec::with_capacity(alloc, 1)?;
         slots.push_reserved(Some(board));
-        let words = [0, version, 1, best];
+        let words = [0, 0, 1, best];
         let Ok((table, token)) = Table::new(alloc, &words, slots, &key) else {
             return Err(AllocError);
         };
@@ -169,8 +158,8 @@ impl Shared {
             token,
             number: 0,
             held: 1,
-            seen: version,
-            accepted: version,
+            seen: 0,
+            accepted: 0,
         };
         Ok((Shared { table }, seat))
     }

@@ -1,13 +1,10 @@
 //! Boards of four teams on a circle.
 
 ghost use Rattle.std.specs.Prelude.{◌≡◌, [], IfOk, IfSome};
-ghost use Rattle.shared_board.specs.Held.{AreOf};
 
-use crate::tests::questions::to_shift;
-use fixture_board::{Ask, Board};
+use fixture_board::Board;
 use fixtures::Schedule;
 use league::{circular, read_league};
-use moves::Move;
 use shared_board::{Seat, Shared};
 use std::alloc::Global;
 use std::test::Fail;
@@ -35,16 +32,6 @@ pub(crate) fn circle(alloc: Global) -> Option<Board>
     ensures { IfSome result (λ b. b.history ≡ []) }
 {
     Board::new(alloc, circular(alloc, 4).ok()?, 8).ok()
-}
-
-/// A board with two entries of caller 0: the home rights of teams 1 and 2 are exchanged, which is undone.
-pub(crate) fn undone(alloc: Global) -> Option<Board>
-    ensures { IfSome result (λ b. AreOf 0 b.history) }
-{
-    let mut board = circle(alloc)?;
-    board.answer(0, to_shift(0, Move::Homes { i: 0, j: 1 }));
-    board.answer(0, Ask::Undo { version: 1 });
-    Some(board)
 }
 
 /// A shared board with room for eight entries, its first seat, and a copy to look into.

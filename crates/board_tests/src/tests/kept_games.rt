@@ -18,7 +18,7 @@ use std::sync::Wait;
 use std::test::Fail;
 
 /// A drawn league that begins at a drawn schedule, keeps two of its rounds and asks a price for leaving it.
-fn beginning(alloc: Global, state: &mut u64, teams: u8) -> Result<League, Fail> {
+pub(crate) fn beginning(alloc: Global, state: &mut u64, teams: u8) -> Result<League, Fail> {
     let mut league = drawn_league(alloc, state, teams)?;
     begin_at(&mut league, drawn_start(alloc, state, teams, 50)?)?;
     league.keep_round(0);
@@ -102,7 +102,7 @@ fn is_pinned_moved_at_home(board: &Board, after: &Schedule, home: u8) -> bool {
     false
 }
 
-fn is_pinned_moved(board: &Board, after: &Schedule) -> bool {
+pub(crate) fn is_pinned_moved(board: &Board, after: &Schedule) -> bool {
     for home in 0..board.league().teams() {
         if is_pinned_moved_at_home(board, after, home) {
             return true;
@@ -125,7 +125,7 @@ fn is_held(board: &Board, copy: &mut Schedule, ask: Ask) -> bool {
 }
 
 /// The best so far, with the version that there is now.
-fn best_now(board: &Board, before: Option<Best>) -> Option<Best> {
+pub(crate) fn best_now(board: &Board, before: Option<Best>) -> Option<Best> {
     let cost = board.cost();
     let total = cost.travel.saturating_add(cost.soft);
     let is_better = match before {
@@ -214,7 +214,7 @@ fn pin_alike(one: &Board, other: &Board, home: u8) -> bool {
 }
 
 /// The boards show the same.
-fn check_same_boards(rt: &impl Abort, one: &Board, other: &Board) {
+pub(crate) fn check_same_boards(rt: &impl Abort, one: &Board, other: &Board) {
     let shown = (one.version(), one.cost(), one.best());
     check_same(rt, &shown, &(other.version(), other.cost(), other.best()));
     check_same(rt, &one.schedule().is_same(other.schedule()), &true);

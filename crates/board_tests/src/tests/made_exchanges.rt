@@ -69,6 +69,7 @@ fn tried(
     let attempt = Attempt {
         exchange: &exchange,
         known: cost_of(start, league),
+        weight: league.hard_weight(),
         most,
     };
     let mut tried = start.duplicate(alloc)?;

@@ -9,7 +9,6 @@ use crate::tests::checks::{
 };
 use crate::tests::questions::{Asked, game, homes, rounds, teams};
 use fixture_board::{Board, Change, Cost};
-use league::limits::MAX_WEIGHT;
 use moves::Move;
 use std::alloc::Global;
 use std::process::Abort;
@@ -39,18 +38,7 @@ pub(crate) enum Act {
     Pin((u8, u8, u8), Answer),
     Unpin((u8, u8, u8), Answer),
     Undo(Answer),
-    /// This hard weight is set.
-    Weigh(u32),
-    /// All changes are put under this caller.
-    Credit(u32),
     RewindToBest,
-}
-
-/// The weight is in range.
-fn weigh(rt: &impl Abort, board: &mut Board, weight: u32) {
-    assert!(rt; (1..=MAX_WEIGHT).contains(&weight));
-    board.set_hard_weight(weight);
-    check_same(rt, &board.league().hard_weight(), &weight);
 }
 
 /// What a board shows. Teams and rounds count from 1.
@@ -98,8 +86,6 @@ fn check_act(rt: &impl Abort, board: &mut Board, act: Act) {
             check_unpin(rt, board, game(round, home, away), answer.reply());
         }
         Act::Undo(answer) => check_undo(rt, board, answer.reply()),
-        Act::Weigh(weight) => weigh(rt, board, weight),
-        Act::Credit(caller) => board.credit(caller),
         Act::RewindToBest => board.rewind_to_best(),
     }
 }

@@ -1,18 +1,18 @@
 //! What can be asked of a board.
 
 ghost use Rattle.std.specs.Prelude.{◌≡◌, ◌≤◌};
-ghost use Rattle.league.specs.Limits.{max_weight};
-ghost use Rattle.league.specs.Reweighted.{reweighted};
-ghost use Rattle.fixture_board.specs.Credited.{credited};
 ghost use Rattle.fixture_board.specs.History.{IsLegal};
 ghost use Rattle.fixture_board.specs.Record.{book};
 ghost use Rattle.fixture_board.specs.Replies.{next_of, reply_of};
 ghost use Rattle.fixture_board.specs.Rewound.{rewound};
+ghost use Rattle.fixture_board.specs.Trials.{trial_cost, trial_history};
 
 use crate::ask::{Ask, Proposal};
 use crate::board::Board;
-use crate::change::Entry;
+use crate::change::{Change, Entry};
+use crate::cost::Cost;
 use crate::reply::Reply;
+use crate::trial::Trial;
 use fixtures::Game;
 
 impl Board {
@@ -59,22 +59,6 @@ impl Board {
         self.answer(caller, Ask::Undo { version })
     }
 
-    /// Sets what each breach of a hard limit adds to a score, from 1 to 1,000,000. All that doesn't speak of scores stays.
-    pub fn set_hard_weight(&mut self, weight: u32)
-        requires least { 1 ≤ weight }
-        requires most { weight ≤ max_weight }
-        ensures { self.new ≡ book (reweighted weight self.old.league) self.old.room self.old.history }
-    {
-        self.league.set_hard_weight(weight);
-    }
-
-    /// Puts all changes under one caller.
-    pub fn credit(&mut self, caller: u32)
-        ensures { self.new ≡ book self.old.league self.old.room (credited caller self.old.history) }
-    {
-        self.state.credit(caller);
-    }
-
     /// Goes back to the best version, if there is one: the later entries are forgotten.
     pub fn rewind_to_best(&mut self)
         ensures { self.new ≡ book self.old.league self.old.room (rewound self.old.league self.old.history) }
@@ -94,6 +78,25 @@ impl Board {
             return Reply::No { at, why };
         }
         let change = ask.change();
-        self.state.enter(Entry { caller, change })
+        self.state.enter(Entry { caller, change });
+        Reply::Done {
+            at: self.state.version(),
+            cost: self.state.cost,
+        }
+    }
+
+    /// Makes the move if there is room, nothing speaks against it, no pinned game gets another round, and the score by the trial's weight
+    /// rises by no more than the trial lets it. Gives the cost after it, or None if it isn't made.
+    pub fn try_move(&mut self, caller: u32, trial: Trial) -> Option<Cost>
+        requires { 1 ≤ trial.weight }
+        ensures cost { result ≡ trial_cost self.old.league self.old.room self.old.history trial }
+        ensures history { self.new ≡ book self.old.league self.old.room
+            (trial_history self.old.league self.old.room self.old.history caller trial) }
+        ensures legal { IsLegal self.old.league self.old.room self.old.history }
+    {
+        let cost = self.state.try_move(&self.league, trial)?;
+        let change = Change::Shift(trial.mv);
+        self.state.enter(Entry { caller, change });
+        Some(cost)
     }
 }

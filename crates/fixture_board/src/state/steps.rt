@@ -3,13 +3,15 @@
 use crate::ask::{Ask, Proposal};
 use crate::attempt::Attempt;
 use crate::change::Change;
+use crate::cost::Cost;
 use crate::made_exchanges::{make_at_cost, make_within};
 use crate::reply::Why;
 use crate::state::State;
 use crate::state::checks::Limit;
+use crate::trial::Trial;
 use fixtures::Game;
 use league::League;
-use moves::exchange;
+use moves::{check, exchange};
 
 impl State {
     ghost use Rattle.std.specs.Prelude.{◌≡◌, ◌≤◌, length};
@@ -17,7 +19,7 @@ impl State {
     ghost use Rattle.fixture_board.specs.Costs.{cost_of};
     ghost use Rattle.fixture_board.specs.History.{shifted};
     ghost use Rattle.fixture_board.specs.PinTable.{taken_back};
-    ghost use Rattle.fixture_board.specs.Kept.{kept_of, HasMemory, FollowsHistory, IsStep, CanTakeBack};
+    ghost use Rattle.fixture_board.specs.Kept.{kept_of, HasMemory, FollowsHistory, IsStep, IsTried, CanTakeBack};
 
     /// Judges what is asked, and makes it if no reason speaks against it.
     pub(crate) fn step(&mut self, league: &League, ask: Ask) -> Result<(), Why>
@@ -53,6 +55,7 @@ impl State {
         let attempt = Attempt {
             exchange: &exchange,
             known: self.cost,
+            weight: league.hard_weight(),
             most,
         };
         let Some(cost) = make_within(&mut self.schedule, league, &mut self.gaps, &attempt) else {
@@ -65,6 +68,35 @@ impl State {
         self.cost = cost;
         self.changes.push_reserved(Change::Shift(mv));
         Ok(())
+    }
+
+    /// Tries a move by a weight of its own, with neither a version nor a claim to check. Only what the score needs is counted.
+    pub(crate) fn try_move(&mut self, league: &League, trial: Trial) -> Option<Cost>
+        requires memory { HasMemory self.old }
+        requires kept { FollowsHistory league.now (kept_of self.old) }
+        requires weight { 1 ≤ trial.weight }
+        ensures memory { HasMemory self.new }
+        ensures tried { IsTried league.now (kept_of self.old) (kept_of self.new) trial result }
+    {
+        let Trial { mv, weight, rise } = trial;
+        if self.version() == u64::from(self.room) || check(&self.schedule, mv).is_err() {
+            return None;
+        }
+        let exchange = exchange(&self.schedule, mv);
+        if self.pins.would_be_moved(&self.schedule, &exchange) {
+            return None;
+        }
+        let before = self.cost.score_by(weight);
+        let attempt = Attempt {
+            exchange: &exchange,
+            known: self.cost,
+            weight,
+            most: before.saturating_add(rise),
+        };
+        let cost = make_within(&mut self.schedule, league, &mut self.gaps, &attempt)?;
+        self.cost = cost;
+        self.changes.push_reserved(Change::Shift(mv));
+        Some(cost)
     }
 
     /// Pins a game to its round.

@@ -1,35 +1,24 @@
 //! Improvements that end early, and one without a feasible schedule.
 
-use improvement::{ImproveFault, ImprovePlan, improve};
-use league::{LeagueFault, circular, read_league};
-use search::{NoGate, RunFault, Workplace};
+use super::{Improved, asked, impossible, improved_by, improvement_of};
+use improvement::ImproveFault;
+use league::{LeagueFault, circular};
 use std::alloc::{AllocError, Global};
+use std::process::Abort;
 use std::sync::Wait;
 use std::test::Fail;
 use std::thread::Threads;
-use streams::{MemorySink, RehearsedSink, Sink, Step};
+use streams::Step;
 
-/// The least that all phases together may do.
-const PLAN: ImprovePlan = ImprovePlan {
-    workers: 1,
-    seed: 1,
-    effort: 1280,
-};
-
-/// How an improvement of four teams ends whose writes go by these steps, how often it writes, and what goes out.
+/// How an improvement of four teams by so many workers ends whose writes go by these steps.
 fn ended<T: Threads + Wait + Sync>(
     rt: &T,
     alloc: Global,
+    workers: u32,
     writes: &[Step],
-) -> Result<(Result<(), ImproveFault>, u64, Vec<u8>), LeagueFault> {
-    let mut room = vec![in alloc; 0; 40_000]?;
-    let mut memory = MemorySink::new(&mut room);
-    let mut sink = RehearsedSink::new(&mut memory, writes);
-    let gate = &NoGate;
-    let workplace = Workplace { rt, alloc, gate };
-    let ended = improve(workplace, circular(alloc, 4)?, PLAN, &mut sink);
-    let calls = sink.tally().calls;
-    Ok((ended, calls, Vec::from_slice(alloc, memory.held())?))
+) -> Result<Improved, LeagueFault> {
+    let league = circular(alloc, 4)?;
+    Ok(improved_by(rt, alloc, league, asked(workers, 2000), writes)?)
 }
 
 /// So many writes of all that there is, and then one that fails.
@@ -44,14 +33,16 @@ fn failing_after(alloc: Global, writes: u64) -> Result<Vec<Step>, AllocError> {
 
 #[test]
 fn failed_writes_leave_fronts_of_the_text(rt: HostRuntime) -> Result<(), Fail> {
-    let (whole, calls, text) = ended(&rt, rt.alloc(), &[])?;
-    assert_eq!(rt; whole, Ok(()));
-    for turn in 0..calls / 7 {
-        let writes = 7 * turn + 1;
+    let whole = ended(&rt, rt.alloc(), 1, &[])?;
+    assert_eq!(rt; whole.ended, Ok(()));
+    for writes in 1..whole.calls {
         let steps = failing_after(rt.alloc(), writes)?;
-        let (failed, calls, front) = ended(&rt, rt.alloc(), &steps)?;
-        let found = (failed, calls, text.starts_with(&front) && !front.is_empty());
-        assert_eq!(rt; found, (Err(ImproveFault::Write), writes + 1, true));
+        let found = ended(&rt, rt.alloc(), 2, &steps)?;
+        let is_front = whole.text.starts_with(&found.text) && !found.text.is_empty();
+        assert_eq!(rt;
+            (found.ended, found.calls, is_front),
+            (Err(ImproveFault::Write), writes + 1, true)
+        );
     }
     Ok(())
 }
@@ -65,51 +56,45 @@ const TWO_WRITES: [Step; 3] = [
 
 #[test]
 fn improves_with_ample_memory(rt: HostRuntime) -> Result<(), Fail> {
-    let (failed, calls, text) = ended(&rt, rt.alloc(), &TWO_WRITES)?;
-    let begins = text.starts_with(b"phase 1 weight 5 slack 1 steps 1 accepted ");
-    assert_eq!(rt;
-        (failed, calls, begins),
-        (Err(ImproveFault::Write), 3, true)
-    );
+    let found = ended(&rt, rt.alloc(), 1, &TWO_WRITES)?;
+    assert_eq!(rt; (found.ended, found.calls), (Err(ImproveFault::Write), 3));
+    Ok(())
+}
+
+fn check_refused<T: Threads + Wait + Sync + Abort>(rt: &T, alloc: Global, workers: u32) {
+    // the test's own memory may be refused
+    let Ok(found) = ended(rt, alloc, workers, &TWO_WRITES) else {
+        return;
+    };
+    let is_right = match found.ended {
+        Err(ImproveFault::Write) => found.calls == 3,
+        Err(ImproveFault::Memory) => found.calls <= 2,
+        _ => false,
+    };
+    assert!(rt; is_right && (found.calls == 0 || found.text.ends_with(b"\n")));
+}
+
+#[test]
+fn refused_memory_leaves_whole_legs(rt: HostRuntime) {
+    for workers in [1, 2] {
+        check_refused(&rt, rt.alloc(), workers);
+    }
+}
+
+#[test]
+fn wrong_numbers_of_workers_write_nothing(rt: HostRuntime) -> Result<(), Fail> {
+    for workers in [0, 17] {
+        let found = ended(&rt, rt.alloc(), workers, &[])?;
+        assert_eq!(rt; (found.ended, found.calls), (Err(ImproveFault::Workers), 0));
+    }
     Ok(())
 }
 
 #[test]
-fn refused_memory_leaves_whole_phases(rt: HostRuntime) {
-    // the test's own memory may be refused
-    let Ok((failed, calls, text)) = ended(&rt, rt.alloc(), &TWO_WRITES) else {
-        return;
-    };
-    let is_right = match failed {
-        Err(ImproveFault::Write) => calls == 3,
-        // a thread takes memory of its own
-        Err(ImproveFault::Run(RunFault::Memory | RunFault::Spawn)) => calls <= 2,
-        _ => false,
-    };
-    assert!(rt; is_right && (calls == 0 || text.ends_with(b"\n")));
-}
-
-/// Team 1 is to have no game at home.
-const NEVER_AT_HOME: &str = r#"{
-    "format": 1,
-    "teams": ["A", "B", "C", "D"],
-    "distances": [[0, 1, 1, 1], [1, 0, 1, 1], [1, 1, 0, 1], [1, 1, 1, 0]],
-    "rules": [{"class": "CA1", "kind": "hard", "teams": [1], "mode": "H", "max": 0}]
-}"#;
-
-#[test]
 fn without_a_feasible_schedule_there_is_no_best(rt: HostRuntime) -> Result<(), Fail> {
-    let mut room = vec![in rt.alloc(); 0; 40_000]?;
-    let mut sink = MemorySink::new(&mut room);
-    let league = read_league(rt.alloc(), NEVER_AT_HOME.as_bytes())?;
-    let workplace = Workplace {
-        rt: &rt,
-        alloc: rt.alloc(),
-        gate: &NoGate,
-    };
-    improve(workplace, league, PLAN, &mut sink)?;
-    let held = sink.held();
-    assert!(rt; held.ends_with(b"\nbest none\n"));
-    assert!(rt; !held.windows(2).any(|bytes| bytes == b"--".as_slice()));
+    let league = impossible(rt.alloc())?;
+    let found = improvement_of(&rt, rt.alloc(), league, asked(1, 3000))?;
+    assert!(rt; found.text.ends_with(b"\nbest none\n"));
+    assert!(rt; !found.text.windows(2).any(|bytes| bytes == b"--".as_slice()));
     Ok(())
 }

@@ -3,7 +3,6 @@
 use crate::tests::checks::check_same;
 use crate::tests::league_texts::{check_circle, even_text, league_text};
 use league::LeagueFault::{self, RuleClass, WrongKind};
-use league::limits::MAX_WEIGHT;
 use league::{Field, League, circular, constant, read_league};
 use std::alloc::Global;
 use std::process::Abort;
@@ -65,22 +64,6 @@ fn check_limits(rt: &impl Abort, alloc: Global, (more, limits): Limits) -> Resul
 fn reads_members_to_their_limits(rt: HostRuntime) -> Result<(), Fail> {
     check_limits(&rt, rt.alloc(), LEAST)?;
     check_limits(&rt, rt.alloc(), MOST)
-}
-
-fn check_set_weight(rt: &impl Abort, league: &mut League, hard_weight: u32) {
-    assert!(rt; (1..=MAX_WEIGHT).contains(&hard_weight));
-    league.set_hard_weight(hard_weight);
-    check_read(rt, league, (78, hard_weight));
-}
-
-#[test]
-fn sets_the_hard_weight_to_its_limits(rt: HostRuntime) -> Result<(), Fail> {
-    let (more, _) = MOST;
-    let text = league_text(rt.alloc(), NAMES, FAR, more)?;
-    let mut league = read_league(rt.alloc(), text.as_bytes())?;
-    check_set_weight(&rt, &mut league, 1);
-    check_set_weight(&rt, &mut league, 1_000_000);
-    Ok(())
 }
 
 // how many teams there are, and the distance between the first and the last

@@ -73,8 +73,8 @@ const HELP: &[(&[&str], &[&str])] = &[
     (
         &["ttp", "improve", "--help"],
         &[
-            "Reads a league from standard input, searches in phases that it chooses by itself, and writes\n",
-            "each better schedule as soon as it has it, then the history that leads to the best\n",
+            "Reads a league from standard input, anneals its schedule, and writes each better one as soon as\n",
+            "it has it, then the history that leads to the best\n",
             "--effort <E>",
             "How many million moves the workers draw together, 1 to 1000",
             "[default: 10]",

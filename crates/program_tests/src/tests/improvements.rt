@@ -6,6 +6,7 @@ use crate::tests::arguments::words;
 use crate::tests::checks::{check_holds, check_same, check_same_of};
 use crate::tests::circle::CIRCLE;
 use crate::tests::closings::{closing, script};
+use crate::tests::progress_lines::{Ticks, last_line};
 use clap::error::ErrorKind;
 use command_line::{Job, args};
 use commands::{
@@ -14,17 +15,15 @@ use commands::{
 use league::LeagueFault;
 use search::{Gate, Progress};
 use std::alloc::{AllocError, Global};
-use std::io;
 use std::process::Abort;
 use std::sync::Wait;
-use std::sync::atomic::{AtomicU64, Ordering};
 use std::test::Fail;
 use std::thread::Threads;
-use std::time::{Clock, Duration};
+use std::time::Clock;
 use streams::{MemorySink, MemorySource, Sink};
 
 /// Words, and the workers, the seed and the effort of the improvement that they ask for.
-const PLANS: &[(&[&str], (u32, u64, u32))] = &[
+const PLANS: &[(&[&str], (u32, u64, u64))] = &[
     (&["ttp", "improve"], (2, 1, 10_000_000)),
     (&["ttp", "improve", "--effort", "1"], (2, 1, 1_000_000)),
     (
@@ -101,14 +100,16 @@ const FAULTS: [(&str, u32, ProgramFault); 4] = [
     ("", 0, ProgramFault::League(LeagueFault::NotJson)),
 ];
 
-/// The least that all phases together may do.
+/// How many steps all legs take together.
+const EFFORT: u64 = 16_000;
+
 fn by(workers: u32) -> ImprovePlan
-    ensures { result.effort ≡ 1280 }
+    ensures { result.effort ≡ EFFORT }
 {
     ImprovePlan {
         workers,
         seed: 1,
-        effort: 1280,
+        effort: EFFORT,
     }
 }
 
@@ -168,7 +169,11 @@ fn played(alloc: Global, script: &str) -> Result<Vec<u8>, Fail> {
     Ok(Vec::from_slice(alloc, sink.held())?)
 }
 
-/// The text begins with the first phase, and its history played as a script leads to the same history, sheet and best version.
+/// How the first leg's line begins. The mean distance is 4/3. A sixteenth of the effort goes to the first chain, and seven tenths of
+/// that to its hot leg.
+const FIRST: &[u8] = b"leg 1 chain 1 moves homes,teams from 2.666 to 0.666 steps 700 accepted ";
+
+/// The text begins with the first leg, and its history played as a script leads to the same history, sheet and best version.
 fn check_played_again<T: Threads + Wait + Sync + Abort>(
     rt: &T,
     alloc: Global,
@@ -178,7 +183,7 @@ fn check_played_again<T: Threads + Wait + Sync + Abort>(
     let Some((history, rest)) = closing(&text) else {
         return Err(Fail::new("no history"));
     };
-    check_holds(rt, &workers, text.starts_with(b"phase 1 weight 5 slack 1 "));
+    check_holds(rt, &workers, text.starts_with(FIRST));
     let again = played(alloc, script(history))?;
     check_same_of(rt, &workers, &closing(&again), &Some((history, rest)));
     Ok(())
@@ -192,33 +197,15 @@ fn histories_of_improvements_played_lead_to_their_ends(rt: HostRuntime) -> Resul
     Ok(())
 }
 
-/// A clock that goes on by a millisecond at each reading, from 0.
-#[derive(Drop)]
-struct Ticks {
-    readings: AtomicU64,
-}
-
-impl Ticks {
-    fn new() -> Ticks {
-        let readings = AtomicU64::new(0);
-        Ticks { readings }
-    }
-}
-
-impl Clock for Ticks {
-    fn monotonic(&self) -> io::Result<Duration> {
-        let before = self.readings.fetch_add(1, Ordering::SeqCst);
-        Ok(Duration::from_millis(before))
-    }
-
-    fn since_1970(&self) -> io::Result<Duration> {
-        Ok(Duration::ZERO)
-    }
-}
-
-/// A run whose worker tells so often after a step, from the first of its versions on.
+/// A run whose worker tells so often after a step.
 fn run<C: Clock, W: Sink>(rt: &impl Wait, line: &ProgressLine<'_, C, W>, tellings: u64) {
     line.begun(rt, 0);
+    tell(rt, line, tellings);
+    line.ended(rt);
+}
+
+/// A worker tells so often after a step, from the first of its versions on.
+fn tell<C: Clock, W: Sink>(rt: &impl Wait, line: &ProgressLine<'_, C, W>, tellings: u64) {
     for version in 0..tellings {
         let progress = Progress {
             steps: 1,
@@ -227,52 +214,82 @@ fn run<C: Clock, W: Sink>(rt: &impl Wait, line: &ProgressLine<'_, C, W>, telling
         };
         line.told(rt, 0, progress);
     }
-    line.ended(rt);
 }
 
-/// After a quarter of a second the first run shows the line, and its end takes it away. The first telling of the second run writes it
-/// again, though a millisecond has passed.
+/// After a quarter of a second the first run shows the line, and its end shows it again and takes it away. The first telling of the
+/// second run writes it at once, and its end shows all steps.
 #[test]
 fn line_comes_again_in_the_next_run(rt: HostRuntime) {
     let mut room = [0; 1000];
     let mut terminal = MemorySink::new(&mut room);
-    let clock = Ticks::new();
+    let clock = Ticks::new(Some(1));
     let line = ProgressLine::over(&clock, &mut terminal, 280);
     run(&rt, &line, 250);
     run(&rt, &line, 30);
     drop(line);
-    let expected = b"\r\x1b[Ksteps 250 of 280 version 249 best 30\r\x1b[K\
-        \r\x1b[Ksteps 251 of 280 version 249 best 30\r\x1b[K";
+    let expected = b"\r\x1b[Ksteps 250 of 280 version 249 best 30\
+        \r\x1b[Ksteps 250 of 280 version 249 best 30\r\x1b[K\
+        \r\x1b[Ksteps 251 of 280 version 249 best 30\
+        \r\x1b[Ksteps 280 of 280 version 249 best 30\r\x1b[K";
     check_same(&rt, &terminal.held(), &expected.as_slice());
 }
 
-/// The text of one worker's improvement of the circle, with a line on the terminal.
+/// A worker that goes on while a text is written shows no line before a quarter of a second has passed.
+#[test]
+fn line_stays_away_while_a_text_is_written(rt: HostRuntime) {
+    let mut room = [0; 1000];
+    let mut terminal = MemorySink::new(&mut room);
+    let clock = Ticks::new(Some(1));
+    let line = ProgressLine::over(&clock, &mut terminal, 800);
+    run(&rt, &line, 250);
+    tell(&rt, &line, 249);
+    tell(&rt, &line, 1);
+    drop(line);
+    let expected = b"\r\x1b[Ksteps 250 of 800 version 249 best 30\
+        \r\x1b[Ksteps 250 of 800 version 249 best 30\r\x1b[K\
+        \r\x1b[Ksteps 500 of 800 version 249 best 30";
+    check_same(&rt, &terminal.held(), &expected.as_slice());
+}
+
+/// The text of an improvement of the circle, with a line on the terminal. A quarter of a second passes at each telling.
 fn improved_on<T: Threads + Wait + Sync, W: Sink + Send + Drop>(
     rt: &T,
     alloc: Global,
     terminal: W,
+    workers: u32,
 ) -> Result<Vec<u8>, Fail> {
     let mut memory = vec![in alloc; 0; 100_000]?;
     let mut sink = MemorySink::new(&mut memory);
     let mut source = MemorySource::new(CIRCLE.as_bytes());
-    let clock = Ticks::new();
-    let gate = &ProgressLine::over(&clock, terminal, 1280);
+    let clock = Ticks::new(Some(250));
+    let gate = &ProgressLine::over(&clock, terminal, EFFORT);
     let workplace = Workplace { rt, alloc, gate };
-    improve_from(workplace, &mut source, &mut sink, by(1))?;
+    improve_from(workplace, &mut source, &mut sink, by(workers))?;
     Ok(Vec::from_slice(alloc, sink.held())?)
 }
 
-/// The text is the same with a line on the terminal, and what is written on the terminal ends with what takes the line away.
-#[test]
-fn improvement_with_a_line_writes_the_same(rt: HostRuntime) -> Result<(), Fail> {
-    let mut room = vec![in rt.alloc(); 0; 100_000]?;
+/// The text is the same with a line on the terminal. The last line has all steps and the best total.
+fn check_line<T: Threads + Wait + Sync + Abort>(
+    rt: &T,
+    alloc: Global,
+    workers: u32,
+    text: &[u8],
+) -> Result<(), Fail> {
+    let mut room = vec![in alloc; 0; 100_000]?;
     let mut terminal = MemorySink::new(&mut room);
-    let text = improved_on(&rt, rt.alloc(), &mut terminal)?;
-    check_same(&rt, &text, &improved(&rt, rt.alloc(), 1)?);
-    check_holds(
-        &rt,
-        &"a line",
-        terminal.held().ends_with(b"best 20\r\x1b[K"),
-    );
+    let found = improved_on(rt, alloc, &mut terminal, workers)?;
+    check_same_of(rt, &workers, &found.as_slice(), &text);
+    let last = last_line(terminal.held()).ok_or("no line")?;
+    let has_all = last.starts_with("steps 16000 of 16000 version ") && last.ends_with(" best 20");
+    check_holds(rt, &(workers, last), has_all);
+    Ok(())
+}
+
+#[test]
+fn last_line_of_an_improvement_shows_all_steps(rt: HostRuntime) -> Result<(), Fail> {
+    let text = improved(&rt, rt.alloc(), 1)?;
+    for workers in [1, 4, 16] {
+        check_line(&rt, rt.alloc(), workers, &text)?;
+    }
     Ok(())
 }

@@ -1,6 +1,6 @@
 //! The line of a search: what is written on a terminal that keeps its bytes, by a clock that is set.
 
-use crate::tests::checks::{check_same, check_same_of};
+use crate::tests::checks::{check_holds, check_same, check_same_of};
 use crate::tests::circle::CIRCLE;
 use crate::tests::told::{Command, tell};
 use commands::{ProgramFault, ProgressLine, SearchPlan, Workplace, find_from};
@@ -18,13 +18,13 @@ use streams::{MemorySink, MemorySource, RehearsedSink, Sink, Step};
 
 /// A clock that goes on by so many milliseconds at each reading, from 0, or that can't be read.
 #[derive(Drop)]
-struct Ticks {
+pub(crate) struct Ticks {
     step: Option<u64>,
     readings: AtomicU64,
 }
 
 impl Ticks {
-    fn new(step: Option<u64>) -> Ticks {
+    pub(crate) fn new(step: Option<u64>) -> Ticks {
         let readings = AtomicU64::new(0);
         Ticks { step, readings }
     }
@@ -112,7 +112,8 @@ struct Showing<'a> {
 }
 
 const SHOWINGS: &[Showing<'_>] = &[
-    // the first reading begins the time, so each later one writes a line where the clock goes on by 250 milliseconds
+    // the first reading begins the time, so each later one writes a line where the clock goes on by 250 milliseconds, and the end writes
+    // the last one again
     Showing {
         step: Some(250),
         writes: &[],
@@ -121,6 +122,7 @@ const SHOWINGS: &[Showing<'_>] = &[
         shown: "\r\x1b[Ksteps 8192 of 40000 version 7 best 3000\
             \r\x1b[Ksteps 12288 of 40000 version 7 best 998\
             \r\x1b[Ksteps 16384 of 40000 version 12 best 998\
+            \r\x1b[Ksteps 20480 of 40000 version 1000 best 998\
             \r\x1b[Ksteps 20480 of 40000 version 1000 best 998\
             \r\x1b[K",
     },
@@ -131,6 +133,7 @@ const SHOWINGS: &[Showing<'_>] = &[
         told: TOLD,
         ends: true,
         shown: "\r\x1b[Ksteps 12288 of 40000 version 7 best 998\
+            \r\x1b[Ksteps 20480 of 40000 version 1000 best 998\
             \r\x1b[Ksteps 20480 of 40000 version 1000 best 998\
             \r\x1b[K",
     },
@@ -150,6 +153,7 @@ const SHOWINGS: &[Showing<'_>] = &[
         ends: true,
         shown: "\r\x1b[Ks\
             \r\x1b[Ksteps 16384 of 40000 version 12 best 998\
+            \r\x1b[Ksteps 20480 of 40000 version 1000 best 998\
             \r\x1b[Ksteps 20480 of 40000 version 1000 best 998\
             \r\x1b[K",
     },
@@ -250,6 +254,7 @@ const SHOWN: &[u8] = b"\r\x1b[Ksteps 1 of 4 version 0 best 30\
     \r\x1b[Ksteps 2 of 4 version 0 best 30\
     \r\x1b[Ksteps 3 of 4 version 1 best 26\
     \r\x1b[Ksteps 4 of 4 version 2 best 26\
+    \r\x1b[Ksteps 4 of 4 version 2 best 26\
     \r\x1b[K";
 
 #[test]
@@ -268,4 +273,92 @@ fn refused_search_shows_no_line(rt: HostRuntime) {
     let mut terminal = MemorySink::new(&mut room);
     let is_refused = searched(&rt, rt.alloc(), &mut terminal, "").is_err();
     check_same(&rt, &(is_refused, terminal.tally().calls), &(true, 0));
+}
+
+/// A line that is told by a hundred steps, whatever they take.
+#[derive(Drop)]
+struct ByHundreds<'a, C, W> {
+    line: ProgressLine<'a, C, W>,
+}
+
+impl<C: Clock, W: Sink> Gate for ByHundreds<'_, C, W> {
+    fn enter<R: Wait>(&self, _rt: &R, _worker: u32, _made: u32) {}
+
+    fn left<R: Wait>(&self, _rt: &R, _worker: u32, _made: u32) {}
+
+    fn begun<R: Wait>(&self, rt: &R, worker: u32) {
+        self.line.begun(rt, worker);
+    }
+
+    fn pause(&self) -> u32 {
+        100
+    }
+
+    fn told<R: Wait>(&self, rt: &R, worker: u32, progress: Progress) {
+        self.line.told(rt, worker, progress);
+    }
+
+    fn ended<R: Wait>(&self, rt: &R) {
+        self.line.ended(rt);
+    }
+}
+
+/// What stands last on a terminal before it is taken away.
+pub(crate) fn last_line(shown: &[u8]) -> Option<&str> {
+    let shown = str::from_utf8(shown).ok()?;
+    let (lines, _) = shown.rsplit_once("\r\x1b[K")?;
+    let (_, last) = lines.rsplit_once("\r\x1b[K")?;
+    Some(last)
+}
+
+/// Workers, and how the last line of a search begins in which each takes 250 steps.
+const LAST: [(u32, &str); 3] = [
+    (1, "steps 250 of 250 version "),
+    (4, "steps 1000 of 1000 version "),
+    (16, "steps 4000 of 4000 version "),
+];
+
+/// Searches by this plan, with a line on the terminal. A quarter of a second passes at each telling.
+fn search_by_hundreds<T: Threads + Wait + Sync, W: Sink + Send + Drop>(
+    rt: &T,
+    alloc: Global,
+    terminal: W,
+    plan: SearchPlan,
+) -> Result<(), ProgramFault> {
+    let mut memory = vec![in alloc; 0; 100_000]?;
+    let mut sink = MemorySink::new(&mut memory);
+    let mut source = MemorySource::new(CIRCLE.as_bytes());
+    let clock = Ticks::new(Some(250));
+    let line = ProgressLine::new(&clock, terminal, plan);
+    let gate = &ByHundreds { line };
+    let workplace = Workplace { rt, alloc, gate };
+    find_from(workplace, &mut source, &mut sink, ROOM, plan)
+}
+
+fn check_last_line<T: Threads + Wait + Sync + Abort>(
+    rt: &T,
+    alloc: Global,
+    workers: u32,
+    wanted: &str,
+) -> Result<(), Fail> {
+    let mut room = vec![in alloc; 0; 10_000]?;
+    let mut terminal = MemorySink::new(&mut room);
+    let plan = SearchPlan {
+        workers,
+        steps: 250,
+        ..PLAN
+    };
+    search_by_hundreds(rt, alloc, &mut terminal, plan)?;
+    let last = last_line(terminal.held()).ok_or("no line")?;
+    check_holds(rt, &last, last.starts_with(wanted));
+    Ok(())
+}
+
+/// Of each worker the last 50 steps are told at its end alone.
+#[test]
+fn last_line_shows_all_steps(rt: HostRuntime) -> Result<(), Fail> {
+    for (workers, wanted) in LAST {
+        check_last_line(&rt, rt.alloc(), workers, wanted)?;
+    }
+    Ok(())
 }

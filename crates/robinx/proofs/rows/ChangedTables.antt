@@ -12,7 +12,7 @@ use Rattle.league.specs.Sums.{sum_below}
 use Rattle.league.proofs.ForCallers.{has_empty, count_where_none, sum_below_le}
 use Rattle.fixtures.specs.Games.{round_count}
 use Rattle.robinx.specs.Deviations.{over}
-use Rattle.robinx.specs.Walked.{row_of, one_in, worst_apart}
+use Rattle.robinx.specs.Walked.{row_of, one_in, worst_apart, row_length}
 use Rattle.robinx.specs.Gaps.{AreGaps, IsHomeRow, IsGapTable, gap_at, is_home_with, sum_of_gaps}
 use Rattle.robinx.specs.declared.gap_table.GapTable.{GapTable}
 use Rattle.robinx.specs.declared.gaps.Gaps.{Gaps}
@@ -22,7 +22,7 @@ use Rattle.robinx.proofs.rows.HomeRows.{same_home_row, home_before}
 
 -- the table of no teams
 
-zeros_row : (in_slots : List ℕ) → IsHomeRow in_slots (has 0) (replicate 80 0)
+zeros_row : (in_slots : List ℕ) → IsHomeRow in_slots (has 0) (replicate row_length 0)
 zeros_row in_slots = record {
   len = refl;
   counts = λ r.
@@ -30,10 +30,10 @@ zeros_row in_slots = record {
       ap (λ n. get_or in_slots r 0 * n) (sym (count_where_none (r + 1) (has 0) (λ k below. has_empty k)));
 }
   where
-    zero_at : (r : ℕ) → ◌≡◌ {A = ℕ} (get_or (replicate 80 0) r 0) 0
-    zero_at r = elim (cases_lt r 80) [
-      | inl in_row ↦ get_or-replicate 80 r 0 0 in_row
-      | inr past ↦ get_or-eq_default (replicate 80 0) 0 past
+    zero_at : (r : ℕ) → ◌≡◌ {A = ℕ} (get_or (replicate row_length 0) r 0) 0
+    zero_at r = elim (cases_lt r row_length) [
+      | inl in_row ↦ get_or-replicate row_length r 0 0 in_row
+      | inr past ↦ get_or-eq_default (replicate row_length 0) 0 past
     ]
 
     none_of : (a : ℕ) → 0 ≡ a * 0
@@ -47,7 +47,7 @@ pub new_table : (playing slots empty : ℕ) (in_slots : List ℕ) (gaps : Gaps) 
       slots = slots;
       in_slots = in_slots;
       homes = replicate max_teams empty;
-      rows = replicate max_teams (replicate 80 0);
+      rows = replicate max_teams (replicate row_length 0);
       gaps = gaps;
       most = 0;
       over = 0;
@@ -59,9 +59,9 @@ new_table playing slots empty in_slots gaps nothing of_gaps none below forty in_
   homes_len = refl;
   rows_len = refl;
   rows = λ t t_below.
-      subst (λ (h : ℕ). IsHomeRow in_slots (has h) (row_of (replicate max_teams (replicate 80 0)) t))
+      subst (λ (h : ℕ). IsHomeRow in_slots (has h) (row_of (replicate max_teams (replicate row_length 0)) t))
       (sym (get_or-replicate max_teams t empty 0 t_below ∙ nothing))
-      (subst (IsHomeRow in_slots (has 0)) (sym (get_or-replicate max_teams t (replicate 80 0) [] t_below)) (zeros_row in_slots));
+      (subst (IsHomeRow in_slots (has 0)) (sym (get_or-replicate max_teams t (replicate row_length 0) [] t_below)) (zeros_row in_slots));
   in_slots = ones;
   slots = in_season;
   worst = λ t o in_t in_o lower. absurd (false≢true (sym (no_team t) ∙ in_t));
@@ -196,7 +196,7 @@ module _ (kept : GapTable) (team row homes : ℕ) (turned : List ℕ) (table : I
 
   -- it is less than a row's length apart from each other
   pub turned_small : (o : ℕ) → o < max_teams →
-      worst_apart (get_or (set kept.rows row turned) team []) (get_or (set kept.rows row turned) o []) < 80
+      worst_apart (get_or (set kept.rows row turned) team []) (get_or (set kept.rows row turned) o []) < row_length
   turned_small o below =
       apart_small (round_count kept.playing) kept.slots _ _ (get_or (set kept.rows row turned) team [])
       (get_or (set kept.rows row turned) o []) kept.in_slots (omega (arith, table.playing)) table.slots table.in_slots
@@ -274,5 +274,5 @@ over_few kept new team told table of_new is =
       table.over,
       gaps_few kept.gaps kept.most table.gaps,
       is,
-      sum_below_le max_teams 80 (λ o. over (gap_at new.worst team o) kept.most) (λ o below. omega (arith, of_new.small team o)),
+      sum_below_le max_teams row_length (λ o. over (gap_at new.worst team o) kept.most) (λ o below. omega (arith, of_new.small team o)),
     )

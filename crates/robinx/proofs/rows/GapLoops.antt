@@ -8,7 +8,7 @@ use Rattle.league.specs.Sums.{sum_below}
 use Rattle.league.proofs.ForCallers.{has_empty, others_kept, lowest_below, sum_below_le}
 use Rattle.robinx.specs.Deviations.{over}
 use Rattle.robinx.specs.Gaps.{AreGaps, gap_at, sum_of_gaps}
-use Rattle.robinx.specs.Walked.{row_of, worst_apart}
+use Rattle.robinx.specs.Walked.{row_of, worst_apart, row_length}
 use Rattle.robinx.specs.declared.gaps.Gaps.{Gaps}
 use Rattle.robinx.proofs.rows.GapSums.{gaps_few, gaps_without, no_gaps}
 use Rattle.robinx.proofs.rows.GapWrites.{and_false}
@@ -138,7 +138,7 @@ told_few all gaps most total left lowest rest told so_far taken is of_all =
       so_far.sum,
       gaps_few all most of_all,
       is,
-      sum_below_le max_teams 80 (λ o. over (gap_at gaps.worst lowest o) most) (λ o below. omega (arith, so_far.are.small lowest o)),
+      sum_below_le max_teams row_length (λ o. over (gap_at gaps.worst lowest o) most) (λ o below. omega (arith, so_far.are.small lowest o)),
     )
 
 pub told_all : (all gaps : Gaps) (most total left : ℕ) → left ≡ 0 → HasTold all gaps most total left →

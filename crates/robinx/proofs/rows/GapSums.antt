@@ -9,6 +9,7 @@ use Rattle.league.proofs.ForCallers.{sum_below_zero, sum_below_same, sum_below_b
 use Rattle.robinx.specs.Deviations.{over}
 use Rattle.robinx.specs.Gaps.{AreGaps, gap_at, sum_of_gaps}
 use Rattle.robinx.specs.declared.gaps.Gaps.{Gaps}
+use Rattle.robinx.specs.Walked.{row_length}
 
 -- sums that differ in one term
 pub sum_but_one : (n k : ℕ) (new old : ℕ → ℕ) → k < n → ((i : ℕ) → i < n → i ≢ k → new i ≡ old i) →
@@ -164,7 +165,7 @@ module _ (all : Gaps) (team most : ℕ) (of_all : AreGaps all) (in_table : team 
 -- there is little over
 pub gaps_few : (gaps : Gaps) (most : ℕ) → AreGaps gaps → sum_of_gaps gaps.worst (λ gap. over gap most) ≤ 128000
 gaps_few gaps most of_gaps =
-    omega (arith, sum_of_pairs_le max_teams 80 (λ o t. over (gap_at gaps.worst t o) most) (λ o t lower below. omega (arith, of_gaps.small t o)))
+    omega (arith, sum_of_pairs_le max_teams row_length (λ o t. over (gap_at gaps.worst t o) most) (λ o t lower below. omega (arith, of_gaps.small t o)))
 
 -- nothing is over, if there are no teams
 pub no_gaps : (gaps : Gaps) (most : ℕ) → ((t o : ℕ) → gap_at gaps.worst t o ≡ 0) → sum_of_gaps gaps.worst (λ gap. over gap most) ≡ 0

@@ -9,7 +9,7 @@ use Rattle.league.specs.declared.rule.RuleBody.TheVariants.{Fa2}
 use Rattle.league.proofs.ForCallers.{count_where_le, has_beyond, if_le, sum_below_past, sum_below_same, sum_below_zero, sum_below_le_each}
 use Rattle.fixtures.specs.Games.{Games, round_count, is_home, IsDoubleRoundRobin}
 use Rattle.robinx.specs.Deviations.{over, worst_gap, worst_gaps, deviation}
-use Rattle.robinx.specs.Walked.{row_of, apart_in, one_in, worst_apart}
+use Rattle.robinx.specs.Walked.{row_of, apart_in, one_in, worst_apart, row_length}
 use Rattle.robinx.specs.Gaps.{IsHomeRow, IsGapTable, IsTableOf, gap_at, sum_of_gaps}
 use Rattle.robinx.specs.declared.gap_table.GapTable.{GapTable}
 use Rattle.robinx.proofs.limits.Largest.{largest_below_le, largest_below_same}
@@ -19,12 +19,12 @@ use Rattle.robinx.proofs.rows.HomeRows.{number_in, row_of_schedule, worst_gap_of
 -- two rows are less than a row's length apart
 pub apart_small : (rounds slots : ℕ) (home1 home2 : ℕ → Bool) (first second in_slots : List ℕ) → rounds ≤ max_rounds → IsBelow rounds slots →
     ((r : ℕ) → get_or in_slots r 0 ≡ one_in slots r) → IsHomeRow in_slots home1 first → IsHomeRow in_slots home2 second →
-    worst_apart first second < 80
+    worst_apart first second < row_length
 unfolding worst_apart
 apart_small rounds slots home1 home2 first second in_slots season below ones first_is second_is =
     omega (
       arith,
-      largest_below_le 80 max_rounds (apart_in first second) (λ r in_row. omega (arith, le first home1 r first_is, le second home2 r second_is)),
+      largest_below_le row_length max_rounds (apart_in first second) (λ r in_row. omega (arith, le first home1 r first_is, le second home2 r second_is)),
     )
   where
     le : (row : List ℕ) (home : ℕ → Bool) (r : ℕ) → IsHomeRow in_slots home row → get_or row r 0 ≤ max_rounds
@@ -48,7 +48,7 @@ apart_small rounds slots home1 home2 first second in_slots season below ones fir
 -- by how much rows are apart doesn't depend on which is the first
 pub apart_either_way : (first second : List ℕ) → worst_apart first second ≡ worst_apart second first
 unfolding worst_apart
-apart_either_way first second = largest_below_same 80 (apart_in first second) (apart_in second first) (λ r in_row. omega arith)
+apart_either_way first second = largest_below_same row_length (apart_in first second) (apart_in second first) (λ r in_row. omega arith)
 
 -- the table of a schedule tells the deviation from the rule
 module _ (g : Games) (kept : GapTable) (teams slots most : ℕ) (rr : IsDoubleRoundRobin g) (table : IsGapTable kept)

@@ -8,7 +8,7 @@ use Rattle.std.proofs.lemmas.Bool.{cases_eq, cases_lt, eq-eqb, ne_eqb, eqb-true,
 use Rattle.league.specs.Limits.{max_teams}
 use Rattle.league.specs.Sets.{has, IsBelow}
 use Rattle.robinx.specs.Gaps.{AreGaps, gap_at}
-use Rattle.robinx.specs.Walked.{row_of}
+use Rattle.robinx.specs.Walked.{row_of, row_length}
 use Rattle.robinx.specs.declared.gaps.Gaps.{Gaps}
 
 pub and_false : (b : Bool) → (b && false) ≡ false
@@ -142,7 +142,7 @@ module _ (gaps : Gaps) (first second gap row column row2 column2 : ℕ) (old : A
   mirror t o (inl (here, there)) = inr (there, here)
   mirror t o (inr (here, there)) = inl (there, here)
 
-  pub set_gaps : gap < 80 → has gaps.teams first ≡ true → has gaps.teams second ≡ true →
+  pub set_gaps : gap < row_length → has gaps.teams first ≡ true → has gaps.teams second ≡ true →
       AreGaps (record { teams = gaps.teams; worst = twice })
   set_gaps small has_first has_second = record {
     below = old.below;

@@ -12,7 +12,7 @@ use Rattle.league.proofs.ForCallers.{sum_below_add, sum_below_only, sum_below_sa
 use Rattle.fixtures.specs.Games.{Games, round_count, is_home}
 use Rattle.robinx.specs.Deviations.{over, home_games, largest_below, gap, worst_gap}
 use Rattle.robinx.specs.Gaps.{IsHomeRow, is_home_with}
-use Rattle.robinx.specs.Walked.{apart_in, from_on, one_in, worst_apart}
+use Rattle.robinx.specs.Walked.{apart_in, from_on, one_in, worst_apart, row_length}
 use Rattle.robinx.proofs.limits.Largest.{largest_below_same, largest_below_past}
 
 -- how much the largest is over the most is the largest of what each is over it
@@ -92,14 +92,14 @@ module _ (in_slots : List ℕ) (first : ℕ) (fewer more : ℕ → Bool) (away :
       parted : (a b : ℕ) → a * (b + 1) ≡ a * b + a
       parted a b = omega arith
 
-  pub gained_row : (row new : List ℕ) → length new ≡ 80 →
+  pub gained_row : (row new : List ℕ) → length new ≡ row_length →
       ((r : ℕ) → get_or new r 0 ≡ get_or row r 0 + from_on first in_slots r) → IsHomeRow in_slots fewer row → IsHomeRow in_slots more new
   gained_row row new len gained is = record {
     len = len;
     counts = λ r. omega (arith, gained r, is.counts r, more_from_on r);
   }
 
-  pub lost_row : (row new : List ℕ) → length new ≡ 80 →
+  pub lost_row : (row new : List ℕ) → length new ≡ row_length →
       ((r : ℕ) → get_or new r 0 + from_on first in_slots r ≡ get_or row r 0) → IsHomeRow in_slots more row → IsHomeRow in_slots fewer new
   lost_row row new len lost is = record {
     len = len;
@@ -113,7 +113,7 @@ module _ (in_slots : List ℕ) (first : ℕ) (fewer more : ℕ → Bool) (away :
 -- a row has room for more
 pub row_small : (in_slots row : List ℕ) (home : ℕ → Bool) → ((r : ℕ) → get_or in_slots r 0 ≤ 1) → IsHomeRow in_slots home row → (r : ℕ) →
     get_or row r 0 < 255
-row_small in_slots row home ones is r = elim (cases_lt r 80) [
+row_small in_slots row home ones is r = elim (cases_lt r row_length) [
   | inl in_row ↦
       omega (
         arith,
@@ -156,7 +156,7 @@ module _ (in_slots row : List ℕ) (homes left lowest rest : ℕ) (so_far : HasT
   below_still : IsBelow max_rounds rest
   below_still = omega (arith, so_far.below, taken.fewer)
 
-  pub turned_home : (new : List ℕ) → has homes lowest ≡ true → length new ≡ 80 →
+  pub turned_home : (new : List ℕ) → has homes lowest ≡ true → length new ≡ row_length →
       ((r : ℕ) → get_or new r 0 ≡ get_or row r 0 + from_on lowest in_slots r) → HasTurned in_slots new homes rest
   turned_home new home len gained = record {
     below = below_still;
@@ -164,7 +164,7 @@ module _ (in_slots row : List ℕ) (homes left lowest rest : ℕ) (so_far : HasT
         elsewhere row new len gained so_far.is;
   }
 
-  pub turned_away : (new : List ℕ) → has homes lowest ≡ false → length new ≡ 80 →
+  pub turned_away : (new : List ℕ) → has homes lowest ≡ false → length new ≡ row_length →
       ((r : ℕ) → get_or new r 0 + from_on lowest in_slots r ≡ get_or row r 0) → HasTurned in_slots new homes rest
   turned_away new away len lost = record {
     below = below_still;
@@ -244,7 +244,7 @@ module _ (g : Games) (most i j slots : ℕ) (first second in_slots : List ℕ) (
   unfolding worst_gap worst_apart
   worst_gap_of_rows =
       ap (λ n. over n most)
-      (largest_below_past (round_count g.teams) 80 (apart_in first second) (omega (arith, season)) (λ r past below. past_season r past)) ∙
+      (largest_below_past (round_count g.teams) row_length (apart_in first second) (omega (arith, season)) (λ r past below. past_season r past)) ∙
       over_largest (round_count g.teams) most (apart_in first second) ∙
       sym (largest_below_same (round_count g.teams) (λ r. if has slots r then gap g most i j r else 0)
       (λ r. over (apart_in first second r) most) (λ r below. in_season r))

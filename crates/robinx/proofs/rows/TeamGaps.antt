@@ -13,16 +13,17 @@ use Rattle.robinx.specs.Deviations.{over, deviation, worst_gaps}
 use Rattle.robinx.specs.Gaps.{AreGaps, gap_at}
 use Rattle.robinx.specs.declared.gaps.Gaps.{Gaps}
 use Rattle.robinx.proofs.limits.Limits.{worst_gaps_le}
+use Rattle.robinx.specs.Walked.{row_length}
 
 -- no gap is over the length of a row
-pub row_over : (gaps : Gaps) (team most least : ℕ) → AreGaps gaps → least ≡ min most 80 →
+pub row_over : (gaps : Gaps) (team most least : ℕ) → AreGaps gaps → least ≡ min most row_length →
     sum_below max_teams (λ o. over (gap_at gaps.worst team o) least) ≡ sum_below max_teams (λ o. over (gap_at gaps.worst team o) most)
 row_over gaps team most least of_gaps is = sum_below_same max_teams _ _ (λ o below. omega (arith, is, of_gaps.small team o))
 
-pub lane_few : (row : List ℕ) (lane most chunks : ℕ) → ((o : ℕ) → get_or row o 0 < 80) →
-    sum_below chunks (λ chunk. over (get_or row (chunk * 8 + lane) 0) most) ≤ chunks * 80
+pub lane_few : (row : List ℕ) (lane most chunks : ℕ) → ((o : ℕ) → get_or row o 0 < row_length) →
+    sum_below chunks (λ chunk. over (get_or row (chunk * 8 + lane) 0) most) ≤ chunks * row_length
 lane_few row lane most chunks small =
-    sum_below_le chunks 80 (λ chunk. over (get_or row (chunk * 8 + lane) 0) most)
+    sum_below_le chunks row_length (λ chunk. over (get_or row (chunk * 8 + lane) 0) most)
     (λ chunk below. omega (arith, small (chunk * 8 + lane)))
 
 pub lanes_few : (gaps : Gaps) (team most lanes : ℕ) → AreGaps gaps →

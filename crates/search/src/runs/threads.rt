@@ -2,12 +2,12 @@
 
 ghost use Rattle.std.specs.Prelude.{◌≡◌, ◌+◌, ◌≤◌, [], length, map, All, IfOk, IfSome, vec_len, vec_capacity};
 ghost use Rattle.std.specs.List.Sorted.{IsStrictlyIncreasing};
-ghost use Rattle.search.specs.Crews.{AreCredited, AreStarted, CanStart, HandleSaw, IsBack, IsFresh, IsHandle, IsJob};
-ghost use Rattle.search.specs.Crews.{JobIn, JobMeasured, JobSaw, handle_number, job_number};
-ghost use Rattle.search.specs.Outcomes.{accepted_in};
+ghost use Rattle.search.specs.Crews.{AreStarted, CanStart, IsBack, IsFresh, IsHandle, IsJob};
+ghost use Rattle.search.specs.Crews.{JobIn, JobMeasured, handle_number, job_number};
+ghost use Rattle.search.specs.Outcomes.{AreCredited, accepted_in};
 ghost use Rattle.search.specs.Heard.{IsOfWorker};
 
-use super::PhasePlan;
+use super::SearchPlan;
 use crate::SeatDoor;
 use crate::gates::HearingGate;
 use crate::workers::{Means, Measure, Report, WorkerPlan, take_steps};
@@ -23,7 +23,7 @@ use std::{mem, thread};
 pub(crate) struct Run<'a, R, G> {
     pub(crate) means: Means<'a, R, G>,
     pub(crate) shared: &'a Shared,
-    pub(crate) phase: PhasePlan,
+    pub(crate) plan: SearchPlan,
 }
 
 /// What a worker's thread is given.
@@ -82,8 +82,6 @@ pub(crate) fn seat_all<R: Wait>(
     requires few { vec_len copies ≤ 16 }
     ensures table { seat.new.table ≡ shared.now }
     ensures setting { seat.new.setting ≡ seat.old.setting }
-    ensures seen { seat.new.seen ≡ seat.old.seen }
-    ensures saw { IfOk result (λ v. All (JobSaw seat.old.seen) v.items) }
     ensures in_setting { IfOk result (λ v. All (JobIn seat.old.setting) v.items) }
     ensures jobs { IfOk result (λ v. All (IsJob shared.now) v.items) }
     ensures many { IfOk result (λ v. vec_len v ≡ vec_len copies) }
@@ -110,14 +108,14 @@ pub(crate) fn launch<R: Threads + Wait + Sync, G: HearingGate + Sync>(
     handles: Vec<Handle<G>>,
 ) -> (bool, Vec<Handle<G>>)
     requires { CanStart run.means.measure.of_boards run.means.measure.league.now run.shared.now jobs handles }
-    ensures { AreStarted run.entry.means.gate.now run.entry.phase.search.steps run.entry.shared.now jobs result.0 result.1 }
+    ensures { AreStarted run.entry.means.gate.now run.entry.plan.steps run.entry.shared.now jobs result.0 result.1 }
 {
     thread::scope(
         thread::scope_env(),
         run.means.rt,
         move |scope| -> (bool, Vec<Handle<G>>)
             requires { CanStart run.means.measure.of_boards run.means.measure.league.now run.shared.now jobs handles }
-            ensures { AreStarted run.entry.means.gate.now run.entry.phase.search.steps run.entry.shared.now jobs result.0 result.1 }
+            ensures { AreStarted run.entry.means.gate.now run.entry.plan.steps run.entry.shared.now jobs result.0 result.1 }
         { start_all(scope, run, jobs, handles) },
     )
 }
@@ -130,7 +128,7 @@ fn start_all<'s, E, R: Wait + Sync, G: HearingGate + Sync>(
     mut handles: Vec<Handle<G>>,
 ) -> (bool, Vec<Handle<G>>)
     requires { CanStart run.means.measure.of_boards run.means.measure.league.now run.shared.now jobs handles }
-    ensures { AreStarted run.entry.means.gate.now run.entry.phase.search.steps run.entry.shared.now jobs result.0 result.1 }
+    ensures { AreStarted run.entry.means.gate.now run.entry.plan.steps run.entry.shared.now jobs result.0 result.1 }
 {
     for job in jobs {
         let Some(handle) = start(scope, run, job) else {
@@ -149,18 +147,18 @@ fn start<'s, E, R: Wait + Sync, G: HearingGate + Sync>(
 ) -> Option<Handle<G>>
     requires fresh { IsJob run.shared.now job }
     requires measured { JobMeasured run.means.measure.of_boards run.means.measure.league.now job }
-    ensures handle { IfSome result (IsHandle run.entry.means.gate.now run.entry.phase.search.steps run.entry.shared.now) }
-    ensures seat { IfSome result (λ h. h.promise.seat.value ≡ job.seat) }
+    ensures handle { IfSome result (IsHandle run.entry.means.gate.now run.entry.plan.steps run.entry.shared.now) }
+    ensures number { IfSome result (λ h. handle_number h ≡ job_number job) }
 {
     let Run {
         means,
         shared,
-        phase,
+        plan,
     } = run;
     let Means { rt, gate, measure } = means;
     let Measure { league, of_boards } = measure;
     let given = Given {
-        steps: phase.search.steps,
+        steps: plan.steps,
         seat: Snapshot::of(&job.seat),
         gate: Snapshot::of(gate),
     };
@@ -171,14 +169,14 @@ fn start<'s, E, R: Wait + Sync, G: HearingGate + Sync>(
             move || -> Ended
                 requires fresh { IsJob shared.now job }
                 requires measured { JobMeasured of_boards league.now job }
-                ensures { IsBack (G.heard gate.entry.now) phase.search.steps job.seat result.report result.seat }
+                ensures { IsBack (G.heard gate.entry.now) plan.steps job.seat result.report result.seat }
             {
                 let measure = Measure { league, of_boards };
                 let means = Means { rt, gate, measure };
                 let run = Run {
                     means,
                     shared,
-                    phase,
+                    plan,
                 };
                 work(run, job)
             },
@@ -190,27 +188,26 @@ fn start<'s, E, R: Wait + Sync, G: HearingGate + Sync>(
 fn work<R: Wait, G: HearingGate>(run: Run<'_, R, G>, job: Job) -> Ended
     requires fresh { IsJob run.shared.now job }
     requires measured { JobMeasured run.means.measure.of_boards run.means.measure.league.now job }
-    ensures { IsBack (G.heard run.entry.means.gate.now) run.entry.phase.search.steps job.seat result.report result.seat }
+    ensures { IsBack (G.heard run.entry.means.gate.now) run.entry.plan.steps job.seat result.report result.seat }
 {
     let Run {
         means,
         shared,
-        phase,
+        plan,
     } = run;
     let Job {
         worker: number,
         seat,
         mut copy,
     } = job;
-    let PhasePlan { search, course } = phase;
     let plan = WorkerPlan {
         worker: number,
-        seed: search.seed,
-        steps: search.steps,
-        slack: search.slack,
+        seed: plan.seed,
+        steps: plan.steps,
+        slack: plan.slack,
     };
     let mut door = SeatDoor { shared, seat };
-    let report = take_steps(means, &mut door, plan, course, &mut copy);
+    let report = take_steps(means, &mut door, plan, &mut copy);
     let SeatDoor { shared: _, seat } = door;
     Ended { report, seat }
 }
@@ -223,19 +220,18 @@ pub(crate) fn gather<R: Threads + Wait, G: HearingGate>(
     mut reports: Vec<Report>,
 ) -> Vec<Report>
     requires table { seat.old.table ≡ run.shared.now }
-    requires handles { All (IsHandle run.means.gate.now run.phase.search.steps run.shared.now) handles.items }
-    requires saw { All (HandleSaw seat.old.seen) handles.items }
+    requires handles { All (IsHandle run.means.gate.now run.plan.steps run.shared.now) handles.items }
     requires none { reports.items ≡ [] }
     requires room { vec_len handles ≤ vec_capacity reports }
     ensures table { seat.new.table ≡ run.entry.shared.now }
     ensures setting { seat.new.setting ≡ seat.old.setting }
     ensures many { vec_len result ≡ vec_len handles }
-    ensures each { All (IsOfWorker (G.heard run.entry.means.gate.now) run.entry.phase.search.steps) result.items }
-    ensures credits { AreCredited seat.old.seen (map handle_number handles.items) result.items seat.new.seen }
+    ensures each { All (IsOfWorker (G.heard run.entry.means.gate.now) run.entry.plan.steps) result.items }
+    ensures credits { AreCredited (map handle_number handles.items) result.items seat.new.seen }
 {
     for handle in handles {
         let ended = handle.join(run.means.rt);
-        prove!(ended.report.made <= run.phase.search.steps);
+        prove!(ended.report.made <= run.plan.steps);
         run.shared.absorb(seat, ended.seat);
         reports.push_reserved(ended.report);
     }

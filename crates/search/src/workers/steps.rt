@@ -134,6 +134,7 @@ pub(crate) fn step<R: Wait, D: Door, G: HearingGate>(
     let attempt = Attempt {
         exchange: &exchange,
         known: kept.known.cost,
+        weight: measure.league.hard_weight(),
         most: kept.known.score.saturating_add(trial.slack),
     };
     let Some(cost) = make_within(copy, measure.league, &mut kept.gaps, &attempt) else {

@@ -38,8 +38,12 @@ impl Gate for Listener<'_> {
     }
 }
 
-/// What a gate is told of a run of one worker on a board of eight teams.
-fn told<R: Threads + Wait + Sync>(rt: &R, alloc: Global, steps: u32) -> Result<String, Fail> {
+/// What a gate is told of a run of one worker, of so many steps, on a board of eight teams with so much room.
+fn told<R: Threads + Wait + Sync>(
+    rt: &R,
+    alloc: Global,
+    (steps, room): (u32, u32),
+) -> Result<String, Fail> {
     let log = Mutex::new(String::new(alloc));
     let gate = Listener { log: &log };
     let plan = SearchPlan {
@@ -50,7 +54,7 @@ fn told<R: Threads + Wait + Sync>(rt: &R, alloc: Global, steps: u32) -> Result<S
     };
     let asked = AskedRun {
         teams: 8,
-        room: 20_000,
+        room,
         plan,
     };
     searched_with(rt, alloc, &gate, asked)?;
@@ -60,26 +64,40 @@ fn told<R: Threads + Wait + Sync>(rt: &R, alloc: Global, steps: u32) -> Result<S
 fn check_told<R: Threads + Wait + Sync + Abort>(
     rt: &R,
     alloc: Global,
-    steps: u32,
+    asked: (u32, u32),
     lines: &str,
 ) -> Result<(), Fail> {
-    let told = told(rt, alloc, steps)?;
+    let told = told(rt, alloc, asked)?;
     check_same(rt, &told.as_str(), &lines);
     Ok(())
 }
 
 /// The versions and totals are those of `scripts/worker-steps asks 4 0 8 12300 10 20000`.
-const TOLD_THREE_TIMES: &str = "told 0 4096 856 Some(178)\n\
+const TOLD_FOUR_TIMES: &str = "told 0 4096 856 Some(178)\n\
     told 0 4096 1504 Some(170)\n\
     told 0 4096 1693 Some(152)\n\
+    told 0 12 1693 Some(152)\n\
     ended\n";
 
 #[test]
-fn gate_is_told_after_each_4096_steps(rt: HostRuntime) -> Result<(), Fail> {
-    check_told(&rt, rt.alloc(), 12_300, TOLD_THREE_TIMES)
+fn gate_is_told_after_each_4096_steps_and_at_the_end(rt: HostRuntime) -> Result<(), Fail> {
+    check_told(&rt, rt.alloc(), (12_300, 20_000), TOLD_FOUR_TIMES)
 }
 
+/// A number of steps, the board's room, and what the gate is told, by `scripts/worker-steps asks 4 0 8 STEPS 10 ROOM`.
+const SHORT_RUNS: [((u32, u32), &str); 4] = [
+    ((0, 20_000), "ended\n"),
+    ((4095, 20_000), "told 0 4095 545 Some(172)\nended\n"),
+    // no step is told twice
+    ((4096, 20_000), "told 0 4096 545 Some(172)\nended\n"),
+    // the last step found the board full
+    ((4096, 5), "told 0 18 5 Some(228)\nended\n"),
+];
+
 #[test]
-fn gate_is_told_the_end_alone_of_a_short_run(rt: HostRuntime) -> Result<(), Fail> {
-    check_told(&rt, rt.alloc(), 4095, "ended\n")
+fn gate_is_told_of_all_steps_of_short_runs(rt: HostRuntime) -> Result<(), Fail> {
+    for (asked, lines) in SHORT_RUNS {
+        check_told(&rt, rt.alloc(), asked, lines)?;
+    }
+    Ok(())
 }

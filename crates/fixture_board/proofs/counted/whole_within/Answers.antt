@@ -19,7 +19,7 @@ loop-i-init c =
     record {
       parts = c.new-parts.ensures;
       counted = counted;
-      no_more = no_more c.teams.ensures.limits c.requires.same_size c.requires.rest (omega arith) counted;
+      no_more = no_more c.args.scope.now.attempt.weight (omega arith) c.teams.ensures.limits c.requires.same_size c.requires.rest (omega arith) counted;
     }
 
 pub loop-i-preserved : goal.loop-i-preserved
@@ -31,7 +31,7 @@ loop-i-preserved c =
     record {
       parts = c.part.ensures.same ∙ c.loop-i.invariant.parts;
       counted = counted;
-      no_more = no_more c.teams.ensures.limits c.requires.same_size c.requires.rest
+      no_more = no_more c.args.scope.now.attempt.weight (omega arith) c.teams.ensures.limits c.requires.same_size c.requires.rest
           (omega (arith, c.loop-i-test.true, c.rule_count-i-end.ensures.value)) counted;
     }
 
@@ -40,5 +40,5 @@ returns c = (
   all_counted c.args.league.now c.args.scope.now c.args.schedule.now c.args.rest c.loop-i.cost c.requires.rest
       (subst (λ n. IsCountedTo c.args.league.now c.args.scope.now c.args.schedule.now c.args.rest n c.loop-i.cost)
       (omega (arith, c.loop-i.auto.i-end, c.loop-i-test.false, c.rule_count-i-end.ensures.value)) c.loop-i.invariant.counted),
-  omega (arith, c.score-2.ensures, c.if-score-most-2.false),
+  omega (arith, c.score_by-2.ensures, c.if-score_by-most-2.false),
 )

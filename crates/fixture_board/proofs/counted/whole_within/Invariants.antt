@@ -7,5 +7,5 @@ abbrev pub invariant-loop-i : goal.invariant-loop-i
 invariant-loop-i l = record {
   parts : l.parts ≡ counting_of l.schedule l.scope;
   counted : IsCountedTo l.league l.scope l.schedule l.fn.rest l.i l.cost;
-  no_more : IsNoMore l.league l.schedule l.cost;
+  no_more : IsNoMore l.league l.scope.attempt.weight l.schedule l.cost;
 }

@@ -13,7 +13,7 @@ returns-then-not-touches c =
     (sym c.touches.ensures ∙ c.if-not-touches.true)
 
 pub nonzero_div-left : goal.nonzero_div-left
-nonzero_div-left c = rw c.weight_of.ensures (weight_least _ _ _ c.teams.ensures.limits c.in-Some.ensures.found)
+nonzero_div-left c = rw c.weight_of.ensures (weight_least _ _ _ _ c.requires.weight c.in-Some.ensures.found)
 
 pub returns : goal.returns
 returns c =
@@ -24,4 +24,4 @@ returns c =
     rw c.weight_of.ensures at told ∙
     touched_fits c.args.league.now c.args.scope.now _ _ _ c.in-Some.ensures.value c.in-Some.ensures.found.body c.args.left _
     c.turned.view_is (sym c.touches.ensures ∙ c.if-not-touches.false)
-    (weight_least _ _ _ c.teams.ensures.limits c.in-Some.ensures.found)
+    (weight_least _ _ _ _ c.requires.weight c.in-Some.ensures.found)

@@ -1,12 +1,12 @@
-use Rattle.std.proofs.Common.{sym, ◌∙◌, ap}
+use Rattle.std.proofs.Common.{sym, ◌∙◌, ap, arith}
 use Rattle.fixture_board.specs.Costs.{cost_of}
-use Rattle.fixture_board.proofs.Parts.{score_after, within_greatest}
+use Rattle.fixture_board.proofs.Parts.{score_fits_after, within_greatest}
 use Rattle.fixture_board.proofs.made_exchanges.make_at_cost.Goals as goal
 
 pub unwrap-requires : goal.unwrap-requires
 unwrap-requires c =
-    within_greatest c.args.league.now _ c.make_within.result c.make_within.ensures.value
-    (score_after c.args.league.now c.args.schedule.now c.args.exchange.now c.teams.ensures.limits c.requires.same_size)
+    within_greatest c.args.league.now 1 _ c.make_within.result c.make_within.ensures.value
+    (score_fits_after c.args.league.now c.args.schedule.now c.args.exchange.now 1 c.teams.ensures.limits c.requires.same_size (omega arith))
 
 pub returns : goal.returns
 returns c = record {

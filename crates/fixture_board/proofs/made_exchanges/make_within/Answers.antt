@@ -4,27 +4,27 @@ use Rattle.fixture_board.specs.CostParts.{IsTold}
 use Rattle.fixture_board.proofs.Parts.{score_after, told_alone, within_is_small}
 use Rattle.fixture_board.proofs.made_exchanges.make_within.Goals as goal
 
-pub score-requires : goal.score-requires
-score-requires c =
-    let whole = told_alone c.in_ok-told.ensures c.teams.ensures.limits c.requires.same_size
+pub score_by-requires : goal.score_by-requires
+score_by-requires c =
+    let whole = told_alone c.args.attempt.now.weight (omega arith) c.in_ok-told.ensures c.teams.ensures.limits c.requires.same_size
     (omega (arith, c.rule_count.ensures.value, c.if-rule_count-eq0.true)) (sym c.phased.ensures ∙ c.if-not-phased.true) in
-    omega (arith, whole.small)
+    whole.fits
 
-pub returns-then-score-most-clause-value : goal.returns-then-score-most-clause-value
-returns-then-score-most-clause-value c =
-    let whole = told_alone c.in_ok-told.ensures c.teams.ensures.limits c.requires.same_size
+pub returns-then-score_by-attempt-clause-value : goal.returns-then-score_by-attempt-clause-value
+returns-then-score_by-attempt-clause-value c =
+    let whole = told_alone c.args.attempt.now.weight (omega arith) c.in_ok-told.ensures c.teams.ensures.limits c.requires.same_size
     (omega (arith, c.rule_count.ensures.value, c.if-rule_count-eq0.true)) (sym c.phased.ensures ∙ c.if-not-phased.true) in
-    omega (arith, whole.score_is, c.score.ensures, c.if-score-most.true)
+    omega (arith, whole.score_is, c.score_by.ensures, c.if-score_by-attempt.true)
 
 pub returns-then-not-phased-clause-value : goal.returns-then-not-phased-clause-value
 returns-then-not-phased-clause-value c =
-    let whole = told_alone c.in_ok-told.ensures c.teams.ensures.limits c.requires.same_size
+    let whole = told_alone c.args.attempt.now.weight (omega arith) c.in_ok-told.ensures c.teams.ensures.limits c.requires.same_size
     (omega (arith, c.rule_count.ensures.value, c.if-rule_count-eq0.true)) (sym c.phased.ensures ∙ c.if-not-phased.true) in
-    (whole.is, omega (arith, c.score.ensures, c.if-score-most.false))
+    (whole.is, omega (arith, c.score_by.ensures, c.if-score_by-attempt.false))
 
 pub returns-then-not-phased-clause-small : goal.returns-then-not-phased-clause-small
 returns-then-not-phased-clause-small c =
-    let whole = told_alone c.in_ok-told.ensures c.teams.ensures.limits c.requires.same_size
+    let whole = told_alone c.args.attempt.now.weight (omega arith) c.in_ok-told.ensures c.teams.ensures.limits c.requires.same_size
     (omega (arith, c.rule_count.ensures.value, c.if-rule_count-eq0.true)) (sym c.phased.ensures ∙ c.if-not-phased.true) in
     whole.small
 
@@ -35,6 +35,6 @@ rest_within-requires-clause-told c =
 
 pub returns-else-is_none-clause-small : goal.returns-else-is_none-clause-small
 returns-else-is_none-clause-small c =
-    within_is_small c.args.league.now _ _ _ c.whole_within-cost.ensures
+    within_is_small c.args.league.now _ _ _ _ c.whole_within-cost.ensures
     (rw c.make-2.ensures.made
     (score_after c.args.league.now c.args.schedule.now c.args.attempt.now.exchange.now c.teams.ensures.limits c.requires.same_size))

@@ -2,7 +2,7 @@ use Rattle.std.proofs.Common.{◌∙◌, ap, arith}
 use Rattle.moves.specs.Exchanges.{exchanged_by}
 use Rattle.fixture_board.specs.declared.cost.Cost.{Cost}
 use Rattle.fixture_board.proofs.Scores.{cost_small, cost_travel}
-use Rattle.fixture_board.proofs.Parts.{games_le, near_le, least_scores, score_after, travel_scores}
+use Rattle.fixture_board.proofs.Parts.{games_le, near_le, least_scores, score_fits_after, travel_scores}
 use Rattle.fixture_board.proofs.told_cost.told_within.Goals as goal
 
 pub travel_after-travel-requires-clause-known : goal.travel_after-travel-requires-clause-known
@@ -12,30 +12,31 @@ pub returns-then-travel-most : goal.returns-then-travel-most
 returns-then-travel-most c =
     omega (
       arith,
-      travel_scores c.args.league.now (exchanged_by c.args.schedule.now c.args.attempt.now.exchange.now),
+      travel_scores c.args.league.now c.args.attempt.now.weight (exchanged_by c.args.schedule.now c.args.attempt.now.exchange.now),
       c.travel_after-travel.ensures,
       c.if-travel-most.true,
     )
 
-pub score-requires : goal.score-requires
-score-requires c =
+pub score_by-requires : goal.score_by-requires
+score_by-requires c =
     omega (
       arith,
-      least_scores c.args.league.now (exchanged_by c.args.schedule.now c.args.attempt.now.exchange.now) c.runs_of-runs.result.after
+      least_scores c.args.league.now c.args.attempt.now.weight (exchanged_by c.args.schedule.now c.args.attempt.now.exchange.now) c.runs_of-runs.result.after
           (omega (arith, c.runs_of-runs.ensures.balance, c.runs_of-runs.ensures.within)),
       c.travel_after-travel.ensures,
-      score_after c.args.league.now c.args.schedule.now c.args.attempt.now.exchange.now c.teams.ensures.limits c.requires.same_size,
+      score_fits_after c.args.league.now c.args.schedule.now c.args.attempt.now.exchange.now c.args.attempt.now.weight
+          c.teams.ensures.limits c.requires.same_size (omega arith),
     )
 
-pub returns-then-score-most : goal.returns-then-score-most
-returns-then-score-most c =
+pub returns-then-score_by-most : goal.returns-then-score_by-most
+returns-then-score_by-most c =
     omega (
       arith,
-      least_scores c.args.league.now (exchanged_by c.args.schedule.now c.args.attempt.now.exchange.now) c.runs_of-runs.result.after
+      least_scores c.args.league.now c.args.attempt.now.weight (exchanged_by c.args.schedule.now c.args.attempt.now.exchange.now) c.runs_of-runs.result.after
           (omega (arith, c.runs_of-runs.ensures.balance, c.runs_of-runs.ensures.within)),
       c.travel_after-travel.ensures,
-      c.score.ensures,
-      c.if-score-most.true,
+      c.score_by.ensures,
+      c.if-score_by-most.true,
     )
 
 pub overflow_add-result : goal.overflow_add-result

@@ -1,10 +1,18 @@
-use Rattle.std.proofs.Common.{arith}
-use Rattle.improvement.specs.Runs.{IsWorkers}
-use Rattle.improvement.proofs.Endings.{improves}
+use Rattle.std.proofs.Common.{arith, inl, refl}
+use Rattle.std.proofs.lemmas.Result.{err_from_is_err_and}
 use Rattle.improvement.proofs.improving.improve.Goals as goal
 
-pub returns : goal.returns
-returns g c =
-    let workers : IsWorkers c.args.plan = (omega arith, omega arith) in
-    improves g.W.Sink.held g.W.Sink.tally c.args.league c.args.plan _ _ _ c.run_and_write.result _ c.new.ensures workers
-    c.run_and_write.ensures (grind arith)
+pub returns-in_err-unit : goal.returns-in_err-unit
+returns-in_err-unit g c =
+    let p = err_from_is_err_and c.from_residual.result c.from_residual.ensures.1 in
+    rw (p.1, p.2) ((omega arith, omega arith), inl refl)
+
+pub returns-in_err-start : goal.returns-in_err-start
+returns-in_err-start g c =
+    let p = err_from_is_err_and c.from_residual-in_err-start.result c.from_residual-in_err-start.ensures.1 in
+    rw (p.1, p.2) ((omega arith, omega arith), inl refl)
+
+pub returns-in_err-rounds : goal.returns-in_err-rounds
+returns-in_err-rounds g c =
+    let p = err_from_is_err_and c.from_residual-in_err-rounds.result c.from_residual-in_err-rounds.ensures.1 in
+    rw (p.1, p.2) ((omega arith, omega arith), inl refl)

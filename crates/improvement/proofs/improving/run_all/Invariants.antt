@@ -1,10 +1,11 @@
-use Rattle.std.proofs.Common.{◌-◌}
-use Rattle.improvement.specs.Kept.{IsUnderWay}
+use Rattle.std.proofs.Common.{[]}
+use Rattle.improvement.specs.Lines.{left_in}
+use Rattle.improvement.specs.UnderWay.{IsUnderWay}
 use Rattle.improvement.proofs.improving.run_all.Given as goal
 
-abbrev pub invariant-loop-phase : goal.invariant-loop-phase
-invariant-loop-phase g l =
-    IsUnderWay g.W.Sink.held g.W.Sink.tally l.setting.league.now l.setting.plan l.initial.out l.out l.policy l.chains l.lead
+abbrev pub invariant-loop-told : goal.invariant-loop-told
+invariant-loop-told g l =
+    IsUnderWay g.W.Sink.held g.W.Sink.tally l.setting.start.now l.setting.unit l.setting.plan.effort l.initial.out l.out [] l.line l.told
 
-abbrev pub decreases-loop-phase : goal.decreases-loop-phase
-decreases-loop-phase g l = 380 - l.policy.told
+abbrev pub decreases-loop-told : goal.decreases-loop-told
+decreases-loop-told g l = left_in l.line

@@ -4,14 +4,15 @@ use Rattle.std.proofs.lemmas.List.{get_or-replicate}
 use Rattle.std.proofs.Math.ListN.{replicate, get_or-eq_default}
 use Rattle.league.proofs.ForCallers.{has_beyond}
 use Rattle.robinx.proofs.home_rows.in_slots.Goals as goal
+use Rattle.robinx.specs.Walked.{row_length}
 
 pub loop-round-init : goal.loop-round-init
 loop-round-init c = record {
   len = refl;
   written = λ k below. absurd (omega arith);
-  rest = λ k past. elim (cases_lt k 80) [
-    | inl in_row ↦ get_or-replicate 80 k 0 0 in_row
-    | inr beyond ↦ get_or-eq_default (replicate 80 0) 0 beyond
+  rest = λ k past. elim (cases_lt k row_length) [
+    | inl in_row ↦ get_or-replicate row_length k 0 0 in_row
+    | inr beyond ↦ get_or-eq_default (replicate row_length 0) 0 beyond
   ];
 }
 

@@ -1,4 +1,4 @@
-use Rattle.std.proofs.Common.{◌≡◌, ℕ, ◌+◌, ◌-◌, ◌*◌, ◌/◌, ◌%◌, ◌<◌, sym, ap, ◌∙◌, arith, rules}
+use Rattle.std.proofs.Common.{◌≡◌, ℕ, ◌+◌, ◌-◌, ◌*◌, ◌/◌, ◌%◌, ◌<◌, sym, ap, ◌∙◌, arith}
 use Rattle.std.proofs.Math.Nat.{add-mul, div-add-mod, mul-add-div, mul_assoc}
 use Rattle.search.proofs.workers.slack_at.Goals as goal
 
@@ -10,10 +10,7 @@ by_parts slack steps left some =
     ap (λ n. (n + slack % steps * left) / steps) (mul_assoc steps (slack / steps) left) ∙
     mul-add-div some (slack / steps * left) (slack % steps * left)
 
-pub returns-in-Falls : goal.returns-in-Falls
-returns-in-Falls c =
-    rw (c.in-Falls.is, c.from-steps.ensures, c.from-left.ensures)
+pub returns : goal.returns
+returns c =
+    rw (c.from-steps.ensures, c.from-left.ensures)
     (sym (by_parts c.args.plan.slack c.args.plan.steps (c.args.plan.steps - c.args.s) (omega (arith, c.requires))))
-
-pub returns-in-Stays : goal.returns-in-Stays
-returns-in-Stays c = search rules

@@ -2,6 +2,7 @@ use Rattle.std.proofs.Common.{refl, arith, rules}
 use Rattle.search.proofs.Hearing.{counts_next, heard_next, heard_none}
 use Rattle.search.proofs.Measures.{measured_still}
 use Rattle.search.proofs.workers.take_steps.Goals as goal
+use Rattle.search.proofs.workers.take_steps.Goals.{else-loop-s-test, then-loop-s-test+in-Full}
 
 pub loop-s-init : goal.loop-s-init
 loop-s-init g c = record {
@@ -29,10 +30,14 @@ loop-s-preserved g c =
       stays = search rules;
     }
 
-pub returns-in-Full-clause-heard : goal.returns-in-Full-clause-heard
-returns-in-Full-clause-heard g c =
-    heard_next _ c.loop-s.report c.with-report.result c.step-told.result c.with-report.ensures c.loop-s.invariant.heard
-    c.step-told.ensures.heard
+pub returns-after-loop-s-clause-heard : goal.returns-after-loop-s-clause-heard
+returns-after-loop-s-clause-heard g c =
+    elim c.loop-s-test.branch [
+      | else-loop-s-test w ↦ rw w.report-is c.loop-s.invariant.heard
+      | then-loop-s-test+in-Full w ↦
+          rw w.report-is (heard_next _ c.loop-s.report w.with-report.result w.step-told.result w.with-report.ensures c.loop-s.invariant.heard
+          w.step-told.ensures.heard)
+    ]
 
 pub step-told-requires-clause-measured : goal.step-told-requires-clause-measured
 step-told-requires-clause-measured g c =

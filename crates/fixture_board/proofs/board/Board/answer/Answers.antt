@@ -1,5 +1,5 @@
-use Rattle.std.proofs.Common.{ℕ, ◌∙◌, ap, arith}
-use Rattle.fixture_board.specs.declared.reply.Reply.TheVariants.{No}
+use Rattle.std.proofs.Common.{ℕ, length, ◌∙◌, ap, arith}
+use Rattle.fixture_board.specs.declared.reply.Reply.TheVariants.{Done, No}
 use Rattle.fixture_board.specs.Kept.{Kept}
 use Rattle.fixture_board.specs.Record.{book}
 use Rattle.fixture_board.proofs.Reasons.{refused_call, granted_call}
@@ -21,7 +21,9 @@ enter-requires-clause-total c =
 pub returns-clause-reply : goal.returns-clause-reply
 returns-clause-reply c =
     let granted = rw c.in_default.is at c.step.ensures.step in
-    c.enter.ensures.reply ∙ (granted_call _ _ _ _ c.args.caller c.args.ask granted c.self.view_is).0
+    ap (λ (n : ℕ). Done n c.enter.new.self.cost) c.version.ensures ∙
+    ap (λ (k : Kept). Done (length k.history) k.cost) c.enter.ensures.entered ∙
+    (rw c.change-change.ensures (granted_call _ _ _ _ c.args.caller c.args.ask granted c.self.view_is).0)
 
 pub returns-clause-history : goal.returns-clause-history
 returns-clause-history c =

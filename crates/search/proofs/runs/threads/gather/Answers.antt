@@ -1,7 +1,7 @@
 use Rattle.std.proofs.Common.{◌≡◌, ◌∷◌, [], length, sym, ap, ◌∙◌, append_assoc, arith}
 use Rattle.std.proofs.lemmas.List.Elements.{All-head, All-rest, All-same}
 use Rattle.std.specs.Vec.Iter.{into_iter_items}
-use Rattle.search.specs.Crews.{HandleSaw, IsHandle}
+use Rattle.search.specs.Crews.{IsHandle}
 use Rattle.search.proofs.Credited.{gathered_more}
 use Rattle.search.proofs.runs.threads.gather.Goals as goal
 
@@ -15,18 +15,13 @@ loop-handle-preserved g c =
     let gone = c.in-Some.ensures.steps.1 in
     let short = ap length steps in
     let pushed = c.push_reserved.ensures in
-    let most = c.args.run.phase.search.steps in
+    let most = c.args.run.plan.steps in
     let is_handle = IsHandle c.args.run.means.gate.now most c.args.run.shared.now in
     let given : is_handle handle =
     All-head is_handle handle rest
     (All-same is_handle (handle ∷ rest) all (sym steps) was.handles)
     in
-    let saw : HandleSaw c.args.seat.now.seen handle =
-    All-head (HandleSaw c.args.seat.now.seen) handle rest
-    (All-same (HandleSaw c.args.seat.now.seen) (handle ∷ rest) all (sym steps) was.saw)
-    in
     record {
-      saw = All-rest (HandleSaw c.args.seat.now.seen) handle rest all steps was.saw;
       handles = All-rest is_handle handle rest all steps was.handles;
       left = omega (arith, was.left, gone, short);
       all = append_assoc c.loop-handle.yielded (handle ∷ []) _ ∙ rw (← steps) was.all;
@@ -35,5 +30,5 @@ loop-handle-preserved g c =
       gathered = gathered_more g.G.HearingGate.heard c.args.run.means.gate.now most c.args.run.shared.now c.args.seat.now
           c.loop-handle.seat c.join-ended.result.seat c.absorb.new.seat
           c.loop-handle.yielded handle c.loop-handle.reports.items c.push_reserved.new.self.items c.join-ended.result.report
-          was.gathered given saw c.join-ended.ensures c.absorb.ensures pushed.items;
+          was.gathered given c.join-ended.ensures c.absorb.ensures pushed.items;
     }

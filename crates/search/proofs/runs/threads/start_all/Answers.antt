@@ -1,10 +1,8 @@
-use Rattle.std.proofs.Common.{◌≡◌, ◌∷◌, [], ◌++◌, List, length, map, ap, sym, ◌∙◌, arith}
+use Rattle.std.proofs.Common.{◌≡◌, ◌∷◌, [], ◌++◌, length, map, ap, ◌∙◌, arith}
 use Rattle.std.proofs.lemmas.List.{map-append}
-use Rattle.std.proofs.lemmas.List.Elements.{All-head, All-push, All-rest, All-same}
+use Rattle.std.proofs.lemmas.List.Elements.{All-push, All-rest, All-same}
 use Rattle.std.specs.Vec.Iter.{into_iter_items}
-use Rattle.shared_board.specs.Seats.{SeatValue}
-use Rattle.search.specs.declared.runs.threads.Job.{Job}
-use Rattle.search.specs.Crews.{HandleSaw, IsHandle, IsJob, JobMeasured, JobSaw, handle_number, job_number}
+use Rattle.search.specs.Crews.{IsHandle, IsJob, JobMeasured, handle_number, job_number}
 use Rattle.search.proofs.Chains.{numbers_more}
 use Rattle.search.proofs.runs.threads.start_all.Goals as goal
 
@@ -18,19 +16,11 @@ loop-job-preserved g c =
     let pushed = c.push_reserved.ensures in
     let old = c.loop-job.handles.items in
     let handle = c.in-Some-start.handle in
-    let given : handle.promise.seat.value ≡ c.in-Some.job.seat = c.in-Some-start.ensures.seat in
-    let left : List Job = into_iter_items c.loop-job.job-iterator in
-    let is_handle = IsHandle c.args.run.means.gate.now c.args.run.phase.search.steps c.args.run.shared.now in
+    let is_handle = IsHandle c.args.run.means.gate.now c.args.run.plan.steps c.args.run.shared.now in
     let measured_job = JobMeasured c.args.run.means.measure.of_boards c.args.run.means.measure.league.now in
     record {
-      left_saw = λ start saw. All-rest (JobSaw start) c.in-Some.job rest left steps (was.left_saw start saw);
-      saw = λ start saw. All-same (HandleSaw start) c.push_reserved.new.self.items (old ++ handle ∷ []) pushed.items
-          (All-push (HandleSaw start) old handle (was.saw start saw)
-          (ap (λ (s : SeatValue). s.seen) given
-          ∙ All-head (JobSaw start) c.in-Some.job rest
-          (All-same (JobSaw start) (c.in-Some.job ∷ rest) left (sym steps) (was.left_saw start saw))));
       jobs = All-rest (IsJob c.args.run.shared.now) c.in-Some.job rest (into_iter_items c.loop-job.job-iterator) steps was.jobs;
-      measured = All-rest measured_job c.in-Some.job rest left steps was.measured;
+      measured = All-rest measured_job c.in-Some.job rest (into_iter_items c.loop-job.job-iterator) steps was.measured;
       left = omega (arith, was.left, gone, short);
       handles = All-same is_handle c.push_reserved.new.self.items
           (old ++ handle ∷ []) pushed.items
@@ -42,5 +32,5 @@ loop-job-preserved g c =
           (map job_number (into_iter_items c.loop-job.job-iterator)) (map job_number rest) (map job_number c.args.jobs.items)
           (handle_number handle) (job_number c.in-Some.job)
           (ap (map handle_number) pushed.items ∙ map-append handle_number old (handle ∷ []))
-          (ap (map job_number) steps) (ap (λ (s : SeatValue). s.number) given) was.numbers;
+          (ap (map job_number) steps) c.in-Some-start.ensures.number was.numbers;
     }

@@ -1,18 +1,15 @@
-use Rattle.std.proofs.Common.{◌≡◌, ◌+◌, ◌≤◌, ◌++◌, length, List, map, vec_len, vec_capacity}
+use Rattle.std.proofs.Common.{◌≡◌, ◌+◌, ◌≤◌, ◌++◌, length, map, vec_len, vec_capacity}
 use Rattle.std.specs.List.{All}
-use Rattle.fixture_board.specs.declared.change.Entry.{Entry}
 use Rattle.std.specs.Vec.Iter.{into_iter_items, into_iter_len}
-use Rattle.search.specs.Crews.{HandleSaw, IsHandle, IsJob, JobMeasured, JobSaw, handle_number, job_number}
+use Rattle.search.specs.Crews.{IsHandle, IsJob, JobMeasured, handle_number, job_number}
 use Rattle.search.proofs.runs.threads.start_all.Given as goal
 
 abbrev pub invariant-loop-job : goal.invariant-loop-job
 invariant-loop-job g l = record {
   jobs : All (IsJob l.run.shared.now) (into_iter_items l.job-iterator);
   measured : All (JobMeasured l.run.means.measure.of_boards l.run.means.measure.league.now) (into_iter_items l.job-iterator);
-  left_saw : (start : List Entry) → All (JobSaw start) l.fn.jobs.items → All (JobSaw start) (into_iter_items l.job-iterator);
-  saw : (start : List Entry) → All (JobSaw start) l.fn.jobs.items → All (HandleSaw start) l.handles.items;
   left : into_iter_len l.job-iterator ≡ length (into_iter_items l.job-iterator);
-  handles : All (IsHandle l.run.means.gate.now l.run.phase.search.steps l.run.shared.now) l.handles.items;
+  handles : All (IsHandle l.run.means.gate.now l.run.plan.steps l.run.shared.now) l.handles.items;
   count : vec_len l.handles + into_iter_len l.job-iterator ≡ vec_len l.fn.jobs;
   room : vec_len l.fn.jobs ≤ vec_capacity l.handles;
   numbers : map handle_number l.handles.items ++ map job_number (into_iter_items l.job-iterator) ≡ map job_number l.fn.jobs.items;

@@ -1,0 +1,51 @@
+use Rattle.std.proofs.Common.{◌≡◌, refl, sym, subst, arith}
+use Rattle.league.specs.League.{teams}
+use Rattle.search.specs.Draws.{AreRoundsOf}
+use Rattle.annealing.specs.Heats.{block_count}
+use Rattle.annealing.specs.Progress.{IsGoing}
+use Rattle.annealing.proofs.Ends.{IsAnnealed-all, IsAnnealed-heated, IsGoing-none}
+use Rattle.annealing.proofs.legs.anneal.Goals as goal
+
+pub loop-number-init : goal.loop-number-init
+loop-number-init g c = record {
+  going = IsGoing-none c.args.plan.leg c.args.chain.board _ refl refl refl;
+  within = λ some. absurd (omega arith);
+}
+
+pub take_block-requires-clause-rounds : goal.take_block-requires-clause-rounds
+take_block-requires-clause-rounds g c =
+    subst (λ league. AreRoundsOf (teams league) c.args.conditions.rounds.now) (sym c.loop-number.invariant.going.boards.board.league)
+    c.requires.rounds
+
+pub take_block-requires-clause-steps : goal.take_block-requires-clause-steps
+take_block-requires-clause-steps g c = omega (arith, c.loop-number.invariant.going.steps)
+
+pub take_block-requires-clause-accepted : goal.take_block-requires-clause-accepted
+take_block-requires-clause-accepted g c = c.loop-number.invariant.going.accepted
+
+pub end-requires-clause-some : goal.end-requires-clause-some
+end-requires-clause-some g c =
+    let more = c.in_ok-tally.ensures.goes_on c.args.chain.board c.loop-number.invariant.going in omega (arith, more.steps, c.requires.leg.steps)
+
+pub end-requires-clause-few : goal.end-requires-clause-few
+end-requires-clause-few g c =
+    let more = c.in_ok-tally.ensures.goes_on c.args.chain.board c.loop-number.invariant.going in omega (arith, more.steps)
+
+pub returns-then-may_end : goal.returns-then-may_end
+returns-then-may_end g c =
+    IsAnnealed-heated c.args.conditions.weights c.args.plan.leg c.args.chain c.loop-number.number c.take_block.new.self c.end.result
+    c.requires.leg.steps (c.in_ok-tally.ensures.goes_on c.args.chain.board c.loop-number.invariant.going) c.in_ok-tally.ensures.weight
+    (c.may_end.ensures.0 c.if-may_end.true) c.end.ensures
+
+pub loop-number-preserved : goal.loop-number-preserved
+loop-number-preserved g c = record {
+  going = c.in_ok-tally.ensures.goes_on c.args.chain.board c.loop-number.invariant.going;
+  within = λ some. c.in_ok-tally.ensures.weight;
+}
+
+pub returns : goal.returns
+returns g c =
+    let all : c.loop-number.number ≡ block_count c.args.plan.leg = omega (arith, c.block_count-number-end.ensures) in
+    let going = subst (λ n. IsGoing c.args.plan.leg c.args.chain.board n c.loop-number.going) all c.loop-number.invariant.going in
+    IsAnnealed-all c.args.conditions.weights c.args.plan.leg c.args.chain c.loop-number.going c.end-2.result c.requires.leg.steps going
+    (c.loop-number.invariant.within (omega (arith, c.requires.leg.steps))) c.end-2.ensures

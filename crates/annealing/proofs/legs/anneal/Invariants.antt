@@ -1,0 +1,9 @@
+use Rattle.std.proofs.Common.{◌≤◌}
+use Rattle.annealing.specs.Progress.{IsGoing, IsWithin}
+use Rattle.annealing.proofs.legs.anneal.Given as goal
+
+abbrev pub invariant-loop-number : goal.invariant-loop-number
+invariant-loop-number g l = record {
+  going : IsGoing l.leg l.fn.chain.board l.number l.going;
+  within : 1 ≤ l.number → IsWithin l.conditions.weights l.going.weight;
+}

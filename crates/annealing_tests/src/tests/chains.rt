@@ -1,0 +1,90 @@
+//! Chains at the start of a league, and legs on them.
+
+ghost use Rattle.policy.specs.Legs.{IsLeg};
+
+use crate::tests::leagues::{Sample, league_of};
+use annealing::{Annealed, Chain, Conditions, LegPlan, anneal, measure};
+use fixture_board::Board;
+use policy::{Course, Leg, MoveSet, WeightCourse};
+use search::{Gate, NoGate, Workplace, each_round};
+use std::alloc::Global;
+use std::sync::Wait;
+use std::test::Fail;
+
+pub(crate) const WEIGHTS: WeightCourse = WeightCourse {
+    first: 2_000_000,
+    least: 300_000,
+    most: 100_000_000,
+};
+
+/// A leg that is taken at the start of a league.
+#[derive(Clone, Copy, Debug)]
+pub(crate) struct Asked {
+    pub(crate) sample: Sample,
+    pub(crate) room: u32,
+    pub(crate) leg: Leg,
+    pub(crate) seed: u64,
+    pub(crate) stream: u64,
+}
+
+/// 5,000 steps of all moves, not too hot.
+pub(crate) const MILD: Asked = Asked {
+    sample: Sample::Circle,
+    room: 10_000,
+    leg: Leg {
+        moves: MoveSet::Full,
+        course: Course::Cools { from: 600, to: 150 },
+        steps: 5000,
+    },
+    seed: 1,
+    stream: 0,
+};
+
+/// A new board of the league.
+pub(crate) fn board_of(alloc: Global, sample: Sample, room: u32) -> Result<Board, Fail> {
+    Ok(Board::new(alloc, league_of(alloc, sample)?, room)?)
+}
+
+/// A chain at the start of the league.
+pub(crate) fn chain_of(alloc: Global, sample: Sample, room: u32) -> Result<Chain, Fail> {
+    let board = board_of(alloc, sample, room)?;
+    let weight = WEIGHTS.first;
+    Ok(Chain { board, weight })
+}
+
+/// The chain after a leg in all rounds.
+pub(crate) fn gone_on<R: Wait, G: Gate>(
+    workplace: Workplace<'_, R, G>,
+    chain: Chain,
+    plan: LegPlan,
+) -> Result<Annealed, Fail>
+    requires { IsLeg plan.leg }
+{
+    let league = chain.board.league();
+    let conditions = Conditions {
+        unit: measure(workplace.alloc, league)?,
+        rounds: each_round(league.teams()),
+        weights: WEIGHTS,
+    };
+    Ok(anneal(workplace, conditions, chain, plan)?)
+}
+
+/// What a leg comes to, through no gate.
+pub(crate) fn annealed<R: Wait>(rt: &R, alloc: Global, asked: Asked) -> Result<Annealed, Fail>
+    requires { IsLeg asked.leg }
+{
+    let Asked {
+        sample,
+        room,
+        leg,
+        seed,
+        stream,
+    } = asked;
+    let gate = &NoGate;
+    let chain = chain_of(alloc, sample, room)?;
+    gone_on(
+        Workplace { rt, alloc, gate },
+        chain,
+        LegPlan { leg, seed, stream },
+    )
+}

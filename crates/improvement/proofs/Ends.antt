@@ -1,0 +1,118 @@
+-- The end of an improvement: what is written when all legs were told, and what the sink has got.
+use Rattle.std.proofs.Common.{◌≡◌, ℕ, List, [], ◌++◌, Option, Result, Ok, Err, refl, sym, ◌∙◌, ap, subst, eq-eqb, inl, inr}
+use Rattle.std.proofs.lemmas.Bool.{cond-true}
+use Rattle.std.specs.Borrow.{MutBor}
+use Rattle.std.specs.Io.KnownBytes.{Appends}
+use Rattle.league.specs.League.{IsLeague, LeagueData}
+use Rattle.fixture_board.specs.Record.{Book, book}
+use Rattle.streams.specs.declared.buffered.BufferedSink.{BufferedSink}
+use Rattle.streams.specs.declared.tally.Tally.{Tally}
+use Rattle.streams.specs.Writing.{Adds, IsFreshOver, Stops, waiting_in}
+use Rattle.streams.proofs.Pieces.{Adds-stops, Adds-then}
+use Rattle.streams.proofs.Sendings.{AppendsAllBut-all}
+use Rattle.texts.specs.SearchText.{PlaysBack, found_text}
+use Rattle.texts.proofs.ForCallers.{plays_back}
+use Rattle.annealing.specs.declared.unit.Unit.{Unit as Measure}
+use Rattle.improvement.specs.declared.told.Told.{Told}
+use Rattle.annealing.specs.Walks.{IsUnitOf}
+use Rattle.improvement.specs.declared.plan.ImproveFault.{ImproveFault}
+use Rattle.improvement.specs.declared.plan.ImproveFault.TheVariants.{Workers, Memory, Write}
+use Rattle.improvement.specs.declared.plan.ImprovePlan.{ImprovePlan}
+use Rattle.improvement.specs.Legs.{AreLegs, IsWorkers, LegRun, lead_of, room_of, steps_in}
+use Rattle.improvement.specs.LegText.{improve_text, legs_text}
+use Rattle.improvement.specs.Outcome.{Improves}
+use Rattle.improvement.specs.UnderWay.{EndsBy, HasRunAll, HasStopped, HasTold, HasWritten, Sends}
+use Rattle.improvement.proofs.Leads.{lead_legal}
+
+ending_is : (league : LeagueData) (unit : Measure) (effort : ℕ) (legs : List LegRun) → steps_in legs ≡ effort →
+    improve_text league unit effort legs ≡ legs_text league unit legs ++ found_text league (lead_of league legs)
+unfolding improve_text
+ending_is league unit effort legs all =
+    ap (λ (t : List ℕ). legs_text league unit legs ++ t) (cond-true _ _ _ (eq-eqb (steps_in legs) effort all))
+
+module _ {W : Type 0} (held : W → Option (List ℕ)) (tally : W → Tally) (start : Book) (unit : Measure) (effort : ℕ) where
+  -- the texts of all legs, and the text of the board that leads
+  text_is : (a x : BufferedSink W) (told : Told) (all : HasRunAll held tally start unit effort a x told) →
+      legs_text start.league unit all.sent.legs ++ found_text told.lead.league told.lead.history ≡
+      improve_text start.league unit effort all.sent.legs
+  text_is a x told all =
+      ap (λ (t : List ℕ). legs_text start.league unit all.sent.legs ++ t)
+      (ap (λ (b : Book). found_text b.league b.history) all.told_is.lead_is) ∙
+      sym (ending_is start.league unit effort all.sent.legs all.all)
+
+  pub end_stops : {a x y : BufferedSink W} (told : Told) → HasRunAll held tally start unit effort a x told →
+      Stops held tally x y (found_text told.lead.league told.lead.history) → HasStopped held tally start unit effort a y
+  end_stops {a} {x} {y} told all stops = record {
+    legs = all.sent.legs;
+    are = all.sent.are;
+    stops = subst (Stops held tally a y) (text_is a x told all) (Adds-stops all.sent.sends.adds stops);
+  }
+
+  pub end_written : {a x y : BufferedSink W} (told : Told) → HasRunAll held tally start unit effort a x told →
+      Adds held tally x y (found_text told.lead.league told.lead.history) → waiting_in y ≡ [] →
+      HasWritten held tally start unit effort a y tt
+  end_written {a} {x} {y} told all adds none = record {
+    legs = all.sent.legs;
+    are = all.sent.are;
+    all = all.all;
+    sends = record { adds = subst (Adds held tally a y) (text_is a x told all) (Adds-then all.sent.sends.adds adds); sent = none };
+  }
+
+-- ---- what the sink has got
+
+module _ {W : Type 0} (held : W → Option (List ℕ)) (tally : W → Tally) (start : Book) (unit : Measure) (plan : ImprovePlan) (sink : MutBor W)
+    (limits : IsLeague start.league) (workers : IsWorkers plan) (unit_is : IsUnitOf start.league unit)
+    (room_is : start.room ≡ room_of plan.effort) where
+  sent : (a b : BufferedSink W) (text : List ℕ) → IsFreshOver sink a → Sends held tally start unit plan.effort a b text →
+      Appends (held sink.now) (held b.sink.now) text
+  sent a b text fresh sends =
+      rw (← fresh.unchanged) (AppendsAllBut-all _ _ _ (rw (fresh.waiting, sends.sent) at sends.adds.sent))
+
+  in_room : (legs : List LegRun) → AreLegs start.league start.room legs → AreLegs start.league (room_of plan.effort) legs
+  in_room legs are = subst (λ (room : ℕ). AreLegs start.league room legs) room_is are
+
+  again : (legs : List LegRun) → AreLegs start.league start.room legs →
+      PlaysBack start.league (room_of plan.effort) (lead_of start.league legs)
+  again legs are =
+      plays_back start.league (room_of plan.effort) _ limits (lead_legal start.league (room_of plan.effort) legs (in_room legs are))
+
+  ends_at : (a b : BufferedSink W) (r : Result (Unit {0}) ImproveFault) → IsFreshOver sink a →
+      EndsBy held tally start unit plan.effort a b (HasWritten held tally start unit plan.effort a b) r →
+      Improves held tally start.league plan sink.now b.sink.now r
+  ends_at a b (Ok done) fresh ends = (
+    workers,
+    improve_text start.league unit plan.effort ends.legs,
+    record {
+      unit = unit;
+      unit_is = unit_is;
+      legs = ends.legs;
+      are = in_room ends.legs ends.are;
+      all = ends.all;
+      text_is = refl;
+      again = again ends.legs ends.are;
+    },
+    sent a b _ fresh ends.sends,
+  )
+  ends_at a b (Err Workers) fresh ends = absurd ends
+  ends_at a b (Err Memory) fresh ends = (
+    workers,
+    inr (
+      legs_text start.league unit ends.legs,
+      record { unit = unit; unit_is = unit_is; legs = ends.legs; are = in_room ends.legs ends.are; text_is = refl },
+      sent a b _ fresh ends.sends,
+    ),
+  )
+  ends_at a b (Err Write) fresh ends = (
+    workers,
+    improve_text start.league unit plan.effort ends.legs,
+    record { unit = unit; unit_is = unit_is; legs = ends.legs; are = in_room ends.legs ends.are; text_is = refl },
+    rw (← fresh.unchanged) (rw fresh.waiting at ends.stops.prefix),
+    rw (← fresh.unchanged) ends.stops.cause,
+  )
+
+  -- at another name of the sink
+  pub improves : (a b : BufferedSink W) (r : Result (Unit {0}) ImproveFault) (after : W) → IsFreshOver sink a →
+      EndsBy held tally start unit plan.effort a b (HasWritten held tally start unit plan.effort a b) r → b.sink.now ≡ after →
+      Improves held tally start.league plan sink.now after r
+  improves a b r after fresh ends same =
+      subst (λ (x : W). Improves held tally start.league plan sink.now x r) same (ends_at a b r fresh ends)

@@ -1,0 +1,96 @@
+use Rattle.std.proofs.Common.{[], sym, ◌∙◌, ap, arith}
+use Rattle.std.proofs.lemmas.List.Elements.{All-head}
+use Rattle.std.proofs.lemmas.Result.{err_from_is_err_and}
+use Rattle.fixture_board.specs.Record.{Book}
+use Rattle.improvement.specs.Lines.{IsRunning}
+use Rattle.improvement.proofs.UnderWay.{few_told, league_is, room_is, sent_more, stopped_more, under_way_more}
+use Rattle.improvement.proofs.improving.tell.Goals as goal
+
+pub overflow_add-ended : goal.overflow_add-ended
+overflow_add-ended g c =
+    let s = c.args.setting in
+    omega (
+      arith,
+      few_told g.W.Sink.held g.W.Sink.tally s.start.now s.unit s.plan.effort _ c.args.line.now c.args.told.now
+          c.requires.under_way.1,
+      c.requires.setting.effort,
+    )
+
+pub returns-in_err-write_leg-clause-under_way : goal.returns-in_err-write_leg-clause-under_way
+returns-in_err-write_leg-clause-under_way g c = λ first w.
+    let s = c.args.setting in
+    let now = c.in_ok-chain.field-0 in
+    let e = c.in_ok-chain.ensures s.start.now w.sent.legs c.args.leg.turn
+    (All-head (IsRunning s.start.now w.sent.legs) c.args.leg [] w.running) in
+    let p = err_from_is_err_and c.from_residual-in_err-write_leg.result c.from_residual-in_err-write_leg.ensures.1 in
+    rw (p.1, p.2) (stopped_more g.W.Sink.held g.W.Sink.tally s.start.now s.unit s.plan.effort w.sent c.args.told.now c.args.leg.turn now e
+    w.told_is c.in_err-write_leg.ensures.writes.err)
+
+pub meet-requires-clause-legs : goal.meet-requires-clause-legs
+meet-requires-clause-legs g c =
+    let s = c.args.setting in
+    omega (
+      arith,
+      few_told g.W.Sink.held g.W.Sink.tally s.start.now s.unit s.plan.effort _ c.args.line.now c.args.told.now
+          c.requires.under_way.1,
+      c.requires.setting.effort,
+    )
+
+pub meet-requires-clause-league : goal.meet-requires-clause-league
+meet-requires-clause-league g c =
+    let w = c.requires.under_way.1 in
+    let e = c.in_ok-chain.ensures c.args.setting.start.now w.sent.legs c.args.leg.turn
+    (All-head (IsRunning c.args.setting.start.now w.sent.legs) c.args.leg [] w.running) in
+    league_is c.args.leg.turn c.in_ok-chain.field-0 e ∙ sym (ap (λ (b : Book). b.league) w.told_is.lead_is)
+
+pub meet-requires-clause-room : goal.meet-requires-clause-room
+meet-requires-clause-room g c =
+    let w = c.requires.under_way.1 in
+    let e = c.in_ok-chain.ensures c.args.setting.start.now w.sent.legs c.args.leg.turn
+    (All-head (IsRunning c.args.setting.start.now w.sent.legs) c.args.leg [] w.running) in
+    room_is c.args.leg.turn c.in_ok-chain.field-0 e ∙ sym (ap (λ (b : Book). b.room) w.told_is.lead_is)
+
+pub returns-in_err-meet-clause-under_way : goal.returns-in_err-meet-clause-under_way
+returns-in_err-meet-clause-under_way g c = λ first w.
+    let s = c.args.setting in
+    let now = c.in_ok-chain.field-0 in
+    let e = c.in_ok-chain.ensures s.start.now w.sent.legs c.args.leg.turn
+    (All-head (IsRunning s.start.now w.sent.legs) c.args.leg [] w.running) in
+    let p = err_from_is_err_and c.from_residual-in_err-meet.result c.from_residual-in_err-meet.ensures.1 in
+    rw (p.1, p.2) (sent_more g.W.Sink.held g.W.Sink.tally s.start.now s.unit s.plan.effort w.sent c.args.told.now c.args.leg.turn now e
+    w.told_is c.in_ok-write_leg.ensures.writes.ok c.in_ok-write_leg.ensures.sent)
+
+pub go_on-requires-clause-ended : goal.go_on-requires-clause-ended
+go_on-requires-clause-ended g c =
+    let w = c.requires.under_way.1 in
+    let e = c.in_ok-chain.ensures c.args.setting.start.now w.sent.legs c.args.leg.turn
+    (All-head (IsRunning c.args.setting.start.now w.sent.legs) c.args.leg [] w.running) in
+    e.annealed.figures.few
+
+pub returns-in_err-go_on-clause-under_way : goal.returns-in_err-go_on-clause-under_way
+returns-in_err-go_on-clause-under_way g c = λ first w.
+    let s = c.args.setting in
+    let now = c.in_ok-chain.field-0 in
+    let e = c.in_ok-chain.ensures s.start.now w.sent.legs c.args.leg.turn
+    (All-head (IsRunning s.start.now w.sent.legs) c.args.leg [] w.running) in
+    let p = err_from_is_err_and c.from_residual-in_err-go_on.result c.from_residual-in_err-go_on.ensures.1 in
+    rw (p.1, p.2) (sent_more g.W.Sink.held g.W.Sink.tally s.start.now s.unit s.plan.effort w.sent c.args.told.now c.args.leg.turn now e
+    w.told_is c.in_ok-write_leg.ensures.writes.ok c.in_ok-write_leg.ensures.sent)
+
+pub returns-clause-under_way : goal.returns-clause-under_way
+returns-clause-under_way g c = λ first w.
+    let s = c.args.setting in
+    let now = c.in_ok-chain.field-0 in
+    let e = c.in_ok-chain.ensures s.start.now w.sent.legs c.args.leg.turn
+    (All-head (IsRunning s.start.now w.sent.legs) c.args.leg [] w.running) in
+    under_way_more g.W.Sink.held g.W.Sink.tally s.start.now s.unit s.plan.effort c.args.leg c.args.line.now c.go_on.new.self c.args.told.now
+    c.meet.new.self now w e c.in_ok-write_leg.ensures.writes.ok c.in_ok-write_leg.ensures.sent c.in_ok-meet.ensures.lead
+    (c.in_ok-meet.ensures.least) c.in_ok-meet.ensures.legs (λ legs is line. c.in_ok-go_on.ensures.line s.start.now legs is line)
+    c.in_ok-go_on.ensures.left
+
+pub returns-clause-fewer : goal.returns-clause-fewer
+returns-clause-fewer g c =
+    let w = c.requires.under_way.1 in
+    let e = c.in_ok-chain.ensures c.args.setting.start.now w.sent.legs c.args.leg.turn
+    (All-head (IsRunning c.args.setting.start.now w.sent.legs) c.args.leg [] w.running) in
+    omega (arith, c.in_ok-go_on.ensures.left, e.annealed.figures.some)

@@ -1,0 +1,18 @@
+use Rattle.std.proofs.Common.{[], ◌∷◌, ◌∙◌}
+use Rattle.improvement.specs.Lines.{waiting_for}
+use Rattle.improvement.proofs.Lines.{bout_lined, on_ok, turns_more}
+use Rattle.improvement.proofs.line.Line.line_up_bout.Goals as goal
+
+pub returns-clause-line : goal.returns-clause-line
+returns-clause-line c = λ start legs line.
+    on_ok c.wait.result (λ waiting. bout_lined c.args.self.now c.wait.new.self _ c.args.bout _ c.in-Some.leg c.in_ok-beginning.beginning line
+    c.in-Some.ensures.leg c.in_ok-beginning.ensures.beginning (c.wait.ensures.stage ∙ c.in_ok-beginning.ensures.stage) waiting
+    c.wait.ensures.running) c.wait.ensures.waiting
+
+pub returns-clause-turns : goal.returns-clause-turns
+returns-clause-turns c =
+    on_ok c.wait.result (λ waiting. (
+      _,
+      turns_more c.args.self.now c.wait.new.self (waiting_for c.args.self.now.lined c.args.bout c.in-Some.leg c.in_ok-beginning.beginning)
+          waiting c.wait.ensures.running,
+    )) c.wait.ensures.waiting

@@ -1,0 +1,103 @@
+-- What an improvement writes.
+use Rattle.std.specs.Prelude.{ℕ, ◌+◌, ◌-◌, ◌*◌, ◌/◌, ◌%◌, ◌^◌, min, ◌==◌, if◌then◌else◌, List, [], ◌∷◌, ◌++◌, length}
+use Rattle.std.specs.Prelude.{Option, Some, None, codes, decimal}
+use Rattle.std.specs.List.{concat}
+use Rattle.league.specs.League.{LeagueData}
+use Rattle.moves.specs.declared.moves.MoveKind.{MoveKind}
+use Rattle.moves.specs.declared.moves.MoveKind.TheVariants.{Homes, Rounds, Teams, PartRounds, PartTeams}
+use Rattle.fixture_board.specs.declared.change.Entry.{Entry}
+use Rattle.policy.specs.declared.legs.Course.{Course}
+use Rattle.policy.specs.declared.legs.Course.TheVariants.{Cools, Heats}
+use Rattle.policy.specs.declared.legs.LegEnd.{LegEnd}
+use Rattle.policy.specs.Legs.{kinds_of}
+use Rattle.annealing.specs.declared.unit.Unit.{Unit as Measure}
+use Rattle.texts.specs.SearchText.{found_text}
+use Rattle.texts.specs.Sheet.{sheet_of}
+use Rattle.improvement.specs.declared.leg_text.LegTold.{LegTold}
+use Rattle.improvement.specs.Legs.{LegRun, lead_of, least_told, steps_in}
+use Rattle.improvement.specs.Solutions.{Solution, below, best_solution}
+
+abbrev pub kind_word : MoveKind → List ℕ
+kind_word Homes = codes "homes"
+kind_word Rounds = codes "rounds"
+kind_word Teams = codes "teams"
+kind_word PartRounds = codes "part-rounds"
+kind_word PartTeams = codes "part-teams"
+
+-- the words of the kinds, with commas between them
+abbrev pub kinds_words : List MoveKind → List ℕ
+kinds_words [] = []
+kinds_words (kind ∷ []) = kind_word kind
+kinds_words (kind ∷ kinds) = kind_word kind ++ codes "," ++ kinds_words kinds
+
+-- which leg it was, of which chain, and what it drew from
+abbrev pub beginning_words : LegTold → List ℕ
+beginning_words told =
+    concat (codes "leg " ∷ decimal told.number ∷ codes " chain " ∷ decimal told.chain ∷ codes " moves " ∷
+    kinds_words (kinds_of told.leg.moves) ∷ [])
+
+-- a temperature in thousandths of a distance, from one in thousandths of the unit
+abbrev pub in_thousandths : Measure → ℕ → ℕ
+in_thousandths unit heat = min (heat * unit.numerator / unit.denominator) (2 ^ 64 - 1)
+
+-- thousandths behind a word, as a number with three decimals
+abbrev pub temperature_words : List ℕ → ℕ → List ℕ
+temperature_words word n =
+    concat (word ∷ decimal (n / 1000) ∷ codes "." ∷ decimal (n / 100 % 10) ∷ decimal (n / 10 % 10) ∷ decimal (n % 10) ∷ [])
+
+abbrev pub temperatures_words : Measure → ℕ → ℕ → List ℕ
+temperatures_words unit from to =
+    temperature_words (codes " from ") (in_thousandths unit from) ++ temperature_words (codes " to ") (in_thousandths unit to)
+
+-- the first temperature and the last: that of a leg that heats is the highest one that it had
+abbrev pub course_words : Measure → Course → LegEnd → List ℕ
+course_words unit (Cools from to) end = temperatures_words unit from to
+course_words unit (Heats from to) end = temperatures_words unit from end.hottest
+
+-- the steps, how many of them made a move, and the breaches in the end
+abbrev pub figure_words : LegEnd → List ℕ
+figure_words end =
+    concat (codes " steps " ∷ decimal end.steps ∷ codes " accepted " ∷ decimal end.accepted ∷ codes " hard " ∷ decimal end.hard ∷ [])
+
+-- how a leg's line ends
+abbrev pub least_words : Option ℕ → List ℕ
+least_words None = codes " best none\n"
+least_words (Some total) = concat (codes " best " ∷ decimal total ∷ codes "\n" ∷ [])
+
+abbrev pub leg_line : Measure → LegTold → List ℕ
+leg_line unit told =
+    beginning_words told ++ course_words unit told.leg.course told.end ++ figure_words told.end ++ least_words told.end.best
+
+-- the sheet of a solution, its total and a line that ends it
+abbrev pub solution_lines : LeagueData → Solution → List ℕ
+solution_lines league s =
+    sheet_of s.games league ++ concat (codes "best " ∷ decimal s.total ∷ codes "\n----------\n" ∷ [])
+
+abbrev pub text_of : LeagueData → Option Solution → List ℕ
+text_of league None = []
+text_of league (Some s) = solution_lines league s
+
+-- the best schedule of a history, if its total is below the least before
+abbrev pub solution_text : LeagueData → Option ℕ → List Entry → List ℕ
+solution_text league least h = text_of league (below least (best_solution league h))
+
+-- what is written when a leg has ended, if this is the least total before
+unfoldable pub leg_text : LeagueData → Measure → LegTold → Option ℕ → List Entry → List ℕ
+leg_text league unit told least h = leg_line unit told ++ solution_text league least h
+
+-- a run, as the leg of this number
+abbrev pub told_as : ℕ → LegRun → LegTold
+told_as number run = record { number = number; chain = run.chain; leg = run.leg; end = run.end }
+
+-- what is written of these legs
+unfoldable pub legs_text : LeagueData → Measure → List LegRun → List ℕ
+legs_text league unit [] = []
+legs_text league unit (run ∷ before) =
+    legs_text league unit before ++ leg_text league unit (told_as (length before + 1) run) (least_told league before) run.history
+
+-- and once they have taken all steps: what a search text ends with, of the history that all legs together come to
+abbrev pub ending : LeagueData → ℕ → List LegRun → List ℕ
+ending league effort legs = if steps_in legs == effort then found_text league (lead_of league legs) else []
+
+unfoldable pub improve_text : LeagueData → Measure → ℕ → List LegRun → List ℕ
+improve_text league unit effort legs = legs_text league unit legs ++ ending league effort legs

@@ -1,0 +1,168 @@
+//! Legs that wait and legs that run.
+
+ghost use Rattle.std.specs.Prelude.{◌≡◌, List, IfOk};
+ghost use Rattle.league.specs.League.{teams};
+ghost use Rattle.fixture_board.specs.Record.{Book};
+ghost use Rattle.policy.specs.Legs.{IsLeg, IsWeightCourse};
+ghost use Rattle.search.specs.Draws.{AreRoundsOf};
+ghost use Rattle.annealing.specs.Legs.{IsAnnealed};
+ghost use Rattle.improvement.specs.declared.legs.Turn.{Turn};
+ghost use Rattle.improvement.specs.Legs.{LegRun};
+ghost use Rattle.improvement.specs.Lines.{CanEnd, IsRunning, IsState, IsWaiting};
+
+use crate::setting::Setting;
+use annealing::{Annealed, Chain, Conditions, LegPlan, anneal};
+use fixture_board::Board;
+use policy::{Leg, WeightCourse};
+use search::{Gate, Workplace};
+use std::alloc::AllocError;
+use std::snapshot::Snapshot;
+use std::sync::Wait;
+use std::thread::{Promise, PromisedHandle, Scope, Threads};
+
+/// A leg of a chain's bout.
+#[derive(Clone, Copy)]
+pub(crate) struct Turn {
+    /// The number of the chain.
+    pub(crate) chain: u64,
+    pub(crate) bout: u32,
+    pub(crate) leg: Leg,
+}
+
+/// A leg that can begin.
+#[derive(Drop)]
+pub(crate) struct WaitingLeg {
+    pub(crate) turn: Turn,
+    /// The stream of its draws.
+    pub(crate) stream: u64,
+    /// The chain's weight.
+    pub(crate) weight: u64,
+    /// The chain's board. None stands for a new one.
+    pub(crate) board: Option<Board>,
+}
+
+/// A leg that has begun.
+#[derive(Drop)]
+pub(crate) struct RunningLeg {
+    pub(crate) turn: Turn,
+    pub(crate) state: LegState,
+}
+
+/// What a leg comes to. Memory may run out in it.
+pub(crate) type Outcome = Result<Annealed, AllocError>;
+
+/// Where a leg is.
+#[derive(Drop)]
+pub(crate) enum LegState {
+    InThread(PromisedHandle<Outcome, Given>),
+    Over(Outcome),
+}
+
+/// The promise of a leg's thread: it goes on from the chain that it was given.
+#[derive(Drop)]
+pub(crate) struct Given {
+    pub(crate) weights: WeightCourse,
+    pub(crate) leg: Leg,
+    pub(crate) chain: Snapshot<Chain>,
+}
+
+impl Promise<Outcome> for Given {
+    ghost use Rattle.std.specs.Prelude.{IfOk};
+    ghost use Rattle.annealing.specs.Legs.{IsAnnealed};
+
+    ghost kept_by = { λ p r. IfOk r (IsAnnealed p.weights p.leg p.chain.value) };
+}
+
+impl WaitingLeg {
+    /// Has it begin: in a thread if there are several workers and a thread can be had, and else at once in this one.
+    pub(crate) fn begin<'s, E, T: Threads + Wait + Sync, G: Gate + Sync>(
+        self,
+        scope: &Scope<'s, E>,
+        setting: Setting<'s, T, G>,
+        weights: WeightCourse,
+    ) -> Result<RunningLeg, AllocError>
+        requires weights { IsWeightCourse weights }
+        requires rounds { AreRoundsOf (teams setting.start.now.league) setting.rounds.now }
+        requires leg { (legs : List LegRun) × IsWaiting setting.start.now legs self }
+        ensures turn { IfOk result (λ r. r.turn ≡ self.turn) }
+        ensures running { (legs : List LegRun) → IsWaiting setting.entry.start.now legs self →
+            IfOk result (IsRunning setting.entry.start.now legs) }
+    {
+        let WaitingLeg {
+            turn,
+            stream,
+            weight,
+            board,
+        } = self;
+        let board = setting.board_or_new(board)?;
+        let plan = LegPlan {
+            leg: turn.leg,
+            seed: setting.plan.seed,
+            stream,
+        };
+        let state = run(scope, setting, weights, Chain { board, weight }, plan);
+        Ok(RunningLeg { turn, state })
+    }
+}
+
+fn run<'s, E, T: Threads + Wait + Sync, G: Gate + Sync>(
+    scope: &Scope<'s, E>,
+    setting: Setting<'s, T, G>,
+    weights: WeightCourse,
+    chain: Chain,
+    plan: LegPlan,
+) -> LegState
+    requires leg { IsLeg plan.leg }
+    requires weights { IsWeightCourse weights }
+    requires rounds { AreRoundsOf (teams chain.board.league) setting.rounds.now }
+    ensures { IsState (IsAnnealed weights plan.leg chain) result }
+{
+    let Workplace { rt, alloc, gate } = setting.workplace;
+    let Setting { unit, rounds, .. } = setting;
+    if setting.plan.workers == 1 {
+        let conditions = Conditions {
+            unit,
+            rounds,
+            weights,
+        };
+        return LegState::Over(anneal(setting.workplace, conditions, chain, plan));
+    }
+    let given = Given {
+        weights,
+        leg: plan.leg,
+        chain: Snapshot::of(&chain),
+    };
+    // what the thread promises is proved of captured references, not of a captured record of them
+    match scope.spawn_with(
+        given,
+        move || -> Outcome
+            requires leg { IsLeg plan.leg }
+            requires weights { IsWeightCourse weights }
+            requires rounds { AreRoundsOf (teams chain.board.league) rounds.now }
+            ensures { IfOk result (IsAnnealed weights plan.leg chain) }
+        {
+            let conditions = Conditions {
+                unit,
+                rounds,
+                weights,
+            };
+            anneal(Workplace { rt, alloc, gate }, conditions, chain, plan)
+        },
+    ) {
+        Ok(handle) => LegState::InThread(handle),
+        Err(refused) => LegState::Over((refused.value)()),
+    }
+}
+
+impl LegState {
+    /// Waits for the leg's end.
+    pub(crate) fn outcome<T: Threads>(self, rt: &T) -> Outcome
+        ensures { (start : Book) (legs : List LegRun) (turn : Turn) →
+            IsState (CanEnd start legs turn) self → IfOk result (CanEnd start legs turn) }
+    {
+        match self {
+            LegState::InThread(handle) => handle.join(rt),
+            LegState::Over(outcome) => outcome,
+        }
+    }
+}

@@ -1,0 +1,212 @@
+//! The line of legs: those that run, and behind them those that wait.
+
+ghost use Rattle.std.specs.Prelude.{◌≡◌, ◌+◌, ◌<◌, ◌≤◌, ℕ, List, [], ◌∷◌, ◌++◌, length, IfOk, OnOk, IfNone, IfSome, true, false};
+ghost use Rattle.league.specs.League.{teams};
+ghost use Rattle.policy.specs.Limits.{most_effort};
+ghost use Rattle.search.specs.Draws.{AreRoundsOf};
+ghost use Rattle.improvement.specs.declared.legs.Turn.{Turn};
+ghost use Rattle.improvement.specs.Legs.{LegRun};
+ghost use Rattle.improvement.specs.Lines.{IsEntrant, IsLine, IsRunning, left_in, turn_steps, turns_of, waiting_for};
+ghost use Rattle.fixture_board.specs.Record.{Book};
+
+use crate::field::Entrant;
+use crate::legs::{RunningLeg, Turn, WaitingLeg};
+use crate::setting::Setting;
+use crate::stage::{Beginning, Stage};
+use policy::{Facts, Leg, LegEnd, Policy};
+use search::Gate;
+use std::alloc::{AllocError, Global};
+use std::collections::VecDeque;
+use std::sync::Wait;
+use std::thread::{Scope, Threads};
+
+/// How many legs stand in line at most. More workers than that find no work.
+const PLACES: usize = 16;
+
+/// The line, and what comes after it. What gets in line, and when, follows the order in which the legs leave it. So it depends neither on
+/// the number of workers nor on how fast they are.
+#[derive(Drop)]
+pub(crate) struct Line {
+    pub(crate) policy: Policy,
+    pub(crate) stage: Stage,
+    pub(crate) running: VecDeque<RunningLeg>,
+    pub(crate) waiting: VecDeque<WaitingLeg>,
+    /// How many legs got in line.
+    lined: u64,
+}
+
+impl Line {
+    /// Before the first wave.
+    pub(crate) fn new<T, G>(setting: &Setting<'_, T, G>) -> Self
+        requires { setting.now.plan.effort ≤ most_effort }
+        ensures line { (legs : List LegRun) → IsLine setting.now.start.now legs result }
+        ensures left { left_in result ≡ setting.now.plan.effort }
+    {
+        let alloc = setting.workplace.alloc;
+        let league = setting.start.league();
+        let facts = Facts {
+            teams: league.teams(),
+            effort: setting.plan.effort,
+            repairs: league.near() > 0 || !league.kept().is_empty(),
+        };
+        Line {
+            policy: Policy::new(facts),
+            stage: Stage::none(alloc),
+            running: VecDeque::new(alloc),
+            waiting: VecDeque::new(alloc),
+            lined: 0,
+        }
+    }
+
+    /// Takes the first leg out of the line, once as many run as there are workers.
+    pub(crate) fn next<'s, E, T: Threads + Wait + Sync, G: Gate + Sync>(
+        &mut self,
+        scope: &Scope<'s, E>,
+        setting: Setting<'s, T, G>,
+    ) -> Result<Option<RunningLeg>, AllocError>
+        requires workers { 1 ≤ setting.plan.workers }
+        requires rounds { AreRoundsOf (teams setting.start.now.league) setting.rounds.now }
+        requires line { (legs : List LegRun) × IsLine setting.start.now legs self.old }
+        ensures line { (legs : List LegRun) → IsLine setting.entry.start.now legs self.old →
+            OnOk result (IsLine setting.entry.start.now legs self.new) }
+        ensures leg { (legs : List LegRun) → IsLine setting.entry.start.now legs self.old →
+            IfOk result (λ r. IfSome r (IsRunning setting.entry.start.now legs)) }
+        ensures first { IfOk result (λ r. IfSome r (λ leg. (more : List Turn) ×
+            (turns_of self.old ++ more ≡ leg.turn ∷ turns_of self.new))) }
+        ensures left { IfOk result (λ r. IfSome r (λ leg. turn_steps leg.turn + left_in self.new ≡ left_in self.old)) }
+        ensures none { IfOk result (λ r. IfNone r (left_in self.old ≡ 0)) }
+    {
+        if !self.fill(setting.workplace.alloc)? {
+            return Ok(None);
+        }
+        self.run_first(scope, setting)?;
+        Ok(self.running.pop_front())
+    }
+
+    /// Has legs get in line, first those of the present wave, then those of the next one if the line is empty. Tells whether there are any.
+    fn fill(&mut self, alloc: Global) -> Result<bool, AllocError>
+        ensures line { (start : Book) (legs : List LegRun) → IsLine start legs self.old → OnOk result (IsLine start legs self.new) }
+        ensures turns { OnOk result ((more : List Turn) × (turns_of self.new ≡ turns_of self.old ++ more)) }
+        ensures left { OnOk result (left_in self.new ≡ left_in self.old) }
+        ensures some { IfOk result (λ some. some ≡ true → 1 ≤ length (turns_of self.new)) }
+        ensures none { IfOk result (λ some. some ≡ false → left_in self.new ≡ 0) }
+    {
+        self.line_up(alloc)?;
+        if self.places_taken() > 0 {
+            return Ok(true);
+        }
+        let Some(wave) = self.policy.wave() else {
+            return Ok(false);
+        };
+        self.stage.begin(alloc, wave);
+        self.line_up_bout(alloc, 0)?;
+        self.line_up(alloc)?;
+        Ok(true)
+    }
+
+    fn places_taken(&self) -> usize
+        ensures { result ≡ length (turns_of self.now) }
+    {
+        self.running.len().saturating_add(self.waiting.len())
+    }
+
+    /// Has bouts of the wave get in line while there is a place.
+    fn line_up(&mut self, alloc: Global) -> Result<(), AllocError>
+        ensures line { (start : Book) (legs : List LegRun) → IsLine start legs self.old → OnOk result (IsLine start legs self.new) }
+        ensures turns { OnOk result ((more : List Turn) × (turns_of self.new ≡ turns_of self.old ++ more)) }
+        ensures left { OnOk result (left_in self.new ≡ left_in self.old) }
+    {
+        while let Some(bout) = self.stage.bout() {
+            if PLACES <= self.places_taken() {
+                break;
+            }
+            self.line_up_bout(alloc, bout)?;
+        }
+        Ok(())
+    }
+
+    /// Has the next bout get in line, if it has a leg.
+    fn line_up_bout(&mut self, alloc: Global, bout: u32) -> Result<(), AllocError>
+        requires { self.old.stage.begun < self.old.stage.wave.bouts }
+        ensures line { (start : Book) (legs : List LegRun) → IsLine start legs self.old → OnOk result (IsLine start legs self.new) }
+        ensures turns { OnOk result ((more : List Turn) × (turns_of self.new ≡ turns_of self.old ++ more)) }
+        ensures left { OnOk result (left_in self.new ≡ left_in self.old) }
+        ensures begun { OnOk result (self.new.stage.begun ≡ self.old.stage.begun + 1) }
+        ensures wave { OnOk result (self.new.stage.wave ≡ self.old.stage.wave) }
+        ensures first { bout ≡ 0 → 1 ≤ self.old.policy.left → OnOk result (1 ≤ length (turns_of self.new)) }
+    {
+        let Some(leg) = self.policy.first_leg(bout) else {
+            return self.stage.pass_bout();
+        };
+        let weight = self.policy.weights().first;
+        let beginning = self.stage.begin_bout(alloc, weight)?;
+        self.wait(bout, leg, beginning)
+    }
+
+    /// Has a leg get in line, behind all others. It draws from a stream of its own.
+    fn wait(&mut self, bout: u32, leg: Leg, beginning: Beginning) -> Result<(), AllocError>
+        ensures waiting { OnOk result (self.new.waiting.items ≡ self.old.waiting.items ++ waiting_for self.old.lined bout leg beginning ∷ []) }
+        ensures running { self.new.running ≡ self.old.running }
+        ensures policy { self.new.policy ≡ self.old.policy }
+        ensures stage { self.new.stage ≡ self.old.stage }
+    {
+        let Beginning {
+            chain,
+            weight,
+            board,
+        } = beginning;
+        let stream = self.lined;
+        self.lined = self.lined.wrapping_add(1);
+        self.waiting.push_back(WaitingLeg {
+            turn: Turn { chain, bout, leg },
+            stream,
+            weight,
+            board,
+        })?;
+        Ok(())
+    }
+
+    /// Has the first legs of the line run, as many as there are workers.
+    fn run_first<'s, E, T: Threads + Wait + Sync, G: Gate + Sync>(
+        &mut self,
+        scope: &Scope<'s, E>,
+        setting: Setting<'s, T, G>,
+    ) -> Result<(), AllocError>
+        requires rounds { AreRoundsOf (teams setting.start.now.league) setting.rounds.now }
+        requires line { (legs : List LegRun) × IsLine setting.start.now legs self.old }
+        ensures line { (legs : List LegRun) → IsLine setting.entry.start.now legs self.old →
+            OnOk result (IsLine setting.entry.start.now legs self.new) }
+        ensures turns { OnOk result (turns_of self.new ≡ turns_of self.old) }
+        ensures policy { OnOk result (self.new.policy ≡ self.old.policy) }
+        ensures some { 1 ≤ setting.entry.plan.workers → 1 ≤ length (turns_of self.old) →
+            OnOk result (1 ≤ length self.new.running.items) }
+    {
+        while self.running.len() < setting.plan.workers as usize {
+            let Some(leg) = self.waiting.pop_front() else {
+                break;
+            };
+            let running = leg.begin(scope, setting, self.policy.weights())?;
+            self.running.push_back(running)?;
+        }
+        Ok(())
+    }
+
+    /// Has the chain of a leg that has left the line go on: to its bout's next leg, or to the next wave.
+    pub(crate) fn go_on(
+        &mut self,
+        turn: Turn,
+        end: LegEnd,
+        entrant: Entrant,
+    ) -> Result<(), AllocError>
+        requires ended { end.steps ≤ turn.leg.steps }
+        requires out { self.old.policy.left + turn.leg.steps ≤ most_effort }
+        ensures line { (start : Book) (legs : List LegRun) → IsEntrant start legs entrant → IsLine start legs self.old →
+            OnOk result (IsLine start legs self.new) }
+        ensures left { OnOk result (left_in self.new + end.steps ≡ left_in self.old + turn_steps turn) }
+    {
+        match self.policy.next_leg(turn.bout, turn.leg, end) {
+            Some(leg) => self.wait(turn.bout, leg, Beginning::at_best(entrant)),
+            None => self.stage.end_bout(entrant),
+        }
+    }
+}

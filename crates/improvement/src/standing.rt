@@ -1,0 +1,39 @@
+//! How good a history is.
+
+ghost use Rattle.std.specs.Prelude.{◌≡◌};
+ghost use Rattle.improvement.specs.Legs.{leads, standing_of};
+
+use fixture_board::Board;
+
+/// What is compared of two histories.
+#[derive(Clone, Copy)]
+pub(crate) struct Standing {
+    /// The least total of a feasible version.
+    best: Option<u64>,
+    /// The breaches of the last version.
+    hard: u64,
+}
+
+impl Standing {
+    pub(crate) fn of(board: &Board) -> Standing
+        ensures { result ≡ standing_of board.now.league board.now.history }
+    {
+        Standing {
+            best: board.best().map(|best| best.total),
+            hard: board.cost().hard,
+        }
+    }
+
+    /// Whether it is better.
+    #[tactic(auto, unfolding(crate::specs::Legs::leads))]
+    pub(crate) fn leads(self, other: Standing) -> bool
+        ensures { result ≡ leads self other }
+    {
+        match (self.best, other.best) {
+            (Some(x), Some(y)) => x < y,
+            (Some(_), None) => true,
+            (None, Some(_)) => false,
+            (None, None) => self.hard < other.hard,
+        }
+    }
+}

@@ -1,0 +1,59 @@
+//! What the legs that were told have come to all together.
+
+ghost use Rattle.std.specs.Prelude.{◌≡◌, ◌+◌, ◌^◌, ◌<◌, [], OnOk};
+ghost use Rattle.fixture_board.specs.Record.{book};
+ghost use Rattle.streams.specs.Writing.{waiting_in};
+ghost use Rattle.improvement.specs.Legs.{lead_after, least_in, lesser};
+
+use crate::leg_text::{LegTold, write_leg};
+use crate::legs::Turn;
+use crate::plan::ImproveFault;
+use crate::standing::Standing;
+use annealing::{Annealed, Unit};
+use fixture_board::Board;
+use std::alloc::{AllocError, Global};
+use streams::{BufferedSink, Sink};
+
+/// What is known of the legs that were told.
+#[derive(Drop)]
+pub(crate) struct Told {
+    /// A board with the history that leads.
+    pub(crate) lead: Board,
+    /// The least total of all legs.
+    pub(crate) least: Option<u64>,
+    /// How many there were.
+    pub(crate) legs: u64,
+}
+
+impl Told {
+    /// Takes in the history of one more.
+    pub(crate) fn meet(&mut self, alloc: Global, board: &Board) -> Result<(), AllocError>
+        requires legs { self.old.legs + 1 < 2 ^ 64 }
+        requires league { board.now.league ≡ self.old.lead.league }
+        requires room { board.now.room ≡ self.old.lead.room }
+        ensures lead { OnOk result (self.new.lead ≡ book self.old.lead.league self.old.lead.room
+            (lead_after self.old.lead.league self.old.legs self.old.lead.history board.now.history)) }
+        ensures least { OnOk result (self.new.least ≡
+            lesser self.old.least (least_in self.old.lead.league board.now.history)) }
+        ensures legs { OnOk result (self.new.legs ≡ self.old.legs + 1) }
+    {
+        if self.legs == 0 || Standing::of(board).leads(Standing::of(&self.lead)) {
+            self.lead = board.duplicate(alloc)?;
+            self.lead.rewind_to_best();
+        }
+        self.least = lesser(self.least, board.best().map(|best| best.total));
+        self.legs += 1;
+        Ok(())
+    }
+}
+
+/// The lesser of two totals, if there are any.
+fn lesser(a: Option<u64>, b: Option<u64>) -> Option<u64>
+    ensures { result ≡ lesser a b }
+{
+    match (a, b) {
+        (Some(x), Some(y)) => Some(x.min(y)),
+        (Some(x), None) => Some(x),
+        (None, _) => b,
+    }
+}

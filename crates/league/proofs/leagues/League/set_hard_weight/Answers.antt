@@ -1,5 +1,0 @@
-use Rattle.std.proofs.Common.{rules}
-use Rattle.league.proofs.leagues.League.set_hard_weight.Goals as goal
-
-pub returns : goal.returns
-returns c = search rules

@@ -1,0 +1,38 @@
+-- Legs: stretches of steps of one chain.
+use Rattle.std.specs.Prelude.{ℕ, ◌≤◌, List, [], ◌∷◌, Option, Some, None}
+use Rattle.moves.specs.declared.moves.MoveKind.{MoveKind}
+use Rattle.moves.specs.declared.moves.MoveKind.TheVariants.{Homes, Rounds, Teams, PartRounds, PartTeams}
+use Rattle.policy.specs.declared.legs.MoveSet.{MoveSet}
+use Rattle.policy.specs.declared.legs.MoveSet.TheVariants.{Rigid, Loose, Full, Repair, WideRepair}
+use Rattle.policy.specs.declared.legs.Course.{Course}
+use Rattle.policy.specs.declared.legs.Course.TheVariants.{Cools, Heats}
+use Rattle.policy.specs.declared.legs.Leg.{Leg}
+use Rattle.policy.specs.declared.legs.WeightCourse.{WeightCourse}
+
+-- the kinds of moves that a leg draws from
+abbrev pub kinds_of : MoveSet → List MoveKind
+kinds_of Rigid = Homes ∷ Teams ∷ []
+kinds_of Loose = Homes ∷ Rounds ∷ Teams ∷ []
+kinds_of Full = Homes ∷ Rounds ∷ Teams ∷ PartRounds ∷ PartTeams ∷ []
+kinds_of Repair = Homes ∷ PartRounds ∷ PartTeams ∷ []
+kinds_of WideRepair = Homes ∷ Rounds ∷ PartRounds ∷ PartTeams ∷ []
+
+-- the temperature never goes the other way
+abbrev pub IsCourse : Course → Type 0
+IsCourse (Cools from to) = to ≤ from
+IsCourse (Heats from to) = from ≤ to
+
+pub record IsLeg (l : Leg) : Type 0 where
+  pub course : IsCourse l.course
+  pub steps : 1 ≤ l.steps
+
+-- the steps of a leg, if there is one
+abbrev pub steps_of : Option Leg → ℕ
+steps_of None = 0
+steps_of (Some l) = l.steps
+
+pub record IsWeightCourse (w : WeightCourse) : Type 0 where
+  pub positive : 1 ≤ w.least
+  pub first_least : w.least ≤ w.first
+  pub first_most : w.first ≤ w.most
+  pub bounded : w.most ≤ 1000000000

@@ -1,0 +1,6 @@
+-- How far a search may go.
+use Rattle.std.specs.Prelude.{ℕ}
+
+-- the most steps in all
+abbrev pub most_effort : ℕ
+most_effort = 1000000000000

@@ -1,0 +1,138 @@
+//! The chains of the first half, from the start.
+
+ghost use Rattle.std.specs.Prelude.{◌≡◌, ◌≤◌};
+ghost use Rattle.policy.specs.Limits.{most_effort};
+ghost use Rattle.policy.specs.Legs.{IsCourse};
+
+use crate::bouts::Bout;
+use crate::legs::{Leg, MoveSet};
+use crate::numbers::{
+    COOL, EARLY_PART, FEW_LOOSE_LEAST, FEW_TEAMS, FIELD_MOST, FIELD_SPANS, HOT, LOOSE_LEAST,
+    LOOSE_MOST, LOOSE_SPANS, MILD, RIGID_MOST, RIGID_SPANS, WARM,
+};
+
+/// More groups than any effort has.
+const MOST_GROUPS: u64 = 10_000_000;
+
+/// One rigid chain, so that there is something good early, and then groups of chains: each of a rigid one and, where they
+/// get long enough, two more.
+#[derive(Clone, Copy)]
+pub(crate) struct FirstHalf {
+    early: u64,
+    groups: u32,
+    /// The steps of the rigid chain of a group.
+    rigid: u64,
+    /// The steps of each of the two more, or 0 if there are none.
+    loose: u64,
+    /// Whether the last of a group has all moves.
+    few: bool,
+    /// The steps of all chains.
+    pub(crate) steps: u64,
+    ghost some: { 1 ≤ early },
+    ghost early_most: { early ≤ most_effort },
+    ghost rigid_most: { rigid ≤ most_effort },
+    ghost groups_least: { 1 ≤ groups },
+    ghost groups_most: { groups ≤ 10000000 },
+}
+
+impl FirstHalf {
+    pub(crate) fn new(teams: u8, effort: u64) -> Self
+        requires teams { 4 ≤ teams }
+        requires effort { effort ≤ most_effort }
+    {
+        let rigid_most = (RIGID_SPANS * span(teams)).min(RIGID_MOST);
+        let loose_most = (LOOSE_SPANS * span(teams)).min(LOOSE_MOST);
+        let early = (effort / EARLY_PART).clamp(1, rigid_most);
+        let rest = (effort / 2).saturating_sub(early);
+        let three = rigid_most + 2 * loose_most;
+        let loose = rest * loose_most / three / u64::from(groups(rest, three));
+        let few = teams <= FEW_TEAMS;
+        let least = span(teams) * if few { FEW_LOOSE_LEAST } else { LOOSE_LEAST };
+        let (groups, loose) = if least <= loose {
+            (groups(rest, three), loose)
+        } else {
+            (groups(rest, rigid_most), 0)
+        };
+        FirstHalf {
+            early,
+            groups,
+            rigid: (rest / u64::from(groups)).saturating_sub(2 * loose),
+            loose,
+            few,
+            steps: early + rest - rest % u64::from(groups),
+        }
+    }
+
+    /// How many chains there are.
+    pub(crate) fn bouts(self) -> u32
+        ensures { 2 ≤ result }
+    {
+        1 + self.groups * if self.loose == 0 { 1 } else { 3 }
+    }
+
+    /// What the chain of a number does.
+    pub(crate) fn bout(self, number: u32) -> Bout
+        ensures steps { number ≡ 0 → 1 ≤ result.first.steps }
+        ensures first { IsCourse result.first.course }
+        ensures second { IsCourse result.second.course }
+    {
+        if number == 0 {
+            rigid(self.early)
+        } else if self.loose == 0 || number % 3 == 1 {
+            rigid(self.rigid)
+        } else if self.few && number % 3 == 0 {
+            Bout::single(MoveSet::Full, COOL, self.loose)
+        } else {
+            Bout::single(MoveSet::Loose, WARM, self.loose)
+        }
+    }
+}
+
+/// How many chains go on to a second half of so many steps.
+pub(crate) fn field_for(teams: u8, steps: u64) -> u32
+    requires { 4 ≤ teams }
+    ensures least { 1 ≤ result }
+    ensures most { result ≤ 4 }
+{
+    (steps / (FIELD_SPANS * span(teams))).clamp(1, FIELD_MOST) as u32
+}
+
+/// A span of steps.
+fn span(teams: u8) -> u64
+    requires { 4 ≤ teams }
+    ensures least { 16000 ≤ result }
+    ensures most { result ≤ 65025000 }
+{
+    1000 * u64::from(teams) * u64::from(teams)
+}
+
+/// How many groups of at most so many steps share a rest of the effort: one at least.
+fn groups(rest: u64, most: u64) -> u32
+    requires { 1 ≤ most }
+    ensures least { 1 ≤ result }
+    ensures most { result ≤ 10000000 }
+{
+    rest.div_ceil(most).clamp(1, MOST_GROUPS) as u32
+}
+
+/// A rigid chain, which in the end draws rounds too.
+fn rigid(steps: u64) -> Bout
+    requires { steps ≤ most_effort }
+    ensures steps { 1 ≤ steps → 1 ≤ result.first.steps }
+    ensures first { IsCourse result.first.course }
+    ensures second { IsCourse result.second.course }
+{
+    let mild = steps * 3 / 10;
+    Bout {
+        first: Leg {
+            moves: MoveSet::Rigid,
+            course: HOT,
+            steps: steps - mild,
+        },
+        second: Leg {
+            moves: MoveSet::Loose,
+            course: MILD,
+            steps: mild,
+        },
+    }
+}

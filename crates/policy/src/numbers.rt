@@ -1,0 +1,104 @@
+//! The numbers of the policy. No contract speaks of them, so they can be changed without a proof.
+//!
+//! Lengths of chains are in spans: a span is a thousand times the square of the number of teams, in steps.
+
+use crate::legs::{Course, WeightCourse};
+
+/// A rigid chain of the first half: hot, and then with rounds too, for three tenths of its steps.
+pub(crate) const HOT: Course = Course::Cools {
+    from: 2000,
+    to: 500,
+};
+
+pub(crate) const MILD: Course = Course::Cools { from: 600, to: 300 };
+/// A loose chain.
+pub(crate) const WARM: Course = Course::Cools {
+    from: 1500,
+    to: 300,
+};
+/// A chain of all moves, where few teams play.
+pub(crate) const COOL: Course = Course::Cools { from: 600, to: 150 };
+
+/// The first chain has at most such a part of the effort, so that there is something good early.
+pub(crate) const EARLY_PART: u64 = 16;
+/// The length of a rigid chain, and the most steps that it has.
+pub(crate) const RIGID_SPANS: u64 = 8;
+
+pub(crate) const RIGID_MOST: u64 = 3_000_000;
+/// The same of a loose one.
+pub(crate) const LOOSE_SPANS: u64 = 16;
+
+pub(crate) const LOOSE_MOST: u64 = 6_000_000;
+/// Up to so many teams are few.
+pub(crate) const FEW_TEAMS: u8 = 12;
+/// Loose chains that would be shorter are left out: where few teams play, and elsewhere.
+pub(crate) const FEW_LOOSE_LEAST: u64 = 2;
+
+pub(crate) const LOOSE_LEAST: u64 = 5;
+
+/// The most chains that go on to the second half, and how long each is to have there.
+pub(crate) const FIELD_MOST: u64 = 4;
+
+pub(crate) const FIELD_SPANS: u64 = 5;
+
+/// A try of a repair has so many steps, but there are four at least.
+pub(crate) const TRY_STEPS: u64 = 1_250_000;
+
+pub(crate) const LEAST_TRIES: u64 = 4;
+
+/// Where it begins to heat, and how far it does: at first, and after tries of which none was feasible.
+pub(crate) const HEAT_FROM: u32 = 1000;
+
+pub(crate) const HEAT_MOST: u32 = 5000;
+
+pub(crate) const WIDE_HEAT_MOST: u32 = 20_000;
+
+/// The cycles of chains that go on: each cools from a peak.
+#[derive(Clone, Copy)]
+pub(crate) struct Cycles {
+    /// How many there are once one chain is left.
+    pub(crate) count: u32,
+    /// In thousandths of the hottest, and in turn.
+    pub(crate) peaks: [u32; 4],
+    /// The temperature at the end of each.
+    pub(crate) cold: u32,
+}
+
+/// Of the second half. The hottest is 1000.
+pub(crate) const SECOND_HALF: Cycles = Cycles {
+    count: 16,
+    peaks: [300, 250, 400, 200],
+    cold: 150,
+};
+/// After the least number of tries, and after more. The hottest is what a try needed to become feasible.
+pub(crate) const AFTER_FEW: Cycles = Cycles {
+    count: 16,
+    peaks: [500, 750, 250, 1000],
+    cold: 100,
+};
+
+pub(crate) const AFTER_MORE: Cycles = Cycles {
+    count: 8,
+    peaks: [1000, 850, 1000, 850],
+    cold: 100,
+};
+/// How many copies of the last chain have the same cycle.
+pub(crate) const COPIES: u32 = 4;
+
+pub(crate) const WEIGHTS: WeightCourse = WeightCourse {
+    first: 2_000_000,
+    least: 300_000,
+    most: 100_000_000,
+};
+/// Of a repair, and of the tries after those of which none was feasible.
+pub(crate) const REPAIR_WEIGHTS: WeightCourse = WeightCourse {
+    first: 10_000_000,
+    least: 300_000,
+    most: 25_000_000,
+};
+
+pub(crate) const WIDE_WEIGHTS: WeightCourse = WeightCourse {
+    first: 10_000_000,
+    least: 300_000,
+    most: 100_000_000,
+};

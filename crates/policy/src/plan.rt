@@ -1,0 +1,275 @@
+//! The plan: the waves and their legs, whether or not so many steps are left.
+
+ghost use Rattle.std.specs.Prelude.{◌≡◌, ◌≤◌, ℕ, IfSome};
+ghost use Rattle.policy.specs.Limits.{most_effort};
+
+use crate::bouts::{Bout, Shares};
+use crate::first_half::{FirstHalf, field_for};
+use crate::legs::{Course, Leg, LegEnd, MoveSet, WeightCourse};
+use crate::numbers::{
+    AFTER_FEW, AFTER_MORE, COPIES, Cycles, HEAT_FROM, HEAT_MOST, LEAST_TRIES, REPAIR_WEIGHTS,
+    SECOND_HALF, TRY_STEPS, WEIGHTS, WIDE_HEAT_MOST, WIDE_WEIGHTS,
+};
+use crate::waves::{Facts, Source, Wave};
+
+/// The bouts of a wave.
+#[derive(Clone, Copy)]
+enum Bouts {
+    FirstHalf(FirstHalf),
+    /// Each heats from the start until it is feasible, and then cools.
+    Tries(Shares),
+    /// Each cools twice.
+    Level(Shares),
+    /// Each cools once.
+    Copies(Shares),
+}
+
+/// The present wave, and what decides about the next ones.
+#[derive(Clone, Copy, Drop)]
+pub(crate) struct Plan {
+    teams: u8,
+    /// What all legs after the first half draw.
+    moves: MoveSet,
+    bouts: Bouts,
+    /// The steps of each level of the second half.
+    level_steps: u64,
+    cycles: Cycles,
+    /// How many cycles are left for one chain.
+    cycles_left: u32,
+    /// How many cycles the chains of the field had before this wave.
+    turn: u32,
+    /// What the peaks are measured by: the least temperature at which a try became feasible.
+    hottest: u32,
+    /// Whether a try became feasible.
+    feasible: bool,
+    ghost four: { 4 ≤ teams },
+    ghost going: { 1 ≤ cycles_left },
+}
+
+impl Plan {
+    ghost use Rattle.policy.specs.Legs.{IsCourse, IsWeightCourse};
+    ghost use Rattle.policy.specs.Policy.{IsNextWave};
+
+    /// The plan before its first wave.
+    pub(crate) fn new(facts: Facts) -> Self
+        requires { 4 ≤ facts.teams }
+    {
+        Plan {
+            teams: facts.teams,
+            moves: if facts.repairs {
+                MoveSet::Repair
+            } else {
+                MoveSet::Full
+            },
+            // this stands in for the first wave
+            bouts: Bouts::Tries(Shares { steps: 1, bouts: 1 }),
+            level_steps: 0,
+            cycles: SECOND_HALF,
+            cycles_left: SECOND_HALF.count,
+            turn: 0,
+            hottest: 1000,
+            feasible: false,
+        }
+    }
+
+    /// The next wave, with so many chains in the field and so many steps left.
+    pub(crate) fn wave(&mut self, field: u32, left: u64) -> Wave
+        requires some { 1 ≤ left }
+        requires most { left ≤ most_effort }
+        requires field { field ≤ 4 }
+        ensures { IsNextWave field result }
+    {
+        self.turn = self.turn.wrapping_add(match self.bouts {
+            Bouts::Level(_) => 2,
+            Bouts::Copies(_) => 1,
+            _ => 0,
+        });
+        let failed = self.moves == MoveSet::Repair && !self.feasible;
+        if field == 0 && self.moves == MoveSet::Full {
+            self.first_half(left)
+        } else if field == 0 {
+            self.tries(left)
+        } else if failed {
+            self.moves = MoveSet::WideRepair;
+            self.tries(left)
+        } else if field == 1 {
+            self.copies(left)
+        } else {
+            self.level(field)
+        }
+    }
+
+    /// The wave of the first half.
+    fn first_half(&mut self, left: u64) -> Wave
+        requires { left ≤ most_effort }
+        ensures { IsNextWave 0 result }
+    {
+        let first_half = FirstHalf::new(self.teams, left);
+        let rest = left.saturating_sub(first_half.steps);
+        let bouts = first_half.bouts();
+        let keep = field_for(self.teams, rest).min(bouts);
+        let levels = match keep {
+            1 => 0,
+            2 => 1,
+            _ => 2,
+        };
+        self.level_steps = rest / (levels + 2);
+        self.bouts = Bouts::FirstHalf(first_half);
+        Wave {
+            source: Source::Start,
+            bouts,
+            keep,
+        }
+    }
+
+    /// A wave of tries to become feasible from the start.
+    fn tries(&mut self, left: u64) -> Wave
+        requires { left ≤ most_effort }
+        ensures { (field : ℕ) → IsNextWave field result }
+    {
+        let tries = (left / TRY_STEPS).max(LEAST_TRIES);
+        let few = tries == LEAST_TRIES;
+        let steps = if few { left / 2 } else { left * 3 / 4 };
+        self.cycles = if few { AFTER_FEW } else { AFTER_MORE };
+        self.cycles_left = self.cycles.count;
+        self.hottest = self.heat_most();
+        let bouts = tries as u32;
+        self.bouts = Bouts::Tries(Shares {
+            steps: steps.max(1),
+            bouts,
+        });
+        Wave {
+            source: Source::Start,
+            bouts,
+            keep: 1,
+        }
+    }
+
+    /// A wave in which each chain of the field has two cycles, and the better half stays.
+    fn level(&mut self, field: u32) -> Wave
+        requires least { 1 ≤ field }
+        requires most { field ≤ 4 }
+        ensures { IsNextWave field result }
+    {
+        self.bouts = Bouts::Level(Shares {
+            steps: self.level_steps.max(1),
+            bouts: field,
+        });
+        Wave {
+            source: Source::Own,
+            bouts: field,
+            keep: field.div_ceil(2),
+        }
+    }
+
+    /// A wave in which copies of the best chain have a cycle each.
+    fn copies(&mut self, left: u64) -> Wave
+        ensures { IsNextWave 1 result }
+    {
+        let steps = left / u64::from(self.cycles_left);
+        self.cycles_left = self.cycles_left.saturating_sub(1).max(1);
+        self.bouts = Bouts::Copies(Shares {
+            steps: steps.max(1),
+            bouts: COPIES,
+        });
+        Wave {
+            source: Source::Copies,
+            bouts: COPIES,
+            keep: 1,
+        }
+    }
+
+    /// The two legs of a bout, as far as they are known before it begins.
+    pub(crate) fn bout(&self, number: u32) -> Bout
+        ensures steps { number ≡ 0 → 1 ≤ result.first.steps }
+        ensures first { IsCourse result.first.course }
+        ensures second { IsCourse result.second.course }
+    {
+        match self.bouts {
+            Bouts::FirstHalf(first_half) => first_half.bout(number),
+            Bouts::Tries(shares) => Bout::single(self.moves, self.heats(), shares.of(number)),
+            Bouts::Copies(shares) => Bout::single(self.moves, self.cools(0), shares.of(number)),
+            Bouts::Level(shares) => {
+                let steps = shares.of(number);
+                let second = Leg {
+                    moves: self.moves,
+                    course: self.cools(1),
+                    steps: steps / 2,
+                };
+                let first = Leg {
+                    course: self.cools(0),
+                    steps: steps - steps / 2,
+                    ..second
+                };
+                Bout { first, second }
+            }
+        }
+    }
+
+    /// The leg that follows on a leg of a bout, if one does.
+    pub(crate) fn next_leg(&mut self, number: u32, leg: Leg, ended: LegEnd) -> Option<Leg>
+        ensures { IfSome result (λ next. IsCourse next.course) }
+    {
+        let bout = self.bout(number);
+        if leg != bout.first {
+            return None;
+        }
+        let mut next = bout.second_after(ended.steps);
+        if let Course::Heats { .. } = leg.course {
+            if ended.best.is_some() {
+                self.feasible = true;
+                self.hottest = self.hottest.min(ended.hottest);
+            }
+            next.course = self.cools_from(ended.hottest);
+        }
+        Some(next)
+    }
+
+    fn heats(&self) -> Course
+        ensures { IsCourse result }
+    {
+        Course::Heats {
+            from: HEAT_FROM,
+            to: self.heat_most(),
+        }
+    }
+
+    /// How far a try heats at most.
+    fn heat_most(&self) -> u32
+        ensures { 1000 ≤ result }
+    {
+        match self.moves {
+            MoveSet::WideRepair => WIDE_HEAT_MOST,
+            _ => HEAT_MOST,
+        }
+    }
+
+    /// A cycle, so many after the first of this wave.
+    fn cools(&self, later: u32) -> Course
+        ensures { IsCourse result }
+    {
+        let turn = self.turn.wrapping_add(later) % 4;
+        let peak = u64::from(self.hottest) * u64::from(self.cycles.peaks[turn as usize]) / 1000;
+        self.cools_from(peak.min(u64::from(self.hottest)) as u32)
+    }
+
+    fn cools_from(&self, peak: u32) -> Course
+        ensures { IsCourse result }
+    {
+        Course::Cools {
+            from: peak.max(self.cycles.cold),
+            to: self.cycles.cold,
+        }
+    }
+
+    /// The weights of the present wave.
+    pub(crate) fn weights(&self) -> WeightCourse
+        ensures { IsWeightCourse result }
+    {
+        match self.moves {
+            MoveSet::Repair => REPAIR_WEIGHTS,
+            MoveSet::WideRepair => WIDE_WEIGHTS,
+            _ => WEIGHTS,
+        }
+    }
+}

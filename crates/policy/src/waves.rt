@@ -1,0 +1,143 @@
+//! The policy: which wave comes next, and which legs its bouts have.
+
+use crate::legs::{Leg, LegEnd, WeightCourse};
+use crate::plan::Plan;
+use std::marker::Model;
+
+/// The most steps that a search may take in all.
+pub const MOST_EFFORT: u64 = 1_000_000_000_000;
+
+/// What the policy goes by.
+#[derive(Clone, Copy, Debug, PartialEq, Eq)]
+pub struct Facts {
+    pub teams: u8,
+    /// The steps of all legs together.
+    pub effort: u64,
+    /// Whether games are kept, or leaving the start has a price: the start is repaired then, and not melted.
+    pub repairs: bool,
+}
+
+/// Where the chains of a wave begin.
+#[derive(Clone, Copy, Debug, PartialEq, Eq)]
+pub enum Source {
+    /// At the league's start.
+    Start,
+    /// Each bout goes on with the field's chain of its place, from the chain's best version.
+    Own,
+    /// Each bout goes on with a copy of the field's first chain, from the chain's best version.
+    Copies,
+}
+
+/// Bouts that don't depend on each other. A bout is what one chain does: up to two legs in a row.
+#[derive(Clone, Copy, Debug, PartialEq, Eq)]
+pub struct Wave {
+    pub source: Source,
+    pub bouts: u32,
+    /// How many of its chains go on, the best ones. They are the field, the best one first.
+    pub keep: u32,
+}
+
+/// What comes next, by what the legs before came to. Contracts see the steps that are left, and how many chains are in the
+/// field.
+#[derive(Drop)]
+pub struct Policy {
+    left: u64,
+    field: u32,
+    plan: Plan,
+}
+
+impl Model for Policy {
+    ghost use Rattle.policy.specs.Policy.{PolicyData, policy_data, IsPolicy};
+
+    ghost Value = { PolicyData };
+
+    ghost view = { λ p. policy_data p.left p.field };
+
+    ghost invariant = { λ p. IsPolicy (policy_data p.left p.field) };
+}
+
+impl Policy {
+    ghost use Rattle.std.specs.Prelude.{◌≡◌, ◌≤◌, ◌+◌, ◌↔◌, IsSome, IsNone, IfSome};
+    ghost use Rattle.policy.specs.Limits.{most_effort};
+    ghost use Rattle.policy.specs.Policy.{new_policy, field_after, IsNextWave};
+    ghost use Rattle.policy.specs.Legs.{IsCourse, IsLeg, IsWeightCourse, steps_of};
+
+    /// A policy of which no wave was asked for.
+    pub fn new(facts: Facts) -> Self
+        requires teams { 4 ≤ facts.teams }
+        requires effort { facts.effort ≤ most_effort }
+        ensures { result ≡ new_policy facts.effort }
+    {
+        Policy {
+            left: facts.effort,
+            field: 0,
+            plan: Plan::new(facts),
+        }
+    }
+
+    /// The next wave, once all legs of the wave before were told. There is none exactly if no steps are left.
+    pub fn wave(&mut self) -> Option<Wave>
+        ensures none { IsNone result ↔ (self.old.left ≡ 0) }
+        ensures wave { IfSome result (IsNextWave self.old.field) }
+        ensures new { self.new ≡ record self.old { field = field_after self.old.field result } }
+    {
+        if self.left == 0 {
+            return None;
+        }
+        let wave = self.plan.wave(self.field, self.left);
+        self.field = wave.keep;
+        Some(wave)
+    }
+
+    /// The first leg of a bout of the present wave: none if there are no steps for it. It is the same whether or not
+    /// legs of the wave's other bouts were told.
+    pub fn first_leg(&mut self, bout: u32) -> Option<Leg>
+        ensures leg { IfSome result IsLeg }
+        // so each wave takes steps
+        ensures first { bout ≡ 0 → 1 ≤ self.old.left → IsSome result }
+        ensures left { self.new.left + steps_of result ≡ self.old.left }
+        ensures most { self.old.left ≤ most_effort }
+        ensures field { self.new.field ≡ self.old.field }
+    {
+        let leg = self.plan.bout(bout).first;
+        self.take(leg)
+    }
+
+    /// The bout's leg after one that ended, if there is another. Steps that the ended one left over come back.
+    pub fn next_leg(&mut self, bout: u32, leg: Leg, ended: LegEnd) -> Option<Leg>
+        requires ended { ended.steps ≤ leg.steps }
+        requires out { self.old.left + leg.steps ≤ most_effort }
+        ensures leg { IfSome result IsLeg }
+        ensures left { self.new.left + steps_of result + ended.steps ≡ self.old.left + leg.steps }
+        ensures field { self.new.field ≡ self.old.field }
+    {
+        self.left += leg.steps - ended.steps;
+        match self.plan.next_leg(bout, leg, ended) {
+            Some(next) => self.take(next),
+            None => None,
+        }
+    }
+
+    /// The weight of a hard breach of a chain at the start, and its limits in the present wave.
+    pub fn weights(&self) -> WeightCourse
+        ensures { IsWeightCourse result }
+    {
+        self.plan.weights()
+    }
+
+    /// A leg, as far as there are steps left for it.
+    fn take(&mut self, leg: Leg) -> Option<Leg>
+        requires { IsCourse leg.course }
+        ensures leg { IfSome result IsLeg }
+        ensures some { 1 ≤ leg.steps → 1 ≤ self.old.left → IsSome result }
+        ensures left { self.new.left + steps_of result ≡ self.old.left }
+        ensures field { self.new.field ≡ self.old.field }
+    {
+        let steps = leg.steps.min(self.left);
+        if steps == 0 {
+            return None;
+        }
+        self.left -= steps;
+        Some(Leg { steps, ..leg })
+    }
+}

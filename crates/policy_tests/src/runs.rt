@@ -1,0 +1,219 @@
+//! Whole walks: their laws, and beside the twin.
+
+ghost use Rattle.std.specs.Prelude.{◌≤◌};
+ghost use Rattle.policy.specs.Limits.{most_effort};
+
+use crate::walks::{Place, Walk, walked};
+use policy::{Facts, MOST_EFFORT, MoveSet, Policy, WeightCourse};
+use std::process::Abort;
+
+const EFFORTS: [u64; 13] = [
+    1,
+    2,
+    3,
+    10,
+    16,
+    100,
+    1000,
+    12_345,
+    1_000_000,
+    9_999_999,
+    10_000_000,
+    100_000_000,
+    1_000_000_000,
+];
+
+/// What is walked: the teams, the effort and the kind.
+type Setting = (u8, u64, Kind);
+
+#[derive(Clone, Copy, Debug, PartialEq, Eq)]
+enum Kind {
+    Search,
+    Repair,
+    /// A repair of which no try becomes feasible.
+    Failing,
+}
+
+const SIXTEEN: Setting = (16, 1_000_000, Kind::Search);
+
+const EIGHT: Setting = (8, 10_000_000, Kind::Search);
+
+const TWENTY: Setting = (20, 100_000_000, Kind::Search);
+
+const FORTY: Setting = (40, 12_345_678, Kind::Search);
+
+const TWO_GO_ON: Setting = (14, 5_000_000, Kind::Search);
+
+const THREE_GO_ON: Setting = (14, 7_000_000, Kind::Search);
+
+const REPAIR: Setting = (12, 1_000_000, Kind::Repair);
+
+const LONG_REPAIR: Setting = (12, 10_000_000, Kind::Repair);
+
+const FAILING: Setting = (18, 3_333_333, Kind::Failing);
+
+const FEW_STEPS: Setting = (4, 50, Kind::Search);
+
+const FEW_TRIES: Setting = (6, 7, Kind::Failing);
+
+/// A setting, and what `scripts/policy-twin.py` has for it: the numbers of waves and legs, and the sums of both.
+type Row = (Setting, [u64; 4]);
+
+const ROWS: [Row; 11] = [
+    (SIXTEEN, [17, 68, 62_834, 12_985_776_099_164_480]),
+    (EIGHT, [19, 86, 78_023, 41_063_752_353_371_029]),
+    (TWENTY, [19, 94, 78_623, 311_063_755_069_200_593]),
+    (FORTY, [17, 70, 62_934, 61_204_948_482_795_774]),
+    (TWO_GO_ON, [18, 74, 69_958, 26_420_945_209_103_594]),
+    (THREE_GO_ON, [19, 80, 77_513, 32_032_644_259_903_950]),
+    (FEW_STEPS, [17, 28, 62_834, 3_888_520_028_438_171]),
+    (REPAIR, [17, 72, 63_034, 29_249_968_225_573_536]),
+    (LONG_REPAIR, [9, 48, 18_938, 19_956_768_295_799_864]),
+    (FAILING, [18, 72, 70_446, 391_221_218_913_717_439]),
+    (FEW_TRIES, [4, 7, 4_114, 3_578_512_027_810_637]),
+];
+
+/// A leg that the twin shows for a setting: its wave, bout and place there, its moves, from, to and steps.
+type Shown = (Setting, [u32; 3], MoveSet, [u64; 3]);
+
+const LEGS: [Shown; 10] = [
+    (SIXTEEN, [0, 1, 1], MoveSet::Loose, [600, 300, 131_250]),
+    (EIGHT, [0, 3, 0], MoveSet::Full, [600, 150, 897_600]),
+    (EIGHT, [2, 0, 1], MoveSet::Full, [200, 150, 312_500]),
+    (TWENTY, [0, 3, 0], MoveSet::Loose, [1500, 300, 4_700_000]),
+    (FORTY, [0, 0, 0], MoveSet::Rigid, [2000, 500, 540_123]),
+    (REPAIR, [0, 0, 0], MoveSet::Repair, [1000, 5000, 125_000]),
+    (REPAIR, [0, 1, 1], MoveSet::Repair, [1600, 100, 123_000]),
+    (LONG_REPAIR, [2, 3, 0], MoveSet::Repair, [1105, 100, 78_125]),
+    (
+        FAILING,
+        [1, 0, 0],
+        MoveSet::WideRepair,
+        [1000, 20_000, 208_334],
+    ),
+    (
+        FAILING,
+        [2, 3, 0],
+        MoveSet::WideRepair,
+        [10_000, 100, 13_020],
+    ),
+];
+
+/// A walk of a setting. No effort is above the most.
+fn walk(setting: Setting) -> Walk
+    ensures teams { 4 ≤ result.facts.teams }
+    ensures effort { result.facts.effort ≤ most_effort }
+{
+    let (teams, effort, kind) = setting;
+    Walk {
+        facts: Facts {
+            teams: teams.max(4),
+            effort: effort.min(MOST_EFFORT),
+            repairs: kind != Kind::Search,
+        },
+        feasible: kind != Kind::Failing,
+        two_at_once: false,
+        shown: Place {
+            wave: 0,
+            bout: 0,
+            leg: 0,
+        },
+    }
+}
+
+/// Fails unless a walk takes the whole effort in a few waves of bouts of two legs at most, and at most a sixteenth of it, or
+/// a step, in its first chain, and the order in which bouts are told changes nothing.
+fn check_walk(rt: &impl Abort, walk: Walk)
+    requires teams { 4 ≤ walk.facts.teams }
+    requires effort { walk.facts.effort ≤ most_effort }
+{
+    let totals = walked(walk);
+    let overlapping = walked(Walk {
+        two_at_once: true,
+        ..walk
+    });
+    let holds = totals.taken == walk.facts.effort
+        && totals.thirds == 0
+        && totals.waves <= 19
+        && (walk.facts.repairs || totals.early <= (walk.facts.effort / 16).max(1))
+        && overlapping == totals;
+    assert!(rt; holds, "{walk:?} {totals:?} {overlapping:?}");
+}
+
+#[test]
+fn whole_efforts_are_taken(rt: HostRuntime) {
+    for teams in 4..41 {
+        for effort in EFFORTS {
+            for kind in [Kind::Search, Kind::Repair, Kind::Failing] {
+                check_walk(&rt, walk((teams, effort, kind)));
+            }
+        }
+    }
+}
+
+#[test]
+fn the_most_effort_is_taken(rt: HostRuntime) {
+    for teams in [12, 40] {
+        check_walk(&rt, walk((teams, MOST_EFFORT, Kind::Search)));
+    }
+}
+
+#[test]
+fn walks_as_the_twin_has_them(rt: HostRuntime) {
+    for (setting, wanted) in ROWS {
+        let totals = walked(walk(setting));
+        let found = [
+            u64::from(totals.waves),
+            totals.legs,
+            totals.of_waves,
+            totals.of_legs,
+        ];
+        assert_eq!(rt; found, wanted, "{setting:?}");
+    }
+}
+
+#[test]
+fn legs_as_the_twin_has_them(rt: HostRuntime) {
+    for (setting, [wave, bout, leg], moves, numbers) in LEGS {
+        let shown = Place { wave, bout, leg };
+        let totals = walked(Walk {
+            shown,
+            ..walk(setting)
+        });
+        assert_eq!(rt;
+            totals.shown,
+            Some((moves, numbers)),
+            "{setting:?} {shown:?}"
+        );
+    }
+}
+
+/// The weights of the first wave and of the second, where no try of the first one was feasible.
+fn weights(repairs: bool) -> [WeightCourse; 2] {
+    let mut policy = Policy::new(Facts {
+        teams: 12,
+        effort: 1_000_000,
+        repairs,
+    });
+    let _ = policy.wave();
+    let first = policy.weights();
+    let _ = policy.wave();
+    [first, policy.weights()]
+}
+
+#[test]
+fn weights_of_a_breach(rt: HostRuntime) {
+    let of = |first: u64, most: u64| WeightCourse {
+        first,
+        least: 300_000,
+        most,
+    };
+    assert_eq!(rt;
+        weights(false),
+        [of(2_000_000, 100_000_000), of(2_000_000, 100_000_000)]
+    );
+    assert_eq!(rt;
+        weights(true),
+        [of(10_000_000, 25_000_000), of(10_000_000, 100_000_000)]
+    );
+}

@@ -1,0 +1,48 @@
+#!/usr/bin/env python3
+"""Prints what crates/policy_tests expects of the policy: some legs of some walks, and sums over all of their legs.
+
+usage: scripts/policy-twin.py
+
+The waves are those of scripts/waves.py. What a leg that heats comes to is made up, by arithmetic on its bout: it becomes feasible after
+one to five thousand steps, or never."""
+from waves import repair, search
+
+WALKS = (
+    (16, 10**6, "no"),
+    (8, 10**7, "no"),
+    (20, 10**8, "no"),
+    (40, 12_345_678, "no"),
+    (14, 5 * 10**6, "no"),
+    (14, 7 * 10**6, "no"),
+    (4, 50, "no"),
+    (12, 10**6, "feasible"),
+    (12, 10**7, "feasible"),
+    (18, 3_333_333, "never"),
+    (6, 7, "never"),
+)
+SHOWN = ((0, 0, 0), (0, 1, 1), (0, 3, 0), (1, 0, 0), (1, 1, 1), (2, 0, 1), (2, 3, 0), (7, 3, 0))
+
+
+def show(n, effort, repairs):
+    print(f"{n} teams, {effort} steps, repairs: {repairs}")
+    waves, legs, of_waves, of_legs, told = 0, 0, 0, 0, []
+    for number, (source, keep, bouts) in enumerate(search(n, effort) if repairs == "no" else repair(effort, repairs == "feasible")):
+        waves += 1
+        told.append(f"{source} {len(bouts)} {keep}")
+        of_waves += waves * (100 * len(bouts) + 10 * keep + ("Start", "Own", "Copies").index(source))
+        for b, bout in enumerate(bouts):
+            for place, leg in enumerate(bout):
+                if leg[3] == 0:
+                    continue
+                legs += 1
+                moves, hot, cold, steps = leg
+                has = steps + 7 * (cold + 7 * (hot + 7 * moves))
+                of_legs = (of_legs + (1 + place + 2 * b + 1_000_000_007 * number) * has) % 2**64
+                if (number, b, place) in SHOWN:
+                    print("  wave, bout, place:", number, b, place, " moves, from, to, steps:", *leg)
+    print("  waves:", ", ".join(told))
+    print("  waves, legs, sums of both:", waves, legs, of_waves, of_legs)
+
+
+for walk in WALKS:
+    show(*walk)
