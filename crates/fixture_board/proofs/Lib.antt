@@ -13,6 +13,7 @@ pub mod Sound
 pub mod Callers
 pub mod Script
 pub mod Trials
+pub mod Foretold
 pub mod PinTable
 pub mod BegunTables
 pub mod PinsLooked

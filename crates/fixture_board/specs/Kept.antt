@@ -7,6 +7,8 @@ use Rattle.league.specs.League.{LeagueData, teams, IsLeague}
 use Rattle.fixtures.specs.Games.{Games}
 use Rattle.moves.specs.Moves.{fault_of}
 use Rattle.fixture_board.specs.declared.ask.Ask.{Ask}
+use Rattle.fixture_board.specs.declared.ask.Ask.TheVariants as ask
+use Rattle.fixture_board.specs.declared.ask.Proposal.{Proposal}
 use Rattle.fixture_board.specs.declared.change.Change.{Change}
 use Rattle.fixture_board.specs.declared.change.Change.TheVariants.{Shift, Pin, Unpin, Undo}
 use Rattle.fixture_board.specs.declared.change.Entry.{Entry}
@@ -103,6 +105,12 @@ pub record IsGranted (league : LeagueData) (old new : Kept) (asked : Ask) : Type
 abbrev pub IsStep : LeagueData → Kept → Kept → Ask → Result (Unit {0}) Why → Type 0
 IsStep league old new asked (Ok done) = IsGranted league old new asked
 IsStep league old new asked (Err why) = IsRefused league old new asked why
+
+-- what is told of a proposal that isn't made: the cost after its move, or why it would be refused
+abbrev pub IsForetold : LeagueData → Kept → Proposal → Result Cost Why → Type 0
+IsForetold league k p (Ok cost) =
+    (refusal league k.room k.history (ask.Shift p) ≡ None) × (cost ≡ cost_at league (k.history ++ entry 0 (ask.Shift p) ∷ []))
+IsForetold league k p (Err why) = refusal league k.room k.history (ask.Shift p) ≡ Some why
 
 -- a trial that doesn't make its move leaves all as it was
 pub record IsLeft (league : LeagueData) (old new : Kept) (trial : Trial) : Type 0 where

@@ -28,6 +28,19 @@ impl Board {
         self.answer(caller, Ask::Shift(proposal))
     }
 
+    /// Tells what `propose` would answer. Nothing changes.
+    pub fn would_answer(&mut self, proposal: Proposal) -> Reply
+        ensures reply { result ≡ reply_of self.old.league self.old.room self.old.history (Ask.Shift proposal) }
+        ensures same { self.new ≡ self.old }
+    {
+        let at = self.state.version();
+        let cost = match self.state.would_shift(&self.league, proposal) {
+            Ok(cost) => cost,
+            Err(why) => return Reply::No { at, why },
+        };
+        Reply::Done { at: at + 1, cost }
+    }
+
     /// Pins a game to its round. Refused, in this order: Ahead, Old, Full, BadGame, NotThere, AlreadyPinned.
     pub fn pin(&mut self, caller: u32, version: u64, game: Game) -> Reply
         ensures reply { result ≡ reply_of self.old.league self.old.room self.old.history (Ask.Pin version game) }

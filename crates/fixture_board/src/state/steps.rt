@@ -19,7 +19,7 @@ impl State {
     ghost use Rattle.fixture_board.specs.Costs.{cost_of};
     ghost use Rattle.fixture_board.specs.History.{shifted};
     ghost use Rattle.fixture_board.specs.PinTable.{taken_back};
-    ghost use Rattle.fixture_board.specs.Kept.{kept_of, HasMemory, FollowsHistory, IsStep, IsTried, CanTakeBack};
+    ghost use Rattle.fixture_board.specs.Kept.{kept_of, HasMemory, FollowsHistory, IsForetold, IsStep, IsTried, CanTakeBack};
 
     /// Judges what is asked, and makes it if no reason speaks against it.
     pub(crate) fn step(&mut self, league: &League, ask: Ask) -> Result<(), Why>
@@ -68,6 +68,33 @@ impl State {
         self.cost = cost;
         self.changes.push_reserved(Change::Shift(mv));
         Ok(())
+    }
+
+    /// Tells what `shift` would make of a proposal: the cost after its move, or why it would be refused. All is then as it was.
+    pub(crate) fn would_shift(&mut self, league: &League, proposal: Proposal) -> Result<Cost, Why>
+        requires memory { HasMemory self.old }
+        requires kept { FollowsHistory league.now (kept_of self.old) }
+        ensures memory { HasMemory self.new }
+        ensures same { kept_of self.new ≡ kept_of self.old }
+        ensures told { IsForetold league.now (kept_of self.old) proposal result }
+    {
+        let mv = proposal.mv;
+        self.check_move(proposal.version, mv)?;
+        let exchange = exchange(&self.schedule, mv);
+        if self.pins.would_be_moved(&self.schedule, &exchange) {
+            return Err(Why::Pinned);
+        }
+        let before = self.cost.score(league);
+        let cost = make_at_cost(
+            &mut self.schedule,
+            league,
+            &mut self.gaps,
+            &exchange,
+            self.cost,
+        );
+        exchange.make(&mut self.schedule);
+        self.check_score(proposal, before, cost.score(league))?;
+        Ok(cost)
     }
 
     /// Tries a move by a weight of its own, with neither a version nor a claim to check. Only what the score needs is counted.
