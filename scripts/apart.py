@@ -187,7 +187,7 @@ class Board:
     def keep_best(self):
         travel, hard, soft = self.cost
         if hard == 0 and (self.best is None or travel + soft < self.best[0]):
-            self.best = travel + soft, len(self.history)
+            self.best, self.best_games = (travel + soft, len(self.history)), self.states[-1][0]
 
     def score(self, of):
         return of[0] + of[2] + self.league.get("hard_weight", 100) * of[1]
@@ -225,6 +225,13 @@ class Board:
         self.keep_best()
         return f"done {len(self.history)} " + shown(self.cost)
 
+    def answer_to_try(self, word, numbers):
+        """What a move would cost, whatever the slack, or why it can't be made. Nothing changes."""
+        slack, self.slack = self.slack, GREATEST
+        state = self.refusal_or_state(word, numbers)
+        self.slack = slack
+        return f"no {len(self.history)} {state}" if isinstance(state, str) else "would " + shown(cost(state[0], self.league))
+
 
 def shown(of):
     return "travel {} hard {} soft {}".format(*of)
@@ -239,7 +246,8 @@ def play_line(board, number, line):
     words = line.split()
     if not words or words[0].startswith("#"):
         return None
-    word, *numbers = words
+    tries = words[0] == "try" and words[1:2] and words[1] in MOVES
+    word, *numbers = words[1:] if tries else words
     wanted = {"undo": 0, "slack": 1, "pin": 3, "unpin": 3, **{move: len(of) for move, of in MOVES.items()}}
     if wanted.get(word) != len(numbers) or not all(map(is_number, numbers)):
         return f"bad line {number}"
@@ -247,6 +255,8 @@ def play_line(board, number, line):
         board.slack = int(numbers[0])
         return f"slack {board.slack}"
     indexes = [x - 1 if 0 < x < 256 else 255 for x in map(int, numbers)]
+    if tries:
+        return board.answer_to_try(word, indexes)
     return board.answer(word, indexes, " ".join([word, *map(str, map(int, numbers))]))
 
 
@@ -259,11 +269,28 @@ def play(text, script, room=1024):
         answer = play_line(board, number, line)
         if answer is not None:
             yield answer
+    yield from history_and_sheet(board, board.states[-1][0])
+    yield best_line(board)
+
+
+def history_and_sheet(board, games):
     yield f"history {len(board.history)}"
     yield from board.history
     yield "end"
-    yield from sheet(board.states[-1][0], league)
-    yield "best none" if board.best is None else "best {} at {}".format(*board.best)
+    yield from sheet(games, board.league)
+
+
+def best_line(board):
+    return "best none" if board.best is None else "best {} at {}".format(*board.best)
+
+
+def found(board):
+    """The lines that a search or an improvement ends with."""
+    games = board.states[-1][0] if board.best is None else board.best_games
+    yield from history_and_sheet(board, games)
+    if "begin" in board.league:
+        yield f"moved {away_from_start(games, board.league)}"
+    yield best_line(board)
 
 
 def schedule_line(line):

@@ -118,6 +118,7 @@ IsPlayed-line league room h slack (line.Asks c) is = record {
   legal = is_legal_next league room h 0 (ask_with (length h) slack c) is.legal;
   same = same-next league room h (ask_with (length h) slack c) is.same;
 }
+IsPlayed-line league room h slack (line.Tries mv) is = is
 IsPlayed-line league room h slack line.Bad is = is
 
 IsPlayed-from : (league : LeagueData) (room : ℕ) (h : List Entry) (slack : ℕ) (script : List (List ℕ)) → IsPlayed league room h →

@@ -7,7 +7,7 @@ use Rattle.texts.specs.Number.{number_of, index_of}
 use Rattle.texts.specs.Words.{words_of}
 use Rattle.fixture_board.specs.declared.change.Change.TheVariants as change
 use Rattle.texts.specs.declared.script_line.ScriptLine.{ScriptLine}
-use Rattle.texts.specs.declared.script_line.ScriptLine.TheVariants.{Skip, Slack, Asks, Bad}
+use Rattle.texts.specs.declared.script_line.ScriptLine.TheVariants.{Skip, Slack, Asks, Tries, Bad}
 use Rattle.texts.specs.declared.script_line.Keyword.{Keyword}
 use Rattle.texts.specs.declared.script_line.Keyword.TheVariants as key
 
@@ -59,11 +59,22 @@ command_with (Some keyword) (Some numbers) = command_of keyword numbers
 command_with (Some keyword) None = Bad
 command_with None numbers = Bad
 
+abbrev pub command_of_words : List (List ℕ) → ScriptLine
+command_of_words [] = Bad
+command_of_words (word ∷ arguments) = command_with (keyword_of word) (numbers_of arguments)
+
+-- only a move can be tried
+abbrev pub tried : ScriptLine → ScriptLine
+tried (Asks (change.Shift mv)) = Tries mv
+tried _ = Bad
+
 -- a line with no words, or whose first begins with `#`, says nothing
 abbrev pub line_of_words : List (List ℕ) → ScriptLine
 line_of_words [] = Skip
 line_of_words (word ∷ arguments) =
-    if slice_index word 0 == 35 then Skip else command_with (keyword_of word) (numbers_of arguments)
+    if slice_index word 0 == 35 then Skip
+    else if bytes_eq word (codes "try") then tried (command_of_words arguments)
+    else command_of_words (word ∷ arguments)
 
 abbrev pub line_of : List ℕ → ScriptLine
 line_of bytes = line_of_words (words_of bytes)

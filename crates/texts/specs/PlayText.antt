@@ -15,7 +15,7 @@ use Rattle.fixture_board.specs.declared.reply.Reply.TheVariants.{Done, No}
 use Rattle.fixture_board.specs.declared.reply.Why.{Why}
 use Rattle.fixture_board.specs.declared.reply.Why.TheVariants as why
 use Rattle.fixture_board.specs.History.{games_of, cost_at, best_of}
-use Rattle.fixture_board.specs.Replies.{ask_with, greatest, next_of, reply_of}
+use Rattle.fixture_board.specs.Replies.{ask_of, ask_with, greatest, next_of, reply_of}
 use Rattle.texts.specs.Command.{line_of}
 use Rattle.texts.specs.Sheet.{sheet_of}
 use Rattle.texts.specs.declared.script_line.ScriptLine.{ScriptLine}
@@ -60,6 +60,14 @@ abbrev pub reply_line : Reply → List ℕ
 reply_line (Done at cost) = done_line at cost
 reply_line (No at reason) = no_line at reason
 
+abbrev pub would_line : Cost → List ℕ
+would_line cost = codes "would" ++ costs_of cost
+
+-- what is told of a move that isn't made, by the reply that it would get
+abbrev pub tried_line : Reply → List ℕ
+tried_line (Done at cost) = would_line cost
+tried_line (No at reason) = no_line at reason
+
 -- a word and the numbers of teams and rounds after it
 abbrev pub two_places : List ℕ → ℕ → ℕ → List ℕ
 two_places word a b = counted word (a + 1) ++ numbered (codes " ") (b + 1)
@@ -99,6 +107,7 @@ module _ (league : LeagueData) (room : ℕ) where
   answer_to h slack number line.Skip = []
   answer_to h slack number (line.Slack given) = numbered (codes "slack ") given
   answer_to h slack number (line.Asks c) = reply_line (reply_of league room h (ask_with (length h) slack c))
+  answer_to h slack number (line.Tries mv) = tried_line (reply_of league room h (ask_of (length h) (change.Shift mv)))
   answer_to h slack number line.Bad = numbered (codes "bad line ") number
 
   abbrev pub history_after : List Entry → ℕ → ScriptLine → List Entry

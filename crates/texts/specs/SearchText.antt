@@ -1,8 +1,10 @@
 -- The parts of a search text. Workers are numbered from 1.
-use Rattle.std.specs.Prelude.{◌≡◌, ℕ, List, ◌∷◌, ◌++◌, Option, Some, None, codes}
+use Rattle.std.specs.Prelude.{◌≡◌, ℕ, List, [], ◌∷◌, ◌++◌, Option, Some, None, if◌then◌else◌, codes}
 use Rattle.std.specs.Str.Lines.{lines}
 use Rattle.league.specs.League.{LeagueData}
+use Rattle.league.specs.Starts.{is_given}
 use Rattle.fixtures.specs.Games.{Games}
+use Rattle.tours.specs.Moved.{moved_games}
 use Rattle.fixture_board.specs.declared.change.Entry.{Entry}
 use Rattle.fixture_board.specs.History.{best_of, best_prefix, games_of}
 use Rattle.fixture_board.specs.Replay.{under_caller_0}
@@ -44,9 +46,17 @@ games_at_best league h (Some prefix) = games_of league prefix
 unfoldable pub best_sheet : LeagueData → List Entry → List ℕ
 best_sheet league h = sheet_of (games_at_best league h (best_prefix league h)) league
 
--- a board after its history: the history, the sheet of its best schedule and the best version
+-- how many games of the schedule have another round than at the start, if that is a schedule of its own
+abbrev pub moved_line : LeagueData → Games → List ℕ
+moved_line league g = if is_given league.origin.start then numbered (codes "moved ") (moved_games league g) else []
+
+-- the same of the schedule on the best sheet
+unfoldable pub moved_at_best : LeagueData → List Entry → List ℕ
+moved_at_best league h = moved_line league (games_at_best league h (best_prefix league h))
+
+-- a board after its history: the history, the sheet of its best schedule, what was moved in it and the best version
 unfoldable pub found_text : LeagueData → List Entry → List ℕ
-found_text league h = history_text h ++ best_sheet league h ++ best_line (best_of league h)
+found_text league h = history_text h ++ best_sheet league h ++ moved_at_best league h ++ best_line (best_of league h)
 
 -- a history, written and given as a script, leads to the same changes of caller 0, to the same games and the same best
 pub record PlaysBack (league : LeagueData) (room : ℕ) (h : List Entry) : Type 0 where

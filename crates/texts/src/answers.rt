@@ -4,13 +4,15 @@ ghost use Rattle.std.specs.Prelude.{◌≡◌, [], OnOk};
 ghost use Rattle.std.specs.Str.Lines.{lines};
 ghost use Rattle.streams.specs.Writing.{Writes};
 ghost use Rattle.fixture_board.specs.Record.{book};
+ghost use Rattle.fixture_board.specs.Replies.{ask_of};
 ghost use Rattle.texts.specs.PlayText.{answer_to, answers, costs_of, done_line, history_after, no_line};
-ghost use Rattle.texts.specs.PlayText.{played, reply_line, slack_after, why_text};
+ghost use Rattle.texts.specs.PlayText.{played, reply_line, slack_after, tried_line, why_text, would_line};
 
 use crate::input::next_line;
 use crate::lines::{write_counted, write_numbered};
 use crate::script_line::{ScriptLine, parse_line};
-use fixture_board::{Ask, Board, Cost, Reply, Why};
+use fixture_board::{Ask, Board, Change, Cost, Proposal, Reply, Why};
+use moves::Move;
 use streams::{BufferedSink, Sink, WriteFault};
 
 /// Plays the lines of a script on a new board, and writes an answer to each that isn't skipped.
@@ -59,6 +61,10 @@ fn write_answer<W: Sink>(
             let ask = Ask::of(change, board.version(), *slack);
             write_reply(out, board.answer(0, ask))
         }
+        ScriptLine::Tries(mv) => {
+            let proposal = unlimited(board.version(), mv);
+            write_tried(out, board.would_answer(proposal))
+        }
         ScriptLine::Bad => write_numbered(out, b"bad line ", number),
     }
 }
@@ -70,6 +76,34 @@ fn write_reply<W: Sink>(out: &mut BufferedSink<'_, W>, reply: Reply) -> Result<(
         Reply::Done { at, cost } => write_done(out, at, cost),
         Reply::No { at, why } => write_no(out, at, why),
     }
+}
+
+/// A move as it is proposed at the version, whatever its score is.
+fn unlimited(version: u64, mv: Move) -> Proposal
+    ensures { Ask.Shift result ≡ ask_of version (Change.Shift mv) }
+{
+    Proposal {
+        version,
+        mv,
+        claim: None,
+        slack: u64::MAX,
+    }
+}
+
+fn write_tried<W: Sink>(out: &mut BufferedSink<'_, W>, reply: Reply) -> Result<(), WriteFault>
+    ensures { Writes W.held W.tally out.old out.new result (tried_line reply) }
+{
+    match reply {
+        Reply::Done { cost, .. } => write_would(out, cost),
+        Reply::No { at, why } => write_no(out, at, why),
+    }
+}
+
+fn write_would<W: Sink>(out: &mut BufferedSink<'_, W>, cost: Cost) -> Result<(), WriteFault>
+    ensures { Writes W.held W.tally out.old out.new result (would_line cost) }
+{
+    out.write(b"would")?;
+    write_costs(out, cost)
 }
 
 fn write_done<W: Sink>(out: &mut BufferedSink<'_, W>, at: u64, cost: Cost) -> Result<(), WriteFault>

@@ -3,7 +3,8 @@
 ghost use Rattle.std.specs.Prelude.{◌≡◌};
 ghost use Rattle.fixture_board.specs.declared.change.Change.TheVariants.{Shift};
 ghost use Rattle.texts.specs.declared.script_line.ScriptLine.TheVariants.{Asks};
-ghost use Rattle.texts.specs.Command.{command_of, numbered_game, keyword_of, line_of};
+ghost use Rattle.texts.specs.Command.{command_of, command_of_words, numbered_game, keyword_of, line_of, tried};
+ghost use Rattle.texts.specs.Words.{words_of};
 
 use crate::numerals::{index, numbers};
 use crate::words::next_word;
@@ -20,6 +21,8 @@ pub enum ScriptLine {
     Slack(u64),
     /// A change is asked for.
     Asks(Change),
+    /// It is asked what a move would cost.
+    Tries(Move),
     /// No line of a script.
     Bad,
 }
@@ -77,6 +80,30 @@ pub fn parse_line(line: &[u8]) -> ScriptLine
     if word[0] == b'#' {
         return ScriptLine::Skip;
     }
+    if word == b"try".as_slice() {
+        tried(read_command(rest))
+    } else {
+        read_command(line)
+    }
+}
+
+fn tried(command: ScriptLine) -> ScriptLine
+    ensures { result ≡ tried command }
+{
+    match command {
+        ScriptLine::Asks(Change::Shift(mv)) => ScriptLine::Tries(mv),
+        _ => ScriptLine::Bad,
+    }
+}
+
+/// Reads a line whose first word is to be a keyword.
+fn read_command(line: &[u8]) -> ScriptLine
+    ensures { result ≡ command_of_words (words_of line.now) }
+{
+    let mut rest = line;
+    let Some(word) = next_word(&mut rest) else {
+        return ScriptLine::Bad;
+    };
     let (Some(keyword), Some(numbers)) = (Keyword::of_word(word), numbers(rest)) else {
         return ScriptLine::Bad;
     };

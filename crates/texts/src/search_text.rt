@@ -5,7 +5,7 @@ ghost use Rattle.std.specs.Prelude.{◌≡◌};
 ghost use Rattle.league.specs.League.{teams};
 ghost use Rattle.streams.specs.Writing.{Writes};
 ghost use Rattle.fixture_board.specs.History.{best_prefix};
-ghost use Rattle.texts.specs.SearchText.{best_sheet, found_text, games_at_best, plan_line, worker_line};
+ghost use Rattle.texts.specs.SearchText.{best_sheet, found_text, games_at_best, moved_at_best, plan_line, worker_line};
 ghost use Rattle.texts.specs.SearchText.{clear_line, least_text, progress_line};
 
 use crate::history::write_history;
@@ -15,6 +15,7 @@ use crate::sheets::write_sheet;
 use fixture_board::Board;
 use fixtures::Schedule;
 use streams::{BufferedSink, Sink, WriteFault};
+use tours::moved_games;
 
 /// Writes what a search was asked for: so many workers, the steps of each, and the seed of their draws.
 pub fn write_plan<W: Sink>(
@@ -81,14 +82,27 @@ fn write_least<W: Sink>(out: &mut BufferedSink<'_, W>, least: Option<u64>) -> Re
 }
 
 /// Writes the board in the end: its history, the sheet of its best schedule, or of the present one if none was
-/// feasible, and its best version.
+/// feasible, how many games that sheet moves if the league's start is a schedule of its own, and its best version.
 pub fn write_found<W: Sink>(out: &mut BufferedSink<'_, W>, board: &Board) -> Result<(), WriteFault>
     ensures { Writes W.held W.tally out.old out.new result
         (found_text board.now.league board.now.history) }
 {
     write_history(out, board)?;
     write_best_sheet(out, board)?;
+    write_moved(out, board)?;
     write_best(out, board)
+}
+
+#[tactic(auto, unfolding(crate::specs::SearchText::moved_at_best))]
+fn write_moved<W: Sink>(out: &mut BufferedSink<'_, W>, board: &Board) -> Result<(), WriteFault>
+    ensures { Writes W.held W.tally out.old out.new result
+        (moved_at_best board.now.league board.now.history) }
+{
+    let league = board.league();
+    if !league.given() {
+        return Ok(());
+    }
+    write_numbered(out, b"moved ", moved_games(best_or_present(board), league))
 }
 
 /// Writes the sheet of the board's best schedule, or of the present one if none was feasible.

@@ -10,5 +10,8 @@ returns-in-Slack g c = search rules
 pub returns-in-Asks : goal.returns-in-Asks
 returns-in-Asks g c = search rules
 
+pub returns-in-Tries : goal.returns-in-Tries
+returns-in-Tries g c = search rules
+
 pub returns-in-Bad : goal.returns-in-Bad
 returns-in-Bad g c = search rules

@@ -8,5 +8,8 @@ returns-in_default c = search rules
 pub returns-then-word-eq35 : goal.returns-then-word-eq35
 returns-then-word-eq35 c = search rules
 
-pub returns : goal.returns
-returns c = grind (arith, common_steps)
+pub returns-then-eq : goal.returns-then-eq
+returns-then-eq c = grind (arith, common_steps)
+
+pub returns-else-eq : goal.returns-else-eq
+returns-else-eq c = grind (arith, common_steps)
