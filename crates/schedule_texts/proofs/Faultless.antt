@@ -18,6 +18,7 @@ use Rattle.schedule_texts.specs.Faults.{bad_line, bad_lines, faults, game_faults
 use Rattle.schedule_texts.specs.Faults.{pair_lines, team_line, team_lines}
 use Rattle.schedule_texts.specs.Faultless.{IsFaultlessExactly}
 use Rattle.schedule_texts.specs.Given.{given_games, placed, IsGivenBy}
+use Rattle.schedule_texts.specs.LastSheet.{last_sheet}
 use Rattle.schedule_texts.specs.ScheduleText.{has_bad_line, is_bad, line_of, written_games}
 use Rattle.schedule_texts.proofs.Found.{found, IsFaultless}
 use Rattle.schedule_texts.proofs.OnceEach.{is_game_of, no_game, pair_once, team_once}
@@ -148,14 +149,14 @@ faultless_exactly l lines is_league = (forward, λ given. backward given.0 given
   where
     forward : faults (teams l) lines ≡ [] → (g : Games) × IsGivenBy (teams l) lines g
     forward none =
-        let parts = nil_parts (bad_lines 1 lines ++ no_game_lines (teams l) (written_games lines)) _ none in
-        let fronts = nil_parts (bad_lines 1 lines) _ parts.0 in
-        let all = faultless_games (teams l) (given_games lines) (told_games (teams l) (written_games lines) fronts.1) parts.1 in
+        let parts = nil_parts (bad_lines 1 (last_sheet lines) ++ no_game_lines (teams l) (written_games (last_sheet lines))) _ none in
+        let fronts = nil_parts (bad_lines 1 (last_sheet lines)) _ parts.0 in
+        let all = faultless_games (teams l) (given_games lines) (told_games (teams l) (written_games (last_sheet lines)) fronts.1) parts.1 in
         let table = is_league.table in (
           _,
           record {
             teams = refl;
-            sound = lines_are_good 1 lines fronts.0;
+            sound = lines_are_good 1 (last_sheet lines) fronts.0;
             games = found (teams l) (given_games lines) all table.even table.least table.most;
           },
         )
@@ -163,6 +164,6 @@ faultless_exactly l lines is_league = (forward, λ given. backward given.0 given
     backward : (g : Games) → IsGivenBy (teams l) lines g → faults (teams l) lines ≡ []
     backward g is =
         let listed = Contains-get_or (given_games lines) in
-        let games = games_told g.teams (written_games lines)
+        let games = games_told g.teams (written_games (last_sheet lines))
         (λ k within. is_game_of g (given_games lines) is.games _ (listed k no_game within)) in
-        rw (good_lines 1 lines is.sound, ← is.teams, games, teams_faultless g (given_games lines) is.games) refl
+        rw (good_lines 1 (last_sheet lines) is.sound, ← is.teams, games, teams_faultless g (given_games lines) is.games) refl
