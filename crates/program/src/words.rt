@@ -76,7 +76,7 @@ fn answer<
     ensures most { exit_status result ≤ 3 }
 {
     let job = match args(rt.alloc(), words) {
-        Ok(job) => job,
+        Ok(request) => request.job,
         Err(error) => return words_not_taken(rt, error),
     };
     let alloc = rt.alloc();
