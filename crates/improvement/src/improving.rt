@@ -124,6 +124,7 @@ fn run_all<'s, E, T: Threads + Wait + Sync, G: Gate + Sync, W: Sink>(
     ensures { EndsBy W.held W.tally setting.entry.start.now setting.entry.unit setting.entry.plan.effort out.old out.new
         (HasRunAll W.held W.tally setting.entry.start.now setting.entry.unit setting.entry.plan.effort out.old out.new) result }
 {
+    setting.workplace.gate.begun(setting.workplace.rt, 0);
     let mut line = Line::new(&setting);
     let mut told = Told {
         lead: setting.board_or_new(None)?,
@@ -165,6 +166,7 @@ fn tell<T: Threads + Wait + Sync, G: Gate + Sync, W: Sink>(
         end,
     };
     write_leg(out, setting.unit, ended, told.least, &chain.board)?;
+    workplace.gate.begun(workplace.rt, 0);
     told.meet(workplace.alloc, &chain.board)?;
     let number = turn.chain;
     line.go_on(turn, end, Entrant { number, chain })?;

@@ -2,7 +2,7 @@
 //! since each carries all that is alive in it. A table that a function of `steps.rt` reads is proved faster still.
 
 use crate::tests::answers::{is_pinned, round_of, travels};
-use crate::tests::questions::{ask_board, pin, shift, undo, unpin};
+use crate::tests::questions::{ask_board, pin, shift, undo, unpin, would_shift};
 use fixture_board::{Ask, Best, Board, Change, Cost, Entry, Reply};
 use fixtures::{Game, Schedule};
 use moves::Move;
@@ -26,7 +26,9 @@ pub(crate) fn check_answer(rt: &impl Abort, board: &mut Board, ask: Ask, reply: 
 
 // what is asked at the board's version, as caller 0, is answered so
 
+/// It is told before.
 pub(crate) fn check_shift(rt: &impl Abort, board: &mut Board, mv: Move, reply: Reply) {
+    check_same(rt, &(mv, would_shift(board, mv)), &(mv, reply));
     check_same(rt, &(mv, shift(board, mv)), &(mv, reply));
 }
 

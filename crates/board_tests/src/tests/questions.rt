@@ -114,6 +114,12 @@ pub(crate) fn shift(board: &mut Board, mv: Move) -> Reply {
     board.propose(0, at_any_cost(version, mv))
 }
 
+/// What is told of the same.
+pub(crate) fn would_shift(board: &mut Board, mv: Move) -> Reply {
+    let version = board.version();
+    board.would_answer(at_any_cost(version, mv))
+}
+
 pub(crate) fn pin(board: &mut Board, game: Game) -> Reply {
     let version = board.version();
     board.pin(0, version, game)

@@ -1,7 +1,7 @@
 //! Known play texts.
 
 use crate::tests::checks::check_same;
-use crate::tests::circle::CIRCLE;
+use crate::tests::circle::{CIRCLE, SHEET};
 use crate::tests::samples::{self, SCRIPT};
 use crate::tests::told::Text::Excerpt;
 use crate::tests::told::{Case, Command, NOTHING, PLAY_OF_1024, Text, WRITTEN, check_cases, tell};
@@ -122,4 +122,36 @@ fn hostile_lines_are_told_and_change_nothing(rt: HostRuntime) -> Result<(), Fail
     let told = tell(&rt, rt.alloc(), PLAY_OF_1024, &parts.concat(rt.alloc())?)?;
     check_same(&rt, &TOLD_OF_HOSTILE.is_told(&told.text), &true);
     Ok(())
+}
+
+/// Moves that can be made, one of them far above the slack, and some that can't. Then lines that try no move.
+const TRIES: &str = "try homes 1 2\nslack 0\ntry rounds 2 4\nhomes 1 2\npin 1 1 4\ntry rounds 1 2\n\
+    try part-teams 1 2 2\ntry homes 1 1\ntry undo\ntry\ntry pin 2 2 1\ntry try homes 1 2\ntry homes 1\n";
+
+const TOLD_OF_TRIES: &str =
+    "start travel 30 hard 0 soft 0\nwould travel 26 hard 0 soft 0\nslack 0\n\
+    would travel 30 hard 4 soft 0\ndone 1 travel 26 hard 0 soft 0\ndone 2 travel 26 hard 0 soft 0\n\
+    no 2 pinned\nno 2 meet\nno 2 bad move\nbad line 9\nbad line 10\nbad line 11\nbad line 12\nbad line 13\n\
+    history 2\nhomes 1 2\npin 1 1 4\nend\n";
+
+const FULL: &str = "start travel 30 hard 0 soft 0\nno 0 full\nhistory 0\nend\n";
+
+const TRIED: &[Case<'_>] = &[
+    (
+        PLAY_OF_1024,
+        &[CIRCLE, SCRIPT, TRIES],
+        WRITTEN,
+        Excerpt(TOLD_OF_TRIES, &["round 2: 2-1 4-3\n"], "best 26 at 1\n"),
+    ),
+    (
+        Command::Play { room: 0 },
+        &[CIRCLE, SCRIPT, "try homes 1 2\n"],
+        WRITTEN,
+        Excerpt(FULL, &[SHEET], "best 30 at 0\n"),
+    ),
+];
+
+#[test]
+fn tries_are_told_and_change_nothing(rt: HostRuntime) -> Result<(), Fail> {
+    check_cases(&rt, rt.alloc(), TRIED)
 }

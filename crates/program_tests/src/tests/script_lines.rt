@@ -49,6 +49,15 @@ const LINES: &[(&[u8], ScriptLine)] = &[
     (b"pin 1 1 4", ScriptLine::Asks(Change::Pin(GAME))),
     (b"unpin 1 1 4", ScriptLine::Asks(Change::Unpin(GAME))),
     (b"undo", ScriptLine::Asks(Change::Undo)),
+    // moves that are tried
+    (
+        b"try homes 1 2",
+        ScriptLine::Tries(Move::Homes { i: 0, j: 1 }),
+    ),
+    (
+        b"\ttry  part-teams 1 2 256 ",
+        ScriptLine::Tries(Move::PartTeams { i: 0, j: 1, k: 255 }),
+    ),
     // slack
     (b"slack 0", ScriptLine::Slack(0)),
     (
@@ -89,6 +98,14 @@ const LINES: &[(&[u8], ScriptLine)] = &[
     (b"undo 1", ScriptLine::Bad),
     (b"slack", ScriptLine::Bad),
     (b"pin 1 1", ScriptLine::Bad),
+    (b"try", ScriptLine::Bad),
+    (b"try undo", ScriptLine::Bad),
+    (b"try slack 0", ScriptLine::Bad),
+    (b"try pin 1 1 4", ScriptLine::Bad),
+    (b"try try homes 1 2", ScriptLine::Bad),
+    (b"try homes 1", ScriptLine::Bad),
+    (b"try # homes 1 2", ScriptLine::Bad),
+    (b"tryhomes 1 2", ScriptLine::Bad),
 ];
 
 #[test]
@@ -99,12 +116,13 @@ fn lines_are_read(rt: HostRuntime) {
 }
 
 /// Lines that differ in their kind, or in what they hold.
-const DISTINCT: [ScriptLine; 6] = [
+const DISTINCT: [ScriptLine; 7] = [
     ScriptLine::Skip,
     ScriptLine::Slack(0),
     ScriptLine::Slack(1),
     ScriptLine::Asks(Change::Undo),
     ScriptLine::Asks(Change::Shift(Move::Homes { i: 0, j: 1 })),
+    ScriptLine::Tries(Move::Homes { i: 0, j: 1 }),
     ScriptLine::Bad,
 ];
 
