@@ -20,6 +20,11 @@ abbrev pub is_fide : Start → Bool
 is_fide Fide = true
 is_fide _ = false
 
+-- whether the start is a schedule of its own
+abbrev pub is_given : Start → Bool
+is_given (Given g) = true
+is_given _ = false
+
 -- whether the game in which `home` receives `away` is kept
 abbrev pub keeps : LeagueData → ℕ → ℕ → Bool
 keeps l home away = has_pair l.origin.kept home away

@@ -12,7 +12,7 @@ impl League {
     ghost use Rattle.sets.specs.Pairs.{has_pair};
     ghost use Rattle.league.specs.League.{teams};
     ghost use Rattle.league.specs.Limits.{max_weight};
-    ghost use Rattle.league.specs.Starts.{beginning_at, is_fide, keeping, keeps, near_at, start_of, start_round, KeepsMore};
+    ghost use Rattle.league.specs.Starts.{beginning_at, is_fide, is_given, keeping, keeps, near_at, start_of, start_round, KeepsMore};
 
     /// Makes the schedule that the boards of the league begin at. Answers an error only if there is no memory.
     pub fn start(&self, alloc: Global) -> Result<Schedule, AllocError>
@@ -36,6 +36,13 @@ impl League {
         ensures { result ≡ is_fide self.now.origin.start }
     {
         matches!(self.origin.start, Start::Fide)
+    }
+
+    /// Whether the start is a schedule of its own, and none that a text of a league asks for.
+    pub fn given(&self) -> bool
+        ensures { result ≡ is_given self.now.origin.start }
+    {
+        matches!(self.origin.start, Start::Given(_))
     }
 
     /// Has boards begin at a schedule of the league's teams. None of its games is kept, and all else stays. Takes no memory.
