@@ -12,6 +12,7 @@ mod improvements;
 mod judged_schedules;
 mod largest;
 mod memory;
+mod moved_reports;
 mod plays;
 mod progress_lines;
 mod samples;
