@@ -27,10 +27,11 @@ moved_row l g home away =
 abbrev pub moved_rows : LeagueData → Games → ℕ → List ℕ
 moved_rows l g home = pieces_below (moved_row l g home) g.teams
 
+abbrev pub moved_head : List ℕ
+moved_head = codes "<h2>Moved games</h2><table><tr><th>Game</th><th>Round at the start</th><th>Round now</th></tr>"
+
 abbrev pub moved_table : LeagueData → Games → List ℕ
-moved_table l g =
-    codes "<h2>Moved games</h2><table><tr><th>Game</th><th>Round at the start</th><th>Round now</th></tr>"
-    ++ pieces_below (moved_rows l g) g.teams ++ codes "</table>"
+moved_table l g = moved_head ++ pieces_below (moved_rows l g) g.teams ++ codes "</table>"
 
 -- of a league alone that begins at a given schedule
 abbrev pub moved_section : LeagueData → Games → List ℕ

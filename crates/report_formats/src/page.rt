@@ -58,7 +58,7 @@ fn push_costs(
     requires small { total_of cost < 2 ^ 64 }
     ensures { OnOk result (page.new.items ≡ page.old.items ++ costs_text league.now schedule.now cost) }
 {
-    push_style(page, league.given())?;
+    push_style(page, league)?;
     push_measures(page, schedule, cost.travel)?;
     push_figures(page, league, schedule, cost)
 }

@@ -1,15 +1,17 @@
 //! How a page looks: on a screen, a phone and paper, light and dark.
 
 ghost use Rattle.std.specs.Prelude.{◌≡◌, ◌++◌, OnOk};
+ghost use Rattle.league.specs.Starts.{is_given};
 ghost use Rattle.report_formats.specs.Style.{style_text, word_if};
 
 use crate::pieces::{Piece, push_pieces};
+use league::League;
 use std::alloc::AllocError;
 
 /// Adds the page up to the number of teams, which its lines of style take from it: with moved games, if boards begin at a given
 /// schedule.
-pub(crate) fn push_style(page: &mut Vec<u8>, given: bool) -> Result<(), AllocError>
-    ensures { OnOk result (page.new.items ≡ page.old.items ++ style_text given) }
+pub(crate) fn push_style(page: &mut Vec<u8>, league: &League) -> Result<(), AllocError>
+    ensures { OnOk result (page.new.items ≡ page.old.items ++ style_text (is_given league.now.origin.start)) }
 {
     push_pieces(
         page,
@@ -84,7 +86,7 @@ pub(crate) fn push_style(page: &mut Vec<u8>, given: bool) -> Result<(), AllocErr
             Piece::Html(b".grid { font-size: min(10pt, 270mm / (var(--rounds) * 2.4 + 12)) }\n"),
             Piece::Html(b".grid th, .grid td { padding: .05em .1em; min-width: 2em } }\n"),
             Piece::Html(word_if(
-                given,
+                league.given(),
                 b".m { font-weight: bold; text-decoration: underline }\n",
             )),
             Piece::Html(b"</style></head><body style='--teams:"),
