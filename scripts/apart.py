@@ -359,13 +359,13 @@ def remarks(league):
 
 def report(text, lines):
     """The exit status and the lines of the report of a league's text, which has to be one, and the lines after `sheet`."""
-    status, said = judged(text, lines)
-    return status, [*said, *remarks(json.loads(text))]
-
-
-def judged(text, lines):
-    """The same without the remarks."""
     league = json.loads(text)
+    status, said = judged(league, lines)
+    return status, [*said, *remarks(league)]
+
+
+def judged(league, lines):
+    """The same of a league, without the remarks."""
     teams = len(league["teams"])
     faults, games = schedule_faults(teams, lines)
     if faults:
@@ -389,6 +389,11 @@ def judged(text, lines):
     for i, rule in enumerate(league.get("rules", []), 1):
         kind = "hard" if rule["kind"] == "hard" else f"soft {rule['weight']}"
         said.append(f"rule {i} {rule['class']} {kind} deviation {deviation(rule, games, table)}")
+    if league.get("near", 0) > 0:
+        said.append(f"near {league['near']} moved {away_from_start(games, league)}")
+    for (h, a), r in sorted(league.get("begin", {}).items()):
+        if games[h, a] != r:
+            said.append(f"was {h + 1}-{a + 1} round {r + 1} now {games[h, a] + 1}")
     travel, hard, soft = of
     said.append("infeasible" if hard else f"total {travel + soft}")
     return (3 if hard else 0), said

@@ -13,6 +13,7 @@ mod judged_schedules;
 mod largest;
 mod memory;
 mod moved;
+mod moved_reports;
 mod plays;
 mod progress_lines;
 mod samples;

@@ -1,14 +1,13 @@
 -- The grid of teams and rounds on a page. Teams and rounds are numbered from 0 in calls, and from 1 in texts.
 use Rattle.std.specs.Prelude.{ℕ, ◌+◌, ◌-◌, ◌==◌, List, [], ◌∷◌, ◌++◌, Bool, not, ◌&&◌, nat_le, nat_lt, codes, decimal, if◌then◌else◌}
 use Rattle.std.specs.List.{concat}
-use Rattle.fixtures.specs.Games.{Games, cell, round_count}
+use Rattle.fixtures.specs.Games.{Games, cell, cell_round, round_count}
 use Rattle.league.specs.League.{LeagueData, name_of}
+use Rattle.league.specs.Starts.{is_given, start_round}
 use Rattle.reports.specs.Runs.{is_over}
 use Rattle.streams.specs.Pieces.{pieces_below}
 use Rattle.report_formats.specs.Pieces.{escaped}
-
-abbrev pub word_if : Bool → List ℕ → List ℕ
-word_if wanted word = if wanted then word else []
+use Rattle.report_formats.specs.Style.{word_if}
 
 -- whether a window of one round more than allowed, spent at home or away, ends with the round
 abbrev pub goes_over : Games → ℕ → ℕ → ℕ → Bool
@@ -18,15 +17,20 @@ goes_over g at_most team round = nat_le at_most round && is_over g at_most team 
 abbrev pub meets_again : Games → ℕ → ℕ → Bool
 meets_again g team round = nat_lt 0 round && (cell g team round).opponent == (cell g team (round - 1)).opponent
 
--- the opponent, and whether the game is at home, goes over the most in a row, and repeats
-abbrev pub cell_of : ℕ → Bool → Bool → Bool → List ℕ
-cell_of opponent home over again =
-    concat (codes "<td class='" ∷ word_if home (codes "h") ∷ word_if over (codes " o") ∷ word_if again (codes " r") ∷ codes "'>" ∷
-    word_if (not home) (codes "@") ∷ decimal (opponent + 1) ∷ codes "</td>" ∷ [])
+-- whether boards begin at a given schedule that has the team's game of the round in another one
+abbrev pub is_marked : LeagueData → Games → ℕ → ℕ → Bool
+is_marked l g team round = is_given l.origin.start && not (round == cell_round (start_round l) team (cell g team round))
 
-abbrev pub cell_text : Games → ℕ → ℕ → ℕ → List ℕ
-cell_text g at_most team round =
-    cell_of (cell g team round).opponent (cell g team round).home (goes_over g at_most team round) (meets_again g team round)
+-- the opponent, and whether the game is at home, goes over the most in a row, repeats, and is moved
+abbrev pub cell_of : ℕ → Bool → Bool → Bool → Bool → List ℕ
+cell_of opponent home over again marked =
+    concat (codes "<td class='" ∷ word_if home (codes "h") ∷ word_if over (codes " o") ∷ word_if again (codes " r") ∷
+    word_if marked (codes " m") ∷ codes "'>" ∷ word_if (not home) (codes "@") ∷ decimal (opponent + 1) ∷ codes "</td>" ∷ [])
+
+abbrev pub cell_text : LeagueData → Games → ℕ → ℕ → List ℕ
+cell_text l g team round =
+    cell_of (cell g team round).opponent (cell g team round).home (goes_over g l.at_most team round) (meets_again g team round)
+    (is_marked l g team round)
 
 -- how a row of a team begins
 unfoldable pub team_head : LeagueData → ℕ → List ℕ
@@ -34,7 +38,7 @@ team_head l team = concat (codes "<tr><th>" ∷ decimal (team + 1) ∷ codes " "
 
 abbrev pub grid_row : LeagueData → Games → ℕ → List ℕ
 grid_row l g team =
-    codes "</tr>" ++ team_head l team ++ pieces_below (cell_text g l.at_most team) (round_count g.teams)
+    codes "</tr>" ++ team_head l team ++ pieces_below (cell_text l g team) (round_count g.teams)
 
 abbrev pub round_head : ℕ → List ℕ
 round_head round = concat (codes "<th>" ∷ decimal (round + 1) ∷ codes "</th>" ∷ [])
@@ -44,12 +48,13 @@ abbrev pub grid_lines : LeagueData → Games → List ℕ
 grid_lines l g = pieces_below round_head (round_count g.teams) ++ pieces_below (grid_row l g) g.teams
 
 -- what the marks mean
-abbrev pub legend_text : ℕ → List ℕ
-legend_text at_most =
+abbrev pub legend_text : ℕ → Bool → List ℕ
+legend_text at_most given =
     concat (codes "<h2>Games</h2><p><span class='h'>Shaded</span>: at home. @: away. " ∷ codes "<span class='o'>Ringed</span>: more than " ∷
     decimal at_most ∷
     codes " in a row at home or away. " ∷ codes "<span class='r'>Dashed</span>: the opponent of the round before.</p>" ∷
+    word_if given (codes "<p><span class='m'>Underlined</span>: in another round than at the start.</p>") ∷
     codes "<div class='wide'><table class='grid'><tr><th>Team</th>" ∷ [])
 
 unfoldable pub grid_text : LeagueData → Games → List ℕ
-grid_text l g = legend_text l.at_most ++ grid_lines l g ++ codes "</tr></table></div>"
+grid_text l g = legend_text l.at_most (is_given l.origin.start) ++ grid_lines l g ++ codes "</tr></table></div>"

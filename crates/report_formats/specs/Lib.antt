@@ -2,5 +2,6 @@ pub mod Table
 pub mod Pieces
 pub mod Style
 pub mod Grid
+pub mod MovedGames
 pub mod Page
 pub mod Format

@@ -7,6 +7,7 @@ use Rattle.fixtures.specs.Games.{Games, round_count}
 use Rattle.fixture_board.specs.declared.cost.Cost.{Cost}
 use Rattle.fixture_board.specs.Costs.{cost_of, total_of}
 use Rattle.league.specs.League.{LeagueData, teams}
+use Rattle.league.specs.Starts.{is_given}
 use Rattle.league.specs.declared.rule.Rule.{Rule}
 use Rattle.league.specs.declared.rule.Weight.{Weight}
 use Rattle.league.specs.declared.rule.Weight.TheVariants.{Hard, Soft}
@@ -15,6 +16,7 @@ use Rattle.robinx.specs.Deviations.{deviation}
 use Rattle.streams.specs.Pieces.{pieces_below}
 use Rattle.tours.specs.Tours.{travel_of}
 use Rattle.report_formats.specs.Grid.{grid_text, team_head}
+use Rattle.report_formats.specs.MovedGames.{moved_section, near_figure}
 use Rattle.report_formats.specs.Style.{style_text}
 
 -- the numbers that the style takes from the page
@@ -27,12 +29,14 @@ total_text cost =
     if cost.hard == 0 then concat (codes "<li>total <b>" ∷ decimal (total_of cost) ∷ codes "</b></li></ul>" ∷ [])
     else codes "<li class='bad'><b>infeasible</b></li></ul>"
 
-abbrev pub figures_text : LeagueData → Cost → List ℕ
-figures_text l cost =
+abbrev pub counts_text : LeagueData → Cost → List ℕ
+counts_text l cost =
     concat (codes "<h1>" ∷ decimal (teams l) ∷ codes " teams, " ∷ decimal (round_count (teams l)) ∷
     codes " rounds</h1><ul><li>travel <b>" ∷ decimal cost.travel ∷ codes "</b></li><li>hard <b>" ∷ decimal cost.hard ∷
     codes "</b></li><li>soft <b>" ∷ decimal cost.soft ∷ codes "</b></li>" ∷ [])
-    ++ total_text cost
+
+abbrev pub figures_text : LeagueData → Games → Cost → List ℕ
+figures_text l g cost = counts_text l cost ++ near_figure l g ++ total_text cost
 
 -- a team that travels so far, with a bar
 abbrev pub travel_row : LeagueData → ℕ → ℕ → List ℕ
@@ -85,14 +89,14 @@ abbrev pub rules_text : LeagueData → Games → List ℕ
 rules_text l g = if length l.rules == 0 then [] else rule_table l g
 
 abbrev pub costs_text : LeagueData → Games → Cost → List ℕ
-costs_text l g cost = style_text ++ measures_text g cost.travel ++ figures_text l cost
+costs_text l g cost = style_text (is_given l.origin.start) ++ measures_text g cost.travel ++ figures_text l g cost
 
 unfoldable pub top_text : LeagueData → Games → List ℕ
 top_text l g = costs_text l g (cost_of l g)
 
 unfoldable pub sections_text : LeagueData → Games → List ℕ
-sections_text l g = grid_text l g ++ travel_text l g ++ rules_text l g
+sections_text l g = grid_text l g ++ travel_text l g ++ rules_text l g ++ moved_section l g
 
--- the figures, the grid, the travel of each team, and the rules
+-- the figures, the grid, the travel of each team, the rules, and the moved games
 unfoldable pub page_text : LeagueData → Games → List ℕ
 page_text l g = top_text l g ++ sections_text l g ++ codes "</body></html>\n"

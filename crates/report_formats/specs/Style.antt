@@ -1,9 +1,13 @@
 -- The page up to the number of teams, with how it looks.
-use Rattle.std.specs.Prelude.{ℕ, List, [], ◌∷◌, codes}
+use Rattle.std.specs.Prelude.{ℕ, List, [], ◌∷◌, Bool, codes, if◌then◌else◌}
 use Rattle.std.specs.List.{concat}
 
-abbrev pub style_text : List ℕ
-style_text = concat (
+abbrev pub word_if : Bool → List ℕ → List ℕ
+word_if wanted word = if wanted then word else []
+
+-- with moved games, if boards begin at a given schedule
+abbrev pub style_text : Bool → List ℕ
+style_text given = concat (
     codes "<!DOCTYPE html>\n" ∷
     codes "<html lang='en'><head><meta charset='utf-8'><title>Schedule</title>\n" ∷
     codes "<meta name='viewport' content='width=device-width, initial-scale=1'><style>\n" ∷
@@ -33,5 +37,6 @@ style_text = concat (
     codes ".wide { overflow: visible } body { padding: 0; font-size: 10pt } tr { break-inside: avoid }\n" ∷
     codes ".grid { font-size: min(10pt, 270mm / (var(--rounds) * 2.4 + 12)) }\n" ∷
     codes ".grid th, .grid td { padding: .05em .1em; min-width: 2em } }\n" ∷
+    word_if given (codes ".m { font-weight: bold; text-decoration: underline }\n") ∷
     codes "</style></head><body style='--teams:" ∷
     [])

@@ -1,16 +1,18 @@
 //! The grid of teams and rounds.
 
-ghost use Rattle.std.specs.Prelude.{◌≡◌, ◌++◌, ◌-◌, ◌<◌, ◌≤◌, ◌&&◌, nat_le, OnOk};
-ghost use Rattle.fixtures.specs.Games.{cell, round_count};
+ghost use Rattle.std.specs.Prelude.{◌≡◌, ◌++◌, ◌-◌, ◌<◌, ◌&&◌, nat_le, OnOk};
+ghost use Rattle.fixtures.specs.Games.{cell, cell_round, round_count, IsPair};
 ghost use Rattle.league.specs.League.{teams};
+ghost use Rattle.league.specs.Starts.{is_given, start_round};
 ghost use Rattle.league.specs.Sets.{has};
 ghost use Rattle.league.specs.Limits.{max_rounds};
 ghost use Rattle.streams.specs.Pieces.{pieces_below};
-ghost use Rattle.report_formats.specs.Grid.{cell_of, cell_text, grid_lines, grid_row, grid_text, legend_text, meets_again, round_head};
-ghost use Rattle.report_formats.specs.Grid.{team_head, word_if};
+ghost use Rattle.report_formats.specs.Grid.{cell_of, cell_text, grid_lines, grid_row, grid_text, is_marked, legend_text, meets_again};
+ghost use Rattle.report_formats.specs.Grid.{round_head, team_head};
 
 use crate::pieces::{Piece, push_pieces};
-use fixtures::Schedule;
+use crate::style::word_if;
+use fixtures::{Cell, Schedule};
 use league::{League, SlotSet};
 use std::alloc::AllocError;
 use tours::windows_spent;
@@ -32,7 +34,7 @@ pub(crate) fn push_grid(
 
 /// Adds what the marks in the grid mean.
 fn push_legend(page: &mut Vec<u8>, league: &League) -> Result<(), AllocError>
-    ensures { OnOk result (page.new.items ≡ page.old.items ++ legend_text league.now.at_most) }
+    ensures { OnOk result (page.new.items ≡ page.old.items ++ legend_text league.now.at_most (is_given league.now.origin.start)) }
 {
     push_pieces(
         page,
@@ -42,6 +44,10 @@ fn push_legend(page: &mut Vec<u8>, league: &League) -> Result<(), AllocError>
             Piece::Number(league.at_most() as u64),
             Piece::Html(b" in a row at home or away. "),
             Piece::Html(b"<span class='r'>Dashed</span>: the opponent of the round before.</p>"),
+            Piece::Html(word_if(
+                league.given(),
+                b"<p><span class='m'>Underlined</span>: in another round than at the start.</p>",
+            )),
             Piece::Html(b"<div class='wide'><table class='grid'><tr><th>Team</th>"),
         ],
     )
@@ -93,7 +99,7 @@ fn push_row(
 {
     push_pieces(page, &[Piece::Html(b"</tr>")])?;
     push_team_head(page, league, team)?;
-    push_cells(page, schedule, league.at_most(), team)
+    push_cells(page, league, schedule, team)
 }
 
 /// Begins a row of the team, by its number and its name.
@@ -119,22 +125,49 @@ pub(crate) fn push_team_head(
 
 fn push_cells(
     page: &mut Vec<u8>,
+    league: &League,
     schedule: &Schedule,
-    at_most: u8,
     team: u8,
 ) -> Result<(), AllocError>
-    requires least { 1 ≤ at_most }
-    requires most { at_most ≤ max_rounds }
+    requires same { schedule.now.teams ≡ teams league.now }
     requires team { team < schedule.now.teams }
     ensures { OnOk result (page.new.items ≡ page.old.items
-        ++ pieces_below (cell_text schedule.now at_most team) (round_count schedule.now.teams)) }
+        ++ pieces_below (cell_text league.now schedule.now team) (round_count schedule.now.teams)) }
 {
+    let at_most = league.at_most();
     let windows = windows_spent(schedule, at_most + 1, team);
     for round in 0..schedule.rounds() {
-        let over = goes_over(windows, at_most, round);
-        push_cell(page, schedule, team, round, over)?;
+        let marks = Marks {
+            over: goes_over(windows, at_most, round),
+            again: meets_again(schedule, team, round),
+            moved: is_marked(league, schedule, team, round),
+        };
+        push_cell(page, schedule.game_at(team, round), marks)?;
     }
     Ok(())
+}
+
+/// Whether boards begin at a given schedule that has the team's game of the round in another one.
+fn is_marked(league: &League, schedule: &Schedule, team: u8, round: u8) -> bool
+    requires same { schedule.now.teams ≡ teams league.now }
+    requires team { team < schedule.now.teams }
+    requires round { round < round_count schedule.now.teams }
+    ensures { result ≡ is_marked league.now schedule.now team round }
+{
+    let game = schedule.game_at(team, round);
+    league.given() && round_at_start(league, team, game) != round
+}
+
+/// The round at the start of the game that the team plays with this opponent, at home or away.
+fn round_at_start(league: &League, team: u8, game: Cell) -> u8
+    requires { IsPair (teams league.now) team game.opponent }
+    ensures { result ≡ cell_round (start_round league.now) team game }
+{
+    if game.home {
+        league.start_round(team, game.opponent)
+    } else {
+        league.start_round(game.opponent, team)
+    }
 }
 
 /// Whether a window of one round more than allowed, of those that begin with these rounds, ends with the round.
@@ -145,38 +178,32 @@ fn goes_over(windows: SlotSet, at_most: u8, round: u8) -> bool
     at_most <= round && windows.has(round - at_most)
 }
 
-fn push_cell(
-    page: &mut Vec<u8>,
-    schedule: &Schedule,
-    team: u8,
-    round: u8,
+/// What is marked of a game: that it makes a run longer than allowed, has the opponent of the round before, or is moved.
+#[derive(Clone, Copy)]
+struct Marks {
     over: bool,
-) -> Result<(), AllocError>
-    requires team { team < schedule.now.teams }
-    requires round { round < round_count schedule.now.teams }
+    again: bool,
+    moved: bool,
+}
+
+fn push_cell(page: &mut Vec<u8>, game: Cell, marks: Marks) -> Result<(), AllocError>
     ensures { OnOk result (page.new.items ≡ page.old.items
-        ++ cell_of (cell schedule.now team round).opponent (cell schedule.now team round).home over (meets_again schedule.now team round)) }
+        ++ cell_of game.opponent game.home marks.over marks.again marks.moved) }
 {
-    let game = schedule.game_at(team, round);
     push_pieces(
         page,
         &[
             Piece::Html(b"<td class='"),
             Piece::Html(word_if(game.home, b"h")),
-            Piece::Html(word_if(over, b" o")),
-            Piece::Html(word_if(meets_again(schedule, team, round), b" r")),
+            Piece::Html(word_if(marks.over, b" o")),
+            Piece::Html(word_if(marks.again, b" r")),
+            Piece::Html(word_if(marks.moved, b" m")),
             Piece::Html(b"'>"),
             Piece::Html(word_if(!game.home, b"@")),
             Piece::Number(game.opponent as u64 + 1),
             Piece::Html(b"</td>"),
         ],
     )
-}
-
-fn word_if(wanted: bool, word: &[u8]) -> &[u8]
-    ensures { result.now ≡ word_if wanted word.now }
-{
-    if wanted { word } else { b"" }
 }
 
 /// Whether the team meets in the round whom it met in the round before.

@@ -6,6 +6,7 @@
 
 mod format;
 mod grid;
+mod moved_games;
 mod page;
 mod pieces;
 mod style;

@@ -1,15 +1,16 @@
-//! The page of a schedule: the league's figures, the grid of its games, the travel of each team, and the rules.
+//! The page of a schedule: the league's figures, the grid of its games, the travel of each team, the rules, and the moved games.
 
 ghost use Rattle.std.specs.Prelude.{◌≡◌, ◌++◌, ◌<◌, ◌^◌, IfOk, OnOk};
 ghost use Rattle.fixture_board.specs.Costs.{total_of};
 ghost use Rattle.league.specs.League.{teams};
 ghost use Rattle.league.specs.RuleLimits.{IsBodyFor};
 ghost use Rattle.streams.specs.Pieces.{pieces_below};
-ghost use Rattle.report_formats.specs.Page.{costs_text, figures_text, measures_text, page_text, row_head, rule_row, rule_rows};
+ghost use Rattle.report_formats.specs.Page.{costs_text, counts_text, figures_text, measures_text, page_text, row_head, rule_row, rule_rows};
 ghost use Rattle.report_formats.specs.Page.{rule_table, rules_text, sections_text, sorted_rules, top_text, total_text, tour_row};
 ghost use Rattle.report_formats.specs.Page.{travel_row, travel_text, weight_text};
 
 use crate::grid::{push_grid, push_team_head};
+use crate::moved_games::{push_moved, push_near};
 use crate::pieces::{Piece, push_pieces};
 use crate::style::push_style;
 use fixture_board::{Cost, cost_of};
@@ -53,15 +54,16 @@ fn push_costs(
     schedule: &Schedule,
     cost: Cost,
 ) -> Result<(), AllocError>
-    requires { total_of cost < 2 ^ 64 }
+    requires same { schedule.now.teams ≡ teams league.now }
+    requires small { total_of cost < 2 ^ 64 }
     ensures { OnOk result (page.new.items ≡ page.old.items ++ costs_text league.now schedule.now cost) }
 {
-    push_style(page)?;
+    push_style(page, league)?;
     push_measures(page, schedule, cost.travel)?;
-    push_figures(page, league, cost)
+    push_figures(page, league, schedule, cost)
 }
 
-/// Adds the games, the travel and the rules.
+/// Adds the games, the travel, the rules and the moved games.
 #[tactic(auto, unfolding(crate::specs::Page::sections_text))]
 fn push_sections(page: &mut Vec<u8>, league: &League, schedule: &Schedule) -> Result<(), AllocError>
     requires { schedule.now.teams ≡ teams league.now }
@@ -69,7 +71,8 @@ fn push_sections(page: &mut Vec<u8>, league: &League, schedule: &Schedule) -> Re
 {
     push_grid(page, league, schedule)?;
     push_travel(page, league, schedule)?;
-    push_rules(page, league, schedule)
+    push_rules(page, league, schedule)?;
+    push_moved(page, league, schedule)
 }
 
 /// Adds the numbers that the style takes from the page.
@@ -89,9 +92,23 @@ fn push_measures(page: &mut Vec<u8>, schedule: &Schedule, travel: u64) -> Result
     )
 }
 
-fn push_figures(page: &mut Vec<u8>, league: &League, cost: Cost) -> Result<(), AllocError>
-    requires { total_of cost < 2 ^ 64 }
-    ensures { OnOk result (page.new.items ≡ page.old.items ++ figures_text league.now cost) }
+fn push_figures(
+    page: &mut Vec<u8>,
+    league: &League,
+    schedule: &Schedule,
+    cost: Cost,
+) -> Result<(), AllocError>
+    requires same { schedule.now.teams ≡ teams league.now }
+    requires small { total_of cost < 2 ^ 64 }
+    ensures { OnOk result (page.new.items ≡ page.old.items ++ figures_text league.now schedule.now cost) }
+{
+    push_counts(page, league, cost)?;
+    push_near(page, league, schedule)?;
+    push_total(page, cost)
+}
+
+fn push_counts(page: &mut Vec<u8>, league: &League, cost: Cost) -> Result<(), AllocError>
+    ensures { OnOk result (page.new.items ≡ page.old.items ++ counts_text league.now cost) }
 {
     let teams = league.teams();
     push_pieces(
@@ -109,8 +126,7 @@ fn push_figures(page: &mut Vec<u8>, league: &League, cost: Cost) -> Result<(), A
             Piece::Number(cost.soft),
             Piece::Html(b"</b></li>"),
         ],
-    )?;
-    push_total(page, cost)
+    )
 }
 
 fn push_total(page: &mut Vec<u8>, cost: Cost) -> Result<(), AllocError>

@@ -1,14 +1,17 @@
 //! How a page looks: on a screen, a phone and paper, light and dark.
 
 ghost use Rattle.std.specs.Prelude.{◌≡◌, ◌++◌, OnOk};
-ghost use Rattle.report_formats.specs.Style.{style_text};
+ghost use Rattle.league.specs.Starts.{is_given};
+ghost use Rattle.report_formats.specs.Style.{style_text, word_if};
 
 use crate::pieces::{Piece, push_pieces};
+use league::League;
 use std::alloc::AllocError;
 
-/// Adds the page up to the number of teams, which its lines of style take from it.
-pub(crate) fn push_style(page: &mut Vec<u8>) -> Result<(), AllocError>
-    ensures { OnOk result (page.new.items ≡ page.old.items ++ style_text) }
+/// Adds the page up to the number of teams, which its lines of style take from it: with moved games, if boards begin at a given
+/// schedule.
+pub(crate) fn push_style(page: &mut Vec<u8>, league: &League) -> Result<(), AllocError>
+    ensures { OnOk result (page.new.items ≡ page.old.items ++ style_text (is_given league.now.origin.start)) }
 {
     push_pieces(
         page,
@@ -82,7 +85,17 @@ pub(crate) fn push_style(page: &mut Vec<u8>) -> Result<(), AllocError>
             ),
             Piece::Html(b".grid { font-size: min(10pt, 270mm / (var(--rounds) * 2.4 + 12)) }\n"),
             Piece::Html(b".grid th, .grid td { padding: .05em .1em; min-width: 2em } }\n"),
+            Piece::Html(word_if(
+                league.given(),
+                b".m { font-weight: bold; text-decoration: underline }\n",
+            )),
             Piece::Html(b"</style></head><body style='--teams:"),
         ],
     )
+}
+
+pub(crate) fn word_if(wanted: bool, word: &[u8]) -> &[u8]
+    ensures { result.now ≡ word_if wanted word.now }
+{
+    if wanted { word } else { b"" }
 }

@@ -1,4 +1,4 @@
--- What a double round robin costs, and which tour, run, repeat, pair and rule costs how much. Teams and rounds are numbered
+-- What a double round robin costs, and which tour, run, repeat, pair, rule and moved game costs how much. Teams and rounds are numbered
 -- from 0 in calls, and from 1 in texts.
 use Rattle.std.specs.Prelude.{ℕ, ◌+◌, ◌-◌, ◌==◌, Bool, ◌&&◌, nat_lt, List, [], ◌∷◌, ◌++◌, length, slice_get, Option, Some, None, codes}
 use Rattle.std.specs.Prelude.{decimal, if◌then◌else◌}
@@ -16,6 +16,7 @@ use Rattle.tours.specs.Phased.{is_unphased}
 use Rattle.robinx.specs.Deviations.{deviation}
 use Rattle.fixture_board.specs.declared.cost.Cost.{Cost}
 use Rattle.fixture_board.specs.Costs.{cost_of, total_of}
+use Rattle.reports.specs.Leaving.{leaving_text}
 use Rattle.reports.specs.Runs.{is_over, ended_streak}
 
 abbrev pub costs_line : Cost → List ℕ
@@ -105,4 +106,5 @@ total_line cost = if cost.hard == 0 then concat (codes "total " ∷ decimal (tot
 unfoldable pub cost_text : LeagueData → Games → List ℕ
 cost_text l g =
     costs_line (cost_of l g) ++ pieces_below (tour_line l g) g.teams ++ pieces_below (run_lines g l.at_most) g.teams ++
-    pieces_below (repeat_lines g) (round_count g.teams - 1) ++ halves_text l g ++ rule_lines l g ++ total_line (cost_of l g)
+    pieces_below (repeat_lines g) (round_count g.teams - 1) ++ halves_text l g ++ rule_lines l g ++ leaving_text l g ++
+    total_line (cost_of l g)

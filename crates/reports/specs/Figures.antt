@@ -22,7 +22,7 @@ repeats_told g = sum_below (round_count g.teams - 1) (λ round. count_where g.te
 abbrev pub halves_told : Games → ℕ
 halves_told g = sum_below g.teams (λ high. count_where high (λ low. is_unphased g low high))
 
--- the lines of a report, added up, and the price of leaving the start, which no line tells: no text of a league sets one
+-- the lines of a report, added up; where leaving the start has no price, no line tells it, and it costs nothing
 unfoldable pub told_cost : LeagueData → Games → Cost
 told_cost l g = record {
   travel = sum_below g.teams (travel_of l g);

@@ -10,6 +10,7 @@ ghost use Rattle.streams.specs.Writing.{Writes};
 ghost use Rattle.reports.specs.CostText.{class_name, cost_text, costs_line, half_line, half_lines, halves_text, meetings_line};
 ghost use Rattle.reports.specs.CostText.{repeat_line, repeat_lines, rule_line, rule_lines, total_line, tour_line};
 
+use crate::leaving::write_leaving;
 use crate::runs::write_runs;
 use fixture_board::{Cost, cost_of};
 use fixtures::Schedule;
@@ -35,6 +36,7 @@ pub(crate) fn write_costs<W: Sink>(
     write_repeats(out, schedule)?;
     write_halves(out, league, schedule)?;
     write_rules(out, league, schedule)?;
+    write_leaving(out, league, schedule)?;
     write_total(out, cost)
 }
 

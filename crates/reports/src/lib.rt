@@ -1,11 +1,12 @@
 //! Reports on schedules that a text gives: what is wrong with games that are no double round robin, and what a double round
-//! robin costs, with the part of each team, run, repeat, pair and rule.
+//! robin costs, with the part of each team, run, repeat, pair, rule and moved game.
 //!
 //! Teams and rounds are numbered from 0 in calls, and from 1 in texts. Nothing here takes memory.
 #![tactic(auto)]
 
 mod costs;
 mod laws;
+mod leaving;
 mod report;
 mod runs;
 

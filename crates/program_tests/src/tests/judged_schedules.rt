@@ -20,19 +20,18 @@ const REORDERED: &str =
     round 3: 2-4 3-1\nround 2: 1-2 4-3\nround 1:\nround 01: 1-4 2-3";
 
 /// Homes of teams 1 and 2 exchanged, and then rounds 1 and 3.
-const REPEATING: &str = "league 4 teams 6 rounds\n\
+pub(crate) const REPEATING: &str = "league 4 teams 6 rounds\n\
     team 1 AAHAHH T1\nteam 2 HHHAAA T2\nteam 3 HAAHHA T3\nteam 4 AHAHAH T4\n\
     round 1: 2-4 3-1\nround 2: 2-1 4-3\nround 3: 1-4 2-3\n\
     round 4: 3-2 4-1\nround 5: 1-2 3-4\nround 6: 1-3 4-2\n";
 
-const COST_OF_REPEATING: &str = "travel 28 hard 2 soft 0\n\
-    tour 1 travel 6\n\
+/// What that costs, but for its first and last line.
+pub(crate) const PARTS_OF_REPEATING: &str = "tour 1 travel 6\n\
     tour 2 travel 6\n\
     tour 3 travel 8\n\
     tour 4 travel 8\n\
     repeat 2-3 rounds 3 4\n\
-    repeat 1-4 rounds 3 4\n\
-    infeasible\n";
+    repeat 1-4 rounds 3 4\n";
 
 /// A phased league with one round in a row.
 const PHASED: &str = r#"{"format":2,"teams":["T1","T2","T3","T4"],"phased":true,"at_most":1,
@@ -64,7 +63,7 @@ const COST_OF_HALVED: &str = "travel 26 hard 14 soft 0\n\
     infeasible\n";
 
 /// A rule of each kind of weight, and the end of the league.
-const RULES: &str = r#","rules":[
+pub(crate) const RULES: &str = r#","rules":[
     {"class":"CA3","kind":"soft","weight":10,"teams1":[3],"mode":"H","intp":3,"max":2},
     {"class":"BR1","kind":"hard","teams":[1],"mode":"A","intp":0}]}"#;
 
@@ -129,7 +128,12 @@ const CASES: &[Case<'_>] = &[
         TEXT_REPORT,
         &[CIRCLE, JUDGED, REPEATING],
         Ok(Some(Verdict::Infeasible)),
-        Whole(&[REPEATING, COST_OF_REPEATING]),
+        Whole(&[
+            REPEATING,
+            "travel 28 hard 2 soft 0\n",
+            PARTS_OF_REPEATING,
+            "infeasible\n",
+        ]),
     ),
     (
         TEXT_REPORT,

@@ -7,6 +7,5 @@ returns c =
       c.word_if-2.ensures,
       c.word_if-3.ensures,
       c.word_if-4.ensures,
-      c.meets_again.ensures,
-      c.game_at-game.ensures.value,
+      c.word_if-5.ensures,
     ) at c.push_pieces.ensures

@@ -4,4 +4,4 @@ use Rattle.report_formats.specs.Grid.{cell_text}
 use Rattle.report_formats.proofs.grid.push_cells.Given as goal
 
 abbrev pub invariant-loop-round : goal.invariant-loop-round
-invariant-loop-round l = l.page.items ≡ l.initial.page.items ++ pieces_below (cell_text l.schedule l.at_most l.team) l.round
+invariant-loop-round l = l.page.items ≡ l.initial.page.items ++ pieces_below (cell_text l.league l.schedule l.team) l.round

@@ -1,4 +1,4 @@
 use Rattle.report_formats.proofs.grid.push_legend.Goals as goal
 
 pub returns : goal.returns
-returns c = rw c.at_most.ensures.value at c.push_pieces.ensures
+returns c = rw (c.at_most.ensures.value, c.word_if.ensures, c.given.ensures) at c.push_pieces.ensures

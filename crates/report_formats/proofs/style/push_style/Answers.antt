@@ -1,0 +1,4 @@
+use Rattle.report_formats.proofs.style.push_style.Goals as goal
+
+pub returns : goal.returns
+returns c = rw (c.word_if.ensures, c.given.ensures) at c.push_pieces.ensures
