@@ -120,11 +120,15 @@ improve_command = record {
   free = start_rules;
 }
 
+-- the numbers of a search beside its room
+abbrev pub plan_options : List OptionForm
+plan_options = workers_option ∷ seed_option ∷ steps_option ∷ slack_option ∷ []
+
 abbrev pub search_command : CommandForm
 search_command = record {
   name = codes "search";
   words = league_word ∷ [];
-  options = room_option ∷ workers_option ∷ seed_option ∷ steps_option ∷ slack_option ∷ [];
+  options = room_option ∷ plan_options;
   free = start_rules;
 }
 

@@ -43,15 +43,14 @@ fn rounds_of_text(text: &[u8]) -> Option<SlotSet>
 {
     let mut rounds = SlotSet::empty();
     let mut rest = text;
-    loop {
-        let comma = comma_index(rest);
+    let mut comma = comma_index(rest);
+    while comma < rest.len() {
         let (item, _rest) = rest.split_at(comma);
         rounds = with_item(rounds, item)?;
-        if comma == rest.len() {
-            return Some(rounds);
-        }
         rest = rest_after(rest, comma);
+        comma = comma_index(rest);
     }
+    with_item(rounds, rest)
 }
 
 /// The set with the rounds of an item.
@@ -82,6 +81,7 @@ fn with_rounds(rounds: SlotSet, first: Option<u64>, last: Option<u64>) -> Option
 }
 
 /// The set with so many rounds from the first on.
+#[tactic(auto, using(crate::proofs::Keeping::one_more))]
 fn with_numbers(rounds: SlotSet, first: u8, count: u8) -> SlotSet
     requires { first + count ≤ max_rounds }
     ensures { result ≡ with_numbers rounds first count }

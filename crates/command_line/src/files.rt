@@ -1,8 +1,8 @@
 //! The files that the words of a command name.
 
-ghost use Rattle.std.specs.Prelude.{◌≡◌, Bool, IfOk, option_map};
+ghost use Rattle.std.specs.Prelude.{◌≡◌, IfOk, None, option_map, string_bytes};
 ghost use Rattle.clap.specs.Words.{found_of, rows_of};
-ghost use Rattle.command_line.specs.Files.{files_in, files_of, has_second, is_input, reads_input, reads_twice};
+ghost use Rattle.command_line.specs.Files.{files_in, files_of, has_second, is_input, reads_input, reads_twice, written};
 
 use clap::ArgMatches;
 use std::alloc::{AllocError, Global};
@@ -34,7 +34,7 @@ pub(crate) fn files_in(alloc: Global, values: &ArgMatches) -> Result<FileWords, 
 }
 
 fn owned(alloc: Global, word: Option<&str>) -> Result<Option<String>, AllocError>
-    ensures { IfOk result (λ owned. option_map string_bytes owned ≡ option_map (λ s. s.now) word) }
+    ensures { IfOk result (λ owned. option_map string_bytes owned ≡ written word.entry) }
 {
     match word {
         Some(word) => Ok(Some(String::from_str(alloc, word)?)),
@@ -48,21 +48,28 @@ pub(crate) fn reads_twice(command: &str, values: &ArgMatches) -> bool
 {
     let league = values.get_str("league");
     let second = values.get_str("second");
-    is_input(league) && is_input(second)
-        || is_input(values.get_str("from")) && reads_input(command, league, second)
+    let from = values.get_str("from");
+    are_read_twice(command, league, second, from)
+}
+
+fn are_read_twice(
+    command: &str,
+    league: Option<&str>,
+    second: Option<&str>,
+    from: Option<&str>,
+) -> bool
+    ensures { result ≡ reads_twice command.now (record { league = written league.entry; second = written second.entry; from = written from.entry }) }
+{
+    is_input(league) && is_input(second) || is_input(from) && reads_input(command, league, second)
 }
 
 fn reads_input(command: &str, league: Option<&str>, second: Option<&str>) -> bool
-    ensures { result ≡ reads_input command.now (record {
-      league = option_map (λ s. s.now) league;
-      second = option_map (λ s. s.now) second;
-      from = None;
-    }) }
+    ensures { result ≡ reads_input command.now (record { league = written league.entry; second = written second.entry; from = None }) }
 {
-    league.is_none()
+    !league.is_some()
         || is_input(league)
         || is_input(second)
-        || has_second(command) && second.is_none()
+        || has_second(command) && !second.is_some()
 }
 
 fn has_second(command: &str) -> bool
@@ -72,7 +79,7 @@ fn has_second(command: &str) -> bool
 }
 
 fn is_input(word: Option<&str>) -> bool
-    ensures { result ≡ is_input (option_map (λ s. s.now) word) }
+    ensures { result ≡ is_input (written word.entry) }
 {
     match word {
         Some(word) => word == "-",

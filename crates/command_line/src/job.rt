@@ -1,23 +1,23 @@
 //! The program's command line.
 
-ghost use Rattle.std.specs.Prelude.{◌≡◌, ◌⊎◌, [], ◌∷◌, None, Some, IfErr, IfOk, IfSome, false, map, option_and_then, string_bytes};
-ghost use Rattle.clap.specs.Words.{app_of, found_of, rows_of, FailsBy, subcommand_rows_of};
+ghost use Rattle.std.specs.Prelude.{◌≡◌, [], ◌∷◌, Some, IfOk, IfSome, fold, map, option_and_then, string_bytes};
+ghost use Rattle.clap.specs.Words.{app_of, found_of, rows_of, FailsBy, subcommand_rows_of, with_rule};
 ghost use Rattle.command_line.specs.CommandLine.{app_of_command, improve_command, improve_in, job_of_command, job_of_words, play_command};
-ghost use Rattle.command_line.specs.Beginnings.{beginning_in, beginning_of};
-ghost use Rattle.command_line.specs.CommandLine.{asks_for_all, beginning_of_command, beginning_of_words, files_of_words};
+ghost use Rattle.command_line.specs.Beginnings.{beginning_of};
+ghost use Rattle.command_line.specs.CommandLine.{beginning_of_words, files_of_words};
+ghost use Rattle.command_line.specs.CommandLine.{plan_options, rule_of};
 ghost use Rattle.command_line.specs.CommandLine.{plan_in, program, program_of, search_command, start_command, words_fault};
-ghost use Rattle.command_line.specs.Files.{files_of, files_of_command};
+ghost use Rattle.command_line.specs.Files.{files_of};
 ghost use Rattle.command_line.specs.CommandLine.{HasValues, IsInRange, IsPlanInRange, NamesACommand};
 
-use crate::beginning::{BeginningWords, games_in, near_in, rounds_in};
-use crate::files::{FileWords, files_in, reads_twice};
 use crate::help::{
     IMPROVE_ABOUT, IMPROVE_EXAMPLE, PLAY_ABOUT, PLAY_LINES, PROGRAM_ABOUT, PROGRAM_EXAMPLE,
     SEARCH_ABOUT, SEARCH_EXAMPLE, START_ABOUT, START_EXAMPLE, VERSION,
 };
 use crate::number_args::{EFFORT, ROOM, SEED, SLACK, STEPS, WORKERS};
-use crate::refusals::{Refusal, refused};
+use crate::refusals::refused;
 use crate::report_args::{format_of, report_command};
+use crate::request::{Request, request_of};
 use crate::text_args::{FROM, LEAGUE, SCRIPT, with_start_options};
 use clap::{ArgMatches, Command, Error};
 use report_formats::Format;
@@ -51,14 +51,6 @@ pub enum Job {
     Report(Format),
 }
 
-/// What the program is asked to do, with which files, and where boards begin.
-#[derive(Debug, Drop)]
-pub struct Request {
-    pub job: Job,
-    pub files: FileWords,
-    pub beginning: BeginningWords,
-}
-
 /// Reads the program's words, the first of which is its name. The error is clap's, or in clap's form if clap takes a word that
 /// names nothing here: its text, which for `--help` and `--version` is no fault, and its exit status.
 pub fn args(alloc: Global, words: &[String]) -> Result<Request, Error>
@@ -81,61 +73,8 @@ pub fn args(alloc: Global, words: &[String]) -> Result<Request, Error>
     }
 }
 
-/// What a command and its values ask for, or why they ask for nothing.
-fn request_of(alloc: Global, matches: &ArgMatches) -> Result<Request, Refusal>
-    requires { NamesACommand (subcommand_rows_of matches.now) }
-    ensures job { IfOk result (λ request. option_and_then job_of_command (subcommand_rows_of matches.now) ≡ Some request.job) }
-    ensures files { IfOk result (λ request. option_and_then files_of_command (subcommand_rows_of matches.now) ≡ Some (files_of request.files)) }
-    ensures beginning { IfOk result (λ request. option_and_then beginning_of_command (subcommand_rows_of matches.now)
-        ≡ Some (beginning_of request.beginning)) }
-    ensures in_range { IfOk result (λ request. IsInRange request.job) }
-    ensures refused { IfErr result (λ refusal. (refusal ≡ Refusal.Memory) ⊎ (asks_for_all (subcommand_rows_of matches.now) ≡ false)) }
-{
-    let Some(job) = job_of(matches) else {
-        return Err(Refusal::Format);
-    };
-    let Some((name, values)) = matches.subcommand() else {
-        return Err(Refusal::Format);
-    };
-    if reads_twice(name, values) {
-        return Err(Refusal::Input);
-    }
-    let Ok(files) = files_in(alloc, values) else {
-        return Err(Refusal::Memory);
-    };
-    match beginning_in(alloc, values) {
-        Ok(beginning) => Ok(Request {
-            job,
-            files,
-            beginning,
-        }),
-        Err(refusal) => Err(refusal),
-    }
-}
-
-fn beginning_in(alloc: Global, values: &ArgMatches) -> Result<BeginningWords, Refusal>
-    ensures some { IfOk result (λ beginning. beginning_in (rows_of (found_of values.now)) ≡ Some (beginning_of beginning)) }
-    ensures refused { IfErr result (λ refusal. (refusal ≡ Refusal.Memory) ⊎ (beginning_in (rows_of (found_of values.now)) ≡ None)) }
-{
-    let Some(rounds) = rounds_in(values) else {
-        return Err(Refusal::Keep);
-    };
-    let Some(near) = near_in(values) else {
-        return Err(Refusal::Near);
-    };
-    match games_in(alloc, values) {
-        Ok(Some(games)) => Ok(BeginningWords {
-            rounds,
-            games,
-            near,
-        }),
-        Ok(None) => Err(Refusal::KeepGame),
-        Err(_) => Err(Refusal::Memory),
-    }
-}
-
 /// The job of a command and its values, unless they name a format that there isn't.
-fn job_of(matches: &ArgMatches) -> Option<Job>
+pub(crate) fn job_of(matches: &ArgMatches) -> Option<Job>
     requires { NamesACommand (subcommand_rows_of matches.now) }
     ensures job { result ≡ option_and_then job_of_command (subcommand_rows_of matches.now) }
     ensures in_range { IfSome result IsInRange }
@@ -286,10 +225,18 @@ fn search_command<'a>(alloc: Global) -> Result<Command<'a>, AllocError>
         .about(SEARCH_ABOUT)
         .after_help(SEARCH_EXAMPLE)
         .arg(LEAGUE.word(alloc))?
-        .arg(ROOM.arg(alloc))?
+        .arg(ROOM.arg(alloc))?;
+    let planned = with_plan_options(alloc, command)?;
+    with_start_options(alloc, planned)
+}
+
+/// The command with the numbers of a plan.
+fn with_plan_options<'a>(alloc: Global, command: Command<'a>) -> Result<Command<'a>, AllocError>
+    ensures { IfOk result (λ c. app_of c ≡ fold with_rule (app_of command.entry) (map rule_of plan_options)) }
+{
+    command
         .arg(WORKERS.arg(alloc))?
         .arg(SEED.arg(alloc))?
         .arg(STEPS.arg(alloc))?
-        .arg(SLACK.arg(alloc))?;
-    with_start_options(alloc, command)
+        .arg(SLACK.arg(alloc))
 }

@@ -8,10 +8,12 @@ mod job;
 mod number_args;
 mod refusals;
 mod report_args;
+mod request;
 mod text_args;
 
 pub use beginning::BeginningWords;
 pub use files::FileWords;
-pub use job::{Job, Request, args};
+pub use job::{Job, args};
 pub use report_formats::Format;
+pub use request::Request;
 pub use search::SearchPlan;

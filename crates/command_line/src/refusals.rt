@@ -1,6 +1,6 @@
 //! Words that clap takes and the program doesn't, and the errors that tell so in clap's form.
 
-ghost use Rattle.std.specs.Prelude.{◌≡◌, ◌≢◌, [], ◌∷◌, IfOk};
+ghost use Rattle.std.specs.Prelude.{◌≡◌, [], ◌∷◌, IfOk};
 ghost use Rattle.clap.specs.Words.{kind_of};
 ghost use Rattle.clap.specs.Kinds.{HasKind};
 
@@ -28,14 +28,15 @@ pub(crate) enum Refusal {
 
 /// The error of a refusal.
 pub(crate) fn refused(alloc: Global, matches: &ArgMatches, refusal: Refusal) -> Error
-    ensures { HasKind (ErrorKind.InvalidValue ∷ []) result }
+    ensures kind { HasKind (ErrorKind.InvalidValue ∷ []) result }
+    ensures memory { refusal ≡ Refusal.Memory → kind_of result ≡ ErrorKind.OutOfMemory }
 {
-    match matches.subcommand() {
-        Some((name, values)) => match told(alloc, name, values, refusal) {
+    match (refusal, matches.subcommand()) {
+        (Refusal::Memory, _) | (_, None) => Error::from(AllocError),
+        (_, Some((name, values))) => match told(alloc, name, values, refusal) {
             Ok(error) => error,
             Err(error) => Error::from(error),
         },
-        None => Error::from(AllocError),
     }
 }
 
