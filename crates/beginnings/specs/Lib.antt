@@ -1,1 +1,1 @@
-pub mod Begin
+pub mod Begun

@@ -3,18 +3,19 @@
 ghost use Rattle.std.specs.Prelude.{◌≡◌, ◌<◌, ◌≤◌, true};
 ghost use Rattle.league.specs.League.{teams};
 ghost use Rattle.league.specs.Limits.{max_teams};
-ghost use Rattle.beginnings.specs.Begin.{are_pairs, are_rounds, is_pair, keeping_at, keeping_games, keeping_in, keeping_rounds};
+ghost use Rattle.beginnings.specs.Begun.{are_pairs, lacks_round, is_pair, keeping_at, keeping_games, keeping_in, keeping_rounds};
 
-use league::limits::round_count;
+use league::limits::{MAX_ROUNDS, round_count};
 use league::{League, SlotSet};
 
-/// Whether the season of this number of teams has each of the rounds.
-pub(crate) fn are_rounds(teams: u8, rounds: SlotSet) -> bool
+/// Whether the season of this number of teams lacks one of the rounds.
+pub(crate) fn lacks_round(teams: u8, rounds: SlotSet) -> bool
     requires least { 4 ≤ teams }
     requires most { teams ≤ max_teams }
-    ensures { result ≡ are_rounds teams rounds }
+    ensures { result ≡ lacks_round teams rounds }
 {
-    rounds.difference(SlotSet::below(round_count(teams))) == SlotSet::empty()
+    let none = SlotSet::below(MAX_ROUNDS).difference(SlotSet::below(round_count(teams)));
+    rounds.intersects(none)
 }
 
 /// Whether each game is between two teams.
@@ -60,6 +61,7 @@ fn keep_in_rounds(league: &mut League, rounds: SlotSet, home: u8, away: u8)
     requires away { away < teams league.old }
     ensures { league.new ≡ keeping_in rounds home away league.old }
 {
+    let _teams = league.teams();
     if home != away && rounds.has(league.start_round(home, away)) {
         league.keep(home, away);
     }
@@ -70,7 +72,7 @@ pub(crate) fn keep_games(league: &mut League, games: &[(u8, u8)])
     requires { are_pairs (teams league.old) games.now ≡ true }
     ensures { league.new ≡ keeping_games games.now league.old }
 {
-    for (home, away) in games {
-        league.keep(*home, *away);
+    for game in games {
+        league.keep(game.0, game.1);
     }
 }

@@ -4,11 +4,11 @@
 //! Teams and rounds are numbered from 0 in calls, and from 1 in texts.
 #![tactic(auto)]
 
-mod begin;
+mod begun;
 mod fault;
 mod kept;
 mod start_faults;
 
-pub use begin::{Beginning, begin};
+pub use begun::{Beginning, begin};
 pub use fault::BeginFault;
 pub use start_faults::{TellFault, write_start_faults};

@@ -1,4 +1,3 @@
 pub mod Endings
 pub mod Reporting
 pub mod Reports
-pub mod Improved

@@ -5,6 +5,8 @@ use Rattle.streams.specs.declared.reading.ReadFault.TheVariants as read
 use Rattle.streams.specs.declared.writing.WriteFault.{WriteFault}
 use Rattle.league.specs.declared.fault.LeagueFault.{LeagueFault}
 use Rattle.league.specs.declared.fault.LeagueFault.TheVariants as league
+use Rattle.beginnings.specs.declared.fault.BeginFault.{BeginFault}
+use Rattle.beginnings.specs.declared.fault.BeginFault.TheVariants as begin
 use Rattle.fixture_board.specs.declared.board.BoardFault.{BoardFault}
 use Rattle.fixture_board.specs.declared.board.BoardFault.TheVariants as board
 use Rattle.search.specs.declared.runs.RunFault.{RunFault}
@@ -12,7 +14,7 @@ use Rattle.search.specs.declared.runs.RunFault.TheVariants as run
 use Rattle.improvement.specs.declared.plan.ImproveFault.{ImproveFault}
 use Rattle.improvement.specs.declared.plan.ImproveFault.TheVariants as improve
 use Rattle.commands.specs.declared.fault.ProgramFault.{ProgramFault}
-use Rattle.commands.specs.declared.fault.ProgramFault.TheVariants.{Read, TooLong, League, Room, Workers, Spawn, Receipts, Write, Memory}
+use Rattle.commands.specs.declared.fault.ProgramFault.TheVariants.{Read, TooLong, League, Begin, Room, Workers, Spawn, Receipts, Write, Memory}
 
 abbrev pub of_reading : ReadFault → ProgramFault
 of_reading read.Read = Read
@@ -23,6 +25,10 @@ of_reading read.Memory = Memory
 abbrev pub of_league : LeagueFault → ProgramFault
 of_league league.Memory = Memory
 of_league fault = League fault
+
+abbrev pub of_beginning : BeginFault → ProgramFault
+of_beginning begin.Memory = Memory
+of_beginning fault = Begin fault
 
 abbrev pub of_board : BoardFault → ProgramFault
 of_board board.RoomRange = Room

@@ -1,6 +1,6 @@
--- What `ttp search` answers to an input.
-use Rattle.std.specs.Prelude.{◌≡◌, ◌≤◌, ◌<◌, ℕ, ◌+◌, List, [], ◌∷◌, ◌++◌, Result, Ok, Err}
-use Rattle.league.specs.League.{LeagueData, league_of}
+-- What `ttp search` answers.
+use Rattle.std.specs.Prelude.{◌≡◌, ◌≤◌, ◌<◌, ℕ, ◌+◌, List, [], ◌∷◌, ◌++◌, Option, None, Result, Ok, Err}
+use Rattle.league.specs.League.{LeagueData}
 use Rattle.fixture_board.specs.History.{max_room}
 use Rattle.fixture_board.specs.Record.{book}
 use Rattle.search.specs.declared.runs.Outcome.{Outcome}
@@ -8,8 +8,10 @@ use Rattle.search.specs.declared.runs.SearchPlan.{SearchPlan}
 use Rattle.search.specs.declared.workers.Report.{Report}
 use Rattle.search.specs.Outcomes.{IsOutcome, IsWorkers}
 use Rattle.texts.specs.SearchText.{PlaysBack, found_text, plan_line, worker_line}
+use Rattle.beginnings.specs.declared.begun.Beginning.{Beginning}
 use Rattle.commands.specs.declared.fault.ProgramFault.{ProgramFault}
-use Rattle.commands.specs.declared.fault.ProgramFault.TheVariants.{League, Room, Workers, Spawn, Receipts}
+use Rattle.commands.specs.declared.fault.ProgramFault.TheVariants.{Room, Workers, Spawn, Receipts}
+use Rattle.commands.specs.Begun.{Begins, Refuses}
 
 -- a line for each report, the first with this number
 abbrev pub worker_lines : ℕ → List Report → List ℕ
@@ -30,19 +32,21 @@ pub record IsSearchText (league : LeagueData) (room : ℕ) (plan : SearchPlan) (
   pub text_is : text ≡ search_text outcome
   pub again : PlaysBack league room outcome.board.history
 
--- the league that the input stands for, if the room is that of a board and these workers can be had, or not
-abbrev pub Runs : ℕ → List ℕ → Type 0 → Type 0
-Runs room input workers =
-    (league : LeagueData) × (league_of input ≡ Ok league) × (room ≤ max_room) × workers
+-- the league that the bytes stand for, where it is to begin, if the room is that of a board and these workers can be had, or not
+abbrev pub Runs : ℕ → List ℕ → Option Beginning → Type 0 → Type 0
+Runs room bytes beginning workers = (league : LeagueData) × Begins bytes beginning league × (room ≤ max_room) × workers
 
--- the search text of a run on the input's league, or the first fault of the league's text, or a room over that of any
--- board, or a wrong number of workers, or a run that came to nothing
+-- the search text of a run on the league that the bytes stand for, where it is to begin, or why there is no such league, or a room over
+-- that of any board, or a wrong number of workers, or a run that came to nothing
+abbrev pub AnswersFindOn : ℕ → SearchPlan → List ℕ → Option Beginning → Result (List ℕ) ProgramFault → Type 0
+AnswersFindOn room plan bytes beginning (Ok text) =
+    (league : LeagueData) × Begins bytes beginning league × IsSearchText league room plan text
+AnswersFindOn room plan bytes beginning (Err Room) = (league : LeagueData) × Begins bytes beginning league × (max_room < room)
+AnswersFindOn room plan bytes beginning (Err Workers) = Runs room bytes beginning (¬ IsWorkers plan)
+AnswersFindOn room plan bytes beginning (Err Spawn) = Runs room bytes beginning (IsWorkers plan)
+AnswersFindOn room plan bytes beginning (Err Receipts) = Runs room bytes beginning (IsWorkers plan)
+AnswersFindOn room plan bytes beginning (Err fault) = Refuses bytes beginning fault
+
+-- the same of an input, whose league begins at its own start
 abbrev pub AnswersFind : ℕ → SearchPlan → List ℕ → Result (List ℕ) ProgramFault → Type 0
-AnswersFind room plan input (Ok text) =
-    (league : LeagueData) × (league_of input ≡ Ok league) × IsSearchText league room plan text
-AnswersFind room plan input (Err (League fault)) = league_of input ≡ Err fault
-AnswersFind room plan input (Err Room) = (league : LeagueData) × (league_of input ≡ Ok league) × (max_room < room)
-AnswersFind room plan input (Err Workers) = Runs room input (¬ IsWorkers plan)
-AnswersFind room plan input (Err Spawn) = Runs room input (IsWorkers plan)
-AnswersFind room plan input (Err Receipts) = Runs room input (IsWorkers plan)
-AnswersFind room plan input (Err _) = ⊥
+AnswersFind room plan input = AnswersFindOn room plan input None

@@ -1,4 +1,5 @@
 pub mod Fault
+pub mod Begun
 pub mod Outcome
 pub mod Start
 pub mod Play

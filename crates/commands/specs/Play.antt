@@ -1,11 +1,13 @@
--- What `ttp play` answers to an input.
-use Rattle.std.specs.Prelude.{◌≡◌, ◌≤◌, ◌<◌, ℕ, List, Result, Ok, Err}
-use Rattle.league.specs.League.{LeagueData, league_of}
+-- What `ttp play` answers.
+use Rattle.std.specs.Prelude.{◌≡◌, ◌≤◌, ◌<◌, ℕ, List, Option, None, Result, Ok, Err}
+use Rattle.league.specs.League.{LeagueData}
 use Rattle.fixture_board.specs.History.{max_room}
 use Rattle.texts.specs.Input.{league_text, script_lines}
 use Rattle.texts.specs.PlayText.{IsPlayedAgain, play_text}
+use Rattle.beginnings.specs.declared.begun.Beginning.{Beginning}
 use Rattle.commands.specs.declared.fault.ProgramFault.{ProgramFault}
-use Rattle.commands.specs.declared.fault.ProgramFault.TheVariants.{League, Room}
+use Rattle.commands.specs.declared.fault.ProgramFault.TheVariants.{Room}
+use Rattle.commands.specs.Begun.{Begins, Refuses}
 
 -- the play text of a league and its script; the history in it, given as a script, leads to the same history
 pub record IsPlayText (league : LeagueData) (room : ℕ) (script : List (List ℕ)) (text : List ℕ) : Type 0 where
@@ -13,12 +15,14 @@ pub record IsPlayText (league : LeagueData) (room : ℕ) (script : List (List �
   pub text_is : text ≡ play_text league room script
   pub again : IsPlayedAgain league room script
 
--- the play text of the input's league and script, or the first fault of the league's text, or a room over that of any
--- board
+-- the play text of these script lines and the league that the bytes stand for, where it is to begin, or why there is no such league,
+-- or a room over that of any board
+abbrev pub AnswersPlayOn : ℕ → List ℕ → List (List ℕ) → Option Beginning → Result (List ℕ) ProgramFault → Type 0
+AnswersPlayOn room bytes script beginning (Ok text) =
+    (league : LeagueData) × Begins bytes beginning league × IsPlayText league room script text
+AnswersPlayOn room bytes script beginning (Err Room) = (league : LeagueData) × Begins bytes beginning league × (max_room < room)
+AnswersPlayOn room bytes script beginning (Err fault) = Refuses bytes beginning fault
+
+-- the same of an input's league, which begins at its own start, and script
 abbrev pub AnswersPlay : ℕ → List ℕ → Result (List ℕ) ProgramFault → Type 0
-AnswersPlay room input (Ok text) =
-    (league : LeagueData) × (league_of (league_text input) ≡ Ok league) × IsPlayText league room (script_lines input) text
-AnswersPlay room input (Err (League fault)) = league_of (league_text input) ≡ Err fault
-AnswersPlay room input (Err Room) =
-    (league : LeagueData) × (league_of (league_text input) ≡ Ok league) × (max_room < room)
-AnswersPlay room input (Err _) = ⊥
+AnswersPlay room input = AnswersPlayOn room (league_text input) (script_lines input) None

@@ -1,4 +1,4 @@
--- What `ttp report` answers to an input.
+-- What `ttp report` answers.
 use Rattle.std.specs.Prelude.{◌≡◌, ℕ, Bool, true, false, List, Option, Some, None, Result, Ok, Err, codes}
 use Rattle.fixtures.specs.Games.{Games}
 use Rattle.advice.specs.Hints.{IsHint}
@@ -11,10 +11,12 @@ use Rattle.schedule_texts.specs.Given.{IsVerdict}
 use Rattle.reports.specs.Report.{is_feasible}
 use Rattle.report_formats.specs.declared.format.Format.{Format}
 use Rattle.report_formats.specs.Format.{report_in}
+use Rattle.beginnings.specs.declared.begun.Beginning.{Beginning}
 use Rattle.commands.specs.declared.fault.ProgramFault.{ProgramFault}
-use Rattle.commands.specs.declared.fault.ProgramFault.TheVariants.{League, LeagueAt, NoSheet, Memory}
+use Rattle.commands.specs.declared.fault.ProgramFault.TheVariants.{League, LeagueAt, Begin, NoSheet, Memory}
 use Rattle.commands.specs.declared.report_command.Verdict.{Verdict}
 use Rattle.commands.specs.declared.report_command.Verdict.TheVariants.{Feasible, Infeasible}
+use Rattle.commands.specs.Begun.{Begins, BeginsNot}
 
 abbrev pub verdict_of : Bool → Verdict
 verdict_of true = Feasible
@@ -46,15 +48,20 @@ IsRefusal bytes (LeagueAt fault hint) = IsRefused bytes fault (Some hint)
 IsRefusal bytes Memory = Unit {0}
 IsRefusal bytes fault = ⊥
 
--- the report of the league before the first line that is `sheet` and of the lines after it, or the first fault of the league's
--- text with its hint, or that there is no such line
+-- the report of these lines and the league that the bytes stand for, where it is to begin; or the first fault of the league's text with
+-- its hint, or that it doesn't begin there, or that there are no lines
+abbrev pub AnswersReportOn : Format → Option Verdict → List ℕ → Option (List (List ℕ)) → Option Beginning → Result (List ℕ) ProgramFault → Type 0
+AnswersReportOn format told bytes given beginning (Ok text) =
+    (league : LeagueData) × Begins bytes beginning league × (lines : List (List ℕ)) × (given ≡ Some lines)
+    × IsReport format league bytes lines told text
+AnswersReportOn format told bytes given beginning (Err (League fault)) = IsRefused bytes fault None
+AnswersReportOn format told bytes given beginning (Err (LeagueAt fault hint)) = IsRefused bytes fault (Some hint)
+AnswersReportOn format told bytes given beginning (Err (Begin fault)) = BeginsNot bytes beginning fault
+AnswersReportOn format told bytes given beginning (Err NoSheet) =
+    (league : LeagueData) × Begins bytes beginning league × (given ≡ None)
+AnswersReportOn format told bytes given beginning (Err _) = ⊥
+
+-- the same of the league before an input's first line that is `sheet`, which begins at its own start, and of the lines after it
 abbrev pub AnswersReport : Format → Option Verdict → List ℕ → Result (List ℕ) ProgramFault → Type 0
-AnswersReport format told input (Ok text) =
-    (league : LeagueData) × (league_of (text_before (codes "sheet") input) ≡ Ok league)
-    × (lines : List (List ℕ)) × (lines_after (codes "sheet") input ≡ Some lines)
-    × IsReport format league (text_before (codes "sheet") input) lines told text
-AnswersReport format told input (Err (League fault)) = IsRefused (text_before (codes "sheet") input) fault None
-AnswersReport format told input (Err (LeagueAt fault hint)) = IsRefused (text_before (codes "sheet") input) fault (Some hint)
-AnswersReport format told input (Err NoSheet) =
-    (league : LeagueData) × (league_of (text_before (codes "sheet") input) ≡ Ok league) × (lines_after (codes "sheet") input ≡ None)
-AnswersReport format told input (Err _) = ⊥
+AnswersReport format told input =
+    AnswersReportOn format told (text_before (codes "sheet") input) (lines_after (codes "sheet") input) None

@@ -1,17 +1,21 @@
--- What `ttp start` answers to an input.
-use Rattle.std.specs.Prelude.{◌≡◌, ℕ, List, Result, Ok, Err}
+-- What `ttp start` answers.
+use Rattle.std.specs.Prelude.{◌≡◌, ℕ, List, Option, None, Result, Ok, Err}
 use Rattle.league.specs.Starts.{start_of}
-use Rattle.league.specs.League.{LeagueData, league_of}
+use Rattle.league.specs.League.{LeagueData}
 use Rattle.texts.specs.Sheet.{sheet_of}
+use Rattle.beginnings.specs.declared.begun.Beginning.{Beginning}
 use Rattle.commands.specs.declared.fault.ProgramFault.{ProgramFault}
-use Rattle.commands.specs.declared.fault.ProgramFault.TheVariants.{League}
+use Rattle.commands.specs.Begun.{Begins, Refuses}
 
 -- the sheet of a league's start
 abbrev pub start_sheet : LeagueData → List ℕ
 start_sheet league = sheet_of (start_of league) league
 
--- the start sheet of the league that the input stands for, or the first fault of its text
+-- the start sheet of the league that the bytes stand for, where it is to begin, or why there is none
+abbrev pub AnswersStartOn : List ℕ → Option Beginning → Result (List ℕ) ProgramFault → Type 0
+AnswersStartOn bytes beginning (Ok text) = (league : LeagueData) × Begins bytes beginning league × (text ≡ start_sheet league)
+AnswersStartOn bytes beginning (Err fault) = Refuses bytes beginning fault
+
+-- the same of an input, whose league begins at its own start
 abbrev pub AnswersStart : List ℕ → Result (List ℕ) ProgramFault → Type 0
-AnswersStart input (Ok text) = (league : LeagueData) × (league_of input ≡ Ok league) × (text ≡ start_sheet league)
-AnswersStart input (Err (League fault)) = league_of input ≡ Err fault
-AnswersStart input (Err _) = ⊥
+AnswersStart input = AnswersStartOn input None

@@ -2,9 +2,10 @@
 
 ghost use Rattle.std.specs.Prelude.{◌≡◌};
 ghost use Rattle.commands.specs.declared.fault.ProgramFault.TheVariants.{Write, Memory};
-ghost use Rattle.commands.specs.Fault.{of_board, of_improve, of_league, of_reading, of_run, of_writing};
+ghost use Rattle.commands.specs.Fault.{of_beginning, of_board, of_improve, of_league, of_reading, of_run, of_writing};
 
 use advice::Hint;
+use beginnings::BeginFault;
 use fixture_board::BoardFault;
 use improvement::ImproveFault;
 use league::LeagueFault;
@@ -28,6 +29,9 @@ pub enum ProgramFault {
     /// The input is no league, and the hint tells where. It is a second line.
     #[error("{0}\nttp: {1}")]
     LeagueAt(LeagueFault, Hint),
+    /// The league doesn't begin at what was given.
+    #[error("{0}")]
+    Begin(BeginFault),
     /// The input of a report has no line `sheet`.
     #[error("input has no sheet")]
     NoSheet,
@@ -70,6 +74,17 @@ impl From<LeagueFault> for ProgramFault {
         match fault {
             LeagueFault::Memory => ProgramFault::Memory,
             fault => ProgramFault::League(fault),
+        }
+    }
+}
+
+impl From<BeginFault> for ProgramFault {
+    ghost from_gives = { λ fault gives. gives ≡ of_beginning fault };
+
+    fn from(fault: BeginFault) -> ProgramFault {
+        match fault {
+            BeginFault::Memory => ProgramFault::Memory,
+            fault => ProgramFault::Begin(fault),
         }
     }
 }

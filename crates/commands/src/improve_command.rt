@@ -1,12 +1,14 @@
 //! The command `improve`.
 
-ghost use Rattle.std.specs.Prelude.{◌≤◌};
+ghost use Rattle.std.specs.Prelude.{◌≤◌, IfSome, option_map};
+ghost use Rattle.league.specs.Limits.{max_weight};
 ghost use Rattle.policy.specs.Limits.{most_effort};
-ghost use Rattle.commands.specs.Improve.{EndsImprove};
+ghost use Rattle.commands.specs.Improve.{EndsImprove, EndsImproveOn};
 
+use crate::begun::begun_league;
 use crate::fault::ProgramFault;
+use beginnings::Beginning;
 use improvement::ImprovePlan;
-use league::read_league;
 use search::{Gate, Workplace};
 use std::sync::Wait;
 use std::thread::Threads;
@@ -43,9 +45,24 @@ pub fn improve_from<T: Threads + Wait + Sync, G: Gate + Sync, R: Source, W: Sink
     requires most { plan.effort ≤ most_effort }
     ensures { EndsImprove R.left R.tally W.held W.tally plan source.old source.new sink.old sink.new result }
 {
-    let alloc = workplace.alloc;
-    let input = read_all(alloc, source)?;
-    let league = read_league(alloc, &input)?;
+    let input = read_all(workplace.alloc, source)?;
+    improve_on(workplace, &input, None, sink, plan)
+}
+
+/// As [`improve`], of a league's text that was read, where the league is to begin: at its own start, if nothing else is said.
+pub fn improve_on<T: Threads + Wait + Sync, G: Gate + Sync, W: Sink>(
+    workplace: Workplace<'_, T, G>,
+    league: &[u8],
+    beginning: Option<&Beginning<'_>>,
+    sink: &mut W,
+    plan: ImprovePlan,
+) -> Result<(), ProgramFault>
+    requires least { 1 ≤ plan.effort }
+    requires most { plan.effort ≤ most_effort }
+    requires near { IfSome beginning (λ b. b.now.near ≤ max_weight) }
+    ensures { EndsImproveOn W.held W.tally plan league.now (option_map (λ b. b.now) beginning.entry) sink.old sink.new result }
+{
+    let league = begun_league(workplace.alloc, league, beginning)?;
     improvement::improve(workplace, league, plan, sink)?;
     Ok(())
 }

@@ -1,11 +1,15 @@
 //! The command `play`.
 
-ghost use Rattle.commands.specs.Outcome.{Ends};
-ghost use Rattle.commands.specs.Play.{AnswersPlay};
+ghost use Rattle.std.specs.Prelude.{◌≤◌, IfSome, option_map};
+ghost use Rattle.league.specs.Limits.{max_weight};
+ghost use Rattle.std.specs.Str.Lines.{lines};
+ghost use Rattle.commands.specs.Outcome.{Ends, EndsOn};
+ghost use Rattle.commands.specs.Play.{AnswersPlay, AnswersPlayOn};
 
+use crate::begun::begun_league;
 use crate::fault::{ProgramFault, after_writing};
+use beginnings::Beginning;
 use fixture_board::Board;
-use league::read_league;
 use std::alloc::Global;
 use streams::{Sink, Source, read_all};
 use texts::{play_script, split_input};
@@ -38,8 +42,23 @@ pub fn play_from<R: Source, W: Sink>(
         source.old source.new sink.old sink.new result }
 {
     let input = read_all(alloc, source)?;
-    let (text, script) = split_input(&input);
-    let league = read_league(alloc, text)?;
+    let (league, script) = split_input(&input);
+    play_on(alloc, league, script, None, sink, room)
+}
+
+/// As [`play`], of a league's text and a script that were read, where the league is to begin: at its own start, if nothing else is said.
+pub fn play_on<W: Sink>(
+    alloc: Global,
+    league: &[u8],
+    script: &[u8],
+    beginning: Option<&Beginning<'_>>,
+    sink: &mut W,
+    room: u32,
+) -> Result<(), ProgramFault>
+    requires near { IfSome beginning (λ b. b.now.near ≤ max_weight) }
+    ensures { EndsOn W.held W.tally (AnswersPlayOn room league.now (lines script.now) (option_map (λ b. b.now) beginning.entry)) sink.old sink.new result }
+{
+    let league = begun_league(alloc, league, beginning)?;
     let mut board = match Board::new(alloc, league, room) {
         Ok(board) => board,
         Err(refused) => return Err(ProgramFault::from(refused.why)),

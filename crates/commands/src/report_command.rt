@@ -1,12 +1,16 @@
 //! The command `report`.
 
-ghost use Rattle.std.specs.Prelude.{◌≡◌, ◌≢◌, Err};
+ghost use Rattle.std.specs.Prelude.{◌≡◌, ◌≢◌, ◌≤◌, Err, IfSome, option_map};
+ghost use Rattle.league.specs.Limits.{max_weight};
+ghost use Rattle.std.specs.Str.Lines.{lines};
 ghost use Rattle.league.specs.League.{league_of};
-ghost use Rattle.commands.specs.Outcome.{value_of, without_value, Ends};
-ghost use Rattle.commands.specs.Report.{verdict_of, AnswersReport, IsRefusal};
+ghost use Rattle.commands.specs.Outcome.{value_of, without_value, Ends, EndsOn};
+ghost use Rattle.commands.specs.Report.{verdict_of, AnswersReport, AnswersReportOn, IsRefusal};
 
+use crate::begun::begun_at;
 use crate::fault::{ProgramFault, after_writing};
 use advice::{hint_on, remarks_on};
+use beginnings::Beginning;
 use league::{LeagueFault, read_league};
 use report_formats::{Format, prepare, write_prepared};
 use reports::is_feasible;
@@ -65,9 +69,27 @@ pub fn report_from<R: Source, W: Sink>(
         source.old source.new sink.old sink.new (without_value result) }
 {
     let input = read_all(alloc, source)?;
-    let (text, sheet) = split_at_line(&input, b"sheet");
+    let (league, sheet) = split_at_line(&input, b"sheet");
+    report_on(alloc, league, sheet, None, sink, format)
+}
+
+/// As [`report`], of a league's text and the text of a schedule that were read, where the league is to begin: at its own start, if nothing else is said.
+pub fn report_on<W: Sink>(
+    alloc: Global,
+    league: &[u8],
+    sheet: Option<&[u8]>,
+    beginning: Option<&Beginning<'_>>,
+    sink: &mut W,
+    format: Format,
+) -> Result<Verdict, ProgramFault>
+    requires near { IfSome beginning (λ b. b.now.near ≤ max_weight) }
+    ensures { EndsOn W.held W.tally
+        (AnswersReportOn format (value_of result) league.now (option_map (λ text. lines text.now) sheet.entry) (option_map (λ b. b.now) beginning.entry))
+        sink.old sink.new (without_value result) }
+{
+    let text = league;
     let league = match read_league(alloc, text) {
-        Ok(league) => league,
+        Ok(league) => begun_at(alloc, league, beginning)?,
         Err(fault) => return Err(refused(alloc, text, fault)),
     };
     let Some(sheet) = sheet else {

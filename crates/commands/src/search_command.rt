@@ -1,12 +1,15 @@
 //! The command `search`.
 
-ghost use Rattle.commands.specs.Outcome.{Ends};
-ghost use Rattle.commands.specs.Find.{AnswersFind};
+ghost use Rattle.std.specs.Prelude.{◌≤◌, IfSome, option_map};
+ghost use Rattle.league.specs.Limits.{max_weight};
+ghost use Rattle.commands.specs.Outcome.{Ends, EndsOn};
+ghost use Rattle.commands.specs.Find.{AnswersFind, AnswersFindOn};
 
+use crate::begun::begun_league;
 use crate::fault::{ProgramFault, after_writing};
 use crate::search_text::search_report;
+use beginnings::Beginning;
 use fixture_board::Board;
-use league::read_league;
 use search::{Gate, SearchPlan, Workplace, run_with};
 use std::sync::Wait;
 use std::thread::Threads;
@@ -42,9 +45,24 @@ pub fn find_from<T: Threads + Wait + Sync, G: Gate + Sync, R: Source, W: Sink>(
     ensures { Ends R.left R.tally W.held W.tally (AnswersFind room plan)
         source.old source.new sink.old sink.new result }
 {
+    let input = read_all(workplace.alloc, source)?;
+    find_on(workplace, &input, None, sink, room, plan)
+}
+
+/// As [`find`], of a league's text that was read, where the league is to begin: at its own start, if nothing else is said.
+pub fn find_on<T: Threads + Wait + Sync, G: Gate + Sync, W: Sink>(
+    workplace: Workplace<'_, T, G>,
+    league: &[u8],
+    beginning: Option<&Beginning<'_>>,
+    sink: &mut W,
+    room: u32,
+    plan: SearchPlan,
+) -> Result<(), ProgramFault>
+    requires near { IfSome beginning (λ b. b.now.near ≤ max_weight) }
+    ensures { EndsOn W.held W.tally (AnswersFindOn room plan league.now (option_map (λ b. b.now) beginning.entry)) sink.old sink.new result }
+{
     let alloc = workplace.alloc;
-    let input = read_all(alloc, source)?;
-    let league = read_league(alloc, &input)?;
+    let league = begun_league(alloc, league, beginning)?;
     let board = match Board::new(alloc, league.duplicate(alloc)?, room) {
         Ok(board) => board,
         Err(refused) => return Err(ProgramFault::from(refused.why)),

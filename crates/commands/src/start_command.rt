@@ -1,10 +1,13 @@
 //! The command `start`.
 
-ghost use Rattle.commands.specs.Outcome.{Ends};
-ghost use Rattle.commands.specs.Start.{AnswersStart};
+ghost use Rattle.std.specs.Prelude.{◌≤◌, IfSome, option_map};
+ghost use Rattle.league.specs.Limits.{max_weight};
+ghost use Rattle.commands.specs.Outcome.{Ends, EndsOn};
+ghost use Rattle.commands.specs.Start.{AnswersStart, AnswersStartOn};
 
-use crate::fault::ProgramFault;
-use league::read_league;
+use crate::begun::begun_league;
+use crate::fault::{ProgramFault, after_writing};
+use beginnings::Beginning;
 use std::alloc::Global;
 use streams::{Sink, Source, read_all};
 use texts::sheet;
@@ -32,8 +35,20 @@ pub fn start_from<R: Source, W: Sink>(
     ensures { Ends R.left R.tally W.held W.tally AnswersStart source.old source.new sink.old sink.new result }
 {
     let input = read_all(alloc, source)?;
-    let league = read_league(alloc, &input)?;
+    start_on(alloc, &input, None, sink)
+}
+
+/// As [`start`], of a league's text that was read, where the league is to begin: at its own start, if nothing else is said.
+pub fn start_on<W: Sink>(
+    alloc: Global,
+    league: &[u8],
+    beginning: Option<&Beginning<'_>>,
+    sink: &mut W,
+) -> Result<(), ProgramFault>
+    requires near { IfSome beginning (λ b. b.now.near ≤ max_weight) }
+    ensures { EndsOn W.held W.tally (AnswersStartOn league.now (option_map (λ b. b.now) beginning.entry)) sink.old sink.new result }
+{
+    let league = begun_league(alloc, league, beginning)?;
     let schedule = league.start(alloc)?;
-    sheet(&schedule, &league, sink)?;
-    Ok(())
+    after_writing(sheet(&schedule, &league, sink), ())
 }

@@ -1,13 +1,13 @@
 -- The last sheet of a text, while its lines are read.
-use Rattle.std.proofs.Common.{◌≡◌, ℕ, zero, suc, ◌+◌, ◌≤◌, Bool, true, false, ◌||◌, List, [], ◌∷◌, ◌++◌, length, refl, sym, ◌∙◌, ap}
-use Rattle.std.proofs.Common.{replicate, add-one, if◌then◌else◌, arith}
+use Rattle.std.proofs.Common.{◌≡◌, ℕ, zero, suc, ◌+◌, true, false, List, [], ◌∷◌, ◌++◌, refl, ◌∙◌, ap}
+use Rattle.std.proofs.Common.{replicate, add-one, arith}
 use Rattle.std.specs.Str.Lines.{lines}
 use Rattle.std.proofs.lemmas.Bool.{or_parts}
 use Rattle.texts.specs.Words.{words_of}
 use Rattle.schedule_texts.specs.declared.last_sheet.LastSheet.{LastSheet}
-use Rattle.schedule_texts.specs.Faults.{bad_line, bad_lines}
+use Rattle.schedule_texts.specs.Faults.{bad_lines}
 use Rattle.schedule_texts.specs.LastSheet.{begins_sheet, has_round_line, has_sheet_line, last_sheet, IsLastSheet}
-use Rattle.schedule_texts.specs.ScheduleText.{has_bad_line, line_of, written_games}
+use Rattle.schedule_texts.specs.ScheduleText.{has_bad_line, written_games}
 
 -- n blank lines, and then others
 abbrev pub below : ℕ → List (List ℕ) → List (List ℕ)

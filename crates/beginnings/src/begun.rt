@@ -4,10 +4,10 @@ ghost use Rattle.std.specs.Prelude.{◌≡◌, ◌≢◌, ◌≤◌, Ok, Err, If
 ghost use Rattle.std.specs.Str.Lines.{lines};
 ghost use Rattle.league.specs.League.{teams, IsLeague};
 ghost use Rattle.league.specs.Limits.{max_weight};
-ghost use Rattle.beginnings.specs.Begin.{begun, kept_from, priced, started, started_at, Gives};
+ghost use Rattle.beginnings.specs.Begun.{begun, kept_from, priced, started, started_at, Gives};
 
 use crate::fault::BeginFault;
-use crate::kept::{are_pairs, are_rounds, keep_games, keep_rounds};
+use crate::kept::{are_pairs, keep_games, keep_rounds, lacks_round};
 use league::{League, SlotSet};
 use schedule_texts::{has_round_line, judge};
 use std::alloc::Global;
@@ -39,7 +39,7 @@ pub fn begin(alloc: Global, league: League, beginning: &Beginning<'_>) -> Result
 
 /// The league that begins at the last sheet of the text, if there is one.
 fn started(alloc: Global, league: League, from: Option<&[u8]>) -> Result<League, BeginFault>
-    ensures { Gives result (started league (option_map (λ text. lines text.now) from)) }
+    ensures { Gives result (started league (option_map (λ text. lines text.now) from.entry)) }
 {
     match from {
         Some(text) => started_at(alloc, league, text),
@@ -53,6 +53,7 @@ fn started_at(alloc: Global, mut league: League, text: &[u8]) -> Result<League, 
     if !has_round_line(text) {
         return Err(BeginFault::NoRound);
     }
+    let _teams = league.teams();
     let judged = judge(alloc, &league, text)?;
     match judged.into_schedule() {
         Some(schedule) => {
@@ -68,7 +69,7 @@ fn kept_from(mut league: League, beginning: &Beginning<'_>) -> Result<League, Be
     requires { beginning.now.near ≤ max_weight }
     ensures { result ≡ kept_from beginning.now league }
 {
-    if !are_rounds(league.teams(), beginning.rounds) {
+    if lacks_round(league.teams(), beginning.rounds) {
         return Err(BeginFault::RoundRange);
     }
     if !are_pairs(league.teams(), beginning.games) {

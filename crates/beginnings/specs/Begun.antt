@@ -4,13 +4,13 @@ use Rattle.std.specs.Prelude.{Option, Some, None, option_map, Result, Ok, Err}
 use Rattle.std.specs.Str.Lines.{lines}
 use Rattle.sets.specs.Limits.{max_rounds, round_count}
 use Rattle.sets.specs.Sets.{has}
-use Rattle.sets.specs.Sums.{all_below}
+use Rattle.sets.specs.Sums.{any_below}
 use Rattle.fixtures.specs.Games.{Games}
 use Rattle.league.specs.League.{LeagueData, teams}
 use Rattle.league.specs.Starts.{beginning_at, keeping, near_at, start_round}
 use Rattle.schedule_texts.specs.Faultless.{schedule_of}
 use Rattle.schedule_texts.specs.LastSheet.{has_round_line, last_sheet}
-use Rattle.beginnings.specs.declared.begin.Beginning.{Beginning}
+use Rattle.beginnings.specs.declared.begun.Beginning.{Beginning}
 use Rattle.beginnings.specs.declared.fault.BeginFault.{BeginFault}
 use Rattle.beginnings.specs.declared.fault.BeginFault.TheVariants.{NoRound, NotRoundRobin, RoundRange, GameRange, Memory}
 
@@ -27,9 +27,9 @@ started_at l lines = if has_round_line (last_sheet lines) then started_with l (s
 
 -- ---- what is kept
 
--- whether the season of n teams has each of the rounds
-abbrev pub are_rounds : ℕ → ℕ → Bool
-are_rounds n rounds = all_below max_rounds (λ round. if has rounds round then nat_lt round (round_count n) else true)
+-- whether the season of n teams lacks one of the rounds
+abbrev pub lacks_round : ℕ → ℕ → Bool
+lacks_round n rounds = any_below max_rounds (λ round. has rounds round && not (nat_lt round (round_count n)))
 
 abbrev pub is_pair : ℕ → ℕ × ℕ → Bool
 is_pair n game = nat_lt game.0 n && nat_lt game.1 n && not (game.0 == game.1)
@@ -70,7 +70,7 @@ priced near l = if near == 0 then l else near_at near l
 -- the league that keeps what is to be kept of its start
 abbrev pub kept_from : Beginning → LeagueData → Result LeagueData BeginFault
 kept_from b l =
-    if not (are_rounds (teams l) b.rounds) then Err RoundRange
+    if lacks_round (teams l) b.rounds then Err RoundRange
     else if not (are_pairs (teams l) b.games.now) then Err GameRange
     else Ok (priced b.near (keeping_games b.games.now (keeping_rounds b.rounds l)))
 
@@ -86,7 +86,7 @@ started l None = Ok l
 started l (Some lines) = started_at l lines
 
 -- the league that begins there, or the first fault
-abbrev pub begun : LeagueData → Beginning → Result LeagueData BeginFault
+unfoldable pub begun : LeagueData → Beginning → Result LeagueData BeginFault
 begun l b = kept_if b (started l (option_map (λ text. lines text.now) b.from))
 
 -- what a call gives, if memory is there
