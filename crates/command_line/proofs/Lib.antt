@@ -5,4 +5,3 @@ pub mod OptionWords
 pub mod NamedCommand
 pub mod WordsFault
 pub mod Keeping
-pub mod Asked

@@ -1,10 +1,15 @@
 -- Whether words are refused, where clap refuses them and where it does not.
-use Rattle.std.proofs.Common.{◌≡◌, ◌⊎◌, [], ◌∷◌, Bool, true, false, refl, sym, true≢false, inl, inr}
+use Rattle.std.proofs.Common.{◌≡◌, ◌⊎◌, [], ◌∷◌, Bool, true, false, refl, sym, true≢false, inl, inr, List, Option, Some, option_and_then}
 use Rattle.std.specs.Prelude.{if◌then◌else◌}
 use Rattle.clap.specs.Kinds.{HasKind, Kinds, or_else}
 use Rattle.clap.specs.Values.{kind_of}
+use Rattle.clap.specs.Words.{Row, Text}
 use Rattle.clap.specs.declared.error.Error.{Error}
 use Rattle.clap.specs.declared.error.kind.ErrorKind.TheVariants.{InvalidValue, OutOfMemory}
+use Rattle.command_line.specs.Beginnings.{Beginning}
+use Rattle.command_line.specs.CommandLine.{asks_for_all, beginning_of_command, job_of_command}
+use Rattle.command_line.specs.Files.{Files, files_of_command}
+use Rattle.command_line.specs.declared.job.Job.{Job}
 use Rattle.command_line.specs.declared.refusals.Refusal.{Refusal}
 use Rattle.command_line.specs.declared.refusals.Refusal.TheVariants.{Memory}
 use Rattle.command_line.proofs.Options.{no_kind}
@@ -14,6 +19,11 @@ pub still_refused : (kinds more : Kinds) (e : Error) → HasKind kinds e → Has
 still_refused [] more e (inl memory) = inl memory
 still_refused [] more e (inr none) = absurd none
 still_refused (k ∷ ks) more e has = has
+
+pub asks_for : (found : Option (Text × List Row)) (job : Job) (files : Files) (beginning : Beginning) →
+    option_and_then job_of_command found ≡ Some job → option_and_then files_of_command found ≡ Some files
+    → option_and_then beginning_of_command found ≡ Some beginning → asks_for_all found ≡ true
+asks_for found job files beginning is_job are_files is_beginning = rw (is_job, are_files, is_beginning) refl
 
 -- words that clap takes and that ask for all that is wanted
 pub taken : (kinds : Kinds) (asks : Bool) → kinds ≡ [] → asks ≡ true → or_else kinds (if asks then [] else InvalidValue ∷ []) ≡ []

@@ -6,7 +6,7 @@ use Rattle.command_line.proofs.files.reads_twice.Goals as goal
 pub returns : goal.returns
 returns c =
     let found = found_of c.args.values.now in
-    let league = c.get_str.ensures ∙ first_value-rows found (codes "league") in
-    let second = c.get_str-2.ensures ∙ first_value-rows found (codes "second") in
-    let from = c.get_str-3.ensures ∙ first_value-rows found (codes "from") in
+    let league = c.get_str-league.ensures ∙ first_value-rows found (codes "league") in
+    let second = c.get_str-second.ensures ∙ first_value-rows found (codes "second") in
+    let from = c.get_str-from.ensures ∙ first_value-rows found (codes "from") in
     c.are_read_twice.ensures ∙ rw (league, second, from) refl

@@ -1,12 +1,12 @@
 use Rattle.std.proofs.Common.{◌≡◌, ◌⊎◌, ◌∙◌, [], ap, false, map, option_and_then, string_bytes, subst, sym}
-use Rattle.clap.specs.Words.{App, fault_of, is_simple, is_simple_and_free, subcommand_of}
+use Rattle.clap.specs.Words.{App, fault_of, is_simple, is_simple_and_free, subcommand_of, subcommand_rows_of}
 use Rattle.clap.specs.Kinds.{HasKind}
 use Rattle.command_line.specs.CommandLine.{NamesACommand, asks_for_all, beginning_of_command, job_of_command, program}
-use Rattle.command_line.specs.Files.{files_of_command}
+use Rattle.command_line.specs.Beginnings.{beginning_of}
+use Rattle.command_line.specs.Files.{files_of, files_of_command}
 use Rattle.command_line.specs.declared.refusals.Refusal.TheVariants.{Memory}
 use Rattle.command_line.proofs.NamedCommand.{names_a_command}
-use Rattle.command_line.proofs.Asked.{asks_for}
-use Rattle.command_line.proofs.WordsFault.{refusal_told, still_refused, taken}
+use Rattle.command_line.proofs.WordsFault.{asks_for, refusal_told, still_refused, taken}
 use Rattle.command_line.proofs.job.args.Goals as goal
 
 pub request_of-requires : goal.request_of-requires
@@ -26,8 +26,11 @@ returns-in-Ok-request_of-clause-fault c =
     let no_fault = subst (λ (a : App). fault_of a words ≡ []) is_program (parse.kinds (ap is_simple_and_free is_program)) in
     let command = (parse.matches (ap is_simple is_program)).1 ∙ ap (λ a. subcommand_of a words) is_program in
     let asked = c.in-Ok-request_of.ensures in
+    let request = c.in-Ok-request_of.request in
+    let all = asks_for (subcommand_rows_of c.in-Ok-try_get_matches_from.matches) request.job (files_of request.files)
+    (beginning_of request.beginning) asked.job asked.files asked.beginning in
     taken (fault_of program words) (asks_for_all (subcommand_of program words)) no_fault
-    (ap asks_for_all (sym command) ∙ asks_for _ _ _ _ asked.job asked.files asked.beginning)
+    (ap asks_for_all (sym command) ∙ all)
 
 pub returns-in-Ok-request_of-clause-job : goal.returns-in-Ok-request_of-clause-job
 returns-in-Ok-request_of-clause-job c =
