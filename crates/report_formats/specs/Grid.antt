@@ -1,5 +1,5 @@
 -- The grid of teams and rounds on a page. Teams and rounds are numbered from 0 in calls, and from 1 in texts.
-use Rattle.std.specs.Prelude.{ℕ, ◌+◌, ◌-◌, ◌==◌, List, [], ◌∷◌, ◌++◌, Bool, not, ◌&&◌, nat_le, nat_lt, codes, decimal, if◌then◌else◌}
+use Rattle.std.specs.Prelude.{ℕ, ◌+◌, ◌-◌, ◌==◌, List, [], ◌∷◌, ◌++◌, Bool, not, ◌&&◌, nat_le, nat_lt, codes, decimal}
 use Rattle.std.specs.List.{concat}
 use Rattle.fixtures.specs.Games.{Games, cell, cell_round, round_count}
 use Rattle.league.specs.League.{LeagueData, name_of}
