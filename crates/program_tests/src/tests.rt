@@ -20,5 +20,6 @@ mod searches;
 mod second_format;
 mod session;
 mod starts;
+mod text_beginnings;
 mod told;
 mod worked;

@@ -1,23 +1,24 @@
 -- Lines have no fault exactly where they give a double round robin.
 use Rattle.std.proofs.Common.{◌≡◌, ℕ, zero, suc, ◌+◌, ◌<◌, inl, inr, Bool, true, false, List, [], ◌∷◌, ◌++◌, length, get_or, map, eqb, refl}
-use Rattle.std.proofs.Common.{sym, ◌∙◌, ap, arith}
+use Rattle.std.proofs.Common.{sym, ◌∙◌, ap, arith, Some, None}
 use Rattle.std.proofs.Math.Nat.{eq-or-lt_of_le, le_of_suc-le-suc, not-suc-le-zero}
 use Rattle.std.proofs.lemmas.Bool.{cases_Bool, cases_eq, eq-eqb, false≢true, ne_eqb, or_from, or_parts, true_from_ne_false}
 use Rattle.std.proofs.lemmas.List.Elements.{Contains-get_or}
 use Rattle.league.specs.League.{LeagueData, IsLeague, teams}
 use Rattle.fixtures.specs.declared.game.Game.{Game}
-use Rattle.fixtures.specs.Games.{Games, round_count}
+use Rattle.fixtures.specs.Games.{Games, games, round_count, round_of}
 use Rattle.fixtures.specs.GameList.{AreGamesOf}
 use Rattle.fixtures.specs.Draft.{is_game_in_range, IsGame}
-use Rattle.fixtures.proofs.ForCallers.{game_passed, game_passes}
+use Rattle.fixtures.proofs.ForCallers.{game_passed, game_passes, games_ext, round_of_games}
 use Rattle.streams.specs.Pieces.{pieces_below}
 use Rattle.schedule_texts.specs.declared.schedule_text.ScheduleLine.{ScheduleLine}
 use Rattle.schedule_texts.specs.declared.schedule_text.ScheduleLine.TheVariants.{Other, Bad, Round}
 use Rattle.schedule_texts.specs.declared.schedule_text.WrittenGame.{WrittenGame}
 use Rattle.schedule_texts.specs.Faults.{bad_line, bad_lines, faults, game_faults, games_of_pair, no_game_line, no_game_lines, pair_line}
 use Rattle.schedule_texts.specs.Faults.{pair_lines, team_line, team_lines}
-use Rattle.schedule_texts.specs.Faultless.{IsFaultlessExactly}
+use Rattle.schedule_texts.specs.Faultless.{IsFaultlessExactly, IsToldExactly, round_in, schedule_of}
 use Rattle.schedule_texts.specs.Given.{given_games, placed, IsGivenBy}
+use Rattle.schedule_texts.specs.LastSheet.{last_sheet}
 use Rattle.schedule_texts.specs.ScheduleText.{has_bad_line, is_bad, line_of, written_games}
 use Rattle.schedule_texts.proofs.Found.{found, IsFaultless}
 use Rattle.schedule_texts.proofs.OnceEach.{is_game_of, no_game, pair_once, team_once}
@@ -143,26 +144,52 @@ faultless_games n list all none =
           pair_told home away _ p.distinct (nil_piece _ n away p.away_in (nil_piece (pair_lines n list) n home p.home_in parts.1));
     }
 
-pub faultless_exactly : (l : LeagueData) (lines : List (List ℕ)) → IsLeague l → IsFaultlessExactly (teams l) lines
-faultless_exactly l lines is_league = (forward, λ given. backward given.0 given.1)
-  where
-    forward : faults (teams l) lines ≡ [] → (g : Games) × IsGivenBy (teams l) lines g
-    forward none =
-        let parts = nil_parts (bad_lines 1 lines ++ no_game_lines (teams l) (written_games lines)) _ none in
-        let fronts = nil_parts (bad_lines 1 lines) _ parts.0 in
-        let all = faultless_games (teams l) (given_games lines) (told_games (teams l) (written_games lines) fronts.1) parts.1 in
-        let table = is_league.table in (
-          _,
-          record {
-            teams = refl;
-            sound = lines_are_good 1 lines fronts.0;
-            games = found (teams l) (given_games lines) all table.even table.least table.most;
-          },
-        )
+-- lines without faults give the games of each pair in the round of its first game
+faultless_gives : (l : LeagueData) (lines : List (List ℕ)) → IsLeague l → faults (teams l) lines ≡ []
+    → IsGivenBy (teams l) lines (games (teams l) (round_in (teams l) (given_games lines)))
+faultless_gives l lines is_league none =
+    let parts = nil_parts (bad_lines 1 (last_sheet lines) ++ no_game_lines (teams l) (written_games (last_sheet lines))) _ none in
+    let fronts = nil_parts (bad_lines 1 (last_sheet lines)) _ parts.0 in
+    let told = told_games (teams l) (written_games (last_sheet lines)) fronts.1 in
+    let all = faultless_games (teams l) (given_games lines) told parts.1 in
+    let table = is_league.table in
+    record {
+      teams = refl;
+      sound = lines_are_good 1 (last_sheet lines) fronts.0;
+      games = found (teams l) (given_games lines) all table.even table.least table.most;
+    }
 
+pub faultless_exactly : (l : LeagueData) (lines : List (List ℕ)) → IsLeague l → IsFaultlessExactly (teams l) lines
+faultless_exactly l lines is_league = (λ none. (_, faultless_gives l lines is_league none), λ given. backward given.0 given.1)
+  where
     backward : (g : Games) → IsGivenBy (teams l) lines g → faults (teams l) lines ≡ []
     backward g is =
         let listed = Contains-get_or (given_games lines) in
-        let games = games_told g.teams (written_games lines)
+        let said = games_told g.teams (written_games (last_sheet lines))
         (λ k within. is_game_of g (given_games lines) is.games _ (listed k no_game within)) in
-        rw (good_lines 1 lines is.sound, ← is.teams, games, teams_faultless g (given_games lines) is.games) refl
+        rw (good_lines 1 (last_sheet lines) is.sound, ← is.teams, said, teams_faultless g (given_games lines) is.games) refl
+
+-- ---- one schedule at most
+
+-- two double round robins with the same games are one
+one_schedule : (n : ℕ) (list : List Game) (g : Games) (at : ℕ → ℕ → ℕ) → g.teams ≡ n → AreGamesOf g list → AreGamesOf (games n at) list
+    → g ≡ games n at
+one_schedule n list g at e is are =
+    is.round_robin.pairs_alone ∙ ap (λ (k : ℕ). games k (round_of g)) e ∙
+    games_ext n (round_of g) at (λ home away p. (is.each_is _ (are.every home away p)).1 ∙ round_of_games n at home away p)
+
+nil_of : (xs : List ℕ) → length xs ≡ 0 → xs ≡ []
+nil_of [] e = refl
+nil_of (x ∷ xs) e = absurd (omega (arith, e))
+
+pub told_exactly : (l : LeagueData) (lines : List (List ℕ)) → IsLeague l → IsToldExactly (teams l) lines
+unfolding schedule_of
+told_exactly l lines is_league (Some g) is =
+    let none : faults (teams l) lines ≡ [] = (faultless_exactly l lines is_league).1 (g, is) in
+    let empty : eqb (length (faults (teams l) lines)) 0 ≡ true = ap (λ (told : List ℕ). eqb (length told) 0) none in
+    rw empty (ap Some (one_schedule (teams l) (given_games lines) g _ is.teams is.games (faultless_gives l lines is_league none).games))
+told_exactly l lines is_league None gives_none =
+    let gives = (faultless_exactly l lines is_league).0 in
+    let told : eqb (length (faults (teams l) lines)) 0 ≡ false =
+    ne_eqb _ 0 (λ e. let given = gives (nil_of (faults (teams l) lines) e) in gives_none given.0 given.1) in
+    rw told refl

@@ -1,3 +1,4 @@
+pub mod Sheets
 pub mod Lists
 pub mod Lone
 pub mod Tallies

@@ -12,6 +12,7 @@ use Rattle.schedule_texts.specs.declared.schedule_text.ScheduleLine.{ScheduleLin
 use Rattle.schedule_texts.specs.declared.schedule_text.ScheduleLine.TheVariants.{Other, Bad, Round}
 use Rattle.schedule_texts.specs.declared.schedule_text.WrittenGame.{WrittenGame}
 use Rattle.schedule_texts.specs.ScheduleText.{line_of, written_games}
+use Rattle.schedule_texts.specs.LastSheet.{last_sheet}
 use Rattle.schedule_texts.specs.Given.{placed, given_games}
 
 abbrev pub bad_line : ℕ → ScheduleLine → List ℕ
@@ -84,9 +85,10 @@ pair_lines n games home = pieces_below (λ away. pair_line home away (games_of_p
 unfoldable pub game_faults : ℕ → List Game → List ℕ
 game_faults n games = pieces_below (team_lines n games) n ++ pieces_below (pair_lines n games) n
 
--- a line for each fault of the lines
+-- a line for each fault of the last sheet among the lines
 abbrev pub faults : ℕ → List (List ℕ) → List ℕ
-faults n lines = bad_lines 1 lines ++ no_game_lines n (written_games lines) ++ game_faults n (given_games lines)
+faults n lines =
+    bad_lines 1 (last_sheet lines) ++ no_game_lines n (written_games (last_sheet lines)) ++ game_faults n (given_games lines)
 
 -- the faults of lines that give no double round robin
 unfoldable pub faults_text : ℕ → List (List ℕ) → List ℕ

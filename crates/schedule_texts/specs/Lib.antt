@@ -1,4 +1,5 @@
 pub mod ScheduleText
+pub mod LastSheet
 pub mod Given
 pub mod Judged
 pub mod Faults

@@ -7,16 +7,18 @@ ghost use Rattle.streams.specs.Writing.{Writes};
 ghost use Rattle.schedule_texts.specs.Faults.{bad_line, bad_lines, count_line, count_lines, faults_text, game_faults};
 ghost use Rattle.schedule_texts.specs.Faults.{no_game_line, no_game_lines, pair_line, team_line, times_words};
 ghost use Rattle.schedule_texts.specs.Given.{given_games};
+ghost use Rattle.schedule_texts.specs.LastSheet.{last_sheet};
 ghost use Rattle.schedule_texts.specs.ScheduleText.{written_games};
 ghost use Rattle.streams.specs.Pieces.{pieces_below};
 
 use crate::counts::{Counted, counts_of};
+use crate::last_sheet::LastSheet;
 use crate::schedule_text::{ScheduleLine, WrittenGame};
 use fixtures::Game;
 use streams::{BufferedSink, Sink, WriteFault};
 use texts::{Piece, next_line, write_pieces};
 
-/// Writes a line for each fault of a text and of the games that it gives to this number of teams.
+/// Writes a line for each fault of the last sheet of a text and of the games that it gives to this number of teams.
 pub(crate) fn write_faults<W: Sink>(
     out: &mut BufferedSink<'_, W>,
     teams: u8,
@@ -26,7 +28,7 @@ pub(crate) fn write_faults<W: Sink>(
 ) -> Result<(), WriteFault>
     requires least { 4 ≤ teams }
     requires most { teams ≤ max_teams }
-    requires written { written.now ≡ written_games (lines text.now) }
+    requires written { written.now ≡ written_games (last_sheet (lines text.now)) }
     requires games { games.now ≡ given_games (lines text.now) }
     ensures { Writes W.held W.tally out.old out.new result (faults_text teams (lines text.now)) }
 {
@@ -37,10 +39,11 @@ pub(crate) fn write_faults<W: Sink>(
 }
 
 fn write_bad_lines<W: Sink>(out: &mut BufferedSink<'_, W>, text: &[u8]) -> Result<(), WriteFault>
-    ensures { Writes W.held W.tally out.old out.new result (bad_lines 1 (lines text.now)) }
+    ensures { Writes W.held W.tally out.old out.new result (bad_lines 1 (last_sheet (lines text.now))) }
 {
-    let mut number = 1;
-    let mut rest = text;
+    let sheet = LastSheet::of(text);
+    let mut number = sheet.before + 1;
+    let mut rest = sheet.text;
     while let Some(line) = next_line(&mut rest) {
         write_bad_line(out, number, ScheduleLine::of(line))?;
         number += 1;

@@ -7,15 +7,17 @@ ghost use Rattle.streams.specs.Writing.{Writes};
 ghost use Rattle.schedule_texts.specs.Faults.{faults_text};
 ghost use Rattle.schedule_texts.specs.Given.{given_games, IsVerdict};
 ghost use Rattle.schedule_texts.specs.Judged.{IsJudgedBy};
+ghost use Rattle.schedule_texts.specs.LastSheet.{IsLastSheet};
 
 use crate::faults::write_faults;
+use crate::last_sheet::LastSheet;
 use crate::schedule_text::{WrittenGame, has_bad_line, placed_games, written_games};
 use fixtures::{FixtureFault, Game, Schedule, from_games};
 use league::League;
 use std::alloc::{AllocError, Global};
 use streams::{BufferedSink, Sink, WriteFault};
 
-/// The games that a text gives for a league, and their schedule if they are a double round robin of its teams.
+/// The games that the last sheet of a text gives for a league, and their schedule if they are a double round robin of its teams.
 #[derive(Drop)]
 pub struct Judged {
     written: Vec<WrittenGame>,
@@ -23,14 +25,16 @@ pub struct Judged {
     schedule: Option<Schedule>,
 }
 
-/// Reads the games of a text, and finds out whether they are a double round robin of the league's teams. Takes memory for
-/// each game, otherwise for one schedule.
+/// Reads the games of the last sheet of a text, what stands behind the last line whose first word is `league` or all of it,
+/// and finds out whether they are a double round robin of the league's teams. Takes memory for each game, otherwise for one
+/// schedule.
 pub fn judge(alloc: Global, league: &League, text: &[u8]) -> Result<Judged, AllocError>
     ensures { IfOk result (IsJudgedBy (teams league.now) (lines text.now)) }
 {
-    let written = written_games(alloc, text)?;
+    let sheet = LastSheet::of(text);
+    let written = written_games(alloc, sheet.text)?;
     let games = placed_games(alloc, &written)?;
-    let schedule = given_schedule(alloc, league, text, &games)?;
+    let schedule = given_schedule(alloc, league, text, sheet, &games)?;
     Ok(Judged {
         written,
         games,
@@ -41,13 +45,15 @@ pub fn judge(alloc: Global, league: &League, text: &[u8]) -> Result<Judged, Allo
 fn given_schedule(
     alloc: Global,
     league: &League,
-    text: &[u8],
+    _text: &[u8],
+    sheet: LastSheet<'_>,
     games: &[Game],
 ) -> Result<Option<Schedule>, AllocError>
-    requires { games.now ≡ given_games (lines text.now) }
-    ensures { IfOk result (λ schedule. IsVerdict (teams league.now) (lines text.now) schedule) }
+    requires sheet { IsLastSheet _text.now sheet }
+    requires games { games.now ≡ given_games (lines _text.now) }
+    ensures { IfOk result (λ schedule. IsVerdict (teams league.now) (lines _text.now) schedule) }
 {
-    if has_bad_line(text) {
+    if has_bad_line(sheet.text) {
         return Ok(None);
     }
     match from_games(alloc, league.teams(), games) {

@@ -78,7 +78,7 @@ const COST_UNDER_RULES: &str = "travel 30 hard 2 soft 10\n\
     infeasible\n";
 
 /// The start with a bad line, three games that are none, and a game that stands in another's place.
-const DAMAGED: &str = "round 1: 1-4 2-3 3-3\n\
+pub(crate) const DAMAGED: &str = "round 1: 1-4 2-3 3-3\n\
     round 2: 1-2 4-3\n\
     round 3: 2-4 3-1\n\
     round x: 1-2\n\
@@ -88,7 +88,7 @@ const DAMAGED: &str = "round 1: 1-4 2-3 3-3\n\
     round 18446744073709551615: 5-1\n\
     round 0: 1-2\n";
 
-const FAULTS: &str = "bad line 4\n\
+pub(crate) const FAULTS: &str = "bad line 4\n\
     game 3-3 of round 1 is none\n\
     game 5-1 of round 18446744073709551615 is none\n\
     game 1-2 of round 0 is none\n\
@@ -118,6 +118,30 @@ const AFTER_A_BAD_LINE: Case<'_> = (
     Whole(&["bad line 12\n", "no double round robin\n"]),
 );
 
+/// The texts of an improvement: two sheets, each behind lines of its own, of which the first is damaged.
+const AFTER_OTHER_SHEETS: Case<'_> = (
+    TEXT_REPORT,
+    &[
+        CIRCLE,
+        JUDGED,
+        HALVED,
+        DAMAGED,
+        "history 0\nend\n",
+        SHEET,
+        "best 30 at 0\n",
+    ],
+    Ok(Some(Verdict::Feasible)),
+    Whole(&[SHEET, COST]),
+);
+
+/// A bad line of the last sheet has its number in the whole text, in which HALVED has 11 lines.
+const BAD_AFTER_ANOTHER_SHEET: Case<'_> = (
+    TEXT_REPORT,
+    &[CIRCLE, JUDGED, HALVED, SHEET, "# a note\nround x: 1-2\n"],
+    Ok(Some(Verdict::Infeasible)),
+    Whole(&["bad line 24\n", "no double round robin\n"]),
+);
+
 const CASES: &[Case<'_>] = &[
     (
         TEXT_REPORT,
@@ -145,6 +169,8 @@ const CASES: &[Case<'_>] = &[
     ),
     FAULTY,
     AFTER_A_BAD_LINE,
+    AFTER_OTHER_SHEETS,
+    BAD_AFTER_ANOTHER_SHEET,
     (
         Command::Report(Format::Text),
         &[CIRCLE],

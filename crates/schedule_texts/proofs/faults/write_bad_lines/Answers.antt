@@ -1,10 +1,14 @@
 use Rattle.std.proofs.Common.{arith}
 use Rattle.streams.proofs.Pieces.{Stops-writes}
 use Rattle.texts.proofs.ForCallers.{none_added, one_added, one_stopped}
+use Rattle.schedule_texts.proofs.Sheets.{sheet_numbered}
 use Rattle.schedule_texts.proofs.faults.write_bad_lines.Goals as goal
 
 pub loop-line-init : goal.loop-line-init
-loop-line-init g c = record { written = none_added _ _; few = omega arith }
+loop-line-init g c = record {
+  written = rw (sheet_numbered _ _ c.of-sheet.ensures) (none_added _ _);
+  few = omega (arith, c.of-sheet.ensures.few);
+}
 
 pub loop-line-preserved : goal.loop-line-preserved
 loop-line-preserved g c =

@@ -3,6 +3,7 @@ use Rattle.std.proofs.Common.{codes}
 use Rattle.std.specs.Str.Lines.{lines}
 use Rattle.schedule_texts.specs.Faults.{faults_text, game_faults, no_game_lines}
 use Rattle.schedule_texts.specs.Given.{given_games}
+use Rattle.schedule_texts.specs.LastSheet.{last_sheet}
 use Rattle.schedule_texts.specs.ScheduleText.{written_games}
 use Rattle.schedule_texts.proofs.faults.write_faults.Goals as goal
 
@@ -12,7 +13,7 @@ returns-in_err-write_bad_lines g c =
     Stops-writes c.from_residual.ensures.0
     (Stops-more (codes "no double round robin\n")
     (Stops-more (game_faults c.args.teams (given_games (lines c.args.text.now)))
-    (Stops-more (no_game_lines c.args.teams (written_games (lines c.args.text.now))) c.in_err-write_bad_lines.ensures.err)))
+    (Stops-more (no_game_lines c.args.teams (written_games (last_sheet (lines c.args.text.now)))) c.in_err-write_bad_lines.ensures.err)))
 
 pub returns-in_err-write_no_games : goal.returns-in_err-write_no_games
 unfolding faults_text
