@@ -4,3 +4,4 @@ pub mod NumberLemmas
 pub mod OptionWords
 pub mod NamedCommand
 pub mod WordsFault
+pub mod Keeping

@@ -10,8 +10,8 @@ use Rattle.clap.specs.Lexer.{long_of, short_of}
 use Rattle.clap.specs.Kinds.{or_else}
 use Rattle.clap.specs.Faults.{check_fault, defaults_fault, entered_fault, fault_of, level_fault, other_fault}
 use Rattle.clap.specs.Faults.{settle_fault, step_fault, turn_fault, walk_fault, word_fault}
-use Rattle.clap.specs.Simple.{Shape, argument_words, built, built_leaf, entered, help_shape, inherited, label_of}
-use Rattle.clap.specs.Simple.{names_of, rows_at, subcommand_of, subcommand_rows}
+use Rattle.clap.specs.Simple.{Shape, argument_words, built, built_leaf, entered, filled, help_shape, inherited, label_of}
+use Rattle.clap.specs.Simple.{names_of, rows_at, subcommand_of, subcommand_rows, with_index}
 use Rattle.clap.specs.declared.parser.matches.ArgMatches.TheViews.{out-SubCommand}
 use Rattle.clap.specs.declared.parser.matches.SubCommand.{SubCommand}
 use Rattle.clap.specs.Walk.{Held, Names, Outcome, Row, Rule, Step, Text, Waiting, Walk, after_flag, after_step}
@@ -22,9 +22,9 @@ use Rattle.clap.specs.Walk.{done, waits, plain, refused, idle, option, positiona
 use Rattle.clap.specs.declared.error.kind.ErrorKind.TheVariants.{DisplayHelp, InvalidSubcommand}
 use Rattle.clap.proofs.OnLiterals.{clap_on_literals}
 use Rattle.command_line.specs.CommandLine.{CommandForm, HasValues, NamesACommand, NamesOneOf, OptionForm}
-use Rattle.command_line.specs.CommandLine.{app_of_command, commands, format_option, improve_command, play_command}
-use Rattle.command_line.specs.CommandLine.{program, report_command, room_option, search_command, start_command}
-use Rattle.command_line.proofs.Options.{both_pass, no_kind}
+use Rattle.command_line.specs.CommandLine.{app_of_command, commands, improve_command, league_word, play_command, program}
+use Rattle.command_line.specs.CommandLine.{report_command, search_command, second_word, start_command, start_rules}
+use Rattle.command_line.proofs.Options.{AreSound, AreSoundRules, IsFree, both_pass, both_sound, help, no_kind, option_rule, options_sound}
 use Rattle.command_line.proofs.OptionWords.{has_values}
 
 -- the program as clap builds it
@@ -135,49 +135,97 @@ abbrev AreRead : List CommandForm → Type 0
 AreRead [] = Unit {0}
 AreRead (c ∷ cs) = IsRead c × AreRead cs
 
+-- words and options that may be left out, as clap builds them
+abbrev first_word : List Rule
+first_word = with_index 1 (filled league_word) ∷ []
+
+abbrev both_words : List Rule
+both_words = with_index 1 (filled league_word) ∷ with_index 2 (filled second_word) ∷ []
+
+abbrev with_help : List Rule → List Rule
+with_help free = map (λ r. with_index 1 (filled r)) free ++ help ∷ []
+
+-- none of these options is one of those that may be left out
+abbrev AreOthers : List OptionForm → List Rule → Type 0
+AreOthers options [] = Unit {0}
+AreOthers options (a ∷ args) = IsFree options a × AreOthers options args
+
+others_sound : (options : List OptionForm) (args : List Rule) → AreOthers options args → AreSoundRules options args
+others_sound options [] others = tt
+others_sound options (a ∷ args) others = (inr (inl others.0), others_sound options args others.1)
+
+-- the arguments of a command are sound
+all_sound : (options : List OptionForm) (front free : List Rule) → AreSound options options → AreOthers options front →
+    AreOthers options (map (λ r. with_index 1 (filled r)) free)
+    → AreSoundRules options (front ++ (map option_rule options ++ with_help free))
+all_sound options front free sound before behind =
+    both_sound options front _ (others_sound options front before)
+    (both_sound options (map option_rule options) _ (options_sound options options sound)
+    (both_sound options (map (λ r. with_index 1 (filled r)) free) _ (others_sound options _ behind) (inr (inr refl), tt)))
+
+start_sound : AreSound [] []
+start_sound = tt
+
+play_sound : AreSound play_command.options play_command.options
+unfolding clap_on_literals
+play_sound = (record { first = refl; as_written = refl; default_fits = refl }, tt)
+
+improve_sound : AreSound improve_command.options improve_command.options
+unfolding clap_on_literals
+improve_sound = (
+  record { first = refl; as_written = refl; default_fits = refl },
+  (
+    record { first = refl; as_written = refl; default_fits = refl },
+    (record { first = refl; as_written = refl; default_fits = refl }, tt),
+  ),
+)
+
+search_sound : AreSound search_command.options search_command.options
+unfolding clap_on_literals
+search_sound = (
+  record { first = refl; as_written = refl; default_fits = refl },
+  (
+    record { first = refl; as_written = refl; default_fits = refl },
+    (
+      record { first = refl; as_written = refl; default_fits = refl },
+      (
+        record { first = refl; as_written = refl; default_fits = refl },
+        (record { first = refl; as_written = refl; default_fits = refl }, tt),
+      ),
+    ),
+  ),
+)
+
+report_sound : AreSound report_command.options report_command.options
+unfolding clap_on_literals
+report_sound = (record { first = refl; as_written = refl; default_fits = refl }, tt)
+
 commands_are_read : AreRead commands
 unfolding clap_on_literals
 commands_are_read = (
-  record { named = refl; has = has_values [] tt (built_command start_command) },
+  record {
+    named = refl;
+    has = has_values [] first_word (with_help start_command.free) start_sound (all_sound [] first_word start_command.free start_sound (record { other = refl; no_default = refl; adds = inl refl }, tt) (record { other = refl; no_default = refl; adds = inl refl }, tt)) (built_command start_command);
+  },
   (
     record {
       named = refl;
-      has = has_values (room_option ∷ []) (record { first = refl; as_written = refl; default_fits = refl }, tt)
-          (built_command play_command);
+      has = has_values play_command.options both_words (with_help start_rules) play_sound (all_sound play_command.options both_words start_rules play_sound (record { other = refl; no_default = refl; adds = inl refl }, (record { other = refl; no_default = refl; adds = inl refl }, tt)) (record { other = refl; no_default = refl; adds = inl refl }, (record { other = refl; no_default = refl; adds = inl refl }, (record { other = refl; no_default = refl; adds = inr refl }, (record { other = refl; no_default = refl; adds = inl refl }, tt))))) (built_command play_command);
     },
     (
       record {
         named = refl;
-        has = has_values improve_command.options (
-          record { first = refl; as_written = refl; default_fits = refl },
-          (
-            record { first = refl; as_written = refl; default_fits = refl },
-            (record { first = refl; as_written = refl; default_fits = refl }, tt),
-          ),
-        ) (built_command improve_command);
+        has = has_values improve_command.options first_word (with_help start_rules) improve_sound (all_sound improve_command.options first_word start_rules improve_sound (record { other = refl; no_default = refl; adds = inl refl }, tt) (record { other = refl; no_default = refl; adds = inl refl }, (record { other = refl; no_default = refl; adds = inl refl }, (record { other = refl; no_default = refl; adds = inr refl }, (record { other = refl; no_default = refl; adds = inl refl }, tt))))) (built_command improve_command);
       },
       (
         record {
           named = refl;
-          has = has_values search_command.options (
-            record { first = refl; as_written = refl; default_fits = refl },
-            (
-              record { first = refl; as_written = refl; default_fits = refl },
-              (
-                record { first = refl; as_written = refl; default_fits = refl },
-                (
-                  record { first = refl; as_written = refl; default_fits = refl },
-                  (record { first = refl; as_written = refl; default_fits = refl }, tt),
-                ),
-              ),
-            ),
-          ) (built_command search_command);
+          has = has_values search_command.options first_word (with_help start_rules) search_sound (all_sound search_command.options first_word start_rules search_sound (record { other = refl; no_default = refl; adds = inl refl }, tt) (record { other = refl; no_default = refl; adds = inl refl }, (record { other = refl; no_default = refl; adds = inl refl }, (record { other = refl; no_default = refl; adds = inr refl }, (record { other = refl; no_default = refl; adds = inl refl }, tt))))) (built_command search_command);
         },
         (
           record {
             named = refl;
-            has = has_values (format_option ∷ [])
-                (record { first = refl; as_written = refl; default_fits = refl }, tt) (built_command report_command);
+            has = has_values report_command.options both_words (with_help report_command.free) report_sound (all_sound report_command.options both_words report_command.free report_sound (record { other = refl; no_default = refl; adds = inl refl }, (record { other = refl; no_default = refl; adds = inl refl }, tt)) (record { other = refl; no_default = refl; adds = inl refl }, (record { other = refl; no_default = refl; adds = inl refl }, tt))) (built_command report_command);
           },
           tt,
         ),

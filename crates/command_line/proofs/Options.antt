@@ -1,6 +1,6 @@
--- Lists of options as clap's arguments, and what the rows of an option are.
+-- Options and words as clap's arguments, and what the rows of an option are.
 use Rattle.std.proofs.Common.{◌≡◌, ◌||◌, cond, Bool, true, false, List, [], ◌∷◌, ◌++◌, Option, Some, None, refl, sym}
-use Rattle.std.proofs.Common.{subst, ap, true≢false, map, append-nil, ◌∙◌, option_and_then}
+use Rattle.std.proofs.Common.{subst, ap, true≢false, map, append-nil, ◌∙◌, option_and_then, inl, inr, ◌⊎◌}
 use Rattle.std.specs.Prelude.{find, fold, ◌&&◌}
 use Rattle.std.specs.Str.{bytes_eq}
 use Rattle.std.proofs.lemmas.Slice.Eq.{bytes_eq-Decides}
@@ -8,13 +8,16 @@ use Rattle.clap.specs.ValueTests.{accepts}
 use Rattle.clap.specs.Kinds.{Kinds, or_else}
 use Rattle.clap.specs.Faults.{repeat_fault}
 use Rattle.clap.specs.Simple.{filled, help_rule, with_index}
-use Rattle.clap.specs.Walk.{Row, Rule, Text, at_row, has_row, more_values, reading_by, row_text, with_default, with_values}
+use Rattle.clap.specs.Walk.{Row, Rule, Text, action_of, at_row, default_rows, has_row, more_values, reading_by}
+use Rattle.clap.specs.Walk.{row_text, stronger, used, used_as, values_or_missing, with_default, with_values, without}
 use Rattle.clap.specs.Values.{read_as, reading_of}
+use Rattle.clap.specs.declared.builder.action.ArgAction.TheVariants.{Append, Set}
+use Rattle.clap.specs.declared.builder.value_parser.Reading.{Reading}
 use Rattle.clap.specs.declared.builder.value_parser.Reading.TheVariants.{AsWritten}
 use Rattle.clap.specs.declared.error.kind.ErrorKind.{ErrorKind}
 use Rattle.clap.specs.declared.error.kind.ErrorKind.TheVariants.{ArgumentConflict}
 use Rattle.clap.specs.declared.parser.matches.ValueSource.{ValueSource}
-use Rattle.clap.specs.declared.parser.matches.ValueSource.TheVariants.{DefaultValue}
+use Rattle.clap.specs.declared.parser.matches.ValueSource.TheVariants.{CommandLine, DefaultValue}
 use Rattle.command_line.specs.CommandLine.{HasValue, HasValues, OptionForm, rule_of}
 
 pub no_kind : (k : ErrorKind) (ks : Kinds) → k ∷ ks ≡ [] → ⊥
@@ -32,9 +35,6 @@ option_rule o = with_index 1 (filled (rule_of o))
 abbrev pub help : Rule
 help = with_index 1 (filled help_rule)
 
-abbrev pub rules_of : List OptionForm → List Rule
-rules_of os = map option_rule os ++ help ∷ []
-
 abbrev pub option_of : List OptionForm → Text → Option OptionForm
 option_of os name = find (λ o. bytes_eq o.name name) os
 
@@ -48,9 +48,31 @@ abbrev pub AreSound : List OptionForm → List OptionForm → Type 0
 AreSound options [] = Unit {0}
 AreSound options (o ∷ os) = IsSound options o × AreSound options os
 
--- a row's first value is one that clap takes for its option
+-- an argument that is none of the options, and has no default
+pub record IsFree (options : List OptionForm) (a : Rule) : Type 0 where
+  pub other : option_of options a.id ≡ None
+  pub no_default : a.defaults ≡ []
+  pub adds : (action_of a ≡ Set) ⊎ (action_of a ≡ Append)
+
+abbrev pub IsSoundRule : List OptionForm → Rule → Type 0
+IsSoundRule options a = ((o : OptionForm) × (a ≡ option_rule o) × IsSound options o) ⊎ (IsFree options a ⊎ (a ≡ help))
+
+abbrev pub AreSoundRules : List OptionForm → List Rule → Type 0
+AreSoundRules options [] = Unit {0}
+AreSoundRules options (a ∷ args) = IsSoundRule options a × AreSoundRules options args
+
+pub both_sound : (options : List OptionForm) (args bs : List Rule) → AreSoundRules options args → AreSoundRules options bs →
+    AreSoundRules options (args ++ bs)
+both_sound options [] bs s t = t
+both_sound options (a ∷ args) bs s t = (s.0, both_sound options args bs s.1 t)
+
+pub options_sound : (options os : List OptionForm) → AreSound options os → AreSoundRules options (map option_rule os)
+options_sound options [] s = tt
+options_sound options (o ∷ os) s = (inl (o, refl, s.0), options_sound options os s.1)
+
+-- the first value of an option's row is one that clap takes for it
 abbrev pub FitsOption : Option OptionForm → Row → Type 0
-FitsOption None r = ⊥
+FitsOption None r = Unit {0}
 FitsOption (Some o) r = (t : Text) × (row_text r ≡ Some t) × (accepts false o.parser t ≡ true)
 
 -- ---- rows
@@ -144,34 +166,89 @@ module _ (options : List OptionForm) where
       go false is = subst (λ rs. has_row o.name rs ≡ true) (sym (row_at_end o DefaultValue o.default [] rows is))
           (has_row-last o.name rows (row_of o DefaultValue (o.default ∷ [])) ((bytes_eq-Decides o.name o.name).1 refl))
 
-  default_kept : (name : Text) (o : OptionForm) (rows : List Row) → has_row name rows ≡ true →
-      has_row name (with_default rows (option_rule o)) ≡ true
-  default_kept name o rows e = go (has_row o.name rows) refl
+  -- what an argument adds that is none of the options
+  IsFine-append : (rows more : List Row) → IsFine rows → IsFine more → IsFine (rows ++ more)
+  IsFine-append [] more fine others = others
+  IsFine-append (r ∷ rs) more fine others = (fine.0, IsFine-append rs more fine.1 others)
+
+  changed_fine : (id : Text) (change : Row → List Row) (missing rows : List Row) →
+      ((r : Row) → bytes_eq r.id id ≡ true → IsFine (change r)) → IsFine missing
+      → IsFine rows → IsFine (at_row id change missing rows)
+  changed_fine id change missing [] changes others fine = others
+  changed_fine id change missing (r ∷ rs) changes others fine =
+      go (bytes_eq r.id id) refl (changed_fine id change missing rs changes others fine.1)
     where
-      go : (b : Bool) → has_row o.name rows ≡ b →
-          has_row name (cond b rows (with_values o.name (reading_by (option_rule o)) DefaultValue (o.default ∷ []) rows)) ≡ true
-      go true is = e
-      go false is = subst (λ rs. has_row name rs ≡ true) (sym (row_at_end o DefaultValue o.default [] rows is))
-          (has_row-append name rows (row_of o DefaultValue (o.default ∷ []) ∷ []) e)
+      go : (b : Bool) → bytes_eq r.id id ≡ b → IsFine (at_row id change missing rs) →
+          IsFine (cond b (change r ++ rs) (r ∷ at_row id change missing rs))
+      go true is rest = IsFine-append (change r) rs (changes r is) fine.1
+      go false is rest = (fine.0, rest)
 
-  help_adds_none : (rows : List Row) → with_default rows help ≡ rows
-  help_adds_none rows = same_either_way (has_row help.id rows) rows
+  values_fine : (id : Text) (how : Reading) (s : ValueSource) (values : List Text) (rows : List Row) → option_of options id ≡ None →
+      IsFine rows → IsFine (with_values id how s values rows)
+  values_fine id how s values rows other fine = changed_fine id (more_values s values) _ rows
+      (λ r is. (
+        subst (λ o. FitsOption o (record r { values = r.values ++ values; source = Some (stronger r.source s) }))
+            (sym (subst (λ name. option_of options name ≡ None) (sym ((bytes_eq-Decides r.id id).0 is)) other)) tt,
+        tt,
+      ))
+      (subst (λ o. FitsOption o (record { id = id; values = values; count = None; source = Some s; reading = how })) (sym other) tt, tt)
+      fine
 
-  defaults_fine : (os : List OptionForm) (rows : List Row) → AreSound options os → IsFine rows →
-      IsFine (fold with_default rows (rules_of os))
-  defaults_fine [] rows sound fine = subst IsFine (sym (help_adds_none rows)) fine
-  defaults_fine (o ∷ os) rows sound fine = defaults_fine os (with_default rows (option_rule o)) sound.1 (default_fine o rows sound.0 fine)
+  pub free_fine : (a : Rule) (values : List Text) (rows : List Row) → IsFree options a → IsFine rows → IsFine (used a values rows)
+  free_fine a values rows free fine = go free.adds
+    where
+      given : List Text
+      given = values_or_missing a values
 
-  defaults_kept : (name : Text) (os : List OptionForm) (rows : List Row) → has_row name rows ≡ true →
-      has_row name (fold with_default rows (rules_of os)) ≡ true
-  defaults_kept name [] rows e = subst (λ rs. has_row name rs ≡ true) (sym (help_adds_none rows)) e
-  defaults_kept name (o ∷ os) rows e = defaults_kept name os (with_default rows (option_rule o)) (default_kept name o rows e)
+      go : (action_of a ≡ Set) ⊎ (action_of a ≡ Append) → IsFine (used a values rows)
+      go (inl is) = subst (λ act. IsFine (used_as act a.id (reading_by a) given rows)) (sym is)
+          (values_fine a.id (reading_by a) CommandLine given (without a.id rows) free.other
+          (changed_fine a.id (λ _. []) [] rows (λ r same. tt) tt fine))
+      go (inr is) = subst (λ act. IsFine (used_as act a.id (reading_by a) given rows)) (sym is)
+          (values_fine a.id (reading_by a) CommandLine given rows free.other fine)
 
-  rows_given : (os : List OptionForm) (rows : List Row) → HasRows (fold with_default rows (rules_of os)) os
-  rows_given [] rows = tt
-  rows_given (o ∷ os) rows =
+  no_default_added : (a : Rule) (rows : List Row) → a.defaults ≡ [] → with_default rows a ≡ rows
+  no_default_added a rows none = subst (λ values. cond (has_row a.id rows) rows (default_rows a.id (reading_by a) values rows) ≡ rows)
+      (sym none) (same_either_way (has_row a.id rows) rows)
+
+  rule_default_fine : (a : Rule) (rows : List Row) → IsSoundRule options a → IsFine rows → IsFine (with_default rows a)
+  rule_default_fine a rows (inl given) fine =
+      subst (λ r. IsFine (with_default rows r)) (sym given.1) (default_fine given.0 rows given.2 fine)
+  rule_default_fine a rows (inr (inl free)) fine = subst IsFine (sym (no_default_added a rows free.no_default)) fine
+  rule_default_fine a rows (inr (inr is)) fine =
+      subst IsFine (sym (no_default_added a rows (subst (λ (r : Rule). r.defaults ≡ []) (sym is) refl))) fine
+
+  defaults_fine : (args : List Rule) (rows : List Row) → AreSoundRules options args → IsFine rows → IsFine (fold with_default rows args)
+  defaults_fine [] rows sound fine = fine
+  defaults_fine (a ∷ args) rows sound fine = defaults_fine args (with_default rows a) sound.1 (rule_default_fine a rows sound.0 fine)
+
+  default_kept : (name : Text) (a : Rule) (rows : List Row) → has_row name rows ≡ true → has_row name (with_default rows a) ≡ true
+  default_kept name a rows e = go (has_row a.id rows) refl a.defaults
+    where
+      go : (b : Bool) → has_row a.id rows ≡ b → (values : List Text)
+          → has_row name (cond b rows (default_rows a.id (reading_by a) values rows)) ≡ true
+      go true is values = e
+      go false is [] = e
+      go false is (v ∷ vs) =
+          subst (λ rs. has_row name rs ≡ true) (sym (at_row-none a.id (more_values DefaultValue (v ∷ vs)) _ rows is))
+          (has_row-append name rows _ e)
+
+  defaults_kept : (name : Text) (args : List Rule) (rows : List Row) → has_row name rows ≡ true →
+      has_row name (fold with_default rows args) ≡ true
+  defaults_kept name [] rows e = e
+  defaults_kept name (a ∷ args) rows e = defaults_kept name args (with_default rows a) (default_kept name a rows e)
+
+  rows_given : (os : List OptionForm) (back : List Rule) (rows : List Row) →
+      HasRows (fold with_default rows (map option_rule os ++ back)) os
+  rows_given [] back rows = tt
+  rows_given (o ∷ os) back rows =
       let next = with_default rows (option_rule o) in
-      (defaults_kept o.name os next (default_given o rows), rows_given os next)
+      (defaults_kept o.name (map option_rule os ++ back) next (default_given o rows), rows_given os back next)
+
+  all_rows_given : (front back : List Rule) (rows : List Row) →
+      HasRows (fold with_default rows (front ++ (map option_rule options ++ back))) options
+  all_rows_given [] back rows = rows_given options back rows
+  all_rows_given (a ∷ front) back rows = all_rows_given front back (with_default rows a)
 
   value_found : (o : OptionForm) (rows : List Row) → IsSound options o → IsFine rows → has_row o.name rows ≡ true → HasValue rows o
   value_found o [] sound fine e = absurd (true≢false (sym e))
@@ -190,5 +267,9 @@ module _ (options : List OptionForm) where
   values_found (o ∷ os) rows sound fine has = (value_found o rows sound.0 fine has.0, values_found os rows sound.1 fine has.1)
 
   -- after the defaults each option has a value
-  pub all_given : (rows : List Row) → AreSound options options → IsFine rows → HasValues (fold with_default rows (rules_of options)) options
-  all_given rows sound fine = values_found options _ sound (defaults_fine options rows sound fine) (rows_given options rows)
+  pub all_given : (front back : List Rule) (rows : List Row) → AreSound options options
+      → AreSoundRules options (front ++ (map option_rule options ++ back))
+      → IsFine rows → HasValues (fold with_default rows (front ++ (map option_rule options ++ back))) options
+  all_given front back rows sound rules fine =
+      values_found options _ sound (defaults_fine (front ++ (map option_rule options ++ back)) rows rules fine)
+      (all_rows_given front back rows)

@@ -1,10 +1,17 @@
 -- Whether words are refused, where clap refuses them and where it does not.
-use Rattle.std.proofs.Common.{◌≡◌, [], ◌∷◌, Option, Some, None, is_some, refl, inl, inr}
+use Rattle.std.proofs.Common.{◌≡◌, ◌⊎◌, [], ◌∷◌, Bool, true, false, refl, sym, true≢false, inl, inr, List, Option, Some, option_and_then}
 use Rattle.std.specs.Prelude.{if◌then◌else◌}
 use Rattle.clap.specs.Kinds.{HasKind, Kinds, or_else}
+use Rattle.clap.specs.Values.{kind_of}
+use Rattle.clap.specs.Words.{Row, Text}
 use Rattle.clap.specs.declared.error.Error.{Error}
-use Rattle.clap.specs.declared.error.kind.ErrorKind.TheVariants.{InvalidValue}
+use Rattle.clap.specs.declared.error.kind.ErrorKind.TheVariants.{InvalidValue, OutOfMemory}
+use Rattle.command_line.specs.Beginnings.{Beginning}
+use Rattle.command_line.specs.CommandLine.{asks_for_all, beginning_of_command, job_of_command}
+use Rattle.command_line.specs.Files.{Files, files_of_command}
 use Rattle.command_line.specs.declared.job.Job.{Job}
+use Rattle.command_line.specs.declared.refusals.Refusal.{Refusal}
+use Rattle.command_line.specs.declared.refusals.Refusal.TheVariants.{Memory}
 use Rattle.command_line.proofs.Options.{no_kind}
 
 -- clap's refusal stays
@@ -13,18 +20,22 @@ still_refused [] more e (inl memory) = inl memory
 still_refused [] more e (inr none) = absurd none
 still_refused (k ∷ ks) more e has = has
 
--- words that clap takes and that name a job
-pub taken : (kinds : Kinds) (found : Option Job) (job : Job) → kinds ≡ [] → found ≡ Some job →
-    or_else kinds (if is_some found then [] else InvalidValue ∷ []) ≡ []
-taken [] (Some job) found none is = refl
-taken [] None job none is = cc
-taken (k ∷ ks) found job none is = absurd (no_kind _ _ none)
+pub asks_for : (found : Option (Text × List Row)) (job : Job) (files : Files) (beginning : Beginning) →
+    option_and_then job_of_command found ≡ Some job → option_and_then files_of_command found ≡ Some files
+    → option_and_then beginning_of_command found ≡ Some beginning → asks_for_all found ≡ true
+asks_for found job files beginning is_job are_files is_beginning = rw (is_job, are_files, is_beginning) refl
 
--- words that clap takes and that name a format that there is not
-pub name_refused : (kinds : Kinds) (found : Option Job) (e : Error) → kinds ≡ [] → found ≡ None → HasKind (InvalidValue ∷ []) e
-    → HasKind (or_else kinds (if is_some found then [] else InvalidValue ∷ [])) e
-name_refused [] None e none is has = has
-name_refused [] (Some job) e none is has =
-    let no : ⊥ = cc in
-    absurd no
-name_refused (k ∷ ks) found e none is has = absurd (no_kind _ _ none)
+-- words that clap takes and that ask for all that is wanted
+pub taken : (kinds : Kinds) (asks : Bool) → kinds ≡ [] → asks ≡ true → or_else kinds (if asks then [] else InvalidValue ∷ []) ≡ []
+taken [] true none is = refl
+taken [] false none is = absurd (true≢false (sym is))
+taken (k ∷ ks) asks none is = absurd (no_kind _ _ none)
+
+-- words that clap takes and that don't, or memory ran out
+pub refusal_told : (kinds : Kinds) (asks : Bool) (r : Refusal) (e : Error) → kinds ≡ [] → (r ≡ Memory) ⊎ (asks ≡ false)
+    → HasKind (InvalidValue ∷ []) e → (r ≡ Memory → kind_of e ≡ OutOfMemory)
+    → HasKind (or_else kinds (if asks then [] else InvalidValue ∷ [])) e
+refusal_told kinds asks r e none (inl memory) has out = inl (out memory)
+refusal_told [] false r e none (inr is) has out = has
+refusal_told [] true r e none (inr is) has out = absurd (true≢false is)
+refusal_told (k ∷ ks) asks r e none (inr is) has out = absurd (no_kind _ _ none)

@@ -1,5 +1,5 @@
--- The program's command line, as clap reads it: commands, each with options.
-use Rattle.std.specs.Prelude.{◌≡◌, ◌≤◌, ◌^◌, ◌-◌, ◌*◌, ℕ, Some, None, Option, List, [], ◌∷◌, codes, true, false, map, fold}
+-- The program's command line, as clap reads it: commands, each with words and options.
+use Rattle.std.specs.Prelude.{◌≡◌, ◌≤◌, ◌^◌, ◌-◌, ◌*◌, ℕ, Some, None, Option, List, [], ◌∷◌, ◌++◌, ◌&&◌, Bool, codes, true, false, map, fold}
 use Rattle.std.specs.Prelude.{◌⊎◌, if◌then◌else◌, is_some, option_and_then, option_map}
 use Rattle.std.specs.Str.{bytes_eq}
 use Rattle.std.specs.Str.Parse.{digits_value, without_leading_plus}
@@ -11,6 +11,9 @@ use Rattle.clap.specs.ValueTests.{accepts}
 use Rattle.clap.specs.declared.builder.value_parser.ValueParser.{ValueParser}
 use Rattle.clap.specs.declared.builder.value_parser.ValueParser.TheVariants as parsers
 use Rattle.clap.specs.declared.error.kind.ErrorKind.TheVariants.{InvalidValue}
+use Rattle.clap.specs.declared.builder.action.ArgAction.TheVariants.{Append}
+use Rattle.command_line.specs.Beginnings.{Beginning, beginning_in}
+use Rattle.command_line.specs.Files.{Files, files_of_command}
 use Rattle.command_line.specs.declared.job.Job.{Job}
 use Rattle.command_line.specs.declared.job.Job.TheVariants.{Start, Play, Improve, Find, Report}
 use Rattle.command_line.specs.declared.number_args.NumberArg.{NumberArg}
@@ -25,10 +28,12 @@ pub record OptionForm : Type 0 where
   pub parser : ValueParser
   pub default : Text
 
--- a command and its options
+-- a command: the words that may stand after it, its options, and those that may be left out and then have no value
 pub record CommandForm : Type 0 where
   pub name : Text
+  pub words : List Rule
   pub options : List OptionForm
+  pub free : List Rule
 
 -- an option `--name N` with the range of N
 abbrev pub number_option : Text → ℕ → ℕ → Text → OptionForm
@@ -62,27 +67,78 @@ slack_option = number_option (codes "slack") 0 (2 ^ 64 - 1) (codes "0")
 abbrev pub format_option : OptionForm
 format_option = record { name = codes "format"; parser = parsers.String; default = codes "text" }
 
+-- a word, and an option with a text, that may be left out
+abbrev pub word : Text → Rule
+word name = record (new_rule name) { value_names = 1; parser = Some parsers.NonEmptyString }
+
+abbrev pub text_option : Text → Rule
+text_option name = record (word name) { long = Some name }
+
+-- an option that can be given several times
+abbrev pub repeated : Rule → Rule
+repeated r = record r { action = Some Append }
+
+abbrev pub league_word : Rule
+league_word = word (codes "league")
+
+-- the script or the schedule beside the league
+abbrev pub second_word : Rule
+second_word = word (codes "second")
+
+-- the schedule at which boards begin
+abbrev pub from_option : Rule
+from_option = text_option (codes "from")
+
+-- what a moved game costs
+abbrev pub near_option : Rule
+near_option = text_option (codes "near")
+
+-- the options of a start
+abbrev pub start_rules : List Rule
+start_rules = from_option ∷ text_option (codes "keep") ∷ repeated (text_option (codes "keep-game")) ∷ near_option ∷ []
+
 -- an option as the program has it
 abbrev pub form_of : NumberArg → OptionForm
 form_of o = number_option o.name.now o.least o.most o.default.now
 
 abbrev pub start_command : CommandForm
-start_command = record { name = codes "start"; options = [] }
+start_command = record { name = codes "start"; words = league_word ∷ []; options = []; free = from_option ∷ [] }
 
 abbrev pub play_command : CommandForm
-play_command = record { name = codes "play"; options = room_option ∷ [] }
+play_command = record {
+  name = codes "play";
+  words = league_word ∷ second_word ∷ [];
+  options = room_option ∷ [];
+  free = start_rules;
+}
 
 abbrev pub improve_command : CommandForm
-improve_command = record { name = codes "improve"; options = workers_option ∷ seed_option ∷ effort_option ∷ [] }
+improve_command = record {
+  name = codes "improve";
+  words = league_word ∷ [];
+  options = workers_option ∷ seed_option ∷ effort_option ∷ [];
+  free = start_rules;
+}
+
+-- the numbers of a search beside its room
+abbrev pub plan_options : List OptionForm
+plan_options = workers_option ∷ seed_option ∷ steps_option ∷ slack_option ∷ []
 
 abbrev pub search_command : CommandForm
 search_command = record {
   name = codes "search";
-  options = room_option ∷ workers_option ∷ seed_option ∷ steps_option ∷ slack_option ∷ [];
+  words = league_word ∷ [];
+  options = room_option ∷ plan_options;
+  free = start_rules;
 }
 
 abbrev pub report_command : CommandForm
-report_command = record { name = codes "report"; options = format_option ∷ [] }
+report_command = record {
+  name = codes "report";
+  words = league_word ∷ second_word ∷ [];
+  options = format_option ∷ [];
+  free = from_option ∷ near_option ∷ [];
+}
 
 abbrev pub commands : List CommandForm
 commands = start_command ∷ play_command ∷ improve_command ∷ search_command ∷ report_command ∷ []
@@ -92,7 +148,7 @@ abbrev pub rule_of : OptionForm → Rule
 rule_of o = record (new_rule o.name) { long = Some o.name; value_names = 1; parser = Some o.parser; defaults = o.default ∷ [] }
 
 abbrev pub app_of_command : CommandForm → App
-app_of_command c = fold with_rule (new_app c.name) (map rule_of c.options)
+app_of_command c = fold with_rule (new_app c.name) (c.words ++ map rule_of c.options ++ c.free)
 
 -- one command is needed
 abbrev pub needing_command : App → App
@@ -161,9 +217,26 @@ job_of_command found = if bytes_eq found.0 (codes "start") then Some Start
 abbrev pub job_of_words : List Text → Option Job
 job_of_words words = option_and_then job_of_command (subcommand_of program words)
 
--- why the words are refused: by clap, or else since a format has another name
+-- the files that the words name
+abbrev pub files_of_words : List Text → Option Files
+files_of_words words = option_and_then files_of_command (subcommand_of program words)
+
+abbrev pub beginning_of_command : Text × List Row → Option Beginning
+beginning_of_command found = beginning_in found.1
+
+-- what the words keep of the schedule at which boards begin, and what a moved game costs
+abbrev pub beginning_of_words : List Text → Option Beginning
+beginning_of_words words = option_and_then beginning_of_command (subcommand_of program words)
+
+-- a command and its values ask for a job, for files of which one alone is standard input, and for a beginning
+abbrev pub asks_for_all : Option (Text × List Row) → Bool
+asks_for_all found = is_some (option_and_then job_of_command found)
+    && (is_some (option_and_then files_of_command found) && is_some (option_and_then beginning_of_command found))
+
+-- why the words are refused: by clap, or else since a value names nothing here
 abbrev pub words_fault : List Text → Kinds
-words_fault words = or_else (fault_of program words) (if is_some (job_of_words words) then [] else InvalidValue ∷ [])
+words_fault words =
+    or_else (fault_of program words) (if asks_for_all (subcommand_of program words) then [] else InvalidValue ∷ [])
 
 -- 1 to 16 workers, of at most a million steps
 pub record IsPlanInRange (plan : SearchPlan) : Type 0 where

@@ -30,7 +30,8 @@ pub(crate) const PLAY_LINES: &str = "Script lines (docs/script.md), with teams a
   slack S            from here on a move may raise the score by at most S
 
 Example:
-  (cat leagues/circular-4.json; echo script; echo 'homes 1 2'; echo undo) | ttp play --room 8";
+  (cat leagues/circular-4.json; echo script; echo 'homes 1 2'; echo undo) | ttp play --room 8
+  ttp play leagues/circular-4.json changes.txt";
 
 pub(crate) const IMPROVE_ABOUT: &str =
     "Reads a league from standard input, anneals its schedule, and writes each better one as soon as
@@ -42,7 +43,10 @@ ended at any time: what is written above a line `----------` is whole, and the l
 is the best so far (docs/improve.md).
 
 Example:
-  ttp improve --workers 4 --effort 100 < leagues/circular-10.json";
+  ttp improve --workers 4 --effort 100 < leagues/circular-10.json
+
+A season is mended by what it has: rounds 1 to 8 stay, and each game that moves costs 50:
+  ttp improve season.json --from last.txt --keep 1-8 --near 50";
 
 pub(crate) const SEARCH_ABOUT: &str =
     "Reads a league from standard input, has workers search for a cheaper schedule on one board,
@@ -62,7 +66,8 @@ limit, and 3 where it isn't.
 
 Example:
   (cat leagues/circular-4.json; echo sheet; ttp start < leagues/circular-4.json) | ttp report
-  .. | ttp report --format html > season.html";
+  .. | ttp report --format html > season.html
+  ttp improve season.json | ttp report season.json";
 
 pub(crate) const FORMAT_HELP: &str =
     "How the report is written: text, csv (the games) or html (a page for a browser)";
@@ -79,3 +84,23 @@ pub(crate) const SLACK_HELP: &str =
     "By how much a score may rise at the first step, any number of 64 bits; it falls in a line, to X / T at the last";
 
 pub(crate) const ROOM_HELP: &str = "How many changes the board has room for, 0 to 1048576";
+
+pub(crate) const LEAGUE_HELP: &str =
+    "The file of the league, or `-` for standard input, which is read without it";
+
+pub(crate) const SCRIPT_HELP: &str =
+    "The file of the script, or `-` for standard input, which is read without it";
+
+pub(crate) const SCHEDULE_HELP: &str =
+    "The file of the schedule, or `-` for standard input, which is read without it";
+
+pub(crate) const FROM_HELP: &str =
+    "The file of a schedule at which boards begin, in place of the league's own start";
+
+pub(crate) const KEEP_HELP: &str = "Rounds of the start whose games are kept, as 1-8,12";
+
+pub(crate) const KEEP_GAME_HELP: &str =
+    "A game of the start that is kept, as 7-5; it can be given several times";
+
+pub(crate) const NEAR_HELP: &str =
+    "What a game costs that isn't in its round of the start, 0 to 1000000 [default: 0]";

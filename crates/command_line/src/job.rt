@@ -1,9 +1,13 @@
 //! The program's command line.
 
-ghost use Rattle.std.specs.Prelude.{◌≡◌, [], ◌∷◌, Some, IfOk, IfSome, map, option_and_then, string_bytes};
-ghost use Rattle.clap.specs.Words.{app_of, found_of, rows_of, FailsBy, subcommand_rows_of};
+ghost use Rattle.std.specs.Prelude.{◌≡◌, [], ◌∷◌, Some, IfOk, IfSome, fold, map, option_and_then, string_bytes};
+ghost use Rattle.clap.specs.Words.{app_of, found_of, rows_of, FailsBy, subcommand_rows_of, with_rule};
 ghost use Rattle.command_line.specs.CommandLine.{app_of_command, improve_command, improve_in, job_of_command, job_of_words, play_command};
+ghost use Rattle.command_line.specs.Beginnings.{beginning_of};
+ghost use Rattle.command_line.specs.CommandLine.{beginning_of_words, files_of_words};
+ghost use Rattle.command_line.specs.CommandLine.{plan_options, rule_of};
 ghost use Rattle.command_line.specs.CommandLine.{plan_in, program, program_of, search_command, start_command, words_fault};
+ghost use Rattle.command_line.specs.Files.{files_of};
 ghost use Rattle.command_line.specs.CommandLine.{HasValues, IsInRange, IsPlanInRange, NamesACommand};
 
 use crate::help::{
@@ -11,7 +15,10 @@ use crate::help::{
     SEARCH_ABOUT, SEARCH_EXAMPLE, START_ABOUT, START_EXAMPLE, VERSION,
 };
 use crate::number_args::{EFFORT, ROOM, SEED, SLACK, STEPS, WORKERS};
-use crate::report_args::{format_of, report_command, wrong_format};
+use crate::refusals::refused;
+use crate::report_args::{format_of, report_command};
+use crate::request::{Request, request_of};
+use crate::text_args::{FROM, LEAGUE, SCRIPT, with_start_options};
 use clap::{ArgMatches, Command, Error};
 use report_formats::Format;
 use search::SearchPlan;
@@ -23,49 +30,51 @@ const STEPS_OF_EFFORT: u64 = 1_000_000;
 /// What the program is asked to do.
 #[derive(Clone, Copy, Debug, PartialEq, Eq)]
 pub enum Job {
-    /// Write the sheet of the Berger start of the league on standard input.
+    /// Write the sheet of the start of the league.
     Start,
-    /// Play the script on standard input, on a board with room for so many changes.
+    /// Play the script, on a board with room for so many changes.
     Play {
         room: u32,
     },
-    /// Anneal the schedule of the league on standard input. The effort is in steps of all workers together.
+    /// Anneal the schedule of the league. The effort is in steps of all workers together.
     Improve {
         workers: u32,
         seed: u64,
         effort: u64,
     },
-    /// Search for a cheaper schedule of the league on standard input, on a board with room for so many changes.
+    /// Search for a cheaper schedule of the league, on a board with room for so many changes.
     Find {
         room: u32,
         plan: SearchPlan,
     },
-    /// Report, in the format, on the schedule that stands behind the league on standard input.
+    /// Report, in the format, on a schedule of the league.
     Report(Format),
 }
 
-/// Reads the program's words, the first of which is its name. The error is clap's, or in clap's form if no format has the
-/// name that is given: its text, which for `--help` and `--version` is no fault, and its exit status.
-pub fn args(alloc: Global, words: &[String]) -> Result<Job, Error>
+/// Reads the program's words, the first of which is its name. The error is clap's, or in clap's form if clap takes a word that
+/// names nothing here: its text, which for `--help` and `--version` is no fault, and its exit status.
+pub fn args(alloc: Global, words: &[String]) -> Result<Request, Error>
     ensures fault { FailsBy (words_fault (map string_bytes words.now)) result }
-    ensures job { IfOk result (λ job. job_of_words (map string_bytes words.now) ≡ Some job) }
-    ensures in_range { IfOk result IsInRange }
+    ensures job { IfOk result (λ request. job_of_words (map string_bytes words.now) ≡ Some request.job) }
+    ensures files { IfOk result (λ request. files_of_words (map string_bytes words.now) ≡ Some (files_of request.files)) }
+    ensures beginning { IfOk result (λ request. beginning_of_words (map string_bytes words.now) ≡ Some (beginning_of request.beginning)) }
+    ensures in_range { IfOk result (λ request. IsInRange request.job) }
 {
     let command = match command(alloc) {
         Ok(command) => command,
         Err(error) => return Err(Error::from(error)),
     };
     match command.try_get_matches_from(words) {
-        Ok(matches) => match job_of(&matches) {
-            Some(job) => Ok(job),
-            None => Err(wrong_format(alloc, &matches)),
+        Ok(matches) => match request_of(alloc, &matches) {
+            Ok(request) => Ok(request),
+            Err(refusal) => Err(refused(alloc, &matches, refusal)),
         },
         Err(error) => Err(error),
     }
 }
 
 /// The job of a command and its values, unless they name a format that there isn't.
-fn job_of(matches: &ArgMatches) -> Option<Job>
+pub(crate) fn job_of(matches: &ArgMatches) -> Option<Job>
     requires { NamesACommand (subcommand_rows_of matches.now) }
     ensures job { result ≡ option_and_then job_of_command (subcommand_rows_of matches.now) }
     ensures in_range { IfSome result IsInRange }
@@ -154,9 +163,7 @@ fn with_play<'a>(alloc: Global) -> Result<Command<'a>, AllocError>
 fn with_start<'a>(alloc: Global) -> Result<Command<'a>, AllocError>
     ensures { IfOk result (λ c. app_of c ≡ program_of (start_command ∷ [])) }
 {
-    let start = Command::new(alloc, "start")
-        .about(START_ABOUT)
-        .after_help(START_EXAMPLE);
+    let start = start_command(alloc)?;
     Command::new(alloc, "ttp")
         .version(VERSION)
         .about(PROGRAM_ABOUT)
@@ -165,33 +172,69 @@ fn with_start<'a>(alloc: Global) -> Result<Command<'a>, AllocError>
         .subcommand(start)
 }
 
+/// The command of this name, and `start` for any other.
+pub(crate) fn command_named<'a>(alloc: Global, name: &str) -> Result<Command<'a>, AllocError> {
+    match name {
+        "play" => play_command(alloc),
+        "improve" => improve_command(alloc),
+        "search" => search_command(alloc),
+        "report" => report_command(alloc),
+        _ => start_command(alloc),
+    }
+}
+
+fn start_command<'a>(alloc: Global) -> Result<Command<'a>, AllocError>
+    ensures { IfOk result (λ c. app_of c ≡ app_of_command start_command) }
+{
+    Command::new(alloc, "start")
+        .about(START_ABOUT)
+        .after_help(START_EXAMPLE)
+        .arg(LEAGUE.word(alloc))?
+        .arg(FROM.option(alloc))
+}
+
 fn play_command<'a>(alloc: Global) -> Result<Command<'a>, AllocError>
     ensures { IfOk result (λ c. app_of c ≡ app_of_command play_command) }
 {
-    Command::new(alloc, "play")
+    let command = Command::new(alloc, "play")
         .about(PLAY_ABOUT)
         .after_help(PLAY_LINES)
-        .arg(ROOM.arg(alloc))
+        .arg(LEAGUE.word(alloc))?
+        .arg(SCRIPT.word(alloc))?
+        .arg(ROOM.arg(alloc))?;
+    with_start_options(alloc, command)
 }
 
 fn improve_command<'a>(alloc: Global) -> Result<Command<'a>, AllocError>
     ensures { IfOk result (λ c. app_of c ≡ app_of_command improve_command) }
 {
-    Command::new(alloc, "improve")
+    let command = Command::new(alloc, "improve")
         .about(IMPROVE_ABOUT)
         .after_help(IMPROVE_EXAMPLE)
+        .arg(LEAGUE.word(alloc))?
         .arg(WORKERS.arg(alloc))?
         .arg(SEED.arg(alloc))?
-        .arg(EFFORT.arg(alloc))
+        .arg(EFFORT.arg(alloc))?;
+    with_start_options(alloc, command)
 }
 
 fn search_command<'a>(alloc: Global) -> Result<Command<'a>, AllocError>
     ensures { IfOk result (λ c. app_of c ≡ app_of_command search_command) }
 {
-    Command::new(alloc, "search")
+    let command = Command::new(alloc, "search")
         .about(SEARCH_ABOUT)
         .after_help(SEARCH_EXAMPLE)
-        .arg(ROOM.arg(alloc))?
+        .arg(LEAGUE.word(alloc))?
+        .arg(ROOM.arg(alloc))?;
+    let planned = with_plan_options(alloc, command)?;
+    with_start_options(alloc, planned)
+}
+
+/// The command with the numbers of a plan.
+fn with_plan_options<'a>(alloc: Global, command: Command<'a>) -> Result<Command<'a>, AllocError>
+    ensures { IfOk result (λ c. app_of c ≡ fold with_rule (app_of command.entry) (map rule_of plan_options)) }
+{
+    command
         .arg(WORKERS.arg(alloc))?
         .arg(SEED.arg(alloc))?
         .arg(STEPS.arg(alloc))?

@@ -1,11 +1,19 @@
 //! The command line of the program `ttp`, which clap reads.
 #![tactic(auto)]
 
+mod beginning;
+mod files;
 mod help;
 mod job;
 mod number_args;
+mod refusals;
 mod report_args;
+mod request;
+mod text_args;
 
+pub use beginning::BeginningWords;
+pub use files::FileWords;
 pub use job::{Job, args};
 pub use report_formats::Format;
+pub use request::Request;
 pub use search::SearchPlan;

@@ -1,14 +1,13 @@
 //! The command `report` and its option `--format NAME`. clap takes any text for it, and a name that no format has is refused here.
 
-ghost use Rattle.std.specs.Prelude.{◌≡◌, [], ◌∷◌, IfOk, false};
-ghost use Rattle.clap.specs.Words.{app_of, found_of, kind_of, rows_of, rule_of as rule_of_arg};
-ghost use Rattle.clap.specs.Kinds.{HasKind};
+ghost use Rattle.std.specs.Prelude.{◌≡◌, IfOk, false};
+ghost use Rattle.clap.specs.Words.{app_of, found_of, rows_of, rule_of as rule_of_arg};
 ghost use Rattle.command_line.specs.CommandLine.{app_of_command, format_in, format_named, format_option, report_command, rule_of};
 
 use crate::help::{FORMAT_HELP, REPORT_ABOUT, REPORT_LINES};
+use crate::text_args::{FROM, LEAGUE, NEAR, SCHEDULE};
 use clap::builder::ValueParser;
-use clap::error::ErrorKind;
-use clap::{Arg, ArgMatches, Command, Error};
+use clap::{Arg, ArgMatches, Command};
 use report_formats::Format;
 use std::alloc::{AllocError, Global};
 
@@ -18,7 +17,11 @@ pub(crate) fn report_command<'a>(alloc: Global) -> Result<Command<'a>, AllocErro
     Command::new(alloc, "report")
         .about(REPORT_ABOUT)
         .after_help(REPORT_LINES)
-        .arg(format_arg(alloc))
+        .arg(LEAGUE.word(alloc))?
+        .arg(SCHEDULE.word(alloc))?
+        .arg(format_arg(alloc))?
+        .arg(FROM.option(alloc))?
+        .arg(NEAR.option(alloc))
 }
 
 /// The option as clap has it.
@@ -53,28 +56,4 @@ fn format_named(name: &str) -> Option<Format>
         "html" => Some(Format::Html),
         _ => None,
     }
-}
-
-/// The error of a name that no format has.
-pub(crate) fn wrong_format(alloc: Global, matches: &ArgMatches) -> Error
-    ensures { HasKind (ErrorKind.InvalidValue ∷ []) result }
-{
-    let name = match matches.subcommand() {
-        Some((_, values)) => values.get_str("format").unwrap_or(""),
-        None => "",
-    };
-    match wrong_name(alloc, name) {
-        Ok(error) => error,
-        Err(error) => Error::from(error),
-    }
-}
-
-fn wrong_name(alloc: Global, name: &str) -> Result<Error, AllocError>
-    ensures { IfOk result (λ error. kind_of error ≡ ErrorKind.InvalidValue) }
-{
-    let message = format!(in alloc;
-        "invalid value '{name}' for '--format <FORMAT>'\n  [possible values: text, csv, html]"
-    )?;
-    let mut command = report_command(alloc)?.bin_name("ttp report")?;
-    command.error(ErrorKind::InvalidValue, message.as_str())
 }

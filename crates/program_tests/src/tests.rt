@@ -1,6 +1,7 @@
 //! The tests by subject, and what they share.
 
 mod arguments;
+mod asked;
 mod checks;
 mod circle;
 mod closings;

@@ -28,7 +28,7 @@ type Answer = Result<Job, (ErrorKind, i32)>;
 fn answer(alloc: Global, given: &[&str]) -> Result<Answer, AllocError> {
     let words = words(alloc, given)?;
     match args(alloc, &words) {
-        Ok(job) => Ok(Ok(job)),
+        Ok(request) => Ok(Ok(request.job)),
         Err(error) => Ok(Err((error.kind(), error.exit_code()))),
     }
 }
@@ -140,7 +140,10 @@ fn command_lines_ask_for_searches(rt: HostRuntime) -> Result<(), Fail> {
 const ENDS: &[Row<'_>] = &[
     (&["ttp"], Err((MissingSubcommand, 2))),
     (&["ttp", "stop"], Err((InvalidSubcommand, 2))),
-    (&["ttp", "start", "now"], Err((UnknownArgument, 2))),
+    (
+        &["ttp", "start", "now", "then"],
+        Err((UnknownArgument, 2)),
+    ),
     (&["ttp", "start", "--room", "3"], Err((UnknownArgument, 2))),
     (
         &["ttp", "play", "--room", "1048577"],

@@ -80,6 +80,11 @@ const HELP: &[(&[&str], &[&str])] = &[
             "[default: 10]",
             "docs/improve.md",
             "ttp improve --workers 4 --effort 100 < leagues/circular-10.json\n",
+            "ttp improve season.json --from last.txt --keep 1-8 --near 50\n",
+            "The file of a schedule at which boards begin, in place of the league's own start",
+            "--keep <ROUNDS>",
+            "--keep-game <GAME>",
+            "--near <W>",
         ],
     ),
     (
@@ -117,9 +122,12 @@ const HELP: &[(&[&str], &[&str])] = &[
     (&["/tmp/program", "--help"], &["Usage: ttp <COMMAND>\n"]),
     (
         &["/tmp/program", "play", "--help"],
-        &["Usage: ttp play [OPTIONS]\n"],
+        &["Usage: ttp play [OPTIONS] [LEAGUE] [SCRIPT]\n"],
     ),
-    (&["program", "start", "now"], &["Usage: ttp start\n"]),
+    (
+        &["program", "start", "now", "then"],
+        &["Usage: ttp start [OPTIONS] [LEAGUE]\n"],
+    ),
 ];
 
 #[test]
@@ -141,8 +149,29 @@ const TEXTS: &[(&[&str], &str)] = &[
     (
         &["ttp", "report", "--format", "pdf"],
         "error: invalid value 'pdf' for '--format <FORMAT>'\n  \
-        [possible values: text, csv, html]\n\nUsage: ttp report [OPTIONS]\n\n\
+        [possible values: text, csv, html]\n\nUsage: ttp report [OPTIONS] [LEAGUE] [SCHEDULE]\n\n\
         For more information, try '--help'.\n",
+    ),
+    // and a wrong value of a start what is wanted
+    (
+        &["ttp", "play", "--keep", "8-1"],
+        "error: invalid value '8-1' for '--keep <ROUNDS>': rounds from 1 as in 1-8,12 are wanted\n\n\
+        Usage: ttp play [OPTIONS] [LEAGUE] [SCRIPT]\n\nFor more information, try '--help'.\n",
+    ),
+    (
+        &["ttp", "improve", "--keep-game=1-2", "--keep-game=7-7"],
+        "error: invalid value '7-7' for '--keep-game <GAME>': two teams from 1 as in 7-5 are wanted\n\n\
+        Usage: ttp improve [OPTIONS] [LEAGUE]\n\nFor more information, try '--help'.\n",
+    ),
+    (
+        &["ttp", "search", "--near=many"],
+        "error: invalid value 'many' for '--near <W>': a number from 0 to 1000000 is wanted\n\n\
+        Usage: ttp search [OPTIONS] [LEAGUE]\n\nFor more information, try '--help'.\n",
+    ),
+    (
+        &["ttp", "start", "--from", "-"],
+        "error: standard input would be read twice: one text alone can come from there\n\n\
+        Usage: ttp start [OPTIONS] [LEAGUE]\n\nFor more information, try '--help'.\n",
     ),
 ];
 

@@ -65,7 +65,7 @@ const MISTAKES: &[(&[&str], ErrorKind)] = &[
 
 fn answer(alloc: Global, given: &[&str]) -> Result<Result<Job, ErrorKind>, AllocError> {
     match args(alloc, &words(alloc, given)?) {
-        Ok(job) => Ok(Ok(job)),
+        Ok(request) => Ok(Ok(request.job)),
         Err(error) => Ok(Err(error.kind())),
     }
 }

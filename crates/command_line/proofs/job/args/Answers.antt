@@ -1,13 +1,16 @@
-use Rattle.std.proofs.Common.{◌≡◌, ◌∙◌, [], ap, map, option_and_then, string_bytes, subst, sym}
-use Rattle.clap.specs.Words.{App, fault_of, is_simple, is_simple_and_free, subcommand_of}
+use Rattle.std.proofs.Common.{◌≡◌, ◌⊎◌, ◌∙◌, [], ap, false, map, option_and_then, string_bytes, subst, sym}
+use Rattle.clap.specs.Words.{App, fault_of, is_simple, is_simple_and_free, subcommand_of, subcommand_rows_of}
 use Rattle.clap.specs.Kinds.{HasKind}
-use Rattle.command_line.specs.CommandLine.{NamesACommand, job_of_command, job_of_words, program}
+use Rattle.command_line.specs.CommandLine.{NamesACommand, asks_for_all, beginning_of_command, job_of_command, program}
+use Rattle.command_line.specs.Beginnings.{beginning_of}
+use Rattle.command_line.specs.Files.{files_of, files_of_command}
+use Rattle.command_line.specs.declared.refusals.Refusal.TheVariants.{Memory}
 use Rattle.command_line.proofs.NamedCommand.{names_a_command}
-use Rattle.command_line.proofs.WordsFault.{name_refused, still_refused, taken}
+use Rattle.command_line.proofs.WordsFault.{asks_for, refusal_told, still_refused, taken}
 use Rattle.command_line.proofs.job.args.Goals as goal
 
-pub job_of-requires : goal.job_of-requires
-job_of-requires c =
+pub request_of-requires : goal.request_of-requires
+request_of-requires c =
     let words = map string_bytes c.args.words.now in
     let is_program = c.in-Ok.ensures in
     let parse = c.in-Ok-try_get_matches_from.ensures in
@@ -15,23 +18,43 @@ job_of-requires c =
     let command = (parse.matches (ap is_simple is_program)).1 ∙ ap (λ a. subcommand_of a words) is_program in
     subst NamesACommand (sym command) (names_a_command words no_fault)
 
-pub returns-in-Some-clause-fault : goal.returns-in-Some-clause-fault
-returns-in-Some-clause-fault c =
+pub returns-in-Ok-request_of-clause-fault : goal.returns-in-Ok-request_of-clause-fault
+returns-in-Ok-request_of-clause-fault c =
     let words = map string_bytes c.args.words.now in
     let is_program = c.in-Ok.ensures in
     let parse = c.in-Ok-try_get_matches_from.ensures in
     let no_fault = subst (λ (a : App). fault_of a words ≡ []) is_program (parse.kinds (ap is_simple_and_free is_program)) in
     let command = (parse.matches (ap is_simple is_program)).1 ∙ ap (λ a. subcommand_of a words) is_program in
-    let found = sym (ap (option_and_then job_of_command) command) ∙ sym c.job_of.ensures.job ∙ c.in-Some.is in
-    taken (fault_of program words) (job_of_words words) c.in-Some.job no_fault found
+    let asked = c.in-Ok-request_of.ensures in
+    let request = c.in-Ok-request_of.request in
+    let all = asks_for (subcommand_rows_of c.in-Ok-try_get_matches_from.matches) request.job (files_of request.files)
+    (beginning_of request.beginning) asked.job asked.files asked.beginning in
+    taken (fault_of program words) (asks_for_all (subcommand_of program words)) no_fault
+    (ap asks_for_all (sym command) ∙ all)
 
-pub returns-in-Some-clause-job : goal.returns-in-Some-clause-job
-returns-in-Some-clause-job c =
+pub returns-in-Ok-request_of-clause-job : goal.returns-in-Ok-request_of-clause-job
+returns-in-Ok-request_of-clause-job c =
     let words = map string_bytes c.args.words.now in
     let is_program = c.in-Ok.ensures in
     let parse = c.in-Ok-try_get_matches_from.ensures in
     let command = (parse.matches (ap is_simple is_program)).1 ∙ ap (λ a. subcommand_of a words) is_program in
-    sym (ap (option_and_then job_of_command) command) ∙ sym c.job_of.ensures.job ∙ c.in-Some.is
+    sym (ap (option_and_then job_of_command) command) ∙ c.in-Ok-request_of.ensures.job
+
+pub returns-in-Ok-request_of-clause-files : goal.returns-in-Ok-request_of-clause-files
+returns-in-Ok-request_of-clause-files c =
+    let words = map string_bytes c.args.words.now in
+    let is_program = c.in-Ok.ensures in
+    let parse = c.in-Ok-try_get_matches_from.ensures in
+    let command = (parse.matches (ap is_simple is_program)).1 ∙ ap (λ a. subcommand_of a words) is_program in
+    sym (ap (option_and_then files_of_command) command) ∙ c.in-Ok-request_of.ensures.files
+
+pub returns-in-Ok-request_of-clause-beginning : goal.returns-in-Ok-request_of-clause-beginning
+returns-in-Ok-request_of-clause-beginning c =
+    let words = map string_bytes c.args.words.now in
+    let is_program = c.in-Ok.ensures in
+    let parse = c.in-Ok-try_get_matches_from.ensures in
+    let command = (parse.matches (ap is_simple is_program)).1 ∙ ap (λ a. subcommand_of a words) is_program in
+    sym (ap (option_and_then beginning_of_command) command) ∙ c.in-Ok-request_of.ensures.beginning
 
 pub returns-in-Ok-try_get_matches_from-clause-fault :
     goal.returns-in-Ok-try_get_matches_from-clause-fault
@@ -41,8 +64,10 @@ returns-in-Ok-try_get_matches_from-clause-fault c =
     let parse = c.in-Ok-try_get_matches_from.ensures in
     let no_fault = subst (λ (a : App). fault_of a words ≡ []) is_program (parse.kinds (ap is_simple_and_free is_program)) in
     let command = (parse.matches (ap is_simple is_program)).1 ∙ ap (λ a. subcommand_of a words) is_program in
-    let found = sym (ap (option_and_then job_of_command) command) ∙ sym c.job_of.ensures.job ∙ c.in-None.is in
-    name_refused (fault_of program words) (job_of_words words) c.wrong_format.result no_fault found c.wrong_format.ensures
+    let refusal = subst (λ found. (c.in-Err-request_of.refusal ≡ Memory) ⊎ (asks_for_all found ≡ false)) command
+    (rw c.in-Err-request_of.is at c.request_of.ensures.refused) in
+    refusal_told (fault_of program words) (asks_for_all (subcommand_of program words)) c.in-Err-request_of.refusal c.refused.result
+    no_fault refusal c.refused.ensures.kind c.refused.ensures.memory
 
 pub returns-clause-fault : goal.returns-clause-fault
 returns-clause-fault c =

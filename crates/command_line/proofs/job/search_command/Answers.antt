@@ -1,14 +1,15 @@
-use Rattle.std.proofs.Common.{◌≡◌, ap₂, codes, ◌∙◌, rules}
+use Rattle.std.proofs.Common.{◌≡◌, ap, ap₂, codes, map, ◌∙◌, rules}
 use Rattle.std.proofs.lemmas.Result.{IfOk-weaker}
-use Rattle.clap.specs.Words.{app_of, new_app, with_rule}
+use Rattle.std.specs.Prelude.{fold}
+use Rattle.clap.specs.Words.{App, app_of, new_app, with_rule}
+use Rattle.command_line.specs.CommandLine.{plan_options, rule_of, start_rules}
 use Rattle.command_line.proofs.job.search_command.Goals as goal
 
 pub returns : goal.returns
 returns c =
     let bare : app_of c.after_help.result ≡ new_app (codes "search") = search rules in
-    let with_room = c.in_ok-arg.ensures.shape c.arg.ensures.local ∙ ap₂ with_rule bare c.arg.ensures.rule in
-    let with_workers = c.in_ok-arg-2.ensures.shape c.arg-3.ensures.local ∙ ap₂ with_rule with_room c.arg-3.ensures.rule in
-    let with_seed = c.in_ok-arg-3.ensures.shape c.arg-5.ensures.local ∙ ap₂ with_rule with_workers c.arg-5.ensures.rule in
-    let with_steps = c.in_ok-arg-4.ensures.shape c.arg-7.ensures.local ∙ ap₂ with_rule with_seed c.arg-7.ensures.rule in
-    IfOk-weaker c.arg-10.result _ _
-    (λ r added. added.shape c.arg-9.ensures.local ∙ ap₂ with_rule with_steps c.arg-9.ensures.rule) c.arg-10.ensures
+    let with_league = c.in_ok-arg.ensures.shape c.word.ensures.local ∙ ap₂ with_rule bare c.word.ensures.rule in
+    let with_room = c.in_ok-command.ensures.shape c.arg-2.ensures.local ∙ ap₂ with_rule with_league c.arg-2.ensures.rule in
+    let with_plan = c.in_ok-planned.ensures ∙ ap (λ (a : App). fold with_rule a (map rule_of plan_options)) with_room in
+    IfOk-weaker c.with_start_options.result _ _ (λ r same. same ∙ ap (λ (a : App). fold with_rule a start_rules) with_plan)
+    c.with_start_options.ensures

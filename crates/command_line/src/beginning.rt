@@ -1,0 +1,211 @@
+//! What the words keep of the schedule at which boards begin, and what a moved game costs.
+
+ghost use Rattle.std.specs.Prelude.{◌≡◌, ◌+◌, ◌<◌, ◌≤◌, [], map, IfOk, IfSome, Some, None, drop, length, option_map, take};
+ghost use Rattle.std.specs.List.{position_or_len};
+ghost use Rattle.clap.specs.Words.{found_of, rows_of};
+ghost use Rattle.sets.specs.Limits.{max_rounds};
+ghost use Rattle.command_line.specs.Beginnings.{after_dash, before_dash, game_of_numbers, game_of_text, games_in, is_comma, is_dash};
+ghost use Rattle.command_line.specs.Beginnings.{max_near, near_in, near_of_text, rounds_in, rounds_of_text, with_games, with_item};
+ghost use Rattle.command_line.specs.Beginnings.{with_items, with_numbers, with_rounds};
+
+use clap::ArgMatches;
+use sets::SlotSet;
+use sets::limits::{MAX_ROUNDS, MAX_TEAMS};
+use std::alloc::{AllocError, Global};
+use texts::number;
+
+/// The most that a moved game costs.
+const MAX_NEAR: u64 = 1_000_000;
+
+/// What is kept of the schedule at which boards begin, and what a moved game costs.
+#[derive(Debug, Drop)]
+pub struct BeginningWords {
+    /// The rounds whose games are kept, from 0.
+    pub rounds: SlotSet,
+    /// Games that are kept, the home team first, teams from 0.
+    pub games: Vec<(u8, u8)>,
+    /// What a game costs that isn't in its round of the start.
+    pub near: u32,
+}
+
+/// The rounds that are kept, unless their text is wrong.
+pub(crate) fn rounds_in(values: &ArgMatches) -> Option<SlotSet>
+    ensures { result ≡ rounds_in (rows_of (found_of values.now)) }
+{
+    match values.get_str("keep") {
+        Some(text) => rounds_of_text(text.as_bytes()),
+        None => Some(SlotSet::empty()),
+    }
+}
+
+fn rounds_of_text(text: &[u8]) -> Option<SlotSet>
+    ensures { result ≡ rounds_of_text text.now }
+{
+    let mut rounds = SlotSet::empty();
+    let mut rest = text;
+    let mut comma = comma_index(rest);
+    while comma < rest.len() {
+        let (item, _rest) = rest.split_at(comma);
+        rounds = with_item(rounds, item)?;
+        rest = rest_after(rest, comma);
+        comma = comma_index(rest);
+    }
+    with_item(rounds, rest)
+}
+
+/// The set with the rounds of an item.
+fn with_item(rounds: SlotSet, item: &[u8]) -> Option<SlotSet>
+    ensures { result ≡ with_item rounds item.now }
+{
+    let first = before_dash(item);
+    if dash_index(item) == item.len() {
+        with_rounds(rounds, first, first)
+    } else {
+        with_rounds(rounds, first, after_dash(item))
+    }
+}
+
+fn with_rounds(rounds: SlotSet, first: Option<u64>, last: Option<u64>) -> Option<SlotSet>
+    ensures { result ≡ with_rounds rounds first last }
+{
+    match (first, last) {
+        (Some(first), Some(last)) => {
+            if 1 <= first && first <= last && last <= u64::from(MAX_ROUNDS) {
+                Some(with_numbers(rounds, (first - 1) as u8, (last + 1 - first) as u8))
+            } else {
+                None
+            }
+        }
+        _ => None,
+    }
+}
+
+/// The set with so many rounds from the first on.
+#[tactic(auto, using(crate::proofs::Keeping::one_more))]
+fn with_numbers(rounds: SlotSet, first: u8, count: u8) -> SlotSet
+    requires { first + count ≤ max_rounds }
+    ensures { result ≡ with_numbers rounds first count }
+{
+    let mut all = rounds;
+    for place in 0..count {
+        all = all.with(first + place);
+    }
+    all
+}
+
+/// The games that are kept, unless a text is wrong.
+pub(crate) fn games_in(
+    alloc: Global,
+    values: &ArgMatches,
+) -> Result<Option<Vec<(u8, u8)>>, AllocError>
+    ensures { IfOk result (λ games. option_map (λ games. games.items) games ≡ games_in (rows_of (found_of values.now))) }
+{
+    match values.get_raw("keep-game") {
+        Some(texts) => games_of_texts(alloc, texts),
+        None => Ok(Some(Vec::new(alloc))),
+    }
+}
+
+fn games_of_texts(alloc: Global, texts: &[&str]) -> Result<Option<Vec<(u8, u8)>>, AllocError>
+    ensures { IfOk result (λ games. option_map (λ games. games.items) games ≡ with_games [] (map (λ text. text.now) texts.now)) }
+{
+    let mut games = Vec::new(alloc);
+    for text in texts {
+        match game_of_text(text) {
+            Some(game) => games.push(game)?,
+            None => return Ok(None),
+        }
+    }
+    Ok(Some(games))
+}
+
+/// The game `H-A`.
+pub(crate) fn game_of_text(text: &str) -> Option<(u8, u8)>
+    ensures { result ≡ game_of_text text.now }
+{
+    let word = text.as_bytes();
+    game_of_numbers(before_dash(word), after_dash(word))
+}
+
+fn game_of_numbers(home: Option<u64>, away: Option<u64>) -> Option<(u8, u8)>
+    ensures { result ≡ game_of_numbers home away }
+{
+    let most = u64::from(MAX_TEAMS);
+    match (home, away) {
+        (Some(home), Some(away)) => {
+            if 1 <= home && home <= most && 1 <= away && away <= most && home != away {
+                Some(((home - 1) as u8, (away - 1) as u8))
+            } else {
+                None
+            }
+        }
+        _ => None,
+    }
+}
+
+/// What a moved game costs, unless its text is wrong.
+pub(crate) fn near_in(values: &ArgMatches) -> Option<u32>
+    ensures value { result ≡ near_in (rows_of (found_of values.now)) }
+    ensures most { IfSome result (λ near. near ≤ max_near) }
+{
+    match values.get_str("near") {
+        Some(text) => near_of_text(text.as_bytes()),
+        None => Some(0),
+    }
+}
+
+fn near_of_text(text: &[u8]) -> Option<u32>
+    ensures value { result ≡ near_of_text text.now }
+    ensures most { IfSome result (λ near. near ≤ max_near) }
+{
+    match number(text) {
+        Some(near) if near <= MAX_NEAR => Some(near as u32),
+        _ => None,
+    }
+}
+
+/// The number before the first dash, or the number of the whole text.
+fn before_dash(text: &[u8]) -> Option<u64>
+    ensures { result ≡ before_dash text.now }
+{
+    let (front, _rest) = text.split_at(dash_index(text));
+    number(front)
+}
+
+fn after_dash(text: &[u8]) -> Option<u64>
+    ensures { result ≡ after_dash text.now }
+{
+    number(rest_after(text, dash_index(text)))
+}
+
+/// What follows the byte at this index.
+fn rest_after(text: &[u8], index: usize) -> &[u8]
+    requires { index ≤ length text.now }
+    ensures { result.now ≡ drop (index + 1) text.now }
+{
+    if index < text.len() {
+        text.split_at(index + 1).1
+    } else {
+        &[]
+    }
+}
+
+/// Where the first dash stands, or how long the text is.
+fn dash_index(text: &[u8]) -> usize
+    ensures index { result ≡ position_or_len is_dash text.now }
+    ensures within { result ≤ length text.now }
+{
+    text.iter()
+        .position(|byte| *byte == b'-')
+        .unwrap_or(text.len())
+}
+
+/// Where the first comma stands, or how long the text is.
+fn comma_index(text: &[u8]) -> usize
+    ensures index { result ≡ position_or_len is_comma text.now }
+    ensures within { result ≤ length text.now }
+{
+    text.iter()
+        .position(|byte| *byte == b',')
+        .unwrap_or(text.len())
+}

@@ -1,0 +1,100 @@
+//! Words that clap takes and the program doesn't, and the errors that tell so in clap's form.
+
+ghost use Rattle.std.specs.Prelude.{◌≡◌, [], ◌∷◌, IfOk};
+ghost use Rattle.clap.specs.Words.{kind_of};
+ghost use Rattle.clap.specs.Kinds.{HasKind};
+
+use crate::beginning::game_of_text;
+use crate::job::command_named;
+use clap::error::ErrorKind;
+use clap::{ArgMatches, Error};
+use std::alloc::{AllocError, Global};
+
+/// Why words are refused that clap takes, or that memory ran out.
+#[derive(Clone, Copy, Debug, PartialEq, Eq)]
+pub(crate) enum Refusal {
+    /// No format has the name.
+    Format,
+    /// Standard input would be read twice.
+    Input,
+    /// The text of `--keep` is wrong.
+    Keep,
+    /// A text of `--keep-game` is wrong.
+    KeepGame,
+    /// The text of `--near` is wrong.
+    Near,
+    Memory,
+}
+
+/// The error of a refusal.
+pub(crate) fn refused(alloc: Global, matches: &ArgMatches, refusal: Refusal) -> Error
+    ensures kind { HasKind (ErrorKind.InvalidValue ∷ []) result }
+    ensures memory { refusal ≡ Refusal.Memory → kind_of result ≡ ErrorKind.OutOfMemory }
+{
+    match (refusal, matches.subcommand()) {
+        (Refusal::Memory, _) | (_, None) => Error::from(AllocError),
+        (_, Some((name, values))) => match told(alloc, name, values, refusal) {
+            Ok(error) => error,
+            Err(error) => Error::from(error),
+        },
+    }
+}
+
+fn told(
+    alloc: Global,
+    name: &str,
+    values: &ArgMatches,
+    refusal: Refusal,
+) -> Result<Error, AllocError>
+    ensures { IfOk result (λ error. kind_of error ≡ ErrorKind.InvalidValue) }
+{
+    let message = message(alloc, values, refusal)?;
+    let full_name = format!(in alloc; "ttp {name}")?;
+    let mut command = command_named(alloc, name)?.bin_name(full_name.as_str())?;
+    command.error(ErrorKind::InvalidValue, message.as_str())
+}
+
+fn message(alloc: Global, values: &ArgMatches, refusal: Refusal) -> Result<String, AllocError> {
+    match refusal {
+        Refusal::Format => {
+            let name = values.get_str("format").unwrap_or("");
+            format!(in alloc;
+                "invalid value '{name}' for '--format <FORMAT>'\n  [possible values: text, csv, html]"
+            )
+        }
+        Refusal::Keep => {
+            let text = values.get_str("keep").unwrap_or("");
+            format!(in alloc;
+                "invalid value '{text}' for '--keep <ROUNDS>': rounds from 1 as in 1-8,12 are wanted"
+            )
+        }
+        Refusal::KeepGame => {
+            let text = wrong_game(values);
+            format!(in alloc;
+                "invalid value '{text}' for '--keep-game <GAME>': two teams from 1 as in 7-5 are wanted"
+            )
+        }
+        Refusal::Near => {
+            let text = values.get_str("near").unwrap_or("");
+            format!(in alloc;
+                "invalid value '{text}' for '--near <W>': a number from 0 to 1000000 is wanted"
+            )
+        }
+        _ => String::from_str(
+            alloc,
+            "standard input would be read twice: one text alone can come from there",
+        ),
+    }
+}
+
+/// The first text that is no game.
+fn wrong_game<'a>(values: &ArgMatches<'a>) -> &'a str {
+    if let Some(texts) = values.get_raw("keep-game") {
+        for text in texts {
+            if game_of_text(text).is_none() {
+                return text;
+            }
+        }
+    }
+    ""
+}
