@@ -24,12 +24,12 @@ same_job named a b is_a is_b = cc
 module _ {R W : Type 0} (left : R → Option (List ℕ)) (pulls : R → Tally) (held : W → Option (List ℕ)) (pushes : W → Tally) (source : R)
     (sink : W) where
   nothing_done : (job : Job) → EndsJob left pulls held pushes job None source source sink sink (Err Memory)
-  nothing_done Start = record { ending = refl; failed_read = λ h. absurd (omega (arith, h)); reads = omega arith }
-  nothing_done (Play room) = record { ending = refl; failed_read = λ h. absurd (omega (arith, h)); reads = omega arith }
+  nothing_done Start = record { ending = inl refl; failed_read = λ h. absurd (omega (arith, h)); reads = omega arith }
+  nothing_done (Play room) = record { ending = inl refl; failed_read = λ h. absurd (omega (arith, h)); reads = omega arith }
   nothing_done (Improve workers seed effort) =
       record { ending = inl refl; failed_read = λ h. absurd (omega (arith, h)); reads = omega arith }
-  nothing_done (Find room plan) = record { ending = refl; failed_read = λ h. absurd (omega (arith, h)); reads = omega arith }
-  nothing_done (Report format) = record { ending = refl; failed_read = λ h. absurd (omega (arith, h)); reads = omega arith }
+  nothing_done (Find room plan) = record { ending = inl refl; failed_read = λ h. absurd (omega (arith, h)); reads = omega arith }
+  nothing_done (Report format) = record { ending = inl refl; failed_read = λ h. absurd (omega (arith, h)); reads = omega arith }
 
 pub returns-in-Err-clause-done : goal.returns-in-Err-clause-done
 returns-in-Err-clause-done g c = λ job none found. record {
