@@ -1,17 +1,25 @@
 -- What the program does for a job, and its exit status.
-use Rattle.std.specs.Prelude.{◌≡◌, ℕ, Bool, true, false, List, Option, Some, None, Result, Ok, Err}
+use Rattle.std.specs.Prelude.{◌≡◌, ◌≢◌, ◌≤◌, ◌⊎◌, ◌==◌, ◌&&◌, ℕ, Bool, true, false, not, is_some, List, [], length, codes, unwrap_or}
+use Rattle.std.specs.Prelude.{Option, Some, None, option_map, Result, Ok, Err, IfOk}
+use Rattle.std.specs.Str.Lines.{lines}
+use Rattle.clap.specs.declared.error.kind.ErrorKind.{ErrorKind as Kind}
+use Rattle.clap.specs.declared.error.kind.ErrorKind.TheVariants.{OutOfMemory, DisplayHelp, DisplayVersion}
 use Rattle.command_line.specs.declared.job.Job.{Job}
 use Rattle.command_line.specs.declared.job.Job.TheVariants.{Start, Play, Improve, Find, Report}
+use Rattle.command_line.specs.Beginnings.{Beginning as Kept}
+use Rattle.command_line.specs.Files.{Files}
 use Rattle.streams.specs.declared.tally.Tally.{Tally}
+use Rattle.texts.specs.Input.{lines_after, text_before}
+use Rattle.beginnings.specs.declared.begun.Beginning.{Beginning}
 use Rattle.commands.specs.declared.fault.ProgramFault.{ProgramFault}
 use Rattle.commands.specs.declared.report_command.Verdict.{Verdict}
 use Rattle.commands.specs.declared.report_command.Verdict.TheVariants.{Feasible, Infeasible}
-use Rattle.commands.specs.Outcome.{without_value, Ends}
-use Rattle.commands.specs.Start.{AnswersStart}
-use Rattle.commands.specs.Play.{AnswersPlay}
-use Rattle.commands.specs.Find.{AnswersFind}
-use Rattle.commands.specs.Improve.{EndsImprove}
-use Rattle.commands.specs.Report.{AnswersReport}
+use Rattle.commands.specs.Outcome.{without_value, Ends, EndsOn}
+use Rattle.commands.specs.Start.{AnswersStart, AnswersStartOn}
+use Rattle.commands.specs.Play.{AnswersPlay, AnswersPlayOn}
+use Rattle.commands.specs.Find.{AnswersFind, AnswersFindOn}
+use Rattle.commands.specs.Improve.{EndsImprove, EndsImproveOn}
+use Rattle.commands.specs.Report.{AnswersReport, AnswersReportOn}
 
 -- the verdict of a job that has one
 abbrev pub told_in : Result (Option Verdict) ProgramFault → Option Verdict
@@ -23,6 +31,10 @@ abbrev pub is_report : Job → Bool
 is_report (Report format) = true
 is_report job = false
 
+-- a job that ended well has a verdict if it is a report
+abbrev pub HasVerdict : Job → Result (Option Verdict) ProgramFault → Type 0
+HasVerdict job outcome = IfOk outcome (λ verdict. is_some verdict ≡ is_report job)
+
 -- how the command of a job with this verdict ends, for a source with these bytes left and these calls, and a sink with these
 -- bytes held and these calls
 module _ {R W : Type 0} (left : R → Option (List ℕ)) (pulls : R → Tally) (held : W → Option (List ℕ)) (pushes : W → Tally) where
@@ -33,6 +45,29 @@ module _ {R W : Type 0} (left : R → Option (List ℕ)) (pulls : R → Tally) (
       EndsImprove left pulls held pushes (record { workers = workers; seed = seed; effort = effort })
   EndsJob (Find room plan) verdict = Ends left pulls held pushes (AnswersFind room plan)
   EndsJob (Report format) verdict = Ends left pulls held pushes (AnswersReport format verdict)
+
+-- the league's text and the lines beside it: all of an input and of the second text if that was read by itself, otherwise what
+-- stands before and after the word
+abbrev pub league_part : List ℕ → List ℕ → Option (List ℕ) → List ℕ
+league_part word input (Some second) = input
+league_part word input None = text_before word input
+
+abbrev pub lines_part : List ℕ → List ℕ → Option (List ℕ) → Option (List (List ℕ))
+lines_part word input (Some second) = Some (lines second)
+lines_part word input None = lines_after word input
+
+-- how it ends on an input and a second text that were read, of a league that begins where it is to
+module _ {W : Type 0} (held : W → Option (List ℕ)) (pushes : W → Tally) (input : List ℕ) (second : Option (List ℕ))
+    (beginning : Beginning) where
+  abbrev pub EndsJobOn : Job → Option Verdict → W → W → Result Unit ProgramFault → Type 0
+  EndsJobOn Start verdict = EndsOn held pushes (AnswersStartOn input (Some beginning))
+  EndsJobOn (Play room) verdict = EndsOn held pushes
+      (AnswersPlayOn room (league_part (codes "script") input second) (unwrap_or (lines_part (codes "script") input second) []) (Some beginning))
+  EndsJobOn (Improve workers seed effort) verdict =
+      EndsImproveOn held pushes (record { workers = workers; seed = seed; effort = effort }) input (Some beginning)
+  EndsJobOn (Find room plan) verdict = EndsOn held pushes (AnswersFindOn room plan input (Some beginning))
+  EndsJobOn (Report format) verdict = EndsOn held pushes
+      (AnswersReportOn format verdict (league_part (codes "sheet") input second) (lines_part (codes "sheet") input second) (Some beginning))
 
 -- the exit status after a job
 abbrev pub status_of : Result (Option Verdict) ProgramFault → ℕ
@@ -47,9 +82,46 @@ pub record DoesJob {R W : Type 0} (left : R → Option (List ℕ)) (pulls : R �
   pub outcome : Result (Option Verdict) ProgramFault
   pub source_after : R
   pub ends : EndsJob left pulls held pushes job (told_in outcome) source source_after before after (without_value outcome)
+  pub verdict : HasVerdict job outcome
   pub status_is : status ≡ status_of outcome
+
+-- the words name no file, and nothing is kept and no move has a price: all is read from standard input
+abbrev pub is_plain : Files → Kept → Bool
+is_plain files b = not (is_some files.league) && (not (is_some files.second) && (not (is_some files.from)
+    && (b.rounds == 0 && (length b.games == 0 && b.near == 0))))
+
+-- boards begin at the schedule of this text, and what is kept and the price are those of the words
+pub record IsBeginningOf (from : Option (List ℕ)) (kept : Kept) (beginning : Beginning) : Type 0 where
+  pub from_is : option_map (λ text. text.now) beginning.from ≡ from
+  pub rounds : beginning.rounds ≡ kept.rounds
+  pub games : beginning.games.now ≡ kept.games
+  pub near : beginning.near ≡ kept.near
+
+-- the job's command ended on the texts that were read, with what the words keep, and the exit status is that of how it ended
+pub record DoesJobOn {W : Type 0} (held : W → Option (List ℕ)) (pushes : W → Tally) (job : Job) (kept : Kept) (input : List ℕ)
+    (second from : Option (List ℕ)) (before after : W) (status : ℕ) : Type 0 where
+  pub outcome : Result (Option Verdict) ProgramFault
+  pub beginning : Beginning
+  pub begins : IsBeginningOf from kept beginning
+  pub ends : EndsJobOn held pushes input second beginning job (told_in outcome) before after (without_value outcome)
+  pub verdict : HasVerdict job outcome
+  pub status_is : status ≡ status_of outcome
+
+-- a text could not be read, or the job's command ended on those that were
+abbrev pub EndsWithFiles : {W : Type 0} → (W → Option (List ℕ)) → (W → Tally) → Job → Kept → W → W → ℕ → Type 0
+EndsWithFiles held pushes job kept before after status = ((status ≡ 1) × (after ≡ before))
+    ⊎ ((input : List ℕ) × (second : Option (List ℕ)) × (from : Option (List ℕ))
+    × DoesJobOn held pushes job kept input second from before after status)
 
 -- the words name a report
 abbrev pub IsReport : Option Job → Type 0
 IsReport None = ⊥
 IsReport (Some job) = is_report job ≡ true
+
+-- the exit status of a fault on the command line: 2, but 1 if memory ran out; and 0 after help and the version or, if they can't be
+-- written, 1
+pub record IsStatusOf (kind : Kind) (status : ℕ) : Type 0 where
+  pub memory : kind ≡ OutOfMemory → status ≡ 1
+  pub shown : kind ≡ DisplayHelp → status ≤ 1
+  pub told : kind ≡ DisplayVersion → status ≤ 1
+  pub mistake : kind ≢ OutOfMemory → kind ≢ DisplayHelp → kind ≢ DisplayVersion → status ≡ 2

@@ -1,14 +1,17 @@
-//! What a job does between a source and a sink.
+//! What a job does between a source and a sink, or on texts that were read.
 
-ghost use Rattle.std.specs.Prelude.{◌≡◌, IfSome, None, true};
+ghost use Rattle.std.specs.Prelude.{◌≡◌, ◌<◌, ◌≤◌, IfOk, false, is_some, length, option_map, true};
+ghost use Rattle.std.specs.Str.Lines.{lines};
 ghost use Rattle.command_line.specs.CommandLine.{IsInRange};
+ghost use Rattle.league.specs.Limits.{max_weight};
 ghost use Rattle.commands.specs.Outcome.{value_of, without_value};
-ghost use Rattle.program.specs.Program.{is_report, told_in, EndsJob};
+ghost use Rattle.program.specs.Program.{league_part, lines_part, told_in, EndsJob, EndsJobOn, HasVerdict};
 
 use command_line::Job;
 use commands::{
-    Gate, ImprovePlan, NoGate, ProgramFault, ProgressLine, Sink, Source, Verdict, Workplace, find,
-    improve, play, report, start,
+    Beginning, Gate, ImprovePlan, NoGate, ProgramFault, ProgressLine, Sink, Source, Verdict,
+    Workplace, find, find_on, improve, improve_on, play, play_on, report, report_on, start,
+    start_on,
 };
 use std::alloc::Global;
 use std::io::Write;
@@ -16,6 +19,7 @@ use std::sync::Wait;
 use std::thread::Threads;
 use std::time::Clock;
 use streams::WriterSink;
+use texts::split_at_line;
 
 /// What a job works with, beside its source and its sink.
 #[derive(Drop)]
@@ -42,7 +46,7 @@ pub(crate) fn perform<
     requires { IsInRange job }
     ensures ends { (after : R) × EndsJob R.left R.tally W.held W.tally job (told_in result)
         source after sink.old sink.new (without_value result) }
-    ensures verdict { IfSome (told_in result) (λ _. is_report job ≡ true) }
+    ensures verdict { HasVerdict job result }
 {
     let Console {
         rt,
@@ -57,6 +61,47 @@ pub(crate) fn perform<
         None => {
             let gate = &NoGate;
             perform_at(Workplace { rt, alloc, gate }, job, source, sink)
+        }
+    }
+}
+
+/// The texts that a job works on.
+#[derive(Drop)]
+pub(crate) struct Texts<'a> {
+    /// The league's text, or an input that has the second one too.
+    pub(crate) input: &'a [u8],
+    /// The script or the schedule, if it was read by itself.
+    pub(crate) second: Option<&'a [u8]>,
+    /// Where the league begins.
+    pub(crate) beginning: Beginning<'a>,
+}
+
+/// As [`perform`], on texts that were read.
+pub(crate) fn perform_on<T: Threads + Wait + Clock + Sync, E: Write + Send + Drop, W: Sink>(
+    console: Console<'_, T, E>,
+    job: Job,
+    texts: &Texts<'_>,
+    sink: &mut W,
+) -> Result<Option<Verdict>, ProgramFault>
+    requires job { IsInRange job }
+    requires near { texts.now.beginning.near ≤ max_weight }
+    ensures ends { EndsJobOn W.held W.tally texts.now.input.now (option_map (λ text. text.now) texts.now.second) texts.now.beginning
+        job (told_in result) sink.old sink.new (without_value result) }
+    ensures verdict { HasVerdict job result }
+{
+    let Console {
+        rt,
+        alloc,
+        terminal,
+    } = console;
+    match terminal {
+        Some(terminal) => {
+            let gate = &ProgressLine::over(rt, WriterSink::new(terminal), steps_of(job));
+            perform_at_on(Workplace { rt, alloc, gate }, job, texts, sink)
+        }
+        None => {
+            let gate = &NoGate;
+            perform_at_on(Workplace { rt, alloc, gate }, job, texts, sink)
         }
     }
 }
@@ -80,7 +125,7 @@ fn perform_at<T: Threads + Wait + Sync, G: Gate + Sync, R: Source + Drop, W: Sin
     requires { IsInRange job }
     ensures ends { (after : R) × EndsJob R.left R.tally W.held W.tally job (told_in result)
         source after sink.old sink.new (without_value result) }
-    ensures verdict { IfSome (told_in result) (λ _. is_report job ≡ true) }
+    ensures verdict { HasVerdict job result }
 {
     let alloc = workplace.alloc;
     match job {
@@ -103,9 +148,78 @@ fn perform_at<T: Threads + Wait + Sync, G: Gate + Sync, R: Source + Drop, W: Sin
     }
 }
 
+/// As [`perform_on`]. The workers pass the workplace's gate.
+fn perform_at_on<T: Threads + Wait + Sync, G: Gate + Sync, W: Sink>(
+    workplace: Workplace<'_, T, G>,
+    job: Job,
+    texts: &Texts<'_>,
+    sink: &mut W,
+) -> Result<Option<Verdict>, ProgramFault>
+    requires job { IsInRange job }
+    requires near { texts.now.beginning.near ≤ max_weight }
+    ensures ends { EndsJobOn W.held W.tally texts.now.input.now (option_map (λ text. text.now) texts.now.second) texts.now.beginning
+        job (told_in result) sink.old sink.new (without_value result) }
+    ensures verdict { HasVerdict job result }
+{
+    let alloc = workplace.alloc;
+    let Texts {
+        input,
+        second,
+        beginning,
+    } = texts;
+    match job {
+        Job::Start => without_verdict(start_on(alloc, input, Some(beginning), sink)),
+        Job::Play { room } => {
+            let (league, script) = parts(input, *second, b"script");
+            let script = script.unwrap_or(&[]);
+            without_verdict(play_on(alloc, league, script, Some(beginning), sink, room))
+        }
+        Job::Improve {
+            workers,
+            seed,
+            effort,
+        } => {
+            let plan = ImprovePlan {
+                workers,
+                seed,
+                effort,
+            };
+            without_verdict(improve_on(workplace, input, Some(beginning), sink, plan))
+        }
+        Job::Find { room, plan } => {
+            without_verdict(find_on(workplace, input, Some(beginning), sink, room, plan))
+        }
+        Job::Report(format) => {
+            let (league, sheet) = parts(input, *second, b"sheet");
+            with_verdict(report_on(alloc, league, sheet, Some(beginning), sink, format))
+        }
+    }
+}
+
+/// The league's text.
+pub(crate) fn league_text<'a>(job: Job, texts: &Texts<'a>) -> &'a [u8] {
+    match job {
+        Job::Play { .. } => parts(texts.input, texts.second, b"script").0,
+        Job::Report(_) => parts(texts.input, texts.second, b"sheet").0,
+        _ => texts.input,
+    }
+}
+
+/// The league's text and the one beside it, which was read by itself or stands after the word.
+fn parts<'a>(input: &'a [u8], second: Option<&'a [u8]>, word: &[u8]) -> (&'a [u8], Option<&'a [u8]>)
+    requires { 0 < length word.now }
+    ensures league { result.0.now ≡ league_part word.now input.now (option_map (λ text. text.now) second.entry) }
+    ensures lines { option_map (λ text. lines text.now) result.1 ≡ lines_part word.now input.now (option_map (λ text. text.now) second.entry) }
+{
+    match second {
+        Some(second) => (input, Some(second)),
+        None => split_at_line(input, word),
+    }
+}
+
 fn without_verdict(outcome: Result<(), ProgramFault>) -> Result<Option<Verdict>, ProgramFault>
     ensures outcome { without_value result ≡ outcome }
-    ensures none { told_in result ≡ None }
+    ensures none { IfOk result (λ verdict. is_some verdict ≡ false) }
 {
     match outcome {
         Ok(()) => Ok(None),
@@ -116,6 +230,7 @@ fn without_verdict(outcome: Result<(), ProgramFault>) -> Result<Option<Verdict>,
 fn with_verdict(outcome: Result<Verdict, ProgramFault>) -> Result<Option<Verdict>, ProgramFault>
     ensures outcome { without_value result ≡ without_value outcome }
     ensures verdict { told_in result ≡ value_of outcome }
+    ensures some { IfOk result (λ verdict. is_some verdict ≡ true) }
 {
     match outcome {
         Ok(verdict) => Ok(Some(verdict)),

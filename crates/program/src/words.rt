@@ -1,19 +1,25 @@
 //! From the words of the command line to the exit status, with the texts of what goes wrong.
 
-ghost use Rattle.std.specs.Prelude.{◌≡◌, ◌≢◌, ◌≤◌, [], ◌∷◌, map, string_bytes};
+ghost use Rattle.std.specs.Prelude.{◌≡◌, ◌≢◌, ◌≤◌, [], ◌∷◌, IfErr, IfOk, OnErr, OnOk, false, map, option_map, string_bytes, true};
 ghost use Rattle.std.specs.IoError.{error_kind};
 ghost use Rattle.std.specs.declared.io.ErrorKind.TheVariants.{OutOfMemory};
 ghost use Rattle.std.specs.Process.{exit_status};
 ghost use Rattle.clap.specs.Words.{kind_of};
 ghost use Rattle.clap.specs.declared.error.kind.ErrorKind.{ErrorKind as Kind};
-ghost use Rattle.command_line.specs.CommandLine.{job_of_words, words_fault};
+ghost use Rattle.command_line.specs.Beginnings.{Beginning as Kept, beginning_of};
+ghost use Rattle.command_line.specs.CommandLine.{beginning_of_words, files_of_words, job_of_words, words_fault, IsInRange};
+ghost use Rattle.command_line.specs.Files.{Files, files_of};
 ghost use Rattle.command_line.specs.declared.job.Job.{Job};
-ghost use Rattle.program.specs.Program.{status_of, DoesJob, IsReport};
+ghost use Rattle.league.specs.Limits.{max_weight};
+ghost use Rattle.program.specs.Program.{is_plain, is_report, status_of, DoesJob, DoesJobOn, EndsWithFiles, IsReport, IsStatusOf};
 
-use crate::jobs::{Console, perform};
+use crate::faults_told::{failure, not_begun, unread};
+use crate::jobs::{Console, Texts, perform, perform_on};
+use crate::texts_read::{TextsRead, read_texts};
 use clap::error::ErrorKind;
-use command_line::args;
-use commands::{ProgramFault, Verdict};
+use command_line::{Request, args};
+use commands::{Beginning, ProgramFault, Verdict};
+use league::SlotSet;
 use std::io::{IsTerminal, Write};
 use std::process::ExitCode;
 use std::rt::Runtime;
@@ -63,9 +69,14 @@ fn answer<
     R: Source + Drop,
     W: Sink,
 >(rt: &T, terminal: Option<E>, words: &[String], source: R, sink: &mut W) -> ExitCode
-    ensures done { (job : Job) → words_fault (map string_bytes words.now) ≡ []
-        → job_of_words (map string_bytes words.now) ≡ Some job
+    ensures done { (job : Job) (files : Files) (kept : Kept) → words_fault (map string_bytes words.now) ≡ []
+        → job_of_words (map string_bytes words.now) ≡ Some job → files_of_words (map string_bytes words.now) ≡ Some files
+        → beginning_of_words (map string_bytes words.now) ≡ Some kept → is_plain files kept ≡ true
         → DoesJob R.left R.tally W.held W.tally job source sink.old sink.new (exit_status result) }
+    ensures on_files { (job : Job) (files : Files) (kept : Kept) → words_fault (map string_bytes words.now) ≡ []
+        → job_of_words (map string_bytes words.now) ≡ Some job → files_of_words (map string_bytes words.now) ≡ Some files
+        → beginning_of_words (map string_bytes words.now) ≡ Some kept → is_plain files kept ≡ false
+        → EndsWithFiles W.held W.tally job kept sink.old sink.new (exit_status result) }
     ensures quiet { (kind : Kind) → words_fault (map string_bytes words.now) ≡ kind ∷ [] → sink.new ≡ sink.old }
     ensures taken { words_fault (map string_bytes words.now) ≡ [] → exit_status result ≢ 2 }
     ensures infeasible { exit_status result ≡ 3 → IsReport (job_of_words (map string_bytes words.now)) }
@@ -75,8 +86,38 @@ fn answer<
         → kind ≢ ErrorKind.DisplayHelp → kind ≢ ErrorKind.DisplayVersion → 1 ≤ exit_status result }
     ensures most { exit_status result ≤ 3 }
 {
-    let job = match args(rt.alloc(), words) {
-        Ok(request) => request.job,
+    let request = args(rt.alloc(), words);
+    respond(rt, terminal, request, source, sink)
+}
+
+/// Does what a request asks for, or says why there is none.
+fn respond<
+    T: Runtime + AllocGlobal + Threads + Wait + Sync,
+    E: Write + Send + Drop,
+    R: Source + Drop,
+    W: Sink,
+>(
+    rt: &T,
+    terminal: Option<E>,
+    request: Result<Request, clap::Error>,
+    source: R,
+    sink: &mut W,
+) -> ExitCode
+    requires job { IfOk request (λ r. IsInRange r.job) }
+    requires near { IfOk request (λ r. r.beginning.near ≤ max_weight) }
+    ensures done { IfOk request (λ r. is_plain (files_of r.files) (beginning_of r.beginning) ≡ true
+        → DoesJob R.left R.tally W.held W.tally r.job source sink.old sink.new (exit_status result)) }
+    ensures on_files { IfOk request (λ r. is_plain (files_of r.files) (beginning_of r.beginning) ≡ false
+        → EndsWithFiles W.held W.tally r.job (beginning_of r.beginning) sink.old sink.new (exit_status result)) }
+    ensures quiet { OnErr request (sink.new ≡ sink.old) }
+    ensures status { IfErr request (λ error. IsStatusOf (kind_of error) (exit_status result)) }
+    ensures taken { OnOk request (exit_status result ≢ 2) }
+    ensures infeasible { IfOk request (λ r. exit_status result ≡ 3 → is_report r.job ≡ true) }
+    ensures few { OnErr request (exit_status result ≤ 2) }
+    ensures most { exit_status result ≤ 3 }
+{
+    let request = match request {
+        Ok(request) => request,
         Err(error) => return words_not_taken(rt, error),
     };
     let alloc = rt.alloc();
@@ -85,7 +126,76 @@ fn answer<
         alloc,
         terminal,
     };
-    let outcome = perform(console, job, source, sink);
+    if is_plain(&request) {
+        let outcome = perform(console, request.job, source, sink);
+        ended(rt, outcome)
+    } else {
+        respond_on_files(console, &request, source, sink)
+    }
+}
+
+fn is_plain(request: &Request) -> bool
+    ensures { result ≡ is_plain (files_of request.now.files) (beginning_of request.now.beginning) }
+{
+    let Request {
+        files,
+        beginning,
+        ..
+    } = request;
+    files.league.is_none()
+        && files.second.is_none()
+        && files.from.is_none()
+        && beginning.rounds == SlotSet::empty()
+        && beginning.games.is_empty()
+        && beginning.near == 0
+}
+
+/// Reads the files that are named, then does the job on them.
+fn respond_on_files<
+    T: Runtime + AllocGlobal + Threads + Wait + Sync,
+    E: Write + Send + Drop,
+    R: Source + Drop,
+    W: Sink,
+>(console: Console<'_, T, E>, request: &Request, mut source: R, sink: &mut W) -> ExitCode
+    requires job { IsInRange request.now.job }
+    requires near { request.now.beginning.near ≤ max_weight }
+    ensures { EndsWithFiles W.held W.tally request.now.job (beginning_of request.now.beginning) sink.old sink.new (exit_status result) }
+{
+    let rt = console.rt;
+    match read_texts(rt, request.job, &request.files, &mut source) {
+        Ok(texts) => respond_on(console, request, &texts, sink),
+        Err(text) => unread(rt, text),
+    }
+}
+
+/// Does the job on texts that were read.
+fn respond_on<T: Runtime + AllocGlobal + Threads + Wait + Sync, E: Write + Send + Drop, W: Sink>(
+    console: Console<'_, T, E>,
+    request: &Request,
+    texts: &TextsRead,
+    sink: &mut W,
+) -> ExitCode
+    requires job { IsInRange request.now.job }
+    requires near { request.now.beginning.near ≤ max_weight }
+    ensures { DoesJobOn W.held W.tally request.now.job (beginning_of request.now.beginning) texts.now.input.items
+        (option_map (λ text. text.items) texts.now.second) (option_map (λ text. text.items) texts.now.from) sink.old sink.new
+        (exit_status result) }
+{
+    let rt = console.rt;
+    let given = Texts {
+        input: &texts.input,
+        second: texts.second.as_deref(),
+        beginning: Beginning {
+            from: texts.from.as_deref(),
+            rounds: request.beginning.rounds,
+            games: &request.beginning.games,
+            near: request.beginning.near,
+        },
+    };
+    let outcome = perform_on(console, request.job, &given, sink);
+    if let Err(ProgramFault::Begin(fault)) = outcome {
+        return not_begun(rt, request, &given, fault);
+    }
     ended(rt, outcome)
 }
 
@@ -99,33 +209,28 @@ fn ended<R: Runtime>(rt: &R, outcome: Result<Option<Verdict>, ProgramFault>) -> 
     }
 }
 
-/// Names the fault on standard error. If that can't be written either, the status still tells.
-fn failure<R: Runtime>(rt: &R, fault: ProgramFault) -> ExitCode
-    ensures { exit_status result ≡ 1 }
-{
-    let _ = eprintln!(rt; "ttp: {fault}");
-    ExitCode::FAILURE
-}
-
 /// Prints clap's text: help and the version on standard output, and a mistake on standard error.
 fn words_not_taken<R: Runtime>(rt: &R, error: clap::Error) -> ExitCode
-    ensures memory { kind_of error ≡ ErrorKind.OutOfMemory → exit_status result ≡ 1 }
-    ensures shown { kind_of error ≡ ErrorKind.DisplayHelp → exit_status result ≤ 1 }
-    ensures told { kind_of error ≡ ErrorKind.DisplayVersion → exit_status result ≤ 1 }
-    ensures mistake { kind_of error ≢ ErrorKind.OutOfMemory → kind_of error ≢ ErrorKind.DisplayHelp
-        → kind_of error ≢ ErrorKind.DisplayVersion → exit_status result ≡ 2 }
-    ensures most { exit_status result ≤ 2 }
+    ensures { IsStatusOf (kind_of error) (exit_status result) }
 {
     if error.kind() == ErrorKind::OutOfMemory {
         return failure(rt, ProgramFault::Memory);
     }
     let printed = error.print(rt);
     if error.use_stderr() {
-        ExitCode::from(MISUSE)
-    } else if printed.is_err() {
-        failure(rt, ProgramFault::Write)
-    } else {
-        ExitCode::SUCCESS
+        return ExitCode::from(MISUSE);
+    }
+    shown(rt, printed)
+}
+
+/// The status after a text of help or of the version.
+fn shown<R: Runtime>(rt: &R, printed: io::Result<()>) -> ExitCode
+    ensures written { OnOk printed (exit_status result ≡ 0) }
+    ensures failed { OnErr printed (exit_status result ≡ 1) }
+{
+    match printed {
+        Ok(()) => ExitCode::SUCCESS,
+        Err(_) => failure(rt, ProgramFault::Write),
     }
 }
 

@@ -1,0 +1,71 @@
+-- What a request that the words were taken for comes to, and one that they were refused for.
+use Rattle.std.proofs.Common.{◌≡◌, ℕ, List, [], ◌∷◌, Option, Some, None, Result, Ok, Err, IfOk, IfErr, OnErr, true, false, refl, subst, sym, arith}
+use mathlib.Core.Logic.{inl, inr}
+use Rattle.clap.specs.Words.{FailsBy, HasKind, Kinds, kind_of}
+use Rattle.clap.specs.declared.error.Error.{Error}
+use Rattle.clap.specs.declared.error.kind.ErrorKind.TheVariants as kind
+use Rattle.command_line.specs.Beginnings.{Beginning as Kept, beginning_of}
+use Rattle.command_line.specs.Files.{Files, files_of}
+use Rattle.command_line.specs.declared.job.Job.{Job}
+use Rattle.command_line.specs.declared.job.Job.TheVariants.{Start, Play, Improve, Find, Report}
+use Rattle.command_line.specs.declared.job.Request.{Request}
+use Rattle.streams.specs.declared.tally.Tally.{Tally}
+use Rattle.commands.specs.declared.fault.ProgramFault.TheVariants.{Memory}
+use Rattle.program.specs.Program.{is_plain, DoesJob, EndsJob, EndsWithFiles, IsStatusOf}
+
+-- where the words have no fault, only memory can be wanting
+memory_of : (kinds : Kinds) (e : Error) → HasKind kinds e → kinds ≡ [] → kind_of e ≡ kind.OutOfMemory
+memory_of [] e has none = elim has [ inl k ↦ k | inr k ↦ absurd k ]
+memory_of (k ∷ ks) e has none = cc
+
+-- words name one thing at most
+same : {T : Type 0} (named : Option T) (a b : T) → named ≡ Some a → named ≡ Some b → a ≡ b
+same named a b is_a is_b = cc
+
+-- words that name a job, files and what is kept; and what was made of them
+module _ {R W : Type 0} (left : R → Option (List ℕ)) (pulls : R → Tally) (held : W → Option (List ℕ)) (pushes : W → Tally) (source : R)
+    (before : W) where
+  nothing_done : (job : Job) → EndsJob left pulls held pushes job None source source before before (Err Memory)
+  nothing_done Start = record { ending = inl refl; failed_read = λ h. absurd (omega (arith, h)); reads = omega arith }
+  nothing_done (Play room) = record { ending = inl refl; failed_read = λ h. absurd (omega (arith, h)); reads = omega arith }
+  nothing_done (Improve workers seed effort) =
+      record { ending = inl refl; failed_read = λ h. absurd (omega (arith, h)); reads = omega arith }
+  nothing_done (Find room plan) = record { ending = inl refl; failed_read = λ h. absurd (omega (arith, h)); reads = omega arith }
+  nothing_done (Report format) = record { ending = inl refl; failed_read = λ h. absurd (omega (arith, h)); reads = omega arith }
+
+  module _ (kinds : Kinds) (named : Option Job) (named_files : Option Files) (named_kept : Option Kept) (after : W) (status : ℕ) where
+    pub done : (request : Result Request Error) → FailsBy kinds request → IfOk request (λ r. named ≡ Some r.job)
+        → IfOk request (λ r. named_files ≡ Some (files_of r.files)) → IfOk request (λ r. named_kept ≡ Some (beginning_of r.beginning))
+        → IfOk request (λ r. is_plain (files_of r.files) (beginning_of r.beginning) ≡ true
+        → DoesJob left pulls held pushes r.job source before after status)
+        → IfErr request (λ e. IsStatusOf (kind_of e) status) → OnErr request (after ≡ before)
+        → (job : Job) (files : Files) (kept : Kept) → kinds ≡ [] → named ≡ Some job → named_files ≡ Some files → named_kept ≡ Some kept
+        → is_plain files kept ≡ true → DoesJob left pulls held pushes job source before after status
+    done (Ok r) fails job_of files_in kept_in does told quiet job files kept none job_is files_is kept_is plain =
+        let same_files : files ≡ files_of r.files = same named_files files (files_of r.files) files_is files_in in
+        let same_kept : kept ≡ beginning_of r.beginning = same named_kept kept (beginning_of r.beginning) kept_is kept_in in
+        subst (λ j. DoesJob left pulls held pushes j source before after status) (same named r.job job job_of job_is)
+        (does (rw (← same_files, ← same_kept) plain))
+    done (Err e) fails job_of files_in kept_in does told quiet job files kept none job_is files_is kept_is plain = record {
+      outcome = Err Memory;
+      source_after = source;
+      ends = subst (λ w. EndsJob left pulls held pushes job None source source before w (Err Memory)) (sym quiet) (nothing_done job);
+      verdict = tt;
+      status_is = told.memory (memory_of kinds e fails none);
+    }
+
+    pub on_files : (request : Result Request Error) → FailsBy kinds request → IfOk request (λ r. named ≡ Some r.job)
+        → IfOk request (λ r. named_files ≡ Some (files_of r.files)) → IfOk request (λ r. named_kept ≡ Some (beginning_of r.beginning))
+        → IfOk request (λ r. is_plain (files_of r.files) (beginning_of r.beginning) ≡ false
+        → EndsWithFiles held pushes r.job (beginning_of r.beginning) before after status)
+        → IfErr request (λ e. IsStatusOf (kind_of e) status) → OnErr request (after ≡ before)
+        → (job : Job) (files : Files) (kept : Kept) → kinds ≡ [] → named ≡ Some job → named_files ≡ Some files → named_kept ≡ Some kept
+        → is_plain files kept ≡ false → EndsWithFiles held pushes job kept before after status
+    on_files (Ok r) fails job_of files_in kept_in ends told quiet job files kept none job_is files_is kept_is plain =
+        let same_files : files ≡ files_of r.files = same named_files files (files_of r.files) files_is files_in in
+        let same_kept : kept ≡ beginning_of r.beginning = same named_kept kept (beginning_of r.beginning) kept_is kept_in in
+        subst (λ k. EndsWithFiles held pushes job k before after status) (sym same_kept)
+        (subst (λ j. EndsWithFiles held pushes j (beginning_of r.beginning) before after status) (same named r.job job job_of job_is)
+        (ends (rw (← same_files, ← same_kept) plain)))
+    on_files (Err e) fails job_of files_in kept_in ends told quiet job files kept none job_is files_is kept_is plain =
+        inl (told.memory (memory_of kinds e fails none), quiet)

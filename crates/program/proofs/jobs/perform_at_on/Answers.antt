@@ -1,0 +1,17 @@
+use Rattle.program.proofs.jobs.perform_at_on.Goals as goal
+
+pub returns-in-Start-clause-ends : goal.returns-in-Start-clause-ends
+returns-in-Start-clause-ends g c = rw (c.in-Start.is, c.without_verdict.ensures.outcome) c.start_on.ensures
+
+pub returns-in-Play-clause-ends : goal.returns-in-Play-clause-ends
+returns-in-Play-clause-ends g c = rw (c.in-Play.is, c.without_verdict-in-Play.ensures.outcome) c.play_on.ensures
+
+pub returns-in-Improve-clause-ends : goal.returns-in-Improve-clause-ends
+returns-in-Improve-clause-ends g c = rw (c.in-Improve.is, c.without_verdict-in-Improve.ensures.outcome) c.improve_on.ensures
+
+pub returns-in-Find-clause-ends : goal.returns-in-Find-clause-ends
+returns-in-Find-clause-ends g c = rw (c.in-Find.is, c.without_verdict-in-Find.ensures.outcome) c.find_on.ensures
+
+pub returns-in-Report-clause-ends : goal.returns-in-Report-clause-ends
+returns-in-Report-clause-ends g c =
+    rw (c.in-Report.is, c.with_verdict.ensures.outcome, c.with_verdict.ensures.verdict) c.report_on.ensures

@@ -1,0 +1,103 @@
+//! What is said on standard error of texts that could not be read, and of a start that is none.
+
+ghost use Rattle.std.specs.Prelude.{◌≡◌};
+ghost use Rattle.std.specs.Process.{exit_status};
+
+use crate::jobs::{Texts, league_text};
+use crate::texts_read::Unread;
+use beginnings::{BeginFault, write_start_faults};
+use command_line::Request;
+use commands::ProgramFault;
+use league::read_league;
+use std::io::Write;
+use std::process::ExitCode;
+use std::rt::Runtime;
+use std::{io, str};
+use streams::{ReadFault, WriterSink};
+
+/// Names the fault on standard error. If that can't be written either, the status still tells.
+pub(crate) fn failure<R: Runtime>(rt: &R, fault: ProgramFault) -> ExitCode
+    ensures { exit_status result ≡ 1 }
+{
+    let _ = eprintln!(rt; "ttp: {fault}");
+    ExitCode::FAILURE
+}
+
+/// Names the file that could not be read, and why.
+pub(crate) fn unread<R: Runtime>(rt: &R, text: Unread<'_>) -> ExitCode
+    ensures { exit_status result ≡ 1 }
+{
+    if text.is_input() {
+        return failure(rt, ProgramFault::from(text.why));
+    }
+    let name = text.name;
+    let _ = match text.why {
+        ReadFault::Read => eprintln!(rt; "ttp: {name}: cannot be read"),
+        ReadFault::TooLong => eprintln!(rt; "ttp: {name} is over 4194304 bytes"),
+        ReadFault::Memory => eprintln!(rt; "ttp: out of memory"),
+    };
+    ExitCode::FAILURE
+}
+
+/// Says why the league doesn't begin at what was given, behind the file's name.
+pub(crate) fn not_begun<R: Runtime + AllocGlobal>(
+    rt: &R,
+    request: &Request,
+    texts: &Texts<'_>,
+    fault: BeginFault,
+) -> ExitCode
+    ensures { exit_status result ≡ 1 }
+{
+    let name = match &request.files.from {
+        Some(name) if name.as_str() != "-" => name.as_str(),
+        _ => "input",
+    };
+    let _ = match fault {
+        BeginFault::NoRound => eprintln!(rt; "ttp: {name} has no line \"round R: H-A\""),
+        BeginFault::NotRoundRobin => eprintln!(rt; "ttp: {name} is no double round robin"),
+        BeginFault::RoundRange => eprintln!(rt;
+            "ttp: the league has no such round as --keep names"
+        ),
+        BeginFault::GameRange => eprintln!(rt;
+            "ttp: the league has no such game as --keep-game names"
+        ),
+        BeginFault::Memory => eprintln!(rt; "ttp: out of memory"),
+    };
+    if fault == BeginFault::NotRoundRobin {
+        start_faults(rt, request, texts);
+    }
+    ExitCode::FAILURE
+}
+
+/// Writes what is wrong with the games of the start, a line for each fault.
+fn start_faults<R: Runtime + AllocGlobal>(rt: &R, request: &Request, texts: &Texts<'_>) {
+    let Some(from) = texts.beginning.from else {
+        return;
+    };
+    if let Ok(league) = read_league(rt.alloc(), league_text(request.job, texts)) {
+        let mut sink = WriterSink::new(ErrorWriter { rt });
+        let _ = write_start_faults(rt.alloc(), &league, from, &mut sink);
+    }
+}
+
+/// Standard error as a writer, of text.
+#[derive(Drop)]
+pub(crate) struct ErrorWriter<'a, R> {
+    pub(crate) rt: &'a R,
+}
+
+impl<R: Runtime> Write for ErrorWriter<'_, R> {
+    fn write(&mut self, piece: &[u8]) -> io::Result<usize> {
+        match str::from_utf8(piece) {
+            Ok(text) => {
+                eprint!(self.rt; "{text}")?;
+                Ok(piece.len())
+            }
+            Err(_) => Err(io::Error::from(io::ErrorKind::InvalidData)),
+        }
+    }
+
+    fn flush(&mut self) -> io::Result<()> {
+        Ok(())
+    }
+}
