@@ -140,10 +140,7 @@ fn command_lines_ask_for_searches(rt: HostRuntime) -> Result<(), Fail> {
 const ENDS: &[Row<'_>] = &[
     (&["ttp"], Err((MissingSubcommand, 2))),
     (&["ttp", "stop"], Err((InvalidSubcommand, 2))),
-    (
-        &["ttp", "start", "now", "then"],
-        Err((UnknownArgument, 2)),
-    ),
+    (&["ttp", "start", "now", "then"], Err((UnknownArgument, 2))),
     (&["ttp", "start", "--room", "3"], Err((UnknownArgument, 2))),
     (
         &["ttp", "play", "--room", "1048577"],

@@ -38,7 +38,10 @@ const FILES: &[(&[&str], Names<'_>)] = &[
         &["ttp", "report", "a", "b", "--from", "-"],
         [Some("a"), Some("b"), Some("-")],
     ),
-    (&["ttp", "search", "--", "--from"], [Some("--from"), None, None]),
+    (
+        &["ttp", "search", "--", "--from"],
+        [Some("--from"), None, None],
+    ),
     (
         &["ttp", "improve", "--from", "-", "a"],
         [Some("a"), None, Some("-")],
@@ -92,7 +95,13 @@ const KEPT: &[(&[&str], Kept<'_>)] = &[
         (&[], &[], 1_000_000),
     ),
     (
-        &["ttp", "play", "--near=50", "--keep=76-78", "--keep-game=2-1"],
+        &[
+            "ttp",
+            "play",
+            "--near=50",
+            "--keep=76-78",
+            "--keep-game=2-1",
+        ],
         (&[75, 76, 77], &[(1, 0)], 50),
     ),
 ];
@@ -106,7 +115,9 @@ fn is_kept(found: &Request, wanted: &Kept<'_>) -> bool {
         }
         count += 1;
     }
-    count == rounds.len() && found.beginning.games.as_slice() == games && found.beginning.near == near
+    count == rounds.len()
+        && found.beginning.games.as_slice() == games
+        && found.beginning.near == near
 }
 
 #[test]
