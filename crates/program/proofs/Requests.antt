@@ -1,10 +1,14 @@
 -- What a request that the words were taken for comes to, and one that they were refused for.
-use Rattle.std.proofs.Common.{◌≡◌, ℕ, List, [], ◌∷◌, Option, Some, None, Result, Ok, Err, IfOk, IfErr, OnErr, true, false, refl, subst, sym, arith}
+use Rattle.std.proofs.Common.{◌≡◌, ◌≤◌, ℕ, Bool, codes, if◌then◌else◌, nat_le, option_and_then, List, [], ◌∷◌, Option, Some, None, Result, Ok, Err, IfOk, IfErr, OnErr, true, false, refl, subst, sym, arith}
 use mathlib.Core.Logic.{inl, inr}
-use Rattle.clap.specs.Words.{FailsBy, HasKind, Kinds, kind_of}
+use Rattle.std.specs.Option.{option_map_or}
+use Rattle.std.proofs.lemmas.Bool.{leb-true}
+use Rattle.clap.specs.Words.{FailsBy, HasKind, Kinds, Row, Text, first_of, kind_of}
 use Rattle.clap.specs.declared.error.Error.{Error}
 use Rattle.clap.specs.declared.error.kind.ErrorKind.TheVariants as kind
-use Rattle.command_line.specs.Beginnings.{Beginning as Kept, beginning_of}
+use Rattle.command_line.specs.Beginnings.{Beginning as Kept, beginning_from, beginning_of, games_in, max_near, near_in, near_of_text, rounds_in}
+use Rattle.command_line.specs.CommandLine.{beginning_of_command}
+use Rattle.texts.specs.Number.{number_of}
 use Rattle.command_line.specs.Files.{Files, files_of}
 use Rattle.command_line.specs.declared.job.Job.{Job}
 use Rattle.command_line.specs.declared.job.Job.TheVariants.{Start, Play, Improve, Find, Report}
@@ -69,3 +73,33 @@ module _ {R W : Type 0} (left : R → Option (List ℕ)) (pulls : R → Tally) (
         (ends (rw (← same_files, ← same_kept) plain)))
     on_files (Err e) fails job_of files_in kept_in ends told quiet job files kept none job_is files_is kept_is plain =
         inl (told.memory (memory_of kinds e fails none), quiet)
+
+-- a price that the words name is within its range
+module _ (price : ℕ) where
+  by_test : (near : ℕ) (within : Bool) → nat_le near max_near ≡ within → (if within then Some near else None) ≡ Some price
+      → price ≤ max_near
+  by_test near true test is = let same : near ≡ price = cc in rw (← same) (leb-true near max_near test)
+  by_test near false test is = cc
+
+  of_number : (number : Option ℕ) → option_and_then (λ near. if nat_le near max_near then Some near else None) number ≡ Some price
+      → price ≤ max_near
+  of_number None is = cc
+  of_number (Some near) is = by_test near (nat_le near max_near) refl is
+
+  of_text : (text : Option Text) → option_map_or near_of_text text (Some 0) ≡ Some price → price ≤ max_near
+  of_text None is = grind arith
+  of_text (Some text) is = of_number (number_of text) is
+
+in_parts : (rounds : Option ℕ) (games : Option (List (ℕ × ℕ))) (near : Option ℕ) (kept : Kept)
+    → beginning_from rounds games near ≡ Some kept → near ≡ Some kept.near
+in_parts (Some rounds) (Some games) (Some near) kept is = cc
+in_parts None games near kept is = cc
+in_parts (Some rounds) None near kept is = cc
+in_parts (Some rounds) (Some games) None kept is = cc
+
+pub near_within : (found : Option (Text × List Row)) (kept : Kept) → option_and_then beginning_of_command found ≡ Some kept
+    → kept.near ≤ max_near
+near_within None kept is = cc
+near_within (Some found) kept is =
+    of_text kept.near (first_of (codes "near") found.1)
+    (in_parts (rounds_in found.1) (games_in found.1) (near_in found.1) kept is)
