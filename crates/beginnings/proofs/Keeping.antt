@@ -1,6 +1,6 @@
 -- What keeping games leaves as it is.
-use Rattle.std.proofs.Common.{◌≡◌, ℕ, zero, suc, ◌<◌, Bool, true, false, ◌&&◌, ◌==◌, not, List, [], ◌∷◌, length, get_or, refl, ◌∙◌}
-use Rattle.std.proofs.Common.{if◌then◌else◌, inl, inr, ◌≢◌, Result, Ok, Err}
+use Rattle.std.proofs.Common.{◌≡◌, ℕ, zero, suc, ◌&&◌, ◌==◌, not, refl, ◌∙◌}
+use Rattle.std.proofs.Common.{inl, inr, ◌≢◌, Result, Ok, Err}
 use Rattle.std.specs.Prelude.{IfOk, IfErr}
 use Rattle.std.proofs.lemmas.Bool.{cases_Bool}
 use Rattle.sets.specs.Sets.{has}

@@ -33,8 +33,10 @@ pub fn begin(alloc: Global, league: League, beginning: &Beginning<'_>) -> Result
     ensures limits { IfOk result IsLeague }
     ensures fault { IfErr result (λ f. f ≢ BeginFault.Memory → begun league beginning.now ≡ Err f) }
 {
-    let league = started(alloc, league, beginning.from)?;
-    kept_from(league, beginning)
+    match started(alloc, league, beginning.from) {
+        Ok(league) => kept_from(league, beginning),
+        Err(fault) => Err(fault),
+    }
 }
 
 /// The league that begins at the last sheet of the text, if there is one.

@@ -3,12 +3,14 @@ use Rattle.beginnings.specs.Begun.{begun, kept_if}
 use Rattle.beginnings.proofs.Keeping.{ok_wanted, err_wanted}
 use Rattle.beginnings.proofs.begun.begin.Goals as goal
 
-pub returns-clause-begun : goal.returns-clause-begun
+pub returns-in-Ok-clause-begun : goal.returns-in-Ok-clause-begun
 unfolding begun
-returns-clause-begun c =
-    ok_wanted _ _ (ap (kept_if c.args.beginning.now) c.in_ok-league.ensures ∙ sym c.kept_from.ensures)
+returns-in-Ok-clause-begun c = ok_wanted _ _ (ap (kept_if c.args.beginning.now) c.in-Ok.ensures ∙ sym c.kept_from.ensures)
 
-pub returns-clause-fault : goal.returns-clause-fault
+pub returns-in-Ok-clause-fault : goal.returns-in-Ok-clause-fault
 unfolding begun
-returns-clause-fault c =
-    err_wanted _ _ (ap (kept_if c.args.beginning.now) c.in_ok-league.ensures ∙ sym c.kept_from.ensures)
+returns-in-Ok-clause-fault c = err_wanted _ _ (ap (kept_if c.args.beginning.now) c.in-Ok.ensures ∙ sym c.kept_from.ensures)
+
+pub returns-in-Err-clause-fault : goal.returns-in-Err-clause-fault
+unfolding begun
+returns-in-Err-clause-fault c = λ other. ap (kept_if c.args.beginning.now) (c.in-Err.ensures other)

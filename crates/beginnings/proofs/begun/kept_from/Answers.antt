@@ -1,4 +1,4 @@
-use Rattle.std.proofs.Common.{◌≡◌, true, ℕ, sym, ◌∙◌, ap}
+use Rattle.std.proofs.Common.{ℕ, sym, ◌∙◌, ap}
 use Rattle.league.specs.League.{LeagueData, teams}
 use Rattle.beginnings.specs.Begun.{are_pairs}
 use Rattle.beginnings.proofs.Keeping.{teams_below}
