@@ -3,12 +3,14 @@
 mod ends;
 mod legs;
 
-ghost use Rattle.std.specs.Prelude.{◌≡◌, ◌≤◌};
+ghost use Rattle.std.specs.Prelude.{◌≤◌};
 
 use improvement::{ImproveFault, ImprovePlan, improve};
-use league::{League, LeagueFault, read_league};
+use league::{League, circular, read_league};
 use search::{NoGate, Workplace};
 use std::alloc::{AllocError, Global};
+use std::fmt::Debug;
+use std::process::Abort;
 use std::sync::Wait;
 use std::thread::Threads;
 use streams::{MemorySink, RehearsedSink, Sink, Step};
@@ -21,17 +23,23 @@ const NEVER_AT_HOME: &str = r#"{
     "rules": [{"class": "CA1", "kind": "hard", "teams": [1], "mode": "H", "max": 0}]
 }"#;
 
-fn impossible(alloc: Global) -> Result<League, LeagueFault> {
-    read_league(alloc, NEVER_AT_HOME.as_bytes())
+fn impossible(rt: &impl Abort, alloc: Global) -> League {
+    read_league(alloc, NEVER_AT_HOME.as_bytes()).expect(rt, "a league")
 }
 
+fn circle(rt: &impl Abort, alloc: Global, teams: u8) -> League {
+    circular(alloc, teams).expect(rt, "a league")
+}
+
+/// An effort from 1 to 1,000,000.
 fn asked(workers: u32, effort: u64) -> ImprovePlan
-    ensures { result.effort ≡ effort }
+    ensures least { 1 ≤ result.effort }
+    ensures most { result.effort ≤ 1000000 }
 {
     ImprovePlan {
         workers,
         seed: 1,
-        effort,
+        effort: effort.clamp(1, 1_000_000),
     }
 }
 
@@ -64,14 +72,19 @@ fn improved_by<T: Threads + Wait + Sync>(
     Ok(Improved { ended, calls, text })
 }
 
-fn improvement_of<T: Threads + Wait + Sync>(
+fn improvement_of<T: Threads + Wait + Sync + Abort>(
     rt: &T,
     alloc: Global,
     league: League,
     plan: ImprovePlan,
-) -> Result<Improved, AllocError>
+) -> Improved
     requires least { 1 ≤ plan.effort }
     requires most { plan.effort ≤ 1000000 }
 {
-    improved_by(rt, alloc, league, plan, &[])
+    improved_by(rt, alloc, league, plan, &[]).expect(rt, "memory")
+}
+
+/// The two are equal.
+fn check_same<T: PartialEq + Debug>(rt: &impl Abort, found: &T, wanted: &T) {
+    assert_eq!(rt; found, wanted);
 }

@@ -1,14 +1,14 @@
 //! Improvements that end early, and one without a feasible schedule.
 
-use super::{Improved, asked, impossible, improved_by, improvement_of};
+use super::{Improved, asked, check_same, impossible, improved_by, improvement_of};
 use improvement::ImproveFault;
 use league::{LeagueFault, circular};
-use std::alloc::{AllocError, Global};
+use std::alloc::Global;
 use std::process::Abort;
 use std::sync::Wait;
-use std::test::Fail;
 use std::thread::Threads;
 use streams::Step;
+use texts::split_at_line;
 
 /// How an improvement of four teams by so many workers ends whose writes go by these steps.
 fn ended<T: Threads + Wait + Sync>(
@@ -22,29 +22,40 @@ fn ended<T: Threads + Wait + Sync>(
 }
 
 /// So many writes of all that there is, and then one that fails.
-fn failing_after(alloc: Global, writes: u64) -> Result<Vec<Step>, AllocError> {
+fn failing_after(rt: &impl Abort, alloc: Global, writes: u64) -> Vec<Step> {
     let mut steps = Vec::new(alloc);
     for _ in 0..writes {
-        steps.push(Step::Moved(usize::MAX))?;
+        steps.push(Step::Moved(usize::MAX)).expect(rt, "memory");
     }
-    steps.push(Step::Failed)?;
-    Ok(steps)
+    steps.push(Step::Failed).expect(rt, "memory");
+    steps
+}
+
+/// The write behind so many ones fails, and a front of the whole text is written.
+fn check_failing<T: Threads + Wait + Sync + Abort>(
+    rt: &T,
+    alloc: Global,
+    writes: u64,
+    whole: &Improved,
+) {
+    let steps = failing_after(rt, alloc, writes);
+    let found = ended(rt, alloc, 2, &steps).expect(rt, "memory");
+    let is_front = whole.text.starts_with(&found.text) && !found.text.is_empty();
+    check_same(
+        rt,
+        &(found.calls, is_front),
+        &(writes.saturating_add(1), true),
+    );
+    check_same(rt, &found.ended, &Err(ImproveFault::Write));
 }
 
 #[test]
-fn failed_writes_leave_fronts_of_the_text(rt: HostRuntime) -> Result<(), Fail> {
-    let whole = ended(&rt, rt.alloc(), 1, &[])?;
-    assert_eq!(rt; whole.ended, Ok(()));
+fn failed_writes_leave_fronts_of_the_text(rt: HostRuntime) {
+    let whole = ended(&rt, rt.alloc(), 1, &[]).expect(&rt, "memory");
+    check_same(&rt, &whole.ended, &Ok(()));
     for writes in 1..whole.calls {
-        let steps = failing_after(rt.alloc(), writes)?;
-        let found = ended(&rt, rt.alloc(), 2, &steps)?;
-        let is_front = whole.text.starts_with(&found.text) && !found.text.is_empty();
-        assert_eq!(rt;
-            (found.ended, found.calls, is_front),
-            (Err(ImproveFault::Write), writes + 1, true)
-        );
+        check_failing(&rt, rt.alloc(), writes, &whole);
     }
-    Ok(())
 }
 
 /// The third write fails.
@@ -55,10 +66,13 @@ const TWO_WRITES: [Step; 3] = [
 ];
 
 #[test]
-fn improves_with_ample_memory(rt: HostRuntime) -> Result<(), Fail> {
-    let found = ended(&rt, rt.alloc(), 1, &TWO_WRITES)?;
-    assert_eq!(rt; (found.ended, found.calls), (Err(ImproveFault::Write), 3));
-    Ok(())
+fn improves_with_ample_memory(rt: HostRuntime) {
+    let found = ended(&rt, rt.alloc(), 1, &TWO_WRITES).expect(&rt, "memory");
+    check_same(
+        &rt,
+        &(found.ended, found.calls),
+        &(Err(ImproveFault::Write), 3),
+    );
 }
 
 fn check_refused<T: Threads + Wait + Sync + Abort>(rt: &T, alloc: Global, workers: u32) {
@@ -71,7 +85,8 @@ fn check_refused<T: Threads + Wait + Sync + Abort>(rt: &T, alloc: Global, worker
         Err(ImproveFault::Memory) => found.calls <= 2,
         _ => false,
     };
-    assert!(rt; is_right && (found.calls == 0 || found.text.ends_with(b"\n")));
+    let is_whole = found.calls == 0 || found.text.ends_with(b"\n");
+    check_same(rt, &(is_right, is_whole), &(true, true));
 }
 
 #[test]
@@ -82,19 +97,22 @@ fn refused_memory_leaves_whole_legs(rt: HostRuntime) {
 }
 
 #[test]
-fn wrong_numbers_of_workers_write_nothing(rt: HostRuntime) -> Result<(), Fail> {
+fn wrong_numbers_of_workers_write_nothing(rt: HostRuntime) {
     for workers in [0, 17] {
-        let found = ended(&rt, rt.alloc(), workers, &[])?;
-        assert_eq!(rt; (found.ended, found.calls), (Err(ImproveFault::Workers), 0));
+        let found = ended(&rt, rt.alloc(), workers, &[]).expect(&rt, "memory");
+        check_same(
+            &rt,
+            &(found.ended, found.calls),
+            &(Err(ImproveFault::Workers), 0),
+        );
     }
-    Ok(())
 }
 
 #[test]
-fn without_a_feasible_schedule_there_is_no_best(rt: HostRuntime) -> Result<(), Fail> {
-    let league = impossible(rt.alloc())?;
-    let found = improvement_of(&rt, rt.alloc(), league, asked(1, 3000))?;
-    assert!(rt; found.text.ends_with(b"\nbest none\n"));
-    assert!(rt; !found.text.windows(2).any(|bytes| bytes == b"--".as_slice()));
-    Ok(())
+fn without_a_feasible_schedule_there_is_no_best(rt: HostRuntime) {
+    let league = impossible(&rt, rt.alloc());
+    let found = improvement_of(&rt, rt.alloc(), league, asked(1, 3000));
+    check_same(&rt, &found.text.ends_with(b"\nbest none\n"), &true);
+    let (_, solution) = split_at_line(&found.text, b"----------");
+    check_same(&rt, &solution.is_none(), &true);
 }

@@ -1,12 +1,12 @@
 //! What legs come to, and what is written of them.
 
-use super::{Improved, asked, improvement_of};
-use fixture_board::{Best, Board, MAX_ROOM};
-use league::circular;
-use std::alloc::{AllocError, Global};
+ghost use Rattle.std.specs.Prelude.{◌≡◌, []};
+
+use super::{Improved, asked, check_same, circle, improvement_of};
+use fixture_board::{Board, MAX_ROOM};
+use std::alloc::Global;
 use std::process::Abort;
 use std::sync::Wait;
-use std::test::Fail;
 use std::thread::Threads;
 use streams::MemorySink;
 use texts::{next_line, next_word, number, play_script, split_at_line};
@@ -14,27 +14,44 @@ use texts::{next_line, next_word, number, play_script, split_at_line};
 /// Six teams in a circle have the mean distance 9/5, so a rigid leg cools from 18/5 to 9/10. A sixteenth of 1600 steps is for the first
 /// chain, of which such a leg has seven tenths.
 #[test]
-fn first_leg_is_told_in_distances(rt: HostRuntime) -> Result<(), Fail> {
-    let league = circular(rt.alloc(), 6)?;
-    let found = improvement_of(&rt, rt.alloc(), league, asked(1, 1600))?;
+fn first_leg_is_told_in_distances(rt: HostRuntime) {
+    let league = circle(&rt, rt.alloc(), 6);
+    let found = improvement_of(&rt, rt.alloc(), league, asked(1, 1600));
     let line = b"leg 1 chain 1 moves homes,teams from 3.600 to 0.900 steps 70 accepted ";
-    assert!(rt; found.text.starts_with(line));
-    Ok(())
+    check_same(&rt, &found.text.starts_with(line), &true);
+}
+
+/// So many workers write what one writes.
+fn check_workers<T: Threads + Wait + Sync + Abort>(
+    rt: &T,
+    alloc: Global,
+    (teams, effort): (u8, u64),
+    workers: u32,
+    alone: &Improved,
+) {
+    let league = circle(rt, alloc, teams);
+    let found = improvement_of(rt, alloc, league, asked(workers, effort));
+    check_same(rt, &(workers, found == *alone), &(workers, true));
+}
+
+fn check_alone<T: Threads + Wait + Sync + Abort>(rt: &T, alloc: Global, plan: (u8, u64)) {
+    let (teams, effort) = plan;
+    let league = circle(rt, alloc, teams);
+    let alone = improvement_of(rt, alloc, league, asked(1, effort));
+    check_same(
+        rt,
+        &(&alone.ended, alone.text.is_empty()),
+        &(&Ok(()), false),
+    );
+    for workers in [2, 4, 16] {
+        check_workers(rt, alloc, plan, workers, &alone);
+    }
 }
 
 #[test]
-fn workers_change_nothing(rt: HostRuntime) -> Result<(), Fail> {
-    for (teams, effort) in [(6, 60_000), (8, 200_000)] {
-        let league = circular(rt.alloc(), teams)?;
-        let alone = improvement_of(&rt, rt.alloc(), league, asked(1, effort))?;
-        assert!(rt; alone.ended == Ok(()) && 0 < alone.text.len());
-        for workers in [2, 4, 16] {
-            let league = circular(rt.alloc(), teams)?;
-            let found = improvement_of(&rt, rt.alloc(), league, asked(workers, effort))?;
-            assert!(rt; found == alone, "{workers} workers, {teams} teams");
-        }
-    }
-    Ok(())
+fn workers_change_nothing(rt: HostRuntime) {
+    check_alone(&rt, rt.alloc(), (6, 60_000));
+    check_alone(&rt, rt.alloc(), (8, 200_000));
 }
 
 /// What the lines of a text say all together.
@@ -86,8 +103,8 @@ fn number_behind(line: &[u8], word: &[u8]) -> Option<u64> {
     None
 }
 
-/// What stands in a text, up to its history.
-fn read_legs(text: &[u8]) -> Option<Told> {
+/// What stands in a text up to its history, and the lines behind the head of that.
+fn read_legs(text: &[u8]) -> Option<(Told, &[u8])> {
     let mut told = Told {
         legs: 0,
         steps: 0,
@@ -98,7 +115,7 @@ fn read_legs(text: &[u8]) -> Option<Told> {
     for _ in 0..100_000 {
         let line = next_line(&mut rest)?;
         if line.starts_with(b"history ") {
-            return Some(told);
+            return Some((told, rest));
         }
         if line.starts_with(b"leg ") {
             told = told.with_leg(line)?;
@@ -109,56 +126,49 @@ fn read_legs(text: &[u8]) -> Option<Told> {
     None
 }
 
-fn check_steps<T: Threads + Wait + Sync + Abort>(
-    rt: &T,
-    alloc: Global,
-    effort: u64,
-) -> Result<(), Fail>
-    requires least { 1 ≤ effort }
-    requires most { effort ≤ 1000000 }
-{
-    let league = circular(alloc, 6)?;
-    let Improved { ended, text, .. } = improvement_of(rt, alloc, league, asked(2, effort))?;
-    let Some(told) = read_legs(&text) else {
-        return Err(Fail::new("no history"));
-    };
-    assert_eq!(rt; (ended, told.steps, told.ordered), (Ok(()), effort, true));
-    Ok(())
+fn check_steps<T: Threads + Wait + Sync + Abort>(rt: &T, alloc: Global, effort: u64) {
+    let league = circle(rt, alloc, 6);
+    let found = improvement_of(rt, alloc, league, asked(2, effort));
+    let (told, _) = read_legs(&found.text).expect(rt, "a history");
+    check_same(rt, &(told.steps, told.ordered), &(effort, true));
+    check_same(rt, &found.ended, &Ok(()));
 }
 
 #[test]
-fn steps_of_all_legs_are_the_effort(rt: HostRuntime) -> Result<(), Fail> {
+fn steps_of_all_legs_are_the_effort(rt: HostRuntime) {
     for effort in [1, 2, 7, 1000, 200_000] {
-        check_steps(&rt, rt.alloc(), effort)?;
+        check_steps(&rt, rt.alloc(), effort);
     }
-    Ok(())
 }
 
-/// The best version of a board on which the text's history was played.
-fn played(alloc: Global, text: &[u8]) -> Result<Option<Best>, Fail> {
-    let Some(start) = text
-        .windows(8)
-        .position(|bytes| bytes == b"history ".as_slice())
-    else {
-        return Err(Fail::new("no history"));
-    };
-    let mut script = &text[start..];
-    next_line(&mut script);
-    let (script, _) = split_at_line(script, b"end");
-    let mut room = vec![in alloc; 0; 1_000_000]?;
+/// A new board of six teams in a circle, with the greatest room.
+fn new_board(rt: &impl Abort, alloc: Global) -> Board
+    ensures { result.history ≡ [] }
+{
+    let league = circle(rt, alloc, 6);
+    Board::new(alloc, league, MAX_ROOM)
+        .ok()
+        .expect(rt, "a board")
+}
+
+/// The least total of a board on which a history was played.
+fn least_played(rt: &impl Abort, alloc: Global, history: &[u8]) -> Option<u64> {
+    let (script, _) = split_at_line(history, b"end");
+    let mut room = vec![in alloc; 0; 1_000_000].expect(rt, "memory");
     let mut sink = MemorySink::new(&mut room);
-    let mut board = Board::new(alloc, circular(alloc, 6)?, MAX_ROOM).map_err(|_| AllocError)?;
-    play_script(&mut board, script, &mut sink)?;
-    Ok(board.best())
+    let mut board = new_board(rt, alloc);
+    play_script(&mut board, script, &mut sink).expect(rt, "a text");
+    match board.best() {
+        Some(best) => Some(best.total),
+        None => None,
+    }
 }
 
 #[test]
-fn history_leads_to_the_least_total(rt: HostRuntime) -> Result<(), Fail> {
-    let league = circular(rt.alloc(), 6)?;
-    let found = improvement_of(&rt, rt.alloc(), league, asked(1, 50_000))?;
-    let told = read_legs(&found.text);
-    let played = played(rt.alloc(), &found.text)?;
-    let least = told.and_then(|told| told.least);
-    assert!(rt; least.is_some() && least == played.map(|best| best.total));
-    Ok(())
+fn history_leads_to_the_least_total(rt: HostRuntime) {
+    let league = circle(&rt, rt.alloc(), 6);
+    let found = improvement_of(&rt, rt.alloc(), league, asked(1, 50_000));
+    let (told, history) = read_legs(&found.text).expect(&rt, "a history");
+    let least = least_played(&rt, rt.alloc(), history);
+    check_same(&rt, &(least.is_some(), least), &(true, told.least));
 }

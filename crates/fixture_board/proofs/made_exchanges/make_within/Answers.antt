@@ -1,4 +1,4 @@
-use Rattle.std.proofs.Common.{sym, ◌∙◌, subst, arith}
+use Rattle.std.proofs.Common.{sym, ◌∙◌, subst, arith, rules}
 use Rattle.fixture_board.specs.declared.attempt.Attempt.{Attempt}
 use Rattle.fixture_board.specs.CostParts.{IsTold}
 use Rattle.fixture_board.proofs.Parts.{score_after, told_alone, within_is_small}
@@ -38,3 +38,6 @@ returns-else-is_none-clause-small c =
     within_is_small c.args.league.now _ _ _ _ c.whole_within-cost.ensures
     (rw c.make-2.ensures.made
     (score_after c.args.league.now c.args.schedule.now c.args.attempt.now.exchange.now c.teams.ensures.limits c.requires.same_size))
+
+pub returns-else-is_none-clause-schedule : goal.returns-else-is_none-clause-schedule
+returns-else-is_none-clause-schedule c = search rules
