@@ -12,7 +12,7 @@ use Rattle.texts.specs.Number.{number_of}
 use Rattle.command_line.specs.Files.{Files, files_of}
 use Rattle.command_line.specs.declared.job.Job.{Job}
 use Rattle.command_line.specs.declared.job.Job.TheVariants.{Start, Play, Improve, Find, Report}
-use Rattle.command_line.specs.declared.job.Request.{Request}
+use Rattle.command_line.specs.declared.request.Request.{Request}
 use Rattle.streams.specs.declared.tally.Tally.{Tally}
 use Rattle.commands.specs.declared.fault.ProgramFault.TheVariants.{Memory}
 use Rattle.program.specs.Program.{is_plain, DoesJob, EndsJob, EndsWithFiles, IsStatusOf}
@@ -25,6 +25,12 @@ memory_of (k ∷ ks) e has none = cc
 -- words name one thing at most
 same : {T : Type 0} (named : Option T) (a b : T) → named ≡ Some a → named ≡ Some b → a ≡ b
 same named a b is_a is_b = cc
+
+-- whether nothing is named or kept is the same of what was made of the words
+plain_too : (files made_files : Files) (kept made_kept : Kept) (plain : Bool) → files ≡ made_files → kept ≡ made_kept
+    → is_plain files kept ≡ plain → is_plain made_files made_kept ≡ plain
+plain_too files made_files kept made_kept plain same_files same_kept is =
+    subst (λ (f : Files). is_plain f made_kept ≡ plain) same_files (subst (λ (k : Kept). is_plain files k ≡ plain) same_kept is)
 
 -- words that name a job, files and what is kept; and what was made of them
 module _ {R W : Type 0} (left : R → Option (List ℕ)) (pulls : R → Tally) (held : W → Option (List ℕ)) (pushes : W → Tally) (source : R)
@@ -49,7 +55,7 @@ module _ {R W : Type 0} (left : R → Option (List ℕ)) (pulls : R → Tally) (
         let same_files : files ≡ files_of r.files = same named_files files (files_of r.files) files_is files_in in
         let same_kept : kept ≡ beginning_of r.beginning = same named_kept kept (beginning_of r.beginning) kept_is kept_in in
         subst (λ j. DoesJob left pulls held pushes j source before after status) (same named r.job job job_of job_is)
-        (does (rw (← same_files, ← same_kept) plain))
+        (does (plain_too files (files_of r.files) kept (beginning_of r.beginning) true same_files same_kept plain))
     done (Err e) fails job_of files_in kept_in does told quiet job files kept none job_is files_is kept_is plain = record {
       outcome = Err Memory;
       source_after = source;
@@ -70,7 +76,7 @@ module _ {R W : Type 0} (left : R → Option (List ℕ)) (pulls : R → Tally) (
         let same_kept : kept ≡ beginning_of r.beginning = same named_kept kept (beginning_of r.beginning) kept_is kept_in in
         subst (λ k. EndsWithFiles held pushes job k before after status) (sym same_kept)
         (subst (λ j. EndsWithFiles held pushes j (beginning_of r.beginning) before after status) (same named r.job job job_of job_is)
-        (ends (rw (← same_files, ← same_kept) plain)))
+        (ends (plain_too files (files_of r.files) kept (beginning_of r.beginning) false same_files same_kept plain)))
     on_files (Err e) fails job_of files_in kept_in ends told quiet job files kept none job_is files_is kept_is plain =
         inl (told.memory (memory_of kinds e fails none), quiet)
 
@@ -103,3 +109,9 @@ near_within None kept is = cc
 near_within (Some found) kept is =
     of_text kept.near (first_of (codes "near") found.1)
     (in_parts (rounds_in found.1) (games_in found.1) (near_in found.1) kept is)
+
+pub near_of_request : (found : Option (Text × List Row)) (request : Result Request Error)
+    → IfOk request (λ r. option_and_then beginning_of_command found ≡ Some (beginning_of r.beginning))
+    → IfOk request (λ r. r.beginning.near ≤ max_near)
+near_of_request found (Ok r) is = near_within found (beginning_of r.beginning) is
+near_of_request found (Err e) is = tt

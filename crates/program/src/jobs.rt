@@ -1,6 +1,6 @@
 //! What a job does between a source and a sink, or on texts that were read.
 
-ghost use Rattle.std.specs.Prelude.{◌≡◌, ◌<◌, ◌≤◌, IfOk, false, is_some, length, option_map, true};
+ghost use Rattle.std.specs.Prelude.{◌≡◌, ◌<◌, ◌≤◌, [], IfOk, false, is_some, length, option_map, true, unwrap_or};
 ghost use Rattle.std.specs.Str.Lines.{lines};
 ghost use Rattle.command_line.specs.CommandLine.{IsInRange};
 ghost use Rattle.league.specs.Limits.{max_weight};
@@ -171,7 +171,7 @@ fn perform_at_on<T: Threads + Wait + Sync, G: Gate + Sync, W: Sink>(
         Job::Start => without_verdict(start_on(alloc, input, Some(beginning), sink)),
         Job::Play { room } => {
             let (league, script) = parts(input, *second, b"script");
-            let script = script.unwrap_or(&[]);
+            let script = script_or_none(script);
             without_verdict(play_on(alloc, league, script, Some(beginning), sink, room))
         }
         Job::Improve {
@@ -214,6 +214,16 @@ fn parts<'a>(input: &'a [u8], second: Option<&'a [u8]>, word: &[u8]) -> (&'a [u8
     match second {
         Some(second) => (input, Some(second)),
         None => split_at_line(input, word),
+    }
+}
+
+/// The script, or one without a line if there is none.
+fn script_or_none(script: Option<&[u8]>) -> &[u8]
+    ensures { lines result.now ≡ unwrap_or (option_map (λ text. lines text.now) script.entry) [] }
+{
+    match script {
+        Some(script) => script,
+        None => &[],
     }
 }
 
