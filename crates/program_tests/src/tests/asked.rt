@@ -14,37 +14,37 @@ fn asked(alloc: Global, given: &[&str]) -> Result<Result<Request, ErrorKind>, Al
 }
 
 /// The league's file, the second one, and that of the start.
-type Names<'a> = [Option<&'a str>; 3];
+type Names<'a> = (Option<&'a str>, Option<&'a str>, Option<&'a str>);
 
 /// Words, and the files that they name.
 const FILES: &[(&[&str], Names<'_>)] = &[
-    (&["ttp", "start"], [None, None, None]),
+    (&["ttp", "start"], (None, None, None)),
     (
         &["ttp", "start", "a.json", "--from", "b"],
-        [Some("a.json"), None, Some("b")],
+        (Some("a.json"), None, Some("b")),
     ),
-    (&["ttp", "play"], [None, None, None]),
-    (&["ttp", "play", "-"], [Some("-"), None, None]),
-    (&["ttp", "play", "a", "-"], [Some("a"), Some("-"), None]),
+    (&["ttp", "play"], (None, None, None)),
+    (&["ttp", "play", "-"], (Some("-"), None, None)),
+    (&["ttp", "play", "a", "-"], (Some("a"), Some("-"), None)),
     (
         &["ttp", "report", "-", "b.csv"],
-        [Some("-"), Some("b.csv"), None],
+        (Some("-"), Some("b.csv"), None),
     ),
     (
         &["ttp", "report", "--from=c", "a", "--format=csv", "b"],
-        [Some("a"), Some("b"), Some("c")],
+        (Some("a"), Some("b"), Some("c")),
     ),
     (
         &["ttp", "report", "a", "b", "--from", "-"],
-        [Some("a"), Some("b"), Some("-")],
+        (Some("a"), Some("b"), Some("-")),
     ),
     (
         &["ttp", "search", "--", "--from"],
-        [Some("--from"), None, None],
+        (Some("--from"), None, None),
     ),
     (
         &["ttp", "improve", "--from", "-", "a"],
-        [Some("a"), None, Some("-")],
+        (Some("a"), None, Some("-")),
     ),
 ];
 
@@ -57,9 +57,9 @@ fn is_name(found: &Option<String>, wanted: Option<&str>) -> bool {
 }
 
 fn are_names(found: &FileWords, wanted: &Names<'_>) -> bool {
-    is_name(&found.league, wanted[0])
-        && is_name(&found.second, wanted[1])
-        && is_name(&found.from, wanted[2])
+    is_name(&found.league, wanted.0)
+        && is_name(&found.second, wanted.1)
+        && is_name(&found.from, wanted.2)
 }
 
 #[test]
