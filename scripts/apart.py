@@ -293,10 +293,20 @@ def found(board):
     yield best_line(board)
 
 
+def words_of(line):
+    return [word for word in line.replace("\t", " ").split(" ") if word]
+
+
+def last_sheet(lines):
+    """The lines, in which those up to the last one that begins with `league` are blank."""
+    heads = [k for k, line in enumerate(lines, 1) if words_of(line)[:1] == ["league"]]
+    before = heads[-1] if heads else 0
+    return [""] * before + lines[before:]
+
+
 def schedule_line(line):
     """The games of a line of a schedule, each as a round, a home team and a guest, or None of a bad line."""
-    words = line.replace("\t", " ").split(" ")
-    words = [word for word in words if word]
+    words = words_of(line)
     if words[:1] != ["round"]:
         return []
     if len(words) < 2 or not words[1].endswith(":") or not is_number(words[1][:-1]):
@@ -309,7 +319,7 @@ def schedule_line(line):
 
 def schedule_faults(teams, lines):
     """What is wrong with the games of the lines, and the round of each pair, home first."""
-    read, numbers, rounds = [schedule_line(line) for line in lines], range(1, teams + 1), range(1, 2 * teams - 1)
+    read, numbers, rounds = [schedule_line(line) for line in last_sheet(lines)], range(1, teams + 1), range(1, 2 * teams - 1)
     faults = [f"bad line {k}" for k, games in enumerate(read, 1) if games is None]
     listed, table, pairs = [game for games in read for game in games or []], {}, {}
     for r, h, a in listed:
