@@ -4,7 +4,8 @@
 usage: scripts/policy-twin.py
 
 The waves are those of scripts/waves.py. What a leg that heats comes to is made up, by arithmetic on its bout: it becomes feasible after
-one to five thousand steps, or never."""
+one to five thousand steps, or never. So of the walks that are no repairs, "heated" and "stuck" ones have a first half without a feasible
+version, and the tries after it become feasible or never."""
 from waves import repair, search
 
 WALKS = (
@@ -19,14 +20,24 @@ WALKS = (
     (12, 10**7, "feasible"),
     (18, 3_333_333, "never"),
     (6, 7, "never"),
+    (20, 10**7, "heated"),
+    (10, 10**7, "heated"),
+    (16, 10**6, "stuck"),
+    (4, 50, "stuck"),
 )
 SHOWN = ((0, 0, 0), (0, 1, 1), (0, 3, 0), (1, 0, 0), (1, 1, 1), (2, 0, 1), (2, 3, 0), (7, 3, 0))
+
+
+def waves_of(n, effort, repairs):
+    if repairs in ("feasible", "never"):
+        return repair(effort, repairs == "feasible")
+    return search(n, effort, {"no": "all", "heated": "heated", "stuck": "never"}[repairs])
 
 
 def show(n, effort, repairs):
     print(f"{n} teams, {effort} steps, repairs: {repairs}")
     waves, legs, of_waves, of_legs, told = 0, 0, 0, 0, []
-    for number, (source, keep, bouts) in enumerate(search(n, effort) if repairs == "no" else repair(effort, repairs == "feasible")):
+    for number, (source, keep, bouts) in enumerate(waves_of(n, effort, repairs)):
         waves += 1
         told.append(f"{source} {len(bouts)} {keep}")
         of_waves += waves * (100 * len(bouts) + 10 * keep + ("Start", "Own", "Copies").index(source))

@@ -41,12 +41,16 @@ def first_half(n, effort):
     return [(RIGID, early)] + m * group
 
 
-def search(n, effort):
-    """Waves: what they begin at, how many of their chains go on, and the legs of each bout."""
+def search(n, effort, feasible="all"):
+    """Waves: what they begin at, how many of their chains go on, and the legs of each bout. All legs end with a feasible version in their
+    chain, or of the first half none: then those do that heat (`heated`), or none (`never`)."""
     chains = first_half(n, effort)
     left = effort - sum(steps for _, steps in chains)
     field = min(4, max(1, left // (5000 * n * n)), len(chains))
     yield "Start", field, [chain(kind, steps) for kind, steps in chains]
+    if feasible != "all":
+        yield from tries(left, (FULL, FULL), feasible != "never")
+        return
     level, peaks = left // ({1: 0, 2: 1, 3: 2, 4: 2}[field] + 2), 4 * (300, 250, 400, 200) + 4 * (300, 250, 400, 200)
     while field > 1:
         bouts = [[(FULL, peak, 150, steps) for peak, steps in zip(peaks, parts(share, 2))] for share in parts(level, field)]
@@ -63,21 +67,25 @@ def copies(left, kinds, peaks, cold):
             yield "Copies", 1, [[(kinds, max(peak, cold), cold, share)] for share in parts(steps, 4)]
 
 
-def repair(effort, feasible):
-    left = effort
-    for kinds, most in ((REPAIR, 5000), (WIDE, 20000)):
+def tries(left, sets, feasible):
+    """The waves of tries to become feasible, with a set of moves for each, and what follows on them."""
+    for kinds, most in zip(sets, (5000, 20000)):
         if left == 0:
             return
-        tries = max(4, left // 1_250_000)
-        steps = max(1, left // 2 if tries == 4 else 3 * left // 4)
+        count = max(4, left // 1_250_000)
+        steps = max(1, left // 2 if count == 4 else 3 * left // 4)
         left -= steps
         bouts = []
-        for i, share in enumerate(parts(steps, tries)):
+        for i, share in enumerate(parts(steps, count)):
             used = min(share, 1000 * (1 + i % 5)) if feasible else share
             bouts.append([(kinds, 1000, most, share), (kinds, 1700 - i % 5 * 100, 100, share - used)])
         yield "Start", 1, bouts
         if feasible:
-            most = min(1700 - i % 5 * 100 for i in range(tries))
+            most = min(1700 - i % 5 * 100 for i in range(count))
             break
-    times = 4 * (500, 750, 250, 1000) if tries == 4 else 4 * (1000, 850)
+    times = 4 * (500, 750, 250, 1000) if count == 4 else 4 * (1000, 850)
     yield from copies(left, kinds, [most * part // 1000 for part in times], 100)
+
+
+def repair(effort, feasible):
+    yield from tries(effort, (REPAIR, WIDE), feasible)

@@ -41,7 +41,7 @@ pub(crate) const FIELD_MOST: u64 = 4;
 
 pub(crate) const FIELD_SPANS: u64 = 5;
 
-/// A try of a repair has so many steps, but there are four at least.
+/// A try to become feasible has so many steps, but there are four at least.
 pub(crate) const TRY_STEPS: u64 = 1_250_000;
 
 pub(crate) const LEAST_TRIES: u64 = 4;
@@ -90,8 +90,8 @@ pub(crate) const WEIGHTS: WeightCourse = WeightCourse {
     least: 300_000,
     most: 100_000_000,
 };
-/// Of a repair, and of the tries after those of which none was feasible.
-pub(crate) const REPAIR_WEIGHTS: WeightCourse = WeightCourse {
+/// Of tries, and of those after tries of which none was feasible.
+pub(crate) const NEAR_WEIGHTS: WeightCourse = WeightCourse {
     first: 10_000_000,
     least: 300_000,
     most: 25_000_000,

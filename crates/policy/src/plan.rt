@@ -7,7 +7,7 @@ use crate::bouts::{Bout, Shares};
 use crate::first_half::{FirstHalf, field_for};
 use crate::legs::{Course, Leg, LegEnd, MoveSet, WeightCourse};
 use crate::numbers::{
-    AFTER_FEW, AFTER_MORE, COPIES, Cycles, HEAT_FROM, HEAT_MOST, LEAST_TRIES, REPAIR_WEIGHTS,
+    AFTER_FEW, AFTER_MORE, COPIES, Cycles, HEAT_FROM, HEAT_MOST, LEAST_TRIES, NEAR_WEIGHTS,
     SECOND_HALF, TRY_STEPS, WEIGHTS, WIDE_HEAT_MOST, WIDE_WEIGHTS,
 };
 use crate::waves::{Facts, Source, Wave};
@@ -24,6 +24,15 @@ enum Bouts {
     Copies(Shares),
 }
 
+/// How far chains may heat until they are feasible, and what a breach weighs then. It widens as long as none was.
+#[derive(Clone, Copy, PartialEq, Eq)]
+enum Reach {
+    /// They only cool.
+    None,
+    Near,
+    Wide,
+}
+
 /// The present wave, and what decides about the next ones.
 #[derive(Clone, Copy, Drop)]
 pub(crate) struct Plan {
@@ -31,6 +40,7 @@ pub(crate) struct Plan {
     /// What all legs after the first half draw.
     moves: MoveSet,
     bouts: Bouts,
+    reach: Reach,
     /// The steps of each level of the second half.
     level_steps: u64,
     cycles: Cycles,
@@ -40,7 +50,7 @@ pub(crate) struct Plan {
     turn: u32,
     /// What the peaks are measured by: the least temperature at which a try became feasible.
     hottest: u32,
-    /// Whether a try became feasible.
+    /// Whether a leg ended with a feasible version in its chain.
     feasible: bool,
     ghost four: { 4 ≤ teams },
     ghost going: { 1 ≤ cycles_left },
@@ -63,6 +73,7 @@ impl Plan {
             },
             // this stands in for the first wave
             bouts: Bouts::Tries(Shares { steps: 1, bouts: 1 }),
+            reach: Reach::None,
             level_steps: 0,
             cycles: SECOND_HALF,
             cycles_left: SECOND_HALF.count,
@@ -84,13 +95,9 @@ impl Plan {
             Bouts::Copies(_) => 1,
             _ => 0,
         });
-        let failed = self.moves == MoveSet::Repair && !self.feasible;
         if field == 0 && self.moves == MoveSet::Full {
             self.first_half(left)
-        } else if field == 0 {
-            self.tries(left)
-        } else if failed {
-            self.moves = MoveSet::WideRepair;
+        } else if field == 0 || (!self.feasible && self.reach != Reach::Wide) {
             self.tries(left)
         } else if field == 1 {
             self.copies(left)
@@ -122,11 +129,12 @@ impl Plan {
         }
     }
 
-    /// A wave of tries to become feasible from the start.
+    /// A wave of tries to become feasible from the start, with a wider reach than before.
     fn tries(&mut self, left: u64) -> Wave
         requires { left ≤ most_effort }
         ensures { (field : ℕ) → IsNextWave field result }
     {
+        self.widen();
         let tries = (left / TRY_STEPS).max(LEAST_TRIES);
         let few = tries == LEAST_TRIES;
         let steps = if few { left / 2 } else { left * 3 / 4 };
@@ -142,6 +150,17 @@ impl Plan {
             source: Source::Start,
             bouts,
             keep: 1,
+        }
+    }
+
+    fn widen(&mut self) {
+        if self.reach == Reach::None {
+            self.reach = Reach::Near;
+            return;
+        }
+        self.reach = Reach::Wide;
+        if self.moves == MoveSet::Repair {
+            self.moves = MoveSet::WideRepair;
         }
     }
 
@@ -211,13 +230,13 @@ impl Plan {
         ensures { IfSome result (λ next. IsCourse next.course) }
     {
         let bout = self.bout(number);
+        self.feasible |= ended.best.is_some();
         if leg != bout.first {
             return None;
         }
         let mut next = bout.second_after(ended.steps);
         if let Course::Heats { .. } = leg.course {
             if ended.best.is_some() {
-                self.feasible = true;
                 self.hottest = self.hottest.min(ended.hottest);
             }
             next.course = self.cools_from(ended.hottest);
@@ -238,8 +257,8 @@ impl Plan {
     fn heat_most(&self) -> u32
         ensures { 1000 ≤ result }
     {
-        match self.moves {
-            MoveSet::WideRepair => WIDE_HEAT_MOST,
+        match self.reach {
+            Reach::Wide => WIDE_HEAT_MOST,
             _ => HEAT_MOST,
         }
     }
@@ -266,10 +285,10 @@ impl Plan {
     pub(crate) fn weights(&self) -> WeightCourse
         ensures { IsWeightCourse result }
     {
-        match self.moves {
-            MoveSet::Repair => REPAIR_WEIGHTS,
-            MoveSet::WideRepair => WIDE_WEIGHTS,
-            _ => WEIGHTS,
+        match self.reach {
+            Reach::None => WEIGHTS,
+            Reach::Near => NEAR_WEIGHTS,
+            Reach::Wide => WIDE_WEIGHTS,
         }
     }
 }

@@ -3,7 +3,7 @@
 ghost use Rattle.std.specs.Prelude.{◌≤◌};
 ghost use Rattle.policy.specs.Limits.{most_effort};
 
-use crate::walks::{Place, Walk, walked};
+use crate::walks::{Feasible, Place, Walk, walked};
 use policy::{Facts, MOST_EFFORT, MoveSet, Policy, WeightCourse};
 use std::process::Abort;
 
@@ -29,10 +29,22 @@ type Setting = (u8, u64, Kind);
 #[derive(Clone, Copy, Debug, PartialEq, Eq)]
 enum Kind {
     Search,
+    /// A search whose first half ends without a feasible version, and whose tries become feasible.
+    Heated,
+    /// A search of which nothing becomes feasible.
+    Stuck,
     Repair,
     /// A repair of which no try becomes feasible.
     Failing,
 }
+
+const KINDS: [Kind; 5] = [
+    Kind::Search,
+    Kind::Heated,
+    Kind::Stuck,
+    Kind::Repair,
+    Kind::Failing,
+];
 
 const SIXTEEN: Setting = (16, 1_000_000, Kind::Search);
 
@@ -56,10 +68,18 @@ const FEW_STEPS: Setting = (4, 50, Kind::Search);
 
 const FEW_TRIES: Setting = (6, 7, Kind::Failing);
 
+const HEATED: Setting = (20, 10_000_000, Kind::Heated);
+
+const HEATED_TEN: Setting = (10, 10_000_000, Kind::Heated);
+
+const STUCK: Setting = (16, 1_000_000, Kind::Stuck);
+
+const STUCK_FOUR: Setting = (4, 50, Kind::Stuck);
+
 /// A setting, and what `scripts/policy-twin.py` has for it: the numbers of waves and legs, and the sums of both.
 type Row = (Setting, [u64; 4]);
 
-const ROWS: [Row; 11] = [
+const ROWS: [Row; 15] = [
     (SIXTEEN, [17, 68, 62_834, 12_985_776_099_164_480]),
     (EIGHT, [19, 86, 78_023, 41_063_752_353_371_029]),
     (TWENTY, [19, 94, 78_623, 311_063_755_069_200_593]),
@@ -71,12 +91,16 @@ const ROWS: [Row; 11] = [
     (LONG_REPAIR, [9, 48, 18_938, 19_956_768_295_799_864]),
     (FAILING, [18, 72, 70_446, 391_221_218_913_717_439]),
     (FEW_TRIES, [4, 7, 4_114, 3_578_512_027_810_637]),
+    (HEATED, [18, 78, 70_356, 57_058_864_467_063_471]),
+    (HEATED_TEN, [18, 82, 70_776, 57_058_864_487_649_743]),
+    (STUCK, [19, 76, 78_068, 424_274_771_135_692_392]),
+    (STUCK_FOUR, [10, 18, 22_448, 24_963_032_183_610_521]),
 ];
 
 /// A leg that the twin shows for a setting: its wave, bout and place there, its moves, from, to and steps.
 type Shown = (Setting, [u32; 3], MoveSet, [u64; 3]);
 
-const LEGS: [Shown; 10] = [
+const LEGS: [Shown; 13] = [
     (SIXTEEN, [0, 1, 1], MoveSet::Loose, [600, 300, 131_250]),
     (EIGHT, [0, 3, 0], MoveSet::Full, [600, 150, 897_600]),
     (EIGHT, [2, 0, 1], MoveSet::Full, [200, 150, 312_500]),
@@ -97,6 +121,9 @@ const LEGS: [Shown; 10] = [
         MoveSet::WideRepair,
         [10_000, 100, 13_020],
     ),
+    (HEATED, [1, 1, 1], MoveSet::Full, [1600, 100, 623_000]),
+    (STUCK, [1, 0, 0], MoveSet::Full, [1000, 5000, 62_500]),
+    (STUCK, [2, 3, 0], MoveSet::Full, [1000, 20_000, 31_250]),
 ];
 
 /// A walk of a setting. No effort is above the most.
@@ -109,9 +136,13 @@ fn walk(setting: Setting) -> Walk
         facts: Facts {
             teams: teams.max(4),
             effort: effort.min(MOST_EFFORT),
-            repairs: kind != Kind::Search,
+            repairs: matches!(kind, Kind::Repair | Kind::Failing),
         },
-        feasible: kind != Kind::Failing,
+        feasible: match kind {
+            Kind::Search => Feasible::All,
+            Kind::Heated | Kind::Repair => Feasible::Heated,
+            Kind::Stuck | Kind::Failing => Feasible::None,
+        },
         two_at_once: false,
         shown: Place {
             wave: 0,
@@ -144,7 +175,7 @@ fn check_walk(rt: &impl Abort, walk: Walk)
 fn whole_efforts_are_taken(rt: HostRuntime) {
     for teams in 4..41 {
         for effort in EFFORTS {
-            for kind in [Kind::Search, Kind::Repair, Kind::Failing] {
+            for kind in KINDS {
                 check_walk(&rt, walk((teams, effort, kind)));
             }
         }
@@ -188,8 +219,8 @@ fn legs_as_the_twin_has_them(rt: HostRuntime) {
     }
 }
 
-/// The weights of the first wave and of the second, where no try of the first one was feasible.
-fn weights(repairs: bool) -> [WeightCourse; 2] {
+/// The weights of the first three waves, of which nothing was told.
+fn weights(repairs: bool) -> [WeightCourse; 3] {
     let mut policy = Policy::new(Facts {
         teams: 12,
         effort: 1_000_000,
@@ -198,7 +229,9 @@ fn weights(repairs: bool) -> [WeightCourse; 2] {
     let _ = policy.wave();
     let first = policy.weights();
     let _ = policy.wave();
-    [first, policy.weights()]
+    let second = policy.weights();
+    let _ = policy.wave();
+    [first, second, policy.weights()]
 }
 
 #[test]
@@ -208,12 +241,8 @@ fn weights_of_a_breach(rt: HostRuntime) {
         least: 300_000,
         most,
     };
-    assert_eq!(rt;
-        weights(false),
-        [of(2_000_000, 100_000_000), of(2_000_000, 100_000_000)]
-    );
-    assert_eq!(rt;
-        weights(true),
-        [of(10_000_000, 25_000_000), of(10_000_000, 100_000_000)]
-    );
+    let near = of(10_000_000, 25_000_000);
+    let wide = of(10_000_000, 100_000_000);
+    assert_eq!(rt; weights(false), [of(2_000_000, 100_000_000), near, wide]);
+    assert_eq!(rt; weights(true), [near, wide, wide]);
 }

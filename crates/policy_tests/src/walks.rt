@@ -8,12 +8,20 @@ use policy::{Course, Facts, Leg, LegEnd, MoveSet, Policy, Source, Wave};
 /// More waves than any policy has.
 const MANY_WAVES: u32 = 100;
 
+/// Which legs end with a feasible version in their chain.
+#[derive(Clone, Copy, Debug, PartialEq, Eq)]
+pub(crate) enum Feasible {
+    All,
+    /// Those that heat.
+    Heated,
+    None,
+}
+
 /// What is walked, and how.
 #[derive(Clone, Copy, Debug, PartialEq, Eq)]
 pub(crate) struct Walk {
     pub(crate) facts: Facts,
-    /// Whether tries become feasible.
-    pub(crate) feasible: bool,
+    pub(crate) feasible: Feasible,
     /// Whether each bout begins before the one before it is told.
     pub(crate) two_at_once: bool,
     /// The leg to be shown.
@@ -76,17 +84,22 @@ impl Walker {
         ensures { result.steps ≤ leg.steps }
     {
         let part = bout % 5;
-        let (steps, hottest, best) = match leg.course {
-            Course::Cools { from, .. } => (leg.steps, from, Some(1)),
-            Course::Heats { .. } if self.walk.feasible => {
-                (
-                    leg.steps.min(1000 + 1000 * u64::from(part)),
-                    1700 - 100 * part,
-                    Some(1),
-                )
-            }
-            Course::Heats { to, .. } => (leg.steps, to, None),
+        let heats = matches!(leg.course, Course::Heats { .. });
+        let is_feasible = match self.walk.feasible {
+            Feasible::All => true,
+            Feasible::Heated => heats,
+            Feasible::None => false,
         };
+        let (steps, hottest) = match leg.course {
+            Course::Heats { .. } if is_feasible => {
+                let steps = 1000 + 1000 * u64::from(part);
+                (leg.steps.min(steps), 1700 - 100 * part)
+            }
+            Course::Cools { from: highest, .. } | Course::Heats { to: highest, .. } => {
+                (leg.steps, highest)
+            }
+        };
+        let best = if is_feasible { Some(1) } else { None };
         LegEnd {
             steps,
             hottest,
