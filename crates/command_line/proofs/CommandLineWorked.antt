@@ -77,8 +77,8 @@ unfolding clap_on_literals
 improve_has_its_defaults = refl
 
 improve_has_its_numbers : job_of_words
-    (ttp (codes "improve" ∷ codes "--workers" ∷ codes "4" ∷ codes "--seed=7" ∷ codes "--effort" ∷ codes "1000" ∷ []))
-    ≡ Some (Improve 4 7 1000000000)
+    (ttp (codes "improve" ∷ codes "--workers" ∷ codes "4" ∷ codes "--seed=7" ∷ codes "--effort" ∷ codes "1000000" ∷ []))
+    ≡ Some (Improve 4 7 1000000000000)
 unfolding clap_on_literals
 improve_has_its_numbers = refl
 
@@ -86,7 +86,7 @@ some_effort_is_needed : fault_of program (ttp (codes "improve" ∷ codes "--effo
 unfolding clap_on_literals
 some_effort_is_needed = refl
 
-effort_has_a_limit : fault_of program (ttp (codes "improve" ∷ codes "--effort=1001" ∷ [])) ≡ ValueValidation ∷ []
+effort_has_a_limit : fault_of program (ttp (codes "improve" ∷ codes "--effort=1000001" ∷ [])) ≡ ValueValidation ∷ []
 unfolding clap_on_literals
 effort_has_a_limit = refl
 

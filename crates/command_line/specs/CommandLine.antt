@@ -53,7 +53,7 @@ seed_option = number_option (codes "seed") 0 (2 ^ 64 - 1) (codes "1")
 
 -- how many million moves the workers draw together
 abbrev pub effort_option : OptionForm
-effort_option = number_option (codes "effort") 1 1000 (codes "10")
+effort_option = number_option (codes "effort") 1 1000000 (codes "10")
 
 -- how many moves each worker draws
 abbrev pub steps_option : OptionForm
@@ -244,12 +244,12 @@ pub record IsPlanInRange (plan : SearchPlan) : Type 0 where
   pub few : plan.workers ≤ 16
   pub steps : plan.steps ≤ 1000000
 
--- 1 to 16 workers, and a million steps to a thousand million
+-- 1 to 16 workers, and a million steps to a million million
 pub record IsImproveInRange (workers effort : ℕ) : Type 0 where
   pub some : 1 ≤ workers
   pub few : workers ≤ 16
   pub least : 1000000 ≤ effort
-  pub most : effort ≤ 1000000000
+  pub most : effort ≤ 1000000000000
 
 -- each number of the job is in its range
 abbrev pub IsInRange : Job → Type 0

@@ -76,7 +76,8 @@ pub(crate) const WORKERS_HELP: &str = "How many workers search at once, 1 to 16"
 
 pub(crate) const SEED_HELP: &str = "What the workers' draws begin with, any number of 64 bits";
 
-pub(crate) const EFFORT_HELP: &str = "How many million moves the workers draw together, 1 to 1000";
+pub(crate) const EFFORT_HELP: &str =
+    "How many million moves the workers draw together, 1 to 1000000";
 
 pub(crate) const STEPS_HELP: &str = "How many moves each worker draws, 0 to 1000000";
 

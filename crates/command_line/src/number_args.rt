@@ -15,7 +15,7 @@ use std::alloc::Global;
 const MAX_STEPS: u64 = 1_000_000;
 
 /// The most millions of steps of an improvement.
-const MAX_EFFORT: u64 = 1000;
+const MAX_EFFORT: u64 = 1_000_000;
 
 /// An option: the range of its number, and what stands for it if it isn't given.
 #[derive(Clone, Copy)]

@@ -76,7 +76,7 @@ const HELP: &[(&[&str], &[&str])] = &[
             "Reads a league from standard input, anneals its schedule, and writes each better one as soon as\n",
             "it has it, then the history that leads to the best\n",
             "--effort <E>",
-            "How many million moves the workers draw together, 1 to 1000",
+            "How many million moves the workers draw together, 1 to 1000000",
             "[default: 10]",
             "docs/improve.md",
             "ttp improve --workers 4 --effort 100 < leagues/circular-10.json\n",

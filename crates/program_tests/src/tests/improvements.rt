@@ -30,11 +30,11 @@ const PLANS: &[(&[&str], (u32, u64, u64))] = &[
         &[
             "ttp",
             "improve",
-            "--effort=1000",
+            "--effort=1000000",
             "--seed=18446744073709551615",
             "--workers=16",
         ],
-        (16, u64::MAX, 1_000_000_000),
+        (16, u64::MAX, 1_000_000_000_000),
     ),
 ];
 
@@ -45,7 +45,7 @@ const MISTAKES: &[(&[&str], ErrorKind)] = &[
         ErrorKind::ValueValidation,
     ),
     (
-        &["ttp", "improve", "--effort", "1001"],
+        &["ttp", "improve", "--effort", "1000001"],
         ErrorKind::ValueValidation,
     ),
     (
