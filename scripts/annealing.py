@@ -9,7 +9,7 @@ from math import log
 
 import apart
 import draws
-from waves import KINDS, LOOSE, WEIGHTS
+from waves import KINDS, LOOSE, WEIGHTS, heats, hottest
 
 BLOCK = 1000
 # -ln(u) in 65536ths, for u in the middle of each 256th from 0 to 1
@@ -98,9 +98,9 @@ def games_of(rows):
 class Chain:
     """A chain at the league's start. Its history is its last entry and the history before, or None."""
 
-    def __init__(self, counts):
+    def __init__(self, counts, weights=WEIGHTS):
         table = apart.cells(apart.start_of(counts.league), counts.teams)
-        self.counts, self.weight, self.history, self.best = counts, WEIGHTS[0], None, None
+        self.counts, self.weight, self.history, self.best = counts, weights[0], None, None
         self.come_to(tuple(bytes(opponent + home * counts.teams for opponent, home in row) for row in table))
 
     def come_to(self, rows):
@@ -156,12 +156,15 @@ class Chain:
         self.keep_best()
         return True
 
-    def anneal(self, unit, leg, seed, stream):
-        """Takes the leg's steps. How many moves were made."""
+    def anneal(self, unit, leg, seed, stream, weights):
+        """Takes the leg's steps. How many they were, and how many moves were made."""
         (numerator, denominator), (moves, hot, cold, steps) = unit, leg
-        generator, blocks, made, (_, least, most) = draws.Generator(seed, stream), -(-steps // BLOCK), 0, WEIGHTS
+        generator, blocks, made, (_, least, most) = draws.Generator(seed, stream), -(-steps // BLOCK), 0, weights
         for block in range(blocks):
-            heat = 1000 * hot - 1000 * (hot - cold) * block // blocks
+            if heats(leg):
+                heat = 1000 * hottest(leg, BLOCK * block + 1)
+            else:
+                heat = 1000 * hot - 1000 * (hot - cold) * block // blocks
             temperature = heat * numerator * 1024 // (1_000_000 * denominator)
             weight = max(1, self.weight * numerator // (1_000_000 * denominator))
             length, feasible = min(BLOCK, steps - BLOCK * block), 0
@@ -171,7 +174,9 @@ class Chain:
                 made += self.makes(draws.draw(generator, self.counts.teams, KINDS[moves]), weight, threshold)
             after = self.weight + self.weight // 50 - self.weight * feasible // (25 * length)
             self.weight = min(max(after, least), most)
-        return made
+            if heats(leg) and self.best:
+                return BLOCK * block + length, made
+        return steps, made
 
 
 def unit_of(counts):

@@ -6,7 +6,7 @@ usage: scripts/policy-twin.py
 The waves are those of scripts/waves.py. What a leg that heats comes to is made up, by arithmetic on its bout: it becomes feasible after
 one to five thousand steps, or never. So of the walks that are no repairs, "heated" and "stuck" ones have a first half without a feasible
 version, and the tries after it become feasible or never."""
-from waves import repair, search
+from waves import cooled, heats, repair, search
 
 WALKS = (
     (16, 10**6, "no"),
@@ -28,21 +28,32 @@ WALKS = (
 SHOWN = ((0, 0, 0), (0, 1, 1), (0, 3, 0), (1, 0, 0), (1, 1, 1), (2, 0, 1), (2, 3, 0), (7, 3, 0))
 
 
-def waves_of(n, effort, repairs):
-    if repairs in ("feasible", "never"):
-        return repair(effort, repairs == "feasible")
-    return search(n, effort, {"no": "all", "heated": "heated", "stuck": "never"}[repairs])
+def legs_of(bout, number, feasible):
+    """The legs of a bout, and what it came to."""
+    leg, *more = bout
+    if not heats(leg):
+        return [leg, *more], True if feasible == "all" else None
+    if feasible == "never":
+        return [leg, *cooled(leg, leg[3])], None
+    moves, _, _, share = leg
+    steps, hot = min(share, 1000 * (1 + number % 5)), 1700 - number % 5 * 100
+    return [leg, (moves, hot, 100, share - steps)], hot
 
 
 def show(n, effort, repairs):
     print(f"{n} teams, {effort} steps, repairs: {repairs}")
-    waves, legs, of_waves, of_legs, told = 0, 0, 0, 0, []
-    for number, (source, keep, bouts) in enumerate(waves_of(n, effort, repairs)):
-        waves += 1
+    policy = repair(effort) if repairs in ("feasible", "never") else search(n, effort)
+    feasible = {"no": "all", "feasible": "heated", "stuck": "never"}.get(repairs, repairs)
+    number, legs, of_waves, of_legs, told, wave = 0, 0, 0, 0, [], next(policy)
+    while wave:
+        source, keep, bouts, _ = wave
         told.append(f"{source} {len(bouts)} {keep}")
-        of_waves += waves * (100 * len(bouts) + 10 * keep + ("Start", "Own", "Copies").index(source))
+        of_waves += (number + 1) * (100 * len(bouts) + 10 * keep + ("Start", "Own", "Copies").index(source))
+        came_to = []
         for b, bout in enumerate(bouts):
-            for place, leg in enumerate(bout):
+            taken, end = legs_of(bout, b, feasible)
+            came_to.append(end)
+            for place, leg in enumerate(taken):
                 if leg[3] == 0:
                     continue
                 legs += 1
@@ -51,8 +62,13 @@ def show(n, effort, repairs):
                 of_legs = (of_legs + (1 + place + 2 * b + 1_000_000_007 * number) * has) % 2**64
                 if (number, b, place) in SHOWN:
                     print("  wave, bout, place:", number, b, place, " moves, from, to, steps:", *leg)
+        number += 1
+        try:
+            wave = policy.send(came_to)
+        except StopIteration:
+            break
     print("  waves:", ", ".join(told))
-    print("  waves, legs, sums of both:", waves, legs, of_waves, of_legs)
+    print("  waves, legs, sums of both:", number, legs, of_waves, of_legs)
 
 
 for walk in WALKS:

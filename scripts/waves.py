@@ -1,6 +1,9 @@
 """The waves of the policy, by plain loops and lists, written from crates/policy/README.md. It shares no code with the crates:
 scripts/policy-twin.py and scripts/improve-apart hold them to it. A leg is its moves, the temperatures at its beginning and at its end, in
-thousandths of the unit, and its steps."""
+thousandths of the unit, and its steps. One that rises heats, and ends early once its chain has a feasible version.
+
+A wave is what it begins at, how many of its chains go on, the legs of each bout, and the weights of a breach. Whoever takes a wave's legs
+sends what each bout came to: None if its chain has no feasible version, for a leg that heats the highest temperature, otherwise anything."""
 
 RIGID, LOOSE, FULL, REPAIR, WIDE = range(1, 6)
 KINDS = {
@@ -10,8 +13,8 @@ KINDS = {
     REPAIR: ("homes", "part-rounds", "part-teams"),
     WIDE: ("homes", "rounds", "part-rounds", "part-teams"),
 }
-# what a breach of a hard limit weighs at first, at least and at most, in millionths of the unit
-WEIGHTS = (2_000_000, 300_000, 100_000_000)
+# what a breach of a hard limit weighs at first, at least and at most, in millionths of the unit: without tries, in them, and in wide ones
+WEIGHTS, NEAR, WIDELY = (2_000_000, 300_000, 100_000_000), (10_000_000, 300_000, 25_000_000), (10_000_000, 300_000, 100_000_000)
 
 
 def parts(total, count):
@@ -41,51 +44,62 @@ def first_half(n, effort):
     return [(RIGID, early)] + m * group
 
 
-def search(n, effort, feasible="all"):
-    """Waves: what they begin at, how many of their chains go on, and the legs of each bout. All legs end with a feasible version in their
-    chain, or of the first half none: then those do that heat (`heated`), or none (`never`)."""
+def heats(leg):
+    return leg[1] < leg[2]
+
+
+def hottest(leg, steps):
+    """The highest temperature of a leg that heats, after so many steps."""
+    _, low, high, share = leg
+    return low + min((high - low) * 2 * 1000 * ((steps - 1) // 1000) // share, high - low)
+
+
+def cooled(leg, steps):
+    """The legs that follow on one that heats, after so many steps."""
+    kinds, _, _, share = leg
+    return [(kinds, max(hottest(leg, steps), 100), 100, share - steps)] if steps < share else []
+
+
+def search(n, effort):
     chains = first_half(n, effort)
     left = effort - sum(steps for _, steps in chains)
     field = min(4, max(1, left // (5000 * n * n)), len(chains))
-    yield "Start", field, [chain(kind, steps) for kind, steps in chains]
-    if feasible != "all":
-        yield from tries(left, (FULL, FULL), feasible != "never")
+    came_to = yield "Start", field, [chain(kind, steps) for kind, steps in chains], WEIGHTS
+    if all(end is None for end in came_to):
+        yield from tries(left, ((FULL, 5000, NEAR), (FULL, 20000, WIDELY)))
         return
     level, peaks = left // ({1: 0, 2: 1, 3: 2, 4: 2}[field] + 2), 4 * (300, 250, 400, 200) + 4 * (300, 250, 400, 200)
     while field > 1:
         bouts = [[(FULL, peak, 150, steps) for peak, steps in zip(peaks, parts(share, 2))] for share in parts(level, field)]
         peaks, left, field = peaks[2:], left - level, (field + 1) // 2
-        yield "Own", field, bouts
-    yield from copies(left, FULL, peaks[:16], 150)
+        yield "Own", field, bouts, WEIGHTS
+    yield from copies(left, FULL, peaks[:16], 150, WEIGHTS)
 
 
-def copies(left, kinds, peaks, cold):
+def copies(left, kinds, peaks, cold, weights):
     for i, peak in enumerate(peaks):
         if left > 0:
             steps = max(1, left // (len(peaks) - i))
             left -= steps
-            yield "Copies", 1, [[(kinds, max(peak, cold), cold, share)] for share in parts(steps, 4)]
+            yield "Copies", 1, [[(kinds, max(peak, cold), cold, share)] for share in parts(steps, 4)], weights
 
 
-def tries(left, sets, feasible):
-    """The waves of tries to become feasible, with a set of moves for each, and what follows on them."""
-    for kinds, most in zip(sets, (5000, 20000)):
+def tries(left, reaches):
+    """Tries to become feasible, with wider reaches while none does, and what follows on them."""
+    for kinds, most, weights in reaches:
         if left == 0:
             return
         count = max(4, left // 1_250_000)
         steps = max(1, left // 2 if count == 4 else 3 * left // 4)
         left -= steps
-        bouts = []
-        for i, share in enumerate(parts(steps, count)):
-            used = min(share, 1000 * (1 + i % 5)) if feasible else share
-            bouts.append([(kinds, 1000, most, share), (kinds, 1700 - i % 5 * 100, 100, share - used)])
-        yield "Start", 1, bouts
+        came_to = yield "Start", 1, [[(kinds, 1000, most, share)] for share in parts(steps, count)], weights
+        feasible = [hot for hot in came_to if hot is not None]
         if feasible:
-            most = min(1700 - i % 5 * 100 for i in range(count))
+            most = min(feasible)
             break
     times = 4 * (500, 750, 250, 1000) if count == 4 else 4 * (1000, 850)
-    yield from copies(left, kinds, [most * part // 1000 for part in times], 100)
+    yield from copies(left, kinds, [most * part // 1000 for part in times], 100, weights)
 
 
-def repair(effort, feasible):
-    yield from tries(effort, (REPAIR, WIDE), feasible)
+def repair(effort):
+    return tries(effort, ((REPAIR, 5000, NEAR), (WIDE, 20000, WIDELY)))

@@ -1,1 +1,2 @@
+mod Inputs
 mod Requests

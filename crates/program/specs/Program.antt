@@ -14,12 +14,12 @@ use Rattle.beginnings.specs.declared.begun.Beginning.{Beginning}
 use Rattle.commands.specs.declared.fault.ProgramFault.{ProgramFault}
 use Rattle.commands.specs.declared.report_command.Verdict.{Verdict}
 use Rattle.commands.specs.declared.report_command.Verdict.TheVariants.{Feasible, Infeasible}
-use Rattle.commands.specs.Outcome.{without_value, Ends, EndsOn}
-use Rattle.commands.specs.Start.{AnswersStart, AnswersStartOn}
-use Rattle.commands.specs.Play.{AnswersPlay, AnswersPlayOn}
-use Rattle.commands.specs.Find.{AnswersFind, AnswersFindOn}
-use Rattle.commands.specs.Improve.{EndsImprove, EndsImproveOn}
-use Rattle.commands.specs.Report.{AnswersReport, AnswersReportOn}
+use Rattle.commands.specs.Outcome.{without_value, EndsFrom, EndsOn}
+use Rattle.commands.specs.Start.{AnswersStartOn}
+use Rattle.commands.specs.Play.{AnswersPlayOn}
+use Rattle.commands.specs.Find.{AnswersFindOn}
+use Rattle.commands.specs.Improve.{EndsImproveOn}
+use Rattle.commands.specs.Report.{AnswersReportOn}
 
 -- the verdict of a job that has one
 abbrev pub told_in : Result (Option Verdict) ProgramFault → Option Verdict
@@ -35,17 +35,6 @@ is_report job = false
 abbrev pub HasVerdict : Job → Result (Option Verdict) ProgramFault → Type 0
 HasVerdict job outcome = IfOk outcome (λ verdict. is_some verdict ≡ is_report job)
 
--- how the command of a job with this verdict ends, for a source with these bytes left and these calls, and a sink with these
--- bytes held and these calls
-module _ {R W : Type 0} (left : R → Option (List ℕ)) (pulls : R → Tally) (held : W → Option (List ℕ)) (pushes : W → Tally) where
-  abbrev pub EndsJob : Job → Option Verdict → R → R → W → W → Result Unit ProgramFault → Type 0
-  EndsJob Start verdict = Ends left pulls held pushes AnswersStart
-  EndsJob (Play room) verdict = Ends left pulls held pushes (AnswersPlay room)
-  EndsJob (Improve workers seed effort) verdict =
-      EndsImprove left pulls held pushes (record { workers = workers; seed = seed; effort = effort })
-  EndsJob (Find room plan) verdict = Ends left pulls held pushes (AnswersFind room plan)
-  EndsJob (Report format) verdict = Ends left pulls held pushes (AnswersReport format verdict)
-
 -- the league's text and the lines beside it: all of an input and of the second text if that was read by itself, otherwise what
 -- stands before and after the word
 abbrev pub league_part : List ℕ → List ℕ → Option (List ℕ) → List ℕ
@@ -56,18 +45,25 @@ abbrev pub lines_part : List ℕ → List ℕ → Option (List ℕ) → Option (
 lines_part word input (Some second) = Some (lines second)
 lines_part word input None = lines_after word input
 
--- how it ends on an input and a second text that were read, of a league that begins where it is to
+-- how the command of a job with this verdict ends on an input and a second text that were read, of a league that begins where it is to,
+-- for a sink with these bytes held and these calls
 module _ {W : Type 0} (held : W → Option (List ℕ)) (pushes : W → Tally) (input : List ℕ) (second : Option (List ℕ))
-    (beginning : Beginning) where
+    (beginning : Option Beginning) where
   abbrev pub EndsJobOn : Job → Option Verdict → W → W → Result Unit ProgramFault → Type 0
-  EndsJobOn Start verdict = EndsOn held pushes (AnswersStartOn input (Some beginning))
+  EndsJobOn Start verdict = EndsOn held pushes (AnswersStartOn input beginning)
   EndsJobOn (Play room) verdict = EndsOn held pushes
-      (AnswersPlayOn room (league_part (codes "script") input second) (unwrap_or (lines_part (codes "script") input second) []) (Some beginning))
+      (AnswersPlayOn room (league_part (codes "script") input second) (unwrap_or (lines_part (codes "script") input second) []) beginning)
   EndsJobOn (Improve workers seed effort) verdict =
-      EndsImproveOn held pushes (record { workers = workers; seed = seed; effort = effort }) input (Some beginning)
-  EndsJobOn (Find room plan) verdict = EndsOn held pushes (AnswersFindOn room plan input (Some beginning))
+      EndsImproveOn held pushes (record { workers = workers; seed = seed; effort = effort }) input beginning
+  EndsJobOn (Find room plan) verdict = EndsOn held pushes (AnswersFindOn room plan input beginning)
   EndsJobOn (Report format) verdict = EndsOn held pushes
-      (AnswersReportOn format verdict (league_part (codes "sheet") input second) (lines_part (codes "sheet") input second) (Some beginning))
+      (AnswersReportOn format verdict (league_part (codes "sheet") input second) (lines_part (codes "sheet") input second) beginning)
+
+-- how it ends between a source and a sink, for a source with these bytes left and these calls: on the input that was read, of a league
+-- that begins at its own start
+abbrev pub EndsJob : {R W : Type 0} → (R → Option (List ℕ)) → (R → Tally) → (W → Option (List ℕ)) → (W → Tally) → Job → Option Verdict
+    → R → R → W → W → Result Unit ProgramFault → Type 0
+EndsJob left pulls held pushes job verdict = EndsFrom left pulls (λ bytes. EndsJobOn held pushes bytes None None job verdict)
 
 -- the exit status after a job
 abbrev pub status_of : Result (Option Verdict) ProgramFault → ℕ
@@ -103,7 +99,7 @@ pub record DoesJobOn {W : Type 0} (held : W → Option (List ℕ)) (pushes : W �
   pub outcome : Result (Option Verdict) ProgramFault
   pub beginning : Beginning
   pub begins : IsBeginningOf from kept beginning
-  pub ends : EndsJobOn held pushes input second beginning job (told_in outcome) before after (without_value outcome)
+  pub ends : EndsJobOn held pushes input second (Some beginning) job (told_in outcome) before after (without_value outcome)
   pub verdict : HasVerdict job outcome
   pub status_is : status ≡ status_of outcome
 

@@ -1,17 +1,16 @@
-//! What a job does between a source and a sink, or on texts that were read.
+//! What a job does on texts that were read.
 
-ghost use Rattle.std.specs.Prelude.{◌≡◌, ◌<◌, ◌≤◌, [], IfOk, false, is_some, length, option_map, true, unwrap_or};
+ghost use Rattle.std.specs.Prelude.{◌≡◌, ◌<◌, ◌≤◌, [], IfOk, IfSome, false, is_some, length, option_map, true, unwrap_or};
 ghost use Rattle.std.specs.Str.Lines.{lines};
 ghost use Rattle.command_line.specs.CommandLine.{IsInRange};
 ghost use Rattle.league.specs.Limits.{max_weight};
 ghost use Rattle.commands.specs.Outcome.{value_of, without_value};
-ghost use Rattle.program.specs.Program.{league_part, lines_part, told_in, EndsJob, EndsJobOn, HasVerdict};
+ghost use Rattle.program.specs.Program.{league_part, lines_part, told_in, EndsJobOn, HasVerdict};
 
 use command_line::Job;
 use commands::{
-    Beginning, Gate, ImprovePlan, NoGate, ProgramFault, ProgressLine, Sink, Source, Verdict,
-    Workplace, find, find_on, improve, improve_on, play, play_on, report, report_on, start,
-    start_on,
+    Beginning, Gate, ImprovePlan, NoGate, ProgramFault, ProgressLine, Sink, Verdict, Workplace,
+    find_on, improve_on, play_on, report_on, start_on,
 };
 use std::alloc::Global;
 use std::io::Write;
@@ -21,48 +20,13 @@ use std::time::Clock;
 use streams::WriterSink;
 use texts::split_at_line;
 
-/// What a job works with, beside its source and its sink.
+/// What a job works with, beside its texts and its sink.
 #[derive(Drop)]
 pub(crate) struct Console<'a, T, E> {
     pub(crate) rt: &'a T,
     pub(crate) alloc: Global,
     /// Where a search shows how far it is.
     pub(crate) terminal: Option<E>,
-}
-
-/// Does what the job asks for, from this source to this sink, and shows how far a search is if there is a terminal. A report
-/// has a verdict.
-pub(crate) fn perform<
-    T: Threads + Wait + Clock + Sync,
-    E: Write + Send + Drop,
-    R: Source + Drop,
-    W: Sink,
->(
-    console: Console<'_, T, E>,
-    job: Job,
-    source: R,
-    sink: &mut W,
-) -> Result<Option<Verdict>, ProgramFault>
-    requires { IsInRange job }
-    ensures ends { (after : R) × EndsJob R.left R.tally W.held W.tally job (told_in result)
-        source after sink.old sink.new (without_value result) }
-    ensures verdict { HasVerdict job result }
-{
-    let Console {
-        rt,
-        alloc,
-        terminal,
-    } = console;
-    match terminal {
-        Some(terminal) => {
-            let gate = &ProgressLine::over(rt, WriterSink::new(terminal), steps_of(job));
-            perform_at(Workplace { rt, alloc, gate }, job, source, sink)
-        }
-        None => {
-            let gate = &NoGate;
-            perform_at(Workplace { rt, alloc, gate }, job, source, sink)
-        }
-    }
 }
 
 /// The texts that a job works on.
@@ -72,21 +36,21 @@ pub(crate) struct Texts<'a> {
     pub(crate) input: &'a [u8],
     /// The script or the schedule, if it was read by itself.
     pub(crate) second: Option<&'a [u8]>,
-    /// Where the league begins.
-    pub(crate) beginning: Beginning<'a>,
+    /// Where the league begins, if not at its own start.
+    pub(crate) beginning: Option<Beginning<'a>>,
 }
 
-/// As [`perform`], on texts that were read.
-pub(crate) fn perform_on<T: Threads + Wait + Clock + Sync, E: Write + Send + Drop, W: Sink>(
+/// Does what the job asks for on texts that were read, and shows how far a search is if there is a terminal. A report has a verdict.
+pub(crate) fn perform<T: Threads + Wait + Clock + Sync, E: Write + Send + Drop, W: Sink>(
     console: Console<'_, T, E>,
     job: Job,
     texts: &Texts<'_>,
     sink: &mut W,
 ) -> Result<Option<Verdict>, ProgramFault>
     requires job { IsInRange job }
-    requires near { texts.now.beginning.near ≤ max_weight }
-    ensures ends { EndsJobOn W.held W.tally texts.now.input.now (option_map (λ text. text.now) texts.now.second) texts.now.beginning
-        job (told_in result) sink.old sink.new (without_value result) }
+    requires near { IfSome texts.now.beginning (λ b. b.near ≤ max_weight) }
+    ensures ends { EndsJobOn W.held W.tally texts.now.input.now (option_map (λ text. text.now) texts.now.second)
+        texts.now.beginning job (told_in result) sink.old sink.new (without_value result) }
     ensures verdict { HasVerdict job result }
 {
     let Console {
@@ -97,11 +61,11 @@ pub(crate) fn perform_on<T: Threads + Wait + Clock + Sync, E: Write + Send + Dro
     match terminal {
         Some(terminal) => {
             let gate = &ProgressLine::over(rt, WriterSink::new(terminal), steps_of(job));
-            perform_at_on(Workplace { rt, alloc, gate }, job, texts, sink)
+            perform_at(Workplace { rt, alloc, gate }, job, texts, sink)
         }
         None => {
             let gate = &NoGate;
-            perform_at_on(Workplace { rt, alloc, gate }, job, texts, sink)
+            perform_at(Workplace { rt, alloc, gate }, job, texts, sink)
         }
     }
 }
@@ -116,49 +80,16 @@ fn steps_of(job: Job) -> u64 {
 }
 
 /// As [`perform`]. The workers pass the workplace's gate.
-fn perform_at<T: Threads + Wait + Sync, G: Gate + Sync, R: Source + Drop, W: Sink>(
-    workplace: Workplace<'_, T, G>,
-    job: Job,
-    source: R,
-    sink: &mut W,
-) -> Result<Option<Verdict>, ProgramFault>
-    requires { IsInRange job }
-    ensures ends { (after : R) × EndsJob R.left R.tally W.held W.tally job (told_in result)
-        source after sink.old sink.new (without_value result) }
-    ensures verdict { HasVerdict job result }
-{
-    let alloc = workplace.alloc;
-    match job {
-        Job::Start => without_verdict(start(alloc, source, sink)),
-        Job::Play { room } => without_verdict(play(alloc, source, sink, room)),
-        Job::Improve {
-            workers,
-            seed,
-            effort,
-        } => {
-            let plan = ImprovePlan {
-                workers,
-                seed,
-                effort,
-            };
-            without_verdict(improve(workplace, source, sink, plan))
-        }
-        Job::Find { room, plan } => without_verdict(find(workplace, source, sink, room, plan)),
-        Job::Report(format) => with_verdict(report(alloc, source, sink, format)),
-    }
-}
-
-/// As [`perform_on`]. The workers pass the workplace's gate.
-fn perform_at_on<T: Threads + Wait + Sync, G: Gate + Sync, W: Sink>(
+fn perform_at<T: Threads + Wait + Sync, G: Gate + Sync, W: Sink>(
     workplace: Workplace<'_, T, G>,
     job: Job,
     texts: &Texts<'_>,
     sink: &mut W,
 ) -> Result<Option<Verdict>, ProgramFault>
     requires job { IsInRange job }
-    requires near { texts.now.beginning.near ≤ max_weight }
-    ensures ends { EndsJobOn W.held W.tally texts.now.input.now (option_map (λ text. text.now) texts.now.second) texts.now.beginning
-        job (told_in result) sink.old sink.new (without_value result) }
+    requires near { IfSome texts.now.beginning (λ b. b.near ≤ max_weight) }
+    ensures ends { EndsJobOn W.held W.tally texts.now.input.now (option_map (λ text. text.now) texts.now.second)
+        texts.now.beginning job (told_in result) sink.old sink.new (without_value result) }
     ensures verdict { HasVerdict job result }
 {
     let alloc = workplace.alloc;
@@ -167,12 +98,13 @@ fn perform_at_on<T: Threads + Wait + Sync, G: Gate + Sync, W: Sink>(
         second,
         beginning,
     } = texts;
+    let beginning = beginning.as_ref();
     match job {
-        Job::Start => without_verdict(start_on(alloc, input, Some(beginning), sink)),
+        Job::Start => without_verdict(start_on(alloc, input, beginning, sink)),
         Job::Play { room } => {
             let (league, script) = parts(input, *second, b"script");
             let script = script_or_none(script);
-            without_verdict(play_on(alloc, league, script, Some(beginning), sink, room))
+            without_verdict(play_on(alloc, league, script, beginning, sink, room))
         }
         Job::Improve {
             workers,
@@ -184,14 +116,14 @@ fn perform_at_on<T: Threads + Wait + Sync, G: Gate + Sync, W: Sink>(
                 seed,
                 effort,
             };
-            without_verdict(improve_on(workplace, input, Some(beginning), sink, plan))
+            without_verdict(improve_on(workplace, input, beginning, sink, plan))
         }
         Job::Find { room, plan } => {
-            without_verdict(find_on(workplace, input, Some(beginning), sink, room, plan))
+            without_verdict(find_on(workplace, input, beginning, sink, room, plan))
         }
         Job::Report(format) => {
             let (league, sheet) = parts(input, *second, b"sheet");
-            with_verdict(report_on(alloc, league, sheet, Some(beginning), sink, format))
+            with_verdict(report_on(alloc, league, sheet, beginning, sink, format))
         }
     }
 }

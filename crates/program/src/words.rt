@@ -9,15 +9,15 @@ ghost use Rattle.clap.specs.declared.error.kind.ErrorKind.{ErrorKind as Kind};
 ghost use Rattle.command_line.specs.Beginnings.{Beginning as Kept, beginning_of};
 ghost use Rattle.command_line.specs.CommandLine.{beginning_of_words, files_of_words, job_of_words, words_fault, IsInRange};
 ghost use Rattle.command_line.specs.Files.{Files, files_of};
-ghost use Rattle.command_line.specs.declared.job.Job.{Job};
+ghost use Rattle.command_line.specs.declared.job.Job.{Job as Named};
 ghost use Rattle.league.specs.Limits.{max_weight};
 ghost use Rattle.program.specs.Program.{is_plain, is_report, status_of, DoesJob, DoesJobOn, EndsWithFiles, IsReport, IsStatusOf};
 
-use crate::faults_told::{failure, not_begun, unread};
-use crate::jobs::{Console, Texts, perform, perform_on};
+use crate::jobs::{Console, Texts, perform};
 use crate::texts_read::{TextsRead, read_texts};
+use crate::told::{failure, not_begun, tell_remarks, unread};
 use clap::error::ErrorKind;
-use command_line::{Request, args};
+use command_line::{Job, Request, args};
 use commands::{Beginning, ProgramFault, Verdict};
 use league::SlotSet;
 use std::io::{IsTerminal, Write};
@@ -26,7 +26,7 @@ use std::rt::Runtime;
 use std::sync::Wait;
 use std::thread::Threads;
 use std::{env, io};
-use streams::{ReaderSource, Sink, Source, WriterSink};
+use streams::{ReaderSource, Sink, Source, WriterSink, read_all};
 
 /// The exit status of a fault on the command line.
 const MISUSE: u8 = 2;
@@ -69,11 +69,11 @@ fn answer<
     R: Source + Drop,
     W: Sink,
 >(rt: &T, terminal: Option<E>, words: &[String], source: R, sink: &mut W) -> ExitCode
-    ensures done { (job : Job) (files : Files) (kept : Kept) → words_fault (map string_bytes words.now) ≡ []
+    ensures done { (job : Named) (files : Files) (kept : Kept) → words_fault (map string_bytes words.now) ≡ []
         → job_of_words (map string_bytes words.now) ≡ Some job → files_of_words (map string_bytes words.now) ≡ Some files
         → beginning_of_words (map string_bytes words.now) ≡ Some kept → is_plain files kept ≡ true
         → DoesJob R.left R.tally W.held W.tally job source sink.old sink.new (exit_status result) }
-    ensures on_files { (job : Job) (files : Files) (kept : Kept) → words_fault (map string_bytes words.now) ≡ []
+    ensures on_files { (job : Named) (files : Files) (kept : Kept) → words_fault (map string_bytes words.now) ≡ []
         → job_of_words (map string_bytes words.now) ≡ Some job → files_of_words (map string_bytes words.now) ≡ Some files
         → beginning_of_words (map string_bytes words.now) ≡ Some kept → is_plain files kept ≡ false
         → EndsWithFiles W.held W.tally job kept sink.old sink.new (exit_status result) }
@@ -127,8 +127,7 @@ fn respond<
         terminal,
     };
     if is_plain(&request) {
-        let outcome = perform(console, request.job, source, sink);
-        ended(rt, outcome)
+        respond_on_input(console, request.job, source, sink)
     } else {
         respond_on_files(console, &request, source, sink)
     }
@@ -148,6 +147,31 @@ fn is_plain(request: &Request) -> bool
         && beginning.rounds == SlotSet::empty()
         && beginning.games.is_empty()
         && beginning.near == 0
+}
+
+/// Reads standard input to its end, then does the job on it.
+fn respond_on_input<
+    T: Runtime + AllocGlobal + Threads + Wait + Sync,
+    E: Write + Send + Drop,
+    R: Source + Drop,
+    W: Sink,
+>(console: Console<'_, T, E>, job: Job, mut source: R, sink: &mut W) -> ExitCode
+    requires { IsInRange job }
+    ensures { DoesJob R.left R.tally W.held W.tally job source sink.old sink.new (exit_status result) }
+{
+    let rt = console.rt;
+    let input = match read_all(console.alloc, &mut source) {
+        Ok(input) => input,
+        Err(fault) => return failure(rt, ProgramFault::from(fault)),
+    };
+    let texts = Texts {
+        input: &input,
+        second: None,
+        beginning: None,
+    };
+    tell_remarks(rt, job, &texts);
+    let outcome = perform(console, job, &texts, sink);
+    ended(rt, outcome)
 }
 
 /// Reads the files that are named, then does the job on them.
@@ -185,14 +209,15 @@ fn respond_on<T: Runtime + AllocGlobal + Threads + Wait + Sync, E: Write + Send 
     let given = Texts {
         input: &texts.input,
         second: texts.second.as_deref(),
-        beginning: Beginning {
+        beginning: Some(Beginning {
             from: texts.from.as_deref(),
             rounds: request.beginning.rounds,
             games: &request.beginning.games,
             near: request.beginning.near,
-        },
+        }),
     };
-    let outcome = perform_on(console, request.job, &given, sink);
+    tell_remarks(rt, request.job, &given);
+    let outcome = perform(console, request.job, &given, sink);
     if let Err(ProgramFault::Begin(fault)) = outcome {
         return not_begun(rt, request, &given, fault);
     }

@@ -1,13 +1,14 @@
-//! What is said on standard error of texts that could not be read, and of a start that is none.
+//! What is said on standard error: of texts that could not be read, of a start that is none, and of what isn't read.
 
 ghost use Rattle.std.specs.Prelude.{◌≡◌};
 ghost use Rattle.std.specs.Process.{exit_status};
 
 use crate::jobs::{Texts, league_text};
 use crate::texts_read::Unread;
-use beginnings::{BeginFault, write_start_faults};
-use command_line::Request;
-use commands::ProgramFault;
+use advice::remarks_on;
+use beginnings::{BeginFault, Beginning, write_start_faults};
+use command_line::{Job, Request};
+use commands::{Format, ProgramFault};
 use league::read_league;
 use std::io::Write;
 use std::process::ExitCode;
@@ -71,12 +72,29 @@ pub(crate) fn not_begun<R: Runtime + AllocGlobal>(
 
 /// Writes what is wrong with the games of the start, a line for each fault.
 fn start_faults<R: Runtime + AllocGlobal>(rt: &R, request: &Request, texts: &Texts<'_>) {
-    let Some(from) = texts.beginning.from else {
+    let Some(
+        Beginning {
+            from: Some(from),
+            ..
+        },
+    ) = &texts.beginning
+    else {
         return;
     };
     if let Ok(league) = read_league(rt.alloc(), league_text(request.job, texts)) {
         let mut sink = WriterSink::new(ErrorWriter { rt });
         let _ = write_start_faults(rt.alloc(), &league, from, &mut sink);
+    }
+}
+
+/// Writes a line for each member of the league's text that is not read. A report as a text has these lines itself. If there is no
+/// memory for them they are left out.
+pub(crate) fn tell_remarks<R: Runtime + AllocGlobal>(rt: &R, job: Job, texts: &Texts<'_>) {
+    if matches!(job, Job::Report(Format::Text)) {
+        return;
+    }
+    if let Ok(remarks) = remarks_on(rt.alloc(), league_text(job, texts)) {
+        let _ = ErrorWriter { rt }.write(&remarks);
     }
 }
 

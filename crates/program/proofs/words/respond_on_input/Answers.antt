@@ -1,0 +1,15 @@
+use Rattle.std.proofs.Common.{Err, ◌∙◌, ap}
+use Rattle.commands.specs.Fault.{of_reading}
+use Rattle.program.proofs.Inputs.{unread}
+use Rattle.program.proofs.words.respond_on_input.Goals as goal
+
+pub returns-in-Err : goal.returns-in-Err
+returns-in-Err g c = record {
+  outcome = Err (of_reading c.in-Err.fault);
+  source_after = c.read_all.new.source;
+  ends = unread g.R.Source.left g.R.Source.tally g.W.Sink.held g.W.Sink.tally c.args.job c.args.source c.read_all.new.source
+      c.read_all.ensures.calls c.args.sink.now c.read_all.result c.in-Err.fault c.in-Err.is c.read_all.ensures.too_long
+      c.read_all.ensures.read c.read_all.ensures.failed;
+  verdict = tt;
+  status_is = c.failure.ensures;
+}
