@@ -66,6 +66,8 @@ pub fn each_round(teams: u8) -> &'static [u8]
 }
 
 /// As `draw`, of some kinds and in some rounds alone: a kind, and then its fields.
+// a call would copy the slices, in each step
+#[inline(always)]
 pub fn draw_among(generator: &mut Lcg64Xsh32, draws: Draws<'_>) -> Move
     requires { CanDraw draws.teams draws.kinds.now draws.rounds.now }
     ensures drawn { (result, stream_of_generator generator.new) ≡

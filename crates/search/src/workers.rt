@@ -162,7 +162,8 @@ fn progress_after(progress: Progress, told: StepResult, version: u64) -> Progres
         _ => progress.least,
     };
     Progress {
-        steps: progress.steps.saturating_add(1),
+        // it never wraps, since a worker takes less than 2^32 steps in all
+        steps: progress.steps.wrapping_add(1),
         version,
         least,
     }
