@@ -46,13 +46,6 @@ pub(crate) const TRY_STEPS: u64 = 1_250_000;
 
 pub(crate) const LEAST_TRIES: u64 = 4;
 
-/// Where it begins to heat, and how far it does: at first, and after tries of which none was feasible.
-pub(crate) const HEAT_FROM: u32 = 1000;
-
-pub(crate) const HEAT_MOST: u32 = 5000;
-
-pub(crate) const WIDE_HEAT_MOST: u32 = 20_000;
-
 /// The cycles of chains that go on: each cools from a peak.
 #[derive(Clone, Copy)]
 pub(crate) struct Cycles {
@@ -85,20 +78,41 @@ pub(crate) const AFTER_MORE: Cycles = Cycles {
 /// How many copies of the last chain have the same cycle.
 pub(crate) const COPIES: u32 = 4;
 
-pub(crate) const WEIGHTS: WeightCourse = WeightCourse {
-    first: 2_000_000,
-    least: 300_000,
-    most: 100_000_000,
-};
-/// Of tries, and of those after tries of which none was feasible.
-pub(crate) const NEAR_WEIGHTS: WeightCourse = WeightCourse {
-    first: 10_000_000,
-    least: 300_000,
-    most: 25_000_000,
-};
+/// How tries heat, and what a breach weighs in them.
+#[derive(Clone, Copy)]
+pub(crate) struct Heating {
+    pub(crate) from: u32,
+    pub(crate) to: u32,
+    pub(crate) weights: WeightCourse,
+}
 
-pub(crate) const WIDE_WEIGHTS: WeightCourse = WeightCourse {
-    first: 10_000_000,
-    least: 300_000,
-    most: 100_000_000,
+/// Of the first tries of a search. A breach weighs as where nothing heats.
+pub(crate) const LOW: Heating = Heating {
+    from: 300,
+    to: 800,
+    weights: WeightCourse {
+        first: 2_000_000,
+        least: 300_000,
+        most: 100_000_000,
+    },
+};
+/// Of the first tries of a repair.
+pub(crate) const NEAR: Heating = Heating {
+    from: 1000,
+    to: 5000,
+    weights: WeightCourse {
+        first: 10_000_000,
+        least: 300_000,
+        most: 25_000_000,
+    },
+};
+/// Of the last tries.
+pub(crate) const WIDE: Heating = Heating {
+    from: 1000,
+    to: 20_000,
+    weights: WeightCourse {
+        first: 10_000_000,
+        least: 300_000,
+        most: 100_000_000,
+    },
 };

@@ -7,8 +7,8 @@ use crate::bouts::{Bout, Shares};
 use crate::first_half::{FirstHalf, field_for};
 use crate::legs::{Course, Leg, LegEnd, MoveSet, WeightCourse};
 use crate::numbers::{
-    AFTER_FEW, AFTER_MORE, COPIES, Cycles, HEAT_FROM, HEAT_MOST, LEAST_TRIES, NEAR_WEIGHTS,
-    SECOND_HALF, TRY_STEPS, WEIGHTS, WIDE_HEAT_MOST, WIDE_WEIGHTS,
+    AFTER_FEW, AFTER_MORE, COPIES, Cycles, Heating, LEAST_TRIES, LOW, NEAR, SECOND_HALF, TRY_STEPS,
+    WIDE,
 };
 use crate::waves::{Facts, Source, Wave};
 
@@ -24,11 +24,13 @@ enum Bouts {
     Copies(Shares),
 }
 
-/// How far chains may heat until they are feasible, and what a breach weighs then. It widens as long as none was.
+/// How far tries heat until they are feasible, and what a breach weighs then. It widens as long as none was.
 #[derive(Clone, Copy, PartialEq, Eq)]
 enum Reach {
-    /// They only cool.
+    /// There was no try yet.
     None,
+    /// Of a search alone, whose rounds and teams may move as a whole: so many moves need little heat.
+    Low,
     Near,
     Wide,
 }
@@ -140,7 +142,7 @@ impl Plan {
         let steps = if few { left / 2 } else { left * 3 / 4 };
         self.cycles = if few { AFTER_FEW } else { AFTER_MORE };
         self.cycles_left = self.cycles.count;
-        self.hottest = self.heat_most();
+        self.hottest = self.heating().to;
         let bouts = tries as u32;
         self.bouts = Bouts::Tries(Shares {
             steps: steps.max(1),
@@ -154,12 +156,12 @@ impl Plan {
     }
 
     fn widen(&mut self) {
-        if self.reach == Reach::None {
-            self.reach = Reach::Near;
-            return;
-        }
-        self.reach = Reach::Wide;
-        if self.moves == MoveSet::Repair {
+        self.reach = match self.reach {
+            Reach::None if self.moves == MoveSet::Full => Reach::Low,
+            Reach::None | Reach::Low => Reach::Near,
+            Reach::Near | Reach::Wide => Reach::Wide,
+        };
+        if self.reach == Reach::Wide && self.moves == MoveSet::Repair {
             self.moves = MoveSet::WideRepair;
         }
     }
@@ -247,19 +249,19 @@ impl Plan {
     fn heats(&self) -> Course
         ensures { IsCourse result }
     {
-        Course::Heats {
-            from: HEAT_FROM,
-            to: self.heat_most(),
-        }
+        let Heating { from, to, .. } = self.heating();
+        Course::Heats { from, to }
     }
 
-    /// How far a try heats at most.
-    fn heat_most(&self) -> u32
-        ensures { 1000 ≤ result }
+    /// How the tries of the present wave heat. Without tries a breach weighs as in the lowest.
+    fn heating(&self) -> Heating
+        ensures rises { result.from ≤ result.to }
+        ensures weights { IsWeightCourse result.weights }
     {
         match self.reach {
-            Reach::Wide => WIDE_HEAT_MOST,
-            _ => HEAT_MOST,
+            Reach::None | Reach::Low => LOW,
+            Reach::Near => NEAR,
+            Reach::Wide => WIDE,
         }
     }
 
@@ -285,10 +287,6 @@ impl Plan {
     pub(crate) fn weights(&self) -> WeightCourse
         ensures { IsWeightCourse result }
     {
-        match self.reach {
-            Reach::None => WEIGHTS,
-            Reach::Near => NEAR_WEIGHTS,
-            Reach::Wide => WIDE_WEIGHTS,
-        }
+        self.heating().weights
     }
 }
