@@ -35,8 +35,8 @@ def legs_of(bout, number, feasible):
         return [leg, *more], True if feasible == "all" else None
     if feasible == "never":
         return [leg, *cooled(leg, leg[3])], None
-    moves, _, _, share = leg
-    steps, hot = min(share, 1000 * (1 + number % 5)), 1700 - number % 5 * 100
+    moves, _, most, share = leg
+    steps, hot = min(share, 1000 * (1 + number % 5)), min(most, 1700) - number % 5 * 100
     return [leg, (moves, hot, 100, share - steps)], hot
 
 

@@ -13,7 +13,8 @@ KINDS = {
     REPAIR: ("homes", "part-rounds", "part-teams"),
     WIDE: ("homes", "rounds", "part-rounds", "part-teams"),
 }
-# what a breach of a hard limit weighs at first, at least and at most, in millionths of the unit: without tries, in them, and in wide ones
+# what a breach of a hard limit weighs at first, at least and at most, in millionths of the unit: without tries and in the lowest, in those
+# of a repair, and in wide ones
 WEIGHTS, NEAR, WIDELY = (2_000_000, 300_000, 100_000_000), (10_000_000, 300_000, 25_000_000), (10_000_000, 300_000, 100_000_000)
 
 
@@ -66,7 +67,7 @@ def search(n, effort):
     field = min(4, max(1, left // (5000 * n * n)), len(chains))
     came_to = yield "Start", field, [chain(kind, steps) for kind, steps in chains], WEIGHTS
     if all(end is None for end in came_to):
-        yield from tries(left, ((FULL, 5000, NEAR), (FULL, 20000, WIDELY)))
+        yield from tries(left, ((FULL, 300, 800, WEIGHTS), (FULL, 1000, 5000, NEAR), (FULL, 1000, 20000, WIDELY)))
         return
     level, peaks = left // ({1: 0, 2: 1, 3: 2, 4: 2}[field] + 2), 4 * (300, 250, 400, 200) + 4 * (300, 250, 400, 200)
     while field > 1:
@@ -86,13 +87,13 @@ def copies(left, kinds, peaks, cold, weights):
 
 def tries(left, reaches):
     """Tries to become feasible, with wider reaches while none does, and what follows on them."""
-    for kinds, most, weights in reaches:
+    for kinds, least, most, weights in reaches:
         if left == 0:
             return
         count = max(4, left // 1_250_000)
         steps = max(1, left // 2 if count == 4 else 3 * left // 4)
         left -= steps
-        came_to = yield "Start", 1, [[(kinds, 1000, most, share)] for share in parts(steps, count)], weights
+        came_to = yield "Start", 1, [[(kinds, least, most, share)] for share in parts(steps, count)], weights
         feasible = [hot for hot in came_to if hot is not None]
         if feasible:
             most = min(feasible)
@@ -102,4 +103,4 @@ def tries(left, reaches):
 
 
 def repair(effort):
-    return tries(effort, ((REPAIR, 5000, NEAR), (WIDE, 20000, WIDELY)))
+    return tries(effort, ((REPAIR, 1000, 5000, NEAR), (WIDE, 1000, 20000, WIDELY)))

@@ -91,9 +91,12 @@ impl Walker {
             Feasible::None => false,
         };
         let (steps, hottest) = match leg.course {
-            Course::Heats { .. } if is_feasible => {
+            Course::Heats { to, .. } if is_feasible => {
                 let steps = 1000 + 1000 * u64::from(part);
-                (leg.steps.min(steps), 1700 - 100 * part)
+                (
+                    leg.steps.min(steps),
+                    to.min(1700).saturating_sub(100 * part),
+                )
             }
             Course::Cools { from: highest, .. } | Course::Heats { to: highest, .. } => {
                 (leg.steps, highest)
