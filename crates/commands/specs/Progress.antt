@@ -1,10 +1,11 @@
 -- The line that tells on a terminal how far the workers of a search, or of one run after another, are.
-use Rattle.std.specs.Prelude.{ℕ, ◌+◌, ◌-◌, ◌*◌, ◌/◌, ◌^◌, ◌||◌, min, max, nat_le, nat_lt, if◌then◌else◌, Bool}
+use Rattle.std.specs.Prelude.{ℕ, ◌+◌, ◌-◌, ◌*◌, ◌/◌, ◌^◌, ◌||◌, min, max, nat_le, nat_lt, ◌==◌, if◌then◌else◌, Bool}
 use Rattle.std.specs.Prelude.{false, Option, Some, None}
 use Rattle.std.specs.Time.{instant_nanos}
 use Rattle.std.specs.declared.time.Instant.{Instant}
 use Rattle.search.specs.declared.gates.Progress.{Progress}
 use Rattle.commands.specs.declared.progress.Reached.{Reached}
+use Rattle.texts.specs.declared.progress_text.Advance.{Advance}
 
 -- the lesser of two totals, each of which may be unknown
 abbrev pub lesser : Option ℕ → Option ℕ → Option ℕ
@@ -16,13 +17,24 @@ lesser (Some known) (Some told) = Some (min known told)
 abbrev pub reached_with : Reached → Progress → Reached
 reached_with r p = record {
   steps = min (r.steps + p.steps) (2 ^ 64 - 1);
-  version = max r.version p.version;
   least = lesser r.least p.least;
 }
 
 -- the milliseconds from one time to another
 abbrev pub millis : Instant → Instant → ℕ
 millis before now = (instant_nanos now - instant_nanos before) / 1_000_000
+
+-- the seconds that the other steps take, if each takes as long as those so far did. They and the milliseconds stop at the greatest `u64`
+abbrev pub seconds_left : ℕ → ℕ → Option Instant → Option Instant → Option ℕ
+seconds_left steps all None now = None
+seconds_left steps all (Some since) None = None
+seconds_left steps all (Some since) (Some now) =
+    if steps == 0 then None
+    else Some (min ((all - steps) * min (millis since now) (2 ^ 64 - 1) / (steps * 1000)) (2 ^ 64 - 1))
+
+-- what a line shows
+abbrev pub advance_of : Reached → ℕ → Option Instant → Option Instant → Advance
+advance_of r all since now = record { steps = r.steps; all = all; least = r.least; left = seconds_left r.steps all since now }
 
 -- a line is to come again, or a quarter of a second has passed since it was written, taken away or first asked for
 abbrev pub is_due : Bool → Option Instant → Instant → Bool

@@ -3,15 +3,15 @@
 ghost use Rattle.std.specs.Prelude.{◌≡◌, OnOk, OnErr, Some, true, false};
 ghost use Rattle.std.specs.Io.KnownBytes.{Appends};
 ghost use Rattle.streams.specs.Sending.{AppendsPrefix};
-ghost use Rattle.texts.specs.SearchText.{clear_line, progress_line};
-ghost use Rattle.commands.specs.Progress.{first, is_due, last_after, pause_after, reached_with};
+ghost use Rattle.texts.specs.ProgressText.{clear_line, progress_line};
+ghost use Rattle.commands.specs.Progress.{advance_of, first, is_due, last_after, pause_after, reached_with, seconds_left};
 
 use search::{Gate, Progress, SearchPlan};
 use std::sync::atomic::{AtomicU32, Ordering};
 use std::sync::{Mutex, Wait};
 use std::time::{Clock, Instant};
 use streams::{BufferedSink, Sink, WriteFault};
-use texts::{write_clear, write_progress};
+use texts::{Advance, write_clear, write_progress};
 
 /// How many milliseconds pass between two lines.
 const PAUSE: u128 = 250;
@@ -25,8 +25,8 @@ const LATE: u128 = 64;
 /// The most steps between two tellings of a worker.
 const MOST_STEPS: u32 = 4096;
 
-/// Writes on a terminal how many steps the workers took, the latest version that one of them has, and the least total that
-/// they told of. The line is written a few times a second, each over the one before. At an end it is written a last time and taken
+/// Writes on a terminal how many steps the workers took, the least total that they told of, and how long the other steps may
+/// take. The line is written a few times a second, each over the one before. At an end it is written a last time and taken
 /// away, so that a text can be written. If workers begin after that, the next telling writes it again. No worker waits for the
 /// terminal but the one that writes.
 #[derive(Drop)]
@@ -49,12 +49,12 @@ impl<'a, C: Clock, W: Sink> ProgressLine<'a, C, W> {
     pub fn over(clock: &'a C, terminal: W, steps: u64) -> Self {
         let reached = Reached {
             steps: 0,
-            version: 0,
             least: None,
         };
         let line = Line {
             terminal,
             all: steps,
+            since: None,
             last: None,
             told: None,
             pause: 1,
@@ -99,16 +99,17 @@ impl<C: Clock, W: Sink> Gate for ProgressLine<'_, C, W> {
         if line.is_due(now) {
             let reached = *self.reached.lock(rt);
             // a terminal that takes no line shows none, and the search goes on
-            let _ = line.show(reached);
+            let _ = line.show(reached, Some(now));
         }
     }
 
     fn ended<R: Wait>(&self, rt: &R) {
         let mut line = self.line.lock(rt);
         if line.written {
-            let _ = line.show(*self.reached.lock(rt));
+            let now = Instant::now(self.clock).ok();
+            let _ = line.show(*self.reached.lock(rt), now);
             let _ = line.clear();
-            line.last = Instant::now(self.clock).ok().or(line.last);
+            line.last = now.or(line.last);
         }
     }
 }
@@ -117,7 +118,6 @@ impl<C: Clock, W: Sink> Gate for ProgressLine<'_, C, W> {
 #[derive(Clone, Copy)]
 struct Reached {
     steps: u64,
-    version: u64,
     least: Option<u64>,
 }
 
@@ -127,7 +127,6 @@ impl Reached {
         ensures { self.new ≡ reached_with self.old progress }
     {
         self.steps = self.steps.saturating_add(u64::from(progress.steps));
-        self.version = self.version.max(progress.version);
         self.least = match (self.least, progress.least) {
             (Some(known), Some(told)) => Some(known.min(told)),
             (known, told) => known.or(told),
@@ -141,6 +140,8 @@ struct Line<W> {
     terminal: W,
     /// How many steps the workers take in all.
     all: u64,
+    /// When the first worker began.
+    since: Option<Instant>,
     /// When the line was written or taken away last or, before the first one, was first asked for.
     last: Option<Instant>,
     /// When a worker last told.
@@ -159,9 +160,10 @@ impl<W: Sink> Line<W> {
     /// Notes when the first worker began, and that one has.
     fn begin(&mut self, now: Instant)
         ensures { self.new ≡ record self.old
-            { last = first self.old.last now; told = first self.old.told now; again = self.old.taken } }
+            { since = first self.old.since now; last = first self.old.last now; told = first self.old.told now; again = self.old.taken } }
     {
         self.again = self.taken;
+        self.since = self.since.or(Some(now));
         self.last = self.last.or(Some(now));
         self.told = self.told.or(Some(now));
     }
@@ -198,11 +200,11 @@ impl<W: Sink> Line<W> {
     }
 
     /// Writes the line over the one that stands.
-    fn show(&mut self, reached: Reached) -> Result<(), WriteFault>
+    fn show(&mut self, reached: Reached, now: Option<Instant>) -> Result<(), WriteFault>
         ensures ok { OnOk result (Appends (W.held self.old.terminal) (W.held self.new.terminal)
-            (progress_line reached.steps self.old.all reached.version reached.least)) }
+            (progress_line (advance_of reached self.old.all self.old.since now))) }
         ensures prefix { OnErr result (AppendsPrefix (W.held self.old.terminal) (W.held self.new.terminal)
-            (progress_line reached.steps self.old.all reached.version reached.least)) }
+            (progress_line (advance_of reached self.old.all self.old.since now))) }
         ensures written { self.new.written ≡ true }
         ensures taken { self.new.taken ≡ false }
         ensures again { self.new.again ≡ false }
@@ -210,15 +212,34 @@ impl<W: Sink> Line<W> {
         self.written = true;
         self.taken = false;
         self.again = false;
+        let advance = Advance {
+            steps: reached.steps,
+            all: self.all,
+            least: reached.least,
+            left: self.seconds_left(reached.steps, now),
+        };
         let mut out = BufferedSink::new(&mut self.terminal);
-        write_progress(
-            &mut out,
-            reached.steps,
-            self.all,
-            reached.version,
-            reached.least,
-        )?;
+        write_progress(&mut out, advance)?;
         out.flush()
+    }
+
+    /// How many seconds the other steps take, if each takes as long as those so far did.
+    fn seconds_left(&self, steps: u64, now: Option<Instant>) -> Option<u64>
+        ensures { result ≡ seconds_left steps self.now.all self.now.since now }
+    {
+        let (Some(since), Some(now)) = (self.since, now) else {
+            return None;
+        };
+        if steps == 0 {
+            return None;
+        }
+        let passed = now
+            .duration_since(since)
+            .as_millis()
+            .min(u128::from(u64::MAX));
+        let left = u128::from(self.all.saturating_sub(steps));
+        let seconds = left * passed / (u128::from(steps) * 1000);
+        Some(seconds.min(u128::from(u64::MAX)) as u64)
     }
 
     /// Takes the line away.

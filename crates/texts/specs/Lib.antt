@@ -6,3 +6,4 @@ pub mod Sheet
 pub mod Pieces
 pub mod PlayText
 pub mod SearchText
+pub mod ProgressText

@@ -21,22 +21,6 @@ worker_line number made accepted refused =
     counted (codes "worker ") number ++ counted (codes " made ") made ++ counted (codes " accepted ") accepted ++
     numbered (codes " refused ") refused
 
--- what takes away a terminal's line: a carriage return, and the sequence that erases to the end of the line
-abbrev pub clear_line : List ℕ
-clear_line = 13 ∷ 27 ∷ codes "[K"
-
-abbrev pub least_text : Option ℕ → List ℕ
-least_text None = codes " best none"
-least_text (Some total) = counted (codes " best ") total
-
-abbrev pub reached_text : ℕ → ℕ → ℕ → Option ℕ → List ℕ
-reached_text steps all version least =
-    counted (codes "steps ") steps ++ counted (codes " of ") all ++ counted (codes " version ") version ++ least_text least
-
--- how many steps of all were taken, the version and the least total, written over a terminal's line
-abbrev pub progress_line : ℕ → ℕ → ℕ → Option ℕ → List ℕ
-progress_line steps all version least = clear_line ++ reached_text steps all version least
-
 -- the games after the best prefix of a history, or after all of it if no prefix is feasible
 abbrev pub games_at_best : LeagueData → List Entry → Option (List Entry) → Games
 games_at_best league h None = games_of league h

@@ -10,6 +10,7 @@ mod lines;
 mod numerals;
 mod pieces;
 mod play_text;
+mod progress_text;
 mod script_line;
 mod search_text;
 mod sheets;
@@ -19,9 +20,8 @@ pub use input::{next_line, split_at_line, split_input};
 pub use numerals::{index, number};
 pub use pieces::{Piece, write_pieces};
 pub use play_text::play_script;
+pub use progress_text::{Advance, write_clear, write_progress};
 pub use script_line::{ScriptLine, parse_line};
-pub use search_text::{
-    write_best_sheet, write_clear, write_found, write_plan, write_progress, write_worker,
-};
+pub use search_text::{write_best_sheet, write_found, write_plan, write_worker};
 pub use sheets::{sheet, write_sheet};
 pub use words::next_word;

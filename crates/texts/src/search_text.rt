@@ -1,12 +1,10 @@
-//! The parts of a search text: what was asked for, what became of a worker's proposals, and the board in the end. And the
-//! line that tells on a terminal how far a search is.
+//! The parts of a search text: what was asked for, what became of a worker's proposals, and the board in the end.
 
 ghost use Rattle.std.specs.Prelude.{◌≡◌};
 ghost use Rattle.league.specs.League.{teams};
 ghost use Rattle.streams.specs.Writing.{Writes};
 ghost use Rattle.fixture_board.specs.History.{best_prefix};
 ghost use Rattle.texts.specs.SearchText.{best_sheet, found_text, games_at_best, moved_at_best, plan_line, worker_line};
-ghost use Rattle.texts.specs.SearchText.{clear_line, least_text, progress_line};
 
 use crate::history::write_history;
 use crate::lines::{write_counted, write_numbered};
@@ -45,40 +43,6 @@ pub fn write_worker<W: Sink>(
     write_counted(out, b" made ", made as u64)?;
     write_counted(out, b" accepted ", accepted as u64)?;
     write_numbered(out, b" refused ", refused as u64)
-}
-
-/// Takes away what stands on the terminal's line: back to its start, and erase to its end (ECMA-48).
-pub fn write_clear<W: Sink>(out: &mut BufferedSink<'_, W>) -> Result<(), WriteFault>
-    ensures { Writes W.held W.tally out.old out.new result clear_line }
-{
-    out.write(b"\r\x1b[K")
-}
-
-/// Writes over the terminal's line how many steps of all were taken, the version, and the least total if one is
-/// known.
-pub fn write_progress<W: Sink>(
-    out: &mut BufferedSink<'_, W>,
-    steps: u64,
-    all: u64,
-    version: u64,
-    least: Option<u64>,
-) -> Result<(), WriteFault>
-    ensures { Writes W.held W.tally out.old out.new result (progress_line steps all version least) }
-{
-    write_clear(out)?;
-    write_counted(out, b"steps ", steps)?;
-    write_counted(out, b" of ", all)?;
-    write_counted(out, b" version ", version)?;
-    write_least(out, least)
-}
-
-fn write_least<W: Sink>(out: &mut BufferedSink<'_, W>, least: Option<u64>) -> Result<(), WriteFault>
-    ensures { Writes W.held W.tally out.old out.new result (least_text least) }
-{
-    match least {
-        Some(total) => write_counted(out, b" best ", total),
-        None => out.write(b" best none"),
-    }
 }
 
 /// Writes the board in the end: its history, the sheet of its best schedule, or of the present one if none was

@@ -227,10 +227,10 @@ fn line_comes_again_in_the_next_run(rt: HostRuntime) {
     run(&rt, &line, 250);
     run(&rt, &line, 30);
     drop(line);
-    let expected = b"\r\x1b[Ksteps 250 of 280 version 249 best 30\
-        \r\x1b[Ksteps 250 of 280 version 249 best 30\r\x1b[K\
-        \r\x1b[Ksteps 251 of 280 version 249 best 30\
-        \r\x1b[Ksteps 280 of 280 version 249 best 30\r\x1b[K";
+    let expected = b"\r\x1b[K89 % steps 250 of 280 best 30 left 0:00:00\
+        \r\x1b[K89 % steps 250 of 280 best 30 left 0:00:00\r\x1b[K\
+        \r\x1b[K89 % steps 251 of 280 best 30 left 0:00:00\
+        \r\x1b[K100 % steps 280 of 280 best 30 left 0:00:00\r\x1b[K";
     check_same(&rt, &terminal.held(), &expected.as_slice());
 }
 
@@ -245,9 +245,9 @@ fn line_stays_away_while_a_text_is_written(rt: HostRuntime) {
     tell(&rt, &line, 249);
     tell(&rt, &line, 1);
     drop(line);
-    let expected = b"\r\x1b[Ksteps 250 of 800 version 249 best 30\
-        \r\x1b[Ksteps 250 of 800 version 249 best 30\r\x1b[K\
-        \r\x1b[Ksteps 500 of 800 version 249 best 30";
+    let expected = b"\r\x1b[K31 % steps 250 of 800 best 30 left 0:00:00\
+        \r\x1b[K31 % steps 250 of 800 best 30 left 0:00:00\r\x1b[K\
+        \r\x1b[K62 % steps 500 of 800 best 30 left 0:00:00";
     check_same(&rt, &terminal.held(), &expected.as_slice());
 }
 
@@ -280,8 +280,12 @@ fn check_line<T: Threads + Wait + Sync + Abort>(
     let found = improved_on(rt, alloc, &mut terminal, workers)?;
     check_same_of(rt, &workers, &found.as_slice(), &text);
     let last = last_line(terminal.held()).ok_or("no line")?;
-    let has_all = last.starts_with("steps 16000 of 16000 version ") && last.ends_with(" best 20");
-    check_holds(rt, &(workers, last), has_all);
+    check_same_of(
+        rt,
+        &workers,
+        &last,
+        &"100 % steps 16000 of 16000 best 20 left 0:00:00",
+    );
     Ok(())
 }
 

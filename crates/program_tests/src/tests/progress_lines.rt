@@ -111,30 +111,34 @@ struct Showing<'a> {
     shown: &'a str,
 }
 
+/// A worker tells so often that it took more steps than were planned.
+const TOO_MANY: &[Telling] = &[(0, 0, None); 11];
+
+/// The worker begins at 0 milliseconds. What is left is worked out by hand from the steps and the time.
 const SHOWINGS: &[Showing<'_>] = &[
-    // the first reading begins the time, so each later one writes a line where the clock goes on by 250 milliseconds, and the end writes
-    // the last one again
+    // each telling writes a line where the clock goes on by 250 milliseconds, and the end writes the last one again
     Showing {
         step: Some(250),
         writes: &[],
         told: TOLD,
         ends: true,
-        shown: "\r\x1b[Ksteps 8192 of 40000 version 7 best 3000\
-            \r\x1b[Ksteps 12288 of 40000 version 7 best 998\
-            \r\x1b[Ksteps 16384 of 40000 version 12 best 998\
-            \r\x1b[Ksteps 20480 of 40000 version 1000 best 998\
-            \r\x1b[Ksteps 20480 of 40000 version 1000 best 998\
+        shown: "\r\x1b[K10 % steps 4096 of 40000 best none left 0:00:02\
+            \r\x1b[K20 % steps 8192 of 40000 best 3000 left 0:00:01\
+            \r\x1b[K30 % steps 12288 of 40000 best 998 left 0:00:01\
+            \r\x1b[K40 % steps 16384 of 40000 best 998 left 0:00:01\
+            \r\x1b[K51 % steps 20480 of 40000 best 998 left 0:00:01\
+            \r\x1b[K51 % steps 20480 of 40000 best 998 left 0:00:01\
             \r\x1b[K",
     },
-    // of the readings at 0, 249, 498, 747 and 996 milliseconds the third and the fifth are late enough
+    // of the tellings at 249, 498, 747, 996 and 1245 milliseconds the second and the fourth are late enough
     Showing {
         step: Some(249),
         writes: &[],
         told: TOLD,
         ends: true,
-        shown: "\r\x1b[Ksteps 12288 of 40000 version 7 best 998\
-            \r\x1b[Ksteps 20480 of 40000 version 1000 best 998\
-            \r\x1b[Ksteps 20480 of 40000 version 1000 best 998\
+        shown: "\r\x1b[K20 % steps 8192 of 40000 best 3000 left 0:00:01\
+            \r\x1b[K40 % steps 16384 of 40000 best 998 left 0:00:01\
+            \r\x1b[K51 % steps 20480 of 40000 best 998 left 0:00:01\
             \r\x1b[K",
     },
     // no total is known
@@ -143,7 +147,23 @@ const SHOWINGS: &[Showing<'_>] = &[
         writes: &[],
         told: &[(0, 1, None), (0, 0, None)],
         ends: false,
-        shown: "\r\x1b[Ksteps 8192 of 40000 version 1 best none",
+        shown: "\r\x1b[K10 % steps 4096 of 40000 best none left 0:00:08\
+            \r\x1b[K20 % steps 8192 of 40000 best none left 0:00:07",
+    },
+    // steps take an hour
+    Showing {
+        step: Some(3_600_000),
+        writes: &[],
+        told: &[(0, 0, None)],
+        ends: false,
+        shown: "\r\x1b[K10 % steps 4096 of 40000 best none left 8:45:56",
+    },
+    Showing {
+        step: Some(24),
+        writes: &[],
+        told: TOO_MANY,
+        ends: false,
+        shown: "\r\x1b[K100 % steps 45056 of 40000 best none left 0:00:00",
     },
     // a failed write loses its line alone
     Showing {
@@ -151,15 +171,16 @@ const SHOWINGS: &[Showing<'_>] = &[
         writes: &[Step::Failed, Step::Moved(5), Step::Moved(0)],
         told: TOLD,
         ends: true,
-        shown: "\r\x1b[Ks\
-            \r\x1b[Ksteps 16384 of 40000 version 12 best 998\
-            \r\x1b[Ksteps 20480 of 40000 version 1000 best 998\
-            \r\x1b[Ksteps 20480 of 40000 version 1000 best 998\
+        shown: "\r\x1b[K2\
+            \r\x1b[K30 % steps 12288 of 40000 best 998 left 0:00:01\
+            \r\x1b[K40 % steps 16384 of 40000 best 998 left 0:00:01\
+            \r\x1b[K51 % steps 20480 of 40000 best 998 left 0:00:01\
+            \r\x1b[K51 % steps 20480 of 40000 best 998 left 0:00:01\
             \r\x1b[K",
     },
     // no line is due
     Showing {
-        step: Some(62),
+        step: Some(49),
         writes: &[],
         told: TOLD,
         ends: true,
@@ -179,6 +200,7 @@ fn tell_all<R: Wait, C: Clock, W: Sink>(
     line: &ProgressLine<'_, C, W>,
     showing: &Showing<'_>,
 ) {
+    line.begun(rt, 0);
     for (worker, version, least) in showing.told {
         line.enter(rt, *worker, 0);
         line.left(rt, *worker, 0);
@@ -249,12 +271,12 @@ fn found<T: Threads + Wait + Sync>(rt: &T, alloc: Global) -> Result<Vec<u8>, All
     Ok(tell(rt, alloc, command, CIRCLE.as_bytes())?.text)
 }
 
-/// The versions and totals are those of `PAUSE=1 scripts/worker-steps asks 1 0 4 4 4 100000`.
-const SHOWN: &[u8] = b"\r\x1b[Ksteps 1 of 4 version 0 best 30\
-    \r\x1b[Ksteps 2 of 4 version 0 best 30\
-    \r\x1b[Ksteps 3 of 4 version 1 best 26\
-    \r\x1b[Ksteps 4 of 4 version 2 best 26\
-    \r\x1b[Ksteps 4 of 4 version 2 best 26\
+/// The totals are those of `PAUSE=1 scripts/worker-steps asks 1 0 4 4 4 100000`.
+const SHOWN: &[u8] = b"\r\x1b[K25 % steps 1 of 4 best 30 left 0:00:03\
+    \r\x1b[K50 % steps 2 of 4 best 30 left 0:00:02\
+    \r\x1b[K75 % steps 3 of 4 best 26 left 0:00:01\
+    \r\x1b[K100 % steps 4 of 4 best 26 left 0:00:00\
+    \r\x1b[K100 % steps 4 of 4 best 26 left 0:00:00\
     \r\x1b[K";
 
 #[test]
@@ -313,9 +335,9 @@ pub(crate) fn last_line(shown: &[u8]) -> Option<&str> {
 
 /// Workers, and how the last line of a search begins in which each takes 250 steps.
 const LAST: [(u32, &str); 3] = [
-    (1, "steps 250 of 250 version "),
-    (4, "steps 1000 of 1000 version "),
-    (16, "steps 4000 of 4000 version "),
+    (1, "100 % steps 250 of 250 best "),
+    (4, "100 % steps 1000 of 1000 best "),
+    (16, "100 % steps 4000 of 4000 best "),
 ];
 
 /// Searches by this plan, with a line on the terminal. A quarter of a second passes at each telling.
