@@ -29,6 +29,8 @@ rule_line rule member absent =
 
 abbrev pub hint_line : Hint → List ℕ
 hint_line (hint.Text line column) = codes "see line " ++ decimal line ++ codes ", column " ++ decimal column
+hint_line (hint.ScriptBehind line) = codes "see line " ++ decimal line ++ codes ": \"script\" has to stand on a line of its own"
+hint_line (hint.SheetBehind line) = codes "see line " ++ decimal line ++ codes ": \"sheet\" has to stand on a line of its own"
 hint_line (hint.Rows rows teams) = codes "see distances: " ++ decimal rows ++ codes " rows for " ++ decimal teams ++ codes " teams"
 hint_line (hint.Row row) = codes "see distances: row " ++ decimal row
 hint_line (hint.Distance row column) = codes "see distances: row " ++ decimal row ++ codes ", column " ++ decimal column

@@ -13,6 +13,10 @@ pub enum Hint {
         line: usize,
         column: usize,
     },
+    /// This line ends with `script`, which has to stand on a line of its own.
+    ScriptBehind(usize),
+    /// The same of `sheet`.
+    SheetBehind(usize),
     /// The distances have another number of rows than there are teams.
     Rows {
         rows: usize,
@@ -81,6 +85,18 @@ impl fmt::Display for Hint {
     fn fmt<W: fmt::Write>(&self, f: &mut fmt::Formatter<W>) -> fmt::Result {
         match *self {
             Hint::Text { line, column } => write!(f, "see line {line}, column {column}"),
+            Hint::ScriptBehind(line) => {
+                write!(
+                    f,
+                    "see line {line}: \"script\" has to stand on a line of its own"
+                )
+            }
+            Hint::SheetBehind(line) => {
+                write!(
+                    f,
+                    "see line {line}: \"sheet\" has to stand on a line of its own"
+                )
+            }
             Hint::Rows { rows, teams } => {
                 write!(f, "see distances: {rows} rows for {teams} teams")
             }

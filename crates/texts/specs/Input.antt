@@ -1,6 +1,6 @@
 -- How an input is cut at the first line that is a given word, and its two parts if that is `script`.
-use Rattle.std.specs.Prelude.{◌≡◌, ℕ, ◌<◌, ◌==◌, Bool, List, [], ◌∷◌, ◌++◌, length, codes, if◌then◌else◌, Option, Some, None, unwrap_or}
-use Rattle.std.specs.List.{slice_split}
+use Rattle.std.specs.Prelude.{◌≡◌, ℕ, ◌+◌, ◌<◌, ◌==◌, Bool, List, [], ◌∷◌, ◌++◌, length, codes, if◌then◌else◌, Option, Some, None, unwrap_or}
+use Rattle.std.specs.List.{ends_with, slice_split}
 use Rattle.std.specs.Str.{bytes_eq}
 use Rattle.std.specs.Str.Lines.{lines, lines_of_parts, strip_carriage_return}
 
@@ -34,6 +34,12 @@ league_text input = text_before (codes "script") input
 
 unfoldable pub script_lines : List ℕ → List (List ℕ)
 script_lines input = unwrap_or (lines_after (codes "script") input) []
+
+-- the first of these lines that ends with the bytes, if they are numbered from here
+unfoldable pub first_ending : List ℕ → ℕ → List (List ℕ) → Option ℕ
+first_ending ending number [] = None
+first_ending ending number (line ∷ more) =
+    if ends_with (λ a b. a == b) line ending then Some number else first_ending ending (number + 1) more
 
 -- A line was taken from the front of a text: what the text's lines and its two parts at a word are, by the rest.
 pub record TakesLine (text line rest : List ℕ) : Type 0 where

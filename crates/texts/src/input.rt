@@ -3,7 +3,7 @@
 ghost use Rattle.std.specs.Prelude.{◌≡◌, [], IfNone, IfSome, drop, ℕ, ◌<◌, ◌≤◌, length, option_map};
 ghost use Rattle.std.specs.List.{position_or_len};
 ghost use Rattle.std.specs.Str.Lines.{lines, strip_carriage_return};
-ghost use Rattle.texts.specs.Input.{TakesLine, is_line_end, league_text, lines_after, script_lines, text_before};
+ghost use Rattle.texts.specs.Input.{TakesLine, first_ending, is_line_end, league_text, lines_after, script_lines, text_before};
 
 /// Cuts an input at the first line that is the word: the text before that line, and the text after it. If there is no
 /// such line, all of the input is the text before it.
@@ -34,6 +34,21 @@ pub fn split_input(input: &[u8]) -> (&[u8], &[u8])
         Some(script) => (league, script),
         None => (league, &[]),
     }
+}
+
+/// The number, from 1, of the first line that ends with these bytes.
+pub fn line_ending_with(text: &[u8], ending: &[u8]) -> Option<usize>
+    ensures { result ≡ first_ending ending.now 1 (lines text.now) }
+{
+    let mut rest = text;
+    let mut number = 0;
+    while let Some(line) = next_line(&mut rest) {
+        number += 1;
+        if line.ends_with(ending) {
+            return Some(number);
+        }
+    }
+    None
 }
 
 /// Takes the first line off a text. A line loses its line end, and one carriage return before that.

@@ -16,7 +16,7 @@ mod search_text;
 mod sheets;
 mod words;
 
-pub use input::{next_line, split_at_line, split_input};
+pub use input::{line_ending_with, next_line, split_at_line, split_input};
 pub use numerals::{index, number};
 pub use pieces::{Piece, write_pieces};
 pub use play_text::play_script;
