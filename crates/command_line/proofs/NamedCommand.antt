@@ -215,7 +215,7 @@ commands_are_read = (
     (
       record {
         named = refl;
-        has = has_values improve_command.options first_word (with_help start_rules) improve_sound (all_sound improve_command.options first_word start_rules improve_sound (record { other = refl; no_default = refl; adds = inl refl }, tt) (record { other = refl; no_default = refl; adds = inl refl }, (record { other = refl; no_default = refl; adds = inl refl }, (record { other = refl; no_default = refl; adds = inr refl }, (record { other = refl; no_default = refl; adds = inl refl }, tt))))) (built_command improve_command);
+        has = has_values improve_command.options first_word (with_help improve_command.free) improve_sound (all_sound improve_command.options first_word improve_command.free improve_sound (record { other = refl; no_default = refl; adds = inl refl }, tt) (record { other = refl; no_default = refl; adds = inl refl }, (record { other = refl; no_default = refl; adds = inl refl }, (record { other = refl; no_default = refl; adds = inl refl }, (record { other = refl; no_default = refl; adds = inl refl }, (record { other = refl; no_default = refl; adds = inr refl }, (record { other = refl; no_default = refl; adds = inl refl }, tt))))))) (built_command improve_command);
       },
       (
         record {

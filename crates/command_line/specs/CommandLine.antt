@@ -74,6 +74,10 @@ word name = record (new_rule name) { value_names = 1; parser = Some parsers.NonE
 abbrev pub text_option : Text → Rule
 text_option name = record (word name) { long = Some name }
 
+-- an option that has a letter too
+abbrev pub lettered : ℕ → Rule → Rule
+lettered letter r = record r { short = Some letter }
+
 -- an option that can be given several times
 abbrev pub repeated : Rule → Rule
 repeated r = record r { action = Some Append }
@@ -88,6 +92,18 @@ second_word = word (codes "second")
 -- the schedule at which boards begin
 abbrev pub from_option : Rule
 from_option = text_option (codes "from")
+
+-- the file that is to have the best schedule so far, `-o` or `--output`
+abbrev pub output_option : Rule
+output_option = lettered 111 (text_option (codes "output"))
+
+-- the file that is to have a line for each leg
+abbrev pub log_option : Rule
+log_option = text_option (codes "log")
+
+-- the options of files that are written
+abbrev pub file_rules : List Rule
+file_rules = output_option ∷ log_option ∷ []
 
 -- what a moved game costs
 abbrev pub near_option : Rule
@@ -117,7 +133,7 @@ improve_command = record {
   name = codes "improve";
   words = league_word ∷ [];
   options = workers_option ∷ seed_option ∷ effort_option ∷ [];
-  free = start_rules;
+  free = file_rules ++ start_rules;
 }
 
 -- the numbers of a search beside its room
@@ -228,7 +244,7 @@ beginning_of_command found = beginning_in found.1
 abbrev pub beginning_of_words : List Text → Option Beginning
 beginning_of_words words = option_and_then beginning_of_command (subcommand_of program words)
 
--- a command and its values ask for a job, for files of which one alone is standard input, and for a beginning
+-- a command and its values ask for a job, for files that it can have together, and for a beginning
 abbrev pub asks_for_all : Option (Text × List Row) → Bool
 asks_for_all found = is_some (option_and_then job_of_command found)
     && (is_some (option_and_then files_of_command found) && is_some (option_and_then beginning_of_command found))

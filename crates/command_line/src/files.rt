@@ -2,7 +2,7 @@
 
 ghost use Rattle.std.specs.Prelude.{◌≡◌, IfOk, None, option_map, string_bytes};
 ghost use Rattle.clap.specs.Words.{found_of, rows_of};
-ghost use Rattle.command_line.specs.Files.{files_in, files_of, has_second, is_input, reads_input, reads_twice, written};
+ghost use Rattle.command_line.specs.Files.{files_in, files_of, has_second, is_input, is_same, miswrites, reads_input, reads_twice, written};
 
 use clap::ArgMatches;
 use std::alloc::{AllocError, Global};
@@ -17,6 +17,10 @@ pub struct FileWords {
     pub second: Option<String>,
     /// The file of the schedule at which boards begin.
     pub from: Option<String>,
+    /// The file that is to have the best schedule so far.
+    pub output: Option<String>,
+    /// The file that is to have a line for each leg.
+    pub log: Option<String>,
 }
 
 /// The files that were given.
@@ -26,10 +30,14 @@ pub(crate) fn files_in(alloc: Global, values: &ArgMatches) -> Result<FileWords, 
     let league = owned(alloc, values.get_str("league"))?;
     let second = owned(alloc, values.get_str("second"))?;
     let from = owned(alloc, values.get_str("from"))?;
+    let output = owned(alloc, values.get_str("output"))?;
+    let log = owned(alloc, values.get_str("log"))?;
     Ok(FileWords {
         league,
         second,
         from,
+        output,
+        log,
     })
 }
 
@@ -58,13 +66,13 @@ fn are_read_twice(
     second: Option<&str>,
     from: Option<&str>,
 ) -> bool
-    ensures { result ≡ reads_twice command.now (record { league = written league.entry; second = written second.entry; from = written from.entry }) }
+    ensures { result ≡ reads_twice command.now (record { league = written league.entry; second = written second.entry; from = written from.entry; output = None; log = None }) }
 {
     is_input(league) && is_input(second) || is_input(from) && reads_input(command, league, second)
 }
 
 fn reads_input(command: &str, league: Option<&str>, second: Option<&str>) -> bool
-    ensures { result ≡ reads_input command.now (record { league = written league.entry; second = written second.entry; from = None }) }
+    ensures { result ≡ reads_input command.now (record { league = written league.entry; second = written second.entry; from = None; output = None; log = None }) }
 {
     !league.is_some()
         || is_input(league)
@@ -76,6 +84,43 @@ fn has_second(command: &str) -> bool
     ensures { result ≡ has_second command.now }
 {
     command == "play" || command == "report"
+}
+
+/// Whether a file that is to be written is standard input, the other one or one that is read. A schedule that boards begin at may give way
+/// to the best one.
+pub(crate) fn miswrites(values: &ArgMatches) -> bool
+    ensures { result ≡ miswrites (files_in (rows_of (found_of values.now))) }
+{
+    let league = values.get_str("league");
+    let from = values.get_str("from");
+    let output = values.get_str("output");
+    let log = values.get_str("log");
+    are_miswritten(league, from, output, log)
+}
+
+fn are_miswritten(
+    league: Option<&str>,
+    from: Option<&str>,
+    output: Option<&str>,
+    log: Option<&str>,
+) -> bool
+    ensures { result ≡ miswrites (record { league = written league.entry; second = None; from = written from.entry; output = written output.entry; log = written log.entry }) }
+{
+    is_input(output)
+        || is_input(log)
+        || is_same(output, league)
+        || is_same(log, league)
+        || is_same(log, from)
+        || is_same(log, output)
+}
+
+fn is_same(word: Option<&str>, other: Option<&str>) -> bool
+    ensures { result ≡ is_same (written word.entry) (written other.entry) }
+{
+    match (word, other) {
+        (Some(word), Some(other)) => word == other,
+        _ => false,
+    }
 }
 
 fn is_input(word: Option<&str>) -> bool

@@ -40,13 +40,17 @@ it has it, then the history that leads to the best";
 pub(crate) const IMPROVE_EXAMPLE: &str =
     "It chooses all numbers by itself, and writes the same whatever the number of workers. It can be
 ended at any time: what is written above a line `----------` is whole, and the last schedule there
-is the best so far (docs/improve.md).
+is the best so far. With --output a file has that schedule alone (docs/improve.md).
 
 Example:
   ttp improve --workers 4 --effort 100 < leagues/circular-10.json
 
 A season is mended by what it has: rounds 1 to 8 stay, and each game that moves costs 50:
-  ttp improve season.json --from last.txt --keep 1-8 --near 50";
+  ttp improve season.json --from last.txt --keep 1-8 --near 50
+
+A night that can be ended at any time, and what goes on from it:
+  ttp improve season.json --effort 10000 --output best.txt --log legs.txt
+  ttp improve season.json --effort 10000 --output best.txt --from best.txt";
 
 pub(crate) const SEARCH_ABOUT: &str =
     "Reads a league from standard input, has workers search for a cheaper schedule on one board,
@@ -97,6 +101,11 @@ pub(crate) const SCHEDULE_HELP: &str =
 
 pub(crate) const FROM_HELP: &str =
     "The file of a schedule at which boards begin, in place of the league's own start";
+
+pub(crate) const OUTPUT_HELP: &str =
+    "The file that has the best schedule so far, whole at any time, behind the history that leads to it";
+
+pub(crate) const LOG_HELP: &str = "The file that gets a line of JSON for each leg; it is made anew";
 
 pub(crate) const KEEP_HELP: &str = "Rounds of the start whose games are kept, as 1-8,12";
 

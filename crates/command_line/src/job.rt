@@ -18,7 +18,7 @@ use crate::number_args::{EFFORT, ROOM, SEED, SLACK, STEPS, WORKERS};
 use crate::refusals::refused;
 use crate::report_args::{format_of, report_command};
 use crate::request::{Request, request_of};
-use crate::text_args::{FROM, LEAGUE, SCRIPT, with_start_options};
+use crate::text_args::{FROM, LEAGUE, SCRIPT, with_file_options, with_start_options};
 use clap::{ArgMatches, Command, Error};
 use report_formats::Format;
 use search::SearchPlan;
@@ -215,7 +215,8 @@ fn improve_command<'a>(alloc: Global) -> Result<Command<'a>, AllocError>
         .arg(WORKERS.arg(alloc))?
         .arg(SEED.arg(alloc))?
         .arg(EFFORT.arg(alloc))?;
-    with_start_options(alloc, command)
+    let with_files = with_file_options(alloc, command)?;
+    with_start_options(alloc, with_files)
 }
 
 fn search_command<'a>(alloc: Global) -> Result<Command<'a>, AllocError>

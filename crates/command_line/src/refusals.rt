@@ -17,6 +17,8 @@ pub(crate) enum Refusal {
     Format,
     /// Standard input would be read twice.
     Input,
+    /// A file would be written that has to be another one.
+    Output,
     /// The text of `--keep` is wrong.
     Keep,
     /// A text of `--keep-game` is wrong.
@@ -80,6 +82,10 @@ fn message(alloc: Global, values: &ArgMatches, refusal: Refusal) -> Result<Strin
                 "invalid value '{text}' for '--near <W>': a number from 0 to 1000000 is wanted"
             )
         }
+        Refusal::Output => String::from_str(
+            alloc,
+            "--output and --log want files of their own, and not `-`, the league or each other's",
+        ),
         _ => String::from_str(
             alloc,
             "standard input would be read twice: one text alone can come from there",

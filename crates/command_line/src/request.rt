@@ -7,7 +7,7 @@ ghost use Rattle.command_line.specs.CommandLine.{IsInRange, NamesACommand, asks_
 ghost use Rattle.command_line.specs.Files.{files_of, files_of_command};
 
 use crate::beginning::{BeginningWords, games_in, near_in, rounds_in};
-use crate::files::{FileWords, files_in, reads_twice};
+use crate::files::{FileWords, files_in, miswrites, reads_twice};
 use crate::job::{Job, job_of};
 use crate::refusals::Refusal;
 use clap::ArgMatches;
@@ -58,6 +58,9 @@ fn request_with(
 {
     if reads_twice(name, values) {
         return Err(Refusal::Input);
+    }
+    if miswrites(values) {
+        return Err(Refusal::Output);
     }
     let Ok(files) = files_in(alloc, values) else {
         return Err(Refusal::Memory);

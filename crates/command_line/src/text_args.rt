@@ -2,10 +2,11 @@
 
 ghost use Rattle.std.specs.Prelude.{◌≡◌, IfOk, false, fold};
 ghost use Rattle.clap.specs.Words.{app_of, rule_of as rule_of_arg, with_rule};
-ghost use Rattle.command_line.specs.CommandLine.{repeated, start_rules, text_option, word};
+ghost use Rattle.command_line.specs.CommandLine.{file_rules, lettered, repeated, start_rules, text_option, word};
 
 use crate::help::{
-    FROM_HELP, KEEP_GAME_HELP, KEEP_HELP, LEAGUE_HELP, NEAR_HELP, SCHEDULE_HELP, SCRIPT_HELP,
+    FROM_HELP, KEEP_GAME_HELP, KEEP_HELP, LEAGUE_HELP, LOG_HELP, NEAR_HELP, OUTPUT_HELP,
+    SCHEDULE_HELP, SCRIPT_HELP,
 };
 use clap::builder::ValueParser;
 use clap::{Arg, ArgAction, Command};
@@ -49,6 +50,18 @@ pub(crate) const NEAR: TextArg = TextArg {
     help: NEAR_HELP,
 };
 
+const OUTPUT: TextArg = TextArg {
+    name: "output",
+    value_name: "FILE",
+    help: OUTPUT_HELP,
+};
+
+const LOG: TextArg = TextArg {
+    name: "log",
+    value_name: "FILE",
+    help: LOG_HELP,
+};
+
 const KEEP: TextArg = TextArg {
     name: "keep",
     value_name: "ROUNDS",
@@ -81,6 +94,14 @@ impl TextArg {
         self.word(alloc).long(self.name)
     }
 
+    /// An option `-s TEXT` or `--name TEXT` as clap has it.
+    fn lettered<'a>(&self, alloc: Global, letter: char) -> Arg<'a>
+        ensures rule { rule_of_arg result ≡ lettered letter (text_option self.now.name.now) }
+        ensures local { result.global ≡ false }
+    {
+        self.option(alloc).short(letter)
+    }
+
     /// An option that can be given several times.
     fn repeated<'a>(&self, alloc: Global) -> Arg<'a>
         ensures rule { rule_of_arg result ≡ repeated (text_option self.now.name.now) }
@@ -88,6 +109,18 @@ impl TextArg {
     {
         self.option(alloc).action(ArgAction::Append)
     }
+}
+
+/// The command with the options of files that are written.
+pub(crate) fn with_file_options<'a>(
+    alloc: Global,
+    command: Command<'a>,
+) -> Result<Command<'a>, AllocError>
+    ensures { IfOk result (λ c. app_of c ≡ fold with_rule (app_of command.entry) file_rules) }
+{
+    command
+        .arg(OUTPUT.lettered(alloc, 'o'))?
+        .arg(LOG.option(alloc))
 }
 
 /// The command with the options of a start.

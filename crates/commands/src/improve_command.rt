@@ -8,7 +8,7 @@ ghost use Rattle.commands.specs.Improve.{EndsImprove, EndsImproveOn};
 use crate::begun::begun_league;
 use crate::fault::ProgramFault;
 use beginnings::Beginning;
-use improvement::ImprovePlan;
+use improvement::{ImprovePlan, NoWatcher, Watcher};
 use search::{Gate, Workplace};
 use std::sync::Wait;
 use std::thread::Threads;
@@ -46,16 +46,18 @@ pub fn improve_from<T: Threads + Wait + Sync, G: Gate + Sync, R: Source, W: Sink
     ensures { EndsImprove R.left R.tally W.held W.tally plan source.old source.new sink.old sink.new result }
 {
     let input = read_all(workplace.alloc, source)?;
-    improve_on(workplace, &input, None, sink, plan)
+    improve_on(workplace, &input, None, sink, plan, &mut NoWatcher)
 }
 
-/// As [`improve`], of a league's text that was read, where the league is to begin: at its own start, if nothing else is said.
-pub fn improve_on<T: Threads + Wait + Sync, G: Gate + Sync, W: Sink>(
+/// As [`improve`], of a league's text that was read, where the league is to begin: at its own start, if nothing else is said. The watcher
+/// is told of each leg that has ended.
+pub fn improve_on<T: Threads + Wait + Sync, G: Gate + Sync, W: Sink, V: Watcher>(
     workplace: Workplace<'_, T, G>,
     league: &[u8],
     beginning: Option<&Beginning<'_>>,
     sink: &mut W,
     plan: ImprovePlan,
+    watcher: &mut V,
 ) -> Result<(), ProgramFault>
     requires least { 1 ≤ plan.effort }
     requires most { plan.effort ≤ most_effort }
@@ -63,6 +65,6 @@ pub fn improve_on<T: Threads + Wait + Sync, G: Gate + Sync, W: Sink>(
     ensures { EndsImproveOn W.held W.tally plan league.now (option_map (λ b. b.now) beginning.entry) sink.old sink.new result }
 {
     let league = begun_league(workplace.alloc, league, beginning)?;
-    improvement::improve(workplace, league, plan, sink)?;
+    improvement::improve(workplace, league, plan, sink, watcher)?;
     Ok(())
 }

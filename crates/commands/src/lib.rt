@@ -14,7 +14,7 @@ mod start_command;
 pub use beginnings::Beginning;
 pub use fault::ProgramFault;
 pub use improve_command::{improve, improve_from, improve_on};
-pub use improvement::ImprovePlan;
+pub use improvement::{ImprovePlan, LegEnded, NoWatcher, Watcher};
 pub use play_command::{play, play_from, play_on};
 pub use policy::MOST_EFFORT;
 pub use progress::ProgressLine;

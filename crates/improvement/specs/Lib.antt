@@ -6,4 +6,5 @@ pub mod Laws
 pub mod Fields
 pub mod Lines
 pub mod UnderWay
+pub mod Watched
 pub mod Settings

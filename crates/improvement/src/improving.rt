@@ -17,6 +17,7 @@ use crate::plan::{ImproveFault, ImprovePlan};
 use crate::rounds::free_rounds;
 use crate::setting::{Setting, start_board};
 use crate::told::Told;
+use crate::watcher::{LegEnded, Watcher};
 use annealing::{Annealed, measure};
 use league::League;
 use search::{Gate, MAX_WORKERS, Workplace};
@@ -27,12 +28,13 @@ use streams::{BufferedSink, Sink};
 use texts::write_found;
 
 /// Runs the legs of the policy on chains of the league, and writes each better schedule as soon as it is known. The legs pass the
-/// workplace's gate, which is told how far they are.
-pub fn improve<T: Threads + Wait + Sync, G: Gate + Sync, W: Sink>(
+/// workplace's gate, which is told how far they are. The watcher is told of each leg that has ended.
+pub fn improve<T: Threads + Wait + Sync, G: Gate + Sync, W: Sink, V: Watcher>(
     workplace: Workplace<'_, T, G>,
     league: League,
     plan: ImprovePlan,
     sink: &mut W,
+    watcher: &mut V,
 ) -> Result<(), ImproveFault>
     requires least { 1 ≤ plan.effort }
     requires most { plan.effort ≤ most_effort }
@@ -51,16 +53,17 @@ pub fn improve<T: Threads + Wait + Sync, G: Gate + Sync, W: Sink>(
         rounds: &rounds,
         start: &start,
     };
-    let (ended, sink) = in_scope(&setting, sink);
+    let (ended, sink) = in_scope(&setting, sink, watcher);
     take_back(sink);
     ended
 }
 
 /// Improves in a scope of threads, which all have ended in the end. The sink comes back, since no contract says what is written behind a
 /// reference in a scope.
-fn in_scope<'w, T: Threads + Wait + Sync, G: Gate + Sync, W: Sink>(
+fn in_scope<'w, T: Threads + Wait + Sync, G: Gate + Sync, W: Sink, V: Watcher>(
     setting: &Setting<'_, T, G>,
     sink: &'w mut W,
+    watcher: &mut V,
 ) -> (Result<(), ImproveFault>, &'w mut W)
     requires setting { IsSetting setting.now }
     ensures same { result.1.ghost_name ≡ sink.entry.ghost_name }
@@ -73,21 +76,22 @@ fn in_scope<'w, T: Threads + Wait + Sync, G: Gate + Sync, W: Sink>(
             requires setting { IsSetting setting.now }
             ensures same { result.1.ghost_name ≡ sink.entry.ghost_name }
             ensures ended { Improves W.held W.tally setting.entry.now.start.now.league setting.entry.now.plan sink.entry.now result.1.now result.0 }
-        { within(scope, *setting, sink) },
+        { within(scope, *setting, sink, watcher) },
     )
 }
 
 /// Improves within a scope.
-fn within<'s, 'w, E, T: Threads + Wait + Sync, G: Gate + Sync, W: Sink>(
+fn within<'s, 'w, E, T: Threads + Wait + Sync, G: Gate + Sync, W: Sink, V: Watcher>(
     scope: &Scope<'s, E>,
     setting: Setting<'s, T, G>,
     sink: &'w mut W,
+    watcher: &mut V,
 ) -> (Result<(), ImproveFault>, &'w mut W)
     requires setting { IsSetting setting }
     ensures same { result.1.ghost_name ≡ sink.entry.ghost_name }
     ensures ended { Improves W.held W.tally setting.entry.start.now.league setting.entry.plan sink.entry.now result.1.now result.0 }
 {
-    let ended = run_and_write(scope, setting, &mut BufferedSink::new(sink));
+    let ended = run_and_write(scope, setting, &mut BufferedSink::new(sink), watcher);
     (ended, sink)
 }
 
@@ -97,27 +101,29 @@ fn take_back<W>(sink: &mut W)
 {}
 
 /// Runs all legs, and writes what they come to, each as it has ended and then all together.
-fn run_and_write<'s, E, T: Threads + Wait + Sync, G: Gate + Sync, W: Sink>(
+fn run_and_write<'s, E, T: Threads + Wait + Sync, G: Gate + Sync, W: Sink, V: Watcher>(
     scope: &Scope<'s, E>,
     setting: Setting<'s, T, G>,
     out: &mut BufferedSink<'_, W>,
+    watcher: &mut V,
 ) -> Result<(), ImproveFault>
     requires setting { IsSetting setting }
     requires none { waiting_in out.old ≡ [] }
     ensures { EndsBy W.held W.tally setting.entry.start.now setting.entry.unit setting.entry.plan.effort out.old out.new
         (HasWritten W.held W.tally setting.entry.start.now setting.entry.unit setting.entry.plan.effort out.old out.new) result }
 {
-    let told = run_all(scope, setting, out)?;
+    let told = run_all(scope, setting, out, watcher)?;
     write_found(out, &told.lead)?;
     out.flush()?;
     Ok(())
 }
 
 /// Runs all legs, and writes what each comes to as it has ended.
-fn run_all<'s, E, T: Threads + Wait + Sync, G: Gate + Sync, W: Sink>(
+fn run_all<'s, E, T: Threads + Wait + Sync, G: Gate + Sync, W: Sink, V: Watcher>(
     scope: &Scope<'s, E>,
     setting: Setting<'s, T, G>,
     out: &mut BufferedSink<'_, W>,
+    watcher: &mut V,
 ) -> Result<Told, ImproveFault>
     requires setting { IsSetting setting }
     requires none { waiting_in out.old ≡ [] }
@@ -132,18 +138,19 @@ fn run_all<'s, E, T: Threads + Wait + Sync, G: Gate + Sync, W: Sink>(
         legs: 0,
     };
     while let Some(leg) = line.next(scope, setting)? {
-        tell(setting, leg, &mut line, &mut told, out)?;
+        tell(setting, leg, &mut line, &mut told, out, watcher)?;
     }
     Ok(told)
 }
 
-/// Waits for a leg's end, writes what it came to, and has its chain go on.
-fn tell<T: Threads + Wait + Sync, G: Gate + Sync, W: Sink>(
+/// Waits for a leg's end, writes what it came to, tells the watcher, and has the leg's chain go on.
+fn tell<T: Threads + Wait + Sync, G: Gate + Sync, W: Sink, V: Watcher>(
     setting: Setting<'_, T, G>,
     leg: RunningLeg,
     line: &mut Line,
     told: &mut Told,
     out: &mut BufferedSink<'_, W>,
+    watcher: &mut V,
 ) -> Result<(), ImproveFault>
     requires setting { IsSetting setting }
     requires under_way { (first : BufferedSink W) × IsUnderWay W.held W.tally setting.start.now setting.unit setting.plan.effort
@@ -166,8 +173,9 @@ fn tell<T: Threads + Wait + Sync, G: Gate + Sync, W: Sink>(
         end,
     };
     write_leg(out, setting.unit, ended, told.least, &chain.board)?;
+    let leads = told.meet(workplace.alloc, &chain.board)?;
+    watcher.leg_ended(LegEnded::of(ended, told.least), told.lead_if(leads));
     workplace.gate.begun(workplace.rt, 0);
-    told.meet(workplace.alloc, &chain.board)?;
     let number = turn.chain;
     line.go_on(turn, end, Entrant { number, chain })?;
     Ok(())

@@ -16,7 +16,9 @@ mod setting;
 mod stage;
 mod standing;
 mod told;
+mod watcher;
 
 pub use improving::improve;
 pub use laws::{end_is_least, solutions_are_feasible, totals_fall};
 pub use plan::{ImproveFault, ImprovePlan};
+pub use watcher::{LegEnded, NoWatcher, Watcher};

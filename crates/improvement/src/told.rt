@@ -1,9 +1,10 @@
 //! What the legs that were told have come to all together.
 
-ghost use Rattle.std.specs.Prelude.{◌≡◌, ◌+◌, ◌^◌, ◌<◌, [], OnOk};
+ghost use Rattle.std.specs.Prelude.{◌≡◌, ◌+◌, ◌^◌, ◌<◌, [], IfOk, OnOk};
 ghost use Rattle.fixture_board.specs.Record.{book};
 ghost use Rattle.streams.specs.Writing.{waiting_in};
 ghost use Rattle.improvement.specs.Legs.{lead_after, least_in, lesser};
+ghost use Rattle.improvement.specs.Watched.{takes_lead};
 
 use crate::leg_text::{LegTold, write_leg};
 use crate::legs::Turn;
@@ -26,8 +27,8 @@ pub(crate) struct Told {
 }
 
 impl Told {
-    /// Takes in the history of one more.
-    pub(crate) fn meet(&mut self, alloc: Global, board: &Board) -> Result<(), AllocError>
+    /// Takes in the history of one more, and tells whether it leads now.
+    pub(crate) fn meet(&mut self, alloc: Global, board: &Board) -> Result<bool, AllocError>
         requires legs { self.old.legs + 1 < 2 ^ 64 }
         requires league { board.now.league ≡ self.old.lead.league }
         requires room { board.now.room ≡ self.old.lead.room }
@@ -36,14 +37,22 @@ impl Told {
         ensures least { OnOk result (self.new.least ≡
             lesser self.old.least (least_in self.old.lead.league board.now.history)) }
         ensures legs { OnOk result (self.new.legs ≡ self.old.legs + 1) }
+        ensures leads { IfOk result (λ leads. leads ≡
+            takes_lead self.old.lead.league self.old.legs self.old.lead.history board.now.history) }
     {
-        if self.legs == 0 || Standing::of(board).leads(Standing::of(&self.lead)) {
+        let leads = self.legs == 0 || Standing::of(board).leads(Standing::of(&self.lead));
+        if leads {
             self.lead = board.duplicate(alloc)?;
             self.lead.rewind_to_best();
         }
         self.least = lesser(self.least, board.best().map(|best| best.total));
         self.legs += 1;
-        Ok(())
+        Ok(leads)
+    }
+
+    /// The board with the history that leads, if it is wanted.
+    pub(crate) fn lead_if(&self, wanted: bool) -> Option<&Board> {
+        if wanted { Some(&self.lead) } else { None }
     }
 }
 

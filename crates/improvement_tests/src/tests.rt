@@ -5,7 +5,7 @@ mod legs;
 
 ghost use Rattle.std.specs.Prelude.{◌≤◌};
 
-use improvement::{ImproveFault, ImprovePlan, improve};
+use improvement::{ImproveFault, ImprovePlan, NoWatcher, improve};
 use league::{League, circular, read_league};
 use search::{NoGate, Workplace};
 use std::alloc::{AllocError, Global};
@@ -66,7 +66,8 @@ fn improved_by<T: Threads + Wait + Sync>(
     let mut memory = MemorySink::new(&mut room);
     let mut sink = RehearsedSink::new(&mut memory, writes);
     let gate = &NoGate;
-    let ended = improve(Workplace { rt, alloc, gate }, league, plan, &mut sink);
+    let workplace = Workplace { rt, alloc, gate };
+    let ended = improve(workplace, league, plan, &mut sink, &mut NoWatcher);
     let calls = sink.tally().calls;
     let text = Vec::from_slice(alloc, memory.held())?;
     Ok(Improved { ended, calls, text })

@@ -1,5 +1,5 @@
 -- What a request that the words were taken for comes to, and one that they were refused for.
-use Rattle.std.proofs.Common.{◌≡◌, ◌≤◌, ℕ, Bool, codes, if◌then◌else◌, nat_le, option_and_then, List, [], ◌∷◌, Option, Some, None, Result, Ok, Err, IfOk, IfErr, OnErr, true, false, refl, subst, sym, arith}
+use Rattle.std.proofs.Common.{◌≡◌, ◌≤◌, ℕ, Bool, codes, if◌then◌else◌, nat_le, option_and_then, List, [], ◌∷◌, Option, Some, None, Result, Ok, Err, IfOk, IfErr, OnErr, true, false, refl, subst, subst₂, sym, arith}
 use mathlib.Core.Logic.{inl, inr}
 use Rattle.std.specs.Option.{option_map_or}
 use Rattle.std.proofs.lemmas.Bool.{leb-true}
@@ -67,15 +67,16 @@ module _ {R W : Type 0} (left : R → Option (List ℕ)) (pulls : R → Tally) (
     pub on_files : (request : Result Request Error) → FailsBy kinds request → IfOk request (λ r. named ≡ Some r.job)
         → IfOk request (λ r. named_files ≡ Some (files_of r.files)) → IfOk request (λ r. named_kept ≡ Some (beginning_of r.beginning))
         → IfOk request (λ r. is_plain (files_of r.files) (beginning_of r.beginning) ≡ false
-        → EndsWithFiles held pushes r.job (beginning_of r.beginning) before after status)
+        → EndsWithFiles held pushes r.job (files_of r.files) (beginning_of r.beginning) before after status)
         → IfErr request (λ e. IsStatusOf (kind_of e) status) → OnErr request (after ≡ before)
         → (job : Job) (files : Files) (kept : Kept) → kinds ≡ [] → named ≡ Some job → named_files ≡ Some files → named_kept ≡ Some kept
-        → is_plain files kept ≡ false → EndsWithFiles held pushes job kept before after status
+        → is_plain files kept ≡ false → EndsWithFiles held pushes job files kept before after status
     on_files (Ok r) fails job_of files_in kept_in ends told quiet job files kept none job_is files_is kept_is plain =
         let same_files : files ≡ files_of r.files = same named_files files (files_of r.files) files_is files_in in
         let same_kept : kept ≡ beginning_of r.beginning = same named_kept kept (beginning_of r.beginning) kept_is kept_in in
-        subst (λ k. EndsWithFiles held pushes job k before after status) (sym same_kept)
-        (subst (λ j. EndsWithFiles held pushes j (beginning_of r.beginning) before after status) (same named r.job job job_of job_is)
+        subst₂ (λ (f : Files) (k : Kept). EndsWithFiles held pushes job f k before after status) (sym same_files) (sym same_kept)
+        (subst (λ j. EndsWithFiles held pushes j (files_of r.files) (beginning_of r.beginning) before after status)
+        (same named r.job job job_of job_is)
         (ends (plain_too files (files_of r.files) kept (beginning_of r.beginning) false same_files same_kept plain)))
     on_files (Err e) fails job_of files_in kept_in ends told quiet job files kept none job_is files_is kept_is plain =
         inl (told.memory (memory_of kinds e fails none), quiet)

@@ -1,5 +1,5 @@
 -- What the program does for a job, and its exit status.
-use Rattle.std.specs.Prelude.{◌≡◌, ◌≢◌, ◌≤◌, ◌⊎◌, ◌==◌, ◌&&◌, ℕ, Bool, true, false, not, is_some, List, [], length, codes, unwrap_or}
+use Rattle.std.specs.Prelude.{◌≡◌, ◌≢◌, ◌≤◌, ◌⊎◌, ◌==◌, ◌&&◌, ◌||◌, ℕ, Bool, true, false, not, is_some, List, [], length, codes, unwrap_or}
 use Rattle.std.specs.Prelude.{Option, Some, None, option_map, Result, Ok, Err, IfOk}
 use Rattle.std.specs.Str.Lines.{lines}
 use Rattle.clap.specs.declared.error.kind.ErrorKind.{ErrorKind as Kind}
@@ -81,10 +81,14 @@ pub record DoesJob {R W : Type 0} (left : R → Option (List ℕ)) (pulls : R �
   pub verdict : HasVerdict job outcome
   pub status_is : status ≡ status_of outcome
 
+-- files follow an improvement: the words name one for the best schedule so far, or one for a line of each leg
+abbrev pub is_followed : Files → Bool
+is_followed files = is_some files.output || is_some files.log
+
 -- the words name no file, and nothing is kept and no move has a price: all is read from standard input
 abbrev pub is_plain : Files → Kept → Bool
 is_plain files b = not (is_some files.league) && (not (is_some files.second) && (not (is_some files.from)
-    && (b.rounds == 0 && (length b.games == 0 && b.near == 0))))
+    && (not (is_followed files) && (b.rounds == 0 && (length b.games == 0 && b.near == 0)))))
 
 -- boards begin at the schedule of this text, and what is kept and the price are those of the words
 pub record IsBeginningOf (from : Option (List ℕ)) (kept : Kept) (beginning : Beginning) : Type 0 where
@@ -103,11 +107,15 @@ pub record DoesJobOn {W : Type 0} (held : W → Option (List ℕ)) (pushes : W �
   pub verdict : HasVerdict job outcome
   pub status_is : status ≡ status_of outcome
 
--- a text could not be read, or the job's command ended on those that were
-abbrev pub EndsWithFiles : {W : Type 0} → (W → Option (List ℕ)) → (W → Tally) → Job → Kept → W → W → ℕ → Type 0
-EndsWithFiles held pushes job kept before after status = ((status ≡ 1) × (after ≡ before))
-    ⊎ ((input : List ℕ) × (second : Option (List ℕ)) × (from : Option (List ℕ))
-    × DoesJobOn held pushes job kept input second from before after status)
+-- the status is that of the job, or 1 if files followed it, since one of them could not be written
+abbrev pub IsStatusBehind : Files → ℕ → ℕ → Type 0
+IsStatusBehind files of_job status = (status ≡ of_job) ⊎ ((is_followed files ≡ true) × (status ≡ 1))
+
+-- a text could not be read or a file could not be written, or the job's command ended on the texts that were read
+abbrev pub EndsWithFiles : {W : Type 0} → (W → Option (List ℕ)) → (W → Tally) → Job → Files → Kept → W → W → ℕ → Type 0
+EndsWithFiles held pushes job files kept before after status = ((status ≡ 1) × (after ≡ before))
+    ⊎ ((input : List ℕ) × (second : Option (List ℕ)) × (from : Option (List ℕ)) × (of_job : ℕ)
+    × DoesJobOn held pushes job kept input second from before after of_job × IsStatusBehind files of_job status)
 
 -- the words name a report
 abbrev pub IsReport : Option Job → Type 0

@@ -9,8 +9,8 @@ ghost use Rattle.program.specs.Program.{league_part, lines_part, told_in, EndsJo
 
 use command_line::Job;
 use commands::{
-    Beginning, Gate, ImprovePlan, NoGate, ProgramFault, ProgressLine, Sink, Verdict, Workplace,
-    find_on, improve_on, play_on, report_on, start_on,
+    Beginning, Gate, ImprovePlan, NoGate, ProgramFault, ProgressLine, Sink, Verdict, Watcher,
+    Workplace, find_on, improve_on, play_on, report_on, start_on,
 };
 use std::alloc::Global;
 use std::io::Write;
@@ -40,12 +40,19 @@ pub(crate) struct Texts<'a> {
     pub(crate) beginning: Option<Beginning<'a>>,
 }
 
-/// Does what the job asks for on texts that were read, and shows how far a search is if there is a terminal. A report has a verdict.
-pub(crate) fn perform<T: Threads + Wait + Clock + Sync, E: Write + Send + Drop, W: Sink>(
+/// Does what the job asks for on texts that were read, and shows how far a search is if there is a terminal. A report has a verdict, and
+/// the watcher is told of the legs of an improvement.
+pub(crate) fn perform<
+    T: Threads + Wait + Clock + Sync,
+    E: Write + Send + Drop,
+    W: Sink,
+    V: Watcher,
+>(
     console: Console<'_, T, E>,
     job: Job,
     texts: &Texts<'_>,
     sink: &mut W,
+    watcher: &mut V,
 ) -> Result<Option<Verdict>, ProgramFault>
     requires job { IsInRange job }
     requires near { IfSome texts.now.beginning (λ b. b.near ≤ max_weight) }
@@ -61,11 +68,11 @@ pub(crate) fn perform<T: Threads + Wait + Clock + Sync, E: Write + Send + Drop, 
     match terminal {
         Some(terminal) => {
             let gate = &ProgressLine::over(rt, WriterSink::new(terminal), steps_of(job));
-            perform_at(Workplace { rt, alloc, gate }, job, texts, sink)
+            perform_at(Workplace { rt, alloc, gate }, job, texts, sink, watcher)
         }
         None => {
             let gate = &NoGate;
-            perform_at(Workplace { rt, alloc, gate }, job, texts, sink)
+            perform_at(Workplace { rt, alloc, gate }, job, texts, sink, watcher)
         }
     }
 }
@@ -80,11 +87,12 @@ fn steps_of(job: Job) -> u64 {
 }
 
 /// As [`perform`]. The workers pass the workplace's gate.
-fn perform_at<T: Threads + Wait + Sync, G: Gate + Sync, W: Sink>(
+fn perform_at<T: Threads + Wait + Sync, G: Gate + Sync, W: Sink, V: Watcher>(
     workplace: Workplace<'_, T, G>,
     job: Job,
     texts: &Texts<'_>,
     sink: &mut W,
+    watcher: &mut V,
 ) -> Result<Option<Verdict>, ProgramFault>
     requires job { IsInRange job }
     requires near { IfSome texts.now.beginning (λ b. b.near ≤ max_weight) }
@@ -116,7 +124,7 @@ fn perform_at<T: Threads + Wait + Sync, G: Gate + Sync, W: Sink>(
                 seed,
                 effort,
             };
-            without_verdict(improve_on(workplace, input, beginning, sink, plan))
+            without_verdict(improve_on(workplace, input, beginning, sink, plan, watcher))
         }
         Job::Find { room, plan } => {
             without_verdict(find_on(workplace, input, beginning, sink, room, plan))

@@ -3,6 +3,7 @@
 ghost use Rattle.std.specs.Prelude.{◌≡◌};
 ghost use Rattle.std.specs.Process.{exit_status};
 
+use crate::follower::Unwritten;
 use crate::jobs::{Texts, league_text};
 use crate::texts_read::Unread;
 use advice::remarks_on;
@@ -10,7 +11,7 @@ use beginnings::{BeginFault, Beginning, write_start_faults};
 use command_line::{Job, Request};
 use commands::{Format, ProgramFault};
 use league::read_league;
-use std::io::Write;
+use std::io::{Eprint, ErrorKind, Write};
 use std::process::ExitCode;
 use std::rt::Runtime;
 use std::{io, str};
@@ -38,6 +39,23 @@ pub(crate) fn unread<R: Runtime>(rt: &R, text: Unread<'_>) -> ExitCode
         ReadFault::Memory => eprintln!(rt; "ttp: out of memory"),
     };
     ExitCode::FAILURE
+}
+
+/// Names the file that is to be written and can't be.
+pub(crate) fn unwritten(rt: &impl Eprint, file: Unwritten<'_>) -> ExitCode
+    ensures { exit_status result ≡ 1 }
+{
+    tell_unwritten(rt, file.name, &file.why);
+    ExitCode::FAILURE
+}
+
+/// Says that a file can't be written, or that memory ran out. If that can't be said either, the status still tells.
+pub(crate) fn tell_unwritten(rt: &impl Eprint, name: &str, why: &io::Error) {
+    let _ = if why.kind() == ErrorKind::OutOfMemory {
+        eprintln!(rt; "ttp: out of memory")
+    } else {
+        eprintln!(rt; "ttp: {name}: cannot be written")
+    };
 }
 
 /// Says why the league doesn't begin at what was given, behind the file's name.

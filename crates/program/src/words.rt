@@ -11,14 +11,16 @@ ghost use Rattle.command_line.specs.CommandLine.{beginning_of_words, files_of_wo
 ghost use Rattle.command_line.specs.Files.{Files, files_of};
 ghost use Rattle.command_line.specs.declared.job.Job.{Job as Named};
 ghost use Rattle.league.specs.Limits.{max_weight};
-ghost use Rattle.program.specs.Program.{is_plain, is_report, status_of, DoesJob, DoesJobOn, EndsWithFiles, IsReport, IsStatusOf};
+ghost use Rattle.program.specs.Program.{is_followed, is_plain, is_report, status_of, DoesJob, DoesJobOn, EndsWithFiles, IsReport, IsStatusOf};
+ghost use Rattle.program.specs.Program.{IsStatusBehind};
 
+use crate::follower::Follower;
 use crate::jobs::{Console, Texts, perform};
 use crate::texts_read::{TextsRead, read_texts};
-use crate::told::{failure, not_begun, tell_remarks, unread};
+use crate::told::{failure, not_begun, tell_remarks, unread, unwritten};
 use clap::error::ErrorKind;
-use command_line::{Job, Request, args};
-use commands::{Beginning, ProgramFault, Verdict};
+use command_line::{FileWords, Job, Request, args};
+use commands::{Beginning, NoWatcher, ProgramFault, Verdict, Watcher};
 use league::SlotSet;
 use std::io::{IsTerminal, Write};
 use std::process::ExitCode;
@@ -76,7 +78,7 @@ fn answer<
     ensures on_files { (job : Named) (files : Files) (kept : Kept) → words_fault (map string_bytes words.now) ≡ []
         → job_of_words (map string_bytes words.now) ≡ Some job → files_of_words (map string_bytes words.now) ≡ Some files
         → beginning_of_words (map string_bytes words.now) ≡ Some kept → is_plain files kept ≡ false
-        → EndsWithFiles W.held W.tally job kept sink.old sink.new (exit_status result) }
+        → EndsWithFiles W.held W.tally job files kept sink.old sink.new (exit_status result) }
     ensures quiet { (kind : Kind) → words_fault (map string_bytes words.now) ≡ kind ∷ [] → sink.new ≡ sink.old }
     ensures taken { words_fault (map string_bytes words.now) ≡ [] → exit_status result ≢ 2 }
     ensures infeasible { exit_status result ≡ 3 → IsReport (job_of_words (map string_bytes words.now)) }
@@ -108,7 +110,7 @@ fn respond<
     ensures done { IfOk request (λ r. is_plain (files_of r.files) (beginning_of r.beginning) ≡ true
         → DoesJob R.left R.tally W.held W.tally r.job source sink.old sink.new (exit_status result)) }
     ensures on_files { IfOk request (λ r. is_plain (files_of r.files) (beginning_of r.beginning) ≡ false
-        → EndsWithFiles W.held W.tally r.job (beginning_of r.beginning) sink.old sink.new (exit_status result)) }
+        → EndsWithFiles W.held W.tally r.job (files_of r.files) (beginning_of r.beginning) sink.old sink.new (exit_status result)) }
     ensures quiet { OnErr request (sink.new ≡ sink.old) }
     ensures status { IfErr request (λ error. IsStatusOf (kind_of error) (exit_status result)) }
     ensures taken { OnOk request (exit_status result ≢ 2) }
@@ -144,9 +146,17 @@ fn is_plain(request: &Request) -> bool
     files.league.is_none()
         && files.second.is_none()
         && files.from.is_none()
+        && !is_followed(files)
         && beginning.rounds == SlotSet::empty()
         && beginning.games.is_empty()
         && beginning.near == 0
+}
+
+/// Whether files are to follow an improvement.
+fn is_followed(files: &FileWords) -> bool
+    ensures { result ≡ is_followed (files_of files.now) }
+{
+    files.output.is_some() || files.log.is_some()
 }
 
 /// Reads standard input to its end, then does the job on it.
@@ -170,11 +180,11 @@ fn respond_on_input<
         beginning: None,
     };
     tell_remarks(rt, job, &texts);
-    let outcome = perform(console, job, &texts, sink);
+    let outcome = perform(console, job, &texts, sink, &mut NoWatcher);
     ended(rt, outcome)
 }
 
-/// Reads the files that are named, then does the job on them.
+/// Reads the files that are named, then does the job on them. An improvement is followed by those that are to be written.
 fn respond_on_files<
     T: Runtime + AllocGlobal + Threads + Wait + Sync,
     E: Write + Send + Drop,
@@ -183,21 +193,45 @@ fn respond_on_files<
 >(console: Console<'_, T, E>, request: &Request, mut source: R, sink: &mut W) -> ExitCode
     requires job { IsInRange request.now.job }
     requires near { request.now.beginning.near ≤ max_weight }
-    ensures { EndsWithFiles W.held W.tally request.now.job (beginning_of request.now.beginning) sink.old sink.new (exit_status result) }
+    ensures { EndsWithFiles W.held W.tally request.now.job (files_of request.now.files) (beginning_of request.now.beginning)
+        sink.old sink.new (exit_status result) }
 {
     let rt = console.rt;
-    match read_texts(rt, request.job, &request.files, &mut source) {
-        Ok(texts) => respond_on(console, request, &texts, sink),
-        Err(text) => unread(rt, text),
+    let texts = match read_texts(rt, request.job, &request.files, &mut source) {
+        Ok(texts) => texts,
+        Err(text) => return unread(rt, text),
+    };
+    let mut follower = match Follower::new(rt, console.alloc, &request.files) {
+        Ok(follower) => follower,
+        Err(file) => return unwritten(rt, file),
+    };
+    let status = respond_on(console, request, &texts, sink, &mut follower);
+    followed(&request.files, follower.has_failed(), status)
+}
+
+/// The status of a job whose files followed it. It is 1 if one of them couldn't be written.
+fn followed(files: &FileWords, has_failed: bool, status: ExitCode) -> ExitCode
+    ensures { IsStatusBehind (files_of files.now) (exit_status status) (exit_status result) }
+{
+    if has_failed && is_followed(files) {
+        ExitCode::FAILURE
+    } else {
+        status
     }
 }
 
 /// Does the job on texts that were read.
-fn respond_on<T: Runtime + AllocGlobal + Threads + Wait + Sync, E: Write + Send + Drop, W: Sink>(
+fn respond_on<
+    T: Runtime + AllocGlobal + Threads + Wait + Sync,
+    E: Write + Send + Drop,
+    W: Sink,
+    V: Watcher,
+>(
     console: Console<'_, T, E>,
     request: &Request,
     texts: &TextsRead,
     sink: &mut W,
+    watcher: &mut V,
 ) -> ExitCode
     requires job { IsInRange request.now.job }
     requires near { request.now.beginning.near ≤ max_weight }
@@ -217,7 +251,7 @@ fn respond_on<T: Runtime + AllocGlobal + Threads + Wait + Sync, E: Write + Send 
         }),
     };
     tell_remarks(rt, request.job, &given);
-    let outcome = perform(console, request.job, &given, sink);
+    let outcome = perform(console, request.job, &given, sink, watcher);
     if let Err(ProgramFault::Begin(fault)) = outcome {
         return not_begun(rt, request, &given, fault);
     }

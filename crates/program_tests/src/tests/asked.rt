@@ -74,6 +74,38 @@ fn words_name_files(rt: HostRuntime) -> Result<(), Fail> {
     Ok(())
 }
 
+/// Words of an improvement, and the files that they have written: the best schedule, and the lines of legs.
+const WRITTEN: &[(&[&str], (Option<&str>, Option<&str>))] = &[
+    (&["ttp", "improve"], (None, None)),
+    (
+        &["ttp", "improve", "-o", "best.txt"],
+        (Some("best.txt"), None),
+    ),
+    (&["ttp", "improve", "-obest.txt"], (Some("best.txt"), None)),
+    (
+        &["ttp", "improve", "--output=b", "a", "--log", "c"],
+        (Some("b"), Some("c")),
+    ),
+    (
+        &["ttp", "improve", "--log=b", "--from=c", "-o", "c"],
+        (Some("c"), Some("b")),
+    ),
+];
+
+#[test]
+fn words_name_files_that_are_written(rt: HostRuntime) -> Result<(), Fail> {
+    for (given, (output, log)) in WRITTEN {
+        let holds = match asked(rt.alloc(), given)? {
+            Ok(request) => {
+                is_name(&request.files.output, *output) && is_name(&request.files.log, *log)
+            }
+            Err(_) => false,
+        };
+        check_holds(&rt, given, holds);
+    }
+    Ok(())
+}
+
 /// The rounds and games that are kept, and what a moved game costs.
 type Kept<'a> = (&'a [u8], &'a [(u8, u8)], u32);
 
@@ -173,10 +205,22 @@ const REFUSED: &[(&[&str], ErrorKind)] = &[
     (&["ttp", "search", "--from="], InvalidValue),
     (&["ttp", "search", "--from=a", "--from=a"], ArgumentConflict),
     (&["ttp", "search", "--keep=1", "--keep=2"], ArgumentConflict),
+    (&["ttp", "improve", "-o", "-"], InvalidValue),
+    (&["ttp", "improve", "--log=-"], InvalidValue),
+    (&["ttp", "improve", "a", "-o", "a"], InvalidValue),
+    (&["ttp", "improve", "a", "--log", "a"], InvalidValue),
+    (&["ttp", "improve", "--log=a", "--from=a"], InvalidValue),
+    (&["ttp", "improve", "--log=a", "--output=a"], InvalidValue),
+    (&["ttp", "improve", "--output="], InvalidValue),
+    (&["ttp", "improve", "-o", "a", "-o", "b"], ArgumentConflict),
     (&["ttp", "improve", "a", "b"], UnknownArgument),
     (&["ttp", "play", "a", "b", "c"], UnknownArgument),
     (&["ttp", "start", "--keep=1"], UnknownArgument),
     (&["ttp", "start", "--near=1"], UnknownArgument),
+    (&["ttp", "start", "-o", "a"], UnknownArgument),
+    (&["ttp", "play", "--log=a"], UnknownArgument),
+    (&["ttp", "search", "--output=a"], UnknownArgument),
+    (&["ttp", "report", "-o", "a"], UnknownArgument),
     (&["ttp", "report", "--keep-game=1-2"], UnknownArgument),
 ];
 

@@ -1,0 +1,106 @@
+//! The files that follow an improvement.
+
+use crate::found_file::FoundFile;
+use crate::leg_log::LegLog;
+use crate::told::tell_unwritten;
+use command_line::FileWords;
+use commands::{LegEnded, Watcher};
+use fixture_board::Board;
+use std::alloc::Global;
+use std::io::Eprint;
+use std::rt::Files;
+use std::time::Clock;
+use std::{fs, io};
+
+/// Has files follow an improvement: one has the best schedule so far, the other a line for each leg. One that can't be written is named on
+/// standard error, once. It is tried again with the next text, and the improvement goes on.
+#[derive(Drop)]
+pub struct Follower<'a, R: Files> {
+    rt: &'a R,
+    found: Option<Followed<'a, FoundFile<'a, R>>>,
+    log: Option<Followed<'a, LegLog<'a, R, R::File>>>,
+}
+
+/// A file that can't be written.
+#[derive(Drop)]
+pub struct Unwritten<'a> {
+    /// Its name.
+    pub name: &'a str,
+    pub why: io::Error,
+}
+
+/// A file, and what is known of it.
+#[derive(Drop)]
+struct Followed<'a, F> {
+    name: &'a str,
+    file: F,
+    /// Whether it ever couldn't be written.
+    failed: bool,
+}
+
+impl<'a, R: Files + Clock + Eprint> Follower<'a, R> {
+    /// The files that the words name, each of which can be written. The log is a new file.
+    pub fn new(rt: &'a R, alloc: Global, words: &'a FileWords) -> Result<Self, Unwritten<'a>> {
+        let found = match &words.output {
+            Some(name) => Some(opened(name, FoundFile::new(rt, alloc, name))?),
+            None => None,
+        };
+        let log = match &words.log {
+            Some(name) => Some(opened(name, new_log(rt, name))?),
+            None => None,
+        };
+        Ok(Follower { rt, found, log })
+    }
+
+    /// Whether a file ever couldn't be written.
+    pub fn has_failed(&self) -> bool {
+        has_failed(&self.found) || has_failed(&self.log)
+    }
+}
+
+fn new_log<'a, R: Files + Clock>(rt: &'a R, name: &str) -> io::Result<LegLog<'a, R, R::File>> {
+    LegLog::new(rt, fs::create(rt, name)?)
+}
+
+fn opened<F>(name: &str, file: io::Result<F>) -> Result<Followed<'_, F>, Unwritten<'_>> {
+    match file {
+        Ok(file) => Ok(Followed {
+            name,
+            file,
+            failed: false,
+        }),
+        Err(why) => Err(Unwritten { name, why }),
+    }
+}
+
+fn has_failed<F>(followed: &Option<Followed<'_, F>>) -> bool {
+    match followed {
+        Some(followed) => followed.failed,
+        None => false,
+    }
+}
+
+impl<F> Followed<'_, F> {
+    /// Notes how a write ended, and names the file if it is the first one that failed.
+    fn note(&mut self, rt: &impl Eprint, outcome: io::Result<()>) {
+        if let Err(why) = outcome {
+            if !self.failed {
+                tell_unwritten(rt, self.name, &why);
+            }
+            self.failed = true;
+        }
+    }
+}
+
+impl<R: Files + Clock + Eprint> Watcher for Follower<'_, R> {
+    fn leg_ended(&mut self, leg: LegEnded, better: Option<&Board>) {
+        if let Some(log) = &mut self.log {
+            let outcome = log.file.add(leg);
+            log.note(self.rt, outcome);
+        }
+        if let (Some(found), Some(board)) = (&mut self.found, better) {
+            let outcome = found.file.put(board);
+            found.note(self.rt, outcome);
+        }
+    }
+}

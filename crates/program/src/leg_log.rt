@@ -1,0 +1,140 @@
+//! The lines that tell of the legs of an improvement as they end.
+
+ghost use Rattle.std.specs.Prelude.{◌≡◌, OnErr, OnOk};
+ghost use Rattle.std.specs.Io.KnownBytes.{Appends};
+ghost use Rattle.streams.specs.Sending.{AppendsPrefix};
+ghost use Rattle.streams.specs.Writing.{Writes};
+ghost use Rattle.program.specs.LegLog.{figure_members, leg_line, new_line, number_or_null, seconds_member, total_members};
+
+use commands::LegEnded;
+use std::io::{ErrorKind, Write};
+use std::time::{Clock, Instant};
+use std::{io, mem};
+use streams::{BufferedSink, Sink, WriteFault, WriterSink};
+use texts::{Piece, write_pieces};
+
+/// A line of JSON for each leg, with the seconds since the beginning.
+#[derive(Drop)]
+pub(crate) struct LegLog<'a, C, F> {
+    clock: &'a C,
+    begun: Instant,
+    sink: WriterSink<F>,
+    /// Whether a part of a line may stand at the end.
+    torn: bool,
+}
+
+impl<'a, C: Clock, F: Write + Drop> LegLog<'a, C, F> {
+    /// A log that begins now, in a new file.
+    pub(crate) fn new(clock: &'a C, file: F) -> io::Result<Self> {
+        Ok(LegLog {
+            clock,
+            begun: Instant::now(clock)?,
+            sink: WriterSink::new(file),
+            torn: false,
+        })
+    }
+
+    /// Adds the line of a leg.
+    pub(crate) fn add(&mut self, leg: LegEnded) -> io::Result<()> {
+        let passed = Instant::now(self.clock)?.duration_since(self.begun);
+        let thousandths = passed.as_millis().min(u128::from(u64::MAX)) as u64;
+        let torn = mem::replace(&mut self.torn, true);
+        if write_leg(&mut self.sink, torn, thousandths, leg).is_err() {
+            return Err(io::Error::from(ErrorKind::WriteZero));
+        }
+        self.torn = false;
+        Ok(())
+    }
+}
+
+/// Writes the line of a leg, on a line of its own.
+fn write_leg<W: Sink>(
+    sink: &mut W,
+    torn: bool,
+    thousandths: u64,
+    leg: LegEnded,
+) -> Result<(), WriteFault>
+    ensures ok { OnOk result (Appends (W.held sink.old) (W.held sink.new) (leg_line torn thousandths leg)) }
+    ensures prefix { OnErr result (AppendsPrefix (W.held sink.old) (W.held sink.new) (leg_line torn thousandths leg)) }
+{
+    let mut out = BufferedSink::new(sink);
+    write_line(&mut out, torn, thousandths, leg)?;
+    out.flush()
+}
+
+fn write_line<W: Sink>(
+    out: &mut BufferedSink<'_, W>,
+    torn: bool,
+    thousandths: u64,
+    leg: LegEnded,
+) -> Result<(), WriteFault>
+    ensures { Writes W.held W.tally out.old out.new result (leg_line torn thousandths leg) }
+{
+    out.write(if torn { b"\n" } else { b"" })?;
+    write_seconds(out, thousandths, leg)?;
+    write_figures(out, leg)?;
+    write_totals(out, leg)
+}
+
+/// Writes which leg it was, of which chain, and when it ended.
+fn write_seconds<W: Sink>(
+    out: &mut BufferedSink<'_, W>,
+    thousandths: u64,
+    leg: LegEnded,
+) -> Result<(), WriteFault>
+    ensures { Writes W.held W.tally out.old out.new result (seconds_member thousandths leg) }
+{
+    write_pieces(
+        out,
+        &[
+            Piece::Text(b"{\"leg\":"),
+            Piece::Number(leg.number),
+            Piece::Text(b",\"chain\":"),
+            Piece::Number(leg.chain),
+            Piece::Text(b",\"seconds\":"),
+            Piece::Number(thousandths / 1000),
+            Piece::Text(b"."),
+            Piece::Number(thousandths / 100 % 10),
+            Piece::Number(thousandths / 10 % 10),
+            Piece::Number(thousandths % 10),
+        ],
+    )
+}
+
+fn write_figures<W: Sink>(out: &mut BufferedSink<'_, W>, leg: LegEnded) -> Result<(), WriteFault>
+    ensures { Writes W.held W.tally out.old out.new result (figure_members leg) }
+{
+    write_pieces(
+        out,
+        &[
+            Piece::Text(b",\"steps\":"),
+            Piece::Number(leg.steps),
+            Piece::Text(b",\"accepted\":"),
+            Piece::Number(leg.accepted),
+            Piece::Text(b",\"hard\":"),
+            Piece::Number(leg.hard),
+        ],
+    )
+}
+
+fn write_totals<W: Sink>(out: &mut BufferedSink<'_, W>, leg: LegEnded) -> Result<(), WriteFault>
+    ensures { Writes W.held W.tally out.old out.new result (total_members leg) }
+{
+    out.write(b",\"best\":")?;
+    write_number_or_null(out, leg.best)?;
+    out.write(b",\"least\":")?;
+    write_number_or_null(out, leg.least)?;
+    out.write(b"}\n")
+}
+
+fn write_number_or_null<W: Sink>(
+    out: &mut BufferedSink<'_, W>,
+    number: Option<u64>,
+) -> Result<(), WriteFault>
+    ensures { Writes W.held W.tally out.old out.new result (number_or_null number) }
+{
+    match number {
+        Some(number) => out.write_number(number),
+        None => out.write(b"null"),
+    }
+}
