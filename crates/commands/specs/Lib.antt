@@ -1,5 +1,6 @@
 pub mod Fault
 pub mod Begun
+pub mod Hinted
 pub mod Outcome
 pub mod Start
 pub mod Play

@@ -1,7 +1,6 @@
 -- What `ttp report` answers.
 use Rattle.std.specs.Prelude.{◌≡◌, ℕ, Bool, true, false, List, Option, Some, None, Result, Ok, Err, codes}
 use Rattle.fixtures.specs.Games.{Games}
-use Rattle.advice.specs.Hints.{IsHint}
 use Rattle.advice.specs.Remarks.{remarks_on}
 use Rattle.advice.specs.declared.hint.Hint.{Hint}
 use Rattle.league.specs.declared.fault.LeagueFault.{LeagueFault}
@@ -17,6 +16,7 @@ use Rattle.commands.specs.declared.fault.ProgramFault.TheVariants.{League, Leagu
 use Rattle.commands.specs.declared.report_command.Verdict.{Verdict}
 use Rattle.commands.specs.declared.report_command.Verdict.TheVariants.{Feasible, Infeasible}
 use Rattle.commands.specs.Begun.{Begins, BeginsNot}
+use Rattle.commands.specs.Hinted.{IsAdvice}
 
 abbrev pub verdict_of : Bool → Verdict
 verdict_of true = Feasible
@@ -39,7 +39,7 @@ pub record IsReport (format : Format) (league : LeagueData) (bytes : List ℕ) (
 -- a league's text has this fault, with the hint on it
 pub record IsRefused (bytes : List ℕ) (fault : LeagueFault) (hint : Option Hint) : Type 0 where
   pub fault_is : league_of bytes ≡ Err fault
-  pub hint_is : IsHint bytes fault hint
+  pub hint_is : IsAdvice bytes fault hint
 
 -- a fault that a text has, and the hint if there is one, unless memory ran out
 abbrev pub IsRefusal : List ℕ → ProgramFault → Type 0

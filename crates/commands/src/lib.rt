@@ -3,6 +3,7 @@
 
 mod begun;
 mod fault;
+mod hints;
 mod improve_command;
 mod play_command;
 mod progress;
@@ -13,6 +14,7 @@ mod start_command;
 
 pub use beginnings::Beginning;
 pub use fault::ProgramFault;
+pub use hints::hint_on;
 pub use improve_command::{improve, improve_from, improve_on};
 pub use improvement::{ImprovePlan, LegEnded, NoWatcher, Watcher};
 pub use play_command::{play, play_from, play_on};

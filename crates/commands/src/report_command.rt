@@ -9,7 +9,8 @@ ghost use Rattle.commands.specs.Report.{verdict_of, AnswersReport, AnswersReport
 
 use crate::begun::begun_at;
 use crate::fault::{ProgramFault, after_writing};
-use advice::{hint_on, remarks_on};
+use crate::hints::hint_on;
+use advice::remarks_on;
 use beginnings::Beginning;
 use league::{LeagueFault, read_league};
 use report_formats::{Format, prepare, write_prepared};

@@ -9,8 +9,8 @@ use crate::texts_read::Unread;
 use advice::remarks_on;
 use beginnings::{BeginFault, Beginning, write_start_faults};
 use command_line::{Job, Request};
-use commands::{Format, ProgramFault};
-use league::read_league;
+use commands::{Format, ProgramFault, hint_on};
+use league::{LeagueFault, read_league};
 use std::io::{Eprint, ErrorKind, Write};
 use std::process::ExitCode;
 use std::rt::Runtime;
@@ -23,6 +23,16 @@ pub(crate) fn failure<R: Runtime>(rt: &R, fault: ProgramFault) -> ExitCode
 {
     let _ = eprintln!(rt; "ttp: {fault}");
     ExitCode::FAILURE
+}
+
+/// Names the fault of a league's text, and where it lies if that can be told.
+pub(crate) fn refused<R: Runtime + AllocGlobal>(rt: &R, text: &[u8], fault: LeagueFault) -> ExitCode
+    ensures { exit_status result ≡ 1 }
+{
+    match hint_on(rt.alloc(), text, fault) {
+        Ok(Some(hint)) => failure(rt, ProgramFault::LeagueAt(fault, hint)),
+        _ => failure(rt, ProgramFault::League(fault)),
+    }
 }
 
 /// Names the file that could not be read, and why.

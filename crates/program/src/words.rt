@@ -15,9 +15,9 @@ ghost use Rattle.program.specs.Program.{is_followed, is_plain, is_report, status
 ghost use Rattle.program.specs.Program.{IsStatusBehind};
 
 use crate::follower::Follower;
-use crate::jobs::{Console, Texts, perform};
+use crate::jobs::{Console, Texts, league_text, perform};
 use crate::texts_read::{TextsRead, read_texts};
-use crate::told::{failure, not_begun, tell_remarks, unread, unwritten};
+use crate::told::{failure, not_begun, refused, tell_remarks, unread, unwritten};
 use clap::error::ErrorKind;
 use command_line::{FileWords, Job, Request, args};
 use commands::{Beginning, NoWatcher, ProgramFault, Verdict, Watcher};
@@ -181,7 +181,7 @@ fn respond_on_input<
     };
     tell_remarks(rt, job, &texts);
     let outcome = perform(console, job, &texts, sink, &mut NoWatcher);
-    ended(rt, outcome)
+    ended(rt, job, &texts, outcome)
 }
 
 /// Reads the files that are named, then does the job on them. An improvement is followed by those that are to be written.
@@ -255,15 +255,22 @@ fn respond_on<
     if let Err(ProgramFault::Begin(fault)) = outcome {
         return not_begun(rt, request, &given, fault);
     }
-    ended(rt, outcome)
+    ended(rt, request.job, &given, outcome)
 }
 
-fn ended<R: Runtime>(rt: &R, outcome: Result<Option<Verdict>, ProgramFault>) -> ExitCode
+/// The status of a job on these texts. What went wrong is said.
+fn ended<R: Runtime + AllocGlobal>(
+    rt: &R,
+    job: Job,
+    texts: &Texts<'_>,
+    outcome: Result<Option<Verdict>, ProgramFault>,
+) -> ExitCode
     ensures { exit_status result ≡ status_of outcome }
 {
     match outcome {
         Ok(Some(Verdict::Infeasible)) => ExitCode::from(INFEASIBLE),
         Ok(_) => ExitCode::SUCCESS,
+        Err(ProgramFault::League(fault)) => refused(rt, league_text(job, texts), fault),
         Err(fault) => failure(rt, fault),
     }
 }
