@@ -5,4 +5,6 @@ pub mod Command
 pub mod Sheet
 pub mod Pieces
 pub mod PlayText
+pub mod Classes
+pub mod LeastHard
 pub mod SearchText
