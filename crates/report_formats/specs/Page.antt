@@ -11,9 +11,9 @@ use Rattle.league.specs.Starts.{is_given}
 use Rattle.league.specs.declared.rule.Rule.{Rule}
 use Rattle.league.specs.declared.rule.Weight.{Weight}
 use Rattle.league.specs.declared.rule.Weight.TheVariants.{Hard, Soft}
-use Rattle.reports.specs.CostText.{class_name}
 use Rattle.robinx.specs.Deviations.{deviation}
 use Rattle.streams.specs.Pieces.{pieces_below}
+use Rattle.texts.specs.Classes.{class_name}
 use Rattle.tours.specs.Tours.{travel_of}
 use Rattle.report_formats.specs.Grid.{grid_text, team_head}
 use Rattle.report_formats.specs.MovedGames.{moved_section, near_figure}

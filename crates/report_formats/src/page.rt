@@ -17,9 +17,9 @@ use fixture_board::{Cost, cost_of};
 use fixtures::Schedule;
 use league::limits::round_count;
 use league::{League, Rule, Weight};
-use reports::class_name;
 use robinx::deviation;
 use std::alloc::{AllocError, Global};
+use texts::class_name;
 use tours::travel_of;
 
 /// The page. It stands alone: it holds no script, and nothing from elsewhere.

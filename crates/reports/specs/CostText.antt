@@ -6,8 +6,6 @@ use Rattle.std.specs.List.{concat}
 use Rattle.streams.specs.Pieces.{pieces_below}
 use Rattle.league.specs.League.{LeagueData}
 use Rattle.league.specs.declared.rule.Rule.{Rule}
-use Rattle.league.specs.declared.rule.RuleBody.{RuleBody}
-use Rattle.league.specs.declared.rule.RuleBody.TheVariants.{Ca1, Ca2, Ca3, Ca4, Ga1, Br1, Br2, Se1, Fa2}
 use Rattle.league.specs.declared.rule.Weight.{Weight}
 use Rattle.league.specs.declared.rule.Weight.TheVariants.{Hard, Soft}
 use Rattle.fixtures.specs.Games.{Games, round_count, round_of, cell, is_home}
@@ -16,6 +14,7 @@ use Rattle.tours.specs.Phased.{is_unphased}
 use Rattle.robinx.specs.Deviations.{deviation}
 use Rattle.fixture_board.specs.declared.cost.Cost.{Cost}
 use Rattle.fixture_board.specs.Costs.{cost_of, total_of}
+use Rattle.texts.specs.Classes.{class_name}
 use Rattle.reports.specs.Leaving.{leaving_text}
 use Rattle.reports.specs.Runs.{is_over, ended_streak}
 
@@ -70,17 +69,6 @@ half_lines g high = pieces_below (half_line g high) high
 -- of a phased league alone
 abbrev pub halves_text : LeagueData → Games → List ℕ
 halves_text l g = if l.phased then pieces_below (half_lines g) g.teams else []
-
-abbrev pub class_name : RuleBody → List ℕ
-class_name (Ca1 teams side slots most) = codes "CA1"
-class_name (Ca2 teams1 side teams2 slots most) = codes "CA2"
-class_name (Ca3 teams1 side teams2 window most) = codes "CA3"
-class_name (Ca4 teams1 side teams2 slots each most) = codes "CA4"
-class_name (Ga1 games slots least most) = codes "GA1"
-class_name (Br1 teams side slots most) = codes "BR1"
-class_name (Br2 teams slots most) = codes "BR2"
-class_name (Se1 teams least) = codes "SE1"
-class_name (Fa2 teams slots most) = codes "FA2"
 
 abbrev pub rule_line : Games → ℕ → Rule → Weight → List ℕ
 rule_line g i rule Hard =

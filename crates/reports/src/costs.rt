@@ -7,17 +7,17 @@ ghost use Rattle.fixtures.specs.Games.{round_count};
 ghost use Rattle.fixture_board.specs.Costs.{total_of};
 ghost use Rattle.streams.specs.Pieces.{pieces_below};
 ghost use Rattle.streams.specs.Writing.{Writes};
-ghost use Rattle.reports.specs.CostText.{class_name, cost_text, costs_line, half_line, half_lines, halves_text, meetings_line};
+ghost use Rattle.reports.specs.CostText.{cost_text, costs_line, half_line, half_lines, halves_text, meetings_line};
 ghost use Rattle.reports.specs.CostText.{repeat_line, repeat_lines, rule_line, rule_lines, total_line, tour_line};
 
 use crate::leaving::write_leaving;
 use crate::runs::write_runs;
 use fixture_board::{Cost, cost_of};
 use fixtures::Schedule;
-use league::{League, Rule, RuleBody, Weight};
+use league::{League, Rule, Weight};
 use robinx::deviation;
 use streams::{BufferedSink, Sink, WriteFault};
-use texts::{Piece, write_pieces};
+use texts::{Piece, class_name, write_pieces};
 use tours::{is_unphased, travel_of};
 
 /// Writes the cost of a schedule, a line for each part of it, and the total if no hard limit is broken.
@@ -278,23 +278,6 @@ fn write_rule<W: Sink>(
                 Piece::Text(b"\n"),
             ],
         ),
-    }
-}
-
-/// The name of a rule's class, as in a league.
-pub fn class_name(body: &RuleBody) -> &'static [u8]
-    ensures { result.now ≡ class_name body.now }
-{
-    match body {
-        RuleBody::Ca1 { .. } => b"CA1",
-        RuleBody::Ca2 { .. } => b"CA2",
-        RuleBody::Ca3 { .. } => b"CA3",
-        RuleBody::Ca4 { .. } => b"CA4",
-        RuleBody::Ga1 { .. } => b"GA1",
-        RuleBody::Br1 { .. } => b"BR1",
-        RuleBody::Br2 { .. } => b"BR2",
-        RuleBody::Se1 { .. } => b"SE1",
-        RuleBody::Fa2 { .. } => b"FA2",
     }
 }
 

@@ -10,6 +10,5 @@ mod leaving;
 mod report;
 mod runs;
 
-pub use costs::class_name;
 pub use laws::figures_add_up;
 pub use report::{is_feasible, write_report};

@@ -7,3 +7,4 @@ pub mod WrittenWords
 pub mod WrittenLines
 pub mod PlayedAgain
 pub mod Answering
+pub mod Breaches

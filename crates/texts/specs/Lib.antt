@@ -5,5 +5,7 @@ pub mod Command
 pub mod Sheet
 pub mod Pieces
 pub mod PlayText
+pub mod Classes
+pub mod LeastHard
 pub mod SearchText
 pub mod ProgressText

@@ -8,6 +8,7 @@ use Rattle.tours.specs.Moved.{moved_games}
 use Rattle.fixture_board.specs.declared.change.Entry.{Entry}
 use Rattle.fixture_board.specs.History.{best_of, best_prefix, games_of}
 use Rattle.fixture_board.specs.Replay.{under_caller_0}
+use Rattle.texts.specs.LeastHard.{least_hard_line}
 use Rattle.texts.specs.PlayText.{best_line, change_lines, counted, history_text, numbered, played}
 use Rattle.texts.specs.Sheet.{sheet_of}
 
@@ -41,6 +42,20 @@ moved_at_best league h = moved_line league (games_at_best league h (best_prefix 
 -- a board after its history: the history, the sheet of its best schedule, what was moved in it and the best version
 unfoldable pub found_text : LeagueData → List Entry → List ℕ
 found_text league h = history_text h ++ best_sheet league h ++ moved_at_best league h ++ best_line (best_of league h)
+
+-- what is broken in the games after all of a history, if no prefix is feasible
+abbrev pub least_hard_after : LeagueData → List Entry → Option (List Entry) → List ℕ
+least_hard_after league h None = least_hard_line league (games_of league h)
+least_hard_after league h (Some prefix) = []
+
+-- the same of a history: nothing if it has a best version
+unfoldable pub least_hard_text : LeagueData → List Entry → List ℕ
+least_hard_text league h = least_hard_after league h (best_prefix league h)
+
+-- a board that an improvement ends with: as after a search, but what is broken stands before the best version if there is none
+unfoldable pub improved_text : LeagueData → List Entry → List ℕ
+improved_text league h =
+    history_text h ++ best_sheet league h ++ moved_at_best league h ++ least_hard_text league h ++ best_line (best_of league h)
 
 -- a history, written and given as a script, leads to the same changes of caller 0, to the same games and the same best
 pub record PlaysBack (league : LeagueData) (room : ℕ) (h : List Entry) : Type 0 where

@@ -4,8 +4,10 @@
 #![tactic(auto)]
 
 mod answers;
+mod classes;
 mod history;
 mod input;
+mod least_hard;
 mod lines;
 mod numerals;
 mod pieces;
@@ -16,12 +18,14 @@ mod search_text;
 mod sheets;
 mod words;
 
+pub use classes::class_name;
 pub use input::{line_ending_with, next_line, split_at_line, split_input};
+pub use least_hard::breaches_add_up;
 pub use numerals::{index, number};
 pub use pieces::{Piece, write_pieces};
 pub use play_text::play_script;
 pub use progress_text::{Advance, write_clear, write_progress};
 pub use script_line::{ScriptLine, parse_line};
-pub use search_text::{write_best_sheet, write_found, write_plan, write_worker};
+pub use search_text::{write_best_sheet, write_found, write_improved, write_plan, write_worker};
 pub use sheets::{sheet, write_sheet};
 pub use words::next_word;

@@ -1,12 +1,15 @@
-//! The parts of a search text: what was asked for, what became of a worker's proposals, and the board in the end.
+//! The parts of a search text: what was asked for, what became of a worker's proposals, and the board in the end. And what an
+//! improvement ends with.
 
 ghost use Rattle.std.specs.Prelude.{◌≡◌};
 ghost use Rattle.league.specs.League.{teams};
 ghost use Rattle.streams.specs.Writing.{Writes};
 ghost use Rattle.fixture_board.specs.History.{best_prefix};
 ghost use Rattle.texts.specs.SearchText.{best_sheet, found_text, games_at_best, moved_at_best, plan_line, worker_line};
+ghost use Rattle.texts.specs.SearchText.{improved_text, least_hard_text};
 
 use crate::history::write_history;
+use crate::least_hard::write_least_hard;
 use crate::lines::{write_counted, write_numbered};
 use crate::play_text::write_best;
 use crate::sheets::write_sheet;
@@ -55,6 +58,34 @@ pub fn write_found<W: Sink>(out: &mut BufferedSink<'_, W>, board: &Board) -> Res
     write_best_sheet(out, board)?;
     write_moved(out, board)?;
     write_best(out, board)
+}
+
+/// Writes the board that an improvement ends with, as [`write_found`] does it. If no schedule was feasible, what is broken in
+/// the present one stands before the best version.
+pub fn write_improved<W: Sink>(
+    out: &mut BufferedSink<'_, W>,
+    board: &Board,
+) -> Result<(), WriteFault>
+    ensures { Writes W.held W.tally out.old out.new result
+        (improved_text board.now.league board.now.history) }
+{
+    write_history(out, board)?;
+    write_best_sheet(out, board)?;
+    write_moved(out, board)?;
+    write_broken(out, board)?;
+    write_best(out, board)
+}
+
+/// Writes what is broken in the present schedule, if none was feasible.
+#[tactic(auto, unfolding(crate::specs::SearchText::least_hard_text))]
+fn write_broken<W: Sink>(out: &mut BufferedSink<'_, W>, board: &Board) -> Result<(), WriteFault>
+    ensures { Writes W.held W.tally out.old out.new result
+        (least_hard_text board.now.league board.now.history) }
+{
+    match board.best_schedule() {
+        Some(_) => Ok(()),
+        None => write_least_hard(out, board.league(), board.schedule()),
+    }
 }
 
 #[tactic(auto, unfolding(crate::specs::SearchText::moved_at_best))]
