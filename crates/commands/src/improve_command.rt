@@ -46,18 +46,18 @@ pub fn improve_from<T: Threads + Wait + Sync, G: Gate + Sync, R: Source, W: Sink
     ensures { EndsImprove R.left R.tally W.held W.tally plan source.old source.new sink.old sink.new result }
 {
     let input = read_all(workplace.alloc, source)?;
-    improve_on(workplace, &input, None, sink, plan, &mut NoWatcher)
+    improve_on(workplace, &input, None, sink, plan, NoWatcher)
 }
 
 /// As [`improve`], of a league's text that was read, where the league is to begin: at its own start, if nothing else is said. The watcher
 /// is told of each leg that has ended.
-pub fn improve_on<T: Threads + Wait + Sync, G: Gate + Sync, W: Sink, V: Watcher>(
+pub fn improve_on<T: Threads + Wait + Sync, G: Gate + Sync, W: Sink, V: Watcher + Drop>(
     workplace: Workplace<'_, T, G>,
     league: &[u8],
     beginning: Option<&Beginning<'_>>,
     sink: &mut W,
     plan: ImprovePlan,
-    watcher: &mut V,
+    watcher: V,
 ) -> Result<(), ProgramFault>
     requires least { 1 ≤ plan.effort }
     requires most { plan.effort ≤ most_effort }

@@ -29,12 +29,12 @@ use texts::write_found;
 
 /// Runs the legs of the policy on chains of the league, and writes each better schedule as soon as it is known. The legs pass the
 /// workplace's gate, which is told how far they are. The watcher is told of each leg that has ended.
-pub fn improve<T: Threads + Wait + Sync, G: Gate + Sync, W: Sink, V: Watcher>(
+pub fn improve<T: Threads + Wait + Sync, G: Gate + Sync, W: Sink, V: Watcher + Drop>(
     workplace: Workplace<'_, T, G>,
     league: League,
     plan: ImprovePlan,
     sink: &mut W,
-    watcher: &mut V,
+    watcher: V,
 ) -> Result<(), ImproveFault>
     requires least { 1 ≤ plan.effort }
     requires most { plan.effort ≤ most_effort }
@@ -60,10 +60,10 @@ pub fn improve<T: Threads + Wait + Sync, G: Gate + Sync, W: Sink, V: Watcher>(
 
 /// Improves in a scope of threads, which all have ended in the end. The sink comes back, since no contract says what is written behind a
 /// reference in a scope.
-fn in_scope<'w, T: Threads + Wait + Sync, G: Gate + Sync, W: Sink, V: Watcher>(
+fn in_scope<'w, T: Threads + Wait + Sync, G: Gate + Sync, W: Sink, V: Watcher + Drop>(
     setting: &Setting<'_, T, G>,
     sink: &'w mut W,
-    watcher: &mut V,
+    watcher: V,
 ) -> (Result<(), ImproveFault>, &'w mut W)
     requires setting { IsSetting setting.now }
     ensures same { result.1.ghost_name ≡ sink.entry.ghost_name }
@@ -81,17 +81,17 @@ fn in_scope<'w, T: Threads + Wait + Sync, G: Gate + Sync, W: Sink, V: Watcher>(
 }
 
 /// Improves within a scope.
-fn within<'s, 'w, E, T: Threads + Wait + Sync, G: Gate + Sync, W: Sink, V: Watcher>(
+fn within<'s, 'w, E, T: Threads + Wait + Sync, G: Gate + Sync, W: Sink, V: Watcher + Drop>(
     scope: &Scope<'s, E>,
     setting: Setting<'s, T, G>,
     sink: &'w mut W,
-    watcher: &mut V,
+    mut watcher: V,
 ) -> (Result<(), ImproveFault>, &'w mut W)
     requires setting { IsSetting setting }
     ensures same { result.1.ghost_name ≡ sink.entry.ghost_name }
     ensures ended { Improves W.held W.tally setting.entry.start.now.league setting.entry.plan sink.entry.now result.1.now result.0 }
 {
-    let ended = run_and_write(scope, setting, &mut BufferedSink::new(sink), watcher);
+    let ended = run_and_write(scope, setting, &mut BufferedSink::new(sink), &mut watcher);
     (ended, sink)
 }
 

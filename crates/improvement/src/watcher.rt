@@ -49,8 +49,14 @@ pub trait Watcher {
     fn leg_ended(&mut self, leg: LegEnded, better: Option<&Board>);
 }
 
+impl<V: Watcher> Watcher for &mut V {
+    fn leg_ended(&mut self, leg: LegEnded, better: Option<&Board>) {
+        (**self).leg_ended(leg, better);
+    }
+}
+
 /// Looks away.
-#[derive(Clone, Copy)]
+#[derive(Drop)]
 pub struct NoWatcher;
 
 impl Watcher for NoWatcher {

@@ -67,7 +67,7 @@ fn improved_by<T: Threads + Wait + Sync>(
     let mut sink = RehearsedSink::new(&mut memory, writes);
     let gate = &NoGate;
     let workplace = Workplace { rt, alloc, gate };
-    let ended = improve(workplace, league, plan, &mut sink, &mut NoWatcher);
+    let ended = improve(workplace, league, plan, &mut sink, NoWatcher);
     let calls = sink.tally().calls;
     let text = Vec::from_slice(alloc, memory.held())?;
     Ok(Improved { ended, calls, text })

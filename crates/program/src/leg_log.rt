@@ -70,10 +70,17 @@ fn write_line<W: Sink>(
 ) -> Result<(), WriteFault>
     ensures { Writes W.held W.tally out.old out.new result (leg_line torn thousandths leg) }
 {
-    out.write(if torn { b"\n" } else { b"" })?;
+    out.write(new_line(torn))?;
     write_seconds(out, thousandths, leg)?;
     write_figures(out, leg)?;
     write_totals(out, leg)
+}
+
+/// What ends a line that was torn off.
+fn new_line(torn: bool) -> &'static [u8]
+    ensures { result.now ≡ new_line torn }
+{
+    if torn { b"\n" } else { b"" }
 }
 
 /// Writes which leg it was, of which chain, and when it ended.

@@ -1,6 +1,6 @@
 //! The files that follow an improvement: the best schedule so far, and a line for each leg, on a disk on which each call fails in turn.
 
-use crate::tests::checks::{check_same, check_same_of};
+use crate::tests::checks::{check_holds, check_same, check_same_of};
 use crate::tests::memory_disk::{Contents, Disk};
 use command_line::FileWords;
 use commands::{LegEnded, Watcher};
@@ -9,6 +9,7 @@ use league::circular;
 use moves::Move;
 use program::Follower;
 use std::alloc::{AllocError, Global};
+use std::io::ErrorKind;
 use std::test::Fail;
 
 /// A leg that found no schedule that keeps all hard limits, and one that did.
@@ -177,4 +178,33 @@ fn each_leg_has_a_line_in_the_log(rt: HostRuntime) -> Result<(), Fail> {
         check_same(&rt, &follower.has_failed(), &fails);
     }
     Ok(())
+}
+
+/// The kind of what refuses the file on a disk on which nothing fails.
+fn refusal(alloc: Global) -> Result<Option<ErrorKind>, AllocError> {
+    let contents = Contents::new(alloc);
+    let disk = Disk {
+        contents: &contents,
+        good: u64::MAX,
+        stops: false,
+    };
+    let words = words(alloc, true)?;
+    match Follower::new(&disk, alloc, &words) {
+        Ok(_) => Ok(None),
+        Err(file) => Ok(Some(file.why.kind())),
+    }
+}
+
+#[test]
+fn follower_is_made_with_ample_memory(rt: HostRuntime) -> Result<(), Fail> {
+    check_same(&rt, &refusal(rt.alloc())?, &None);
+    Ok(())
+}
+
+#[test]
+fn follower_tells_refused_memory(rt: HostRuntime) {
+    // if the test's own memory was refused it says nothing
+    if let Ok(found) = refusal(rt.alloc()) {
+        check_holds(&rt, &found, matches!(found, None | Some(ErrorKind::OutOfMemory)));
+    }
 }

@@ -50,13 +50,13 @@ meet-requires-clause-room g c =
     (All-head (IsRunning c.args.setting.start.now w.sent.legs) c.args.leg [] w.running) in
     room_is c.args.leg.turn c.in_ok-chain.field-0 e ∙ sym (ap (λ (b : Book). b.room) w.told_is.lead_is)
 
-pub returns-in_err-meet-clause-under_way : goal.returns-in_err-meet-clause-under_way
-returns-in_err-meet-clause-under_way g c = λ first w.
+pub returns-in_err-leads-clause-under_way : goal.returns-in_err-leads-clause-under_way
+returns-in_err-leads-clause-under_way g c = λ first w.
     let s = c.args.setting in
     let now = c.in_ok-chain.field-0 in
     let e = c.in_ok-chain.ensures s.start.now w.sent.legs c.args.leg.turn
     (All-head (IsRunning s.start.now w.sent.legs) c.args.leg [] w.running) in
-    let p = err_from_is_err_and c.from_residual-in_err-meet.result c.from_residual-in_err-meet.ensures.1 in
+    let p = err_from_is_err_and c.from_residual-in_err-leads.result c.from_residual-in_err-leads.ensures.1 in
     rw (p.1, p.2) (sent_more g.W.Sink.held g.W.Sink.tally s.start.now s.unit s.plan.effort w.sent c.args.told.now c.args.leg.turn now e
     w.told_is c.in_ok-write_leg.ensures.writes.ok c.in_ok-write_leg.ensures.sent)
 
@@ -84,8 +84,8 @@ returns-clause-under_way g c = λ first w.
     let e = c.in_ok-chain.ensures s.start.now w.sent.legs c.args.leg.turn
     (All-head (IsRunning s.start.now w.sent.legs) c.args.leg [] w.running) in
     under_way_more g.W.Sink.held g.W.Sink.tally s.start.now s.unit s.plan.effort c.args.leg c.args.line.now c.go_on.new.self c.args.told.now
-    c.meet.new.self now w e c.in_ok-write_leg.ensures.writes.ok c.in_ok-write_leg.ensures.sent c.in_ok-meet.ensures.lead
-    (c.in_ok-meet.ensures.least) c.in_ok-meet.ensures.legs (λ legs is line. c.in_ok-go_on.ensures.line s.start.now legs is line)
+    c.meet.new.self now w e c.in_ok-write_leg.ensures.writes.ok c.in_ok-write_leg.ensures.sent c.in_ok-leads.ensures.lead
+    (c.in_ok-leads.ensures.least) c.in_ok-leads.ensures.legs (λ legs is line. c.in_ok-go_on.ensures.line s.start.now legs is line)
     c.in_ok-go_on.ensures.left
 
 pub returns-clause-fewer : goal.returns-clause-fewer
