@@ -98,7 +98,10 @@ impl<R: Files + Clock + Eprint> Watcher for Follower<'_, R> {
             let outcome = log.file.add(leg);
             log.note(self.rt, outcome);
         }
-        if let (Some(found), Some(board)) = (&mut self.found, better) {
+        let Some(board) = better else {
+            return;
+        };
+        if let Some(found) = &mut self.found {
             let outcome = found.file.put(board);
             found.note(self.rt, outcome);
         }

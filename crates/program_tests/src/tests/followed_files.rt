@@ -205,6 +205,10 @@ fn follower_is_made_with_ample_memory(rt: HostRuntime) -> Result<(), Fail> {
 fn follower_tells_refused_memory(rt: HostRuntime) {
     // if the test's own memory was refused it says nothing
     if let Ok(found) = refusal(rt.alloc()) {
-        check_holds(&rt, &found, matches!(found, None | Some(ErrorKind::OutOfMemory)));
+        check_holds(
+            &rt,
+            &found,
+            matches!(found, None | Some(ErrorKind::OutOfMemory)),
+        );
     }
 }
