@@ -1,6 +1,7 @@
 pub mod Fault
 pub mod Begun
 pub mod Outcome
+pub mod Verdict
 pub mod Start
 pub mod Play
 pub mod Find

@@ -40,7 +40,8 @@ pub(crate) struct Texts<'a> {
     pub(crate) beginning: Option<Beginning<'a>>,
 }
 
-/// Does what the job asks for on texts that were read, and shows how far a search is if there is a terminal. A report has a verdict.
+/// Does what the job asks for on texts that were read, and shows how far a search is if there is a terminal. A report and an
+/// improvement have a verdict.
 pub(crate) fn perform<T: Threads + Wait + Clock + Sync, E: Write + Send + Drop, W: Sink>(
     console: Console<'_, T, E>,
     job: Job,
@@ -116,7 +117,7 @@ fn perform_at<T: Threads + Wait + Sync, G: Gate + Sync, W: Sink>(
                 seed,
                 effort,
             };
-            without_verdict(improve_on(workplace, input, beginning, sink, plan))
+            with_verdict(improve_on(workplace, input, beginning, sink, plan))
         }
         Job::Find { room, plan } => {
             without_verdict(find_on(workplace, input, beginning, sink, room, plan))

@@ -12,6 +12,7 @@ mod help_texts;
 mod improvements;
 mod judged_schedules;
 mod largest;
+mod least_hard;
 mod memory;
 mod moved;
 mod moved_reports;
