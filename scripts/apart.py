@@ -142,6 +142,27 @@ def away_from_start(games, league):
     return sum(games[pair] != r for pair, r in start_of(league).items())
 
 
+def broken(games, league):
+    """What hard limits the games break, by its name, and how often."""
+    teams, at_most = len(league["teams"]), league.get("at_most", 3)
+    table = cells(games, teams)
+    stretches = (len(list(stretch)) for row in table for _, stretch in groupby(row, key=lambda cell: cell[1]))
+    counts = {"runs": sum(over(length, at_most) for length in stretches)}
+    counts["repeats"] = sum(row[r][0] == row[r + 1][0] for row in table for r in range(len(row) - 1)) // 2
+    if league.get("format") == 2 and league.get("phased"):
+        counts["halves"] = sum(len({r < teams - 1 for r in (games[h, a], games[a, h])}) == 1 for h, a in games if h < a)
+    for i, rule in enumerate(league.get("rules", []), 1):
+        if rule["kind"] == "hard":
+            counts[f"rule {i} {rule['class']}"] = deviation(rule, games, table)
+    return {name: count for name, count in counts.items() if count}
+
+
+def least_hard(games, league):
+    """The line that tells what hard limits the games break."""
+    parts = [f"{name} {count}" for name, count in broken(games, league).items()]
+    return f"least hard {cost(games, league)[1]}" + (": " + ", ".join(parts) if parts else "")
+
+
 def cost(games, league):
     """Travel, hard and soft."""
     distances, at_most, near = league["distances"], league.get("at_most", 3), league.get("near", 0)
@@ -285,7 +306,7 @@ def best_line(board):
 
 
 def found(board):
-    """The lines that a search or an improvement ends with."""
+    """The lines that a search ends with."""
     games = board.states[-1][0] if board.best is None else board.best_games
     yield from history_and_sheet(board, games)
     if "begin" in board.league:

@@ -14,8 +14,11 @@ def league(kind, teams, weight=100, extras=()):
 
 def total(command, *words, given):
     """The total of the best schedule, which the last line names, or None. The words are those of a command and its options."""
-    said = subprocess.run([command, *map(str, words)], input=given, capture_output=True, check=True).stdout.decode()
-    best = said.splitlines()[-1].split()[1]
+    ended = subprocess.run([command, *map(str, words)], input=given, capture_output=True, check=False)
+    # 3 is that of an improvement without a feasible schedule
+    if ended.returncode not in (0, 3):
+        ended.check_returncode()
+    best = ended.stdout.decode().splitlines()[-1].split()[1]
     return None if best == "none" else int(best)
 
 

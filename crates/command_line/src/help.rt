@@ -40,7 +40,9 @@ it has it, then the history that leads to the best";
 pub(crate) const IMPROVE_EXAMPLE: &str =
     "It chooses all numbers by itself, and writes the same whatever the number of workers. It can be
 ended at any time: what is written above a line `----------` is whole, and the last schedule there
-is the best so far. With --output a file has that schedule alone (docs/improve.md).
+is the best so far. With --output a file has that schedule alone (docs/improve.md). The exit status
+is 3 where it finds none that breaks no hard limit; then the line before the last one has what is
+broken.
 
 Example:
   ttp improve --workers 4 --effort 100 < leagues/circular-10.json

@@ -1,3 +1,4 @@
 pub mod Endings
+pub mod Improving
 pub mod Reporting
 pub mod Reports

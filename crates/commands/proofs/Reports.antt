@@ -13,7 +13,7 @@ use Rattle.beginnings.specs.declared.begun.Beginning.{Beginning}
 use Rattle.schedule_texts.specs.Given.{IsVerdict}
 use Rattle.report_formats.specs.declared.format.Format.{Format}
 use Rattle.report_formats.specs.Format.{report_in}
-use Rattle.commands.specs.declared.report_command.Verdict.{Verdict}
+use Rattle.commands.specs.declared.verdict.Verdict.{Verdict}
 use Rattle.commands.specs.Fault.{of_writing}
 use Rattle.commands.specs.Outcome.{value_of, without_value, EndsOn}
 use Rattle.commands.specs.Report.{AnswersReportOn, IsToldOf}

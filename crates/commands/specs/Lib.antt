@@ -2,6 +2,7 @@ pub mod Fault
 pub mod Begun
 pub mod Hinted
 pub mod Outcome
+pub mod Verdict
 pub mod Start
 pub mod Play
 pub mod Find

@@ -1,5 +1,5 @@
 -- What `ttp report` answers.
-use Rattle.std.specs.Prelude.{◌≡◌, ℕ, Bool, true, false, List, Option, Some, None, Result, Ok, Err, codes}
+use Rattle.std.specs.Prelude.{◌≡◌, ℕ, List, Option, Some, None, Result, Ok, Err, codes}
 use Rattle.fixtures.specs.Games.{Games}
 use Rattle.advice.specs.Remarks.{remarks_on}
 use Rattle.advice.specs.declared.hint.Hint.{Hint}
@@ -13,14 +13,10 @@ use Rattle.report_formats.specs.Format.{report_in}
 use Rattle.beginnings.specs.declared.begun.Beginning.{Beginning}
 use Rattle.commands.specs.declared.fault.ProgramFault.{ProgramFault}
 use Rattle.commands.specs.declared.fault.ProgramFault.TheVariants.{League, LeagueAt, Begin, NoSheet, Memory}
-use Rattle.commands.specs.declared.report_command.Verdict.{Verdict}
-use Rattle.commands.specs.declared.report_command.Verdict.TheVariants.{Feasible, Infeasible}
+use Rattle.commands.specs.declared.verdict.Verdict.{Verdict}
 use Rattle.commands.specs.Begun.{Begins, BeginsNot}
 use Rattle.commands.specs.Hinted.{IsAdvice}
-
-abbrev pub verdict_of : Bool → Verdict
-verdict_of true = Feasible
-verdict_of false = Infeasible
+use Rattle.commands.specs.Verdict.{verdict_of}
 
 -- the verdict on the games, if one is told
 abbrev pub IsToldOf : LeagueData → Option Games → Option Verdict → Type 0

@@ -4,9 +4,11 @@ ghost use Rattle.std.specs.Prelude.{◌≤◌, IfSome, option_map};
 ghost use Rattle.league.specs.Limits.{max_weight};
 ghost use Rattle.policy.specs.Limits.{most_effort};
 ghost use Rattle.commands.specs.Improve.{EndsImprove, EndsImproveOn};
+ghost use Rattle.commands.specs.Outcome.{value_of, without_value};
 
 use crate::begun::begun_league;
 use crate::fault::ProgramFault;
+use crate::verdict::Verdict;
 use beginnings::Beginning;
 use improvement::{ImprovePlan, NoWatcher, Watcher};
 use search::{Gate, Workplace};
@@ -17,7 +19,8 @@ use streams::{Sink, Source, read_all};
 /// Reads a league to the end of the source, anneals its schedule in the legs of the policy, and writes a line for each leg and each
 /// better schedule as soon as it is known, then the history that leads to the best. That history, given to `play` as a script,
 /// leads to the same best. Nothing is written before the faults of reading and a wrong number of workers are past. After any
-/// other fault what was written stands. The workplace's gate is told how far the legs are.
+/// other fault what was written stands. The workplace's gate is told how far the legs are. The verdict tells whether a feasible
+/// schedule was found.
 ///
 /// The outcome is that of [`improve_from`]. What the source became is some later state of it, which nobody can ask.
 pub fn improve<T: Threads + Wait + Sync, G: Gate + Sync, R: Source + Drop, W: Sink>(
@@ -25,11 +28,12 @@ pub fn improve<T: Threads + Wait + Sync, G: Gate + Sync, R: Source + Drop, W: Si
     mut source: R,
     sink: &mut W,
     plan: ImprovePlan,
-) -> Result<(), ProgramFault>
+) -> Result<Verdict, ProgramFault>
     requires least { 1 ≤ plan.effort }
     requires most { plan.effort ≤ most_effort }
     ensures { (after : R)
-        × EndsImprove R.left R.tally W.held W.tally plan source after sink.old sink.new result }
+        × EndsImprove R.left R.tally W.held W.tally plan (value_of result)
+        source after sink.old sink.new (without_value result) }
 {
     improve_from(workplace, &mut source, sink, plan)
 }
@@ -40,10 +44,11 @@ pub fn improve_from<T: Threads + Wait + Sync, G: Gate + Sync, R: Source, W: Sink
     source: &mut R,
     sink: &mut W,
     plan: ImprovePlan,
-) -> Result<(), ProgramFault>
+) -> Result<Verdict, ProgramFault>
     requires least { 1 ≤ plan.effort }
     requires most { plan.effort ≤ most_effort }
-    ensures { EndsImprove R.left R.tally W.held W.tally plan source.old source.new sink.old sink.new result }
+    ensures { EndsImprove R.left R.tally W.held W.tally plan (value_of result)
+        source.old source.new sink.old sink.new (without_value result) }
 {
     let input = read_all(workplace.alloc, source)?;
     improve_on(workplace, &input, None, sink, plan, NoWatcher)
@@ -58,13 +63,14 @@ pub fn improve_on<T: Threads + Wait + Sync, G: Gate + Sync, W: Sink, V: Watcher 
     sink: &mut W,
     plan: ImprovePlan,
     watcher: V,
-) -> Result<(), ProgramFault>
+) -> Result<Verdict, ProgramFault>
     requires least { 1 ≤ plan.effort }
     requires most { plan.effort ≤ most_effort }
     requires near { IfSome beginning (λ b. b.now.near ≤ max_weight) }
-    ensures { EndsImproveOn W.held W.tally plan league.now (option_map (λ b. b.now) beginning.entry) sink.old sink.new result }
+    ensures { EndsImproveOn W.held W.tally plan (value_of result) league.now (option_map (λ b. b.now) beginning.entry)
+        sink.old sink.new (without_value result) }
 {
     let league = begun_league(workplace.alloc, league, beginning)?;
-    improvement::improve(workplace, league, plan, sink, watcher)?;
-    Ok(())
+    let best = improvement::improve(workplace, league, plan, sink, watcher)?;
+    Ok(Verdict::of(best.is_some()))
 }

@@ -5,11 +5,12 @@ ghost use Rattle.league.specs.Limits.{max_weight};
 ghost use Rattle.std.specs.Str.Lines.{lines};
 ghost use Rattle.league.specs.League.{league_of};
 ghost use Rattle.commands.specs.Outcome.{value_of, without_value, Ends, EndsOn};
-ghost use Rattle.commands.specs.Report.{verdict_of, AnswersReport, AnswersReportOn, IsRefusal};
+ghost use Rattle.commands.specs.Report.{AnswersReport, AnswersReportOn, IsRefusal};
 
 use crate::begun::begun_at;
 use crate::fault::{ProgramFault, after_writing};
 use crate::hints::hint_on;
+use crate::verdict::Verdict;
 use advice::remarks_on;
 use beginnings::Beginning;
 use league::{LeagueFault, read_league};
@@ -19,27 +20,6 @@ use schedule_texts::judge;
 use std::alloc::Global;
 use streams::{Sink, Source, read_all};
 use texts::split_at_line;
-
-/// What a report comes to.
-#[derive(Clone, Copy, Debug, PartialEq, Eq)]
-pub enum Verdict {
-    /// The schedule is a double round robin that breaks no hard limit of the league.
-    Feasible,
-    /// It breaks one, or is no double round robin of the league's teams.
-    Infeasible,
-}
-
-impl Verdict {
-    fn of(feasible: bool) -> Verdict
-        ensures { result ≡ verdict_of feasible }
-    {
-        if feasible {
-            Verdict::Feasible
-        } else {
-            Verdict::Infeasible
-        }
-    }
-}
 
 /// Reads a league, a line `sheet` and a schedule to the end of the source, and writes the report: the games and what they
 /// cost in the format if they are a double round robin of the league's teams, otherwise what is wrong with them, as text. Behind

@@ -4,13 +4,15 @@ use Rattle.std.proofs.lemmas.Bool.{cond-true}
 use Rattle.std.specs.Borrow.{MutBor}
 use Rattle.std.specs.Io.KnownBytes.{Appends}
 use Rattle.league.specs.League.{IsLeague, LeagueData}
+use Rattle.fixture_board.specs.declared.cost.Best.{Best}
+use Rattle.fixture_board.specs.History.{best_of}
 use Rattle.fixture_board.specs.Record.{Book, book}
 use Rattle.streams.specs.declared.buffered.BufferedSink.{BufferedSink}
 use Rattle.streams.specs.declared.tally.Tally.{Tally}
 use Rattle.streams.specs.Writing.{Adds, IsFreshOver, Stops, waiting_in}
 use Rattle.streams.proofs.Pieces.{Adds-stops, Adds-then}
 use Rattle.streams.proofs.Sendings.{AppendsAllBut-all}
-use Rattle.texts.specs.SearchText.{PlaysBack, found_text}
+use Rattle.texts.specs.SearchText.{PlaysBack, improved_text}
 use Rattle.texts.proofs.ForCallers.{plays_back}
 use Rattle.annealing.specs.declared.unit.Unit.{Unit as Measure}
 use Rattle.improvement.specs.declared.told.Told.{Told}
@@ -25,7 +27,7 @@ use Rattle.improvement.specs.UnderWay.{EndsBy, HasRunAll, HasStopped, HasTold, H
 use Rattle.improvement.proofs.Leads.{lead_legal}
 
 ending_is : (league : LeagueData) (unit : Measure) (effort : ℕ) (legs : List LegRun) → steps_in legs ≡ effort →
-    improve_text league unit effort legs ≡ legs_text league unit legs ++ found_text league (lead_of league legs)
+    improve_text league unit effort legs ≡ legs_text league unit legs ++ improved_text league (lead_of league legs)
 unfolding improve_text
 ending_is league unit effort legs all =
     ap (λ (t : List ℕ). legs_text league unit legs ++ t) (cond-true _ _ _ (eq-eqb (steps_in legs) effort all))
@@ -33,28 +35,29 @@ ending_is league unit effort legs all =
 module _ {W : Type 0} (held : W → Option (List ℕ)) (tally : W → Tally) (start : Book) (unit : Measure) (effort : ℕ) where
   -- the texts of all legs, and the text of the board that leads
   text_is : (a x : BufferedSink W) (told : Told) (all : HasRunAll held tally start unit effort a x told) →
-      legs_text start.league unit all.sent.legs ++ found_text told.lead.league told.lead.history ≡
+      legs_text start.league unit all.sent.legs ++ improved_text told.lead.league told.lead.history ≡
       improve_text start.league unit effort all.sent.legs
   text_is a x told all =
       ap (λ (t : List ℕ). legs_text start.league unit all.sent.legs ++ t)
-      (ap (λ (b : Book). found_text b.league b.history) all.told_is.lead_is) ∙
+      (ap (λ (b : Book). improved_text b.league b.history) all.told_is.lead_is) ∙
       sym (ending_is start.league unit effort all.sent.legs all.all)
 
   pub end_stops : {a x y : BufferedSink W} (told : Told) → HasRunAll held tally start unit effort a x told →
-      Stops held tally x y (found_text told.lead.league told.lead.history) → HasStopped held tally start unit effort a y
+      Stops held tally x y (improved_text told.lead.league told.lead.history) → HasStopped held tally start unit effort a y
   end_stops {a} {x} {y} told all stops = record {
     legs = all.sent.legs;
     are = all.sent.are;
     stops = subst (Stops held tally a y) (text_is a x told all) (Adds-stops all.sent.sends.adds stops);
   }
 
-  pub end_written : {a x y : BufferedSink W} (told : Told) → HasRunAll held tally start unit effort a x told →
-      Adds held tally x y (found_text told.lead.league told.lead.history) → waiting_in y ≡ [] →
-      HasWritten held tally start unit effort a y tt
-  end_written {a} {x} {y} told all adds none = record {
+  pub end_written : {a x y : BufferedSink W} (told : Told) (best : Option Best) → HasRunAll held tally start unit effort a x told →
+      Adds held tally x y (improved_text told.lead.league told.lead.history) → waiting_in y ≡ [] →
+      best ≡ best_of told.lead.league told.lead.history → HasWritten held tally start unit effort a y best
+  end_written {a} {x} {y} told best all adds none best_is = record {
     legs = all.sent.legs;
     are = all.sent.are;
     all = all.all;
+    best_is = best_is ∙ ap (λ (b : Book). best_of b.league b.history) all.told_is.lead_is;
     sends = record { adds = subst (Adds held tally a y) (text_is a x told all) (Adds-then all.sent.sends.adds adds); sent = none };
   }
 
@@ -76,10 +79,10 @@ module _ {W : Type 0} (held : W → Option (List ℕ)) (tally : W → Tally) (st
   again legs are =
       plays_back start.league (room_of plan.effort) _ limits (lead_legal start.league (room_of plan.effort) legs (in_room legs are))
 
-  ends_at : (a b : BufferedSink W) (r : Result (Unit {0}) ImproveFault) → IsFreshOver sink a →
+  ends_at : (a b : BufferedSink W) (r : Result (Option Best) ImproveFault) → IsFreshOver sink a →
       EndsBy held tally start unit plan.effort a b (HasWritten held tally start unit plan.effort a b) r →
       Improves held tally start.league plan sink.now b.sink.now r
-  ends_at a b (Ok done) fresh ends = (
+  ends_at a b (Ok best) fresh ends = (
     workers,
     improve_text start.league unit plan.effort ends.legs,
     record {
@@ -89,6 +92,7 @@ module _ {W : Type 0} (held : W → Option (List ℕ)) (tally : W → Tally) (st
       are = in_room ends.legs ends.are;
       all = ends.all;
       text_is = refl;
+      best_is = ends.best_is;
       again = again ends.legs ends.are;
     },
     sent a b _ fresh ends.sends,
@@ -111,7 +115,7 @@ module _ {W : Type 0} (held : W → Option (List ℕ)) (tally : W → Tally) (st
   )
 
   -- at another name of the sink
-  pub improves : (a b : BufferedSink W) (r : Result (Unit {0}) ImproveFault) (after : W) → IsFreshOver sink a →
+  pub improves : (a b : BufferedSink W) (r : Result (Option Best) ImproveFault) (after : W) → IsFreshOver sink a →
       EndsBy held tally start unit plan.effort a b (HasWritten held tally start unit plan.effort a b) r → b.sink.now ≡ after →
       Improves held tally start.league plan sink.now after r
   improves a b r after fresh ends same =

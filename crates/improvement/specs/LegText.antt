@@ -11,7 +11,7 @@ use Rattle.policy.specs.declared.legs.Course.TheVariants.{Cools, Heats}
 use Rattle.policy.specs.declared.legs.LegEnd.{LegEnd}
 use Rattle.policy.specs.Legs.{kinds_of}
 use Rattle.annealing.specs.declared.unit.Unit.{Unit as Measure}
-use Rattle.texts.specs.SearchText.{found_text}
+use Rattle.texts.specs.SearchText.{improved_text}
 use Rattle.texts.specs.Sheet.{sheet_of}
 use Rattle.improvement.specs.declared.leg_text.LegTold.{LegTold}
 use Rattle.improvement.specs.Legs.{LegRun, lead_of, least_told, steps_in}
@@ -95,9 +95,9 @@ legs_text league unit [] = []
 legs_text league unit (run ∷ before) =
     legs_text league unit before ++ leg_text league unit (told_as (length before + 1) run) (least_told league before) run.history
 
--- and once they have taken all steps: what a search text ends with, of the history that all legs together come to
+-- and once they have taken all steps: what an improvement ends with, of the history that all legs together come to
 abbrev pub ending : LeagueData → ℕ → List LegRun → List ℕ
-ending league effort legs = if steps_in legs == effort then found_text league (lead_of league legs) else []
+ending league effort legs = if steps_in legs == effort then improved_text league (lead_of league legs) else []
 
 unfoldable pub improve_text : LeagueData → Measure → ℕ → List LegRun → List ℕ
 improve_text league unit effort legs = legs_text league unit legs ++ ending league effort legs

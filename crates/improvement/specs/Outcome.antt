@@ -6,6 +6,8 @@ use Rattle.streams.specs.Limits.{write_limit}
 use Rattle.streams.specs.Sending.{AppendsPrefix}
 use Rattle.streams.specs.Tally.{FailsWriting}
 use Rattle.streams.specs.declared.tally.Tally.{Tally}
+use Rattle.fixture_board.specs.declared.cost.Best.{Best}
+use Rattle.fixture_board.specs.History.{best_of}
 use Rattle.texts.specs.SearchText.{PlaysBack}
 use Rattle.annealing.specs.declared.unit.Unit.{Unit as Measure}
 use Rattle.annealing.specs.Walks.{IsUnitOf}
@@ -15,15 +17,16 @@ use Rattle.improvement.specs.declared.plan.ImproveFault.TheVariants.{Workers, Me
 use Rattle.improvement.specs.Legs.{AreLegs, IsWorkers, LegRun, lead_of, room_of, steps_in}
 use Rattle.improvement.specs.LegText.{improve_text, legs_text}
 
--- The text of an improvement, of legs that took all its steps. Temperatures are told by the league's unit. The history in it, given as a script, leads to the
--- same games and the same best
-pub record IsImproveText (league : LeagueData) (plan : ImprovePlan) (text : List ℕ) : Type 0 where
+-- The text of an improvement, of legs that took all its steps, and the best version of the history in it. Temperatures are told by the
+-- league's unit. The history, given as a script, leads to the same games and the same best
+pub record IsImproveText (league : LeagueData) (plan : ImprovePlan) (best : Option Best) (text : List ℕ) : Type 0 where
   pub unit : Measure
   pub unit_is : IsUnitOf league unit
   pub legs : List LegRun
   pub are : AreLegs league (room_of plan.effort) legs
   pub all : steps_in legs ≡ plan.effort
   pub text_is : text ≡ improve_text league unit plan.effort legs
+  pub best_is : best ≡ best_of league (lead_of league legs)
   pub again : PlaysBack league (room_of plan.effort) (lead_of league legs)
 
 -- what there is to write after some legs
@@ -46,8 +49,8 @@ pub record AreLegTexts (league : LeagueData) (plan : ImprovePlan) (text : List �
 module _ {W : Type 0} (held : W → Option (List ℕ)) (pushes : W → Tally) (league : LeagueData) (plan : ImprovePlan) (before after : W) where
   -- The text went out whole on success, and a prefix of it before a failed write. Where memory ran out exactly the texts of the legs
   -- that had been told went out, or nothing before the first one, and nothing if the number of workers is wrong
-  abbrev pub Improves : Result Unit ImproveFault → Type 0
-  Improves (Ok done) = IsWorkers plan × (text : List ℕ) × IsImproveText league plan text × Appends (held before) (held after) text
+  abbrev pub Improves : Result (Option Best) ImproveFault → Type 0
+  Improves (Ok best) = IsWorkers plan × (text : List ℕ) × IsImproveText league plan best text × Appends (held before) (held after) text
   Improves (Err Workers) = (¬ IsWorkers plan) × (after ≡ before)
   Improves (Err Memory) = IsWorkers plan
       × ((after ≡ before) ⊎ ((text : List ℕ) × AreLegTexts league plan text × Appends (held before) (held after) text))

@@ -1,5 +1,7 @@
 -- An improvement under way, and how its parts end.
 use Rattle.std.specs.Prelude.{◌≡◌, ℕ, ◌+◌, List, [], length, sum_by, All, Option, Result, Ok, Err}
+use Rattle.fixture_board.specs.declared.cost.Best.{Best}
+use Rattle.fixture_board.specs.History.{best_of}
 use Rattle.fixture_board.specs.Record.{Book, book}
 use Rattle.streams.specs.declared.buffered.BufferedSink.{BufferedSink}
 use Rattle.streams.specs.declared.tally.Tally.{Tally}
@@ -48,11 +50,12 @@ module _ {W : Type 0} (held : W → Option (List ℕ)) (tally : W → Tally) (st
     pub all : steps_in sent.legs ≡ effort
     pub told_is : HasTold start sent.legs told
 
-  -- the whole text was written and sent
-  pub record HasWritten (done : Unit {0}) : Type 0 where
+  -- the whole text was written and sent, and this is the best version of the history in it
+  pub record HasWritten (best : Option Best) : Type 0 where
     pub legs : List LegRun
     pub are : AreLegs start.league start.room legs
     pub all : steps_in legs ≡ effort
+    pub best_is : best ≡ best_of start.league (lead_of start.league legs)
     pub sends : Sends (improve_text start.league unit effort legs)
 
   -- a write failed in the text of some legs

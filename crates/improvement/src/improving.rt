@@ -19,23 +19,25 @@ use crate::setting::{Setting, start_board};
 use crate::told::Told;
 use crate::watcher::{LegEnded, Watcher};
 use annealing::{Annealed, measure};
+use fixture_board::Best;
 use league::League;
 use search::{Gate, MAX_WORKERS, Workplace};
 use std::sync::Wait;
 use std::thread;
 use std::thread::{Scope, Threads};
 use streams::{BufferedSink, Sink};
-use texts::write_found;
+use texts::write_improved;
 
 /// Runs the legs of the policy on chains of the league, and writes each better schedule as soon as it is known. The legs pass the
-/// workplace's gate, which is told how far they are. The watcher is told of each leg that has ended.
+/// workplace's gate, which is told how far they are. The watcher is told of each leg that has ended. Answers with the best version of the
+/// history that was written in the end.
 pub fn improve<T: Threads + Wait + Sync, G: Gate + Sync, W: Sink, V: Watcher + Drop>(
     workplace: Workplace<'_, T, G>,
     league: League,
     plan: ImprovePlan,
     sink: &mut W,
     watcher: V,
-) -> Result<(), ImproveFault>
+) -> Result<Option<Best>, ImproveFault>
     requires least { 1 ≤ plan.effort }
     requires most { plan.effort ≤ most_effort }
     ensures { Improves W.held W.tally league plan sink.old sink.new result }
@@ -64,7 +66,7 @@ fn in_scope<'w, T: Threads + Wait + Sync, G: Gate + Sync, W: Sink, V: Watcher + 
     setting: &Setting<'_, T, G>,
     sink: &'w mut W,
     watcher: V,
-) -> (Result<(), ImproveFault>, &'w mut W)
+) -> (Result<Option<Best>, ImproveFault>, &'w mut W)
     requires setting { IsSetting setting.now }
     ensures same { result.1.ghost_name ≡ sink.entry.ghost_name }
     ensures ended { Improves W.held W.tally setting.now.start.now.league setting.now.plan sink.entry.now result.1.now result.0 }
@@ -72,7 +74,7 @@ fn in_scope<'w, T: Threads + Wait + Sync, G: Gate + Sync, W: Sink, V: Watcher + 
     thread::scope(
         thread::scope_env(),
         setting.workplace.rt,
-        move |scope| -> (Result<(), ImproveFault>, &mut W)
+        move |scope| -> (Result<Option<Best>, ImproveFault>, &mut W)
             requires setting { IsSetting setting.now }
             ensures same { result.1.ghost_name ≡ sink.entry.ghost_name }
             ensures ended { Improves W.held W.tally setting.entry.now.start.now.league setting.entry.now.plan sink.entry.now result.1.now result.0 }
@@ -86,7 +88,7 @@ fn within<'s, 'w, E, T: Threads + Wait + Sync, G: Gate + Sync, W: Sink, V: Watch
     setting: Setting<'s, T, G>,
     sink: &'w mut W,
     mut watcher: V,
-) -> (Result<(), ImproveFault>, &'w mut W)
+) -> (Result<Option<Best>, ImproveFault>, &'w mut W)
     requires setting { IsSetting setting }
     ensures same { result.1.ghost_name ≡ sink.entry.ghost_name }
     ensures ended { Improves W.held W.tally setting.entry.start.now.league setting.entry.plan sink.entry.now result.1.now result.0 }
@@ -100,22 +102,22 @@ fn take_back<W>(sink: &mut W)
     ensures { sink.new ≡ sink.old }
 {}
 
-/// Runs all legs, and writes what they come to, each as it has ended and then all together.
+/// Runs all legs, and writes what they come to, each as it has ended and then all together. Answers with the best of that.
 fn run_and_write<'s, E, T: Threads + Wait + Sync, G: Gate + Sync, W: Sink, V: Watcher>(
     scope: &Scope<'s, E>,
     setting: Setting<'s, T, G>,
     out: &mut BufferedSink<'_, W>,
     watcher: &mut V,
-) -> Result<(), ImproveFault>
+) -> Result<Option<Best>, ImproveFault>
     requires setting { IsSetting setting }
     requires none { waiting_in out.old ≡ [] }
     ensures { EndsBy W.held W.tally setting.entry.start.now setting.entry.unit setting.entry.plan.effort out.old out.new
         (HasWritten W.held W.tally setting.entry.start.now setting.entry.unit setting.entry.plan.effort out.old out.new) result }
 {
     let told = run_all(scope, setting, out, watcher)?;
-    write_found(out, &told.lead)?;
+    write_improved(out, &told.lead)?;
     out.flush()?;
-    Ok(())
+    Ok(told.lead.best())
 }
 
 /// Runs all legs, and writes what each comes to as it has ended.

@@ -5,6 +5,7 @@ mod legs;
 
 ghost use Rattle.std.specs.Prelude.{◌≤◌};
 
+use fixture_board::Best;
 use improvement::{ImproveFault, ImprovePlan, NoWatcher, improve};
 use league::{League, circular, read_league};
 use search::{NoGate, Workplace};
@@ -46,7 +47,7 @@ fn asked(workers: u32, effort: u64) -> ImprovePlan
 /// What an improvement came to: how it ended, how often it wrote, and what went out.
 #[derive(Debug, Drop, PartialEq)]
 struct Improved {
-    ended: Result<(), ImproveFault>,
+    ended: Result<Option<Best>, ImproveFault>,
     calls: u64,
     text: Vec<u8>,
 }

@@ -11,7 +11,7 @@ use Rattle.command_line.specs.declared.job.Job.{Job}
 use Rattle.command_line.specs.declared.job.Job.TheVariants.{Start, Play, Improve, Find, Report}
 use Rattle.commands.specs.declared.fault.ProgramFault.{ProgramFault}
 use Rattle.commands.specs.declared.fault.ProgramFault.TheVariants.{Read, TooLong, League, LeagueAt, Begin, NoSheet, Room, Workers, Spawn, Receipts, Write, Memory}
-use Rattle.commands.specs.declared.report_command.Verdict.{Verdict}
+use Rattle.commands.specs.declared.verdict.Verdict.{Verdict}
 use Rattle.commands.specs.Fault.{of_reading}
 use Rattle.commands.specs.Outcome.{EndsBy, EndsRead}
 use Rattle.program.specs.Program.{EndsJob, EndsJobOn}

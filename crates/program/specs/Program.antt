@@ -12,8 +12,8 @@ use Rattle.streams.specs.declared.tally.Tally.{Tally}
 use Rattle.texts.specs.Input.{lines_after, text_before}
 use Rattle.beginnings.specs.declared.begun.Beginning.{Beginning}
 use Rattle.commands.specs.declared.fault.ProgramFault.{ProgramFault}
-use Rattle.commands.specs.declared.report_command.Verdict.{Verdict}
-use Rattle.commands.specs.declared.report_command.Verdict.TheVariants.{Feasible, Infeasible}
+use Rattle.commands.specs.declared.verdict.Verdict.{Verdict}
+use Rattle.commands.specs.declared.verdict.Verdict.TheVariants.{Feasible, Infeasible}
 use Rattle.commands.specs.Outcome.{without_value, EndsFrom, EndsOn}
 use Rattle.commands.specs.Start.{AnswersStartOn}
 use Rattle.commands.specs.Play.{AnswersPlayOn}
@@ -26,14 +26,15 @@ abbrev pub told_in : Result (Option Verdict) ProgramFault → Option Verdict
 told_in (Ok verdict) = verdict
 told_in (Err fault) = None
 
--- whether the job is a report
-abbrev pub is_report : Job → Bool
-is_report (Report format) = true
-is_report job = false
+-- whether the job ends with a verdict: a report or an improvement
+abbrev pub is_judged : Job → Bool
+is_judged (Report format) = true
+is_judged (Improve workers seed effort) = true
+is_judged job = false
 
--- a job that ended well has a verdict if it is a report
+-- a job that ended well has a verdict if it is a report or an improvement, and else none
 abbrev pub HasVerdict : Job → Result (Option Verdict) ProgramFault → Type 0
-HasVerdict job outcome = IfOk outcome (λ verdict. is_some verdict ≡ is_report job)
+HasVerdict job outcome = IfOk outcome (λ verdict. is_some verdict ≡ is_judged job)
 
 -- the league's text and the lines beside it: all of an input and of the second text if that was read by itself, otherwise what
 -- stands before and after the word
@@ -54,7 +55,7 @@ module _ {W : Type 0} (held : W → Option (List ℕ)) (pushes : W → Tally) (i
   EndsJobOn (Play room) verdict = EndsOn held pushes
       (AnswersPlayOn room (league_part (codes "script") input second) (unwrap_or (lines_part (codes "script") input second) []) beginning)
   EndsJobOn (Improve workers seed effort) verdict =
-      EndsImproveOn held pushes (record { workers = workers; seed = seed; effort = effort }) input beginning
+      EndsImproveOn held pushes (record { workers = workers; seed = seed; effort = effort }) verdict input beginning
   EndsJobOn (Find room plan) verdict = EndsOn held pushes (AnswersFindOn room plan input beginning)
   EndsJobOn (Report format) verdict = EndsOn held pushes
       (AnswersReportOn format verdict (league_part (codes "sheet") input second) (lines_part (codes "sheet") input second) beginning)
@@ -117,10 +118,10 @@ EndsWithFiles held pushes job files kept before after status = ((status ≡ 1) �
     ⊎ ((input : List ℕ) × (second : Option (List ℕ)) × (from : Option (List ℕ)) × (of_job : ℕ)
     × DoesJobOn held pushes job kept input second from before after of_job × IsStatusBehind files of_job status)
 
--- the words name a report
-abbrev pub IsReport : Option Job → Type 0
-IsReport None = ⊥
-IsReport (Some job) = is_report job ≡ true
+-- the words name a report or an improvement
+abbrev pub IsJudged : Option Job → Type 0
+IsJudged None = ⊥
+IsJudged (Some job) = is_judged job ≡ true
 
 -- the exit status of a fault on the command line: 2, but 1 if memory ran out; and 0 after help and the version or, if they can't be
 -- written, 1

@@ -3,7 +3,7 @@
 ghost use Rattle.std.specs.Prelude.{OnErr, OnOk};
 ghost use Rattle.std.specs.Io.KnownBytes.{Appends};
 ghost use Rattle.streams.specs.Sending.{AppendsPrefix};
-ghost use Rattle.texts.specs.SearchText.{found_text};
+ghost use Rattle.texts.specs.SearchText.{improved_text};
 
 use fixture_board::Board;
 use std::alloc::Global;
@@ -12,7 +12,7 @@ use std::io::ErrorKind;
 use std::rt::Files;
 use std::{fs, io};
 use streams::{BufferedSink, Sink, WriteFault, WriterSink};
-use texts::write_found;
+use texts::write_improved;
 
 /// A file that has the best schedule so far, behind the history that leads to it, and is whole at any time: the next text is written
 /// beside it, and takes its place once it is on the disk.
@@ -66,11 +66,11 @@ fn is_no_file(files: &impl Files, name: &str) -> bool {
 
 /// Writes the end of an improvement in which the board's history leads.
 fn write_end<W: Sink>(sink: &mut W, board: &Board) -> Result<(), WriteFault>
-    ensures ok { OnOk result (Appends (W.held sink.old) (W.held sink.new) (found_text board.now.league board.now.history)) }
+    ensures ok { OnOk result (Appends (W.held sink.old) (W.held sink.new) (improved_text board.now.league board.now.history)) }
     ensures prefix { OnErr result (AppendsPrefix (W.held sink.old) (W.held sink.new)
-        (found_text board.now.league board.now.history)) }
+        (improved_text board.now.league board.now.history)) }
 {
     let mut out = BufferedSink::new(sink);
-    write_found(&mut out, board)?;
+    write_improved(&mut out, board)?;
     out.flush()
 }

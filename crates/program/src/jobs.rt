@@ -40,8 +40,8 @@ pub(crate) struct Texts<'a> {
     pub(crate) beginning: Option<Beginning<'a>>,
 }
 
-/// Does what the job asks for on texts that were read, and shows how far a search is if there is a terminal. A report has a verdict, and
-/// the watcher is told of the legs of an improvement.
+/// Does what the job asks for on texts that were read, and shows how far a search is if there is a terminal. A report and an
+/// improvement have a verdict, and the watcher is told of the legs of an improvement.
 pub(crate) fn perform<
     T: Threads + Wait + Clock + Sync,
     E: Write + Send + Drop,
@@ -124,7 +124,7 @@ fn perform_at<T: Threads + Wait + Sync, G: Gate + Sync, W: Sink, V: Watcher>(
                 seed,
                 effort,
             };
-            without_verdict(improve_on(workplace, input, beginning, sink, plan, watcher))
+            with_verdict(improve_on(workplace, input, beginning, sink, plan, watcher))
         }
         Job::Find { room, plan } => {
             without_verdict(find_on(workplace, input, beginning, sink, room, plan))

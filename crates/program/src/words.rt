@@ -11,7 +11,7 @@ ghost use Rattle.command_line.specs.CommandLine.{beginning_of_words, files_of_wo
 ghost use Rattle.command_line.specs.Files.{Files, files_of};
 ghost use Rattle.command_line.specs.declared.job.Job.{Job as Named};
 ghost use Rattle.league.specs.Limits.{max_weight};
-ghost use Rattle.program.specs.Program.{is_followed, is_plain, is_report, status_of, DoesJob, DoesJobOn, EndsWithFiles, IsReport, IsStatusOf};
+ghost use Rattle.program.specs.Program.{is_followed, is_judged, is_plain, status_of, DoesJob, DoesJobOn, EndsWithFiles, IsJudged, IsStatusOf};
 ghost use Rattle.program.specs.Program.{IsStatusBehind};
 
 use crate::follower::Follower;
@@ -33,12 +33,13 @@ use streams::{ReaderSource, Sink, Source, WriterSink, read_all};
 /// The exit status of a fault on the command line.
 const MISUSE: u8 = 2;
 
-/// The exit status of a report on a schedule that is no double round robin, or that breaks a hard limit.
+/// The exit status of a report on a schedule that is no double round robin, or that breaks a hard limit, and of an improvement
+/// that found no schedule that breaks none.
 const INFEASIBLE: u8 = 3;
 
 /// Does what the program's words ask for, between standard input and output. The exit status is 0 on success, 1 after a
-/// fault, 2 if the words are wrong, and 3 after a report on a schedule that isn't feasible. A search shows how far it is
-/// if standard error is a terminal.
+/// fault, 2 if the words are wrong, and 3 after a report on a schedule that isn't feasible or an improvement that found none
+/// that is. A search shows how far it is if standard error is a terminal.
 pub fn run<R, E>(rt: &R, error: E) -> ExitCode
 where
     R: Runtime + AllocGlobal + Threads + Wait + Sync,
@@ -81,7 +82,7 @@ fn answer<
         → EndsWithFiles W.held W.tally job files kept sink.old sink.new (exit_status result) }
     ensures quiet { (kind : Kind) → words_fault (map string_bytes words.now) ≡ kind ∷ [] → sink.new ≡ sink.old }
     ensures taken { words_fault (map string_bytes words.now) ≡ [] → exit_status result ≢ 2 }
-    ensures infeasible { exit_status result ≡ 3 → IsReport (job_of_words (map string_bytes words.now)) }
+    ensures infeasible { exit_status result ≡ 3 → IsJudged (job_of_words (map string_bytes words.now)) }
     ensures shown { words_fault (map string_bytes words.now) ≡ ErrorKind.DisplayHelp ∷ [] → exit_status result ≤ 1 }
     ensures told { words_fault (map string_bytes words.now) ≡ ErrorKind.DisplayVersion ∷ [] → exit_status result ≤ 1 }
     ensures wrong { (kind : Kind) → words_fault (map string_bytes words.now) ≡ kind ∷ []
@@ -114,7 +115,7 @@ fn respond<
     ensures quiet { OnErr request (sink.new ≡ sink.old) }
     ensures status { IfErr request (λ error. IsStatusOf (kind_of error) (exit_status result)) }
     ensures taken { OnOk request (exit_status result ≢ 2) }
-    ensures infeasible { IfOk request (λ r. exit_status result ≡ 3 → is_report r.job ≡ true) }
+    ensures infeasible { IfOk request (λ r. exit_status result ≡ 3 → is_judged r.job ≡ true) }
     ensures few { OnErr request (exit_status result ≤ 2) }
     ensures most { exit_status result ≤ 3 }
 {

@@ -13,6 +13,7 @@ mod help_texts;
 mod improvements;
 mod judged_schedules;
 mod largest;
+mod least_hard;
 mod memory;
 mod memory_disk;
 mod moved;

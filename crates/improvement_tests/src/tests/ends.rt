@@ -52,7 +52,7 @@ fn check_failing<T: Threads + Wait + Sync + Abort>(
 #[test]
 fn failed_writes_leave_fronts_of_the_text(rt: HostRuntime) {
     let whole = ended(&rt, rt.alloc(), 1, &[]).expect(&rt, "memory");
-    check_same(&rt, &whole.ended, &Ok(()));
+    check_same(&rt, &whole.ended.is_ok(), &true);
     for writes in 1..whole.calls {
         check_failing(&rt, rt.alloc(), writes, &whole);
     }
@@ -112,7 +112,9 @@ fn wrong_numbers_of_workers_write_nothing(rt: HostRuntime) {
 fn without_a_feasible_schedule_there_is_no_best(rt: HostRuntime) {
     let league = impossible(&rt, rt.alloc());
     let found = improvement_of(&rt, rt.alloc(), league, asked(1, 3000));
-    check_same(&rt, &found.text.ends_with(b"\nbest none\n"), &true);
+    check_same(&rt, &found.ended, &Ok(None));
+    let end = b"\nleast hard 3: rule 1 CA1 3\nbest none\n";
+    check_same(&rt, &found.text.ends_with(end), &true);
     let (_, solution) = split_at_line(&found.text, b"----------");
     check_same(&rt, &solution.is_none(), &true);
 }

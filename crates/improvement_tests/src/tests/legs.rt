@@ -40,8 +40,8 @@ fn check_alone<T: Threads + Wait + Sync + Abort>(rt: &T, alloc: Global, plan: (u
     let alone = improvement_of(rt, alloc, league, asked(1, effort));
     check_same(
         rt,
-        &(&alone.ended, alone.text.is_empty()),
-        &(&Ok(()), false),
+        &(alone.ended.is_ok(), alone.text.is_empty()),
+        &(true, false),
     );
     for workers in [2, 4, 16] {
         check_workers(rt, alloc, plan, workers, &alone);
@@ -131,7 +131,7 @@ fn check_steps<T: Threads + Wait + Sync + Abort>(rt: &T, alloc: Global, effort: 
     let found = improvement_of(rt, alloc, league, asked(2, effort));
     let (told, _) = read_legs(&found.text).expect(rt, "a history");
     check_same(rt, &(told.steps, told.ordered), &(effort, true));
-    check_same(rt, &found.ended, &Ok(()));
+    check_same(rt, &found.ended.is_ok(), &true);
 }
 
 #[test]

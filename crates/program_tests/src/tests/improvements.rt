@@ -10,7 +10,8 @@ use crate::tests::progress_lines::{Ticks, last_line};
 use clap::error::ErrorKind;
 use command_line::{Job, args};
 use commands::{
-    ImprovePlan, NoGate, ProgramFault, ProgressLine, Workplace, improve, improve_from, play,
+    ImprovePlan, NoGate, ProgramFault, ProgressLine, Verdict, Workplace, improve, improve_from,
+    play,
 };
 use league::LeagueFault;
 use search::{Gate, Progress};
@@ -119,7 +120,7 @@ fn ended<T: Threads + Wait + Sync>(
     alloc: Global,
     input: &str,
     workers: u32,
-) -> (Result<(), ProgramFault>, u64) {
+) -> (Result<Verdict, ProgramFault>, u64) {
     let mut room = [0; 10];
     let mut sink = MemorySink::new(&mut room);
     let source = MemorySource::new(input.as_bytes());
@@ -141,23 +142,70 @@ fn improve_names_the_first_fault_and_writes_nothing(rt: HostRuntime) {
     }
 }
 
+/// The verdict and the text of an improvement.
+fn judged<T: Threads + Wait + Sync>(
+    rt: &T,
+    alloc: Global,
+    input: &str,
+    workers: u32,
+) -> Result<(Verdict, Vec<u8>), Fail> {
+    let mut room = vec![in alloc; 0; 100_000]?;
+    let mut sink = MemorySink::new(&mut room);
+    let source = MemorySource::new(input.as_bytes());
+    let gate = &NoGate;
+    let verdict = improve(
+        Workplace { rt, alloc, gate },
+        source,
+        &mut sink,
+        by(workers),
+    )?;
+    Ok((verdict, Vec::from_slice(alloc, sink.held())?))
+}
+
 /// The text of an improvement on the circle.
 fn improved<T: Threads + Wait + Sync>(
     rt: &T,
     alloc: Global,
     workers: u32,
 ) -> Result<Vec<u8>, Fail> {
-    let mut room = vec![in alloc; 0; 100_000]?;
-    let mut sink = MemorySink::new(&mut room);
-    let source = MemorySource::new(CIRCLE.as_bytes());
-    let gate = &NoGate;
-    improve(
-        Workplace { rt, alloc, gate },
-        source,
-        &mut sink,
-        by(workers),
-    )?;
-    Ok(Vec::from_slice(alloc, sink.held())?)
+    let (_, text) = judged(rt, alloc, CIRCLE, workers)?;
+    Ok(text)
+}
+
+/// Team 1 is to have no game at home, and has three in each schedule.
+const NEVER_AT_HOME: &str = r#"{
+    "format": 1,
+    "teams": ["A", "B", "C", "D"],
+    "distances": [[0, 1, 1, 1], [1, 0, 1, 1], [1, 1, 0, 1], [1, 1, 1, 0]],
+    "rules": [{"class": "CA1", "kind": "hard", "teams": [1], "mode": "H", "max": 0}]
+}"#;
+
+/// An input, the verdict on it, and how the text ends. The least total of four teams in a circle is 20.
+const VERDICTS: [(&str, Verdict, &str); 2] = [
+    (CIRCLE, Verdict::Feasible, "\nbest 20 at "),
+    (
+        NEVER_AT_HOME,
+        Verdict::Infeasible,
+        "\nleast hard 3: rule 1 CA1 3\nbest none\n",
+    ),
+];
+
+#[test]
+fn verdicts_of_improvements_are_those_of_their_ends(rt: HostRuntime) -> Result<(), Fail> {
+    for (input, verdict, end) in VERDICTS {
+        let (found, text) = judged(&rt, rt.alloc(), input, 2)?;
+        check_same_of(&rt, &input, &found, &verdict);
+        check_holds(&rt, &end, has_end(&text, end));
+    }
+    Ok(())
+}
+
+/// The end stands in the text behind its history.
+fn has_end(text: &[u8], end: &str) -> bool {
+    match closing(text) {
+        Some((_, rest)) => rest.contains(end),
+        None => false,
+    }
 }
 
 /// The play text of a script on the circle.

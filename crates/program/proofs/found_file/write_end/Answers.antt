@@ -3,13 +3,13 @@ use Rattle.streams.proofs.Pieces.{Adds-delivers, Stops-delivers}
 use Rattle.texts.proofs.ForCallers.{prefix_at}
 use Rattle.program.proofs.found_file.write_end.Goals as goal
 
-pub returns-in_err-write_found-clause-prefix : goal.returns-in_err-write_found-clause-prefix
-returns-in_err-write_found-clause-prefix g c =
+pub returns-in_err-write_improved-clause-prefix : goal.returns-in_err-write_improved-clause-prefix
+returns-in_err-write_improved-clause-prefix g c =
     prefix_at g.W.Sink.held _ _ _ _ _
-    (Stops-delivers c.new-out.ensures c.from_residual.ensures.0 c.in_err-write_found.ensures.err).prefix (grind arith)
+    (Stops-delivers c.new-out.ensures c.from_residual.ensures.0 c.in_err-write_improved.ensures.err).prefix (grind arith)
 
 pub returns-clause-prefix : goal.returns-clause-prefix
 returns-clause-prefix g c =
     prefix_at g.W.Sink.held _ _ _ _ _
-    (Adds-delivers c.new-out.ensures c.in_ok-write_found.ensures.ok c.flush.ensures.writes c.flush.ensures.waiting).prefix
+    (Adds-delivers c.new-out.ensures c.in_ok-write_improved.ensures.ok c.flush.ensures.writes c.flush.ensures.waiting).prefix
     (grind arith)

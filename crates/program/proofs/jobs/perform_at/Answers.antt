@@ -17,7 +17,8 @@ returns-in-Play-clause-ends g c =
     ) c.play_on.ensures
 
 pub returns-in-Improve-clause-ends : goal.returns-in-Improve-clause-ends
-returns-in-Improve-clause-ends g c = rw (c.in-Improve.is, c.without_verdict-in-Improve.ensures.outcome)
+returns-in-Improve-clause-ends g c =
+    rw (c.in-Improve.is, c.with_verdict.ensures.outcome, c.with_verdict.ensures.verdict)
     (rw c.as_ref-beginning.ensures.value at c.improve_on.ensures)
 
 pub returns-in-Find-clause-ends : goal.returns-in-Find-clause-ends
@@ -28,8 +29,8 @@ pub returns-in-Report-clause-ends : goal.returns-in-Report-clause-ends
 returns-in-Report-clause-ends g c =
     rw (
       c.in-Report.is,
-      c.with_verdict.ensures.outcome,
-      c.with_verdict.ensures.verdict,
+      c.with_verdict-in-Report.ensures.outcome,
+      c.with_verdict-in-Report.ensures.verdict,
       ← c.parts-in-Report.ensures.league,
       ← c.parts-in-Report.ensures.lines,
       ← c.as_ref-beginning.ensures.value,
