@@ -67,7 +67,8 @@ def search(n, effort):
     field = min(4, max(1, left // (5000 * n * n)), len(chains))
     came_to = yield "Start", field, [chain(kind, steps) for kind, steps in chains], WEIGHTS
     if all(end is None for end in came_to):
-        yield from tries(left, ((FULL, 300, 800, WEIGHTS), (FULL, 1000, 5000, NEAR), (FULL, 1000, 20000, WIDELY)))
+        low = [(FULL, 300, 800, WEIGHTS)] if left // 2 >= 4000 * n * n else []
+        yield from tries(left, [*low, (FULL, 1000, 5000, NEAR), (FULL, 1000, 20000, WIDELY)])
         return
     level, peaks = left // ({1: 0, 2: 1, 3: 2, 4: 2}[field] + 2), 4 * (300, 250, 400, 200) + 4 * (300, 250, 400, 200)
     while field > 1:

@@ -98,7 +98,7 @@ pub(crate) fn field_for(teams: u8, steps: u64) -> u32
 }
 
 /// A span of steps.
-fn span(teams: u8) -> u64
+pub(crate) fn span(teams: u8) -> u64
     requires { 4 ≤ teams }
     ensures least { 16000 ≤ result }
     ensures most { result ≤ 65025000 }

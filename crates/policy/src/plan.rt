@@ -4,7 +4,7 @@ ghost use Rattle.std.specs.Prelude.{◌≡◌, ◌≤◌, ℕ, IfSome};
 ghost use Rattle.policy.specs.Limits.{most_effort};
 
 use crate::bouts::{Bout, Shares};
-use crate::first_half::{FirstHalf, field_for};
+use crate::first_half::{FirstHalf, field_for, span};
 use crate::legs::{Course, Leg, LegEnd, MoveSet, WeightCourse};
 use crate::numbers::{
     AFTER_FEW, AFTER_MORE, COPIES, Cycles, Heating, LEAST_TRIES, LOW, NEAR, SECOND_HALF, TRY_STEPS,
@@ -136,7 +136,7 @@ impl Plan {
         requires { left ≤ most_effort }
         ensures { (field : ℕ) → IsNextWave field result }
     {
-        self.widen();
+        self.widen(left);
         let tries = (left / TRY_STEPS).max(LEAST_TRIES);
         let few = tries == LEAST_TRIES;
         let steps = if few { left / 2 } else { left * 3 / 4 };
@@ -155,15 +155,20 @@ impl Plan {
         }
     }
 
-    fn widen(&mut self) {
+    fn widen(&mut self, left: u64) {
         self.reach = match self.reach {
-            Reach::None if self.moves == MoveSet::Full => Reach::Low,
+            Reach::None if self.begins_low(left) => Reach::Low,
             Reach::None | Reach::Low => Reach::Near,
             Reach::Near | Reach::Wide => Reach::Wide,
         };
         if self.reach == Reach::Wide && self.moves == MoveSet::Repair {
             self.moves = MoveSet::WideRepair;
         }
+    }
+
+    /// Whether tries heat little at first: in a search, if each gets a span.
+    fn begins_low(&self, left: u64) -> bool {
+        self.moves == MoveSet::Full && LEAST_TRIES * span(self.teams) <= left / 2
     }
 
     /// A wave in which each chain of the field has two cycles, and the better half stays.

@@ -74,12 +74,14 @@ const HEATED_TEN: Setting = (10, 10_000_000, Kind::Heated);
 
 const STUCK: Setting = (16, 1_000_000, Kind::Stuck);
 
+const STUCK_TEN: Setting = (10, 10_000_000, Kind::Stuck);
+
 const STUCK_FOUR: Setting = (4, 50, Kind::Stuck);
 
 /// A setting, and what `scripts/policy-twin.py` has for it: the numbers of waves and legs, and the sums of both.
 type Row = (Setting, [u64; 4]);
 
-const ROWS: [Row; 15] = [
+const ROWS: [Row; 16] = [
     (SIXTEEN, [17, 68, 62_834, 12_985_776_099_164_480]),
     (EIGHT, [19, 86, 78_023, 41_063_752_353_371_029]),
     (TWENTY, [19, 94, 78_623, 311_063_755_069_200_593]),
@@ -93,14 +95,15 @@ const ROWS: [Row; 15] = [
     (FEW_TRIES, [4, 7, 4_114, 3_578_512_027_810_637]),
     (HEATED, [18, 78, 70_356, 39_516_864_335_312_271]),
     (HEATED_TEN, [18, 82, 70_776, 39_516_864_355_898_543]),
-    (STUCK, [20, 80, 86_300, 464_364_717_416_663_242]),
-    (STUCK_FOUR, [8, 18, 14_612, 16_478_902_121_757_491]),
+    (STUCK, [19, 76, 78_068, 424_274_771_135_692_392]),
+    (STUCK_TEN, [20, 86, 86_830, 477_020_975_562_645_655]),
+    (STUCK_FOUR, [10, 18, 22_448, 24_963_032_183_610_521]),
 ];
 
 /// A leg that the twin shows for a setting: its wave, bout and place there, its moves, from, to and steps.
 type Shown = (Setting, [u32; 3], MoveSet, [u64; 3]);
 
-const LEGS: [Shown; 14] = [
+const LEGS: [Shown; 16] = [
     (SIXTEEN, [0, 1, 1], MoveSet::Loose, [600, 300, 131_250]),
     (EIGHT, [0, 3, 0], MoveSet::Full, [600, 150, 897_600]),
     (EIGHT, [2, 0, 1], MoveSet::Full, [200, 150, 312_500]),
@@ -122,9 +125,11 @@ const LEGS: [Shown; 14] = [
         [10_000, 100, 13_020],
     ),
     (HEATED, [1, 1, 1], MoveSet::Full, [700, 100, 623_000]),
-    (STUCK, [1, 0, 0], MoveSet::Full, [300, 800, 62_500]),
-    (STUCK, [2, 3, 0], MoveSet::Full, [1000, 5000, 31_250]),
-    (STUCK, [7, 3, 0], MoveSet::Full, [20_000, 100, 976]),
+    (STUCK, [1, 0, 0], MoveSet::Full, [1000, 5000, 62_500]),
+    (STUCK, [2, 3, 0], MoveSet::Full, [1000, 20_000, 31_250]),
+    (STUCK_TEN, [1, 0, 0], MoveSet::Full, [300, 800, 625_000]),
+    (STUCK_TEN, [2, 3, 0], MoveSet::Full, [1000, 5000, 312_500]),
+    (STUCK_TEN, [7, 3, 0], MoveSet::Full, [20_000, 100, 9765]),
 ];
 
 /// A walk of a setting. No effort is above the most.
@@ -224,7 +229,7 @@ fn legs_as_the_twin_has_them(rt: HostRuntime) {
 fn weights(repairs: bool) -> [WeightCourse; 4] {
     let mut policy = Policy::new(Facts {
         teams: 12,
-        effort: 1_000_000,
+        effort: 10_000_000,
         repairs,
     });
     let mut weights = [policy.weights(); 4];
