@@ -13,7 +13,8 @@ use crate::field::Entrant;
 use crate::legs::{RunningLeg, Turn, WaitingLeg};
 use crate::setting::Setting;
 use crate::stage::{Beginning, Stage};
-use policy::{Facts, Leg, LegEnd, Policy};
+use league::League;
+use policy::{Aim, Facts, Leg, LegEnd, Policy};
 use search::Gate;
 use std::alloc::{AllocError, Global};
 use std::collections::VecDeque;
@@ -22,6 +23,17 @@ use std::thread::{Scope, Threads};
 
 /// How many legs stand in line at most. More workers than that find no work.
 const PLACES: usize = 16;
+
+/// What becomes of a league's start.
+fn aim_of(league: &League) -> Aim {
+    if league.near() > 0 || !league.kept().is_empty() {
+        Aim::Repair
+    } else if league.given() {
+        Aim::GoOn
+    } else {
+        Aim::Anew
+    }
+}
 
 /// The line, and what comes after it. What gets in line, and when, follows the order in which the legs leave it. So it depends neither on
 /// the number of workers nor on how fast they are.
@@ -47,7 +59,7 @@ impl Line {
         let facts = Facts {
             teams: league.teams(),
             effort: setting.plan.effort,
-            repairs: league.near() > 0 || !league.kept().is_empty(),
+            aim: aim_of(league),
         };
         Line {
             policy: Policy::new(facts),

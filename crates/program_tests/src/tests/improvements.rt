@@ -252,12 +252,11 @@ fn run<C: Clock, W: Sink>(rt: &impl Wait, line: &ProgressLine<'_, C, W>, telling
     line.ended(rt);
 }
 
-/// A worker tells so often after a step, from the first of its versions on.
+/// A worker tells so often after a step.
 fn tell<C: Clock, W: Sink>(rt: &impl Wait, line: &ProgressLine<'_, C, W>, tellings: u64) {
-    for version in 0..tellings {
+    for _telling in 0..tellings {
         let progress = Progress {
             steps: 1,
-            version,
             least: Some(30),
         };
         line.told(rt, 0, progress);
