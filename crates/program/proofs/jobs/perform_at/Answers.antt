@@ -19,7 +19,7 @@ returns-in-Play-clause-ends g c =
 pub returns-in-Improve-clause-ends : goal.returns-in-Improve-clause-ends
 returns-in-Improve-clause-ends g c =
     rw (c.in-Improve.is, c.with_verdict.ensures.outcome, c.with_verdict.ensures.verdict)
-    (rw c.as_ref-beginning.ensures.value at c.improve_on.ensures)
+    (rw (c.plan_of-plan.ensures, c.as_ref-beginning.ensures.value) at c.improve_on.ensures)
 
 pub returns-in-Find-clause-ends : goal.returns-in-Find-clause-ends
 returns-in-Find-clause-ends g c = let begins = c.as_ref-beginning.ensures.value in
