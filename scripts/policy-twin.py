@@ -5,7 +5,7 @@ usage: scripts/policy-twin.py
 
 The waves are those of scripts/waves.py. What a leg that heats comes to is made up, by arithmetic on its bout: it becomes feasible after
 one to five thousand steps, or never. So of the walks that are no repairs, "heated" and "stuck" ones have a first half without a feasible
-version, and the tries after it become feasible or never."""
+version, and the tries after it become feasible or never. Those that are "going" have a first chain that goes on from a given start."""
 from waves import cooled, heats, repair, search
 
 WALKS = (
@@ -16,6 +16,8 @@ WALKS = (
     (14, 5 * 10**6, "no"),
     (14, 7 * 10**6, "no"),
     (4, 50, "no"),
+    (16, 10**6, "going"),
+    (4, 50, "going"),
     (12, 10**6, "feasible"),
     (12, 10**7, "feasible"),
     (18, 3_333_333, "never"),
@@ -43,8 +45,8 @@ def legs_of(bout, number, feasible):
 
 def show(n, effort, repairs):
     print(f"{n} teams, {effort} steps, repairs: {repairs}")
-    policy = repair(effort) if repairs in ("feasible", "never") else search(n, effort)
-    feasible = {"no": "all", "feasible": "heated", "stuck": "never"}.get(repairs, repairs)
+    policy = repair(effort) if repairs in ("feasible", "never") else search(n, effort, repairs == "going")
+    feasible = {"no": "all", "going": "all", "feasible": "heated", "stuck": "never"}.get(repairs, repairs)
     number, legs, of_waves, of_legs, told, wave = 0, 0, 0, 0, [], next(policy)
     while wave:
         source, keep, bouts, _ = wave

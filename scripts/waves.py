@@ -61,11 +61,14 @@ def cooled(leg, steps):
     return [(kinds, max(hottest(leg, steps), 100), 100, share - steps)] if steps < share else []
 
 
-def search(n, effort):
+def search(n, effort, goes_on=False):
     chains = first_half(n, effort)
     left = effort - sum(steps for _, steps in chains)
     field = min(4, max(1, left // (5000 * n * n)), len(chains))
-    came_to = yield "Start", field, [chain(kind, steps) for kind, steps in chains], WEIGHTS
+    bouts = [chain(kind, steps) for kind, steps in chains]
+    if goes_on:
+        bouts[0] = [(FULL, 300, 150, chains[0][1])]
+    came_to = yield "Start", field, bouts, WEIGHTS
     if all(end is None for end in came_to):
         low = [(FULL, 300, 800, WEIGHTS)] if left // 2 >= 4000 * n * n else []
         yield from tries(left, [*low, (FULL, 1000, 5000, NEAR), (FULL, 1000, 20000, WIDELY)])

@@ -114,7 +114,6 @@ impl Going {
     fn progress(&self, tally: Tally) -> Progress {
         Progress {
             steps: tally.steps,
-            version: self.boards.board.version(),
             least: total_in(&self.boards.board),
         }
     }

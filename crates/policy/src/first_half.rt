@@ -8,16 +8,19 @@ use crate::bouts::Bout;
 use crate::legs::{Leg, MoveSet};
 use crate::numbers::{
     COOL, EARLY_PART, FEW_LOOSE_LEAST, FEW_TEAMS, FIELD_MOST, FIELD_SPANS, HOT, LOOSE_LEAST,
-    LOOSE_MOST, LOOSE_SPANS, MILD, RIGID_MOST, RIGID_SPANS, WARM,
+    LOOSE_MOST, LOOSE_SPANS, MILD, RIGID_MOST, RIGID_SPANS, TEPID, WARM,
 };
 
 /// More groups than any effort has.
 const MOST_GROUPS: u64 = 10_000_000;
 
-/// One rigid chain, so that there is something good early, and then groups of chains: each of a rigid one and, where they
+/// One chain, so that there is something good early, and then groups of chains: each of a rigid one and, where they
 /// get long enough, two more.
 #[derive(Clone, Copy)]
 pub(crate) struct FirstHalf {
+    /// Whether the first chain goes on from the start. Otherwise it is rigid.
+    goes_on: bool,
+    /// The steps of the first chain.
     early: u64,
     groups: u32,
     /// The steps of the rigid chain of a group.
@@ -36,7 +39,7 @@ pub(crate) struct FirstHalf {
 }
 
 impl FirstHalf {
-    pub(crate) fn new(teams: u8, effort: u64) -> Self
+    pub(crate) fn new(teams: u8, effort: u64, goes_on: bool) -> Self
         requires teams { 4 ≤ teams }
         requires effort { effort ≤ most_effort }
     {
@@ -54,6 +57,7 @@ impl FirstHalf {
             (groups(rest, rigid_most), 0)
         };
         FirstHalf {
+            goes_on,
             early,
             groups,
             rigid: (rest / u64::from(groups)).saturating_sub(2 * loose),
@@ -76,7 +80,9 @@ impl FirstHalf {
         ensures first { IsCourse result.first.course }
         ensures second { IsCourse result.second.course }
     {
-        if number == 0 {
+        if number == 0 && self.goes_on {
+            Bout::single(MoveSet::Full, TEPID, self.early)
+        } else if number == 0 {
             rigid(self.early)
         } else if self.loose == 0 || number % 3 == 1 {
             rigid(self.rigid)

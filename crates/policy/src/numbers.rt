@@ -18,6 +18,8 @@ pub(crate) const WARM: Course = Course::Cools {
 };
 /// A chain of all moves, where few teams play.
 pub(crate) const COOL: Course = Course::Cools { from: 600, to: 150 };
+/// A chain that goes on from a given start: as hot as the second half's cycles.
+pub(crate) const TEPID: Course = Course::Cools { from: 300, to: 150 };
 
 /// The first chain has at most such a part of the effort, so that there is something good early.
 pub(crate) const EARLY_PART: u64 = 16;

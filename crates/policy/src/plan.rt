@@ -10,7 +10,7 @@ use crate::numbers::{
     AFTER_FEW, AFTER_MORE, COPIES, Cycles, Heating, LEAST_TRIES, LOW, NEAR, SECOND_HALF, TRY_STEPS,
     WIDE,
 };
-use crate::waves::{Facts, Source, Wave};
+use crate::waves::{Aim, Facts, Source, Wave};
 
 /// The bouts of a wave.
 #[derive(Clone, Copy)]
@@ -39,6 +39,8 @@ enum Reach {
 #[derive(Clone, Copy, Drop)]
 pub(crate) struct Plan {
     teams: u8,
+    /// Whether the first chain goes on from the start.
+    goes_on: bool,
     /// What all legs after the first half draw.
     moves: MoveSet,
     bouts: Bouts,
@@ -68,10 +70,10 @@ impl Plan {
     {
         Plan {
             teams: facts.teams,
-            moves: if facts.repairs {
-                MoveSet::Repair
-            } else {
-                MoveSet::Full
+            goes_on: facts.aim == Aim::GoOn,
+            moves: match facts.aim {
+                Aim::Anew | Aim::GoOn => MoveSet::Full,
+                Aim::Repair => MoveSet::Repair,
             },
             // this stands in for the first wave
             bouts: Bouts::Tries(Shares { steps: 1, bouts: 1 }),
@@ -113,7 +115,7 @@ impl Plan {
         requires { left ≤ most_effort }
         ensures { IsNextWave 0 result }
     {
-        let first_half = FirstHalf::new(self.teams, left);
+        let first_half = FirstHalf::new(self.teams, left, self.goes_on);
         let rest = left.saturating_sub(first_half.steps);
         let bouts = first_half.bouts();
         let keep = field_for(self.teams, rest).min(bouts);

@@ -13,8 +13,18 @@ pub struct Facts {
     pub teams: u8,
     /// The steps of all legs together.
     pub effort: u64,
-    /// Whether games are kept, or leaving the start has a price: the start is repaired then, and not melted.
-    pub repairs: bool,
+    pub aim: Aim,
+}
+
+/// What is to become of the start.
+#[derive(Clone, Copy, Debug, PartialEq, Eq)]
+pub enum Aim {
+    /// All chains of the first half melt it.
+    Anew,
+    /// The first chain goes on from it below the melting point, and the others melt it.
+    GoOn,
+    /// It is repaired, since games of it are kept, or leaving it has a price.
+    Repair,
 }
 
 /// Where the chains of a wave begin.

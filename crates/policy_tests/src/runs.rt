@@ -4,7 +4,7 @@ ghost use Rattle.std.specs.Prelude.{◌≤◌};
 ghost use Rattle.policy.specs.Limits.{most_effort};
 
 use crate::walks::{Feasible, Place, Walk, walked};
-use policy::{Facts, MOST_EFFORT, MoveSet, Policy, WeightCourse};
+use policy::{Aim, Facts, MOST_EFFORT, MoveSet, Policy, WeightCourse};
 use std::process::Abort;
 
 const EFFORTS: [u64; 13] = [
@@ -29,6 +29,8 @@ type Setting = (u8, u64, Kind);
 #[derive(Clone, Copy, Debug, PartialEq, Eq)]
 enum Kind {
     Search,
+    /// A search from a given start.
+    Going,
     /// A search whose first half ends without a feasible version, and whose tries become feasible.
     Heated,
     /// A search of which nothing becomes feasible.
@@ -38,8 +40,9 @@ enum Kind {
     Failing,
 }
 
-const KINDS: [Kind; 5] = [
+const KINDS: [Kind; 6] = [
     Kind::Search,
+    Kind::Going,
     Kind::Heated,
     Kind::Stuck,
     Kind::Repair,
@@ -57,6 +60,8 @@ const FORTY: Setting = (40, 12_345_678, Kind::Search);
 const TWO_GO_ON: Setting = (14, 5_000_000, Kind::Search);
 
 const THREE_GO_ON: Setting = (14, 7_000_000, Kind::Search);
+
+const GOING: Setting = (16, 1_000_000, Kind::Going);
 
 const REPAIR: Setting = (12, 1_000_000, Kind::Repair);
 
@@ -81,7 +86,7 @@ const STUCK_FOUR: Setting = (4, 50, Kind::Stuck);
 /// A setting, and what `scripts/policy-twin.py` has for it: the numbers of waves and legs, and the sums of both.
 type Row = (Setting, [u64; 4]);
 
-const ROWS: [Row; 16] = [
+const ROWS: [Row; 17] = [
     (SIXTEEN, [17, 68, 62_834, 12_985_776_099_164_480]),
     (EIGHT, [19, 86, 78_023, 41_063_752_353_371_029]),
     (TWENTY, [19, 94, 78_623, 311_063_755_069_200_593]),
@@ -89,6 +94,7 @@ const ROWS: [Row; 16] = [
     (TWO_GO_ON, [18, 74, 69_958, 26_420_945_209_103_594]),
     (THREE_GO_ON, [19, 80, 77_513, 32_032_644_259_903_950]),
     (FEW_STEPS, [17, 28, 62_834, 3_888_520_028_438_171]),
+    (GOING, [17, 67, 62_834, 12_985_776_098_996_294]),
     (REPAIR, [17, 72, 63_034, 29_249_968_225_573_536]),
     (LONG_REPAIR, [9, 48, 18_938, 19_956_768_295_799_864]),
     (FAILING, [18, 72, 70_446, 391_221_218_913_717_439]),
@@ -103,12 +109,13 @@ const ROWS: [Row; 16] = [
 /// A leg that the twin shows for a setting: its wave, bout and place there, its moves, from, to and steps.
 type Shown = (Setting, [u32; 3], MoveSet, [u64; 3]);
 
-const LEGS: [Shown; 16] = [
+const LEGS: [Shown; 17] = [
     (SIXTEEN, [0, 1, 1], MoveSet::Loose, [600, 300, 131_250]),
     (EIGHT, [0, 3, 0], MoveSet::Full, [600, 150, 897_600]),
     (EIGHT, [2, 0, 1], MoveSet::Full, [200, 150, 312_500]),
     (TWENTY, [0, 3, 0], MoveSet::Loose, [1500, 300, 4_700_000]),
     (FORTY, [0, 0, 0], MoveSet::Rigid, [2000, 500, 540_123]),
+    (GOING, [0, 0, 0], MoveSet::Full, [300, 150, 62_500]),
     (REPAIR, [0, 0, 0], MoveSet::Repair, [1000, 5000, 125_000]),
     (REPAIR, [0, 1, 1], MoveSet::Repair, [1600, 100, 123_000]),
     (LONG_REPAIR, [2, 3, 0], MoveSet::Repair, [1105, 100, 78_125]),
@@ -142,10 +149,14 @@ fn walk(setting: Setting) -> Walk
         facts: Facts {
             teams: teams.max(4),
             effort: effort.min(MOST_EFFORT),
-            repairs: matches!(kind, Kind::Repair | Kind::Failing),
+            aim: match kind {
+                Kind::Search | Kind::Heated | Kind::Stuck => Aim::Anew,
+                Kind::Going => Aim::GoOn,
+                Kind::Repair | Kind::Failing => Aim::Repair,
+            },
         },
         feasible: match kind {
-            Kind::Search => Feasible::All,
+            Kind::Search | Kind::Going => Feasible::All,
             Kind::Heated | Kind::Repair => Feasible::Heated,
             Kind::Stuck | Kind::Failing => Feasible::None,
         },
@@ -172,7 +183,7 @@ fn check_walk(rt: &impl Abort, walk: Walk)
     let holds = totals.taken == walk.facts.effort
         && totals.thirds == 0
         && totals.waves <= 20
-        && (walk.facts.repairs || totals.early <= (walk.facts.effort / 16).max(1))
+        && (walk.facts.aim == Aim::Repair || totals.early <= (walk.facts.effort / 16).max(1))
         && overlapping == totals;
     assert!(rt; holds, "{walk:?} {totals:?} {overlapping:?}");
 }
@@ -226,11 +237,11 @@ fn legs_as_the_twin_has_them(rt: HostRuntime) {
 }
 
 /// The weights of the first four waves, of which nothing was told.
-fn weights(repairs: bool) -> [WeightCourse; 4] {
+fn weights(aim: Aim) -> [WeightCourse; 4] {
     let mut policy = Policy::new(Facts {
         teams: 12,
         effort: 10_000_000,
-        repairs,
+        aim,
     });
     let mut weights = [policy.weights(); 4];
     for wave in &mut weights {
@@ -250,6 +261,6 @@ fn weights_of_a_breach(rt: HostRuntime) {
     let low = of(2_000_000, 100_000_000);
     let near = of(10_000_000, 25_000_000);
     let wide = of(10_000_000, 100_000_000);
-    assert_eq!(rt; weights(false), [low, low, near, wide]);
-    assert_eq!(rt; weights(true), [near, wide, wide, wide]);
+    assert_eq!(rt; weights(Aim::Anew), [low, low, near, wide]);
+    assert_eq!(rt; weights(Aim::Repair), [near, wide, wide, wide]);
 }

@@ -1,6 +1,6 @@
 -- What the program does for a job, and its exit status.
 use Rattle.std.specs.Prelude.{◌≡◌, ◌≢◌, ◌≤◌, ◌⊎◌, ◌==◌, ◌&&◌, ◌||◌, ℕ, Bool, true, false, not, is_some, List, [], length, codes, unwrap_or}
-use Rattle.std.specs.Prelude.{Option, Some, None, option_map, Result, Ok, Err, IfOk}
+use Rattle.std.specs.Prelude.{if◌then◌else◌, Option, Some, None, option_map, Result, Ok, Err, IfOk}
 use Rattle.std.specs.Str.Lines.{lines}
 use Rattle.clap.specs.declared.error.kind.ErrorKind.{ErrorKind as Kind}
 use Rattle.clap.specs.declared.error.kind.ErrorKind.TheVariants.{OutOfMemory, DisplayHelp, DisplayVersion}
@@ -8,6 +8,8 @@ use Rattle.command_line.specs.declared.job.Job.{Job}
 use Rattle.command_line.specs.declared.job.Job.TheVariants.{Start, Play, Improve, Find, Report}
 use Rattle.command_line.specs.Beginnings.{Beginning as Kept}
 use Rattle.command_line.specs.Files.{Files}
+use Rattle.improvement.specs.declared.plan.ImprovePlan.{ImprovePlan}
+use Rattle.policy.specs.Limits.{most_effort}
 use Rattle.streams.specs.declared.tally.Tally.{Tally}
 use Rattle.texts.specs.Input.{lines_after, text_before}
 use Rattle.beginnings.specs.declared.begun.Beginning.{Beginning}
@@ -37,7 +39,7 @@ search_end_in told = None
 -- whether the job ends with a verdict: a report or an improvement
 abbrev pub is_judged : Job → Bool
 is_judged (Report format) = true
-is_judged (Improve workers seed effort) = true
+is_judged (Improve workers seed effort seconds) = true
 is_judged job = false
 
 abbrev pub is_search : Job → Bool
@@ -51,6 +53,12 @@ HasVerdict job outcome = IfOk outcome (λ ending. is_some (verdict_in (Some endi
 -- it tells how a search ended if it is one, and else nothing of the kind
 abbrev pub HasSearchEnd : Job → Result Ending ProgramFault → Type 0
 HasSearchEnd job outcome = IfOk outcome (λ ending. is_some (search_end_in (Some ending)) ≡ is_search job)
+
+-- the plan of one improvement or, if there are seconds for them, of improvements that follow each other, of which the first has this effort
+abbrev pub plan_of : ℕ → ℕ → ℕ → ℕ → ImprovePlan
+plan_of workers seed effort seconds =
+    if seconds == 0 then record { workers = workers; seed = seed; effort = effort; first = None }
+    else record { workers = workers; seed = seed; effort = most_effort; first = Some effort }
 
 -- the league's text and the lines beside it: all of an input and of the second text if that was read by itself, otherwise what
 -- stands before and after the word
@@ -70,8 +78,8 @@ module _ {W : Type 0} (held : W → Option (List ℕ)) (pushes : W → Tally) (i
   EndsJobOn Start told = EndsOn held pushes (AnswersStartOn input beginning)
   EndsJobOn (Play room) told = EndsOn held pushes
       (AnswersPlayOn room (league_part (codes "script") input second) (unwrap_or (lines_part (codes "script") input second) []) beginning)
-  EndsJobOn (Improve workers seed effort) told =
-      EndsImproveOn held pushes (record { workers = workers; seed = seed; effort = effort }) (verdict_in told) input beginning
+  EndsJobOn (Improve workers seed effort seconds) told =
+      EndsImproveOn held pushes (plan_of workers seed effort seconds) (verdict_in told) input beginning
   EndsJobOn (Find room plan) told = EndsOn held pushes (AnswersFindOn room plan (search_end_in told) input beginning)
   EndsJobOn (Report format) told = EndsOn held pushes
       (AnswersReportOn format (verdict_in told) (league_part (codes "sheet") input second) (lines_part (codes "sheet") input second) beginning)

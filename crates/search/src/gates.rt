@@ -14,8 +14,6 @@ const STEPS_TO_TELL: u32 = 4096;
 pub struct Progress {
     /// How many steps it took since it last told.
     pub steps: u32,
-    /// The board's version that its copy is of.
-    pub version: u64,
     /// The least total of the feasible ones among the version that it looked at first and those that it made.
     pub least: Option<u64>,
 }

@@ -129,7 +129,6 @@ pub(crate) fn take_steps<R: Wait, D: Door, G: HearingGate>(
         };
         let mut progress = Progress {
             steps: 0,
-            version: kept.known.version,
             least: least_with(None, kept.known.cost),
         };
         means.gate.begun(means.rt, plan.worker);
@@ -142,7 +141,7 @@ pub(crate) fn take_steps<R: Wait, D: Door, G: HearingGate>(
             };
             let told = step(means, door, copy, &mut kept, trial);
             report = report.with(told);
-            progress = progress_after(progress, told, kept.known.version);
+            progress = progress_after(progress, told);
             if let StepResult::Full = told {
                 break;
             }
@@ -155,8 +154,8 @@ pub(crate) fn take_steps<R: Wait, D: Door, G: HearingGate>(
     report
 }
 
-/// How far the worker is after one more step, with a copy of this version.
-fn progress_after(progress: Progress, told: StepResult, version: u64) -> Progress {
+/// How far the worker is after one more step.
+fn progress_after(progress: Progress, told: StepResult) -> Progress {
     let least = match told {
         StepResult::Accepted(cost) => least_with(progress.least, cost),
         _ => progress.least,
@@ -164,7 +163,6 @@ fn progress_after(progress: Progress, told: StepResult, version: u64) -> Progres
     Progress {
         // it never wraps, since a worker takes less than 2^32 steps in all
         steps: progress.steps.wrapping_add(1),
-        version,
         least,
     }
 }

@@ -70,7 +70,6 @@ fn pauses(rt: &impl Wait, clock: &Ticks, tellings: usize) -> [u32; 4] {
     let line = ProgressLine::new(clock, MemorySink::new(&mut room), PLAN);
     let progress = Progress {
         steps: 1,
-        version: 0,
         least: None,
     };
     let mut pauses = [0; 4];
@@ -90,16 +89,16 @@ fn quick_steps_are_told_by_thousands_and_slow_ones_one_by_one(rt: HostRuntime) {
     }
 }
 
-/// A worker, the version that it tells, and the least total.
-type Telling = (u32, u64, Option<u64>);
+/// A worker, and the least total that it tells.
+type Telling = (u32, Option<u64>);
 
 /// What the workers of a search tell in turn.
 const TOLD: &[Telling] = &[
-    (0, 3, None),
-    (1, 7, Some(3_000)),
-    (0, 5, Some(998)),
-    (1, 12, Some(999)),
-    (1, 1_000, None),
+    (0, None),
+    (1, Some(3_000)),
+    (0, Some(998)),
+    (1, Some(999)),
+    (1, None),
 ];
 
 /// Tellings on a terminal that takes bytes by these steps, and what it holds then.
@@ -112,7 +111,7 @@ struct Showing<'a> {
 }
 
 /// A worker tells so often that it took more steps than were planned.
-const TOO_MANY: &[Telling] = &[(0, 0, None); 11];
+const TOO_MANY: &[Telling] = &[(0, None); 11];
 
 /// The worker begins at 0 milliseconds. What is left is worked out by hand from the steps and the time.
 const SHOWINGS: &[Showing<'_>] = &[
@@ -145,7 +144,7 @@ const SHOWINGS: &[Showing<'_>] = &[
     Showing {
         step: Some(1000),
         writes: &[],
-        told: &[(0, 1, None), (0, 0, None)],
+        told: &[(0, None), (0, None)],
         ends: false,
         shown: "\r\x1b[K10 % steps 4096 of 40000 best none left 0:00:08\
             \r\x1b[K20 % steps 8192 of 40000 best none left 0:00:07",
@@ -154,7 +153,7 @@ const SHOWINGS: &[Showing<'_>] = &[
     Showing {
         step: Some(3_600_000),
         writes: &[],
-        told: &[(0, 0, None)],
+        told: &[(0, None)],
         ends: false,
         shown: "\r\x1b[K10 % steps 4096 of 40000 best none left 8:45:56",
     },
@@ -201,12 +200,11 @@ fn tell_all<R: Wait, C: Clock, W: Sink>(
     showing: &Showing<'_>,
 ) {
     line.begun(rt, 0);
-    for (worker, version, least) in showing.told {
+    for (worker, least) in showing.told {
         line.enter(rt, *worker, 0);
         line.left(rt, *worker, 0);
         let progress = Progress {
             steps: 4096,
-            version: *version,
             least: *least,
         };
         line.told(rt, *worker, progress);
