@@ -17,7 +17,6 @@ use Rattle.search.specs.declared.runs.SearchPlan.{SearchPlan}
 use Rattle.search.specs.Outcomes.{IsFor, IsOutcome}
 use Rattle.texts.specs.PlayText.{play_text}
 use Rattle.texts.proofs.ForCallers.{played_again, plays_back}
-use Rattle.commands.specs.declared.fault.ProgramFault.{ProgramFault}
 use Rattle.commands.specs.declared.search_end.SearchEnd.{SearchEnd}
 use Rattle.commands.specs.Begun.{Begins}
 use Rattle.commands.specs.Outcome.{value_of, without_value, Answer, EndsOn}
@@ -83,27 +82,3 @@ module _ (room : ℕ) (plan : SearchPlan) (bytes : List ℕ) (beginning : Option
   ends_refused held pushes sink run.Spawn board is = ((league, begins, room_is, is.0), refl)
   ends_refused held pushes sink run.Receipts board is = ((league, begins, room_is, is.0), refl)
   ends_refused held pushes sink run.Memory board is = refl
-
--- the text of a search is one whether or not it is told how the search ended
-pub ends_untold : {W : Type 0} (held : W → Option (List ℕ)) (pushes : W → Tally) (room : ℕ) (plan : SearchPlan) (bytes : List ℕ)
-    (beginning : Option Beginning) (before after : W) (result : Result SearchEnd ProgramFault)
-    → EndsOn held pushes (AnswersFindOn room plan (value_of result) bytes beginning) before after (without_value result)
-    → EndsOn held pushes (AnswersFindOn room plan None bytes beginning) before after (without_value result)
-ends_untold held pushes room plan bytes beginning before after (Ok end) ends =
-    let is = ends.1.2 in (
-      ends.0,
-      (
-        ends.1.0,
-        ends.1.1,
-        record {
-          outcome = is.outcome;
-          room_is = is.room_is;
-          of_run = is.of_run;
-          text_is = is.text_is;
-          again = is.again;
-          end = tt;
-        },
-      ),
-      ends.2,
-    )
-ends_untold held pushes room plan bytes beginning before after (Err fault) ends = ends
