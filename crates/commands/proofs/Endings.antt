@@ -1,5 +1,5 @@
 -- The endings of the commands.
-use Rattle.std.proofs.Common.{◌≤◌, ℕ, List, [], Option, Result, Ok, Err, OnOk, OnErr, refl}
+use Rattle.std.proofs.Common.{◌≡◌, ◌≤◌, ℕ, List, [], length, Option, Some, None, IfSome, Result, Ok, Err, OnOk, OnErr, refl}
 use Rattle.std.specs.Io.KnownBytes.{Appends}
 use Rattle.streams.specs.Limits.{write_limit}
 use Rattle.streams.specs.declared.tally.Tally.{Tally}
@@ -17,11 +17,13 @@ use Rattle.search.specs.declared.runs.SearchPlan.{SearchPlan}
 use Rattle.search.specs.Outcomes.{IsFor, IsOutcome}
 use Rattle.texts.specs.PlayText.{play_text}
 use Rattle.texts.proofs.ForCallers.{played_again, plays_back}
+use Rattle.commands.specs.declared.search_end.SearchEnd.{SearchEnd}
 use Rattle.commands.specs.Begun.{Begins}
-use Rattle.commands.specs.Outcome.{Answer, EndsOn}
+use Rattle.commands.specs.Outcome.{value_of, without_value, Answer, EndsOn}
 use Rattle.commands.specs.Fault.{of_run, of_writing}
 use Rattle.commands.specs.Find.{AnswersFindOn, search_text}
 use Rattle.commands.specs.Play.{AnswersPlayOn}
+use Rattle.commands.specs.SearchEnd.{end_of}
 
 -- the text that answers was written, unless a write failed
 pub ends_written : {W : Type 0} (held : W → Option (List ℕ)) (pushes : W → Tally) (answers : Answer) (text : List ℕ) (before after : W)
@@ -42,9 +44,10 @@ answers_play room bytes script beginning league begins limits room_is =
 module _ (room : ℕ) (plan : SearchPlan) (bytes : List ℕ) (beginning : Option Beginning) (league : LeagueData)
     (begins : Begins bytes beginning league) (room_is : room ≤ max_room) where
   -- it is answered by the search text of an outcome of its run
-  pub answers_find : (outcome : Outcome) → IsLeague league → IsOutcome plan (book league room []) outcome
-      → AnswersFindOn room plan bytes beginning (Ok (search_text outcome))
-  answers_find outcome limits of_run = (
+  answers_find : (outcome : Outcome) (told : Option SearchEnd) → IsLeague league → IsOutcome plan (book league room []) outcome
+      → IfSome told (λ end. end ≡ end_of room (length outcome.board.history))
+      → AnswersFindOn room plan told bytes beginning (Ok (search_text outcome))
+  answers_find outcome told limits of_run end = (
     league,
     begins,
     record {
@@ -53,13 +56,28 @@ module _ (room : ℕ) (plan : SearchPlan) (bytes : List ℕ) (beginning : Option
       of_run = of_run;
       text_is = refl;
       again = plays_back league room outcome.board.history limits (rw (of_run.league, of_run.room) at of_run.legal);
+      end = end;
     },
   )
+
+  -- which was written, unless a write failed
+  pub ends_found : {W : Type 0} (held : W → Option (List ℕ)) (pushes : W → Tally) (before after : W) (outcome : Outcome) (end : SearchEnd)
+      (written : Result Unit WriteFault) → IsLeague league → IsOutcome plan (book league room []) outcome
+      → end ≡ end_of outcome.board.room (length outcome.board.history)
+      → OnOk written (Appends (held before) (held after) (search_text outcome))
+      → OnErr written (AppendsPrefix (held before) (held after) (search_text outcome))
+      → OnErr written (FailsWriting write_limit (pushes before) (pushes after))
+      → EndsOn held pushes (AnswersFindOn room plan (value_of (of_writing written end)) bytes beginning) before after
+      (without_value (of_writing written end))
+  ends_found held pushes before after outcome end (Ok done) limits of_run is ok prefix cause =
+      (search_text outcome, answers_find outcome (Some end) limits of_run (rw of_run.room at is), ok)
+  ends_found held pushes before after outcome end (Err fault) limits of_run is ok prefix cause =
+      (search_text outcome, answers_find outcome None limits of_run tt, prefix, cause)
 
   -- or by why the run came to nothing
   pub ends_refused : {W : Type 0} (held : W → Option (List ℕ)) (pushes : W → Tally) (sink : W) (why : RunFault) (board : Option Book)
       → IsFor plan (book league room []) why board
-      → EndsOn held pushes (AnswersFindOn room plan bytes beginning) sink sink (Err (of_run why))
+      → EndsOn held pushes (AnswersFindOn room plan None bytes beginning) sink sink (Err (of_run why))
   ends_refused held pushes sink run.Workers board is = ((league, begins, room_is, is.0), refl)
   ends_refused held pushes sink run.Spawn board is = ((league, begins, room_is, is.0), refl)
   ends_refused held pushes sink run.Receipts board is = ((league, begins, room_is, is.0), refl)

@@ -3,6 +3,7 @@ pub mod Begun
 pub mod Hinted
 pub mod Outcome
 pub mod Verdict
+pub mod SearchEnd
 pub mod Start
 pub mod Play
 pub mod Find

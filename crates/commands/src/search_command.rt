@@ -2,11 +2,12 @@
 
 ghost use Rattle.std.specs.Prelude.{◌≤◌, IfSome, option_map};
 ghost use Rattle.league.specs.Limits.{max_weight};
-ghost use Rattle.commands.specs.Outcome.{Ends, EndsOn};
+ghost use Rattle.commands.specs.Outcome.{value_of, without_value, Ends, EndsOn};
 ghost use Rattle.commands.specs.Find.{AnswersFind, AnswersFindOn};
 
 use crate::begun::begun_league;
 use crate::fault::{ProgramFault, after_writing};
+use crate::search_end::SearchEnd;
 use crate::search_text::search_report;
 use beginnings::Beginning;
 use fixture_board::Board;
@@ -46,10 +47,14 @@ pub fn find_from<T: Threads + Wait + Sync, G: Gate + Sync, R: Source, W: Sink>(
         source.old source.new sink.old sink.new result }
 {
     let input = read_all(workplace.alloc, source)?;
-    find_on(workplace, &input, None, sink, room, plan)
+    match find_on(workplace, &input, None, sink, room, plan) {
+        Ok(_) => Ok(()),
+        Err(fault) => Err(fault),
+    }
 }
 
-/// As [`find`], of a league's text that was read, where the league is to begin: at its own start, if nothing else is said.
+/// As [`find`], of a league's text that was read, where the league is to begin: at its own start, if nothing else is said. It answers
+/// with how the search ended.
 pub fn find_on<T: Threads + Wait + Sync, G: Gate + Sync, W: Sink>(
     workplace: Workplace<'_, T, G>,
     league: &[u8],
@@ -57,9 +62,11 @@ pub fn find_on<T: Threads + Wait + Sync, G: Gate + Sync, W: Sink>(
     sink: &mut W,
     room: u32,
     plan: SearchPlan,
-) -> Result<(), ProgramFault>
+) -> Result<SearchEnd, ProgramFault>
     requires near { IfSome beginning (λ b. b.now.near ≤ max_weight) }
-    ensures { EndsOn W.held W.tally (AnswersFindOn room plan league.now (option_map (λ b. b.now) beginning.entry)) sink.old sink.new result }
+    ensures { EndsOn W.held W.tally
+        (AnswersFindOn room plan (value_of result) league.now (option_map (λ b. b.now) beginning.entry))
+        sink.old sink.new (without_value result) }
 {
     let alloc = workplace.alloc;
     let league = begun_league(alloc, league, beginning)?;
@@ -71,5 +78,6 @@ pub fn find_on<T: Threads + Wait + Sync, G: Gate + Sync, W: Sink>(
         Ok(outcome) => outcome,
         Err(refused) => return Err(ProgramFault::from(refused.why)),
     };
-    after_writing(search_report(&outcome, sink), ())
+    let end = SearchEnd::of(&outcome.board);
+    after_writing(search_report(&outcome, sink), end)
 }

@@ -11,21 +11,21 @@ use Rattle.command_line.specs.declared.job.Job.{Job}
 use Rattle.command_line.specs.declared.job.Job.TheVariants.{Start, Play, Improve, Find, Report}
 use Rattle.commands.specs.declared.fault.ProgramFault.{ProgramFault}
 use Rattle.commands.specs.declared.fault.ProgramFault.TheVariants.{Read, TooLong, League, LeagueAt, Begin, NoSheet, Room, Workers, Spawn, Receipts, Write, Memory}
-use Rattle.commands.specs.declared.verdict.Verdict.{Verdict}
 use Rattle.commands.specs.Fault.{of_reading}
 use Rattle.commands.specs.Outcome.{EndsBy, EndsRead}
+use Rattle.program.specs.declared.jobs.Ending.{Ending}
 use Rattle.program.specs.Program.{EndsJob, EndsJobOn}
 
 -- no job on an input that was read ends as if it couldn't be
-module _ {W : Type 0} (held : W → Option (List ℕ)) (pushes : W → Tally) (bytes : List ℕ) (before after : W) (verdict : Option Verdict) where
-  not_unread : (job : Job) → EndsJobOn held pushes bytes None None job verdict before after (Err Read) → ⊥
+module _ {W : Type 0} (held : W → Option (List ℕ)) (pushes : W → Tally) (bytes : List ℕ) (before after : W) (told : Option Ending) where
+  not_unread : (job : Job) → EndsJobOn held pushes bytes None None job told before after (Err Read) → ⊥
   not_unread Start ends = ends.0
   not_unread (Play room) ends = ends.0
   not_unread (Improve workers seed effort seconds) ends = ends.0
   not_unread (Find room plan) ends = ends.0
   not_unread (Report format) ends = ends.0
 
-  not_long : (job : Job) → EndsJobOn held pushes bytes None None job verdict before after (Err TooLong) → ⊥
+  not_long : (job : Job) → EndsJobOn held pushes bytes None None job told before after (Err TooLong) → ⊥
   not_long Start ends = ends.0
   not_long (Play room) ends = ends.0
   not_long (Improve workers seed effort seconds) ends = ends.0
@@ -42,13 +42,13 @@ not_memory result memory unread = cc
 -- a source before and after it was read, and how often
 module _ {R W : Type 0} (left : R → Option (List ℕ)) (pulls : R → Tally) (held : W → Option (List ℕ)) (pushes : W → Tally) (job : Job)
     (old new : R) (calls : (pulls new).calls ≤ (pulls old).calls + read_limit) where
-  module _ (bytes : List ℕ) (verdict : Option Verdict) (before after : W) (taken : Consumes (left old) (left new) bytes)
+  module _ (bytes : List ℕ) (told : Option Ending) (before after : W) (taken : Consumes (left old) (left new) bytes)
       (ended : IsAtEnd (left new)) (within : length bytes ≤ input_limit) where
-    by_result : (result : Result Unit ProgramFault) → EndsJobOn held pushes bytes None None job verdict before after result
-        → EndsBy left pulls (λ b. EndsJobOn held pushes b None None job verdict) old new before after result
+    by_result : (result : Result Unit ProgramFault) → EndsJobOn held pushes bytes None None job told before after result
+        → EndsBy left pulls (λ b. EndsJobOn held pushes b None None job told) old new before after result
     by_result (Ok done) ends = record { bytes = bytes; taken = taken; ended = ended; within = within; ends_so = ends }
-    by_result (Err Read) ends = absurd (not_unread held pushes bytes before after verdict job ends)
-    by_result (Err TooLong) ends = absurd (not_long held pushes bytes before after verdict job ends)
+    by_result (Err Read) ends = absurd (not_unread held pushes bytes before after told job ends)
+    by_result (Err TooLong) ends = absurd (not_long held pushes bytes before after told job ends)
     by_result (Err Memory) ends = inr (record { bytes = bytes; taken = taken; ended = ended; within = within; ends_so = ends })
     by_result (Err (League fault)) ends = record { bytes = bytes; taken = taken; ended = ended; within = within; ends_so = ends }
     by_result (Err (LeagueAt fault hint)) ends = record { bytes = bytes; taken = taken; ended = ended; within = within; ends_so = ends }
@@ -62,8 +62,8 @@ module _ {R W : Type 0} (left : R → Option (List ℕ)) (pulls : R → Tally) (
 
     -- what the job comes to on the input is what it comes to between the source and the sink
     pub on_input : (result : Result Unit ProgramFault) → ((pulls old).failed < (pulls new).failed → ⊥)
-        → EndsJobOn held pushes bytes None None job verdict before after result
-        → EndsJob left pulls held pushes job verdict old new before after result
+        → EndsJobOn held pushes bytes None None job told before after result
+        → EndsJob left pulls held pushes job told old new before after result
     on_input result none_failed ends =
         record { ending = by_result result ends; failed_read = λ failed. absurd (none_failed failed); reads = calls }
 

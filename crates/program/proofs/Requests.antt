@@ -61,6 +61,7 @@ module _ {R W : Type 0} (left : R → Option (List ℕ)) (pulls : R → Tally) (
       source_after = source;
       ends = subst (λ w. EndsJob left pulls held pushes job None source source before w (Err Memory)) (sym quiet) (nothing_done job);
       verdict = tt;
+      end = tt;
       status_is = told.memory (memory_of kinds e fails none);
     }
 

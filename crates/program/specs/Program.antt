@@ -14,19 +14,27 @@ use Rattle.streams.specs.declared.tally.Tally.{Tally}
 use Rattle.texts.specs.Input.{lines_after, text_before}
 use Rattle.beginnings.specs.declared.begun.Beginning.{Beginning}
 use Rattle.commands.specs.declared.fault.ProgramFault.{ProgramFault}
+use Rattle.commands.specs.declared.search_end.SearchEnd.{SearchEnd}
 use Rattle.commands.specs.declared.verdict.Verdict.{Verdict}
 use Rattle.commands.specs.declared.verdict.Verdict.TheVariants.{Feasible, Infeasible}
-use Rattle.commands.specs.Outcome.{without_value, EndsFrom, EndsOn}
+use Rattle.commands.specs.Outcome.{value_of, without_value, EndsFrom, EndsOn}
 use Rattle.commands.specs.Start.{AnswersStartOn}
 use Rattle.commands.specs.Play.{AnswersPlayOn}
 use Rattle.commands.specs.Find.{AnswersFindOn}
 use Rattle.commands.specs.Improve.{EndsImproveOn}
 use Rattle.commands.specs.Report.{AnswersReportOn}
+use Rattle.program.specs.declared.jobs.Ending.{Ending}
+use Rattle.program.specs.declared.jobs.Ending.TheVariants.{Written, Judged, Searched}
 
--- the verdict of a job that has one
-abbrev pub told_in : Result (Option Verdict) ProgramFault → Option Verdict
-told_in (Ok verdict) = verdict
-told_in (Err fault) = None
+-- the verdict in how a job ended well, if there is one
+abbrev pub verdict_in : Option Ending → Option Verdict
+verdict_in (Some (Judged verdict)) = Some verdict
+verdict_in told = None
+
+-- how a search ended, if it is told
+abbrev pub search_end_in : Option Ending → Option SearchEnd
+search_end_in (Some (Searched end)) = Some end
+search_end_in told = None
 
 -- whether the job ends with a verdict: a report or an improvement
 abbrev pub is_judged : Job → Bool
@@ -34,9 +42,17 @@ is_judged (Report format) = true
 is_judged (Improve workers seed effort seconds) = true
 is_judged job = false
 
+abbrev pub is_search : Job → Bool
+is_search (Find room plan) = true
+is_search job = false
+
 -- a job that ended well has a verdict if it is a report or an improvement, and else none
-abbrev pub HasVerdict : Job → Result (Option Verdict) ProgramFault → Type 0
-HasVerdict job outcome = IfOk outcome (λ verdict. is_some verdict ≡ is_judged job)
+abbrev pub HasVerdict : Job → Result Ending ProgramFault → Type 0
+HasVerdict job outcome = IfOk outcome (λ ending. is_some (verdict_in (Some ending)) ≡ is_judged job)
+
+-- it tells how a search ended if it is one, and else nothing of the kind
+abbrev pub HasSearchEnd : Job → Result Ending ProgramFault → Type 0
+HasSearchEnd job outcome = IfOk outcome (λ ending. is_some (search_end_in (Some ending)) ≡ is_search job)
 
 -- the plan of one improvement or, if there are seconds for them, of improvements that follow each other, of which the first has this effort
 abbrev pub plan_of : ℕ → ℕ → ℕ → ℕ → ImprovePlan
@@ -54,40 +70,42 @@ abbrev pub lines_part : List ℕ → List ℕ → Option (List ℕ) → Option (
 lines_part word input (Some second) = Some (lines second)
 lines_part word input None = lines_after word input
 
--- how the command of a job with this verdict ends on an input and a second text that were read, of a league that begins where it is to,
--- for a sink with these bytes held and these calls
+-- how the command of a job ends that is told to end so, if it is, on an input and a second text that were read, of a league that begins
+-- where it is to, for a sink with these bytes held and these calls
 module _ {W : Type 0} (held : W → Option (List ℕ)) (pushes : W → Tally) (input : List ℕ) (second : Option (List ℕ))
     (beginning : Option Beginning) where
-  abbrev pub EndsJobOn : Job → Option Verdict → W → W → Result Unit ProgramFault → Type 0
-  EndsJobOn Start verdict = EndsOn held pushes (AnswersStartOn input beginning)
-  EndsJobOn (Play room) verdict = EndsOn held pushes
+  abbrev pub EndsJobOn : Job → Option Ending → W → W → Result Unit ProgramFault → Type 0
+  EndsJobOn Start told = EndsOn held pushes (AnswersStartOn input beginning)
+  EndsJobOn (Play room) told = EndsOn held pushes
       (AnswersPlayOn room (league_part (codes "script") input second) (unwrap_or (lines_part (codes "script") input second) []) beginning)
-  EndsJobOn (Improve workers seed effort seconds) verdict =
-      EndsImproveOn held pushes (plan_of workers seed effort seconds) verdict input beginning
-  EndsJobOn (Find room plan) verdict = EndsOn held pushes (AnswersFindOn room plan input beginning)
-  EndsJobOn (Report format) verdict = EndsOn held pushes
-      (AnswersReportOn format verdict (league_part (codes "sheet") input second) (lines_part (codes "sheet") input second) beginning)
+  EndsJobOn (Improve workers seed effort seconds) told =
+      EndsImproveOn held pushes (plan_of workers seed effort seconds) (verdict_in told) input beginning
+  EndsJobOn (Find room plan) told = EndsOn held pushes (AnswersFindOn room plan (search_end_in told) input beginning)
+  EndsJobOn (Report format) told = EndsOn held pushes
+      (AnswersReportOn format (verdict_in told) (league_part (codes "sheet") input second) (lines_part (codes "sheet") input second) beginning)
 
 -- how it ends between a source and a sink, for a source with these bytes left and these calls: on the input that was read, of a league
 -- that begins at its own start
-abbrev pub EndsJob : {R W : Type 0} → (R → Option (List ℕ)) → (R → Tally) → (W → Option (List ℕ)) → (W → Tally) → Job → Option Verdict
+abbrev pub EndsJob : {R W : Type 0} → (R → Option (List ℕ)) → (R → Tally) → (W → Option (List ℕ)) → (W → Tally) → Job → Option Ending
     → R → R → W → W → Result Unit ProgramFault → Type 0
-EndsJob left pulls held pushes job verdict = EndsFrom left pulls (λ bytes. EndsJobOn held pushes bytes None None job verdict)
+EndsJob left pulls held pushes job told = EndsFrom left pulls (λ bytes. EndsJobOn held pushes bytes None None job told)
 
 -- the exit status after a job
-abbrev pub status_of : Result (Option Verdict) ProgramFault → ℕ
-status_of (Ok None) = 0
-status_of (Ok (Some Feasible)) = 0
-status_of (Ok (Some Infeasible)) = 3
+abbrev pub status_of : Result Ending ProgramFault → ℕ
+status_of (Ok Written) = 0
+status_of (Ok (Judged Feasible)) = 0
+status_of (Ok (Judged Infeasible)) = 3
+status_of (Ok (Searched end)) = 0
 status_of (Err fault) = 1
 
 -- the job's command ended between the source and the sink, and the exit status is that of how it ended
 pub record DoesJob {R W : Type 0} (left : R → Option (List ℕ)) (pulls : R → Tally) (held : W → Option (List ℕ)) (pushes : W → Tally)
     (job : Job) (source : R) (before after : W) (status : ℕ) : Type 0 where
-  pub outcome : Result (Option Verdict) ProgramFault
+  pub outcome : Result Ending ProgramFault
   pub source_after : R
-  pub ends : EndsJob left pulls held pushes job (told_in outcome) source source_after before after (without_value outcome)
+  pub ends : EndsJob left pulls held pushes job (value_of outcome) source source_after before after (without_value outcome)
   pub verdict : HasVerdict job outcome
+  pub end : HasSearchEnd job outcome
   pub status_is : status ≡ status_of outcome
 
 -- files follow an improvement: the words name one for the best schedule so far, or one for a line of each leg
@@ -109,11 +127,12 @@ pub record IsBeginningOf (from : Option (List ℕ)) (kept : Kept) (beginning : B
 -- the job's command ended on the texts that were read, with what the words keep, and the exit status is that of how it ended
 pub record DoesJobOn {W : Type 0} (held : W → Option (List ℕ)) (pushes : W → Tally) (job : Job) (kept : Kept) (input : List ℕ)
     (second from : Option (List ℕ)) (before after : W) (status : ℕ) : Type 0 where
-  pub outcome : Result (Option Verdict) ProgramFault
+  pub outcome : Result Ending ProgramFault
   pub beginning : Beginning
   pub begins : IsBeginningOf from kept beginning
-  pub ends : EndsJobOn held pushes input second (Some beginning) job (told_in outcome) before after (without_value outcome)
+  pub ends : EndsJobOn held pushes input second (Some beginning) job (value_of outcome) before after (without_value outcome)
   pub verdict : HasVerdict job outcome
+  pub end : HasSearchEnd job outcome
   pub status_is : status ≡ status_of outcome
 
 -- the status is that of the job, or 1 if files followed it, since one of them could not be written

@@ -5,13 +5,14 @@ ghost use Rattle.std.specs.Str.Lines.{lines};
 ghost use Rattle.command_line.specs.CommandLine.{IsInRange};
 ghost use Rattle.league.specs.Limits.{max_weight};
 ghost use Rattle.commands.specs.Outcome.{value_of, without_value};
-ghost use Rattle.program.specs.Program.{league_part, lines_part, plan_of, told_in, EndsJobOn, HasVerdict};
+ghost use Rattle.program.specs.Program.{league_part, lines_part, plan_of, search_end_in, verdict_in, EndsJobOn, HasSearchEnd, HasVerdict};
 
 use crate::timed::Timed;
 use command_line::Job;
 use commands::{
-    Beginning, Extent, Gate, ImprovePlan, MOST_EFFORT, NoGate, ProgramFault, ProgressLine, Sink,
-    Verdict, Watcher, Workplace, find_on, improve_on, play_on, report_on, start_on,
+    Beginning, Extent, Gate, ImprovePlan, MOST_EFFORT, NoGate, ProgramFault, ProgressLine,
+    SearchEnd, Sink, Verdict, Watcher, Workplace, find_on, improve_on, play_on, report_on,
+    start_on,
 };
 use std::alloc::Global;
 use std::io::Write;
@@ -41,8 +42,19 @@ pub(crate) struct Texts<'a> {
     pub(crate) beginning: Option<Beginning<'a>>,
 }
 
+/// How a job ends that did its work.
+#[derive(Clone, Copy)]
+pub(crate) enum Ending {
+    /// Its text is written, and there is no more to say.
+    Written,
+    /// A report or an improvement, with its verdict.
+    Judged(Verdict),
+    /// A search, as it ended.
+    Searched(SearchEnd),
+}
+
 /// Does what the job asks for on texts that were read, and shows how far a search is if there is a terminal. A report and an
-/// improvement have a verdict, and the watcher is told of the legs of an improvement.
+/// improvement have a verdict, a search tells how it ended, and the watcher is told of the legs of an improvement.
 pub(crate) fn perform<
     T: Threads + Wait + Clock + Sync,
     E: Write + Send + Drop,
@@ -54,12 +66,13 @@ pub(crate) fn perform<
     texts: &Texts<'_>,
     sink: &mut W,
     watcher: &mut V,
-) -> Result<Option<Verdict>, ProgramFault>
+) -> Result<Ending, ProgramFault>
     requires job { IsInRange job }
     requires near { IfSome texts.now.beginning (λ b. b.near ≤ max_weight) }
     ensures ends { EndsJobOn W.held W.tally texts.now.input.now (option_map (λ text. text.now) texts.now.second)
-        texts.now.beginning job (told_in result) sink.old sink.new (without_value result) }
+        texts.now.beginning job (value_of result) sink.old sink.new (without_value result) }
     ensures verdict { HasVerdict job result }
+    ensures end { HasSearchEnd job result }
 {
     let Console {
         rt,
@@ -99,12 +112,13 @@ fn perform_at<T: Threads + Wait + Clock + Sync, G: Gate + Sync, W: Sink, V: Watc
     texts: &Texts<'_>,
     sink: &mut W,
     watcher: &mut V,
-) -> Result<Option<Verdict>, ProgramFault>
+) -> Result<Ending, ProgramFault>
     requires job { IsInRange job }
     requires near { IfSome texts.now.beginning (λ b. b.near ≤ max_weight) }
     ensures ends { EndsJobOn W.held W.tally texts.now.input.now (option_map (λ text. text.now) texts.now.second)
-        texts.now.beginning job (told_in result) sink.old sink.new (without_value result) }
+        texts.now.beginning job (value_of result) sink.old sink.new (without_value result) }
     ensures verdict { HasVerdict job result }
+    ensures end { HasSearchEnd job result }
 {
     let alloc = workplace.alloc;
     let Texts {
@@ -131,7 +145,7 @@ fn perform_at<T: Threads + Wait + Clock + Sync, G: Gate + Sync, W: Sink, V: Watc
             with_verdict(improve_on(workplace, input, beginning, sink, plan, timed))
         }
         Job::Find { room, plan } => {
-            without_verdict(find_on(workplace, input, beginning, sink, room, plan))
+            with_search_end(find_on(workplace, input, beginning, sink, room, plan))
         }
         Job::Report(format) => {
             let (league, sheet) = parts(input, *second, b"sheet");
@@ -191,23 +205,37 @@ fn script_or_none(script: Option<&[u8]>) -> &[u8]
     }
 }
 
-fn without_verdict(outcome: Result<(), ProgramFault>) -> Result<Option<Verdict>, ProgramFault>
+fn without_verdict(outcome: Result<(), ProgramFault>) -> Result<Ending, ProgramFault>
     ensures outcome { without_value result ≡ outcome }
-    ensures none { IfOk result (λ verdict. is_some verdict ≡ false) }
+    ensures verdict { IfOk result (λ ending. is_some (verdict_in (Some ending)) ≡ false) }
+    ensures end { IfOk result (λ ending. is_some (search_end_in (Some ending)) ≡ false) }
 {
     match outcome {
-        Ok(()) => Ok(None),
+        Ok(()) => Ok(Ending::Written),
         Err(fault) => Err(fault),
     }
 }
 
-fn with_verdict(outcome: Result<Verdict, ProgramFault>) -> Result<Option<Verdict>, ProgramFault>
+fn with_verdict(outcome: Result<Verdict, ProgramFault>) -> Result<Ending, ProgramFault>
     ensures outcome { without_value result ≡ without_value outcome }
-    ensures verdict { told_in result ≡ value_of outcome }
-    ensures some { IfOk result (λ verdict. is_some verdict ≡ true) }
+    ensures told { verdict_in (value_of result) ≡ value_of outcome }
+    ensures verdict { IfOk result (λ ending. is_some (verdict_in (Some ending)) ≡ true) }
+    ensures end { IfOk result (λ ending. is_some (search_end_in (Some ending)) ≡ false) }
 {
     match outcome {
-        Ok(verdict) => Ok(Some(verdict)),
+        Ok(verdict) => Ok(Ending::Judged(verdict)),
+        Err(fault) => Err(fault),
+    }
+}
+
+fn with_search_end(outcome: Result<SearchEnd, ProgramFault>) -> Result<Ending, ProgramFault>
+    ensures outcome { without_value result ≡ without_value outcome }
+    ensures told { search_end_in (value_of result) ≡ value_of outcome }
+    ensures verdict { IfOk result (λ ending. is_some (verdict_in (Some ending)) ≡ false) }
+    ensures end { IfOk result (λ ending. is_some (search_end_in (Some ending)) ≡ true) }
+{
+    match outcome {
+        Ok(end) => Ok(Ending::Searched(end)),
         Err(fault) => Err(fault),
     }
 }

@@ -10,6 +10,7 @@ use advice::remarks_on;
 use beginnings::{BeginFault, Beginning, write_start_faults};
 use command_line::{Job, Request};
 use commands::{Format, ProgramFault, hint_on};
+use fixture_board::MAX_ROOM;
 use league::{LeagueFault, read_league};
 use std::io::{Eprint, ErrorKind, Write};
 use std::process::ExitCode;
@@ -124,6 +125,21 @@ pub(crate) fn tell_remarks<R: Runtime + AllocGlobal>(rt: &R, job: Job, texts: &T
     if let Ok(remarks) = remarks_on(rt.alloc(), league_text(job, texts)) {
         let _ = ErrorWriter { rt }.write(&remarks);
     }
+}
+
+/// Says that the history of a search got full, and what gives it more room.
+pub(crate) fn tell_full(rt: &impl Eprint, job: Job) {
+    let Job::Find { room, .. } = job else {
+        return;
+    };
+    let more = if room < MAX_ROOM {
+        "--room N gives up to 1048576"
+    } else {
+        "--room gives no more"
+    };
+    let _ = eprintln!(rt;
+        "remark: the history is full, which ends a search early: its room is {room}, and {more}"
+    );
 }
 
 /// Standard error as a writer, of text.

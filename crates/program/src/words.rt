@@ -15,12 +15,12 @@ ghost use Rattle.program.specs.Program.{is_followed, is_judged, is_plain, status
 ghost use Rattle.program.specs.Program.{IsStatusBehind};
 
 use crate::follower::Follower;
-use crate::jobs::{Console, Texts, league_text, perform};
+use crate::jobs::{Console, Ending, Texts, league_text, perform};
 use crate::texts_read::{TextsRead, read_texts};
-use crate::told::{failure, not_begun, refused, tell_remarks, unread, unwritten};
+use crate::told::{failure, not_begun, refused, tell_full, tell_remarks, unread, unwritten};
 use clap::error::ErrorKind;
 use command_line::{FileWords, Job, Request, args};
-use commands::{Beginning, NoWatcher, ProgramFault, Verdict, Watcher};
+use commands::{Beginning, NoWatcher, ProgramFault, SearchEnd, Verdict, Watcher};
 use league::SlotSet;
 use std::io::{IsTerminal, Write};
 use std::process::ExitCode;
@@ -259,17 +259,21 @@ fn respond_on<
     ended(rt, request.job, &given, outcome)
 }
 
-/// The status of a job on these texts. What went wrong is said.
+/// The status of a job on these texts. What went wrong is said, and that a search ended with its history full.
 fn ended<R: Runtime + AllocGlobal>(
     rt: &R,
     job: Job,
     texts: &Texts<'_>,
-    outcome: Result<Option<Verdict>, ProgramFault>,
+    outcome: Result<Ending, ProgramFault>,
 ) -> ExitCode
     ensures { exit_status result ≡ status_of outcome }
 {
     match outcome {
-        Ok(Some(Verdict::Infeasible)) => ExitCode::from(INFEASIBLE),
+        Ok(Ending::Judged(Verdict::Infeasible)) => ExitCode::from(INFEASIBLE),
+        Ok(Ending::Searched(SearchEnd::HistoryFull)) => {
+            tell_full(rt, job);
+            ExitCode::SUCCESS
+        }
         Ok(_) => ExitCode::SUCCESS,
         Err(ProgramFault::League(fault)) => refused(rt, league_text(job, texts), fault),
         Err(fault) => failure(rt, fault),

@@ -1,7 +1,6 @@
 use Rattle.std.proofs.Common.{◌≡◌, [], option_map}
 use Rattle.fixture_board.specs.Record.{book}
-use Rattle.commands.specs.Find.{AnswersFindOn, search_text}
-use Rattle.commands.proofs.Endings.{answers_find, ends_refused, ends_written}
+use Rattle.commands.proofs.Endings.{ends_found, ends_refused}
 use Rattle.commands.proofs.search_command.find_on.Goals as goal
 
 pub returns-in-Err-run_with : goal.returns-in-Err-run_with
@@ -14,8 +13,7 @@ returns-in-Err-run_with g c =
 pub returns : goal.returns
 returns g c =
     let board_is : c.in-Ok.board ≡ book c.in_ok-league.league c.args.room [] = rw c.in_ok-duplicate.ensures at (c.in-Ok.ensures).ok in
-    rw c.after_writing.ensures (ends_written g.W.Sink.held g.W.Sink.tally (AnswersFindOn c.args.room c.args.plan c.args.league.now (option_map (λ b. b.now) c.args.beginning))
-    (search_text c.in-Ok-run_with.outcome) c.args.sink.now c.search_report.new.sink c.search_report.result
-    (answers_find c.args.room c.args.plan c.args.league.now (option_map (λ b. b.now) c.args.beginning) c.in_ok-league.league c.in_ok-league.ensures.ok
-    (c.in-Ok.ensures).within c.in-Ok-run_with.outcome c.in_ok-league.ensures.limits (rw board_is at (c.in-Ok-run_with.ensures).done))
-    c.search_report.ensures.ok c.search_report.ensures.prefix c.search_report.ensures.cause)
+    rw c.after_writing.ensures (ends_found c.args.room c.args.plan c.args.league.now (option_map (λ b. b.now) c.args.beginning) c.in_ok-league.league
+    c.in_ok-league.ensures.ok (c.in-Ok.ensures).within g.W.Sink.held g.W.Sink.tally c.args.sink.now c.search_report.new.sink
+    c.in-Ok-run_with.outcome c.of-end.result c.search_report.result c.in_ok-league.ensures.limits (rw board_is at (c.in-Ok-run_with.ensures).done)
+    c.of-end.ensures c.search_report.ensures.ok c.search_report.ensures.prefix c.search_report.ensures.cause)

@@ -18,19 +18,19 @@ returns-in-Play-clause-ends g c =
 
 pub returns-in-Improve-clause-ends : goal.returns-in-Improve-clause-ends
 returns-in-Improve-clause-ends g c =
-    rw (c.in-Improve.is, c.with_verdict.ensures.outcome, c.with_verdict.ensures.verdict)
+    rw (c.in-Improve.is, c.with_verdict.ensures.outcome, c.with_verdict.ensures.told)
     (rw (c.plan_of-plan.ensures, c.as_ref-beginning.ensures.value) at c.improve_on.ensures)
 
 pub returns-in-Find-clause-ends : goal.returns-in-Find-clause-ends
 returns-in-Find-clause-ends g c = let begins = c.as_ref-beginning.ensures.value in
-    rw (c.in-Find.is, c.without_verdict-in-Find.ensures.outcome, ← begins) c.find_on.ensures
+    rw (c.in-Find.is, c.with_search_end.ensures.outcome, c.with_search_end.ensures.told, ← begins) c.find_on.ensures
 
 pub returns-in-Report-clause-ends : goal.returns-in-Report-clause-ends
 returns-in-Report-clause-ends g c =
     rw (
       c.in-Report.is,
       c.with_verdict-in-Report.ensures.outcome,
-      c.with_verdict-in-Report.ensures.verdict,
+      c.with_verdict-in-Report.ensures.told,
       ← c.parts-in-Report.ensures.league,
       ← c.parts-in-Report.ensures.lines,
       ← c.as_ref-beginning.ensures.value,

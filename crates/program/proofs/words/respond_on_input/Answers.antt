@@ -11,5 +11,6 @@ returns-in-Err g c = record {
       c.read_all.ensures.calls c.args.sink.now c.read_all.result c.in-Err.fault c.in-Err.is c.read_all.ensures.too_long
       c.read_all.ensures.read c.read_all.ensures.failed;
   verdict = tt;
+  end = tt;
   status_is = c.failure.ensures;
 }
