@@ -1,5 +1,5 @@
 -- Where a table of distances has a fault. Rows and columns are numbered from 0, and from 1 in hints.
-use Rattle.std.specs.Prelude.{ℕ, ◌+◌, ◌&&◌, ◌==◌, Bool, false, not, nat_lt, Option, Some, is_some, option_map}
+use Rattle.std.specs.Prelude.{ℕ, ◌+◌, ◌&&◌, ◌==◌, not, nat_lt, Option, Some, None, is_some, option_map}
 use Rattle.std.specs.Prelude.{option_and_then, if◌then◌else◌}
 use Rattle.std.specs.Option.{unwrap_or}
 use Rattle.serde_json.specs.Data.{Data}
@@ -9,8 +9,13 @@ use Rattle.league.specs.declared.fault.LeagueFault.TheVariants.{WrongKind, Dista
 use Rattle.league.specs.Json.{only_if, whole_number}
 use Rattle.league.specs.Limits.{max_distance}
 use Rattle.advice.specs.declared.hint.Hint.{Hint}
-use Rattle.advice.specs.declared.hint.Hint.TheVariants.{Rows, Row, Distance}
-use Rattle.advice.specs.Firsts.{item_count, first_below}
+use Rattle.advice.specs.declared.hint.Hint.TheVariants.{Rows, TwoDistances, Value}
+use Rattle.advice.specs.declared.hint.Place.TheVariants.{Row, Distance}
+use Rattle.advice.specs.declared.hint.Seen.{Seen}
+use Rattle.advice.specs.declared.hint.Seen.TheVariants as seen
+use Rattle.advice.specs.declared.hint.Wanted.{Wanted}
+use Rattle.advice.specs.declared.hint.Wanted.TheVariants as wanted
+use Rattle.advice.specs.Firsts.{item_count, or_else, first_below}
 
 -- the whole number in a row and column
 abbrev pub entry : Data → ℕ → ℕ → Option ℕ
@@ -25,26 +30,40 @@ abbrev pub columns : Data → ℕ → ℕ
 columns table row = unwrap_or (option_map item_count (at row table)) 0
 
 -- the row as a whole has the fault: it is no array, or not of n items
-abbrev pub is_wrong_row : LeagueFault → ℕ → Data → ℕ → Bool
-is_wrong_row (WrongKind field) n table row = not (is_some (option_and_then as_array (at row table)))
-is_wrong_row DistanceShape n table row = not (columns table row == n)
-is_wrong_row fault n table row = false
+abbrev pub whole_row_hint : LeagueFault → ℕ → Data → ℕ → Option Hint
+whole_row_hint (WrongKind field) n table row =
+    only_if (not (is_some (option_and_then as_array (at row table)))) (Value (Row (row + 1)) seen.Other wanted.Numbers)
+whole_row_hint DistanceShape n table row =
+    only_if (not (columns table row == n)) (Value (Row (row + 1)) (seen.Length (columns table row)) (wanted.Exactly n))
+whole_row_hint fault n table row = None
+
+-- what a distance has to be
+abbrev pub any_distance : Wanted
+any_distance = wanted.Number 0 max_distance
+
+abbrev pub wrong_entry : ℕ → ℕ → Seen → Wanted → Hint
+wrong_entry row column seen wanted = Value (Distance (row + 1) (column + 1)) seen wanted
 
 -- the item in a row and column has the fault
-abbrev pub is_wrong_entry : LeagueFault → Data → ℕ → ℕ → Bool
-is_wrong_entry (WrongKind field) table row column = not (is_some (entry table row column))
-is_wrong_entry DistanceRange table row column = nat_lt max_distance (distance table row column)
-is_wrong_entry Diagonal table row column = (row == column) && not (distance table row column == 0)
-is_wrong_entry Asymmetric table row column = not (distance table row column == distance table column row)
-is_wrong_entry fault table row column = false
+unfoldable pub entry_hint : LeagueFault → Data → ℕ → ℕ → Option Hint
+entry_hint (WrongKind field) table row column =
+    only_if (not (is_some (entry table row column))) (wrong_entry row column seen.Other any_distance)
+entry_hint DistanceRange table row column =
+    only_if (nat_lt max_distance (distance table row column)) (wrong_entry row column (seen.Number (distance table row column)) any_distance)
+entry_hint Diagonal table row column =
+    only_if ((row == column) && not (distance table row column == 0))
+    (wrong_entry row column (seen.Number (distance table row column)) (wanted.Exactly 0))
+entry_hint Asymmetric table row column =
+    only_if (not (distance table row column == distance table column row))
+    (TwoDistances (row + 1) (column + 1) (distance table row column) (distance table column row))
+entry_hint fault table row column = None
 
-abbrev pub entry_hint : LeagueFault → Data → ℕ → ℕ → Option Hint
-entry_hint fault table row column = only_if (is_wrong_entry fault table row column) (Distance (row + 1) (column + 1))
+-- the first of the row's items that has the fault
+abbrev pub entries_hint : LeagueFault → Data → ℕ → Option Hint
+entries_hint fault table row = first_below (columns table row) (entry_hint fault table row)
 
--- a row that has the fault, or the first of its items that does
 abbrev pub row_hint : LeagueFault → ℕ → Data → ℕ → Option Hint
-row_hint fault n table row =
-    if is_wrong_row fault n table row then Some (Row (row + 1)) else first_below (columns table row) (entry_hint fault table row)
+row_hint fault n table row = or_else (whole_row_hint fault n table row) (entries_hint fault table row)
 
 -- the first of the rows
 abbrev pub table_hint : LeagueFault → ℕ → Data → Option Hint

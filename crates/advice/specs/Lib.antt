@@ -1,7 +1,9 @@
 pub mod Firsts
 pub mod Lines
+pub mod Teams
 pub mod Distances
 pub mod Needs
+pub mod Seen
 pub mod Rules
 pub mod Hints
 pub mod Remarks

@@ -1,9 +1,16 @@
 -- What a hint says.
-use Rattle.std.specs.Prelude.{ℕ, List, ◌++◌, Bool, codes, decimal, if◌then◌else◌}
+use Rattle.std.specs.Prelude.{ℕ, List, [], ◌∷◌, ◌++◌, codes, decimal}
+use Rattle.std.specs.List.{concat}
 use Rattle.advice.specs.declared.hint.Hint.{Hint}
 use Rattle.advice.specs.declared.hint.Hint.TheVariants as hint
+use Rattle.advice.specs.declared.hint.Place.{Place}
+use Rattle.advice.specs.declared.hint.Place.TheVariants as place
 use Rattle.advice.specs.declared.hint.RuleMember.{RuleMember}
 use Rattle.advice.specs.declared.hint.RuleMember.TheVariants as member
+use Rattle.advice.specs.declared.hint.Seen.{Seen}
+use Rattle.advice.specs.declared.hint.Seen.TheVariants as seen
+use Rattle.advice.specs.declared.hint.Wanted.{Wanted}
+use Rattle.advice.specs.declared.hint.Wanted.TheVariants as wanted
 
 abbrev pub rule_member_name : RuleMember → List ℕ
 rule_member_name member.Class = codes "class"
@@ -20,18 +27,49 @@ rule_member_name member.Min = codes "min"
 rule_member_name member.Intp = codes "intp"
 rule_member_name member.Games = codes "games"
 
-abbrev pub state_word : Bool → List ℕ
-state_word absent = if absent then codes "absent" else codes "wrong"
+abbrev pub place_words : Place → List ℕ
+place_words (place.Team team) = codes "teams: number " ++ decimal team
+place_words (place.Row row) = codes "distances: row " ++ decimal row
+place_words (place.Distance row column) = codes "distances: row " ++ decimal row ++ codes ", column " ++ decimal column
+place_words (place.Member rule member) =
+    concat (codes "rule " ∷ decimal rule ∷ codes ": member \"" ∷ rule_member_name member ∷ codes "\"" ∷ [])
 
-abbrev pub rule_line : ℕ → RuleMember → Bool → List ℕ
-rule_line rule member absent =
-    codes "see rule " ++ decimal rule ++ codes ": member \"" ++ rule_member_name member ++ codes "\" is " ++ state_word absent
+abbrev pub seen_words : Seen → List ℕ
+seen_words seen.Absent = codes "is absent"
+seen_words (seen.Number number) = codes "is " ++ decimal number
+seen_words (seen.Item number) = codes "has " ++ decimal number
+seen_words (seen.Length length) = codes "has length " ++ decimal length
+seen_words (seen.Bytes bytes) = codes "has " ++ decimal bytes ++ codes " bytes"
+seen_words seen.ControlByte = codes "has a control byte"
+seen_words seen.Other = codes "is wrong"
+
+abbrev pub wanted_words : Wanted → List ℕ
+wanted_words wanted.Name = codes "a string of 1 to 40 bytes without control bytes"
+wanted_words wanted.Numbers = codes "an array of numbers"
+wanted_words (wanted.Exactly number) = decimal number
+wanted_words (wanted.Number least most) = codes "a whole number from " ++ decimal least ++ codes " to " ++ decimal most
+wanted_words wanted.FromMin = codes "a number not below \"min\""
+wanted_words wanted.Class = codes "CA1, CA2, CA3, CA4, GA1, BR1, BR2, SE1 or, in format 2, FA2"
+wanted_words wanted.Kind = codes "\"hard\" or \"soft\""
+wanted_words wanted.HomeOrAway = codes "\"H\" or \"A\""
+wanted_words wanted.Side = codes "\"H\", \"A\" or \"HA\""
+wanted_words wanted.SlotChoice = codes "\"EVERY\" or \"GLOBAL\""
+wanted_words (wanted.Teams teams) = codes "an array of team numbers from 1 to " ++ decimal teams
+wanted_words (wanted.Rounds rounds) = codes "an array of round numbers from 1 to " ++ decimal rounds
+wanted_words (wanted.Games teams) = codes "an array of pairs of distinct team numbers from 1 to " ++ decimal teams
+
+abbrev pub way_words : ℕ → ℕ → ℕ → List ℕ
+way_words from to distance = decimal from ++ codes " to " ++ decimal to ++ codes " is " ++ decimal distance
 
 abbrev pub hint_line : Hint → List ℕ
 hint_line (hint.Text line column) = codes "see line " ++ decimal line ++ codes ", column " ++ decimal column
+hint_line hint.ByteOrderMark = codes "see line 1: it begins with a byte order mark"
 hint_line (hint.ScriptBehind line) = codes "see line " ++ decimal line ++ codes ": \"script\" has to stand on a line of its own"
 hint_line (hint.SheetBehind line) = codes "see line " ++ decimal line ++ codes ": \"sheet\" has to stand on a line of its own"
+hint_line (hint.TeamCount teams) = codes "see teams: " ++ decimal teams ++ codes " of them, an even number from 4 to 40 is wanted"
 hint_line (hint.Rows rows teams) = codes "see distances: " ++ decimal rows ++ codes " rows for " ++ decimal teams ++ codes " teams"
-hint_line (hint.Row row) = codes "see distances: row " ++ decimal row
-hint_line (hint.Distance row column) = codes "see distances: row " ++ decimal row ++ codes ", column " ++ decimal column
-hint_line (hint.Rule rule member absent) = rule_line rule member absent
+hint_line (hint.TwoDistances from to there back) =
+    codes "see distances: " ++ way_words from to there ++ codes ", " ++ way_words to from back
+hint_line (hint.SecondFormat rule) = codes "see rule " ++ decimal rule ++ codes ": class FA2 needs \"format\": 2"
+hint_line (hint.Value place seen wanted) =
+    concat (codes "see " ∷ place_words place ∷ codes " " ∷ seen_words seen ∷ codes ", " ∷ wanted_words wanted ∷ codes " is wanted" ∷ [])

@@ -4,10 +4,13 @@ use Rattle.std.specs.Str.{bytes_eq}
 use Rattle.serde_json.specs.Data.{Data}
 use Rattle.serde_json.specs.Find.{get}
 use Rattle.league.specs.Json.{number_within}
+use Rattle.league.specs.Limits.{round_count, max_weight, max_count}
 use Rattle.league.specs.RuleMembers.{text_member, teams_member, opponents_member, slots_member, count_member, window_member}
 use Rattle.league.specs.RuleMembers.{one_side_member, any_side_member, each_member, games_member, weight_of}
 use Rattle.advice.specs.declared.hint.RuleMember.{RuleMember}
 use Rattle.advice.specs.declared.hint.RuleMember.TheVariants as member
+use Rattle.advice.specs.declared.hint.Wanted.{Wanted}
+use Rattle.advice.specs.declared.hint.Wanted.TheVariants as wanted
 use Rattle.advice.specs.declared.needs.Need.{Need}
 use Rattle.advice.specs.declared.needs.Need.TheVariants as need
 use Rattle.advice.specs.Lines.{rule_member_name}
@@ -25,6 +28,21 @@ member_of need.Games = member.Games
 member_of need.Window = member.Intp
 member_of (need.Count m) = m
 member_of need.MaxFromMin = member.Max
+
+-- what that has to be in a rule of n teams
+abbrev pub wanted_of : ℕ → Need → Wanted
+wanted_of n need.Kind = wanted.Kind
+wanted_of n need.Weight = wanted.Number 1 max_weight
+wanted_of n (need.Teams m) = wanted.Teams n
+wanted_of n need.Opponents = wanted.Teams n
+wanted_of n need.Slots = wanted.Rounds (round_count n)
+wanted_of n need.HomeOrAway = wanted.HomeOrAway
+wanted_of n need.Side = wanted.Side
+wanted_of n need.SlotChoice = wanted.SlotChoice
+wanted_of n need.Games = wanted.Games n
+wanted_of n need.Window = wanted.Number 1 (round_count n)
+wanted_of n (need.Count m) = wanted.Number 0 max_count
+wanted_of n need.MaxFromMin = wanted.FromMin
 
 -- a kind that there is
 abbrev pub is_kind : Option (List ℕ) → Bool

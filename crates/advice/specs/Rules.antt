@@ -1,19 +1,22 @@
--- Which member of a rule is wrong.
-use Rattle.std.specs.Prelude.{ℕ, ◌+◌, List, [], ◌∷◌, codes, not, Option, Some, None, is_some, option_map}
+-- Which member of a rule is wrong, and what is wanted.
+use Rattle.std.specs.Prelude.{ℕ, ◌+◌, List, [], ◌∷◌, codes, Bool, false, Option, Some, None, option_map}
 use Rattle.std.specs.Prelude.{option_and_then, if◌then◌else◌}
 use Rattle.std.specs.Str.{bytes_eq}
 use Rattle.serde_json.specs.Data.{Data}
-use Rattle.serde_json.specs.Find.{get}
 use Rattle.league.specs.RuleMembers.{text_member}
 use Rattle.advice.specs.declared.hint.Hint.{Hint}
 use Rattle.advice.specs.declared.hint.Hint.TheVariants as hint
+use Rattle.advice.specs.declared.hint.Place.TheVariants.{Member}
 use Rattle.advice.specs.declared.hint.RuleMember.{RuleMember}
 use Rattle.advice.specs.declared.hint.RuleMember.TheVariants as member
+use Rattle.advice.specs.declared.hint.Wanted.{Wanted}
+use Rattle.advice.specs.declared.hint.Wanted.TheVariants as wanted
 use Rattle.advice.specs.declared.needs.Need.{Need}
 use Rattle.advice.specs.declared.needs.Need.TheVariants as need
 use Rattle.advice.specs.Lines.{rule_member_name}
-use Rattle.advice.specs.Needs.{is_met, member_of}
+use Rattle.advice.specs.Needs.{is_met, member_of, wanted_of}
 use Rattle.advice.specs.Firsts.{or_else}
+use Rattle.advice.specs.Seen.{seen_of}
 
 -- the first of the needs that a rule of n teams doesn't meet
 abbrev pub first_unmet : ℕ → Data → List Need → Option Need
@@ -58,13 +61,19 @@ unmet_of n d needs = or_else (first_unmet n d (need.Kind ∷ need.Weight ∷ [])
 abbrev pub unmet : ℕ → Data → Option Need
 unmet n d = option_and_then (unmet_of n d) (option_and_then needs_of (text_member (codes "class") d))
 
-abbrev pub member_hint : ℕ → Data → RuleMember → Hint
-member_hint i d member = hint.Rule (i + 1) member (not (is_some (get (rule_member_name member) d)))
+abbrev pub member_hint : ℕ → Data → RuleMember → Wanted → Hint
+member_hint i d member wanted = hint.Value (Member (i + 1) member) (seen_of (rule_member_name member) wanted d) wanted
 
--- the rule at an index has no class that is known
+-- the class that only the second format knows
+abbrev pub is_fa2 : Option (List ℕ) → Bool
+is_fa2 None = false
+is_fa2 (Some name) = bytes_eq name (codes "FA2")
+
+-- the rule at an index has no class that its format knows
 abbrev pub class_hint : ℕ → Data → Hint
-class_hint i d = member_hint i d member.Class
+class_hint i d =
+    if is_fa2 (text_member (codes "class") d) then hint.SecondFormat (i + 1) else member_hint i d member.Class wanted.Class
 
 -- the rule at an index has a wrong value
 abbrev pub rule_hint : ℕ → ℕ → Data → Option Hint
-rule_hint i n d = option_map (λ x. member_hint i d (member_of x)) (unmet n d)
+rule_hint i n d = option_map (λ x. member_hint i d (member_of x) (wanted_of n x)) (unmet n d)

@@ -2,14 +2,17 @@
 
 ghost use Rattle.std.specs.Prelude.{◌≡◌, ◌+◌, ◌^◌, ◌<◌};
 ghost use Rattle.serde_json.specs.View.{view};
-ghost use Rattle.advice.specs.Distances.{entry, distance, columns, is_wrong_row, is_wrong_entry, row_hint, table_hint};
-ghost use Rattle.advice.specs.Distances.{shape_hint, distances_hint};
+ghost use Rattle.advice.specs.Distances.{entry, distance, columns, whole_row_hint, entry_hint, entries_hint, row_hint};
+ghost use Rattle.advice.specs.Distances.{table_hint, shape_hint, distances_hint};
 
 use crate::forms::item_count;
-use crate::hint::Hint;
+use crate::hint::{Hint, Place, Seen, Wanted};
 use league::LeagueFault;
 use league::limits::MAX_DISTANCE;
 use serde_json::Value;
+
+/// What a distance has to be.
+const DISTANCE: Wanted = Wanted::Number(0, MAX_DISTANCE);
 
 /// Where a table of distances between so many teams has the fault.
 pub(crate) fn distances_hint(table: &Value, teams: usize, fault: LeagueFault) -> Option<Hint>
@@ -45,20 +48,25 @@ fn table_hint(table: &Value, teams: usize, fault: LeagueFault) -> Option<Hint>
     None
 }
 
-#[tactic(auto, using(crate::proofs::Firsts::found_below))]
 fn row_hint(table: &Value, teams: usize, fault: LeagueFault, row: usize) -> Option<Hint>
     requires { row + 1 < 2 ^ 64 }
     ensures { result ≡ row_hint fault teams (view table.now) row }
 {
-    if is_wrong_row(table, teams, fault, row) {
-        return Some(Hint::Row(row + 1));
+    match whole_row_hint(table, teams, fault, row) {
+        Some(hint) => Some(hint),
+        None => entries_hint(table, fault, row),
     }
+}
+
+/// The first number in a row that has the fault.
+#[tactic(auto, using(crate::proofs::Firsts::found_below))]
+fn entries_hint(table: &Value, fault: LeagueFault, row: usize) -> Option<Hint>
+    requires { row + 1 < 2 ^ 64 }
+    ensures { result ≡ entries_hint fault (view table.now) row }
+{
     for column in 0..columns(table, row) {
-        if is_wrong_entry(table, fault, row, column) {
-            return Some(Hint::Distance {
-                row: row + 1,
-                column: column + 1,
-            });
+        if let Some(hint) = entry_hint(table, fault, row, column) {
+            return Some(hint);
         }
     }
     None
@@ -74,27 +82,60 @@ fn columns(table: &Value, row: usize) -> usize
     }
 }
 
-/// Whether it is the row as a whole that has the fault.
-fn is_wrong_row(table: &Value, teams: usize, fault: LeagueFault, row: usize) -> bool
-    ensures { result ≡ is_wrong_row fault teams (view table.now) row }
+/// A hint on the row as a whole, if that has the fault.
+fn whole_row_hint(table: &Value, teams: usize, fault: LeagueFault, row: usize) -> Option<Hint>
+    requires { row + 1 < 2 ^ 64 }
+    ensures { result ≡ whole_row_hint fault teams (view table.now) row }
 {
+    let place = Place::Row(row + 1);
     match fault {
-        LeagueFault::WrongKind(_) => table.get(row).and_then(|row| row.as_array()).is_none(),
-        LeagueFault::DistanceShape => columns(table, row) != teams,
-        _ => false,
+        LeagueFault::WrongKind(_) => {
+            let items = table.get(row).and_then(|row| row.as_array());
+            let wrong = Hint::Value(place, Seen::Other, Wanted::Numbers);
+            items.is_none().then_some(wrong)
+        }
+        LeagueFault::DistanceShape => {
+            let length = columns(table, row);
+            let wrong = Hint::Value(place, Seen::Length(length), Wanted::Exactly(teams));
+            (length != teams).then_some(wrong)
+        }
+        _ => None,
     }
 }
 
-/// Whether the number in a row and column has the fault.
-fn is_wrong_entry(table: &Value, fault: LeagueFault, row: usize, column: usize) -> bool
-    ensures { result ≡ is_wrong_entry fault (view table.now) row column }
+/// A hint on the number in a row and column, if that has the fault.
+#[tactic(auto, unfolding(crate::specs::Distances::entry_hint))]
+fn entry_hint(table: &Value, fault: LeagueFault, row: usize, column: usize) -> Option<Hint>
+    requires row { row + 1 < 2 ^ 64 }
+    requires column { column + 1 < 2 ^ 64 }
+    ensures { result ≡ entry_hint fault (view table.now) row column }
 {
+    let place = Place::Distance(row + 1, column + 1);
+    let there = distance(table, row, column);
     match fault {
-        LeagueFault::WrongKind(_) => entry(table, row, column).is_none(),
-        LeagueFault::DistanceRange => distance(table, row, column) > MAX_DISTANCE,
-        LeagueFault::Diagonal => row == column && distance(table, row, column) != 0,
-        LeagueFault::Asymmetric => distance(table, row, column) != distance(table, column, row),
-        _ => false,
+        LeagueFault::WrongKind(_) => {
+            let wrong = Hint::Value(place, Seen::Other, DISTANCE);
+            entry(table, row, column).is_none().then_some(wrong)
+        }
+        LeagueFault::DistanceRange => {
+            let wrong = Hint::Value(place, Seen::Number(there), DISTANCE);
+            (there > MAX_DISTANCE).then_some(wrong)
+        }
+        LeagueFault::Diagonal => {
+            let wrong = Hint::Value(place, Seen::Number(there), Wanted::Exactly(0));
+            (row == column && there != 0).then_some(wrong)
+        }
+        LeagueFault::Asymmetric => {
+            let back = distance(table, column, row);
+            let wrong = Hint::TwoDistances {
+                from: row + 1,
+                to: column + 1,
+                there,
+                back,
+            };
+            (there != back).then_some(wrong)
+        }
+        _ => None,
     }
 }
 

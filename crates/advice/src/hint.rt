@@ -1,7 +1,7 @@
-//! Where the first fault of a league's text lies.
+//! Where the first fault of a league's text lies, what is seen there, and what is wanted.
 
 ghost use Rattle.std.specs.Prelude.{◌≡◌, Some};
-ghost use Rattle.advice.specs.Lines.{hint_line, rule_member_name, state_word};
+ghost use Rattle.advice.specs.Lines.{hint_line, place_words, rule_member_name, seen_words, wanted_words};
 
 use std::fmt;
 
@@ -13,28 +13,43 @@ pub enum Hint {
         line: usize,
         column: usize,
     },
+    /// The text isn't JSON, and begins with a byte order mark.
+    ByteOrderMark,
     /// This line ends with `script`, which has to stand on a line of its own.
     ScriptBehind(usize),
     /// The same of `sheet`.
     SheetBehind(usize),
+    /// There are so many teams, and no league has as many.
+    TeamCount(usize),
     /// The distances have another number of rows than there are teams.
     Rows {
         rows: usize,
         teams: usize,
     },
-    /// This row of the distances is no array with one number for each team.
+    /// The distance from one team to another isn't the one back.
+    TwoDistances {
+        from: usize,
+        to: usize,
+        there: u64,
+        back: u64,
+    },
+    /// This rule has the class that only the second format knows.
+    SecondFormat(u16),
+    /// What is seen at this place isn't what is wanted there.
+    Value(Place, Seen, Wanted),
+}
+
+/// A place in a league's text.
+#[derive(Clone, Copy, Debug, Drop, PartialEq, Eq)]
+pub enum Place {
+    /// The name of this team.
+    Team(usize),
+    /// This row of the distances.
     Row(usize),
-    /// This distance is wrong, by itself or beside the one of the way back.
-    Distance {
-        row: usize,
-        column: usize,
-    },
-    /// This member of a rule is absent, or isn't of the form that the rule's class asks for.
-    Rule {
-        rule: u16,
-        member: RuleMember,
-        absent: bool,
-    },
+    /// The distance in this row and column.
+    Distance(usize, usize),
+    /// This member of the rule of this number.
+    Member(u16, RuleMember),
 }
 
 /// A member of a rule's text.
@@ -53,6 +68,56 @@ pub enum RuleMember {
     Min,
     Intp,
     Games,
+}
+
+/// What is seen at a place, and isn't wanted there.
+#[derive(Clone, Copy, Debug, Drop, PartialEq, Eq)]
+pub enum Seen {
+    /// Nothing.
+    Absent,
+    /// This whole number.
+    Number(u64),
+    /// An array with this number.
+    Item(u64),
+    /// An array of so many items.
+    Length(usize),
+    /// A text of so many bytes.
+    Bytes(usize),
+    /// A text with a control byte.
+    ControlByte,
+    /// Something else.
+    Other,
+}
+
+/// What is wanted at a place.
+#[derive(Clone, Copy, Debug, Drop, PartialEq, Eq)]
+pub enum Wanted {
+    /// The name of a team.
+    Name,
+    /// An array of numbers.
+    Numbers,
+    /// This number.
+    Exactly(usize),
+    /// A whole number from the first to the second.
+    Number(u64, u64),
+    /// A number that isn't below `min`.
+    FromMin,
+    /// The name of a class.
+    Class,
+    /// `"hard"` or `"soft"`.
+    Kind,
+    /// `"H"` or `"A"`.
+    HomeOrAway,
+    /// `"H"`, `"A"` or `"HA"`.
+    Side,
+    /// `"EVERY"` or `"GLOBAL"`.
+    SlotChoice,
+    /// Numbers of teams, of which there are so many.
+    Teams(u8),
+    /// Numbers of rounds, of which there are so many.
+    Rounds(u8),
+    /// Pairs of teams, of which there are so many.
+    Games(u8),
 }
 
 impl RuleMember {
@@ -78,13 +143,14 @@ impl RuleMember {
     }
 }
 
-/// Writes a line without its end, as `see rule 3: member "max" is absent`.
+/// Writes a line without its end, as `see distances: row 3, column 3 is 5, 0 is wanted`.
 impl fmt::Display for Hint {
     ghost output = { λ hint. Some (hint_line hint) };
 
     fn fmt<W: fmt::Write>(&self, f: &mut fmt::Formatter<W>) -> fmt::Result {
         match *self {
             Hint::Text { line, column } => write!(f, "see line {line}, column {column}"),
+            Hint::ByteOrderMark => f.write_str("see line 1: it begins with a byte order mark"),
             Hint::ScriptBehind(line) => {
                 write!(
                     f,
@@ -97,28 +163,96 @@ impl fmt::Display for Hint {
                     "see line {line}: \"sheet\" has to stand on a line of its own"
                 )
             }
+            Hint::TeamCount(teams) => {
+                write!(
+                    f,
+                    "see teams: {teams} of them, an even number from 4 to 40 is wanted"
+                )
+            }
             Hint::Rows { rows, teams } => {
                 write!(f, "see distances: {rows} rows for {teams} teams")
             }
-            Hint::Row(row) => write!(f, "see distances: row {row}"),
-            Hint::Distance { row, column } => {
-                write!(f, "see distances: row {row}, column {column}")
-            }
-            Hint::Rule {
-                rule,
-                member,
-                absent,
+            Hint::TwoDistances {
+                from,
+                to,
+                there,
+                back,
             } => {
-                let name = member.name();
-                let state = state_word(absent);
-                write!(f, "see rule {rule}: member \"{name}\" is {state}")
+                write!(
+                    f,
+                    "see distances: {from} to {to} is {there}, {to} to {from} is {back}"
+                )
+            }
+            Hint::SecondFormat(rule) => {
+                write!(f, "see rule {rule}: class FA2 needs \"format\": 2")
+            }
+            Hint::Value(place, seen, wanted) => {
+                write!(f, "see {place} {seen}, {wanted} is wanted")
             }
         }
     }
 }
 
-fn state_word(absent: bool) -> &'static str
-    ensures { result.now ≡ state_word absent }
-{
-    if absent { "absent" } else { "wrong" }
+/// Writes what the line has for it, as `distances: row 3`.
+impl fmt::Display for Place {
+    ghost output = { λ place. Some (place_words place) };
+
+    fn fmt<W: fmt::Write>(&self, f: &mut fmt::Formatter<W>) -> fmt::Result {
+        match *self {
+            Place::Team(team) => write!(f, "teams: number {team}"),
+            Place::Row(row) => write!(f, "distances: row {row}"),
+            Place::Distance(row, column) => write!(f, "distances: row {row}, column {column}"),
+            Place::Member(rule, member) => {
+                let name = member.name();
+                write!(f, "rule {rule}: member \"{name}\"")
+            }
+        }
+    }
+}
+
+/// Writes what the line has for it, as `is absent`.
+impl fmt::Display for Seen {
+    ghost output = { λ seen. Some (seen_words seen) };
+
+    fn fmt<W: fmt::Write>(&self, f: &mut fmt::Formatter<W>) -> fmt::Result {
+        match *self {
+            Seen::Absent => f.write_str("is absent"),
+            Seen::Number(number) => write!(f, "is {number}"),
+            Seen::Item(number) => write!(f, "has {number}"),
+            Seen::Length(length) => write!(f, "has length {length}"),
+            Seen::Bytes(bytes) => write!(f, "has {bytes} bytes"),
+            Seen::ControlByte => f.write_str("has a control byte"),
+            Seen::Other => f.write_str("is wrong"),
+        }
+    }
+}
+
+/// Writes what the line has for it, as `a whole number from 1 to 6`.
+impl fmt::Display for Wanted {
+    ghost output = { λ wanted. Some (wanted_words wanted) };
+
+    fn fmt<W: fmt::Write>(&self, f: &mut fmt::Formatter<W>) -> fmt::Result {
+        match *self {
+            Wanted::Name => f.write_str("a string of 1 to 40 bytes without control bytes"),
+            Wanted::Numbers => f.write_str("an array of numbers"),
+            Wanted::Exactly(number) => write!(f, "{number}"),
+            Wanted::Number(least, most) => write!(f, "a whole number from {least} to {most}"),
+            Wanted::FromMin => f.write_str("a number not below \"min\""),
+            Wanted::Class => {
+                f.write_str("CA1, CA2, CA3, CA4, GA1, BR1, BR2, SE1 or, in format 2, FA2")
+            }
+            Wanted::Kind => f.write_str("\"hard\" or \"soft\""),
+            Wanted::HomeOrAway => f.write_str("\"H\" or \"A\""),
+            Wanted::Side => f.write_str("\"H\", \"A\" or \"HA\""),
+            Wanted::SlotChoice => f.write_str("\"EVERY\" or \"GLOBAL\""),
+            Wanted::Teams(teams) => write!(f, "an array of team numbers from 1 to {teams}"),
+            Wanted::Rounds(rounds) => write!(f, "an array of round numbers from 1 to {rounds}"),
+            Wanted::Games(teams) => {
+                write!(
+                    f,
+                    "an array of pairs of distinct team numbers from 1 to {teams}"
+                )
+            }
+        }
+    }
 }

@@ -10,15 +10,16 @@ use crate::forms::item_count;
 use crate::hint::Hint;
 use crate::json::json_of;
 use crate::rules::{class_hint, rule_hint};
+use crate::teams::teams_hint;
 use league::limits::MAX_TEAMS;
 use league::{Field, LeagueFault};
 use serde_json::Value;
 use std::alloc::{AllocError, Global};
 
-/// Where a league's text has this fault, which has to be the one that [`league::read_league`] answers.
+/// Where a league's text has this fault, which has to be the one that [`league::read_league`] answers, and what is wanted there.
 ///
-/// There is a hint on a text that isn't JSON, on the distances and on a rule. The other faults say all that there is to say,
-/// as does one of distances that are no array. Takes the memory of the text's JSON value.
+/// There is a hint on a text that isn't JSON, on the teams, on the distances and on a rule. The other faults say all that there is
+/// to say, as does one of teams or distances that are no array. Takes the memory of the text's JSON value.
 pub fn hint_on(alloc: Global, text: &[u8], fault: LeagueFault) -> Result<Option<Hint>, AllocError>
     ensures { IfOk result (IsHint text.now fault) }
 {
@@ -32,6 +33,8 @@ fn hint_of(league: &Value, fault: LeagueFault) -> Option<Hint>
     ensures { result ≡ hint_of fault (view league.now) }
 {
     match fault {
+        LeagueFault::WrongKind(Field::Teams) => teams_hint(league.get("teams")?),
+        LeagueFault::TeamCount => Some(Hint::TeamCount(team_count(league)?)),
         LeagueFault::WrongKind(Field::Distances)
         | LeagueFault::DistanceShape
         | LeagueFault::DistanceRange

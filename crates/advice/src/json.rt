@@ -1,9 +1,9 @@
-//! The JSON value of a league's text.
+//! The JSON value of a league's text, or where it stops being JSON.
 
 ghost use Rattle.std.specs.Prelude.{◌≡◌, IfOk, MatchResult, Some};
 ghost use Rattle.serde_json.specs.View.{view};
 ghost use Rattle.league.specs.Json.{json_of};
-ghost use Rattle.advice.specs.Hints.{IsNoJson};
+ghost use Rattle.advice.specs.Hints.{IsNoJson, place};
 
 use crate::hint::Hint;
 use serde_json::{Category, Value};
@@ -17,10 +17,17 @@ pub(crate) fn json_of(alloc: Global, text: &[u8]) -> Result<Result<Value, Hint>,
         Ok(value) => Ok(Ok(value)),
         Err(error) => match error.classify() {
             Category::Memory => Err(AllocError),
-            _ => Ok(Err(Hint::Text {
-                line: error.line(),
-                column: error.column(),
-            })),
+            _ => Ok(Err(place(text, error.line(), error.column()))),
         },
+    }
+}
+
+fn place(text: &[u8], line: usize, column: usize) -> Hint
+    ensures { result ≡ place text.now line column }
+{
+    if text.starts_with(&[0xEF, 0xBB, 0xBF]) {
+        Hint::ByteOrderMark
+    } else {
+        Hint::Text { line, column }
     }
 }

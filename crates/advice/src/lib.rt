@@ -1,5 +1,5 @@
-//! Advice on the text of a league: where the first fault of one that is refused lies, and which members of one that is read no
-//! format knows.
+//! Advice on the text of a league: where the first fault of one that is refused lies and what is wanted there, and which members of
+//! one that is read no format knows.
 #![tactic(auto)]
 
 mod distances;
@@ -10,7 +10,9 @@ mod json;
 mod needs;
 mod remarks;
 mod rules;
+mod seen;
+mod teams;
 
-pub use hint::{Hint, RuleMember};
+pub use hint::{Hint, Place, RuleMember, Seen, Wanted};
 pub use hints::hint_on;
 pub use remarks::remarks_on;

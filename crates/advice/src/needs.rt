@@ -6,10 +6,10 @@ ghost use Rattle.serde_json.specs.View.{view};
 ghost use Rattle.league.specs.Limits.{max_teams, max_count};
 ghost use Rattle.league.specs.RuleMembers.{text_member, teams_member, set_or_all, count_member, one_side_member};
 ghost use Rattle.league.specs.RuleMembers.{any_side_member, each_member, games_member, weight_of};
-ghost use Rattle.advice.specs.Needs.{member_of, is_kind, number_member, are_in_order, is_met};
+ghost use Rattle.advice.specs.Needs.{member_of, wanted_of, is_kind, number_member, are_in_order, is_met};
 
 use crate::forms::{is_game_array, is_number_set, number_within, text_member};
-use crate::hint::RuleMember;
+use crate::hint::{RuleMember, Wanted};
 use league::limits::{MAX_COUNT, MAX_WEIGHT, round_count};
 use serde_json::Value;
 
@@ -58,6 +58,28 @@ impl Need {
             Need::Games => RuleMember::Games,
             Need::Window => RuleMember::Intp,
             Need::MaxFromMin => RuleMember::Max,
+        }
+    }
+
+    /// What the member has to be, of a rule in a league of so many teams.
+    pub(crate) fn wanted(self, teams: u8) -> Wanted
+        requires least { 1 ≤ teams }
+        requires most { teams ≤ max_teams }
+        ensures { result ≡ wanted_of teams self }
+    {
+        let rounds = round_count(teams);
+        match self {
+            Need::Kind => Wanted::Kind,
+            Need::Weight => Wanted::Number(1, MAX_WEIGHT.into()),
+            Need::Teams(_) | Need::Opponents => Wanted::Teams(teams),
+            Need::Slots => Wanted::Rounds(rounds),
+            Need::HomeOrAway => Wanted::HomeOrAway,
+            Need::Side => Wanted::Side,
+            Need::SlotChoice => Wanted::SlotChoice,
+            Need::Games => Wanted::Games(teams),
+            Need::Window => Wanted::Number(1, rounds.into()),
+            Need::Count(_) => Wanted::Number(0, MAX_COUNT.into()),
+            Need::MaxFromMin => Wanted::FromMin,
         }
     }
 

@@ -1,4 +1,4 @@
-//! Which member of a rule is wrong.
+//! Which member of a rule is wrong, and what is wanted.
 
 ghost use Rattle.std.specs.Prelude.{◌≡◌, ◌≤◌, option_map};
 ghost use Rattle.serde_json.specs.View.{view};
@@ -6,8 +6,9 @@ ghost use Rattle.league.specs.Limits.{max_teams};
 ghost use Rattle.advice.specs.Rules.{first_unmet, needs_of, unmet, member_hint, class_hint, rule_hint};
 
 use crate::forms::text_member;
-use crate::hint::{Hint, RuleMember};
+use crate::hint::{Hint, Place, RuleMember, Wanted};
 use crate::needs::Need;
+use crate::seen::seen_of;
 use serde_json::Value;
 
 // what the classes ask of members by these names
@@ -22,11 +23,14 @@ const MAX: Need = Need::Count(RuleMember::Max);
 
 const INTP: Need = Need::Count(RuleMember::Intp);
 
-/// Where the rule at an index lacks a class that is known.
+/// Where the rule at an index lacks a class that its format knows.
 pub(crate) fn class_hint(rule: &Value, index: u8) -> Hint
     ensures { result ≡ class_hint index (view rule.now) }
 {
-    member_hint(rule, index, RuleMember::Class)
+    match text_member(rule, "class") {
+        Some("FA2") => Hint::SecondFormat(u16::from(index) + 1),
+        _ => member_hint(rule, index, RuleMember::Class, Wanted::Class),
+    }
 }
 
 /// Where the rule at an index, of a league of so many teams, has a wrong value.
@@ -36,17 +40,14 @@ pub(crate) fn rule_hint(rule: &Value, teams: u8, index: u8) -> Option<Hint>
     ensures { result ≡ rule_hint index teams (view rule.now) }
 {
     let need = unmet(rule, teams)?;
-    Some(member_hint(rule, index, need.member()))
+    Some(member_hint(rule, index, need.member(), need.wanted(teams)))
 }
 
-fn member_hint(rule: &Value, index: u8, member: RuleMember) -> Hint
-    ensures { result ≡ member_hint index (view rule.now) member }
+fn member_hint(rule: &Value, index: u8, member: RuleMember, wanted: Wanted) -> Hint
+    ensures { result ≡ member_hint index (view rule.now) member wanted }
 {
-    Hint::Rule {
-        rule: u16::from(index) + 1,
-        member,
-        absent: rule.get(member.name()).is_none(),
-    }
+    let place = Place::Member(u16::from(index) + 1, member);
+    Hint::Value(place, seen_of(rule, member.name(), wanted), wanted)
 }
 
 /// The first need of the rule that isn't met, if some format knows its class: of its kind and weight, and then what the class asks for.

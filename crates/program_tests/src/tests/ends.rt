@@ -282,23 +282,19 @@ fn each_command_leaves_a_front_where_a_write_takes_nothing(rt: HostRuntime) -> R
 }
 
 /// What no command takes for a league, why, and where the fault lies.
-const REFUSED: [(&[u8], LeagueFault, Option<Hint>); 2] = [
-    (
-        b"",
-        LeagueFault::NotJson,
-        Some(Hint::Text { line: 1, column: 0 }),
-    ),
+const REFUSED: [(&[u8], LeagueFault, Hint); 2] = [
+    (b"", LeagueFault::NotJson, Hint::Text { line: 1, column: 0 }),
     (
         br#"{"format":1,"teams":["A","B","C"],"distances":[]}"#,
         LeagueFault::TeamCount,
-        None,
+        Hint::TeamCount(3),
     ),
 ];
 
 /// What a command answers to a league with this fault. Only a report tells where it lies.
-fn refusal(command: Command, fault: LeagueFault, hint: Option<Hint>) -> ProgramFault {
-    match (command, hint) {
-        (Command::Report(_), Some(hint)) => ProgramFault::LeagueAt(fault, hint),
+fn refusal(command: Command, fault: LeagueFault, hint: Hint) -> ProgramFault {
+    match command {
+        Command::Report(_) => ProgramFault::LeagueAt(fault, hint),
         _ => ProgramFault::League(fault),
     }
 }

@@ -1,4 +1,3 @@
-use Rattle.std.proofs.Common.{refl}
 use Rattle.advice.proofs.Texts.{json_of-valid, json_of-refused}
 use Rattle.advice.proofs.json.json_of.Goals as goal
 
@@ -10,5 +9,5 @@ returns-in_default c = (
   json_of-refused _ (c.in-Err.ensures.err (λ memory. c.in_default.not-Memory (c.classify.ensures.memory.1 memory))),
   _,
   _,
-  refl,
+  c.place.ensures,
 )

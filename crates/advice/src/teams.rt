@@ -1,0 +1,59 @@
+//! Which team's name is wrong.
+
+ghost use Rattle.std.specs.Prelude.{◌≡◌, ◌+◌, ◌^◌, ◌<◌};
+ghost use Rattle.std.specs.List.{list_all};
+ghost use Rattle.serde_json.specs.View.{view};
+ghost use Rattle.league.specs.LeagueMembers.{is_name_byte};
+ghost use Rattle.advice.specs.Teams.{wrong_text, wrong_name, team_hint, teams_hint};
+
+use crate::forms::item_count;
+use crate::hint::{Hint, Place, Seen, Wanted};
+use league::limits::MAX_NAME;
+use serde_json::Value;
+
+/// The first of the teams whose name is none, and why.
+#[tactic(auto, using(crate::proofs::Firsts::found_below))]
+pub(crate) fn teams_hint(teams: &Value) -> Option<Hint>
+    ensures { result ≡ teams_hint (view teams.now) }
+{
+    for team in 0..item_count(teams) {
+        if let Some(hint) = team_hint(teams, team) {
+            return Some(hint);
+        }
+    }
+    None
+}
+
+fn team_hint(teams: &Value, team: usize) -> Option<Hint>
+    requires { team + 1 < 2 ^ 64 }
+    ensures { result ≡ team_hint (view teams.now) team }
+{
+    let wrong = wrong_name(teams.get(team)?)?;
+    Some(Hint::Value(Place::Team(team + 1), wrong, Wanted::Name))
+}
+
+/// What is seen in place of a name.
+fn wrong_name(value: &Value) -> Option<Seen>
+    ensures { result ≡ wrong_name (view value.now) }
+{
+    match value.as_str() {
+        Some(name) => wrong_text(name),
+        None => Some(Seen::Other),
+    }
+}
+
+fn wrong_text(name: &str) -> Option<Seen>
+    ensures { result ≡ wrong_text name.now }
+{
+    if (1..=MAX_NAME).contains(&name.len()) {
+        (!has_name_bytes(name.as_bytes())).then_some(Seen::ControlByte)
+    } else {
+        Some(Seen::Bytes(name.len()))
+    }
+}
+
+fn has_name_bytes(name: &[u8]) -> bool
+    ensures { result ≡ list_all is_name_byte name.now }
+{
+    name.iter().all(|b| *b >= 32 && *b != 127)
+}
