@@ -72,13 +72,14 @@ no_command_is_no_job : job_of_words (ttp []) ≡ None
 unfolding clap_on_literals
 no_command_is_no_job = refl
 
-improve_has_its_defaults : job_of_words (ttp (codes "improve" ∷ [])) ≡ Some (Improve 2 1 10000000)
+improve_has_its_defaults : job_of_words (ttp (codes "improve" ∷ [])) ≡ Some (Improve 2 1 10000000 0)
 unfolding clap_on_literals
 improve_has_its_defaults = refl
 
 improve_has_its_numbers : job_of_words
-    (ttp (codes "improve" ∷ codes "--workers" ∷ codes "4" ∷ codes "--seed=7" ∷ codes "--effort" ∷ codes "1000000" ∷ []))
-    ≡ Some (Improve 4 7 1000000000000)
+    (ttp (codes "improve" ∷ codes "--workers" ∷ codes "4" ∷ codes "--seed=7" ∷ codes "--effort" ∷ codes "1000000" ∷
+    codes "--seconds=28800" ∷ []))
+    ≡ Some (Improve 4 7 1000000000000 28800)
 unfolding clap_on_literals
 improve_has_its_numbers = refl
 

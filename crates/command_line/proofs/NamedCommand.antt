@@ -176,7 +176,10 @@ improve_sound = (
   record { first = refl; as_written = refl; default_fits = refl },
   (
     record { first = refl; as_written = refl; default_fits = refl },
-    (record { first = refl; as_written = refl; default_fits = refl }, tt),
+    (
+      record { first = refl; as_written = refl; default_fits = refl },
+      (record { first = refl; as_written = refl; default_fits = refl }, tt),
+    ),
   ),
 )
 

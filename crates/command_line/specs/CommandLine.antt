@@ -55,6 +55,10 @@ seed_option = number_option (codes "seed") 0 (2 ^ 64 - 1) (codes "1")
 abbrev pub effort_option : OptionForm
 effort_option = number_option (codes "effort") 1 1000000 (codes "10")
 
+-- for how many seconds improvements follow each other; 0 if there is one alone
+abbrev pub seconds_option : OptionForm
+seconds_option = number_option (codes "seconds") 0 1000000 (codes "0")
+
 -- how many moves each worker draws
 abbrev pub steps_option : OptionForm
 steps_option = number_option (codes "steps") 0 1000000 (codes "1000")
@@ -132,7 +136,7 @@ abbrev pub improve_command : CommandForm
 improve_command = record {
   name = codes "improve";
   words = league_word ∷ [];
-  options = workers_option ∷ seed_option ∷ effort_option ∷ [];
+  options = workers_option ∷ seed_option ∷ effort_option ∷ seconds_option ∷ [];
   free = file_rules ++ start_rules;
 }
 
@@ -185,14 +189,16 @@ program = program_of commands
 abbrev pub number_in : Text → List Row → Option ℕ
 number_in name rows = option_map (λ text. digits_value 10 (without_leading_plus text)) (one_of name rows)
 
--- the improvement by these workers, with this seed and so many million steps
-abbrev pub improve_from : Option ℕ → Option ℕ → Option ℕ → Option Job
-improve_from (Some workers) (Some seed) (Some millions) = Some (Improve workers seed (millions * 1000000))
-improve_from _ _ _ = None
+-- the improvement by these workers, with this seed, so many million steps and so many seconds
+abbrev pub improve_from : Option ℕ → Option ℕ → Option ℕ → Option ℕ → Option Job
+improve_from (Some workers) (Some seed) (Some millions) (Some seconds) = Some (Improve workers seed (millions * 1000000) seconds)
+improve_from _ _ _ _ = None
 
 -- the improvement that stands after the options
 abbrev pub improve_in : List Row → Option Job
-improve_in rows = improve_from (number_in (codes "workers") rows) (number_in (codes "seed") rows) (number_in (codes "effort") rows)
+improve_in rows =
+    improve_from (number_in (codes "workers") rows) (number_in (codes "seed") rows) (number_in (codes "effort") rows)
+    (number_in (codes "seconds") rows)
 
 -- the plan of these workers, seed, steps and slack
 abbrev pub plan_from : Option ℕ → Option ℕ → Option ℕ → Option ℕ → Option SearchPlan
@@ -271,7 +277,7 @@ pub record IsImproveInRange (workers effort : ℕ) : Type 0 where
 abbrev pub IsInRange : Job → Type 0
 IsInRange Start = Unit {0}
 IsInRange (Play room) = room ≤ max_room
-IsInRange (Improve workers seed effort) = IsImproveInRange workers effort
+IsInRange (Improve workers seed effort seconds) = IsImproveInRange workers effort
 IsInRange (Find room plan) = (room ≤ max_room) × IsPlanInRange plan
 IsInRange (Report format) = Unit {0}
 

@@ -50,9 +50,9 @@ Example:
 A season is mended by what it has: rounds 1 to 8 stay, and each game that moves costs 50:
   ttp improve season.json --from last.txt --keep 1-8 --near 50
 
-A night that can be ended at any time, and what goes on from it:
-  ttp improve season.json --effort 10000 --output best.txt --log legs.txt
-  ttp improve season.json --effort 10000 --output best.txt --from best.txt";
+A night of eight hours that can be ended at any time, and what goes on from it:
+  ttp improve season.json --seconds 28800 --output best.txt --log legs.txt
+  ttp improve season.json --seconds 28800 --output best.txt --from best.txt";
 
 pub(crate) const SEARCH_ABOUT: &str =
     "Reads a league from standard input, has workers search for a cheaper schedule on one board,
@@ -84,6 +84,9 @@ pub(crate) const SEED_HELP: &str = "What the workers' draws begin with, any numb
 
 pub(crate) const EFFORT_HELP: &str =
     "How many million moves the workers draw together, 1 to 1000000";
+
+pub(crate) const SECONDS_HELP: &str =
+    "For how many seconds improvements follow each other, each with twice the effort of the one before and the next seed; 0 has one alone";
 
 pub(crate) const STEPS_HELP: &str = "How many moves each worker draws, 0 to 1000000";
 

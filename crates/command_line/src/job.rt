@@ -14,7 +14,7 @@ use crate::help::{
     IMPROVE_ABOUT, IMPROVE_EXAMPLE, PLAY_ABOUT, PLAY_LINES, PROGRAM_ABOUT, PROGRAM_EXAMPLE,
     SEARCH_ABOUT, SEARCH_EXAMPLE, START_ABOUT, START_EXAMPLE, VERSION,
 };
-use crate::number_args::{EFFORT, ROOM, SEED, SLACK, STEPS, WORKERS};
+use crate::number_args::{EFFORT, ROOM, SECONDS, SEED, SLACK, STEPS, WORKERS};
 use crate::refusals::refused;
 use crate::report_args::{format_of, report_command};
 use crate::request::{Request, request_of};
@@ -36,11 +36,13 @@ pub enum Job {
     Play {
         room: u32,
     },
-    /// Anneal the schedule of the league. The effort is in steps of all workers together.
+    /// Anneal the schedule of the league. The effort is in steps of all workers together. If there are seconds it is that of the first of
+    /// several improvements, that follow each other until these are over.
     Improve {
         workers: u32,
         seed: u64,
         effort: u64,
+        seconds: u32,
     },
     /// Search for a cheaper schedule of the league, on a board with room for so many changes.
     Find {
@@ -107,6 +109,7 @@ fn improve_of(values: &ArgMatches) -> Job
         workers: WORKERS.number(values) as u32,
         seed: SEED.number(values),
         effort: EFFORT.number(values) * STEPS_OF_EFFORT,
+        seconds: SECONDS.number(values) as u32,
     }
 }
 
@@ -214,7 +217,8 @@ fn improve_command<'a>(alloc: Global) -> Result<Command<'a>, AllocError>
         .arg(LEAGUE.word(alloc))?
         .arg(WORKERS.arg(alloc))?
         .arg(SEED.arg(alloc))?
-        .arg(EFFORT.arg(alloc))?;
+        .arg(EFFORT.arg(alloc))?
+        .arg(SECONDS.arg(alloc))?;
     let with_files = with_file_options(alloc, command)?;
     with_start_options(alloc, with_files)
 }

@@ -4,7 +4,9 @@ ghost use Rattle.std.specs.Prelude.{◌≡◌, ◌≤◌, Some, false};
 ghost use Rattle.clap.specs.Words.{found_of, rows_of, rule_of as rule_of_arg};
 ghost use Rattle.command_line.specs.CommandLine.{HasValue, form_of, number_in, rule_of};
 
-use crate::help::{EFFORT_HELP, ROOM_HELP, SEED_HELP, SLACK_HELP, STEPS_HELP, WORKERS_HELP};
+use crate::help::{
+    EFFORT_HELP, ROOM_HELP, SECONDS_HELP, SEED_HELP, SLACK_HELP, STEPS_HELP, WORKERS_HELP,
+};
 use clap::builder::ValueParser;
 use clap::{Arg, ArgMatches};
 use fixture_board::MAX_ROOM;
@@ -16,6 +18,9 @@ const MAX_STEPS: u64 = 1_000_000;
 
 /// The most millions of steps of an improvement.
 const MAX_EFFORT: u64 = 1_000_000;
+
+/// The most seconds of an improvement: eleven days and a half.
+const MAX_SECONDS: u64 = 1_000_000;
 
 /// An option: the range of its number, and what stands for it if it isn't given.
 #[derive(Clone, Copy)]
@@ -62,6 +67,15 @@ pub(crate) const EFFORT: NumberArg = NumberArg {
     most: MAX_EFFORT,
     default: "10",
     help: EFFORT_HELP,
+};
+
+pub(crate) const SECONDS: NumberArg = NumberArg {
+    name: "seconds",
+    value_name: "S",
+    least: 0,
+    most: MAX_SECONDS,
+    default: "0",
+    help: SECONDS_HELP,
 };
 
 pub(crate) const STEPS: NumberArg = NumberArg {

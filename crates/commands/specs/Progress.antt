@@ -4,6 +4,8 @@ use Rattle.std.specs.Prelude.{false, Option, Some, None}
 use Rattle.std.specs.Time.{instant_nanos}
 use Rattle.std.specs.declared.time.Instant.{Instant}
 use Rattle.search.specs.declared.gates.Progress.{Progress}
+use Rattle.commands.specs.declared.progress.Extent.{Extent}
+use Rattle.commands.specs.declared.progress.Extent.TheVariants.{Steps, Seconds}
 use Rattle.commands.specs.declared.progress.Reached.{Reached}
 use Rattle.texts.specs.declared.progress_text.Advance.{Advance}
 
@@ -32,9 +34,25 @@ seconds_left steps all (Some since) (Some now) =
     if steps == 0 then None
     else Some (min ((all - steps) * min (millis since now) (2 ^ 64 - 1) / (steps * 1000)) (2 ^ 64 - 1))
 
+-- how many of these seconds are left
+abbrev pub seconds_of : ℕ → Option Instant → Option Instant → Option ℕ
+seconds_of seconds None now = None
+seconds_of seconds (Some since) None = None
+seconds_of seconds (Some since) (Some now) = Some (seconds - millis since now / 1000)
+
+-- how many steps these seconds make, if they go on as they did. They stop at the greatest `u64`
+abbrev pub steps_within : ℕ → ℕ → Option Instant → Option Instant → ℕ
+steps_within steps seconds None now = steps
+steps_within steps seconds (Some since) None = steps
+steps_within steps seconds (Some since) (Some now) =
+    max steps (min (steps * (seconds * 1000) / max (millis since now) 1) (2 ^ 64 - 1))
+
 -- what a line shows
-abbrev pub advance_of : Reached → ℕ → Option Instant → Option Instant → Advance
-advance_of r all since now = record { steps = r.steps; all = all; least = r.least; left = seconds_left r.steps all since now }
+abbrev pub advance_of : Reached → Extent → Option Instant → Option Instant → Advance
+advance_of r (Steps all) since now =
+    record { steps = r.steps; all = all; least = r.least; left = seconds_left r.steps all since now }
+advance_of r (Seconds s) since now =
+    record { steps = r.steps; all = steps_within r.steps s since now; least = r.least; left = seconds_of s since now }
 
 -- a line is to come again, or a quarter of a second has passed since it was written, taken away or first asked for
 abbrev pub is_due : Bool → Option Instant → Instant → Bool

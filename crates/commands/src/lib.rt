@@ -20,7 +20,7 @@ pub use improve_command::{improve, improve_from, improve_on};
 pub use improvement::{ImprovePlan, LegEnded, NoWatcher, Watcher};
 pub use play_command::{play, play_from, play_on};
 pub use policy::MOST_EFFORT;
-pub use progress::ProgressLine;
+pub use progress::{Extent, ProgressLine};
 pub use report_command::{report, report_from, report_on};
 pub use report_formats::Format;
 pub use search::{Gate, NoGate, Outcome, SearchPlan, Workplace};

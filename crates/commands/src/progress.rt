@@ -4,7 +4,8 @@ ghost use Rattle.std.specs.Prelude.{◌≡◌, OnOk, OnErr, Some, true, false};
 ghost use Rattle.std.specs.Io.KnownBytes.{Appends};
 ghost use Rattle.streams.specs.Sending.{AppendsPrefix};
 ghost use Rattle.texts.specs.ProgressText.{clear_line, progress_line};
-ghost use Rattle.commands.specs.Progress.{advance_of, first, is_due, last_after, pause_after, reached_with, seconds_left};
+ghost use Rattle.commands.specs.Progress.{advance_of, first, is_due, last_after, pause_after, reached_with, seconds_left, seconds_of};
+ghost use Rattle.commands.specs.Progress.{steps_within};
 
 use search::{Gate, Progress, SearchPlan};
 use std::sync::atomic::{AtomicU32, Ordering};
@@ -25,6 +26,15 @@ const LATE: u128 = 64;
 /// The most steps between two tellings of a worker.
 const MOST_STEPS: u32 = 4096;
 
+/// How much the workers are to do.
+#[derive(Clone, Copy)]
+pub enum Extent {
+    /// So many steps in all.
+    Steps(u64),
+    /// As many steps as they get done in so many seconds.
+    Seconds(u32),
+}
+
 /// Writes on a terminal how many steps the workers took, the least total that they told of, and how long the other steps may
 /// take. The line is written a few times a second, each over the one before. At an end it is written a last time and taken
 /// away, so that a text can be written. If workers begin after that, the next telling writes it again. No worker waits for the
@@ -42,18 +52,18 @@ impl<'a, C: Clock, W: Sink> ProgressLine<'a, C, W> {
     /// A line of a search by this plan, which isn't written yet.
     pub fn new(clock: &'a C, terminal: W, plan: SearchPlan) -> Self {
         let steps = u64::from(plan.workers) * u64::from(plan.steps);
-        ProgressLine::over(clock, terminal, steps)
+        ProgressLine::over(clock, terminal, Extent::Steps(steps))
     }
 
-    /// A line of runs, one after another, whose workers take so many steps in all. It isn't written yet.
-    pub fn over(clock: &'a C, terminal: W, steps: u64) -> Self {
+    /// A line of runs, one after another, whose workers do so much in all. It isn't written yet.
+    pub fn over(clock: &'a C, terminal: W, extent: Extent) -> Self {
         let reached = Reached {
             steps: 0,
             least: None,
         };
         let line = Line {
             terminal,
-            all: steps,
+            extent,
             since: None,
             last: None,
             told: None,
@@ -138,8 +148,7 @@ impl Reached {
 #[derive(Drop)]
 struct Line<W> {
     terminal: W,
-    /// How many steps the workers take in all.
-    all: u64,
+    extent: Extent,
     /// When the first worker began.
     since: Option<Instant>,
     /// When the line was written or taken away last or, before the first one, was first asked for.
@@ -202,9 +211,9 @@ impl<W: Sink> Line<W> {
     /// Writes the line over the one that stands.
     fn show(&mut self, reached: Reached, now: Option<Instant>) -> Result<(), WriteFault>
         ensures ok { OnOk result (Appends (W.held self.old.terminal) (W.held self.new.terminal)
-            (progress_line (advance_of reached self.old.all self.old.since now))) }
+            (progress_line (advance_of reached self.old.extent self.old.since now))) }
         ensures prefix { OnErr result (AppendsPrefix (W.held self.old.terminal) (W.held self.new.terminal)
-            (progress_line (advance_of reached self.old.all self.old.since now))) }
+            (progress_line (advance_of reached self.old.extent self.old.since now))) }
         ensures written { self.new.written ≡ true }
         ensures taken { self.new.taken ≡ false }
         ensures again { self.new.again ≡ false }
@@ -212,20 +221,58 @@ impl<W: Sink> Line<W> {
         self.written = true;
         self.taken = false;
         self.again = false;
-        let advance = Advance {
-            steps: reached.steps,
-            all: self.all,
-            least: reached.least,
-            left: self.seconds_left(reached.steps, now),
-        };
+        let advance = self.advance(reached, now);
         let mut out = BufferedSink::new(&mut self.terminal);
         write_progress(&mut out, advance)?;
         out.flush()
     }
 
+    /// What the line shows. If there is a time for it, all steps are those that come to be if they go on as they did.
+    fn advance(&self, reached: Reached, now: Option<Instant>) -> Advance
+        ensures { result ≡ advance_of reached self.now.extent self.now.since now }
+    {
+        let steps = reached.steps;
+        let (all, left) = match self.extent {
+            Extent::Steps(all) => (all, self.seconds_left(steps, all, now)),
+            Extent::Seconds(seconds) => (
+                self.steps_within(steps, seconds, now),
+                self.seconds_of(seconds, now),
+            ),
+        };
+        Advance {
+            steps,
+            all,
+            least: reached.least,
+            left,
+        }
+    }
+
+    /// How many steps these seconds make, if they go on as they did.
+    fn steps_within(&self, steps: u64, seconds: u32, now: Option<Instant>) -> u64
+        ensures { result ≡ steps_within steps seconds self.now.since now }
+    {
+        let (Some(since), Some(now)) = (self.since, now) else {
+            return steps;
+        };
+        let passed = now.duration_since(since).as_millis().max(1);
+        let within = u128::from(steps) * (u128::from(seconds) * 1000) / passed;
+        steps.max(within.min(u128::from(u64::MAX)) as u64)
+    }
+
+    /// How many of these seconds are left.
+    fn seconds_of(&self, seconds: u32, now: Option<Instant>) -> Option<u64>
+        ensures { result ≡ seconds_of seconds self.now.since now }
+    {
+        let (Some(since), Some(now)) = (self.since, now) else {
+            return None;
+        };
+        let passed = now.duration_since(since).as_millis() / 1000;
+        Some(u128::from(seconds).saturating_sub(passed) as u64)
+    }
+
     /// How many seconds the other steps take, if each takes as long as those so far did.
-    fn seconds_left(&self, steps: u64, now: Option<Instant>) -> Option<u64>
-        ensures { result ≡ seconds_left steps self.now.all self.now.since now }
+    fn seconds_left(&self, steps: u64, all: u64, now: Option<Instant>) -> Option<u64>
+        ensures { result ≡ seconds_left steps all self.now.since now }
     {
         let (Some(since), Some(now)) = (self.since, now) else {
             return None;
@@ -237,7 +284,7 @@ impl<W: Sink> Line<W> {
             .duration_since(since)
             .as_millis()
             .min(u128::from(u64::MAX));
-        let left = u128::from(self.all.saturating_sub(steps));
+        let left = u128::from(all.saturating_sub(steps));
         let seconds = left * passed / (u128::from(steps) * 1000);
         Some(seconds.min(u128::from(u64::MAX)) as u64)
     }

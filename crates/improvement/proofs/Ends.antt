@@ -1,6 +1,5 @@
 -- The end of an improvement: what is written when all legs were told, and what the sink has got.
-use Rattle.std.proofs.Common.{◌≡◌, ℕ, List, [], ◌++◌, Option, Result, Ok, Err, refl, sym, ◌∙◌, ap, subst, eq-eqb, inl, inr}
-use Rattle.std.proofs.lemmas.Bool.{cond-true}
+use Rattle.std.proofs.Common.{◌≡◌, ℕ, true, List, [], ◌++◌, Option, Result, Ok, Err, refl, sym, ◌∙◌, ap, subst, inl, inr}
 use Rattle.std.specs.Borrow.{MutBor}
 use Rattle.std.specs.Io.KnownBytes.{Appends}
 use Rattle.league.specs.League.{IsLeague, LeagueData}
@@ -20,39 +19,40 @@ use Rattle.annealing.specs.Walks.{IsUnitOf}
 use Rattle.improvement.specs.declared.plan.ImproveFault.{ImproveFault}
 use Rattle.improvement.specs.declared.plan.ImproveFault.TheVariants.{Workers, Memory, Write}
 use Rattle.improvement.specs.declared.plan.ImprovePlan.{ImprovePlan}
-use Rattle.improvement.specs.Legs.{AreLegs, IsWorkers, LegRun, lead_of, room_of, steps_in}
+use Rattle.improvement.specs.Legs.{AreLegs, IsWorkers, LegRun, lead_of, room_of}
 use Rattle.improvement.specs.LegText.{improve_text, legs_text}
 use Rattle.improvement.specs.Outcome.{Improves}
 use Rattle.improvement.specs.UnderWay.{EndsBy, HasRunAll, HasStopped, HasTold, HasWritten, Sends}
 use Rattle.improvement.proofs.Leads.{lead_legal}
 
-ending_is : (league : LeagueData) (unit : Measure) (effort : ℕ) (legs : List LegRun) → steps_in legs ≡ effort →
-    improve_text league unit effort legs ≡ legs_text league unit legs ++ improved_text league (lead_of league legs)
+ending_is : (league : LeagueData) (unit : Measure) (legs : List LegRun) →
+    improve_text league unit true legs ≡ legs_text league unit legs ++ improved_text league (lead_of league legs)
 unfolding improve_text
-ending_is league unit effort legs all =
-    ap (λ (t : List ℕ). legs_text league unit legs ++ t) (cond-true _ _ _ (eq-eqb (steps_in legs) effort all))
+ending_is league unit legs = refl
 
-module _ {W : Type 0} (held : W → Option (List ℕ)) (tally : W → Tally) (start : Book) (unit : Measure) (effort : ℕ) where
+module _ {W : Type 0} (held : W → Option (List ℕ)) (tally : W → Tally) (start : Book) (unit : Measure) (plan : ImprovePlan) where
   -- the texts of all legs, and the text of the board that leads
-  text_is : (a x : BufferedSink W) (told : Told) (all : HasRunAll held tally start unit effort a x told) →
+  text_is : (a x : BufferedSink W) (told : Told) (all : HasRunAll held tally start unit plan a x told) →
       legs_text start.league unit all.sent.legs ++ improved_text told.lead.league told.lead.history ≡
-      improve_text start.league unit effort all.sent.legs
+      improve_text start.league unit true all.sent.legs
   text_is a x told all =
       ap (λ (t : List ℕ). legs_text start.league unit all.sent.legs ++ t)
       (ap (λ (b : Book). improved_text b.league b.history) all.told_is.lead_is) ∙
-      sym (ending_is start.league unit effort all.sent.legs all.all)
+      sym (ending_is start.league unit all.sent.legs)
 
-  pub end_stops : {a x y : BufferedSink W} (told : Told) → HasRunAll held tally start unit effort a x told →
-      Stops held tally x y (improved_text told.lead.league told.lead.history) → HasStopped held tally start unit effort a y
+  pub end_stops : {a x y : BufferedSink W} (told : Told) → HasRunAll held tally start unit plan a x told →
+      Stops held tally x y (improved_text told.lead.league told.lead.history) → HasStopped held tally start unit plan a y
   end_stops {a} {x} {y} told all stops = record {
     legs = all.sent.legs;
     are = all.sent.are;
+    ended = true;
+    all = λ ended. all.all;
     stops = subst (Stops held tally a y) (text_is a x told all) (Adds-stops all.sent.sends.adds stops);
   }
 
-  pub end_written : {a x y : BufferedSink W} (told : Told) (best : Option Best) → HasRunAll held tally start unit effort a x told →
+  pub end_written : {a x y : BufferedSink W} (told : Told) (best : Option Best) → HasRunAll held tally start unit plan a x told →
       Adds held tally x y (improved_text told.lead.league told.lead.history) → waiting_in y ≡ [] →
-      best ≡ best_of told.lead.league told.lead.history → HasWritten held tally start unit effort a y best
+      best ≡ best_of told.lead.league told.lead.history → HasWritten held tally start unit plan a y best
   end_written {a} {x} {y} told best all adds none best_is = record {
     legs = all.sent.legs;
     are = all.sent.are;
@@ -66,7 +66,7 @@ module _ {W : Type 0} (held : W → Option (List ℕ)) (tally : W → Tally) (st
 module _ {W : Type 0} (held : W → Option (List ℕ)) (tally : W → Tally) (start : Book) (unit : Measure) (plan : ImprovePlan) (sink : MutBor W)
     (limits : IsLeague start.league) (workers : IsWorkers plan) (unit_is : IsUnitOf start.league unit)
     (room_is : start.room ≡ room_of plan.effort) where
-  sent : (a b : BufferedSink W) (text : List ℕ) → IsFreshOver sink a → Sends held tally start unit plan.effort a b text →
+  sent : (a b : BufferedSink W) (text : List ℕ) → IsFreshOver sink a → Sends held tally start unit plan a b text →
       Appends (held sink.now) (held b.sink.now) text
   sent a b text fresh sends =
       rw (← fresh.unchanged) (AppendsAllBut-all _ _ _ (rw (fresh.waiting, sends.sent) at sends.adds.sent))
@@ -80,11 +80,11 @@ module _ {W : Type 0} (held : W → Option (List ℕ)) (tally : W → Tally) (st
       plays_back start.league (room_of plan.effort) _ limits (lead_legal start.league (room_of plan.effort) legs (in_room legs are))
 
   ends_at : (a b : BufferedSink W) (r : Result (Option Best) ImproveFault) → IsFreshOver sink a →
-      EndsBy held tally start unit plan.effort a b (HasWritten held tally start unit plan.effort a b) r →
+      EndsBy held tally start unit plan a b (HasWritten held tally start unit plan a b) r →
       Improves held tally start.league plan sink.now b.sink.now r
   ends_at a b (Ok best) fresh ends = (
     workers,
-    improve_text start.league unit plan.effort ends.legs,
+    improve_text start.league unit true ends.legs,
     record {
       unit = unit;
       unit_is = unit_is;
@@ -108,15 +108,23 @@ module _ {W : Type 0} (held : W → Option (List ℕ)) (tally : W → Tally) (st
   )
   ends_at a b (Err Write) fresh ends = (
     workers,
-    improve_text start.league unit plan.effort ends.legs,
-    record { unit = unit; unit_is = unit_is; legs = ends.legs; are = in_room ends.legs ends.are; text_is = refl },
+    improve_text start.league unit ends.ended ends.legs,
+    record {
+      unit = unit;
+      unit_is = unit_is;
+      legs = ends.legs;
+      are = in_room ends.legs ends.are;
+      ended = ends.ended;
+      all = ends.all;
+      text_is = refl;
+    },
     rw (← fresh.unchanged) (rw fresh.waiting at ends.stops.prefix),
     rw (← fresh.unchanged) ends.stops.cause,
   )
 
   -- at another name of the sink
   pub improves : (a b : BufferedSink W) (r : Result (Option Best) ImproveFault) (after : W) → IsFreshOver sink a →
-      EndsBy held tally start unit plan.effort a b (HasWritten held tally start unit plan.effort a b) r → b.sink.now ≡ after →
+      EndsBy held tally start unit plan a b (HasWritten held tally start unit plan a b) r → b.sink.now ≡ after →
       Improves held tally start.league plan sink.now after r
   improves a b r after fresh ends same =
       subst (λ (x : W). Improves held tally start.league plan sink.now x r) same (ends_at a b r fresh ends)

@@ -30,7 +30,7 @@ use Rattle.policy.specs.declared.legs.Leg.{Leg}
 use Rattle.policy.specs.declared.waves.Source.{Source}
 use Rattle.policy.specs.declared.waves.Source.TheVariants.{Start, Own, Copies}
 use Rattle.policy.specs.Legs.{IsLeg}
-use Rattle.policy.specs.Policy.{PolicyData}
+use Rattle.improvement.specs.Series.{steps_left}
 
 can_begin_anew : (league : LeagueData) (legs : List LegRun) (chain : ℕ) → CanBegin league legs chain []
 can_begin_anew league [] chain = refl
@@ -177,13 +177,13 @@ front_more old full line rest (Some leg) turns same taken =
     (turns.0, sym turns.1 ∙ sym same ∙ front_is line rest (Some leg) taken)
 
 pub front_left : (old full line : Line) (rest : List RunningLeg) (first : Option RunningLeg) → left_in full ≡ left_in old →
-    turns_of line ≡ turns_of full → line.policy ≡ full.policy → line.running.items ≡ option_to_list first ++ rest →
-    IfSome first (λ leg. turn_steps leg.turn + (line.policy.left + sum_by turn_steps (turns_with line rest)) ≡ left_in old)
-front_left old full line rest None left same policy taken = tt
-front_left old full line rest (Some leg) left same policy taken =
+    turns_of line ≡ turns_of full → line.series ≡ full.series → line.running.items ≡ option_to_list first ++ rest →
+    IfSome first (λ leg. turn_steps leg.turn + (steps_left line.series + sum_by turn_steps (turns_with line rest)) ≡ left_in old)
+front_left old full line rest None left same series taken = tt
+front_left old full line rest (Some leg) left same series taken =
     let turns : sum_by turn_steps (turns_of full) ≡ turn_steps leg.turn + sum_by turn_steps (turns_with line rest) =
     ap (sum_by turn_steps) (sym same ∙ front_is line rest (Some leg) taken) ∙ sum_by-cons turn_steps leg.turn (turns_with line rest) in
-    omega (arith, left, turns, ap (λ (p : PolicyData). p.left) policy)
+    omega (arith, left, turns, ap steps_left series)
 
 -- a leg that waited runs
 pub line_run : {start : Book} {legs : List LegRun} (line new : Line) (w : WaitingLeg) (r : RunningLeg) → IsLine start legs line →

@@ -1,6 +1,6 @@
 -- One leg more.
 use Rattle.std.proofs.Common.{◌≡◌, ℕ, suc, ◌+◌, ◌<◌, ◌≤◌, ◌==◌, false, List, [], ◌∷◌, ◌++◌, length, inl, inr, sum_by, All, Option, Some, None, IfSome, IfNone, Err}
-use Rattle.std.proofs.Common.{refl, sym, ◌∙◌, ap, subst, subst₂, arith}
+use Rattle.std.proofs.Common.{refl, sym, ◌∙◌, ap, subst, subst₂, true≢false, arith}
 use Rattle.std.proofs.lemmas.Bool.Decides.{nat_tests}
 use Rattle.std.proofs.lemmas.List.Elements.{All-cons, All-nil, All-weaker}
 use Rattle.std.proofs.lemmas.List.Sums.{sum_by-cons}
@@ -24,6 +24,7 @@ use Rattle.improvement.specs.declared.legs.WaitingLeg.{WaitingLeg}
 use Rattle.improvement.specs.declared.line.Line.{Line}
 use Rattle.improvement.specs.declared.plan.ImproveFault.{ImproveFault}
 use Rattle.improvement.specs.declared.plan.ImproveFault.TheVariants.{Workers, Memory, Write}
+use Rattle.improvement.specs.declared.plan.ImprovePlan.{ImprovePlan}
 use Rattle.improvement.specs.declared.told.Told.{Told}
 use Rattle.improvement.specs.Fields.{StageData}
 use Rattle.improvement.specs.Legs.{AreLegs, IsLegAfter, LegRun, lead_after, lead_of, least_in, least_told, lesser, steps_in, steps_of}
@@ -135,49 +136,51 @@ text_is : (start : Book) (legs : List LegRun) (unit : Measure) (told : Told) (tu
     leg_text start.league unit (told_as (length legs + 1) (run_of turn now)) (least_told start.league legs) now.chain.board.history
 text_is start legs unit told turn now e is = rw (league_is turn now e, is.count, is.least_is) refl
 
-module _ {W : Type 0} (held : W → Option (List ℕ)) (tally : W → Tally) (start : Book) (unit : Measure) (effort : ℕ) where
-  pub sends_more : {a b c : BufferedSink W} (w : HasSent held tally start unit effort a b) (told : Told) (turn : Turn) (now : Annealed) →
+module _ {W : Type 0} (held : W → Option (List ℕ)) (tally : W → Tally) (start : Book) (unit : Measure) (plan : ImprovePlan) where
+  pub sends_more : {a b c : BufferedSink W} (w : HasSent held tally start unit plan a b) (told : Told) (turn : Turn) (now : Annealed) →
       CanEnd start w.legs turn now → HasTold start w.legs told →
       Adds held tally b c (leg_text now.chain.board.league unit (leg_told told turn now) told.least now.chain.board.history) →
-      waiting_in c ≡ [] → Sends held tally start unit effort a c (legs_text start.league unit (run_of turn now ∷ w.legs))
+      waiting_in c ≡ [] → Sends held tally start unit plan a c (legs_text start.league unit (run_of turn now ∷ w.legs))
   unfolding legs_text
   sends_more {a} {b} {c} w told turn now e is adds none = record {
     adds = Adds-then w.sends.adds (subst (Adds held tally b c) (text_is start w.legs unit told turn now e is) adds);
     sent = none;
   }
 
-  abbrev pub sent_more : {a b c : BufferedSink W} (w : HasSent held tally start unit effort a b) (told : Told) (turn : Turn)
+  abbrev pub sent_more : {a b c : BufferedSink W} (w : HasSent held tally start unit plan a b) (told : Told) (turn : Turn)
       (now : Annealed) → CanEnd start w.legs turn now → HasTold start w.legs told →
       Adds held tally b c (leg_text now.chain.board.league unit (leg_told told turn now) told.least now.chain.board.history) →
-      waiting_in c ≡ [] → HasSent held tally start unit effort a c
+      waiting_in c ≡ [] → HasSent held tally start unit plan a c
   sent_more w told turn now e is adds none = record {
     legs = run_of turn now ∷ w.legs;
     are = (leg_is turn now e, w.are);
     sends = sends_more w told turn now e is adds none;
   }
 
-  pub stopped_more : {a b c : BufferedSink W} (w : HasSent held tally start unit effort a b) (told : Told) (turn : Turn) (now : Annealed) →
+  pub stopped_more : {a b c : BufferedSink W} (w : HasSent held tally start unit plan a b) (told : Told) (turn : Turn) (now : Annealed) →
       CanEnd start w.legs turn now → HasTold start w.legs told →
       Stops held tally b c (leg_text now.chain.board.league unit (leg_told told turn now) told.least now.chain.board.history) →
-      HasStopped held tally start unit effort a c
+      HasStopped held tally start unit plan a c
   unfolding legs_text improve_text
   stopped_more {a} {b} {c} w told turn now e is stops = record {
     legs = run_of turn now ∷ w.legs;
     are = (leg_is turn now e, w.are);
-    stops = Stops-more (ending start.league effort (run_of turn now ∷ w.legs))
+    ended = false;
+    all = λ ended. absurd (true≢false (sym ended));
+    stops = Stops-more (ending start.league false (run_of turn now ∷ w.legs))
         (Adds-stops w.sends.adds (subst (Stops held tally b c) (text_is start w.legs unit told turn now e is) stops));
   }
 
   -- the line goes on with the chain of the leg
   pub under_way_more : {a b c : BufferedSink W} (leg : RunningLeg) (line new : Line) (told told' : Told) (now : Annealed)
-      (w : IsUnderWay held tally start unit effort a b (leg ∷ []) line told) → CanEnd start w.sent.legs leg.turn now →
+      (w : IsUnderWay held tally start unit plan a b (leg ∷ []) line told) → CanEnd start w.sent.legs leg.turn now →
       Adds held tally b c (leg_text now.chain.board.league unit (leg_told told leg.turn now) told.least now.chain.board.history) →
       waiting_in c ≡ [] →
       told'.lead ≡ book told.lead.league told.lead.room (lead_after told.lead.league told.legs told.lead.history now.chain.board.history) →
       told'.least ≡ lesser told.least (least_in told.lead.league now.chain.board.history) → told'.legs ≡ told.legs + 1 →
       ((legs : List LegRun) → IsEntrant start legs (record { number = leg.turn.chain; chain = now.chain }) → IsLine start legs line →
       IsLine start legs new) → left_in new + now.end.steps ≡ left_in line + turn_steps leg.turn →
-      IsUnderWay held tally start unit effort a c [] new told'
+      IsUnderWay held tally start unit plan a c [] new told'
   under_way_more leg line new told told' now w e adds none lead least count goes_on left =
       let run = run_of leg.turn now in
       record {
@@ -190,18 +193,18 @@ module _ {W : Type 0} (held : W → Option (List ℕ)) (tally : W → Tally) (st
 
   -- each leg took a step
   pub few_told : {a b : BufferedSink W} (legs : List RunningLeg) (line : Line) (told : Told) →
-      IsUnderWay held tally start unit effort a b legs line told → told.legs ≤ effort
+      IsUnderWay held tally start unit plan a b legs line told → told.legs ≤ plan.effort
   few_told legs line told w =
       omega (arith, w.steps, w.told_is.count, legs_few start.league start.room w.sent.legs w.sent.are)
 
   -- no leg was told
-  pub sent_none : (a : BufferedSink W) → waiting_in a ≡ [] → HasSent held tally start unit effort a a
+  pub sent_none : (a : BufferedSink W) → waiting_in a ≡ [] → HasSent held tally start unit plan a a
   unfolding legs_text
   sent_none a none = record { legs = []; are = tt; sends = record { adds = Adds-nothing a; sent = none } }
 
   pub under_way_none : (a : BufferedSink W) (line : Line) (told : Told) → waiting_in a ≡ [] →
-      ((legs : List LegRun) → IsLine start legs line) → left_in line ≡ effort → told.lead ≡ anew start → told.least ≡ None → told.legs ≡ 0 →
-      IsUnderWay held tally start unit effort a a [] line told
+      ((legs : List LegRun) → IsLine start legs line) → left_in line ≡ plan.effort → told.lead ≡ anew start → told.least ≡ None → told.legs ≡ 0 →
+      IsUnderWay held tally start unit plan a a [] line told
   unfolding legs_text lead_of
   under_way_none a line told none goes_on left lead least count = record {
     sent = record { legs = []; are = tt; sends = record { adds = Adds-nothing a; sent = none } };
@@ -213,11 +216,11 @@ module _ {W : Type 0} (held : W → Option (List ℕ)) (tally : W → Tally) (st
 
   -- a leg is taken out of the line
   pub under_way_next : {a b : BufferedSink W} (line new : Line) (told : Told) (first : Option RunningLeg) (leg : RunningLeg) →
-      IsUnderWay held tally start unit effort a b [] line told → first ≡ Some leg →
+      IsUnderWay held tally start unit plan a b [] line told → first ≡ Some leg →
       ((legs : List LegRun) → IsLine start legs line → IsLine start legs new) →
       ((legs : List LegRun) → IsLine start legs line → IfSome first (IsRunning start legs)) →
       IfSome first (λ leg. turn_steps leg.turn + left_in new ≡ left_in line) →
-      IsUnderWay held tally start unit effort a b (leg ∷ []) new told
+      IsUnderWay held tally start unit plan a b (leg ∷ []) new told
   under_way_next line new told first leg w same goes_on runs left =
       let legs = w.sent.legs in
       let is : IsRunning start legs leg = rw same at (runs legs w.line_is) in
@@ -230,13 +233,17 @@ module _ {W : Type 0} (held : W → Option (List ℕ)) (tally : W → Tally) (st
         told_is = w.told_is;
       }
 
-  pub run_all_is : {a b : BufferedSink W} (line : Line) (told : Told) → IsUnderWay held tally start unit effort a b [] line told →
-      left_in line ≡ 0 → HasRunAll held tally start unit effort a b told
-  run_all_is line told w none = record { sent = w.sent; all = omega (arith, w.steps, none); told_is = w.told_is }
+  pub run_all_is : {a b : BufferedSink W} (line : Line) (told : Told) → IsUnderWay held tally start unit plan a b [] line told →
+      (plan.first ≡ None → left_in line ≡ 0) → HasRunAll held tally start unit plan a b told
+  run_all_is line told w none = record {
+    sent = w.sent;
+    all = record { few = omega (arith, w.steps); all = λ alone. omega (arith, w.steps, none alone) };
+    told_is = w.told_is;
+  }
 
   -- a part that did not end well did so for the whole
   pub ends_early : {S T : Type 0} (a b : BufferedSink W) (part : S → Type 0) (whole : T → Type 0) (fault : ImproveFault) →
-      EndsBy held tally start unit effort a b part (Err fault) → EndsBy held tally start unit effort a b whole (Err fault)
+      EndsBy held tally start unit plan a b part (Err fault) → EndsBy held tally start unit plan a b whole (Err fault)
   ends_early a b part whole Workers ends = ends
   ends_early a b part whole Memory ends = ends
   ends_early a b part whole Write ends = ends

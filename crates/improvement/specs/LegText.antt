@@ -1,5 +1,5 @@
 -- What an improvement writes.
-use Rattle.std.specs.Prelude.{ℕ, ◌+◌, ◌-◌, ◌*◌, ◌/◌, ◌%◌, ◌^◌, min, ◌==◌, if◌then◌else◌, List, [], ◌∷◌, ◌++◌, length}
+use Rattle.std.specs.Prelude.{ℕ, ◌+◌, ◌-◌, ◌*◌, ◌/◌, ◌%◌, ◌^◌, min, Bool, if◌then◌else◌, List, [], ◌∷◌, ◌++◌, length}
 use Rattle.std.specs.Prelude.{Option, Some, None, codes, decimal}
 use Rattle.std.specs.List.{concat}
 use Rattle.league.specs.League.{LeagueData}
@@ -14,7 +14,7 @@ use Rattle.annealing.specs.declared.unit.Unit.{Unit as Measure}
 use Rattle.texts.specs.SearchText.{improved_text}
 use Rattle.texts.specs.Sheet.{sheet_of}
 use Rattle.improvement.specs.declared.leg_text.LegTold.{LegTold}
-use Rattle.improvement.specs.Legs.{LegRun, lead_of, least_told, steps_in}
+use Rattle.improvement.specs.Legs.{LegRun, lead_of, least_told}
 use Rattle.improvement.specs.Solutions.{Solution, below, best_solution}
 
 abbrev pub kind_word : MoveKind → List ℕ
@@ -95,9 +95,9 @@ legs_text league unit [] = []
 legs_text league unit (run ∷ before) =
     legs_text league unit before ++ leg_text league unit (told_as (length before + 1) run) (least_told league before) run.history
 
--- and once they have taken all steps: what an improvement ends with, of the history that all legs together come to
-abbrev pub ending : LeagueData → ℕ → List LegRun → List ℕ
-ending league effort legs = if steps_in legs == effort then improved_text league (lead_of league legs) else []
+-- and once they are all: what an improvement ends with, of the history that all legs together come to
+abbrev pub ending : LeagueData → Bool → List LegRun → List ℕ
+ending league ended legs = if ended then improved_text league (lead_of league legs) else []
 
-unfoldable pub improve_text : LeagueData → Measure → ℕ → List LegRun → List ℕ
-improve_text league unit effort legs = legs_text league unit legs ++ ending league effort legs
+unfoldable pub improve_text : LeagueData → Measure → Bool → List LegRun → List ℕ
+improve_text league unit ended legs = legs_text league unit legs ++ ending league ended legs

@@ -4,6 +4,7 @@ pub mod LegText
 pub mod Outcome
 pub mod Laws
 pub mod Fields
+pub mod Series
 pub mod Lines
 pub mod UnderWay
 pub mod Watched

@@ -18,6 +18,7 @@ use Rattle.improvement.specs.declared.line.Line.{Line}
 use Rattle.improvement.specs.declared.stage.Beginning.{Beginning}
 use Rattle.improvement.specs.Fields.{StageData}
 use Rattle.improvement.specs.Legs.{CanBegin, LegRun}
+use Rattle.improvement.specs.Series.{steps_left}
 
 -- a board of the start's league and room
 pub record IsAlike (start board : Book) : Type 0 where
@@ -86,7 +87,7 @@ running_steps r = turn_steps r.turn
 
 -- the steps that no leg has taken yet: those of the legs in line, and those that no leg has got
 abbrev pub left_in : Line → ℕ
-left_in line = line.policy.left + sum_by turn_steps (turns_of line)
+left_in line = steps_left line.series + sum_by turn_steps (turns_of line)
 
 -- what is in line and what comes after it may go on after these legs
 pub record IsLine (start : Book) (legs : List LegRun) (line : Line) : Type 0 where

@@ -1,5 +1,5 @@
 -- How an improvement ends.
-use Rattle.std.specs.Prelude.{◌≡◌, ◌⊎◌, ℕ, List, Option, Result, Ok, Err}
+use Rattle.std.specs.Prelude.{◌≡◌, ◌≤◌, ◌⊎◌, ℕ, Bool, true, List, Option, None, Result, Ok, Err}
 use Rattle.std.specs.Io.KnownBytes.{Appends}
 use Rattle.league.specs.League.{LeagueData}
 use Rattle.streams.specs.Limits.{write_limit}
@@ -17,25 +17,32 @@ use Rattle.improvement.specs.declared.plan.ImproveFault.TheVariants.{Workers, Me
 use Rattle.improvement.specs.Legs.{AreLegs, IsWorkers, LegRun, lead_of, room_of, steps_in}
 use Rattle.improvement.specs.LegText.{improve_text, legs_text}
 
--- The text of an improvement, of legs that took all its steps, and the best version of the history in it. Temperatures are told by the
--- league's unit. The history, given as a script, leads to the same games and the same best
+-- these legs are all of an improvement: they took all its steps, or fewer if several improvements share them
+pub record AreAll (plan : ImprovePlan) (legs : List LegRun) : Type 0 where
+  pub few : steps_in legs ≤ plan.effort
+  pub all : plan.first ≡ None → steps_in legs ≡ plan.effort
+
+-- The text of an improvement, of all its legs, and the best version of the history in it. Temperatures are told by the league's unit. The
+-- history, given as a script, leads to the same games and the same best
 pub record IsImproveText (league : LeagueData) (plan : ImprovePlan) (best : Option Best) (text : List ℕ) : Type 0 where
   pub unit : Measure
   pub unit_is : IsUnitOf league unit
   pub legs : List LegRun
   pub are : AreLegs league (room_of plan.effort) legs
-  pub all : steps_in legs ≡ plan.effort
-  pub text_is : text ≡ improve_text league unit plan.effort legs
+  pub all : AreAll plan legs
+  pub text_is : text ≡ improve_text league unit true legs
   pub best_is : best ≡ best_of league (lead_of league legs)
   pub again : PlaysBack league (room_of plan.effort) (lead_of league legs)
 
--- what there is to write after some legs
+-- what there is to write after some legs, whether or not these are all
 pub record IsTextSoFar (league : LeagueData) (plan : ImprovePlan) (text : List ℕ) : Type 0 where
   pub unit : Measure
   pub unit_is : IsUnitOf league unit
   pub legs : List LegRun
   pub are : AreLegs league (room_of plan.effort) legs
-  pub text_is : text ≡ improve_text league unit plan.effort legs
+  pub ended : Bool
+  pub all : ended ≡ true → AreAll plan legs
+  pub text_is : text ≡ improve_text league unit ended legs
 
 -- the texts of some legs
 pub record AreLegTexts (league : LeagueData) (plan : ImprovePlan) (text : List ℕ) : Type 0 where

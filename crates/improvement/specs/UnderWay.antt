@@ -1,5 +1,5 @@
 -- An improvement under way, and how its parts end.
-use Rattle.std.specs.Prelude.{◌≡◌, ℕ, ◌+◌, List, [], length, sum_by, All, Option, Result, Ok, Err}
+use Rattle.std.specs.Prelude.{◌≡◌, ℕ, ◌+◌, Bool, true, List, [], length, sum_by, All, Option, Result, Ok, Err}
 use Rattle.fixture_board.specs.declared.cost.Best.{Best}
 use Rattle.fixture_board.specs.History.{best_of}
 use Rattle.fixture_board.specs.Record.{Book, book}
@@ -11,9 +11,11 @@ use Rattle.improvement.specs.declared.legs.RunningLeg.{RunningLeg}
 use Rattle.improvement.specs.declared.line.Line.{Line}
 use Rattle.improvement.specs.declared.plan.ImproveFault.{ImproveFault}
 use Rattle.improvement.specs.declared.plan.ImproveFault.TheVariants.{Workers, Memory, Write}
+use Rattle.improvement.specs.declared.plan.ImprovePlan.{ImprovePlan}
 use Rattle.improvement.specs.declared.told.Told.{Told}
 use Rattle.improvement.specs.Legs.{AreLegs, LegRun, lead_of, least_told, steps_in}
 use Rattle.improvement.specs.LegText.{improve_text, legs_text}
+use Rattle.improvement.specs.Outcome.{AreAll}
 use Rattle.improvement.specs.Lines.{IsLine, IsRunning, left_in, running_steps}
 
 -- what is known of these legs
@@ -22,8 +24,8 @@ pub record HasTold (start : Book) (legs : List LegRun) (told : Told) : Type 0 wh
   pub least_is : told.least ≡ least_told start.league legs
   pub count : told.legs ≡ length legs
 
--- For boards that begin so, a unit and an effort, and a buffer over a sink with these bytes held and these calls
-module _ {W : Type 0} (held : W → Option (List ℕ)) (tally : W → Tally) (start : Book) (unit : Measure) (effort : ℕ)
+-- For boards that begin so, a unit and a plan, and a buffer over a sink with these bytes held and these calls
+module _ {W : Type 0} (held : W → Option (List ℕ)) (tally : W → Tally) (start : Book) (unit : Measure) (plan : ImprovePlan)
     (old new : BufferedSink W) where
   -- the text was added, and nothing waits
   pub record Sends (text : List ℕ) : Type 0 where
@@ -39,30 +41,32 @@ module _ {W : Type 0} (held : W → Option (List ℕ)) (tally : W → Tally) (st
   -- some legs were told, these are out of line, and the others stand in it
   pub record IsUnderWay (out_of_line : List RunningLeg) (line : Line) (told : Told) : Type 0 where
     pub sent : HasSent
-    pub steps : sum_by running_steps out_of_line + left_in line + steps_in sent.legs ≡ effort
+    pub steps : sum_by running_steps out_of_line + left_in line + steps_in sent.legs ≡ plan.effort
     pub running : All (IsRunning start sent.legs) out_of_line
     pub line_is : IsLine start sent.legs line
     pub told_is : HasTold start sent.legs told
 
-  -- all steps were taken, and the texts of the legs were sent
+  -- all legs were told, and their texts were sent
   pub record HasRunAll (told : Told) : Type 0 where
     pub sent : HasSent
-    pub all : steps_in sent.legs ≡ effort
+    pub all : AreAll plan sent.legs
     pub told_is : HasTold start sent.legs told
 
   -- the whole text was written and sent, and this is the best version of the history in it
   pub record HasWritten (best : Option Best) : Type 0 where
     pub legs : List LegRun
     pub are : AreLegs start.league start.room legs
-    pub all : steps_in legs ≡ effort
+    pub all : AreAll plan legs
     pub best_is : best ≡ best_of start.league (lead_of start.league legs)
-    pub sends : Sends (improve_text start.league unit effort legs)
+    pub sends : Sends (improve_text start.league unit true legs)
 
   -- a write failed in the text of some legs
   pub record HasStopped : Type 0 where
     pub legs : List LegRun
     pub are : AreLegs start.league start.room legs
-    pub stops : Stops held tally old new (improve_text start.league unit effort legs)
+    pub ended : Bool
+    pub all : ended ≡ true → AreAll plan legs
+    pub stops : Stops held tally old new (improve_text start.league unit ended legs)
 
   -- a part that ends well by doing something. Otherwise a write failed, or memory ran out once the texts of the legs that were told had
   -- been sent

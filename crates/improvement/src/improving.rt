@@ -1,10 +1,13 @@
 //! The improvement of a league's schedule.
 
-ghost use Rattle.std.specs.Prelude.{◌≡◌, ◌+◌, ◌<◌, ◌≤◌, [], ◌∷◌, OnOk};
+ghost use Rattle.std.specs.Prelude.{◌≡◌, ◌+◌, ◌<◌, ◌≤◌, List, [], ◌∷◌, IfOk, OnOk, IfNone, IfSome, None};
 ghost use Rattle.policy.specs.Limits.{most_effort};
 ghost use Rattle.streams.specs.declared.buffered.BufferedSink.{BufferedSink};
 ghost use Rattle.streams.specs.Writing.{waiting_in};
-ghost use Rattle.improvement.specs.Lines.{left_in, turn_steps};
+ghost use Rattle.league.specs.League.{teams};
+ghost use Rattle.search.specs.Draws.{AreRoundsOf};
+ghost use Rattle.improvement.specs.Legs.{LegRun};
+ghost use Rattle.improvement.specs.Lines.{IsLine, IsRunning, left_in, turn_steps};
 ghost use Rattle.improvement.specs.Outcome.{Improves};
 ghost use Rattle.improvement.specs.Settings.{IsSetting};
 ghost use Rattle.improvement.specs.UnderWay.{EndsBy, HasRunAll, HasWritten, IsUnderWay};
@@ -22,6 +25,7 @@ use annealing::{Annealed, measure};
 use fixture_board::Best;
 use league::League;
 use search::{Gate, MAX_WORKERS, Workplace};
+use std::alloc::AllocError;
 use std::sync::Wait;
 use std::thread;
 use std::thread::{Scope, Threads};
@@ -111,8 +115,8 @@ fn run_and_write<'s, E, T: Threads + Wait + Sync, G: Gate + Sync, W: Sink, V: Wa
 ) -> Result<Option<Best>, ImproveFault>
     requires setting { IsSetting setting }
     requires none { waiting_in out.old ≡ [] }
-    ensures { EndsBy W.held W.tally setting.entry.start.now setting.entry.unit setting.entry.plan.effort out.old out.new
-        (HasWritten W.held W.tally setting.entry.start.now setting.entry.unit setting.entry.plan.effort out.old out.new) result }
+    ensures { EndsBy W.held W.tally setting.entry.start.now setting.entry.unit setting.entry.plan out.old out.new
+        (HasWritten W.held W.tally setting.entry.start.now setting.entry.unit setting.entry.plan out.old out.new) result }
 {
     let told = run_all(scope, setting, out, watcher)?;
     write_improved(out, &told.lead)?;
@@ -129,8 +133,8 @@ fn run_all<'s, E, T: Threads + Wait + Sync, G: Gate + Sync, W: Sink, V: Watcher>
 ) -> Result<Told, ImproveFault>
     requires setting { IsSetting setting }
     requires none { waiting_in out.old ≡ [] }
-    ensures { EndsBy W.held W.tally setting.entry.start.now setting.entry.unit setting.entry.plan.effort out.old out.new
-        (HasRunAll W.held W.tally setting.entry.start.now setting.entry.unit setting.entry.plan.effort out.old out.new) result }
+    ensures { EndsBy W.held W.tally setting.entry.start.now setting.entry.unit setting.entry.plan out.old out.new
+        (HasRunAll W.held W.tally setting.entry.start.now setting.entry.unit setting.entry.plan out.old out.new) result }
 {
     setting.workplace.gate.begun(setting.workplace.rt, 0);
     let mut line = Line::new(&setting);
@@ -139,10 +143,34 @@ fn run_all<'s, E, T: Threads + Wait + Sync, G: Gate + Sync, W: Sink, V: Watcher>
         least: None,
         legs: 0,
     };
-    while let Some(leg) = line.next(scope, setting)? {
+    while let Some(leg) = next_leg(scope, setting, &mut line, watcher)? {
         tell(setting, leg, &mut line, &mut told, out, watcher)?;
     }
     Ok(told)
+}
+
+/// Takes the next leg out of the line, unless there is none. If several improvements share their steps, and the watcher wants no more, none
+/// begins.
+fn next_leg<'s, E, T: Threads + Wait + Sync, G: Gate + Sync, V: Watcher>(
+    scope: &Scope<'s, E>,
+    setting: Setting<'s, T, G>,
+    line: &mut Line,
+    watcher: &mut V,
+) -> Result<Option<RunningLeg>, AllocError>
+    requires workers { 1 ≤ setting.plan.workers }
+    requires rounds { AreRoundsOf (teams setting.start.now.league) setting.rounds.now }
+    requires line { (legs : List LegRun) × IsLine setting.start.now legs line.old }
+    ensures line { (legs : List LegRun) → IsLine setting.entry.start.now legs line.old →
+        OnOk result (IsLine setting.entry.start.now legs line.new) }
+    ensures leg { (legs : List LegRun) → IsLine setting.entry.start.now legs line.old →
+        IfOk result (λ r. IfSome r (IsRunning setting.entry.start.now legs)) }
+    ensures left { IfOk result (λ r. IfSome r (λ leg. turn_steps leg.turn + left_in line.new ≡ left_in line.old)) }
+    ensures none { IfOk result (λ r. IfNone r (setting.entry.plan.first ≡ None → left_in line.old ≡ 0)) }
+{
+    if setting.plan.first.is_some() && !watcher.wants_more() {
+        return Ok(line.next_running());
+    }
+    line.next(scope, setting)
 }
 
 /// Waits for a leg's end, writes what it came to, tells the watcher, and has the leg's chain go on.
@@ -155,12 +183,12 @@ fn tell<T: Threads + Wait + Sync, G: Gate + Sync, W: Sink, V: Watcher>(
     watcher: &mut V,
 ) -> Result<(), ImproveFault>
     requires setting { IsSetting setting }
-    requires under_way { (first : BufferedSink W) × IsUnderWay W.held W.tally setting.start.now setting.unit setting.plan.effort
+    requires under_way { (first : BufferedSink W) × IsUnderWay W.held W.tally setting.start.now setting.unit setting.plan
         first out.old (leg ∷ []) line.old told.old }
-    ensures under_way { (first : BufferedSink W) → IsUnderWay W.held W.tally setting.entry.start.now setting.entry.unit setting.entry.plan.effort
+    ensures under_way { (first : BufferedSink W) → IsUnderWay W.held W.tally setting.entry.start.now setting.entry.unit setting.entry.plan
         first out.old (leg ∷ []) line.old told.old →
-        EndsBy W.held W.tally setting.entry.start.now setting.entry.unit setting.entry.plan.effort first out.new
-        (λ done. IsUnderWay W.held W.tally setting.entry.start.now setting.entry.unit setting.entry.plan.effort first out.new []
+        EndsBy W.held W.tally setting.entry.start.now setting.entry.unit setting.entry.plan first out.new
+        (λ done. IsUnderWay W.held W.tally setting.entry.start.now setting.entry.unit setting.entry.plan first out.new []
         line.new told.new) result }
     ensures fewer { OnOk result (left_in line.new < turn_steps leg.turn + left_in line.old) }
 {

@@ -79,6 +79,7 @@ impl WaitingLeg {
         self,
         scope: &Scope<'s, E>,
         setting: Setting<'s, T, G>,
+        seed: u64,
         weights: WeightCourse,
     ) -> Result<RunningLeg, AllocError>
         requires weights { IsWeightCourse weights }
@@ -97,7 +98,7 @@ impl WaitingLeg {
         let board = setting.board_or_new(board)?;
         let plan = LegPlan {
             leg: turn.leg,
-            seed: setting.plan.seed,
+            seed,
             stream,
         };
         let state = run(scope, setting, weights, Chain { board, weight }, plan);

@@ -12,6 +12,7 @@ mod legs;
 mod line;
 mod plan;
 mod rounds;
+mod series;
 mod setting;
 mod stage;
 mod standing;

@@ -6,15 +6,17 @@ ghost use Rattle.policy.specs.Limits.{most_effort};
 ghost use Rattle.search.specs.Draws.{AreRoundsOf};
 ghost use Rattle.improvement.specs.declared.legs.Turn.{Turn};
 ghost use Rattle.improvement.specs.Legs.{LegRun};
+ghost use Rattle.improvement.specs.Series.{steps_left};
 ghost use Rattle.improvement.specs.Lines.{IsEntrant, IsLine, IsRunning, left_in, turn_steps, turns_of, waiting_for};
 ghost use Rattle.fixture_board.specs.Record.{Book};
 
 use crate::field::Entrant;
 use crate::legs::{RunningLeg, Turn, WaitingLeg};
+use crate::series::Series;
 use crate::setting::Setting;
 use crate::stage::{Beginning, Stage};
 use league::League;
-use policy::{Aim, Facts, Leg, LegEnd, Policy};
+use policy::{Aim, Facts, Leg, LegEnd};
 use search::Gate;
 use std::alloc::{AllocError, Global};
 use std::collections::VecDeque;
@@ -39,12 +41,10 @@ fn aim_of(league: &League) -> Aim {
 /// the number of workers nor on how fast they are.
 #[derive(Drop)]
 pub(crate) struct Line {
-    pub(crate) policy: Policy,
+    pub(crate) series: Series,
     pub(crate) stage: Stage,
     pub(crate) running: VecDeque<RunningLeg>,
     pub(crate) waiting: VecDeque<WaitingLeg>,
-    /// How many legs got in line.
-    lined: u64,
 }
 
 impl Line {
@@ -62,11 +62,10 @@ impl Line {
             aim: aim_of(league),
         };
         Line {
-            policy: Policy::new(facts),
+            series: Series::new(facts, setting.plan),
             stage: Stage::none(alloc),
             running: VecDeque::new(alloc),
             waiting: VecDeque::new(alloc),
-            lined: 0,
         }
     }
 
@@ -95,6 +94,15 @@ impl Line {
         Ok(self.running.pop_front())
     }
 
+    /// Takes the first leg out of the line if it runs. None begins.
+    pub(crate) fn next_running(&mut self) -> Option<RunningLeg>
+        ensures line { (start : Book) (legs : List LegRun) → IsLine start legs self.old → IsLine start legs self.new }
+        ensures leg { (start : Book) (legs : List LegRun) → IsLine start legs self.old → IfSome result (IsRunning start legs) }
+        ensures left { IfSome result (λ leg. turn_steps leg.turn + left_in self.new ≡ left_in self.old) }
+    {
+        self.running.pop_front()
+    }
+
     /// Has legs get in line, first those of the present wave, then those of the next one if the line is empty. Tells whether there are any.
     fn fill(&mut self, alloc: Global) -> Result<bool, AllocError>
         ensures line { (start : Book) (legs : List LegRun) → IsLine start legs self.old → OnOk result (IsLine start legs self.new) }
@@ -107,7 +115,7 @@ impl Line {
         if self.places_taken() > 0 {
             return Ok(true);
         }
-        let Some(wave) = self.policy.wave() else {
+        let Some(wave) = self.series.wave() else {
             return Ok(false);
         };
         self.stage.begin(alloc, wave);
@@ -145,21 +153,21 @@ impl Line {
         ensures left { OnOk result (left_in self.new ≡ left_in self.old) }
         ensures begun { OnOk result (self.new.stage.begun ≡ self.old.stage.begun + 1) }
         ensures wave { OnOk result (self.new.stage.wave ≡ self.old.stage.wave) }
-        ensures first { bout ≡ 0 → 1 ≤ self.old.policy.left → OnOk result (1 ≤ length (turns_of self.new)) }
+        ensures first { bout ≡ 0 → 1 ≤ self.old.series.policy.left → OnOk result (1 ≤ length (turns_of self.new)) }
     {
-        let Some(leg) = self.policy.first_leg(bout) else {
+        let Some(leg) = self.series.policy.first_leg(bout) else {
             return self.stage.pass_bout();
         };
-        let weight = self.policy.weights().first;
+        let weight = self.series.policy.weights().first;
         let beginning = self.stage.begin_bout(alloc, weight)?;
         self.wait(bout, leg, beginning)
     }
 
     /// Has a leg get in line, behind all others. It draws from a stream of its own.
     fn wait(&mut self, bout: u32, leg: Leg, beginning: Beginning) -> Result<(), AllocError>
-        ensures waiting { OnOk result (self.new.waiting.items ≡ self.old.waiting.items ++ waiting_for self.old.lined bout leg beginning ∷ []) }
+        ensures waiting { OnOk result (self.new.waiting.items ≡ self.old.waiting.items ++ waiting_for self.old.series.lined bout leg beginning ∷ []) }
         ensures running { self.new.running ≡ self.old.running }
-        ensures policy { self.new.policy ≡ self.old.policy }
+        ensures left { steps_left self.new.series ≡ steps_left self.old.series }
         ensures stage { self.new.stage ≡ self.old.stage }
     {
         let Beginning {
@@ -167,8 +175,8 @@ impl Line {
             weight,
             board,
         } = beginning;
-        let stream = self.lined;
-        self.lined = self.lined.wrapping_add(1);
+        let stream = self.series.lined;
+        self.series.lined = stream.wrapping_add(1);
         self.waiting.push_back(WaitingLeg {
             turn: Turn { chain, bout, leg },
             stream,
@@ -189,7 +197,7 @@ impl Line {
         ensures line { (legs : List LegRun) → IsLine setting.entry.start.now legs self.old →
             OnOk result (IsLine setting.entry.start.now legs self.new) }
         ensures turns { OnOk result (turns_of self.new ≡ turns_of self.old) }
-        ensures policy { OnOk result (self.new.policy ≡ self.old.policy) }
+        ensures series { OnOk result (self.new.series ≡ self.old.series) }
         ensures some { 1 ≤ setting.entry.plan.workers → 1 ≤ length (turns_of self.old) →
             OnOk result (1 ≤ length self.new.running.items) }
     {
@@ -197,7 +205,9 @@ impl Line {
             let Some(leg) = self.waiting.pop_front() else {
                 break;
             };
-            let running = leg.begin(scope, setting, self.policy.weights())?;
+            let seed = self.series.seed;
+            let weights = self.series.policy.weights();
+            let running = leg.begin(scope, setting, seed, weights)?;
             self.running.push_back(running)?;
         }
         Ok(())
@@ -211,12 +221,12 @@ impl Line {
         entrant: Entrant,
     ) -> Result<(), AllocError>
         requires ended { end.steps ≤ turn.leg.steps }
-        requires out { self.old.policy.left + turn.leg.steps ≤ most_effort }
+        requires out { self.old.series.policy.left + turn.leg.steps ≤ most_effort }
         ensures line { (start : Book) (legs : List LegRun) → IsEntrant start legs entrant → IsLine start legs self.old →
             OnOk result (IsLine start legs self.new) }
         ensures left { OnOk result (left_in self.new + end.steps ≡ left_in self.old + turn_steps turn) }
     {
-        match self.policy.next_leg(turn.bout, turn.leg, end) {
+        match self.series.policy.next_leg(turn.bout, turn.leg, end) {
             Some(leg) => self.wait(turn.bout, leg, Beginning::at_best(entrant)),
             None => self.stage.end_bout(entrant),
         }

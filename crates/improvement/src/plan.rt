@@ -16,6 +16,9 @@ pub struct ImprovePlan {
     pub seed: u64,
     /// The steps of all legs: at least 1.
     pub effort: u64,
+    /// If several improvements are to share these steps those of the first one. Each other one has twice the steps of the one before, or what
+    /// is left, and the next seed. They end early if the watcher wants no more.
+    pub first: Option<u64>,
 }
 
 /// Why an improvement ended early.

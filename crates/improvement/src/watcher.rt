@@ -42,16 +42,25 @@ impl LegEnded {
     }
 }
 
-/// Looks on at an improvement, and changes nothing of what that does and writes.
+/// Looks on at an improvement, and changes nothing of what that does and writes, but for when several that share their steps end.
 pub trait Watcher {
     /// A leg has ended, and its lines were written. If it changed the history that leads there is a board with that history: it is the
     /// first leg's, or better than the one before.
     fn leg_ended(&mut self, leg: LegEnded, better: Option<&Board>);
+
+    /// Whether more legs are to begin. It is asked only if several improvements share their steps.
+    fn wants_more(&mut self) -> bool {
+        true
+    }
 }
 
 impl<V: Watcher> Watcher for &mut V {
     fn leg_ended(&mut self, leg: LegEnded, better: Option<&Board>) {
         (**self).leg_ended(leg, better);
+    }
+
+    fn wants_more(&mut self) -> bool {
+        (**self).wants_more()
     }
 }
 

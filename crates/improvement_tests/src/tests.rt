@@ -2,6 +2,7 @@
 
 mod ends;
 mod legs;
+mod series;
 
 ghost use Rattle.std.specs.Prelude.{◌≤◌};
 
@@ -41,6 +42,7 @@ fn asked(workers: u32, effort: u64) -> ImprovePlan
         workers,
         seed: 1,
         effort: effort.clamp(1, 1_000_000),
+        first: None,
     }
 }
 

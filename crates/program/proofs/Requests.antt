@@ -38,7 +38,7 @@ module _ {R W : Type 0} (left : R → Option (List ℕ)) (pulls : R → Tally) (
   nothing_done : (job : Job) → EndsJob left pulls held pushes job None source source before before (Err Memory)
   nothing_done Start = record { ending = inl refl; failed_read = λ h. absurd (omega (arith, h)); reads = omega arith }
   nothing_done (Play room) = record { ending = inl refl; failed_read = λ h. absurd (omega (arith, h)); reads = omega arith }
-  nothing_done (Improve workers seed effort) =
+  nothing_done (Improve workers seed effort seconds) =
       record { ending = inl refl; failed_read = λ h. absurd (omega (arith, h)); reads = omega arith }
   nothing_done (Find room plan) = record { ending = inl refl; failed_read = λ h. absurd (omega (arith, h)); reads = omega arith }
   nothing_done (Report format) = record { ending = inl refl; failed_read = λ h. absurd (omega (arith, h)); reads = omega arith }

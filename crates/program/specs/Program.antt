@@ -1,6 +1,6 @@
 -- What the program does for a job, and its exit status.
 use Rattle.std.specs.Prelude.{◌≡◌, ◌≢◌, ◌≤◌, ◌⊎◌, ◌==◌, ◌&&◌, ◌||◌, ℕ, Bool, true, false, not, is_some, List, [], length, codes, unwrap_or}
-use Rattle.std.specs.Prelude.{Option, Some, None, option_map, Result, Ok, Err, IfOk}
+use Rattle.std.specs.Prelude.{if◌then◌else◌, Option, Some, None, option_map, Result, Ok, Err, IfOk}
 use Rattle.std.specs.Str.Lines.{lines}
 use Rattle.clap.specs.declared.error.kind.ErrorKind.{ErrorKind as Kind}
 use Rattle.clap.specs.declared.error.kind.ErrorKind.TheVariants.{OutOfMemory, DisplayHelp, DisplayVersion}
@@ -8,6 +8,8 @@ use Rattle.command_line.specs.declared.job.Job.{Job}
 use Rattle.command_line.specs.declared.job.Job.TheVariants.{Start, Play, Improve, Find, Report}
 use Rattle.command_line.specs.Beginnings.{Beginning as Kept}
 use Rattle.command_line.specs.Files.{Files}
+use Rattle.improvement.specs.declared.plan.ImprovePlan.{ImprovePlan}
+use Rattle.policy.specs.Limits.{most_effort}
 use Rattle.streams.specs.declared.tally.Tally.{Tally}
 use Rattle.texts.specs.Input.{lines_after, text_before}
 use Rattle.beginnings.specs.declared.begun.Beginning.{Beginning}
@@ -29,12 +31,18 @@ told_in (Err fault) = None
 -- whether the job ends with a verdict: a report or an improvement
 abbrev pub is_judged : Job → Bool
 is_judged (Report format) = true
-is_judged (Improve workers seed effort) = true
+is_judged (Improve workers seed effort seconds) = true
 is_judged job = false
 
 -- a job that ended well has a verdict if it is a report or an improvement, and else none
 abbrev pub HasVerdict : Job → Result (Option Verdict) ProgramFault → Type 0
 HasVerdict job outcome = IfOk outcome (λ verdict. is_some verdict ≡ is_judged job)
+
+-- the plan of one improvement or, if there are seconds for them, of improvements that follow each other, of which the first has this effort
+abbrev pub plan_of : ℕ → ℕ → ℕ → ℕ → ImprovePlan
+plan_of workers seed effort seconds =
+    if seconds == 0 then record { workers = workers; seed = seed; effort = effort; first = None }
+    else record { workers = workers; seed = seed; effort = most_effort; first = Some effort }
 
 -- the league's text and the lines beside it: all of an input and of the second text if that was read by itself, otherwise what
 -- stands before and after the word
@@ -54,8 +62,8 @@ module _ {W : Type 0} (held : W → Option (List ℕ)) (pushes : W → Tally) (i
   EndsJobOn Start verdict = EndsOn held pushes (AnswersStartOn input beginning)
   EndsJobOn (Play room) verdict = EndsOn held pushes
       (AnswersPlayOn room (league_part (codes "script") input second) (unwrap_or (lines_part (codes "script") input second) []) beginning)
-  EndsJobOn (Improve workers seed effort) verdict =
-      EndsImproveOn held pushes (record { workers = workers; seed = seed; effort = effort }) verdict input beginning
+  EndsJobOn (Improve workers seed effort seconds) verdict =
+      EndsImproveOn held pushes (plan_of workers seed effort seconds) verdict input beginning
   EndsJobOn (Find room plan) verdict = EndsOn held pushes (AnswersFindOn room plan input beginning)
   EndsJobOn (Report format) verdict = EndsOn held pushes
       (AnswersReportOn format verdict (league_part (codes "sheet") input second) (lines_part (codes "sheet") input second) beginning)

@@ -5,12 +5,13 @@ ghost use Rattle.std.specs.Str.Lines.{lines};
 ghost use Rattle.command_line.specs.CommandLine.{IsInRange};
 ghost use Rattle.league.specs.Limits.{max_weight};
 ghost use Rattle.commands.specs.Outcome.{value_of, without_value};
-ghost use Rattle.program.specs.Program.{league_part, lines_part, told_in, EndsJobOn, HasVerdict};
+ghost use Rattle.program.specs.Program.{league_part, lines_part, plan_of, told_in, EndsJobOn, HasVerdict};
 
+use crate::timed::Timed;
 use command_line::Job;
 use commands::{
-    Beginning, Gate, ImprovePlan, NoGate, ProgramFault, ProgressLine, Sink, Verdict, Watcher,
-    Workplace, find_on, improve_on, play_on, report_on, start_on,
+    Beginning, Extent, Gate, ImprovePlan, MOST_EFFORT, NoGate, ProgramFault, ProgressLine, Sink,
+    Verdict, Watcher, Workplace, find_on, improve_on, play_on, report_on, start_on,
 };
 use std::alloc::Global;
 use std::io::Write;
@@ -67,7 +68,7 @@ pub(crate) fn perform<
     } = console;
     match terminal {
         Some(terminal) => {
-            let gate = &ProgressLine::over(rt, WriterSink::new(terminal), steps_of(job));
+            let gate = &ProgressLine::over(rt, WriterSink::new(terminal), extent_of(job));
             perform_at(Workplace { rt, alloc, gate }, job, texts, sink, watcher)
         }
         None => {
@@ -77,17 +78,22 @@ pub(crate) fn perform<
     }
 }
 
-/// How many steps the workers of a job take in all.
-fn steps_of(job: Job) -> u64 {
+/// How much the workers of a job do in all.
+fn extent_of(job: Job) -> Extent {
     match job {
-        Job::Improve { effort, .. } => effort,
-        Job::Find { plan, .. } => u64::from(plan.workers) * u64::from(plan.steps),
-        _ => 0,
+        Job::Improve {
+            effort,
+            seconds: 0,
+            ..
+        } => Extent::Steps(effort),
+        Job::Improve { seconds, .. } => Extent::Seconds(seconds),
+        Job::Find { plan, .. } => Extent::Steps(u64::from(plan.workers) * u64::from(plan.steps)),
+        _ => Extent::Steps(0),
     }
 }
 
 /// As [`perform`]. The workers pass the workplace's gate.
-fn perform_at<T: Threads + Wait + Sync, G: Gate + Sync, W: Sink, V: Watcher>(
+fn perform_at<T: Threads + Wait + Clock + Sync, G: Gate + Sync, W: Sink, V: Watcher>(
     workplace: Workplace<'_, T, G>,
     job: Job,
     texts: &Texts<'_>,
@@ -118,13 +124,11 @@ fn perform_at<T: Threads + Wait + Sync, G: Gate + Sync, W: Sink, V: Watcher>(
             workers,
             seed,
             effort,
+            seconds,
         } => {
-            let plan = ImprovePlan {
-                workers,
-                seed,
-                effort,
-            };
-            with_verdict(improve_on(workplace, input, beginning, sink, plan, watcher))
+            let plan = plan_of(workers, seed, effort, seconds);
+            let timed = Timed::new(workplace.rt, seconds, watcher);
+            with_verdict(improve_on(workplace, input, beginning, sink, plan, timed))
         }
         Job::Find { room, plan } => {
             without_verdict(find_on(workplace, input, beginning, sink, room, plan))
@@ -133,6 +137,26 @@ fn perform_at<T: Threads + Wait + Sync, G: Gate + Sync, W: Sink, V: Watcher>(
             let (league, sheet) = parts(input, *second, b"sheet");
             with_verdict(report_on(alloc, league, sheet, beginning, sink, format))
         }
+    }
+}
+
+/// One improvement, or improvements that follow each other if there are seconds for them.
+fn plan_of(workers: u32, seed: u64, effort: u64, seconds: u32) -> ImprovePlan
+    ensures { result ≡ plan_of workers seed effort seconds }
+{
+    let alone = ImprovePlan {
+        workers,
+        seed,
+        effort,
+        first: None,
+    };
+    if seconds == 0 {
+        return alone;
+    }
+    ImprovePlan {
+        effort: MOST_EFFORT,
+        first: Some(effort),
+        ..alone
     }
 }
 

@@ -6,6 +6,7 @@ mod found_file;
 mod jobs;
 mod leg_log;
 mod texts_read;
+mod timed;
 mod told;
 mod words;
 

@@ -21,6 +21,18 @@ fn first_leg_is_told_in_distances(rt: HostRuntime) {
     check_same(&rt, &found.text.starts_with(line), &true);
 }
 
+/// A given start isn't melted by the first leg, which cools from 27/50 to 27/100.
+#[test]
+fn first_leg_goes_on_from_a_given_start(rt: HostRuntime) {
+    let mut league = circle(&rt, rt.alloc(), 6);
+    let start = league.start(rt.alloc()).expect(&rt, "memory");
+    league.begin_at(start);
+    let found = improvement_of(&rt, rt.alloc(), league, asked(1, 1600));
+    let line =
+        b"leg 1 chain 1 moves homes,rounds,teams,part-rounds,part-teams from 0.540 to 0.270 steps 100 accepted ";
+    check_same(&rt, &found.text.starts_with(line), &true);
+}
+
 /// So many workers write what one writes.
 fn check_workers<T: Threads + Wait + Sync + Abort>(
     rt: &T,
@@ -93,7 +105,7 @@ impl Told {
 }
 
 /// The number behind a word of a line.
-fn number_behind(line: &[u8], word: &[u8]) -> Option<u64> {
+pub(crate) fn number_behind(line: &[u8], word: &[u8]) -> Option<u64> {
     let mut rest = line;
     for _ in 0..100 {
         if next_word(&mut rest)? == word {

@@ -10,8 +10,8 @@ use crate::tests::progress_lines::{Ticks, last_line};
 use clap::error::ErrorKind;
 use command_line::{Job, args};
 use commands::{
-    ImprovePlan, NoGate, ProgramFault, ProgressLine, Verdict, Workplace, improve, improve_from,
-    play,
+    Extent, ImprovePlan, NoGate, ProgramFault, ProgressLine, Verdict, Workplace, improve,
+    improve_from, play,
 };
 use league::LeagueFault;
 use search::{Gate, Progress};
@@ -23,10 +23,14 @@ use std::thread::Threads;
 use std::time::Clock;
 use streams::{MemorySink, MemorySource, Sink};
 
-/// Words, and the workers, the seed and the effort of the improvement that they ask for.
-const PLANS: &[(&[&str], (u32, u64, u64))] = &[
-    (&["ttp", "improve"], (2, 1, 10_000_000)),
-    (&["ttp", "improve", "--effort", "1"], (2, 1, 1_000_000)),
+/// Words, and the workers, the seed, the effort and the seconds of the improvement that they ask for.
+const PLANS: &[(&[&str], (u32, u64, u64, u32))] = &[
+    (&["ttp", "improve"], (2, 1, 10_000_000, 0)),
+    (&["ttp", "improve", "--effort", "1"], (2, 1, 1_000_000, 0)),
+    (
+        &["ttp", "improve", "--seconds", "1000000"],
+        (2, 1, 10_000_000, 1_000_000),
+    ),
     (
         &[
             "ttp",
@@ -35,7 +39,7 @@ const PLANS: &[(&[&str], (u32, u64, u64))] = &[
             "--seed=18446744073709551615",
             "--workers=16",
         ],
-        (16, u64::MAX, 1_000_000_000_000),
+        (16, u64::MAX, 1_000_000_000_000, 0),
     ),
 ];
 
@@ -51,6 +55,10 @@ const MISTAKES: &[(&[&str], ErrorKind)] = &[
     ),
     (
         &["ttp", "improve", "--workers", "17"],
+        ErrorKind::ValueValidation,
+    ),
+    (
+        &["ttp", "improve", "--seconds", "1000001"],
         ErrorKind::ValueValidation,
     ),
     (
@@ -73,12 +81,12 @@ fn answer(alloc: Global, given: &[&str]) -> Result<Result<Job, ErrorKind>, Alloc
 
 #[test]
 fn command_line_asks_for_an_improvement(rt: HostRuntime) -> Result<(), Fail> {
-    for (given, (workers, seed, effort)) in PLANS {
-        let (workers, seed, effort) = (*workers, *seed, *effort);
+    for (given, (workers, seed, effort, seconds)) in PLANS {
         let job = Job::Improve {
-            workers,
-            seed,
-            effort,
+            workers: *workers,
+            seed: *seed,
+            effort: *effort,
+            seconds: *seconds,
         };
         check_same_of(&rt, given, &answer(rt.alloc(), given)?, &Ok(job));
     }
@@ -111,6 +119,7 @@ fn by(workers: u32) -> ImprovePlan
         workers,
         seed: 1,
         effort: EFFORT,
+        first: None,
     }
 }
 
@@ -270,7 +279,7 @@ fn line_comes_again_in_the_next_run(rt: HostRuntime) {
     let mut room = [0; 1000];
     let mut terminal = MemorySink::new(&mut room);
     let clock = Ticks::new(Some(1));
-    let line = ProgressLine::over(&clock, &mut terminal, 280);
+    let line = ProgressLine::over(&clock, &mut terminal, Extent::Steps(280));
     run(&rt, &line, 250);
     run(&rt, &line, 30);
     drop(line);
@@ -287,7 +296,7 @@ fn line_stays_away_while_a_text_is_written(rt: HostRuntime) {
     let mut room = [0; 1000];
     let mut terminal = MemorySink::new(&mut room);
     let clock = Ticks::new(Some(1));
-    let line = ProgressLine::over(&clock, &mut terminal, 800);
+    let line = ProgressLine::over(&clock, &mut terminal, Extent::Steps(800));
     run(&rt, &line, 250);
     tell(&rt, &line, 249);
     tell(&rt, &line, 1);
@@ -309,7 +318,7 @@ fn improved_on<T: Threads + Wait + Sync, W: Sink + Send + Drop>(
     let mut sink = MemorySink::new(&mut memory);
     let mut source = MemorySource::new(CIRCLE.as_bytes());
     let clock = Ticks::new(Some(250));
-    let gate = &ProgressLine::over(&clock, terminal, EFFORT);
+    let gate = &ProgressLine::over(&clock, terminal, Extent::Steps(EFFORT));
     let workplace = Workplace { rt, alloc, gate };
     improve_from(workplace, &mut source, &mut sink, by(workers))?;
     Ok(Vec::from_slice(alloc, sink.held())?)

@@ -8,12 +8,12 @@ pub returns-in_err-board_or_new : goal.returns-in_err-board_or_new
 returns-in_err-board_or_new g c =
     let s = c.args.setting in
     let p = err_from_is_err_and c.from_residual.result c.from_residual.ensures.1 in
-    rw (p.1, p.2) (sent_none g.W.Sink.held g.W.Sink.tally s.start.now s.unit s.plan.effort c.args.out.now c.requires.none)
+    rw (p.1, p.2) (sent_none g.W.Sink.held g.W.Sink.tally s.start.now s.unit s.plan c.args.out.now c.requires.none)
 
 pub loop-told-init : goal.loop-told-init
 loop-told-init g c =
     let s = c.args.setting in
-    under_way_none g.W.Sink.held g.W.Sink.tally s.start.now s.unit s.plan.effort c.args.out.now c.new-line.result _ c.requires.none
+    under_way_none g.W.Sink.held g.W.Sink.tally s.start.now s.unit s.plan c.args.out.now c.new-line.result _ c.requires.none
     c.new-line.ensures.line c.new-line.ensures.left c.in_ok-board_or_new.ensures refl refl
 
 pub tell-requires-clause-under_way : goal.tell-requires-clause-under_way
@@ -21,7 +21,7 @@ tell-requires-clause-under_way g c = λ κs within.
     let s = c.args.setting in
     let next = c.in_ok-leg.ensures in (
       c.args.out.now,
-      under_way_next g.W.Sink.held g.W.Sink.tally s.start.now s.unit s.plan.effort c.loop-told.line c.next.new.self
+      under_way_next g.W.Sink.held g.W.Sink.tally s.start.now s.unit s.plan c.loop-told.line c.next_leg.new.line
           c.loop-told.told c.in_ok-leg.field-0 c.in-Some.leg c.loop-told.invariant c.in-Some.is next.line next.leg next.left,
     )
 
@@ -29,25 +29,25 @@ pub loop-told-preserved : goal.loop-told-preserved
 loop-told-preserved g c =
     let s = c.args.setting in
     let next = c.in_ok-leg.ensures in
-    c.in_ok-tell.ensures.under_way c.args.out.now (under_way_next g.W.Sink.held g.W.Sink.tally s.start.now s.unit s.plan.effort
-    c.loop-told.line c.next.new.self c.loop-told.told c.in_ok-leg.field-0 c.in-Some.leg c.loop-told.invariant c.in-Some.is next.line
+    c.in_ok-tell.ensures.under_way c.args.out.now (under_way_next g.W.Sink.held g.W.Sink.tally s.start.now s.unit s.plan
+    c.loop-told.line c.next_leg.new.line c.loop-told.told c.in_ok-leg.field-0 c.in-Some.leg c.loop-told.invariant c.in-Some.is next.line
     next.leg next.left)
 
 pub returns-in_err-tell : goal.returns-in_err-tell
 returns-in_err-tell g c =
     let s = c.args.setting in
     let next = c.in_ok-leg.ensures in
-    let w = under_way_next g.W.Sink.held g.W.Sink.tally s.start.now s.unit s.plan.effort c.loop-told.line c.next.new.self c.loop-told.told
+    let w = under_way_next g.W.Sink.held g.W.Sink.tally s.start.now s.unit s.plan c.loop-told.line c.next_leg.new.line c.loop-told.told
     c.in_ok-leg.field-0 c.in-Some.leg c.loop-told.invariant c.in-Some.is next.line next.leg next.left in
     let p = err_from_is_err_and c.from_residual-in_err-tell.result c.from_residual-in_err-tell.ensures.1 in
-    rw (p.1, p.2) (ends_early g.W.Sink.held g.W.Sink.tally s.start.now s.unit s.plan.effort c.args.out.now c.tell.new.out
-    (λ (done : Unit {0}). IsUnderWay g.W.Sink.held g.W.Sink.tally s.start.now s.unit s.plan.effort c.args.out.now c.tell.new.out [] c.tell.new.line
+    rw (p.1, p.2) (ends_early g.W.Sink.held g.W.Sink.tally s.start.now s.unit s.plan c.args.out.now c.tell.new.out
+    (λ (done : Unit {0}). IsUnderWay g.W.Sink.held g.W.Sink.tally s.start.now s.unit s.plan c.args.out.now c.tell.new.out [] c.tell.new.line
     c.tell.new.told)
-    (HasRunAll g.W.Sink.held g.W.Sink.tally s.start.now s.unit s.plan.effort c.args.out.now c.tell.new.out)
+    (HasRunAll g.W.Sink.held g.W.Sink.tally s.start.now s.unit s.plan c.args.out.now c.tell.new.out)
     c.in_err-tell.field-0.0 (c.in_err-tell.ensures.under_way c.args.out.now w))
 
 pub returns : goal.returns
 returns g c =
     let s = c.args.setting in
-    run_all_is g.W.Sink.held g.W.Sink.tally s.start.now s.unit s.plan.effort c.loop-told.line c.loop-told.told c.loop-told.invariant
+    run_all_is g.W.Sink.held g.W.Sink.tally s.start.now s.unit s.plan c.loop-told.line c.loop-told.told c.loop-told.invariant
     (none_left c.in_ok-leg.field-0 c.in_default.not-Some (c.in_ok-leg.ensures).none)

@@ -7,18 +7,18 @@ use Rattle.improvement.proofs.improving.run_and_write.Goals as goal
 pub returns-in_err-write_improved : goal.returns-in_err-write_improved
 returns-in_err-write_improved g c =
     let p = err_from_is_err_and c.from_residual-in_err-write_improved.result c.from_residual-in_err-write_improved.ensures.1 in
-    rw (p.1, p.2) (end_stops g.W.Sink.held g.W.Sink.tally c.args.setting.start.now c.args.setting.unit c.args.setting.plan.effort
+    rw (p.1, p.2) (end_stops g.W.Sink.held g.W.Sink.tally c.args.setting.start.now c.args.setting.unit c.args.setting.plan
     c.in_ok-told.told (c.in_ok-told.ensures) (c.in_err-write_improved.ensures).err)
 
 pub returns-in_err-flush : goal.returns-in_err-flush
 returns-in_err-flush g c =
     let p = err_from_is_err_and c.from_residual-in_err-flush.result c.from_residual-in_err-flush.ensures.1 in
-    rw (p.1, p.2) (end_stops g.W.Sink.held g.W.Sink.tally c.args.setting.start.now c.args.setting.unit c.args.setting.plan.effort
+    rw (p.1, p.2) (end_stops g.W.Sink.held g.W.Sink.tally c.args.setting.start.now c.args.setting.unit c.args.setting.plan
     c.in_ok-told.told (c.in_ok-told.ensures)
     (rw append-nil at (Adds-stops (c.in_ok-write_improved.ensures).ok (c.in_err-flush.ensures).writes.err)))
 
 pub returns : goal.returns
 returns g c =
-    end_written g.W.Sink.held g.W.Sink.tally c.args.setting.start.now c.args.setting.unit c.args.setting.plan.effort c.in_ok-told.told
+    end_written g.W.Sink.held g.W.Sink.tally c.args.setting.start.now c.args.setting.unit c.args.setting.plan c.in_ok-told.told
     c.best.result (c.in_ok-told.ensures)
     (rw append-nil at (Adds-then (c.in_ok-write_improved.ensures).ok (c.in_ok-flush.ensures).writes.ok)) (c.in_ok-flush.ensures).waiting c.best.ensures.value

@@ -11,7 +11,7 @@ overflow_add-ended g c =
     let s = c.args.setting in
     omega (
       arith,
-      few_told g.W.Sink.held g.W.Sink.tally s.start.now s.unit s.plan.effort _ c.args.line.now c.args.told.now
+      few_told g.W.Sink.held g.W.Sink.tally s.start.now s.unit s.plan _ c.args.line.now c.args.told.now
           c.requires.under_way.1,
       c.requires.setting.effort,
     )
@@ -23,7 +23,7 @@ returns-in_err-write_leg-clause-under_way g c = λ first w.
     let e = c.in_ok-chain.ensures s.start.now w.sent.legs c.args.leg.turn
     (All-head (IsRunning s.start.now w.sent.legs) c.args.leg [] w.running) in
     let p = err_from_is_err_and c.from_residual-in_err-write_leg.result c.from_residual-in_err-write_leg.ensures.1 in
-    rw (p.1, p.2) (stopped_more g.W.Sink.held g.W.Sink.tally s.start.now s.unit s.plan.effort w.sent c.args.told.now c.args.leg.turn now e
+    rw (p.1, p.2) (stopped_more g.W.Sink.held g.W.Sink.tally s.start.now s.unit s.plan w.sent c.args.told.now c.args.leg.turn now e
     w.told_is c.in_err-write_leg.ensures.writes.err)
 
 pub meet-requires-clause-legs : goal.meet-requires-clause-legs
@@ -31,7 +31,7 @@ meet-requires-clause-legs g c =
     let s = c.args.setting in
     omega (
       arith,
-      few_told g.W.Sink.held g.W.Sink.tally s.start.now s.unit s.plan.effort _ c.args.line.now c.args.told.now
+      few_told g.W.Sink.held g.W.Sink.tally s.start.now s.unit s.plan _ c.args.line.now c.args.told.now
           c.requires.under_way.1,
       c.requires.setting.effort,
     )
@@ -57,7 +57,7 @@ returns-in_err-leads-clause-under_way g c = λ first w.
     let e = c.in_ok-chain.ensures s.start.now w.sent.legs c.args.leg.turn
     (All-head (IsRunning s.start.now w.sent.legs) c.args.leg [] w.running) in
     let p = err_from_is_err_and c.from_residual-in_err-leads.result c.from_residual-in_err-leads.ensures.1 in
-    rw (p.1, p.2) (sent_more g.W.Sink.held g.W.Sink.tally s.start.now s.unit s.plan.effort w.sent c.args.told.now c.args.leg.turn now e
+    rw (p.1, p.2) (sent_more g.W.Sink.held g.W.Sink.tally s.start.now s.unit s.plan w.sent c.args.told.now c.args.leg.turn now e
     w.told_is c.in_ok-write_leg.ensures.writes.ok c.in_ok-write_leg.ensures.sent)
 
 pub go_on-requires-clause-ended : goal.go_on-requires-clause-ended
@@ -74,7 +74,7 @@ returns-in_err-go_on-clause-under_way g c = λ first w.
     let e = c.in_ok-chain.ensures s.start.now w.sent.legs c.args.leg.turn
     (All-head (IsRunning s.start.now w.sent.legs) c.args.leg [] w.running) in
     let p = err_from_is_err_and c.from_residual-in_err-go_on.result c.from_residual-in_err-go_on.ensures.1 in
-    rw (p.1, p.2) (sent_more g.W.Sink.held g.W.Sink.tally s.start.now s.unit s.plan.effort w.sent c.args.told.now c.args.leg.turn now e
+    rw (p.1, p.2) (sent_more g.W.Sink.held g.W.Sink.tally s.start.now s.unit s.plan w.sent c.args.told.now c.args.leg.turn now e
     w.told_is c.in_ok-write_leg.ensures.writes.ok c.in_ok-write_leg.ensures.sent)
 
 pub returns-clause-under_way : goal.returns-clause-under_way
@@ -83,7 +83,7 @@ returns-clause-under_way g c = λ first w.
     let now = c.in_ok-chain.field-0 in
     let e = c.in_ok-chain.ensures s.start.now w.sent.legs c.args.leg.turn
     (All-head (IsRunning s.start.now w.sent.legs) c.args.leg [] w.running) in
-    under_way_more g.W.Sink.held g.W.Sink.tally s.start.now s.unit s.plan.effort c.args.leg c.args.line.now c.go_on.new.self c.args.told.now
+    under_way_more g.W.Sink.held g.W.Sink.tally s.start.now s.unit s.plan c.args.leg c.args.line.now c.go_on.new.self c.args.told.now
     c.meet.new.self now w e c.in_ok-write_leg.ensures.writes.ok c.in_ok-write_leg.ensures.sent c.in_ok-leads.ensures.lead
     (c.in_ok-leads.ensures.least) c.in_ok-leads.ensures.legs (λ legs is line. c.in_ok-go_on.ensures.line s.start.now legs is line)
     c.in_ok-go_on.ensures.left

@@ -13,6 +13,6 @@ pub returns-clause-turns : goal.returns-clause-turns
 returns-clause-turns c =
     on_ok c.wait.result (λ waiting. (
       _,
-      turns_more c.args.self.now c.wait.new.self (waiting_for c.args.self.now.lined c.args.bout c.in-Some.leg c.in_ok-beginning.beginning)
+      turns_more c.args.self.now c.wait.new.self (waiting_for c.args.self.now.series.lined c.args.bout c.in-Some.leg c.in_ok-beginning.beginning)
           waiting c.wait.ensures.running,
     )) c.wait.ensures.waiting

@@ -30,4 +30,4 @@ returns-clause-first g c =
 pub returns-clause-left : goal.returns-clause-left
 returns-clause-left g c =
     front_left c.args.self.now c.fill.new.self c.run_first.new.self _ c.pop_front.result c.in_ok-fill.ensures.left
-    c.in_ok-run_first.ensures.turns c.in_ok-run_first.ensures.policy c.pop_front.ensures.items
+    c.in_ok-run_first.ensures.turns c.in_ok-run_first.ensures.series c.pop_front.ensures.items

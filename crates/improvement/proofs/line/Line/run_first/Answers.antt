@@ -15,7 +15,7 @@ loop-self-preserved g c =
       some = (was.some.0, line_run c.loop-self.self _ w r was.some.1 popped pushed refl (runs was.some.0));
       line = λ legs line. line_run c.loop-self.self _ w r (was.line legs line) popped pushed refl (runs legs);
       turns = turns_run c.loop-self.self _ _ w r popped pushed c.in_ok-running.ensures.turn ∙ was.turns;
-      policy = was.policy;
+      series = was.series;
     }
 
 pub returns-in_default-clause-line : goal.returns-in_default-clause-line

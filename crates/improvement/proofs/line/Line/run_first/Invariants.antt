@@ -9,7 +9,7 @@ invariant-loop-self g l = record {
   some : (legs : List LegRun) × IsLine l.setting.start.now legs l.self;
   line : (legs : List LegRun) → IsLine l.setting.start.now legs l.initial.self → IsLine l.setting.start.now legs l.self;
   turns : turns_of l.self ≡ turns_of l.initial.self;
-  policy : l.self.policy ≡ l.initial.self.policy;
+  series : l.self.series ≡ l.initial.self.series;
 }
 
 abbrev pub decreases-loop-self : goal.decreases-loop-self

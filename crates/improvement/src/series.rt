@@ -1,0 +1,75 @@
+//! Improvements that follow each other.
+
+ghost use Rattle.std.specs.Prelude.{◌≡◌, ◌≤◌, IfNone, IfSome};
+ghost use Rattle.policy.specs.Limits.{most_effort};
+ghost use Rattle.improvement.specs.Series.{steps_left};
+
+use crate::plan::ImprovePlan;
+use policy::{Facts, Policy, Wave};
+
+/// An improvement, and those that are to follow: each has the next seed, and twice the steps of the one before or what is left.
+#[derive(Drop)]
+pub(crate) struct Series {
+    /// The policy of the present one.
+    pub(crate) policy: Policy,
+    /// What that goes by.
+    facts: Facts,
+    /// What its draws begin with.
+    pub(crate) seed: u64,
+    /// How many of its legs got in line. Each draws from a stream of its own.
+    pub(crate) lined: u64,
+    /// The steps of those that are to follow.
+    later: u64,
+    ghost teams: { 4 ≤ facts.teams },
+    ghost most: { later ≤ most_effort },
+}
+
+impl Series {
+    /// Those of a plan, on as many teams and with the aim of these facts.
+    pub(crate) fn new(facts: Facts, plan: ImprovePlan) -> Self
+        requires teams { 4 ≤ facts.teams }
+        requires effort { plan.effort ≤ most_effort }
+        ensures { steps_left result ≡ plan.effort }
+    {
+        let effort = plan.first.unwrap_or(plan.effort).min(plan.effort);
+        let facts = Facts { effort, ..facts };
+        Series {
+            policy: Policy::new(facts),
+            facts,
+            seed: plan.seed,
+            lined: 0,
+            later: plan.effort - effort,
+        }
+    }
+
+    /// The next wave: of the present improvement or, if that has taken all its steps, the first one of the next.
+    pub(crate) fn wave(&mut self) -> Option<Wave>
+        ensures left { steps_left self.new ≡ steps_left self.old }
+        ensures some { IfSome result (λ wave. 1 ≤ self.new.policy.left) }
+        ensures none { IfNone result (steps_left self.old ≡ 0) }
+    {
+        let wave = self.policy.wave();
+        if wave.is_some() {
+            return wave;
+        }
+        self.begin_next();
+        self.policy.wave()
+    }
+
+    /// Goes on to the next improvement, which has no step if none is left.
+    fn begin_next(&mut self)
+        requires { self.old.policy.left ≡ 0 }
+        ensures left { steps_left self.new ≡ steps_left self.old }
+        ensures some { 1 ≤ self.old.later → 1 ≤ self.new.policy.left }
+    {
+        let effort = self.facts.effort.saturating_mul(2).max(1).min(self.later);
+        self.facts = Facts {
+            effort,
+            ..self.facts
+        };
+        self.later -= effort;
+        self.policy = Policy::new(self.facts);
+        self.seed = self.seed.wrapping_add(1);
+        self.lined = 0;
+    }
+}
