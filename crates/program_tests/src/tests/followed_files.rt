@@ -147,10 +147,17 @@ fn board(alloc: Global) -> Result<Board, Fail> {
     Ok(Board::new(alloc, circular(alloc, 4)?, 2)?)
 }
 
-/// Legs end, and on the disk is what has to be found.
+/// The legs end with the words `--output best.txt`.
+fn followed(disk: &Disk, alloc: Global) -> Result<Option<bool>, Fail> {
+    let words = words(alloc, true)?;
+    let mut board = board(alloc)?;
+    Ok(follow(disk, alloc, &words, &mut board))
+}
+
+/// On the disk is what has to be found after the legs.
 fn check_found(rt: &impl Abort, alloc: Global, good: u64, stops: bool) -> Result<(), Fail> {
     let disk = Disk::new(alloc, good, stops)?;
-    let answer = follow(&disk, alloc, &words(alloc, true)?, &mut board(alloc)?);
+    let answer = followed(&disk, alloc)?;
     let (file, said) = (disk.found("best.txt")?, disk.said()?);
     let found = (answer, text(&file), text(&said));
     check_same_of(rt, &(stops, good), &found, &after(good, stops));
