@@ -72,10 +72,6 @@ impl Contents {
         Ok(())
     }
 
-    fn copy(&self, place: Place) -> Result<Option<Vec<u8>>, AllocError> {
-        copy_of(self.alloc, self.at(place))
-    }
-
     fn put(&self, place: Place, bytes: Option<Vec<u8>>) -> io::Result<()> {
         match self.at(place).try_replace(bytes) {
             Ok(_) => Ok(()),
@@ -132,7 +128,7 @@ impl Disk {
 
     /// A copy of what stands under the name.
     pub(crate) fn found(&self, name: &str) -> Result<Option<Vec<u8>>, AllocError> {
-        self.contents.copy(place_of(name))
+        copy_of(self.contents.alloc, self.contents.at(place_of(name)))
     }
 
     /// What was said on standard error.
