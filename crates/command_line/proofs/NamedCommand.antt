@@ -299,6 +299,16 @@ names_a_command words e =
     (walk_on (walk_from nothing_held) (argument_words program words) met.0 tt) below.0 last.1
 
 -- a command that is named and has this name has the values of its options
+pub improve_values : (found : Text × List Row) → NamesOneOf commands found → found.0 ≡ codes "improve" →
+    HasValues found.1 improve_command.options
+improve_values found (inl of_start) is = absurd (true≢false (ap (λ t. bytes_eq t (codes "start")) (sym of_start.0 ∙ is)))
+improve_values found (inr (inl of_play)) is = absurd (true≢false (ap (λ t. bytes_eq t (codes "play")) (sym of_play.0 ∙ is)))
+improve_values found (inr (inr (inl of_improve))) is = of_improve.1
+improve_values found (inr (inr (inr (inl of_search)))) is = absurd (true≢false (ap (λ t. bytes_eq t (codes "search")) (sym of_search.0 ∙ is)))
+improve_values found (inr (inr (inr (inr (inl of_report))))) is =
+    absurd (true≢false (ap (λ t. bytes_eq t (codes "report")) (sym of_report.0 ∙ is)))
+improve_values found (inr (inr (inr (inr (inr none))))) is = absurd none
+
 pub search_values : (found : Text × List Row) → NamesOneOf commands found → found.0 ≡ codes "search" →
     HasValues found.1 search_command.options
 search_values found (inl of_start) is = absurd (true≢false (ap (λ t. bytes_eq t (codes "start")) (sym of_start.0 ∙ is)))

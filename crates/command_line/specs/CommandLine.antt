@@ -132,11 +132,15 @@ play_command = record {
   free = start_rules;
 }
 
+-- the numbers of an improvement
+abbrev pub improve_options : List OptionForm
+improve_options = workers_option ∷ seed_option ∷ effort_option ∷ seconds_option ∷ []
+
 abbrev pub improve_command : CommandForm
 improve_command = record {
   name = codes "improve";
   words = league_word ∷ [];
-  options = workers_option ∷ seed_option ∷ effort_option ∷ seconds_option ∷ [];
+  options = improve_options;
   free = file_rules ++ start_rules;
 }
 

@@ -5,7 +5,7 @@ ghost use Rattle.clap.specs.Words.{app_of, found_of, rows_of, FailsBy, subcomman
 ghost use Rattle.command_line.specs.CommandLine.{app_of_command, improve_command, improve_in, job_of_command, job_of_words, play_command};
 ghost use Rattle.command_line.specs.Beginnings.{beginning_of};
 ghost use Rattle.command_line.specs.CommandLine.{beginning_of_words, files_of_words};
-ghost use Rattle.command_line.specs.CommandLine.{plan_options, rule_of};
+ghost use Rattle.command_line.specs.CommandLine.{improve_options, plan_options, rule_of};
 ghost use Rattle.command_line.specs.CommandLine.{plan_in, program, program_of, search_command, start_command, words_fault};
 ghost use Rattle.command_line.specs.Files.{files_of};
 ghost use Rattle.command_line.specs.CommandLine.{HasValues, IsInRange, IsPlanInRange, NamesACommand};
@@ -214,13 +214,21 @@ fn improve_command<'a>(alloc: Global) -> Result<Command<'a>, AllocError>
     let command = Command::new(alloc, "improve")
         .about(IMPROVE_ABOUT)
         .after_help(IMPROVE_EXAMPLE)
-        .arg(LEAGUE.word(alloc))?
+        .arg(LEAGUE.word(alloc))?;
+    let planned = with_improve_options(alloc, command)?;
+    let with_files = with_file_options(alloc, planned)?;
+    with_start_options(alloc, with_files)
+}
+
+/// The command with the numbers of an improvement.
+fn with_improve_options<'a>(alloc: Global, command: Command<'a>) -> Result<Command<'a>, AllocError>
+    ensures { IfOk result (λ c. app_of c ≡ fold with_rule (app_of command.entry) (map rule_of improve_options)) }
+{
+    command
         .arg(WORKERS.arg(alloc))?
         .arg(SEED.arg(alloc))?
         .arg(EFFORT.arg(alloc))?
-        .arg(SECONDS.arg(alloc))?;
-    let with_files = with_file_options(alloc, command)?;
-    with_start_options(alloc, with_files)
+        .arg(SECONDS.arg(alloc))
 }
 
 fn search_command<'a>(alloc: Global) -> Result<Command<'a>, AllocError>

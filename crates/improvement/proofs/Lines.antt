@@ -25,12 +25,11 @@ use Rattle.improvement.specs.Fields.{StageData, after_bout, at_best, begun_one, 
 use Rattle.improvement.specs.Fields.{ranked}
 use Rattle.improvement.specs.Legs.{CanBegin, LegRun}
 use Rattle.improvement.specs.Lines.{CanEnd, IsAlike, IsAtBeginning, IsEntrant, IsLine, IsRunning, IsStage, IsState, IsWaiting, MayBegin, anew}
-use Rattle.improvement.specs.Lines.{left_in, turn_of_running, turn_of_waiting, turn_steps, turns_of, waiting_for}
+use Rattle.improvement.specs.Lines.{left_in, steps_left, turn_of_running, turn_of_waiting, turn_steps, turns_of, waiting_for}
 use Rattle.policy.specs.declared.legs.Leg.{Leg}
 use Rattle.policy.specs.declared.waves.Source.{Source}
 use Rattle.policy.specs.declared.waves.Source.TheVariants.{Start, Own, Copies}
 use Rattle.policy.specs.Legs.{IsLeg}
-use Rattle.improvement.specs.Series.{steps_left}
 
 can_begin_anew : (league : LeagueData) (legs : List LegRun) (chain : ℕ) → CanBegin league legs chain []
 can_begin_anew league [] chain = refl

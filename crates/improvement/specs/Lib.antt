@@ -4,7 +4,6 @@ pub mod LegText
 pub mod Outcome
 pub mod Laws
 pub mod Fields
-pub mod Series
 pub mod Lines
 pub mod UnderWay
 pub mod Watched

@@ -15,10 +15,10 @@ use Rattle.improvement.specs.declared.legs.RunningLeg.{RunningLeg}
 use Rattle.improvement.specs.declared.legs.Turn.{Turn}
 use Rattle.improvement.specs.declared.legs.WaitingLeg.{WaitingLeg}
 use Rattle.improvement.specs.declared.line.Line.{Line}
+use Rattle.improvement.specs.declared.series.Series.{Series}
 use Rattle.improvement.specs.declared.stage.Beginning.{Beginning}
 use Rattle.improvement.specs.Fields.{StageData}
 use Rattle.improvement.specs.Legs.{CanBegin, LegRun}
-use Rattle.improvement.specs.Series.{steps_left}
 
 -- a board of the start's league and room
 pub record IsAlike (start board : Book) : Type 0 where
@@ -84,6 +84,10 @@ turn_steps turn = turn.leg.steps
 
 abbrev pub running_steps : RunningLeg → ℕ
 running_steps r = turn_steps r.turn
+
+-- the steps that no leg of these improvements has got
+abbrev pub steps_left : Series → ℕ
+steps_left s = s.policy.left + s.later
 
 -- the steps that no leg has taken yet: those of the legs in line, and those that no leg has got
 abbrev pub left_in : Line → ℕ

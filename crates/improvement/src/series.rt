@@ -1,8 +1,7 @@
 //! Improvements that follow each other.
 
-ghost use Rattle.std.specs.Prelude.{◌≡◌, ◌≤◌, IfNone, IfSome};
+ghost use Rattle.std.specs.Prelude.{◌≡◌, ◌+◌, ◌≤◌, IfNone, IfSome};
 ghost use Rattle.policy.specs.Limits.{most_effort};
-ghost use Rattle.improvement.specs.Series.{steps_left};
 
 use crate::plan::ImprovePlan;
 use policy::{Facts, Policy, Wave};
@@ -29,7 +28,7 @@ impl Series {
     pub(crate) fn new(facts: Facts, plan: ImprovePlan) -> Self
         requires teams { 4 ≤ facts.teams }
         requires effort { plan.effort ≤ most_effort }
-        ensures { steps_left result ≡ plan.effort }
+        ensures { result.policy.left + result.later ≡ plan.effort }
     {
         let effort = plan.first.unwrap_or(plan.effort).min(plan.effort);
         let facts = Facts { effort, ..facts };
@@ -44,9 +43,10 @@ impl Series {
 
     /// The next wave: of the present improvement or, if that has taken all its steps, the first one of the next.
     pub(crate) fn wave(&mut self) -> Option<Wave>
-        ensures left { steps_left self.new ≡ steps_left self.old }
+        ensures left { self.new.policy.left + self.new.later ≡ self.old.policy.left + self.old.later }
         ensures some { IfSome result (λ wave. 1 ≤ self.new.policy.left) }
-        ensures none { IfNone result (steps_left self.old ≡ 0) }
+        ensures bouts { IfSome result (λ wave. 1 ≤ wave.bouts) }
+        ensures none { IfNone result (self.old.policy.left + self.old.later ≡ 0) }
     {
         let wave = self.policy.wave();
         if wave.is_some() {
@@ -59,7 +59,7 @@ impl Series {
     /// Goes on to the next improvement, which has no step if none is left.
     fn begin_next(&mut self)
         requires { self.old.policy.left ≡ 0 }
-        ensures left { steps_left self.new ≡ steps_left self.old }
+        ensures left { self.new.policy.left + self.new.later ≡ self.old.policy.left + self.old.later }
         ensures some { 1 ≤ self.old.later → 1 ≤ self.new.policy.left }
     {
         let effort = self.facts.effort.saturating_mul(2).max(1).min(self.later);

@@ -1,8 +1,14 @@
 use Rattle.std.proofs.Common.{◌≡◌, codes, rules}
 use Rattle.clap.specs.declared.parser.matches.ArgMatches.TheViews.{out-ArgMatches}
-use Rattle.command_line.specs.CommandLine.{search_command}
-use Rattle.command_line.proofs.NamedCommand.{values_of_met, search_values}
+use Rattle.command_line.specs.CommandLine.{improve_command, search_command}
+use Rattle.command_line.proofs.NamedCommand.{improve_values, search_values, values_of_met}
 use Rattle.command_line.proofs.job.job_of.Goals as goal
+
+pub improve_of-requires : goal.improve_of-requires
+improve_of-requires c =
+    let is : c.in-Some-improve-default.field-0-0.now ≡ codes "improve" = search rules in
+    values_of_met (codes "improve") improve_command.options improve_values (out-ArgMatches c.args.matches.now).subcommand _ _ c.requires
+    (c.in-Some-improve-default.ensures).name (c.in-Some-improve-default.ensures).rows is
 
 pub number-requires-in-Some-search-default : goal.number-requires-in-Some-search-default
 number-requires-in-Some-search-default c =
