@@ -137,6 +137,65 @@ def deviation(rule, games, table):
     return sum(over(rule["min"], between(a, b)) for a, b in combinations(teams, 2))
 
 
+def breaches(number, rule, games, table):
+    """A line for each term of the deviation that is above 0, in the order of the sum."""
+    rounds, size = len(table[0]), len(table)
+    chosen = lambda name, most: sorted({x - 1 for x in rule.get(name, range(1, most + 1))})
+    teams, firsts, seconds, slots = (chosen(n, m) for n, m in (("teams", size), ("teams1", size), ("teams2", size), ("slots", rounds)))
+    mode, name, limit = rule.get("mode", "HA"), rule["class"], rule.get("max", rule.get("intp"))
+    on_side = lambda t, r: "HA"[not table[t][r][1]] in mode
+    met = lambda t, r: on_side(t, r) and (name == "CA1" or table[t][r][0] in seconds)
+    stays = lambda t, r: r > 0 and table[t][r - 1][1] == table[t][r][1] and on_side(t, r)
+    game = lambda t, r: "{}-{}".format(*((t + 1, table[t][r][0] + 1) if table[t][r][1] else (table[t][r][0] + 1, t + 1)))
+    dated = lambda t, among: "".join(f" {game(t, r)} @ {r + 1}" for r in among)
+    line = lambda side, where, by, made="": f"{side} rule {number}{where} by {by}{made}"
+    if name in ("CA1", "CA2"):
+        for t in teams if name == "CA1" else firsts:
+            among = [r for r in slots if met(t, r)]
+            if len(among) > limit:
+                yield line("over", f" team {t + 1}", len(among) - limit, ":" + dated(t, among))
+    elif name == "CA3":
+        for t in firsts:
+            for r in range(rounds - rule["intp"] + 1):
+                among = [s for s in range(r, r + rule["intp"]) if met(t, s)]
+                if len(among) > rule["max"]:
+                    where = f" team {t + 1} rounds {r + 1}-{r + rule['intp']}"
+                    yield line("over", where, len(among) - rule["max"], ":" + dated(t, among))
+    elif name == "CA4" and rule["mode2"] == "EVERY":
+        for r in slots:
+            among = [t for t in firsts if met(t, r)]
+            if len(among) > limit:
+                yield line("over", f" round {r + 1}", len(among) - limit, ":" + "".join(" " + game(t, r) for t in among))
+    elif name == "GA1":
+        pairs = list(dict.fromkeys(tuple(pair) for pair in rule["games"]))
+        there = [(h - 1, a - 1) for h, a in pairs if games[h - 1, a - 1] in slots]
+        told = lambda among: ":" + "".join(f" {h + 1}-{a + 1} @ {games[h, a] + 1}" for h, a in among)
+        if len(there) > rule["max"]:
+            yield line("over", "", len(there) - rule["max"], told(there))
+        if len(there) < rule["min"]:
+            yield line("under", "", rule["min"] - len(there), told([(h - 1, a - 1) for h, a in pairs]))
+    elif name == "BR1":
+        for t in teams:
+            among = [r for r in slots if stays(t, r)]
+            if len(among) > limit:
+                yield line("over", f" team {t + 1}", len(among) - limit, ": rounds" + "".join(f" {r + 1}" for r in among))
+    elif name in ("SE1", "FA2"):
+        for high in teams:
+            for low in (t for t in teams if t < high):
+                where = f" teams {low + 1}-{high + 1}"
+                if name == "SE1":
+                    first, second = sorted((games[low, high], games[high, low]))
+                    lack = rule["min"] - (second - first - 1)
+                    if lack > 0:
+                        yield line("under", where, lack, f": rounds {first + 1} {second + 1}")
+                    continue
+                apart = [abs(sum(home for _, home in table[low][: r + 1]) - sum(home for _, home in table[high][: r + 1])) for r in slots]
+                if apart and max(apart) > limit:
+                    yield line("over", f"{where} round {slots[apart.index(max(apart))] + 1}", max(apart) - limit)
+    elif deviation(rule, games, table):
+        yield line("over", "", deviation(rule, games, table))
+
+
 def away_from_start(games, league):
     """How many games have another round than at the start."""
     return sum(games[pair] != r for pair, r in start_of(league).items())
@@ -395,6 +454,19 @@ def report(text, lines):
     return status, [*said, *remarks(league)]
 
 
+def in_words(league, lines):
+    """The lines of a double round robin in words, or none if the lines after `sheet` give no such one."""
+    teams = len(league["teams"])
+    faults, games = schedule_faults(teams, lines)
+    if faults:
+        return None
+    said = []
+    for r in range(2 * (teams - 1)):
+        pairings = sorted(game for game, at in games.items() if at == r)
+        said += ["", f"Round {r + 1}", *(f"{league['teams'][home]} - {league['teams'][away]}" for home, away in pairings)]
+    return said[1:]
+
+
 def judged(league, lines):
     """The same of a league, without the remarks."""
     teams = len(league["teams"])
@@ -420,6 +492,7 @@ def judged(league, lines):
     for i, rule in enumerate(league.get("rules", []), 1):
         kind = "hard" if rule["kind"] == "hard" else f"soft {rule['weight']}"
         said.append(f"rule {i} {rule['class']} {kind} deviation {deviation(rule, games, table)}")
+        said += breaches(i, rule, games, table)
     if league.get("near", 0) > 0:
         said.append(f"near {league['near']} moved {away_from_start(games, league)}")
     for (h, a), r in sorted(league.get("begin", {}).items()):

@@ -8,6 +8,7 @@ use Rattle.league.specs.declared.fault.LeagueFault.{LeagueFault}
 use Rattle.league.specs.declared.fault.LeagueFault.TheVariants.{WrongKind, DistanceShape, DistanceRange, Diagonal, Asymmetric}
 use Rattle.league.specs.Json.{only_if, whole_number}
 use Rattle.league.specs.Limits.{max_distance}
+use Rattle.json_forms.specs.declared.form.Form.TheVariants.{Whole}
 use Rattle.advice.specs.declared.hint.Hint.{Hint}
 use Rattle.advice.specs.declared.hint.Hint.TheVariants.{Rows, TwoDistances, Value}
 use Rattle.advice.specs.declared.hint.Place.TheVariants.{Row, Distance}
@@ -16,10 +17,15 @@ use Rattle.advice.specs.declared.hint.Seen.TheVariants as seen
 use Rattle.advice.specs.declared.hint.Wanted.{Wanted}
 use Rattle.advice.specs.declared.hint.Wanted.TheVariants as wanted
 use Rattle.advice.specs.Firsts.{item_count, or_else, first_below}
+use Rattle.advice.specs.Seen.{seen_in}
 
--- the whole number in a row and column
+-- what stands in a row and column
+abbrev pub value_at : Data → ℕ → ℕ → Option Data
+value_at table row column = option_and_then (at column) (at row table)
+
+-- the whole number there
 abbrev pub entry : Data → ℕ → ℕ → Option ℕ
-entry table row column = option_and_then whole_number (option_and_then (at column) (at row table))
+entry table row column = option_and_then whole_number (value_at table row column)
 
 -- the same, or 0 if there is none
 abbrev pub distance : Data → ℕ → ℕ → ℕ
@@ -32,7 +38,8 @@ columns table row = unwrap_or (option_map item_count (at row table)) 0
 -- the row as a whole has the fault: it is no array, or not of n items
 abbrev pub whole_row_hint : LeagueFault → ℕ → Data → ℕ → Option Hint
 whole_row_hint (WrongKind field) n table row =
-    only_if (not (is_some (option_and_then as_array (at row table)))) (Value (Row (row + 1)) seen.Other wanted.Numbers)
+    only_if (not (is_some (option_and_then as_array (at row table))))
+    (Value (Row (row + 1)) (seen_in wanted.Numbers (at row table)) wanted.Numbers)
 whole_row_hint DistanceShape n table row =
     only_if (not (columns table row == n)) (Value (Row (row + 1)) (seen.Length (columns table row)) (wanted.Exactly n))
 whole_row_hint fault n table row = None
@@ -47,12 +54,13 @@ wrong_entry row column seen wanted = Value (Distance (row + 1) (column + 1)) see
 -- the item in a row and column has the fault
 unfoldable pub entry_hint : LeagueFault → Data → ℕ → ℕ → Option Hint
 entry_hint (WrongKind field) table row column =
-    only_if (not (is_some (entry table row column))) (wrong_entry row column seen.Other any_distance)
+    only_if (not (is_some (entry table row column)))
+    (wrong_entry row column (seen_in any_distance (value_at table row column)) any_distance)
 entry_hint DistanceRange table row column =
-    only_if (nat_lt max_distance (distance table row column)) (wrong_entry row column (seen.Number (distance table row column)) any_distance)
+    only_if (nat_lt max_distance (distance table row column)) (wrong_entry row column (seen.Value (Whole (distance table row column))) any_distance)
 entry_hint Diagonal table row column =
     only_if ((row == column) && not (distance table row column == 0))
-    (wrong_entry row column (seen.Number (distance table row column)) (wanted.Exactly 0))
+    (wrong_entry row column (seen.Value (Whole (distance table row column))) (wanted.Exactly 0))
 entry_hint Asymmetric table row column =
     only_if (not (distance table row column == distance table column row))
     (TwoDistances (row + 1) (column + 1) (distance table row column) (distance table column row))

@@ -5,5 +5,6 @@ pub mod Distances
 pub mod Needs
 pub mod Seen
 pub mod Rules
+pub mod Members
 pub mod Hints
 pub mod Remarks

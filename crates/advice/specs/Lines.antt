@@ -1,6 +1,7 @@
 -- What a hint says.
 use Rattle.std.specs.Prelude.{ℕ, List, [], ◌∷◌, ◌++◌, codes, decimal}
 use Rattle.std.specs.List.{concat}
+use Rattle.league.specs.Messages.{member_name}
 use Rattle.advice.specs.declared.hint.Hint.{Hint}
 use Rattle.advice.specs.declared.hint.Hint.TheVariants as hint
 use Rattle.advice.specs.declared.hint.Place.{Place}
@@ -11,6 +12,7 @@ use Rattle.advice.specs.declared.hint.Seen.{Seen}
 use Rattle.advice.specs.declared.hint.Seen.TheVariants as seen
 use Rattle.advice.specs.declared.hint.Wanted.{Wanted}
 use Rattle.advice.specs.declared.hint.Wanted.TheVariants as wanted
+use Rattle.json_forms.specs.Forms.{form_words, quote_words}
 
 abbrev pub rule_member_name : RuleMember → List ℕ
 rule_member_name member.Class = codes "class"
@@ -28,6 +30,9 @@ rule_member_name member.Intp = codes "intp"
 rule_member_name member.Games = codes "games"
 
 abbrev pub place_words : Place → List ℕ
+place_words place.Whole = codes "the text: it"
+place_words (place.League field) = codes "the league: member \"" ++ member_name field ++ codes "\""
+place_words (place.Rule rule) = codes "rule " ++ decimal rule ++ codes ": it"
 place_words (place.Team team) = codes "teams: number " ++ decimal team
 place_words (place.Row row) = codes "distances: row " ++ decimal row
 place_words (place.Distance row column) = codes "distances: row " ++ decimal row ++ codes ", column " ++ decimal column
@@ -36,16 +41,21 @@ place_words (place.Member rule member) =
 
 abbrev pub seen_words : Seen → List ℕ
 seen_words seen.Absent = codes "is absent"
-seen_words (seen.Number number) = codes "is " ++ decimal number
-seen_words (seen.Item number) = codes "has " ++ decimal number
+seen_words (seen.Value form) = codes "is " ++ form_words form
+seen_words (seen.Item form) = codes "has " ++ form_words form
 seen_words (seen.Length length) = codes "has length " ++ decimal length
-seen_words (seen.Bytes bytes) = codes "has " ++ decimal bytes ++ codes " bytes"
-seen_words seen.ControlByte = codes "has a control byte"
-seen_words seen.Other = codes "is wrong"
+seen_words (seen.Bytes quote bytes) = quote_words quote ++ codes " has " ++ decimal bytes ++ codes " bytes"
+seen_words (seen.ControlByte quote) = quote_words quote ++ codes " has a control byte"
 
 abbrev pub wanted_words : Wanted → List ℕ
+wanted_words wanted.Object = codes "an object"
+wanted_words wanted.Objects = codes "an array of objects"
 wanted_words wanted.Name = codes "a string of 1 to 40 bytes without control bytes"
+wanted_words wanted.Names = codes "an array of strings"
 wanted_words wanted.Numbers = codes "an array of numbers"
+wanted_words wanted.Table = codes "an array of arrays of numbers"
+wanted_words wanted.Order = codes "\"plain\" or \"fide\""
+wanted_words wanted.Truth = codes "true or false"
 wanted_words (wanted.Exactly number) = decimal number
 wanted_words (wanted.Number least most) = codes "a whole number from " ++ decimal least ++ codes " to " ++ decimal most
 wanted_words wanted.FromMin = codes "a number not below \"min\""
@@ -63,6 +73,8 @@ way_words from to distance = decimal from ++ codes " to " ++ decimal to ++ codes
 
 abbrev pub hint_line : Hint → List ℕ
 hint_line (hint.Text line column) = codes "see line " ++ decimal line ++ codes ", column " ++ decimal column
+hint_line hint.Blank = codes "see the text: it is empty"
+hint_line (hint.NotUtf8 line) = codes "see line " ++ decimal line ++ codes ": it is no UTF-8"
 hint_line hint.ByteOrderMark = codes "see line 1: it begins with a byte order mark"
 hint_line (hint.ScriptBehind line) = codes "see line " ++ decimal line ++ codes ": \"script\" has to stand on a line of its own"
 hint_line (hint.SheetBehind line) = codes "see line " ++ decimal line ++ codes ": \"sheet\" has to stand on a line of its own"
@@ -70,6 +82,7 @@ hint_line (hint.TeamCount teams) = codes "see teams: " ++ decimal teams ++ codes
 hint_line (hint.Rows rows teams) = codes "see distances: " ++ decimal rows ++ codes " rows for " ++ decimal teams ++ codes " teams"
 hint_line (hint.TwoDistances from to there back) =
     codes "see distances: " ++ way_words from to there ++ codes ", " ++ way_words to from back
+hint_line (hint.RuleCount rules) = codes "see rules: " ++ decimal rules ++ codes " of them, at most 256 are wanted"
 hint_line (hint.SecondFormat rule) = codes "see rule " ++ decimal rule ++ codes ": class FA2 needs \"format\": 2"
 hint_line (hint.Value place seen wanted) =
     concat (codes "see " ∷ place_words place ∷ codes " " ∷ seen_words seen ∷ codes ", " ∷ wanted_words wanted ∷ codes " is wanted" ∷ [])

@@ -6,7 +6,7 @@ use Rattle.std.specs.Str.{bytes_eq}
 use Rattle.serde_json.specs.Data.{Data, Items, no_items, item, Members, no_members, member}
 use Rattle.serde_json.specs.Find.{get, as_array, as_object}
 use Rattle.league.specs.Json.{json_of}
-use Rattle.league.specs.LeagueMembers.{is_name_byte}
+use Rattle.json_forms.specs.Shown.{shown_byte}
 use Rattle.advice.specs.declared.remarks.Owner.{Owner}
 use Rattle.advice.specs.declared.remarks.Owner.TheVariants.{League, Rule}
 
@@ -29,10 +29,6 @@ knows (Rule number) name = is_rule_member name
 abbrev pub owner_words : Owner → List ℕ
 owner_words League = codes "the league"
 owner_words (Rule number) = codes "rule " ++ decimal number
-
--- a question mark for a control byte
-abbrev pub shown_byte : ℕ → ℕ
-shown_byte b = if is_name_byte b then b else 63
 
 abbrev pub remark_line : Owner → List ℕ → List ℕ
 remark_line owner name =

@@ -11,24 +11,26 @@ use Rattle.advice.specs.declared.hint.Hint.{Hint}
 use Rattle.advice.specs.declared.hint.Hint.TheVariants.{Value}
 use Rattle.advice.specs.declared.hint.Place.TheVariants.{Team}
 use Rattle.advice.specs.declared.hint.Seen.{Seen}
-use Rattle.advice.specs.declared.hint.Seen.TheVariants.{Bytes, ControlByte, Other}
+use Rattle.advice.specs.declared.hint.Seen.TheVariants.{Bytes, ControlByte}
+use Rattle.advice.specs.declared.hint.Seen.TheVariants as seen
 use Rattle.advice.specs.declared.hint.Wanted.TheVariants.{Name}
 use Rattle.advice.specs.Firsts.{item_count, first_below}
+use Rattle.json_forms.specs.Forms.{form_of, quote_of}
 
 -- a text that is no name: it is too short or too long, or has a control byte
 abbrev pub wrong_text : List ℕ → Option Seen
 wrong_text name =
     if nat_le 1 (length name) && nat_le (length name) max_name
-    then only_if (not (list_all is_name_byte name)) ControlByte
-    else Some (Bytes (length name))
+    then only_if (not (list_all is_name_byte name)) (ControlByte (quote_of name))
+    else Some (Bytes (quote_of name) (length name))
 
-abbrev pub wrong_text_or_other : Option (List ℕ) → Option Seen
-wrong_text_or_other None = Some Other
-wrong_text_or_other (Some name) = wrong_text name
+abbrev pub wrong_text_or_value : Data → Option (List ℕ) → Option Seen
+wrong_text_or_value d None = Some (seen.Value (form_of d))
+wrong_text_or_value d (Some name) = wrong_text name
 
 -- what is seen in place of a name
 abbrev pub wrong_name : Data → Option Seen
-wrong_name d = wrong_text_or_other (as_str d)
+wrong_name d = wrong_text_or_value d (as_str d)
 
 abbrev pub team_hint : Data → ℕ → Option Hint
 team_hint teams team = option_map (λ wrong. Value (Team (team + 1)) wrong Name) (option_and_then wrong_name (at team teams))

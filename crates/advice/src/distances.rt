@@ -1,12 +1,14 @@
 //! Where the table of distances is wrong.
 
-ghost use Rattle.std.specs.Prelude.{◌≡◌, ◌+◌, ◌^◌, ◌<◌};
+ghost use Rattle.std.specs.Prelude.{◌≡◌, ◌+◌, ◌^◌, ◌<◌, option_map};
 ghost use Rattle.serde_json.specs.View.{view};
-ghost use Rattle.advice.specs.Distances.{entry, distance, columns, whole_row_hint, entry_hint, entries_hint, row_hint};
+ghost use Rattle.advice.specs.Distances.{value_at, entry, distance, columns, whole_row_hint, entry_hint, entries_hint, row_hint};
 ghost use Rattle.advice.specs.Distances.{table_hint, shape_hint, distances_hint};
 
 use crate::forms::item_count;
 use crate::hint::{Hint, Place, Seen, Wanted};
+use crate::seen::seen_in;
+use json_forms::Form;
 use league::LeagueFault;
 use league::limits::MAX_DISTANCE;
 use serde_json::Value;
@@ -90,8 +92,9 @@ fn whole_row_hint(table: &Value, teams: usize, fault: LeagueFault, row: usize) -
     let place = Place::Row(row + 1);
     match fault {
         LeagueFault::WrongKind(_) => {
-            let items = table.get(row).and_then(|row| row.as_array());
-            let wrong = Hint::Value(place, Seen::Other, Wanted::Numbers);
+            let found = table.get(row);
+            let items = found.and_then(|row| row.as_array());
+            let wrong = Hint::Value(place, seen_in(found, Wanted::Numbers), Wanted::Numbers);
             items.is_none().then_some(wrong)
         }
         LeagueFault::DistanceShape => {
@@ -114,15 +117,16 @@ fn entry_hint(table: &Value, fault: LeagueFault, row: usize, column: usize) -> O
     let there = distance(table, row, column);
     match fault {
         LeagueFault::WrongKind(_) => {
-            let wrong = Hint::Value(place, Seen::Other, DISTANCE);
+            let seen = seen_in(value_at(table, row, column), DISTANCE);
+            let wrong = Hint::Value(place, seen, DISTANCE);
             entry(table, row, column).is_none().then_some(wrong)
         }
         LeagueFault::DistanceRange => {
-            let wrong = Hint::Value(place, Seen::Number(there), DISTANCE);
+            let wrong = Hint::Value(place, Seen::Value(Form::Whole(there)), DISTANCE);
             (there > MAX_DISTANCE).then_some(wrong)
         }
         LeagueFault::Diagonal => {
-            let wrong = Hint::Value(place, Seen::Number(there), Wanted::Exactly(0));
+            let wrong = Hint::Value(place, Seen::Value(Form::Whole(there)), Wanted::Exactly(0));
             (row == column && there != 0).then_some(wrong)
         }
         LeagueFault::Asymmetric => {
@@ -148,5 +152,12 @@ fn distance(table: &Value, row: usize, column: usize) -> u64
 fn entry(table: &Value, row: usize, column: usize) -> Option<u64>
     ensures { result ≡ entry (view table.now) row column }
 {
-    table.get(row)?.get(column)?.as_u64()
+    value_at(table, row, column)?.as_u64()
+}
+
+/// What stands in a row and column.
+fn value_at(table: &Value, row: usize, column: usize) -> Option<&Value>
+    ensures { option_map (λ value. view value.now) result ≡ value_at (view table.now) row column }
+{
+    table.get(row)?.get(column)
 }

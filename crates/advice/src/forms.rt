@@ -79,7 +79,7 @@ fn are_games(items: &[Value], teams: u64) -> bool
 
 /// Whether the value is an array of two distinct numbers from 1 to `teams`.
 #[tactic(auto, using(league::proofs::Items::game_of_items_none))]
-fn is_game(value: &Value, teams: u64) -> bool
+pub(crate) fn is_game(value: &Value, teams: u64) -> bool
     ensures { result ≡ is_some (pairing_from teams (view value.now)) }
 {
     let Some(items) = value.as_array() else {

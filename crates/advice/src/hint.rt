@@ -3,6 +3,8 @@
 ghost use Rattle.std.specs.Prelude.{◌≡◌, Some};
 ghost use Rattle.advice.specs.Lines.{hint_line, place_words, rule_member_name, seen_words, wanted_words};
 
+use json_forms::{Form, Quote};
+use league::Field;
 use std::fmt;
 
 /// Where the first fault of a league's text lies. All is numbered from 1.
@@ -13,6 +15,10 @@ pub enum Hint {
         line: usize,
         column: usize,
     },
+    /// The text has nothing but spaces and line ends.
+    Blank,
+    /// The text isn't UTF-8, from a byte on this line on.
+    NotUtf8(usize),
     /// The text isn't JSON, and begins with a byte order mark.
     ByteOrderMark,
     /// This line ends with `script`, which has to stand on a line of its own.
@@ -33,6 +39,8 @@ pub enum Hint {
         there: u64,
         back: u64,
     },
+    /// There are so many rules, and no league has as many.
+    RuleCount(usize),
     /// This rule has the class that only the second format knows.
     SecondFormat(u16),
     /// What is seen at this place isn't what is wanted there.
@@ -42,6 +50,12 @@ pub enum Hint {
 /// A place in a league's text.
 #[derive(Clone, Copy, Debug, Drop, PartialEq, Eq)]
 pub enum Place {
+    /// The text as a whole.
+    Whole,
+    /// This member of the league.
+    League(Field),
+    /// The rule of this number.
+    Rule(usize),
     /// The name of this team.
     Team(usize),
     /// This row of the distances.
@@ -75,27 +89,37 @@ pub enum RuleMember {
 pub enum Seen {
     /// Nothing.
     Absent,
-    /// This whole number.
-    Number(u64),
-    /// An array with this number.
-    Item(u64),
+    /// This.
+    Value(Form),
+    /// An array with this.
+    Item(Form),
     /// An array of so many items.
     Length(usize),
-    /// A text of so many bytes.
-    Bytes(usize),
-    /// A text with a control byte.
-    ControlByte,
-    /// Something else.
-    Other,
+    /// This text, of so many bytes.
+    Bytes(Quote, usize),
+    /// This text, which has a control byte.
+    ControlByte(Quote),
 }
 
 /// What is wanted at a place.
 #[derive(Clone, Copy, Debug, Drop, PartialEq, Eq)]
 pub enum Wanted {
+    /// An object.
+    Object,
+    /// An array of objects.
+    Objects,
     /// The name of a team.
     Name,
+    /// An array of names.
+    Names,
     /// An array of numbers.
     Numbers,
+    /// An array of arrays of numbers.
+    Table,
+    /// `"plain"` or `"fide"`.
+    Order,
+    /// `true` or `false`.
+    Truth,
     /// This number.
     Exactly(usize),
     /// A whole number from the first to the second.
@@ -150,6 +174,8 @@ impl fmt::Display for Hint {
     fn fmt<W: fmt::Write>(&self, f: &mut fmt::Formatter<W>) -> fmt::Result {
         match *self {
             Hint::Text { line, column } => write!(f, "see line {line}, column {column}"),
+            Hint::Blank => f.write_str("see the text: it is empty"),
+            Hint::NotUtf8(line) => write!(f, "see line {line}: it is no UTF-8"),
             Hint::ByteOrderMark => f.write_str("see line 1: it begins with a byte order mark"),
             Hint::ScriptBehind(line) => {
                 write!(
@@ -183,6 +209,9 @@ impl fmt::Display for Hint {
                     "see distances: {from} to {to} is {there}, {to} to {from} is {back}"
                 )
             }
+            Hint::RuleCount(rules) => {
+                write!(f, "see rules: {rules} of them, at most 256 are wanted")
+            }
             Hint::SecondFormat(rule) => {
                 write!(f, "see rule {rule}: class FA2 needs \"format\": 2")
             }
@@ -199,6 +228,9 @@ impl fmt::Display for Place {
 
     fn fmt<W: fmt::Write>(&self, f: &mut fmt::Formatter<W>) -> fmt::Result {
         match *self {
+            Place::Whole => f.write_str("the text: it"),
+            Place::League(field) => write!(f, "the league: member \"{field}\""),
+            Place::Rule(rule) => write!(f, "rule {rule}: it"),
             Place::Team(team) => write!(f, "teams: number {team}"),
             Place::Row(row) => write!(f, "distances: row {row}"),
             Place::Distance(row, column) => write!(f, "distances: row {row}, column {column}"),
@@ -217,12 +249,11 @@ impl fmt::Display for Seen {
     fn fmt<W: fmt::Write>(&self, f: &mut fmt::Formatter<W>) -> fmt::Result {
         match *self {
             Seen::Absent => f.write_str("is absent"),
-            Seen::Number(number) => write!(f, "is {number}"),
-            Seen::Item(number) => write!(f, "has {number}"),
+            Seen::Value(form) => write!(f, "is {form}"),
+            Seen::Item(form) => write!(f, "has {form}"),
             Seen::Length(length) => write!(f, "has length {length}"),
-            Seen::Bytes(bytes) => write!(f, "has {bytes} bytes"),
-            Seen::ControlByte => f.write_str("has a control byte"),
-            Seen::Other => f.write_str("is wrong"),
+            Seen::Bytes(quote, bytes) => write!(f, "{quote} has {bytes} bytes"),
+            Seen::ControlByte(quote) => write!(f, "{quote} has a control byte"),
         }
     }
 }
@@ -233,8 +264,14 @@ impl fmt::Display for Wanted {
 
     fn fmt<W: fmt::Write>(&self, f: &mut fmt::Formatter<W>) -> fmt::Result {
         match *self {
+            Wanted::Object => f.write_str("an object"),
+            Wanted::Objects => f.write_str("an array of objects"),
             Wanted::Name => f.write_str("a string of 1 to 40 bytes without control bytes"),
+            Wanted::Names => f.write_str("an array of strings"),
             Wanted::Numbers => f.write_str("an array of numbers"),
+            Wanted::Table => f.write_str("an array of arrays of numbers"),
+            Wanted::Order => f.write_str("\"plain\" or \"fide\""),
+            Wanted::Truth => f.write_str("true or false"),
             Wanted::Exactly(number) => write!(f, "{number}"),
             Wanted::Number(least, most) => write!(f, "a whole number from {least} to {most}"),
             Wanted::FromMin => f.write_str("a number not below \"min\""),

@@ -3,12 +3,13 @@
 ghost use Rattle.std.specs.Prelude.{◌≡◌, ◌≤◌, IfOk, IfSome, option_and_then, option_map};
 ghost use Rattle.serde_json.specs.View.{view};
 ghost use Rattle.league.specs.Limits.{max_teams};
-ghost use Rattle.advice.specs.Hints.{table_hint_of, rule_at, team_count, within_most, rule_hint_of, hint_of, IsHint};
+ghost use Rattle.advice.specs.Hints.{kind_hint, part_hint, table_hint_of, rule_at, rule_count, team_count, within_most, rule_hint_of, hint_of, IsHint};
 
 use crate::distances::distances_hint;
 use crate::forms::item_count;
 use crate::hint::Hint;
 use crate::json::json_of;
+use crate::members::{field_hint, rules_hint, whole_hint};
 use crate::rules::{class_hint, rule_hint};
 use crate::teams::teams_hint;
 use league::limits::MAX_TEAMS;
@@ -18,8 +19,7 @@ use std::alloc::{AllocError, Global};
 
 /// Where a league's text has this fault, which has to be the one that [`league::read_league`] answers, and what is wanted there.
 ///
-/// There is a hint on a text that isn't JSON, on the teams, on the distances and on a rule. The other faults say all that there is
-/// to say, as does one of teams or distances that are no array. Takes the memory of the text's JSON value.
+/// Takes the memory of the text's JSON value.
 pub fn hint_on(alloc: Global, text: &[u8], fault: LeagueFault) -> Result<Option<Hint>, AllocError>
     ensures { IfOk result (IsHint text.now fault) }
 {
@@ -33,15 +33,41 @@ fn hint_of(league: &Value, fault: LeagueFault) -> Option<Hint>
     ensures { result ≡ hint_of fault (view league.now) }
 {
     match fault {
-        LeagueFault::WrongKind(Field::Teams) => teams_hint(league.get("teams")?),
+        LeagueFault::MissingField(field) => Some(field_hint(league, field)),
+        LeagueFault::WrongKind(field) => Some(kind_hint(league, field)),
         LeagueFault::TeamCount => Some(Hint::TeamCount(team_count(league)?)),
-        LeagueFault::WrongKind(Field::Distances)
-        | LeagueFault::DistanceShape
+        LeagueFault::TooManyRules => Some(Hint::RuleCount(rule_count(league)?)),
+        LeagueFault::DistanceShape
         | LeagueFault::DistanceRange
         | LeagueFault::Diagonal
         | LeagueFault::Asymmetric => table_hint_of(league, fault),
         LeagueFault::RuleClass(index) => Some(class_hint(rule_at(league, index)?, index)),
         LeagueFault::RuleValue(index) => rule_hint_of(league, index),
+        _ => None,
+    }
+}
+
+/// Where the text, a member or a part of it isn't of its form.
+fn kind_hint(league: &Value, field: Field) -> Hint
+    ensures { result ≡ kind_hint field (view league.now) }
+{
+    if field == Field::Whole {
+        return whole_hint(league);
+    }
+    match part_hint(league, field) {
+        Some(hint) => hint,
+        None => field_hint(league, field),
+    }
+}
+
+/// What is wrong within a member, if that is an array.
+fn part_hint(league: &Value, field: Field) -> Option<Hint>
+    ensures { result ≡ part_hint field (view league.now) }
+{
+    match field {
+        Field::Teams => teams_hint(league.get("teams")?),
+        Field::Distances => table_hint_of(league, LeagueFault::WrongKind(Field::Distances)),
+        Field::Rules => rules_hint(league.get("rules")?),
         _ => None,
     }
 }
@@ -70,6 +96,12 @@ fn team_count(league: &Value) -> Option<usize>
     ensures { result ≡ team_count (view league.now) }
 {
     Some(item_count(league.get("teams")?))
+}
+
+fn rule_count(league: &Value) -> Option<usize>
+    ensures { result ≡ rule_count (view league.now) }
+{
+    Some(item_count(league.get("rules")?))
 }
 
 /// The number of teams, if it is from 1 to the most of a league.

@@ -7,6 +7,7 @@ mod forms;
 mod hint;
 mod hints;
 mod json;
+mod members;
 mod needs;
 mod remarks;
 mod rules;
@@ -15,4 +16,5 @@ mod teams;
 
 pub use hint::{Hint, Place, RuleMember, Seen, Wanted};
 pub use hints::hint_on;
+pub use json_forms::{Form, Quote};
 pub use remarks::remarks_on;

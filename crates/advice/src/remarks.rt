@@ -3,10 +3,12 @@
 ghost use Rattle.std.specs.Prelude.{◌≡◌, ◌++◌, map, IfOk, OnOk};
 ghost use Rattle.serde_json.specs.Find.{as_object};
 ghost use Rattle.serde_json.specs.View.{view, items_view, members_view};
-ghost use Rattle.advice.specs.Remarks.{knows, owner_words, shown_byte, remark_line, remark};
+ghost use Rattle.advice.specs.Remarks.{knows, owner_words, remark_line, remark};
+ghost use Rattle.json_forms.specs.Shown.{shown_byte};
 ghost use Rattle.advice.specs.Remarks.{member_remarks, remarks_in, rule_remarks, remarks_of, remarks_on};
 
 use crate::json::json_of;
+use json_forms::shown_byte;
 use serde_json::{Map, Value};
 use std::alloc::{AllocError, Global};
 
@@ -152,14 +154,4 @@ fn push_shown(remarks: &mut Vec<u8>, name: &[u8]) -> Result<(), AllocError>
         remarks.push(shown_byte(*byte))?;
     }
     Ok(())
-}
-
-fn shown_byte(byte: u8) -> u8
-    ensures { result ≡ shown_byte byte }
-{
-    if byte >= 32 && byte != 127 {
-        byte
-    } else {
-        b'?'
-    }
 }

@@ -8,6 +8,7 @@ ghost use Rattle.advice.specs.Teams.{wrong_text, wrong_name, team_hint, teams_hi
 
 use crate::forms::item_count;
 use crate::hint::{Hint, Place, Seen, Wanted};
+use json_forms::{Form, Quote};
 use league::limits::MAX_NAME;
 use serde_json::Value;
 
@@ -38,7 +39,7 @@ fn wrong_name(value: &Value) -> Option<Seen>
 {
     match value.as_str() {
         Some(name) => wrong_text(name),
-        None => Some(Seen::Other),
+        None => Some(Seen::Value(Form::of(value))),
     }
 }
 
@@ -46,9 +47,9 @@ fn wrong_text(name: &str) -> Option<Seen>
     ensures { result ≡ wrong_text name.now }
 {
     if (1..=MAX_NAME).contains(&name.len()) {
-        (!has_name_bytes(name.as_bytes())).then_some(Seen::ControlByte)
+        (!has_name_bytes(name.as_bytes())).then_some(Seen::ControlByte(Quote::of(name)))
     } else {
-        Some(Seen::Bytes(name.len()))
+        Some(Seen::Bytes(Quote::of(name), name.len()))
     }
 }
 

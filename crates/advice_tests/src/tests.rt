@@ -1,5 +1,6 @@
 //! The tests by subject, and what they share.
 
 mod hints;
+mod lines;
 mod memory;
 mod remarks;

@@ -8,11 +8,16 @@ use Rattle.sets.specs.Sums.{any_below}
 use Rattle.fixtures.specs.Games.{Games}
 use Rattle.league.specs.League.{LeagueData, teams}
 use Rattle.league.specs.Starts.{beginning_at, keeping, near_at, start_round}
+use Rattle.schedule_tables.specs.declared.fault.RowFault.{RowFault}
+use Rattle.schedule_tables.specs.declared.fault.TableFault.{TableFault}
+use Rattle.schedule_tables.specs.declared.fault.TableFault.TheVariants as table
+use Rattle.schedule_tables.specs.Table.{schedule_lines}
+use Rattle.schedule_texts.specs.Faults.{faults_text}
 use Rattle.schedule_texts.specs.Faultless.{schedule_of}
 use Rattle.schedule_texts.specs.LastSheet.{has_round_line, last_sheet}
 use Rattle.beginnings.specs.declared.begun.Beginning.{Beginning}
 use Rattle.beginnings.specs.declared.fault.BeginFault.{BeginFault}
-use Rattle.beginnings.specs.declared.fault.BeginFault.TheVariants.{NoRound, NotRoundRobin, RoundRange, GameRange, Memory}
+use Rattle.beginnings.specs.declared.fault.BeginFault.TheVariants.{Row, NoRound, NotRoundRobin, RoundRange, GameRange, Memory}
 
 -- ---- the start
 
@@ -22,8 +27,16 @@ started_with l None = Err NotRoundRobin
 started_with l (Some g) = Ok (beginning_at g l)
 
 -- at the last sheet among the lines
+abbrev pub started_at_text : LeagueData → List (List ℕ) → Result LeagueData BeginFault
+started_at_text l lines = if has_round_line (last_sheet lines) then started_with l (schedule_of (teams l) lines) else Err NoRound
+
+abbrev pub started_if : LeagueData → Result (List (List ℕ)) RowFault → Result LeagueData BeginFault
+started_if l (Ok lines) = started_at_text l lines
+started_if l (Err fault) = Err (Row fault)
+
+-- at the schedule of a text, which may be a table
 abbrev pub started_at : LeagueData → List (List ℕ) → Result LeagueData BeginFault
-started_at l lines = if has_round_line (last_sheet lines) then started_with l (schedule_of (teams l) lines) else Err NoRound
+started_at l given = started_if l (schedule_lines l given)
 
 -- ---- what is kept
 
@@ -89,7 +102,21 @@ started l (Some lines) = started_at l lines
 unfoldable pub begun : LeagueData → Beginning → Result LeagueData BeginFault
 begun l b = kept_if b (started l (option_map (λ text. lines text.now) b.from))
 
+abbrev pub of_table : TableFault → BeginFault
+of_table (table.Row fault) = Row fault
+of_table table.Memory = Memory
+
 -- what a call gives, if memory is there
 abbrev pub Gives : Result LeagueData BeginFault → Result LeagueData BeginFault → Type 0
 Gives (Ok l) wanted = wanted ≡ Ok l
 Gives (Err fault) wanted = fault ≢ Memory → wanted ≡ Err fault
+
+-- ---- what is wrong with a text
+
+abbrev pub faults_if : LeagueData → Result (List (List ℕ)) RowFault → List ℕ
+faults_if l (Ok lines) = faults_text (teams l) lines
+faults_if l (Err fault) = []
+
+-- the faults of the last sheet among the lines, or of a table's games if each row gives one
+abbrev pub start_faults : LeagueData → List (List ℕ) → List ℕ
+start_faults l given = faults_if l (schedule_lines l given)

@@ -4,18 +4,19 @@ ghost use Rattle.std.specs.Prelude.{◌≡◌, ◌≢◌, ◌≤◌, Ok, Err, If
 ghost use Rattle.std.specs.Str.Lines.{lines};
 ghost use Rattle.league.specs.League.{teams, IsLeague};
 ghost use Rattle.league.specs.Limits.{max_weight};
-ghost use Rattle.beginnings.specs.Begun.{begun, kept_from, priced, started, started_at, Gives};
+ghost use Rattle.beginnings.specs.Begun.{begun, kept_from, priced, started, started_at, started_at_text, Gives};
 
 use crate::fault::BeginFault;
 use crate::kept::{are_pairs, keep_games, keep_rounds, lacks_round};
 use league::{League, SlotSet};
+use schedule_tables::schedule_text;
 use schedule_texts::{has_round_line, judge};
 use std::alloc::Global;
 
 /// Where boards are to begin, and what of that is kept.
 #[derive(Clone, Copy)]
 pub struct Beginning<'a> {
-    /// The text whose last sheet is the schedule at which boards begin. Without it, it is the league's own start.
+    /// The text whose last sheet is the schedule at which boards begin, or a table of its games. Without it, it is the league's own start.
     pub from: Option<&'a [u8]>,
     /// The rounds of the start whose games are kept, from 0.
     pub rounds: SlotSet,
@@ -49,8 +50,15 @@ fn started(alloc: Global, league: League, from: Option<&[u8]>) -> Result<League,
     }
 }
 
-fn started_at(alloc: Global, mut league: League, text: &[u8]) -> Result<League, BeginFault>
-    ensures { Gives result (started_at league (lines text.now)) }
+fn started_at(alloc: Global, league: League, given: &[u8]) -> Result<League, BeginFault>
+    ensures { Gives result (started_at league (lines given.now)) }
+{
+    let text = schedule_text(alloc, &league, given)?;
+    started_at_text(alloc, league, text.as_bytes())
+}
+
+fn started_at_text(alloc: Global, mut league: League, text: &[u8]) -> Result<League, BeginFault>
+    ensures { Gives result (started_at_text league (lines text.now)) }
 {
     if !has_round_line(text) {
         return Err(BeginFault::NoRound);

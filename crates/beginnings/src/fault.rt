@@ -2,13 +2,18 @@
 
 ghost use Rattle.std.specs.Prelude.{◌≡◌};
 ghost use Rattle.beginnings.specs.declared.fault.BeginFault.TheVariants.{Memory};
+ghost use Rattle.beginnings.specs.Begun.{of_table};
 
+use schedule_tables::{RowFault, TableFault};
 use std::alloc::AllocError;
 use thiserror::Error;
 
 /// Why boards don't begin where they are to. The first one of these is told.
 #[derive(Clone, Copy, Debug, PartialEq, Eq, Error)]
 pub enum BeginFault {
+    /// A row of the table gives no game.
+    #[error("{0}")]
+    Row(RowFault),
     /// The last sheet of the text has no line whose first word is `round`.
     #[error("no line \"round R: H-A\"")]
     NoRound,
@@ -31,5 +36,16 @@ impl From<AllocError> for BeginFault {
 
     fn from(_error: AllocError) -> Self {
         BeginFault::Memory
+    }
+}
+
+impl From<TableFault> for BeginFault {
+    ghost from_gives = { λ fault gives. gives ≡ of_table fault };
+
+    fn from(fault: TableFault) -> Self {
+        match fault {
+            TableFault::Row(row) => BeginFault::Row(row),
+            TableFault::Memory => BeginFault::Memory,
+        }
     }
 }

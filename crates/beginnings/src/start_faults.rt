@@ -6,9 +6,11 @@ ghost use Rattle.std.specs.Str.Lines.{lines};
 ghost use Rattle.league.specs.League.{teams};
 ghost use Rattle.streams.specs.Sending.{AppendsPrefix};
 ghost use Rattle.schedule_texts.specs.Faults.{faults_text};
+ghost use Rattle.beginnings.specs.Begun.{start_faults};
 ghost use Rattle.schedule_texts.specs.Judged.{IsJudgedBy};
 
 use league::League;
+use schedule_tables::{TableFault, schedule_text};
 use schedule_texts::{Judged, judge};
 use std::alloc::{AllocError, Global};
 use streams::{BufferedSink, Sink, WriteFault};
@@ -45,22 +47,27 @@ impl From<WriteFault> for TellFault {
     }
 }
 
-/// Writes what is wrong with the last sheet of a text that is no double round robin of the league's teams, a line for each
-/// fault as in a report, and the line `no double round robin`. If a write fails, a prefix of them went out. Memory is taken
-/// before anything is written.
+/// Writes what is wrong with the last sheet of a text, or with a table's games, that are no double round robin of the league's
+/// teams, a line for each fault as in a report, and the line `no double round robin`. Of a table with a row that gives no game
+/// nothing is written. If a write fails, a prefix of the lines went out. Memory is taken before anything is written.
 pub fn write_start_faults<W: Sink>(
     alloc: Global,
     league: &League,
-    text: &[u8],
+    given: &[u8],
     sink: &mut W,
 ) -> Result<(), TellFault>
-    ensures ok { OnOk result (Appends (W.held sink.old) (W.held sink.new) (faults_text (teams league.now) (lines text.now))) }
+    ensures ok { OnOk result (Appends (W.held sink.old) (W.held sink.new) (start_faults league.now (lines given.now))) }
     ensures prefix { result ≡ Err TellFault.Write → AppendsPrefix (W.held sink.old) (W.held sink.new)
-        (faults_text (teams league.now) (lines text.now)) }
+        (start_faults league.now (lines given.now)) }
     ensures memory { result ≡ Err TellFault.Memory → sink.new ≡ sink.old }
 {
-    let judged = judge(alloc, league, text)?;
-    write_judged(league, text, &judged, sink)?;
+    let text = match schedule_text(alloc, league, given) {
+        Ok(text) => text,
+        Err(TableFault::Row(_)) => return Ok(()),
+        Err(TableFault::Memory) => return Err(TellFault::Memory),
+    };
+    let judged = judge(alloc, league, text.as_bytes())?;
+    write_judged(league, text.as_bytes(), &judged, sink)?;
     Ok(())
 }
 

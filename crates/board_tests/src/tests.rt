@@ -12,7 +12,6 @@ mod equality;
 mod given_start;
 mod kept_cost;
 mod kept_games;
-mod made_exchanges;
 mod memory;
 mod phased;
 mod pins;

@@ -1,12 +1,13 @@
 -- What the definition of the command line answers at words that are written out.
-use Rattle.std.proofs.Common.{◌≡◌, List, [], ◌∷◌, None, Some, codes, refl}
+use Rattle.std.proofs.Common.{◌≡◌, List, [], ◌∷◌, None, Some, codes, false, refl, true}
 use Rattle.clap.specs.Words.{Text, fault_of}
 use Rattle.clap.specs.declared.error.kind.ErrorKind.TheVariants.{ArgumentConflict, DisplayHelp, DisplayVersion}
 use Rattle.clap.specs.declared.error.kind.ErrorKind.TheVariants.{InvalidValue, MissingSubcommand, UnknownArgument}
 use Rattle.clap.specs.declared.error.kind.ErrorKind.TheVariants.{ValueValidation}
 use Rattle.clap.proofs.OnLiterals.{clap_on_literals}
-use Rattle.command_line.specs.CommandLine.{job_of_words, program, words_fault}
+use Rattle.command_line.specs.CommandLine.{csv_with, job_of_words, program, words_fault}
 use Rattle.command_line.specs.declared.job.Job.TheVariants.{Find, Improve, Play, Report, Start}
+use Rattle.report_formats.specs.declared.csv_form.Separator.TheVariants.{Comma, Semicolon}
 use Rattle.report_formats.specs.declared.format.Format.TheVariants as formats
 
 abbrev ttp : List Text → List Text
@@ -114,9 +115,18 @@ report_is_named : job_of_words (ttp (codes "report" ∷ [])) ≡ Some (Report fo
 unfolding clap_on_literals
 report_is_named = refl
 
-report_has_its_format : job_of_words (ttp (codes "report" ∷ codes "--format" ∷ codes "csv" ∷ [])) ≡ Some (Report formats.Csv)
+report_has_its_format : job_of_words (ttp (codes "report" ∷ codes "--format" ∷ codes "csv" ∷ [])) ≡ Some (Report (csv_with false Comma))
 unfolding clap_on_literals
 report_has_its_format = refl
+
+csv_has_its_form : job_of_words (ttp (codes "report" ∷ codes "--bom" ∷ codes "--format=csv" ∷ codes "--separator=;" ∷ []))
+    ≡ Some (Report (csv_with true Semicolon))
+unfolding clap_on_literals
+csv_has_its_form = refl
+
+mark_wants_csv : words_fault (ttp (codes "report" ∷ codes "--bom" ∷ [])) ≡ InvalidValue ∷ []
+unfolding clap_on_literals
+mark_wants_csv = refl
 
 page_after_an_equals_sign : job_of_words (ttp (codes "report" ∷ codes "--format=html" ∷ [])) ≡ Some (Report formats.Html)
 unfolding clap_on_literals

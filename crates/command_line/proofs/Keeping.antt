@@ -1,11 +1,11 @@
 -- Items between commas, and sets and lists that grow by one.
 use Rattle.std.proofs.Common.{◌≡◌, ◌∙◌, ℕ, ◌+◌, ◌<◌, zero, suc, add-one, ap, arith, List, [], ◌∷◌, ◌++◌, length, take, drop, get_or, map}
-use Rattle.std.proofs.Common.{Option, Some, None, refl, sym, option_and_then, not, Bool, true, false}
+use Rattle.std.proofs.Common.{Option, Some, None, refl, option_and_then, false}
 use Rattle.std.specs.Borrow.{Bor}
 use Rattle.std.specs.List.{position_or_len, slice_split}
 use Rattle.std.proofs.lemmas.List.Elements.{All-from_get_or}
 use Rattle.std.proofs.lemmas.List.Splits.{slice_split_first, slice_split_none}
-use Rattle.std.proofs.lemmas.List.Sums.{fails_before_first, prefix_len-le-length}
+use Rattle.std.proofs.lemmas.List.Sums.{fails_before_first}
 use Rattle.clap.specs.Words.{Text}
 use Rattle.sets.specs.Sets.{with_number}
 use Rattle.command_line.specs.Beginnings.{game_of_text, is_comma, with_games, with_item, with_items, with_numbers}

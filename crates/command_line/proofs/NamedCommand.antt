@@ -208,27 +208,27 @@ unfolding clap_on_literals
 commands_are_read = (
   record {
     named = refl;
-    has = has_values [] first_word (with_help start_command.free) start_sound (all_sound [] first_word start_command.free start_sound (record { other = refl; no_default = refl; adds = inl refl }, tt) (record { other = refl; no_default = refl; adds = inl refl }, tt)) (built_command start_command);
+    has = has_values [] first_word (with_help start_command.free) start_sound (all_sound [] first_word start_command.free start_sound (record { other = refl; adds = inl refl }, tt) (record { other = refl; adds = inl refl }, tt)) (built_command start_command);
   },
   (
     record {
       named = refl;
-      has = has_values play_command.options both_words (with_help start_rules) play_sound (all_sound play_command.options both_words start_rules play_sound (record { other = refl; no_default = refl; adds = inl refl }, (record { other = refl; no_default = refl; adds = inl refl }, tt)) (record { other = refl; no_default = refl; adds = inl refl }, (record { other = refl; no_default = refl; adds = inl refl }, (record { other = refl; no_default = refl; adds = inr refl }, (record { other = refl; no_default = refl; adds = inl refl }, tt))))) (built_command play_command);
+      has = has_values play_command.options both_words (with_help start_rules) play_sound (all_sound play_command.options both_words start_rules play_sound (record { other = refl; adds = inl refl }, (record { other = refl; adds = inl refl }, tt)) (record { other = refl; adds = inl refl }, (record { other = refl; adds = inl refl }, (record { other = refl; adds = inr (inl refl) }, (record { other = refl; adds = inl refl }, tt))))) (built_command play_command);
     },
     (
       record {
         named = refl;
-        has = has_values improve_command.options first_word (with_help improve_command.free) improve_sound (all_sound improve_command.options first_word improve_command.free improve_sound (record { other = refl; no_default = refl; adds = inl refl }, tt) (record { other = refl; no_default = refl; adds = inl refl }, (record { other = refl; no_default = refl; adds = inl refl }, (record { other = refl; no_default = refl; adds = inl refl }, (record { other = refl; no_default = refl; adds = inl refl }, (record { other = refl; no_default = refl; adds = inr refl }, (record { other = refl; no_default = refl; adds = inl refl }, tt))))))) (built_command improve_command);
+        has = has_values improve_command.options first_word (with_help improve_command.free) improve_sound (all_sound improve_command.options first_word improve_command.free improve_sound (record { other = refl; adds = inl refl }, tt) (record { other = refl; adds = inl refl }, (record { other = refl; adds = inl refl }, (record { other = refl; adds = inl refl }, (record { other = refl; adds = inl refl }, (record { other = refl; adds = inr (inl refl) }, (record { other = refl; adds = inl refl }, tt))))))) (built_command improve_command);
       },
       (
         record {
           named = refl;
-          has = has_values search_command.options first_word (with_help start_rules) search_sound (all_sound search_command.options first_word start_rules search_sound (record { other = refl; no_default = refl; adds = inl refl }, tt) (record { other = refl; no_default = refl; adds = inl refl }, (record { other = refl; no_default = refl; adds = inl refl }, (record { other = refl; no_default = refl; adds = inr refl }, (record { other = refl; no_default = refl; adds = inl refl }, tt))))) (built_command search_command);
+          has = has_values search_command.options first_word (with_help start_rules) search_sound (all_sound search_command.options first_word start_rules search_sound (record { other = refl; adds = inl refl }, tt) (record { other = refl; adds = inl refl }, (record { other = refl; adds = inl refl }, (record { other = refl; adds = inr (inl refl) }, (record { other = refl; adds = inl refl }, tt))))) (built_command search_command);
         },
         (
           record {
             named = refl;
-            has = has_values report_command.options both_words (with_help report_command.free) report_sound (all_sound report_command.options both_words report_command.free report_sound (record { other = refl; no_default = refl; adds = inl refl }, (record { other = refl; no_default = refl; adds = inl refl }, tt)) (record { other = refl; no_default = refl; adds = inl refl }, (record { other = refl; no_default = refl; adds = inl refl }, tt))) (built_command report_command);
+            has = has_values report_command.options both_words (with_help report_command.free) report_sound (all_sound report_command.options both_words report_command.free report_sound (record { other = refl; adds = inl refl }, (record { other = refl; adds = inl refl }, tt)) (record { other = refl; adds = inl refl }, (record { other = refl; adds = inl refl }, (record { other = refl; adds = inl refl }, (record { other = refl; adds = inr (inr refl) }, tt))))) (built_command report_command);
           },
           tt,
         ),

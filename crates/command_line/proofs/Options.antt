@@ -11,7 +11,7 @@ use Rattle.clap.specs.Simple.{filled, help_rule, with_index}
 use Rattle.clap.specs.Walk.{Row, Rule, Text, action_of, at_row, default_rows, has_row, more_values, reading_by}
 use Rattle.clap.specs.Walk.{row_text, stronger, used, used_as, values_or_missing, with_default, with_values, without}
 use Rattle.clap.specs.Values.{read_as, reading_of}
-use Rattle.clap.specs.declared.builder.action.ArgAction.TheVariants.{Append, Set}
+use Rattle.clap.specs.declared.builder.action.ArgAction.TheVariants.{Append, Set, SetTrue}
 use Rattle.clap.specs.declared.builder.value_parser.Reading.{Reading}
 use Rattle.clap.specs.declared.builder.value_parser.Reading.TheVariants.{AsWritten}
 use Rattle.clap.specs.declared.error.kind.ErrorKind.{ErrorKind}
@@ -48,11 +48,10 @@ abbrev pub AreSound : List OptionForm → List OptionForm → Type 0
 AreSound options [] = Unit {0}
 AreSound options (o ∷ os) = IsSound options o × AreSound options os
 
--- an argument that is none of the options, and has no default
+-- an argument that is none of the options
 pub record IsFree (options : List OptionForm) (a : Rule) : Type 0 where
   pub other : option_of options a.id ≡ None
-  pub no_default : a.defaults ≡ []
-  pub adds : (action_of a ≡ Set) ⊎ (action_of a ≡ Append)
+  pub adds : (action_of a ≡ Set) ⊎ ((action_of a ≡ Append) ⊎ (action_of a ≡ SetTrue))
 
 abbrev pub IsSoundRule : List OptionForm → Rule → Type 0
 IsSoundRule options a = ((o : OptionForm) × (a ≡ option_rule o) × IsSound options o) ⊎ (IsFree options a ⊎ (a ≡ help))
@@ -200,12 +199,23 @@ module _ (options : List OptionForm) where
       given : List Text
       given = values_or_missing a values
 
-      go : (action_of a ≡ Set) ⊎ (action_of a ≡ Append) → IsFine (used a values rows)
-      go (inl is) = subst (λ act. IsFine (used_as act a.id (reading_by a) given rows)) (sym is)
-          (values_fine a.id (reading_by a) CommandLine given (without a.id rows) free.other
-          (changed_fine a.id (λ _. []) [] rows (λ r same. tt) tt fine))
-      go (inr is) = subst (λ act. IsFine (used_as act a.id (reading_by a) given rows)) (sym is)
+      only : IsFine (used_as Set a.id (reading_by a) given rows)
+      only = values_fine a.id (reading_by a) CommandLine given (without a.id rows) free.other
+          (changed_fine a.id (λ _. []) [] rows (λ r same. tt) tt fine)
+
+      go : (action_of a ≡ Set) ⊎ ((action_of a ≡ Append) ⊎ (action_of a ≡ SetTrue)) → IsFine (used a values rows)
+      go (inl is) = subst (λ act. IsFine (used_as act a.id (reading_by a) given rows)) (sym is) only
+      go (inr (inr is)) = subst (λ act. IsFine (used_as act a.id (reading_by a) given rows)) (sym is) only
+      go (inr (inl is)) = subst (λ act. IsFine (used_as act a.id (reading_by a) given rows)) (sym is)
           (values_fine a.id (reading_by a) CommandLine given rows free.other fine)
+
+  free_default_fine : (a : Rule) (rows : List Row) → IsFree options a → IsFine rows → IsFine (with_default rows a)
+  free_default_fine a rows free fine = go (has_row a.id rows) a.defaults
+    where
+      go : (b : Bool) (values : List Text) → IsFine (cond b rows (default_rows a.id (reading_by a) values rows))
+      go true values = fine
+      go false [] = fine
+      go false (v ∷ vs) = values_fine a.id (reading_by a) DefaultValue (v ∷ vs) rows free.other fine
 
   no_default_added : (a : Rule) (rows : List Row) → a.defaults ≡ [] → with_default rows a ≡ rows
   no_default_added a rows none = subst (λ values. cond (has_row a.id rows) rows (default_rows a.id (reading_by a) values rows) ≡ rows)
@@ -214,7 +224,7 @@ module _ (options : List OptionForm) where
   rule_default_fine : (a : Rule) (rows : List Row) → IsSoundRule options a → IsFine rows → IsFine (with_default rows a)
   rule_default_fine a rows (inl given) fine =
       subst (λ r. IsFine (with_default rows r)) (sym given.1) (default_fine given.0 rows given.2 fine)
-  rule_default_fine a rows (inr (inl free)) fine = subst IsFine (sym (no_default_added a rows free.no_default)) fine
+  rule_default_fine a rows (inr (inl free)) fine = free_default_fine a rows free fine
   rule_default_fine a rows (inr (inr is)) fine =
       subst IsFine (sym (no_default_added a rows (subst (λ (r : Rule). r.defaults ≡ []) (sym is) refl))) fine
 

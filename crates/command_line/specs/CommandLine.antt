@@ -1,6 +1,7 @@
 -- The program's command line, as clap reads it: commands, each with words and options.
-use Rattle.std.specs.Prelude.{◌≡◌, ◌≤◌, ◌^◌, ◌-◌, ◌*◌, ℕ, Some, None, Option, List, [], ◌∷◌, ◌++◌, ◌&&◌, Bool, codes, true, false, map, fold}
+use Rattle.std.specs.Prelude.{◌≡◌, ◌≤◌, ◌^◌, ◌-◌, ◌*◌, ℕ, Some, None, Option, List, [], ◌∷◌, ◌++◌, ◌&&◌, ◌||◌, Bool, codes, true, false, map, fold}
 use Rattle.std.specs.Prelude.{◌⊎◌, if◌then◌else◌, is_some, option_and_then, option_map}
+use Rattle.std.specs.Option.{option_map_or}
 use Rattle.std.specs.Str.{bytes_eq}
 use Rattle.std.specs.Str.Parse.{digits_value, without_leading_plus}
 use Rattle.clap.specs.Words.{App, Rule, Row, Text, new_app, new_rule, with_rule, with_subcommand}
@@ -11,13 +12,15 @@ use Rattle.clap.specs.ValueTests.{accepts}
 use Rattle.clap.specs.declared.builder.value_parser.ValueParser.{ValueParser}
 use Rattle.clap.specs.declared.builder.value_parser.ValueParser.TheVariants as parsers
 use Rattle.clap.specs.declared.error.kind.ErrorKind.TheVariants.{InvalidValue}
-use Rattle.clap.specs.declared.builder.action.ArgAction.TheVariants.{Append}
+use Rattle.clap.specs.declared.builder.action.ArgAction.TheVariants.{Append, SetTrue}
 use Rattle.command_line.specs.Beginnings.{Beginning, beginning_in}
 use Rattle.command_line.specs.Files.{Files, files_of_command}
 use Rattle.command_line.specs.declared.job.Job.{Job}
 use Rattle.command_line.specs.declared.job.Job.TheVariants.{Start, Play, Improve, Find, Report}
 use Rattle.command_line.specs.declared.number_args.NumberArg.{NumberArg}
 use Rattle.fixture_board.specs.History.{max_room}
+use Rattle.report_formats.specs.declared.csv_form.Separator.{Separator}
+use Rattle.report_formats.specs.declared.csv_form.Separator.TheVariants.{Comma, Semicolon, Tab}
 use Rattle.report_formats.specs.declared.format.Format.{Format}
 use Rattle.report_formats.specs.declared.format.Format.TheVariants as formats
 use Rattle.search.specs.declared.runs.SearchPlan.{SearchPlan}
@@ -82,6 +85,10 @@ text_option name = record (word name) { long = Some name }
 abbrev pub lettered : ℕ → Rule → Rule
 lettered letter r = record r { short = Some letter }
 
+-- an option without a value
+abbrev pub flag : Text → Rule
+flag name = record (new_rule name) { long = Some name; action = Some SetTrue }
+
 -- an option that can be given several times
 abbrev pub repeated : Rule → Rule
 repeated r = record r { action = Some Append }
@@ -112,6 +119,10 @@ file_rules = output_option ∷ log_option ∷ []
 -- what a moved game costs
 abbrev pub near_option : Rule
 near_option = text_option (codes "near")
+
+-- the options of a report but its format; the last ones say what parts the cells of CSV, and whether a byte order mark stands before it
+abbrev pub report_rules : List Rule
+report_rules = from_option ∷ near_option ∷ text_option (codes "separator") ∷ flag (codes "bom") ∷ []
 
 -- the options of a start
 abbrev pub start_rules : List Rule
@@ -161,7 +172,7 @@ report_command = record {
   name = codes "report";
   words = league_word ∷ second_word ∷ [];
   options = format_option ∷ [];
-  free = from_option ∷ near_option ∷ [];
+  free = report_rules;
 }
 
 abbrev pub commands : List CommandForm
@@ -221,15 +232,36 @@ abbrev pub find_from : Option ℕ → Option SearchPlan → Option Job
 find_from (Some room) (Some plan) = Some (Find room plan)
 find_from _ _ = None
 
--- the format of that name
-abbrev pub format_named : Text → Option Format
-format_named name = if bytes_eq name (codes "text") then Some formats.Text
-    else (if bytes_eq name (codes "csv") then Some formats.Csv
-    else (if bytes_eq name (codes "html") then Some formats.Html else None))
+abbrev pub separator_named : Text → Option Separator
+separator_named name = if bytes_eq name (codes ",") then Some Comma
+    else (if bytes_eq name (codes ";") then Some Semicolon
+    else (if bytes_eq name (codes "tab") then Some Tab else None))
 
--- the format whose name stands after its option, or its default
+-- a comma, if no separator is named
+abbrev pub separator_of : Option Text → Option Separator
+separator_of None = Some Comma
+separator_of (Some name) = separator_named name
+
+abbrev pub csv_with : Bool → Separator → Format
+csv_with has_mark separator = formats.Csv (record { separator = separator; has_mark = has_mark })
+
+-- the format of that name, with a separator and a mark for CSV alone
+abbrev pub format_named : Text → Option Text → Bool → Option Format
+format_named name separator has_mark =
+    if bytes_eq name (codes "csv") then option_map (csv_with has_mark) (separator_of separator)
+    else (if is_some separator || has_mark then None
+    else (if bytes_eq name (codes "text") then Some formats.Text
+    else (if bytes_eq name (codes "html") then Some formats.Html
+    else (if bytes_eq name (codes "names") then Some formats.Names else None))))
+
+-- whether the option without a value is there
+abbrev pub is_flagged : Text → List Row → Bool
+is_flagged name rows = option_map_or (λ text. bytes_eq text (codes "true")) (first_of name rows) false
+
+-- the format whose name stands after its option, or its default, with what is asked for CSV
 abbrev pub format_in : List Row → Option Format
-format_in rows = option_and_then format_named (first_of (codes "format") rows)
+format_in rows = option_and_then
+    (λ name. format_named name (first_of (codes "separator") rows) (is_flagged (codes "bom") rows)) (first_of (codes "format") rows)
 
 -- the job of a command and its values
 abbrev pub job_of_command : Text × List Row → Option Job

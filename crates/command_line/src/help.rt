@@ -76,7 +76,12 @@ Example:
   ttp improve season.json | ttp report season.json";
 
 pub(crate) const FORMAT_HELP: &str =
-    "How the report is written: text, csv (the games) or html (a page for a browser)";
+    "How the report is written: text, csv (the games), html (a page for a browser) or names (the games in words)";
+
+pub(crate) const SEPARATOR_HELP: &str = "What parts the cells of CSV: `,`, `;` or tab [default: ,]";
+
+pub(crate) const BOM_HELP: &str =
+    "A byte order mark stands before CSV, for a spreadsheet that wants one";
 
 pub(crate) const WORKERS_HELP: &str = "How many workers search at once, 1 to 16";
 

@@ -14,6 +14,6 @@ mod text_args;
 pub use beginning::BeginningWords;
 pub use files::FileWords;
 pub use job::{Job, args};
-pub use report_formats::Format;
+pub use report_formats::{CsvForm, Format, Separator};
 pub use request::Request;
 pub use search::SearchPlan;

@@ -13,7 +13,7 @@ use std::alloc::{AllocError, Global};
 /// Why words are refused that clap takes, or that memory ran out.
 #[derive(Clone, Copy, Debug, PartialEq, Eq)]
 pub(crate) enum Refusal {
-    /// No format has the name.
+    /// No format has the name, no separator has it, or what is CSV's is asked for another format.
     Format,
     /// Standard input would be read twice.
     Input,
@@ -58,12 +58,7 @@ fn told(
 
 fn message(alloc: Global, values: &ArgMatches, refusal: Refusal) -> Result<String, AllocError> {
     match refusal {
-        Refusal::Format => {
-            let name = values.get_str("format").unwrap_or("");
-            format!(in alloc;
-                "invalid value '{name}' for '--format <FORMAT>'\n  [possible values: text, csv, html]"
-            )
-        }
+        Refusal::Format => format_message(alloc, values),
         Refusal::Keep => {
             let text = values.get_str("keep").unwrap_or("");
             format!(in alloc;
@@ -89,6 +84,22 @@ fn message(alloc: Global, values: &ArgMatches, refusal: Refusal) -> Result<Strin
         _ => String::from_str(
             alloc,
             "standard input would be read twice: one text alone can come from there",
+        ),
+    }
+}
+
+fn format_message(alloc: Global, values: &ArgMatches) -> Result<String, AllocError> {
+    let name = values.get_str("format").unwrap_or("");
+    let separator = values.get_str("separator").unwrap_or(",");
+    match name {
+        "csv" => format!(in alloc;
+            "invalid value '{separator}' for '--separator <SEPARATOR>'\n  [possible values: ',', ';', tab]"
+        ),
+        "text" | "html" | "names" => {
+            String::from_str(alloc, "--separator and --bom want --format csv")
+        }
+        _ => format!(in alloc;
+            "invalid value '{name}' for '--format <FORMAT>'\n  [possible values: text, csv, html, names]"
         ),
     }
 }

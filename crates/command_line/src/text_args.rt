@@ -6,7 +6,7 @@ ghost use Rattle.command_line.specs.CommandLine.{file_rules, lettered, repeated,
 
 use crate::help::{
     FROM_HELP, KEEP_GAME_HELP, KEEP_HELP, LEAGUE_HELP, LOG_HELP, NEAR_HELP, OUTPUT_HELP,
-    SCHEDULE_HELP, SCRIPT_HELP,
+    SCHEDULE_HELP, SCRIPT_HELP, SEPARATOR_HELP,
 };
 use clap::builder::ValueParser;
 use clap::{Arg, ArgAction, Command};
@@ -48,6 +48,12 @@ pub(crate) const NEAR: TextArg = TextArg {
     name: "near",
     value_name: "W",
     help: NEAR_HELP,
+};
+
+pub(crate) const SEPARATOR: TextArg = TextArg {
+    name: "separator",
+    value_name: "SEPARATOR",
+    help: SEPARATOR_HELP,
 };
 
 const OUTPUT: TextArg = TextArg {

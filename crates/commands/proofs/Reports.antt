@@ -1,5 +1,5 @@
 -- The ending of a report.
-use Rattle.std.proofs.Common.{◌≡◌, ℕ, List, Option, Some, None, Result, Ok, Err, OnOk, OnErr, refl}
+use Rattle.std.proofs.Common.{◌≡◌, ℕ, List, Option, Some, None, option_map, Result, Ok, Err, OnOk, OnErr, ap, refl}
 use Rattle.std.specs.Io.KnownBytes.{Appends}
 use Rattle.streams.specs.Limits.{write_limit}
 use Rattle.streams.specs.declared.tally.Tally.{Tally}
@@ -10,11 +10,14 @@ use Rattle.advice.specs.Remarks.{remarks_on}
 use Rattle.fixtures.specs.Games.{Games}
 use Rattle.league.specs.League.{LeagueData, teams}
 use Rattle.beginnings.specs.declared.begun.Beginning.{Beginning}
+use Rattle.schedule_tables.specs.declared.fault.TableFault.{TableFault}
+use Rattle.schedule_tables.specs.declared.fault.TableFault.TheVariants as table
+use Rattle.schedule_tables.specs.Table.{schedule_lines, GivesLines}
 use Rattle.schedule_texts.specs.Given.{IsVerdict}
 use Rattle.report_formats.specs.declared.format.Format.{Format}
 use Rattle.report_formats.specs.Format.{report_in}
 use Rattle.commands.specs.declared.verdict.Verdict.{Verdict}
-use Rattle.commands.specs.Fault.{of_writing}
+use Rattle.commands.specs.Fault.{of_table, of_writing}
 use Rattle.commands.specs.Outcome.{value_of, without_value, EndsOn}
 use Rattle.commands.specs.Report.{AnswersReportOn, IsToldOf}
 use Rattle.commands.specs.Begun.{Begins}
@@ -22,7 +25,7 @@ use Rattle.commands.proofs.Endings.{ends_written}
 
 -- a league and lines that were read, and the games that they give
 module _ (format : Format) (bytes : List ℕ) (given : Option (List (List ℕ))) (beginning : Option Beginning) (league : LeagueData)
-    (lines : List (List ℕ)) (games : Option Games) (begins : Begins bytes beginning league) (given_is : given ≡ Some lines)
+    (lines : List (List ℕ)) (games : Option Games) (begins : Begins bytes beginning league) (given_is : option_map (schedule_lines league) given ≡ Some (Ok lines))
     (verdict_is : IsVerdict (teams league) lines games) where
   abbrev report : List ℕ
   report = report_in format league lines games (remarks_on bytes)
@@ -44,3 +47,12 @@ module _ (format : Format) (bytes : List ℕ) (given : Option (List (List ℕ)))
   ends_reported held pushes before now verdict (Err fault) is ok prefix cause =
       ends_written held pushes (AnswersReportOn format None bytes given beginning) report before now (Err fault) (answers None tt) ok prefix
       cause
+
+-- a table gives no schedule
+pub ends_at_row : {W : Type 0} (held : W → Option (List ℕ)) (pushes : W → Tally) (sink : W) (format : Format) (bytes : List ℕ)
+    (given : Option (List (List ℕ))) (lines : List (List ℕ)) (beginning : Option Beginning) (league : LeagueData) (fault : TableFault)
+    → Begins bytes beginning league → given ≡ Some lines → GivesLines league lines (Err fault)
+    → EndsOn held pushes (AnswersReportOn format None bytes given beginning) sink sink (Err (of_table fault))
+ends_at_row held pushes sink format bytes given lines beginning league (table.Row row) begins given_is is =
+    ((league, begins, rw given_is (ap Some is)), refl)
+ends_at_row held pushes sink format bytes given lines beginning league table.Memory begins given_is is = refl

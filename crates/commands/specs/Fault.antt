@@ -7,6 +7,8 @@ use Rattle.league.specs.declared.fault.LeagueFault.{LeagueFault}
 use Rattle.league.specs.declared.fault.LeagueFault.TheVariants as league
 use Rattle.beginnings.specs.declared.fault.BeginFault.{BeginFault}
 use Rattle.beginnings.specs.declared.fault.BeginFault.TheVariants as begin
+use Rattle.schedule_tables.specs.declared.fault.TableFault.{TableFault}
+use Rattle.schedule_tables.specs.declared.fault.TableFault.TheVariants as table
 use Rattle.fixture_board.specs.declared.board.BoardFault.{BoardFault}
 use Rattle.fixture_board.specs.declared.board.BoardFault.TheVariants as board
 use Rattle.search.specs.declared.runs.RunFault.{RunFault}
@@ -14,7 +16,7 @@ use Rattle.search.specs.declared.runs.RunFault.TheVariants as run
 use Rattle.improvement.specs.declared.plan.ImproveFault.{ImproveFault}
 use Rattle.improvement.specs.declared.plan.ImproveFault.TheVariants as improve
 use Rattle.commands.specs.declared.fault.ProgramFault.{ProgramFault}
-use Rattle.commands.specs.declared.fault.ProgramFault.TheVariants.{Read, TooLong, League, Begin, Room, Workers, Spawn, Receipts, Write, Memory}
+use Rattle.commands.specs.declared.fault.ProgramFault.TheVariants.{Read, TooLong, League, Begin, Row, Room, Workers, Spawn, Receipts, Write, Memory}
 
 abbrev pub of_reading : ReadFault → ProgramFault
 of_reading read.Read = Read
@@ -29,6 +31,10 @@ of_league fault = League fault
 abbrev pub of_beginning : BeginFault → ProgramFault
 of_beginning begin.Memory = Memory
 of_beginning fault = Begin fault
+
+abbrev pub of_table : TableFault → ProgramFault
+of_table (table.Row fault) = Row fault
+of_table table.Memory = Memory
 
 abbrev pub of_board : BoardFault → ProgramFault
 of_board board.RoomRange = Room

@@ -26,7 +26,7 @@ pub(crate) fn begun_league(
 }
 
 /// The league that begins there, or at its own start.
-pub(crate) fn begun_at(
+fn begun_at(
     alloc: Global,
     league: League,
     beginning: Option<&Beginning<'_>>,

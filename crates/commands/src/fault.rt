@@ -2,13 +2,14 @@
 
 ghost use Rattle.std.specs.Prelude.{◌≡◌};
 ghost use Rattle.commands.specs.declared.fault.ProgramFault.TheVariants.{Write, Memory};
-ghost use Rattle.commands.specs.Fault.{of_beginning, of_board, of_improve, of_league, of_reading, of_run, of_writing};
+ghost use Rattle.commands.specs.Fault.{of_beginning, of_board, of_improve, of_league, of_reading, of_run, of_table, of_writing};
 
 use advice::Hint;
 use beginnings::BeginFault;
 use fixture_board::BoardFault;
 use improvement::ImproveFault;
 use league::LeagueFault;
+use schedule_tables::{RowFault, TableFault};
 use search::RunFault;
 use std::alloc::AllocError;
 use streams::{ReadFault, WriteFault};
@@ -32,6 +33,9 @@ pub enum ProgramFault {
     /// The league doesn't begin at what was given.
     #[error("{0}")]
     Begin(BeginFault),
+    /// A row of the table that a report reads gives no game.
+    #[error("{0}")]
+    Row(RowFault),
     /// The input of a report has no line `sheet`.
     #[error("input has no sheet")]
     NoSheet,
@@ -85,6 +89,17 @@ impl From<BeginFault> for ProgramFault {
         match fault {
             BeginFault::Memory => ProgramFault::Memory,
             fault => ProgramFault::Begin(fault),
+        }
+    }
+}
+
+impl From<TableFault> for ProgramFault {
+    ghost from_gives = { λ fault gives. gives ≡ of_table fault };
+
+    fn from(fault: TableFault) -> ProgramFault {
+        match fault {
+            TableFault::Row(row) => ProgramFault::Row(row),
+            TableFault::Memory => ProgramFault::Memory,
         }
     }
 }

@@ -23,7 +23,7 @@ pub use play_command::{play, play_from, play_on};
 pub use policy::MOST_EFFORT;
 pub use progress::{Extent, ProgressLine};
 pub use report_command::{report, report_from, report_on};
-pub use report_formats::Format;
+pub use report_formats::{CsvForm, Format, Separator};
 pub use search::{Gate, NoGate, Outcome, SearchPlan, Workplace};
 pub use search_command::{find, find_from, find_on};
 pub use search_end::SearchEnd;

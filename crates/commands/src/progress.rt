@@ -38,7 +38,8 @@ pub enum Extent {
 /// Writes on a terminal how many steps the workers took, the least total that they told of, and how long the other steps may
 /// take. The line is written a few times a second, each over the one before. At an end it is written a last time and taken
 /// away, so that a text can be written. If workers begin after that, the next telling writes it again. No worker waits for the
-/// terminal but the one that writes.
+/// terminal but the one that writes: what is told meanwhile stands in the next line. Contracts say what is counted and what each line is, but
+/// not that a gate is told of each step and each end.
 #[derive(Drop)]
 pub struct ProgressLine<'a, C, W> {
     clock: &'a C,
@@ -115,12 +116,8 @@ impl<C: Clock, W: Sink> Gate for ProgressLine<'_, C, W> {
 
     fn ended<R: Wait>(&self, rt: &R) {
         let mut line = self.line.lock(rt);
-        if line.written {
-            let now = Instant::now(self.clock).ok();
-            let _ = line.show(*self.reached.lock(rt), now);
-            let _ = line.clear();
-            line.last = now.or(line.last);
-        }
+        let reached = *self.reached.lock(rt);
+        line.end(reached, Instant::now(self.clock).ok());
     }
 }
 
@@ -225,6 +222,18 @@ impl<W: Sink> Line<W> {
         let mut out = BufferedSink::new(&mut self.terminal);
         write_progress(&mut out, advance)?;
         out.flush()
+    }
+
+    /// Writes the line a last time and takes it away, if it was ever written. A terminal that takes neither may keep it.
+    fn end(&mut self, reached: Reached, now: Option<Instant>)
+        ensures away { self.old.written ≡ true → self.new.taken ≡ true }
+        ensures never { self.old.written ≡ false → self.new ≡ self.old }
+    {
+        if self.written {
+            let _ = self.show(reached, now);
+            let _ = self.clear();
+            self.last = now.or(self.last);
+        }
     }
 
     /// What the line shows. If there is a time for it, all steps are those that come to be if they go on as they did.

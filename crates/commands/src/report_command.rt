@@ -1,29 +1,27 @@
 //! The command `report`.
 
-ghost use Rattle.std.specs.Prelude.{◌≡◌, ◌≢◌, ◌≤◌, Err, IfSome, option_map};
+ghost use Rattle.std.specs.Prelude.{◌≤◌, IfSome, option_map};
 ghost use Rattle.league.specs.Limits.{max_weight};
 ghost use Rattle.std.specs.Str.Lines.{lines};
-ghost use Rattle.league.specs.League.{league_of};
 ghost use Rattle.commands.specs.Outcome.{value_of, without_value, Ends, EndsOn};
-ghost use Rattle.commands.specs.Report.{AnswersReport, AnswersReportOn, IsRefusal};
+ghost use Rattle.commands.specs.Report.{AnswersReport, AnswersReportOn};
 
-use crate::begun::begun_at;
+use crate::begun::begun_league;
 use crate::fault::{ProgramFault, after_writing};
-use crate::hints::hint_on;
 use crate::verdict::Verdict;
 use advice::remarks_on;
 use beginnings::Beginning;
-use league::{LeagueFault, read_league};
 use report_formats::{Format, prepare, write_prepared};
 use reports::is_feasible;
+use schedule_tables::schedule_text;
 use schedule_texts::judge;
 use std::alloc::Global;
 use streams::{Sink, Source, read_all};
 use texts::split_at_line;
 
-/// Reads a league, a line `sheet` and a schedule to the end of the source, and writes the report: the games and what they
+/// Reads a league, a line `sheet` and a schedule, as a text or a table, to the end of the source, and writes the report: the games and what they
 /// cost in the format if they are a double round robin of the league's teams, otherwise what is wrong with them, as text. Behind
-/// a text stands a remark on each member of the league that no format knows. A league that is refused comes with a hint.
+/// a text stands a remark on each member of the league that no format knows.
 /// Nothing is written before all other faults are past, and no memory is taken from then on.
 ///
 /// The outcome is that of [`report_from`]. What the source became is some later state.
@@ -54,7 +52,7 @@ pub fn report_from<R: Source, W: Sink>(
     report_on(alloc, league, sheet, None, sink, format)
 }
 
-/// As [`report`], of a league's text and the text of a schedule that were read, where the league is to begin: at its own start, if nothing else is said.
+/// As [`report`], of a league's text and the text or table of a schedule that were read, where the league is to begin: at its own start, if nothing else is said.
 pub fn report_on<W: Sink>(
     alloc: Global,
     league: &[u8],
@@ -69,28 +67,15 @@ pub fn report_on<W: Sink>(
         sink.old sink.new (without_value result) }
 {
     let text = league;
-    let league = match read_league(alloc, text) {
-        Ok(league) => begun_at(alloc, league, beginning)?,
-        Err(fault) => return Err(refused(alloc, text, fault)),
-    };
-    let Some(sheet) = sheet else {
+    let league = begun_league(alloc, text, beginning)?;
+    let Some(given) = sheet else {
         return Err(ProgramFault::NoSheet);
     };
+    let given = schedule_text(alloc, &league, given)?;
+    let sheet = given.as_bytes();
     let judged = judge(alloc, &league, sheet)?;
     let verdict = Verdict::of(is_feasible(&judged, &league));
     let prepared = prepare(alloc, format, &league, &judged, remarks_on(alloc, text)?)?;
     let outcome = write_prepared(&league, sheet, &judged, &prepared, sink);
     after_writing(outcome, verdict)
-}
-
-/// The fault of a league's text, with a hint on where it lies if there is one.
-fn refused(alloc: Global, text: &[u8], fault: LeagueFault) -> ProgramFault
-    requires { fault ≢ LeagueFault.Memory → league_of text.now ≡ Err fault }
-    ensures { IsRefusal text.now result }
-{
-    match hint_on(alloc, text, fault) {
-        Ok(Some(hint)) if fault != LeagueFault::Memory => ProgramFault::LeagueAt(fault, hint),
-        Ok(_) => ProgramFault::from(fault),
-        Err(_) => ProgramFault::Memory,
-    }
 }

@@ -1,11 +1,11 @@
 -- The end of an improvement: what is written when all legs were told, and what the sink has got.
-use Rattle.std.proofs.Common.{◌≡◌, ℕ, true, List, [], ◌++◌, Option, Result, Ok, Err, refl, sym, ◌∙◌, ap, subst, inl, inr}
+use Rattle.std.proofs.Common.{◌≡◌, ℕ, true, List, [], ◌++◌, All, Option, Result, Ok, Err, refl, sym, ◌∙◌, ap, subst, inr}
 use Rattle.std.specs.Borrow.{MutBor}
 use Rattle.std.specs.Io.KnownBytes.{Appends}
 use Rattle.league.specs.League.{IsLeague, LeagueData}
 use Rattle.fixture_board.specs.declared.cost.Best.{Best}
 use Rattle.fixture_board.specs.History.{best_of}
-use Rattle.fixture_board.specs.Record.{Book, book}
+use Rattle.fixture_board.specs.Record.{Book}
 use Rattle.streams.specs.declared.buffered.BufferedSink.{BufferedSink}
 use Rattle.streams.specs.declared.tally.Tally.{Tally}
 use Rattle.streams.specs.Writing.{Adds, IsFreshOver, Stops, waiting_in}
@@ -19,29 +19,39 @@ use Rattle.annealing.specs.Walks.{IsUnitOf}
 use Rattle.improvement.specs.declared.plan.ImproveFault.{ImproveFault}
 use Rattle.improvement.specs.declared.plan.ImproveFault.TheVariants.{Workers, Memory, Write}
 use Rattle.improvement.specs.declared.plan.ImprovePlan.{ImprovePlan}
+use Rattle.improvement.specs.Broken.{broken_if, broken_text}
+use Rattle.improvement.specs.Chains.{IsInLeague}
 use Rattle.improvement.specs.Legs.{AreLegs, IsWorkers, LegRun, lead_of, room_of}
 use Rattle.improvement.specs.LegText.{improve_text, legs_text}
 use Rattle.improvement.specs.Outcome.{Improves}
-use Rattle.improvement.specs.UnderWay.{EndsBy, HasRunAll, HasStopped, HasTold, HasWritten, Sends}
+use Rattle.improvement.specs.UnderWay.{EndsBy, HasRunAll, HasStopped, HasWritten, Sends}
+use Rattle.improvement.proofs.Bests.{chains_in}
 use Rattle.improvement.proofs.Leads.{lead_legal}
 
-ending_is : (league : LeagueData) (unit : Measure) (legs : List LegRun) →
-    improve_text league unit true legs ≡ legs_text league unit legs ++ improved_text league (lead_of league legs)
+ending_is : (league : LeagueData) (unit : Measure) (legs : List LegRun) → improve_text league unit true legs ≡
+    legs_text league unit legs ++ (broken_text league legs ++ improved_text league (lead_of league legs))
 unfolding improve_text
 ending_is league unit legs = refl
 
 module _ {W : Type 0} (held : W → Option (List ℕ)) (tally : W → Tally) (start : Book) (unit : Measure) (plan : ImprovePlan) where
-  -- the texts of all legs, and the text of the board that leads
+  -- what is written once all legs were told
+  abbrev pub end_text : Told → List ℕ
+  end_text told =
+      broken_if told.least told.lead.league told.chains.bests.items ++ improved_text told.lead.league told.lead.history
+
+  -- the texts of all legs, and that
   text_is : (a x : BufferedSink W) (told : Told) (all : HasRunAll held tally start unit plan a x told) →
-      legs_text start.league unit all.sent.legs ++ improved_text told.lead.league told.lead.history ≡
-      improve_text start.league unit true all.sent.legs
+      legs_text start.league unit all.sent.legs ++ end_text told ≡ improve_text start.league unit true all.sent.legs
   text_is a x told all =
-      ap (λ (t : List ℕ). legs_text start.league unit all.sent.legs ++ t)
-      (ap (λ (b : Book). improved_text b.league b.history) all.told_is.lead_is) ∙
-      sym (ending_is start.league unit all.sent.legs)
+      rw (all.told_is.lead_is, all.told_is.least_is, all.told_is.chains_is) (sym (ending_is start.league unit all.sent.legs))
+
+  -- the chains have schedules of the league's teams
+  pub told_in : {a x : BufferedSink W} (told : Told) → HasRunAll held tally start unit plan a x told →
+      All (IsInLeague told.lead.league) told.chains.bests.items
+  told_in told all = rw (all.told_is.lead_is, all.told_is.chains_is) (chains_in start.league start.room all.sent.legs all.sent.are)
 
   pub end_stops : {a x y : BufferedSink W} (told : Told) → HasRunAll held tally start unit plan a x told →
-      Stops held tally x y (improved_text told.lead.league told.lead.history) → HasStopped held tally start unit plan a y
+      Stops held tally x y (end_text told) → HasStopped held tally start unit plan a y
   end_stops {a} {x} {y} told all stops = record {
     legs = all.sent.legs;
     are = all.sent.are;
@@ -51,7 +61,7 @@ module _ {W : Type 0} (held : W → Option (List ℕ)) (tally : W → Tally) (st
   }
 
   pub end_written : {a x y : BufferedSink W} (told : Told) (best : Option Best) → HasRunAll held tally start unit plan a x told →
-      Adds held tally x y (improved_text told.lead.league told.lead.history) → waiting_in y ≡ [] →
+      Adds held tally x y (end_text told) → waiting_in y ≡ [] →
       best ≡ best_of told.lead.league told.lead.history → HasWritten held tally start unit plan a y best
   end_written {a} {x} {y} told best all adds none best_is = record {
     legs = all.sent.legs;

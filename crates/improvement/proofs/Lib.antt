@@ -1,4 +1,5 @@
 pub mod Leads
+pub mod Bests
 pub mod Solutions
 pub mod Lines
 pub mod UnderWay

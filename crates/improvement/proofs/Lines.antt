@@ -7,7 +7,6 @@ use Rattle.std.proofs.lemmas.List.Sums.{sum_by-cons}
 use Rattle.std.specs.List.{position_or_len}
 use Rattle.std.specs.Option.{option_to_list, unwrap_or}
 use Rattle.league.specs.League.{LeagueData}
-use Rattle.fixture_board.specs.declared.change.Entry.{Entry}
 use Rattle.fixture_board.specs.Record.{Book}
 use Rattle.annealing.specs.declared.chain.Annealed.{Annealed}
 use Rattle.annealing.specs.declared.chain.Chain.{Chain}
@@ -24,7 +23,7 @@ use Rattle.improvement.specs.declared.stage.Beginning.{Beginning}
 use Rattle.improvement.specs.Fields.{StageData, after_bout, at_best, begun_one, beginning_of, chain_for, entering, is_before, passing, passing_by}
 use Rattle.improvement.specs.Fields.{ranked}
 use Rattle.improvement.specs.Legs.{CanBegin, LegRun}
-use Rattle.improvement.specs.Lines.{CanEnd, IsAlike, IsAtBeginning, IsEntrant, IsLine, IsRunning, IsStage, IsState, IsWaiting, MayBegin, anew}
+use Rattle.improvement.specs.Lines.{CanEnd, IsAtBeginning, IsEntrant, IsLine, IsRunning, IsStage, IsState, IsWaiting, MayBegin, anew}
 use Rattle.improvement.specs.Lines.{left_in, steps_left, turn_of_running, turn_of_waiting, turn_steps, turns_of, waiting_for}
 use Rattle.policy.specs.declared.legs.Leg.{Leg}
 use Rattle.policy.specs.declared.waves.Source.{Source}

@@ -1,11 +1,10 @@
 -- One leg more.
-use Rattle.std.proofs.Common.{◌≡◌, ℕ, suc, ◌+◌, ◌<◌, ◌≤◌, ◌==◌, false, List, [], ◌∷◌, ◌++◌, length, inl, inr, sum_by, All, Option, Some, None, IfSome, IfNone, Err}
+use Rattle.std.proofs.Common.{◌≡◌, ℕ, suc, ◌+◌, ◌≤◌, ◌==◌, false, List, [], ◌∷◌, length, inl, inr, Option, Some, None, IfSome, IfNone, Err}
 use Rattle.std.proofs.Common.{refl, sym, ◌∙◌, ap, subst, subst₂, true≢false, arith}
 use Rattle.std.proofs.lemmas.Bool.Decides.{nat_tests}
 use Rattle.std.proofs.lemmas.List.Elements.{All-cons, All-nil, All-weaker}
 use Rattle.std.proofs.lemmas.List.Sums.{sum_by-cons}
 use Rattle.league.specs.League.{LeagueData}
-use Rattle.fixture_board.specs.declared.change.Entry.{Entry}
 use Rattle.fixture_board.specs.History.{IsLegal}
 use Rattle.fixture_board.specs.Laws.{least_of}
 use Rattle.fixture_board.specs.Record.{Book, book}
@@ -26,6 +25,7 @@ use Rattle.improvement.specs.declared.plan.ImproveFault.{ImproveFault}
 use Rattle.improvement.specs.declared.plan.ImproveFault.TheVariants.{Workers, Memory, Write}
 use Rattle.improvement.specs.declared.plan.ImprovePlan.{ImprovePlan}
 use Rattle.improvement.specs.declared.told.Told.{Told}
+use Rattle.improvement.specs.Chains.{chains_of, meeting, reached}
 use Rattle.improvement.specs.Fields.{StageData}
 use Rattle.improvement.specs.Legs.{AreLegs, IsLegAfter, LegRun, lead_after, lead_of, least_in, least_told, lesser, steps_in, steps_of}
 use Rattle.improvement.specs.LegText.{ending, improve_text, leg_text, legs_text, told_as}
@@ -121,11 +121,14 @@ lead_next league run (r ∷ before) = rw (not_first (length before)) refl
 pub told_more : (start : Book) (legs : List LegRun) (told new : Told) (turn : Turn) (now : Annealed) → HasTold start legs told →
     new.lead ≡ book told.lead.league told.lead.room (lead_after told.lead.league told.legs told.lead.history now.chain.board.history) →
     new.least ≡ lesser told.least (least_in told.lead.league now.chain.board.history) → new.legs ≡ told.legs + 1 →
+    new.chains.bests.items ≡ meeting (reached turn.chain told.lead.league now.chain.board.history) told.chains.bests.items →
     HasTold start (run_of turn now ∷ legs) new
-told_more start legs told new turn now is lead least count = record {
+unfolding chains_of
+told_more start legs told new turn now is lead least count chains = record {
   lead_is = lead ∙ rw (is.lead_is, is.count) (ap (book start.league start.room) (lead_next start.league (run_of turn now) legs));
   least_is = least ∙ rw (is.lead_is, is.least_is) refl;
   count = omega (arith, count, is.count);
+  chains_is = chains ∙ rw (is.lead_is, is.chains_is) refl;
 }
 
 abbrev pub leg_told : Told → Turn → Annealed → LegTold
@@ -178,17 +181,18 @@ module _ {W : Type 0} (held : W → Option (List ℕ)) (tally : W → Tally) (st
       waiting_in c ≡ [] →
       told'.lead ≡ book told.lead.league told.lead.room (lead_after told.lead.league told.legs told.lead.history now.chain.board.history) →
       told'.least ≡ lesser told.least (least_in told.lead.league now.chain.board.history) → told'.legs ≡ told.legs + 1 →
+      told'.chains.bests.items ≡ meeting (reached leg.turn.chain told.lead.league now.chain.board.history) told.chains.bests.items →
       ((legs : List LegRun) → IsEntrant start legs (record { number = leg.turn.chain; chain = now.chain }) → IsLine start legs line →
       IsLine start legs new) → left_in new + now.end.steps ≡ left_in line + turn_steps leg.turn →
       IsUnderWay held tally start unit plan a c [] new told'
-  under_way_more leg line new told told' now w e adds none lead least count goes_on left =
+  under_way_more leg line new told told' now w e adds none lead least count chains goes_on left =
       let run = run_of leg.turn now in
       record {
         sent = sent_more w.sent told leg.turn now e w.told_is adds none;
         steps = omega (arith, w.steps, left, sum_by-cons steps_of run w.sent.legs, sum_by-cons running_steps leg []);
         running = All-nil (IsRunning start (run ∷ w.sent.legs));
         line_is = goes_on (run ∷ w.sent.legs) (entrant_is leg.turn now e) (line_later start w.sent.legs run line w.line_is);
-        told_is = told_more start w.sent.legs told told' leg.turn now w.told_is lead least count;
+        told_is = told_more start w.sent.legs told told' leg.turn now w.told_is lead least count chains;
       }
 
   -- each leg took a step
@@ -204,14 +208,14 @@ module _ {W : Type 0} (held : W → Option (List ℕ)) (tally : W → Tally) (st
 
   pub under_way_none : (a : BufferedSink W) (line : Line) (told : Told) → waiting_in a ≡ [] →
       ((legs : List LegRun) → IsLine start legs line) → left_in line ≡ plan.effort → told.lead ≡ anew start → told.least ≡ None → told.legs ≡ 0 →
-      IsUnderWay held tally start unit plan a a [] line told
-  unfolding legs_text lead_of
-  under_way_none a line told none goes_on left lead least count = record {
+      told.chains.bests.items ≡ [] → IsUnderWay held tally start unit plan a a [] line told
+  unfolding legs_text lead_of chains_of
+  under_way_none a line told none goes_on left lead least count chains = record {
     sent = record { legs = []; are = tt; sends = record { adds = Adds-nothing a; sent = none } };
     steps = omega (arith, left);
     running = All-nil (IsRunning start []);
     line_is = goes_on [];
-    told_is = record { lead_is = lead; least_is = least; count = count };
+    told_is = record { lead_is = lead; least_is = least; count = count; chains_is = chains };
   }
 
   -- a leg is taken out of the line

@@ -1,7 +1,6 @@
 -- The chains that go on, and with what the bouts of a wave begin.
-use Rattle.std.specs.Prelude.{ℕ, ◌+◌, ◌%◌, ◌^◌, Bool, List, [], ◌∷◌, ◌++◌, take, drop, slice_get, Option, Some, None}
+use Rattle.std.specs.Prelude.{ℕ, ◌+◌, ◌%◌, ◌^◌, Bool, List, ◌∷◌, ◌++◌, take, drop, slice_get, Option, Some, None}
 use Rattle.std.specs.List.{position_or_len}
-use Rattle.annealing.specs.declared.chain.Chain.{Chain}
 use Rattle.fixture_board.specs.Record.{Book, book}
 use Rattle.fixture_board.specs.Rewound.{rewound}
 use Rattle.policy.specs.declared.waves.Source.{Source}

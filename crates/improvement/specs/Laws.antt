@@ -1,12 +1,14 @@
 -- What holds of all that an improvement writes, and of what it ends with.
-use Rattle.std.specs.Prelude.{◌≡◌, ℕ, ◌≤◌, true, List, [], ◌∷◌, length, All, Option, Some, None}
+use Rattle.std.specs.Prelude.{◌≡◌, ℕ, ◌<◌, ◌≤◌, true, List, [], ◌∷◌, length, All, Option, Some, None}
 use Rattle.league.specs.League.{LeagueData, teams}
-use Rattle.fixtures.specs.Games.{IsDoubleRoundRobin}
+use Rattle.fixtures.specs.Games.{Games, IsDoubleRoundRobin}
 use Rattle.league.specs.Starts.{start_of}
 use Rattle.fixture_board.specs.Costs.{cost_of, total_of}
 use Rattle.fixture_board.specs.declared.change.Entry.{Entry}
 use Rattle.fixture_board.specs.declared.cost.Best.{Best}
 use Rattle.fixture_board.specs.History.{IsLegal, best_of}
+use Rattle.improvement.specs.declared.broken.Part.{Part}
+use Rattle.improvement.specs.Broken.{breaches}
 use Rattle.improvement.specs.Legs.{LegRun, least_in}
 use Rattle.improvement.specs.Solutions.{Solution, best_solution, is_below, solutions_of}
 
@@ -47,3 +49,7 @@ pub record IsEnd (league : LeagueData) (room : ℕ) (legs : List LegRun) (h : Li
   -- its best version is its last one, with the newest solution
   pub whole : (best : Best) → best_of league h ≡ Some best → best.at ≡ length h
   pub last : newest (solutions_of league legs) ≡ best_solution league h
+
+-- each double round robin of the league's teams breaks the part
+abbrev pub CannotBeKept : LeagueData → Part → Type 0
+CannotBeKept league part = (g : Games) → IsDoubleRoundRobin g → g.teams ≡ teams league → 0 < breaches league part g

@@ -14,6 +14,7 @@ use Rattle.annealing.specs.declared.unit.Unit.{Unit as Measure}
 use Rattle.texts.specs.SearchText.{improved_text}
 use Rattle.texts.specs.Sheet.{sheet_of}
 use Rattle.improvement.specs.declared.leg_text.LegTold.{LegTold}
+use Rattle.improvement.specs.Broken.{broken_text}
 use Rattle.improvement.specs.Legs.{LegRun, lead_of, least_told}
 use Rattle.improvement.specs.Solutions.{Solution, below, best_solution}
 
@@ -95,9 +96,10 @@ legs_text league unit [] = []
 legs_text league unit (run ∷ before) =
     legs_text league unit before ++ leg_text league unit (told_as (length before + 1) run) (least_told league before) run.history
 
--- and once they are all: what an improvement ends with, of the history that all legs together come to
+-- and once they are all: how often what is hard is broken in the chains if none met a feasible schedule, and what an improvement ends with, of
+-- the history that all legs together come to
 abbrev pub ending : LeagueData → Bool → List LegRun → List ℕ
-ending league ended legs = if ended then improved_text league (lead_of league legs) else []
+ending league ended legs = if ended then broken_text league legs ++ improved_text league (lead_of league legs) else []
 
 unfoldable pub improve_text : LeagueData → Measure → Bool → List LegRun → List ℕ
 improve_text league unit ended legs = legs_text league unit legs ++ ending league ended legs

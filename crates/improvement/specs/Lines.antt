@@ -1,5 +1,5 @@
 -- Legs that wait, legs that run, and the line of both.
-use Rattle.std.specs.Prelude.{◌≡◌, ℕ, ◌+◌, ◌≤◌, List, [], ◌++◌, map, sum_by, All, Option, Some, None, IfOk, Ok}
+use Rattle.std.specs.Prelude.{◌≡◌, ℕ, ◌+◌, List, [], ◌++◌, map, sum_by, All, Option, Some, None, IfOk}
 use Rattle.fixture_board.specs.Record.{Book, book}
 use Rattle.fixture_board.specs.Rewound.{rewound}
 use Rattle.policy.specs.declared.legs.Leg.{Leg}

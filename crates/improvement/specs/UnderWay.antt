@@ -13,6 +13,7 @@ use Rattle.improvement.specs.declared.plan.ImproveFault.{ImproveFault}
 use Rattle.improvement.specs.declared.plan.ImproveFault.TheVariants.{Workers, Memory, Write}
 use Rattle.improvement.specs.declared.plan.ImprovePlan.{ImprovePlan}
 use Rattle.improvement.specs.declared.told.Told.{Told}
+use Rattle.improvement.specs.Chains.{chains_of}
 use Rattle.improvement.specs.Legs.{AreLegs, LegRun, lead_of, least_told, steps_in}
 use Rattle.improvement.specs.LegText.{improve_text, legs_text}
 use Rattle.improvement.specs.Outcome.{AreAll}
@@ -23,6 +24,7 @@ pub record HasTold (start : Book) (legs : List LegRun) (told : Told) : Type 0 wh
   pub lead_is : told.lead ≡ book start.league start.room (lead_of start.league legs)
   pub least_is : told.least ≡ least_told start.league legs
   pub count : told.legs ≡ length legs
+  pub chains_is : told.chains.bests.items ≡ chains_of start.league legs
 
 -- For boards that begin so, a unit and a plan, and a buffer over a sink with these bytes held and these calls
 module _ {W : Type 0} (held : W → Option (List ℕ)) (tally : W → Tally) (start : Book) (unit : Measure) (plan : ImprovePlan)

@@ -12,6 +12,8 @@ ghost use Rattle.improvement.specs.Outcome.{Improves};
 ghost use Rattle.improvement.specs.Settings.{IsSetting};
 ghost use Rattle.improvement.specs.UnderWay.{EndsBy, HasRunAll, HasWritten, IsUnderWay};
 
+use crate::broken::write_broken;
+use crate::chains::Chains;
 use crate::field::Entrant;
 use crate::leg_text::{LegTold, write_leg};
 use crate::legs::RunningLeg;
@@ -119,6 +121,7 @@ fn run_and_write<'s, E, T: Threads + Wait + Sync, G: Gate + Sync, W: Sink, V: Wa
         (HasWritten W.held W.tally setting.entry.start.now setting.entry.unit setting.entry.plan out.old out.new) result }
 {
     let told = run_all(scope, setting, out, watcher)?;
+    write_broken(out, &told)?;
     write_improved(out, &told.lead)?;
     out.flush()?;
     Ok(told.lead.best())
@@ -142,6 +145,7 @@ fn run_all<'s, E, T: Threads + Wait + Sync, G: Gate + Sync, W: Sink, V: Watcher>
         lead: setting.board_or_new(None)?,
         least: None,
         legs: 0,
+        chains: Chains::new(setting.workplace.alloc),
     };
     while let Some(leg) = next_leg(scope, setting, &mut line, watcher)? {
         tell(setting, leg, &mut line, &mut told, out, watcher)?;
@@ -203,7 +207,7 @@ fn tell<T: Threads + Wait + Sync, G: Gate + Sync, W: Sink, V: Watcher>(
         end,
     };
     write_leg(out, setting.unit, ended, told.least, &chain.board)?;
-    let leads = told.meet(workplace.alloc, &chain.board)?;
+    let leads = told.meet(workplace.alloc, turn.chain, &chain.board)?;
     watcher.leg_ended(LegEnded::of(ended, told.least), told.lead_if(leads));
     workplace.gate.begun(workplace.rt, 0);
     let number = turn.chain;

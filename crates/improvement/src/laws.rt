@@ -1,8 +1,11 @@
 //! The laws of improvements. The functions do nothing: what is known of all legs is in their contracts.
 
-ghost use Rattle.std.specs.Prelude.{ℕ, ◌<◌, List, length, All};
+ghost use Rattle.std.specs.Prelude.{◌≡◌, ℕ, ◌<◌, List, length, All};
 ghost use Rattle.league.specs.League.{LeagueData, IsLeague};
-ghost use Rattle.improvement.specs.Laws.{Fall, IsEnd, IsSolution};
+ghost use Rattle.improvement.specs.declared.broken.Part.{Part};
+ghost use Rattle.improvement.specs.Broken.{broken_in};
+ghost use Rattle.improvement.specs.Chains.{chains_of};
+ghost use Rattle.improvement.specs.Laws.{CannotBeKept, Fall, IsEnd, IsSolution};
 ghost use Rattle.improvement.specs.Legs.{AreLegs, LegRun, lead_of};
 ghost use Rattle.improvement.specs.Solutions.{solutions_of};
 
@@ -22,4 +25,10 @@ pub fn totals_fall()
 pub fn end_is_least()
     ensures { (league : LeagueData) (room : ℕ) (legs : List LegRun) →
         AreLegs league room legs → 0 < length legs → IsEnd league room legs (lead_of league legs) }
+{}
+
+/// A part of what is hard that no schedule of the league keeps is broken in each chain.
+pub fn unkept_is_broken_in_each()
+    ensures { (league : LeagueData) (room : ℕ) (legs : List LegRun) (part : Part) → IsLeague league → AreLegs league room legs →
+        CannotBeKept league part → broken_in league part (chains_of league legs) ≡ length (chains_of league legs) }
 {}

@@ -4,6 +4,8 @@
 //! Teams, rounds and bouts are numbered from 0 in calls, chains and legs from 1.
 #![tactic(auto)]
 
+mod broken;
+mod chains;
 mod field;
 mod improving;
 mod laws;
@@ -20,6 +22,6 @@ mod told;
 mod watcher;
 
 pub use improving::improve;
-pub use laws::{end_is_least, solutions_are_feasible, totals_fall};
+pub use laws::{end_is_least, solutions_are_feasible, totals_fall, unkept_is_broken_in_each};
 pub use plan::{ImproveFault, ImprovePlan};
 pub use watcher::{LegEnded, NoWatcher, Watcher};

@@ -1,19 +1,15 @@
 //! What the legs that were told have come to all together.
 
-ghost use Rattle.std.specs.Prelude.{◌≡◌, ◌+◌, ◌^◌, ◌<◌, [], IfOk, OnOk};
+ghost use Rattle.std.specs.Prelude.{◌≡◌, ◌+◌, ◌^◌, ◌<◌, IfOk, OnOk};
 ghost use Rattle.fixture_board.specs.Record.{book};
-ghost use Rattle.streams.specs.Writing.{waiting_in};
+ghost use Rattle.improvement.specs.Chains.{meeting, reached};
 ghost use Rattle.improvement.specs.Legs.{lead_after, least_in, lesser};
 ghost use Rattle.improvement.specs.Watched.{takes_lead};
 
-use crate::leg_text::{LegTold, write_leg};
-use crate::legs::Turn;
-use crate::plan::ImproveFault;
+use crate::chains::Chains;
 use crate::standing::Standing;
-use annealing::{Annealed, Unit};
 use fixture_board::Board;
 use std::alloc::{AllocError, Global};
-use streams::{BufferedSink, Sink};
 
 /// What is known of the legs that were told.
 #[derive(Drop)]
@@ -24,11 +20,18 @@ pub(crate) struct Told {
     pub(crate) least: Option<u64>,
     /// How many there were.
     pub(crate) legs: u64,
+    /// The best schedules of their chains.
+    pub(crate) chains: Chains,
 }
 
 impl Told {
-    /// Takes in the history of one more, and tells whether it leads now.
-    pub(crate) fn meet(&mut self, alloc: Global, board: &Board) -> Result<bool, AllocError>
+    /// Takes in the history of one more leg of this chain, and tells whether it leads now.
+    pub(crate) fn meet(
+        &mut self,
+        alloc: Global,
+        chain: u64,
+        board: &Board,
+    ) -> Result<bool, AllocError>
         requires legs { self.old.legs + 1 < 2 ^ 64 }
         requires league { board.now.league ≡ self.old.lead.league }
         requires room { board.now.room ≡ self.old.lead.room }
@@ -37,6 +40,8 @@ impl Told {
         ensures least { OnOk result (self.new.least ≡
             lesser self.old.least (least_in self.old.lead.league board.now.history)) }
         ensures legs { OnOk result (self.new.legs ≡ self.old.legs + 1) }
+        ensures chains { OnOk result (self.new.chains.bests.items ≡
+            meeting (reached chain self.old.lead.league board.now.history) self.old.chains.bests.items) }
         ensures leads { IfOk result (λ leads. leads ≡
             takes_lead self.old.lead.league self.old.legs self.old.lead.history board.now.history) }
     {
@@ -45,6 +50,7 @@ impl Told {
             self.lead = board.duplicate(alloc)?;
             self.lead.rewind_to_best();
         }
+        self.chains.meet(alloc, chain, board)?;
         self.least = lesser(self.least, board.best().map(|best| best.total));
         self.legs += 1;
         Ok(leads)

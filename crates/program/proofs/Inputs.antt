@@ -10,7 +10,7 @@ use Rattle.streams.specs.declared.tally.Tally.{Tally}
 use Rattle.command_line.specs.declared.job.Job.{Job}
 use Rattle.command_line.specs.declared.job.Job.TheVariants.{Start, Play, Improve, Find, Report}
 use Rattle.commands.specs.declared.fault.ProgramFault.{ProgramFault}
-use Rattle.commands.specs.declared.fault.ProgramFault.TheVariants.{Read, TooLong, League, LeagueAt, Begin, NoSheet, Room, Workers, Spawn, Receipts, Write, Memory}
+use Rattle.commands.specs.declared.fault.ProgramFault.TheVariants.{Read, TooLong, League, LeagueAt, Begin, Row, NoSheet, Room, Workers, Spawn, Receipts, Write, Memory}
 use Rattle.commands.specs.Fault.{of_reading}
 use Rattle.commands.specs.Outcome.{EndsBy, EndsRead}
 use Rattle.program.specs.declared.jobs.Ending.{Ending}
@@ -53,6 +53,7 @@ module _ {R W : Type 0} (left : R → Option (List ℕ)) (pulls : R → Tally) (
     by_result (Err (League fault)) ends = record { bytes = bytes; taken = taken; ended = ended; within = within; ends_so = ends }
     by_result (Err (LeagueAt fault hint)) ends = record { bytes = bytes; taken = taken; ended = ended; within = within; ends_so = ends }
     by_result (Err (Begin fault)) ends = record { bytes = bytes; taken = taken; ended = ended; within = within; ends_so = ends }
+    by_result (Err (Row fault)) ends = record { bytes = bytes; taken = taken; ended = ended; within = within; ends_so = ends }
     by_result (Err NoSheet) ends = record { bytes = bytes; taken = taken; ended = ended; within = within; ends_so = ends }
     by_result (Err Room) ends = record { bytes = bytes; taken = taken; ended = ended; within = within; ends_so = ends }
     by_result (Err Workers) ends = record { bytes = bytes; taken = taken; ended = ended; within = within; ends_so = ends }

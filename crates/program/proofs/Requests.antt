@@ -5,6 +5,7 @@ use Rattle.std.specs.Option.{option_map_or}
 use Rattle.std.proofs.lemmas.Bool.{leb-true}
 use Rattle.clap.specs.Words.{FailsBy, HasKind, Kinds, Row, Text, first_of, kind_of}
 use Rattle.clap.specs.declared.error.Error.{Error}
+use Rattle.clap.specs.declared.error.kind.ErrorKind.{ErrorKind as Kind}
 use Rattle.clap.specs.declared.error.kind.ErrorKind.TheVariants as kind
 use Rattle.command_line.specs.Beginnings.{Beginning as Kept, beginning_from, beginning_of, games_in, max_near, near_in, near_of_text, rounds_in}
 use Rattle.command_line.specs.CommandLine.{beginning_of_command}
@@ -15,7 +16,7 @@ use Rattle.command_line.specs.declared.job.Job.TheVariants.{Start, Play, Improve
 use Rattle.command_line.specs.declared.request.Request.{Request}
 use Rattle.streams.specs.declared.tally.Tally.{Tally}
 use Rattle.commands.specs.declared.fault.ProgramFault.TheVariants.{Memory}
-use Rattle.program.specs.Program.{is_plain, DoesJob, EndsJob, EndsWithFiles, IsStatusOf}
+use Rattle.program.specs.Program.{is_plain, DoesJob, EndsJob, EndsWithFiles, IsStatusOf, IsStatusOfWords}
 
 -- where the words have no fault, only memory can be wanting
 memory_of : (kinds : Kinds) (e : Error) → HasKind kinds e → kinds ≡ [] → kind_of e ≡ kind.OutOfMemory
@@ -81,6 +82,15 @@ module _ {R W : Type 0} (left : R → Option (List ℕ)) (pulls : R → Tally) (
         (ends (plain_too files (files_of r.files) kept (beginning_of r.beginning) false same_files same_kept plain)))
     on_files (Err e) fails job_of files_in kept_in ends told quiet job files kept none job_is files_is kept_is plain =
         inl (told.memory (memory_of kinds e fails none), quiet)
+
+-- words that have a fault
+pub at_fault : (kinds : Kinds) (k : Kind) (status : ℕ) (request : Result Request Error) → FailsBy kinds request
+    → IfErr request (λ e. IsStatusOf (kind_of e) status) → kinds ≡ k ∷ [] → IsStatusOfWords k status
+at_fault kinds k status (Ok r) fails told is = cc
+at_fault kinds k status (Err e) fails told is = elim (subst (λ (ks : Kinds). HasKind ks e) is fails) [
+  | inl memory ↦ inl (told.memory memory)
+  | inr among ↦ elim among [ inl same ↦ inr (subst (λ (x : Kind). IsStatusOf x status) same told) | inr none ↦ absurd none ]
+]
 
 -- a price that the words name is within its range
 module _ (price : ℕ) where

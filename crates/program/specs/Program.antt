@@ -13,7 +13,10 @@ use Rattle.policy.specs.Limits.{most_effort}
 use Rattle.streams.specs.declared.tally.Tally.{Tally}
 use Rattle.texts.specs.Input.{lines_after, text_before}
 use Rattle.beginnings.specs.declared.begun.Beginning.{Beginning}
+use Rattle.league.specs.declared.fault.LeagueFault.{LeagueFault}
+use Rattle.commands.specs.Hinted.{IsAdvice}
 use Rattle.commands.specs.declared.fault.ProgramFault.{ProgramFault}
+use Rattle.commands.specs.declared.fault.ProgramFault.TheVariants.{League, LeagueAt, Memory}
 use Rattle.commands.specs.declared.search_end.SearchEnd.{SearchEnd}
 use Rattle.commands.specs.declared.verdict.Verdict.{Verdict}
 use Rattle.commands.specs.declared.verdict.Verdict.TheVariants.{Feasible, Infeasible}
@@ -84,6 +87,12 @@ module _ {W : Type 0} (held : W → Option (List ℕ)) (pushes : W → Tally) (i
   EndsJobOn (Report format) told = EndsOn held pushes
       (AnswersReportOn format (verdict_in told) (league_part (codes "sheet") input second) (lines_part (codes "sheet") input second) beginning)
 
+  -- the command of the job ended with this outcome, which has a verdict or a search's end if the job is to have one
+  pub record Performs (job : Job) (before after : W) (outcome : Result Ending ProgramFault) : Type 0 where
+    pub ends : EndsJobOn job (value_of outcome) before after (without_value outcome)
+    pub verdict : HasVerdict job outcome
+    pub end : HasSearchEnd job outcome
+
 -- how it ends between a source and a sink, for a source with these bytes left and these calls: on the input that was read, of a league
 -- that begins at its own start
 abbrev pub EndsJob : {R W : Type 0} → (R → Option (List ℕ)) → (R → Tally) → (W → Option (List ℕ)) → (W → Tally) → Job → Option Ending
@@ -130,9 +139,7 @@ pub record DoesJobOn {W : Type 0} (held : W → Option (List ℕ)) (pushes : W �
   pub outcome : Result Ending ProgramFault
   pub beginning : Beginning
   pub begins : IsBeginningOf from kept beginning
-  pub ends : EndsJobOn held pushes input second (Some beginning) job (value_of outcome) before after (without_value outcome)
-  pub verdict : HasVerdict job outcome
-  pub end : HasSearchEnd job outcome
+  pub performs : Performs held pushes input second (Some beginning) job before after outcome
   pub status_is : status ≡ status_of outcome
 
 -- the status is that of the job, or 1 if files followed it, since one of them could not be written
@@ -157,3 +164,14 @@ pub record IsStatusOf (kind : Kind) (status : ℕ) : Type 0 where
   pub shown : kind ≡ DisplayHelp → status ≤ 1
   pub told : kind ≡ DisplayVersion → status ≤ 1
   pub mistake : kind ≢ OutOfMemory → kind ≢ DisplayHelp → kind ≢ DisplayVersion → status ≡ 2
+
+-- the status where the words have this fault: that of the fault, or 1 if memory ran out while they were read
+abbrev pub IsStatusOfWords : Kind → ℕ → Type 0
+IsStatusOfWords kind status = (status ≡ 1) ⊎ IsStatusOf kind status
+
+-- a fault of a league's text is told with the hint on it, if there is one, unless memory ran out
+abbrev pub IsHinted : List ℕ → LeagueFault → ProgramFault → Type 0
+IsHinted bytes fault (LeagueAt told hint) = (told ≡ fault) × IsAdvice bytes fault (Some hint)
+IsHinted bytes fault (League told) = (told ≡ fault) × IsAdvice bytes fault None
+IsHinted bytes fault Memory = Unit {0}
+IsHinted bytes fault _ = ⊥

@@ -5,7 +5,7 @@ ghost use Rattle.std.specs.Str.Lines.{lines};
 ghost use Rattle.command_line.specs.CommandLine.{IsInRange};
 ghost use Rattle.league.specs.Limits.{max_weight};
 ghost use Rattle.commands.specs.Outcome.{value_of, without_value};
-ghost use Rattle.program.specs.Program.{league_part, lines_part, plan_of, search_end_in, verdict_in, EndsJobOn, HasSearchEnd, HasVerdict};
+ghost use Rattle.program.specs.Program.{league_part, lines_part, plan_of, search_end_in, verdict_in, Performs};
 
 use crate::timed::Timed;
 use command_line::Job;
@@ -69,10 +69,8 @@ pub(crate) fn perform<
 ) -> Result<Ending, ProgramFault>
     requires job { IsInRange job }
     requires near { IfSome texts.now.beginning (λ b. b.near ≤ max_weight) }
-    ensures ends { EndsJobOn W.held W.tally texts.now.input.now (option_map (λ text. text.now) texts.now.second)
-        texts.now.beginning job (value_of result) sink.old sink.new (without_value result) }
-    ensures verdict { HasVerdict job result }
-    ensures end { HasSearchEnd job result }
+    ensures { Performs W.held W.tally texts.now.input.now (option_map (λ text. text.now) texts.now.second) texts.now.beginning
+        job sink.old sink.new result }
 {
     let Console {
         rt,
@@ -115,10 +113,8 @@ fn perform_at<T: Threads + Wait + Clock + Sync, G: Gate + Sync, W: Sink, V: Watc
 ) -> Result<Ending, ProgramFault>
     requires job { IsInRange job }
     requires near { IfSome texts.now.beginning (λ b. b.near ≤ max_weight) }
-    ensures ends { EndsJobOn W.held W.tally texts.now.input.now (option_map (λ text. text.now) texts.now.second)
-        texts.now.beginning job (value_of result) sink.old sink.new (without_value result) }
-    ensures verdict { HasVerdict job result }
-    ensures end { HasSearchEnd job result }
+    ensures { Performs W.held W.tally texts.now.input.now (option_map (λ text. text.now) texts.now.second) texts.now.beginning
+        job sink.old sink.new result }
 {
     let alloc = workplace.alloc;
     let Texts {
@@ -180,6 +176,15 @@ pub(crate) fn league_text<'a>(job: Job, texts: &Texts<'a>) -> &'a [u8] {
         Job::Play { .. } => parts(texts.input, texts.second, b"script").0,
         Job::Report(_) => parts(texts.input, texts.second, b"sheet").0,
         _ => texts.input,
+    }
+}
+
+/// The script or the schedule, if there is one.
+pub(crate) fn second_text<'a>(job: Job, texts: &Texts<'a>) -> Option<&'a [u8]> {
+    match job {
+        Job::Play { .. } => parts(texts.input, texts.second, b"script").1,
+        Job::Report(_) => parts(texts.input, texts.second, b"sheet").1,
+        _ => None,
     }
 }
 

@@ -34,6 +34,13 @@ impl Unread<'_> {
     }
 }
 
+/// Whether a text is read from standard input.
+pub(crate) fn reads_input(job: Job, files: &FileWords) -> bool {
+    name_or_input(&files.league) == INPUT
+        || second_name(job, files) == Some(INPUT)
+        || name_in(&files.from) == Some(INPUT)
+}
+
 /// Reads each file to its end, and those texts from the source that the words want from standard input.
 pub(crate) fn read_texts<'a, T: Runtime + AllocGlobal, R: Source>(
     rt: &T,

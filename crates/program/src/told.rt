@@ -2,16 +2,20 @@
 
 ghost use Rattle.std.specs.Prelude.{◌≡◌};
 ghost use Rattle.std.specs.Process.{exit_status};
+ghost use Rattle.program.specs.Program.{IsHinted};
 
 use crate::follower::Unwritten;
-use crate::jobs::{Texts, league_text};
-use crate::texts_read::Unread;
+use crate::jobs::{Texts, league_text, second_text};
+use crate::texts_read::{Unread, reads_input};
 use advice::remarks_on;
 use beginnings::{BeginFault, Beginning, write_start_faults};
 use command_line::{Job, Request};
 use commands::{Format, ProgramFault, hint_on};
 use fixture_board::MAX_ROOM;
 use league::{LeagueFault, read_league};
+use line_advice::{LineHint, schedule_hint, script_hint};
+use schedule_tables::is_table;
+use std::alloc::Global;
 use std::io::{Eprint, ErrorKind, Write};
 use std::process::ExitCode;
 use std::rt::Runtime;
@@ -30,9 +34,17 @@ pub(crate) fn failure<R: Runtime>(rt: &R, fault: ProgramFault) -> ExitCode
 pub(crate) fn refused<R: Runtime + AllocGlobal>(rt: &R, text: &[u8], fault: LeagueFault) -> ExitCode
     ensures { exit_status result ≡ 1 }
 {
-    match hint_on(rt.alloc(), text, fault) {
-        Ok(Some(hint)) => failure(rt, ProgramFault::LeagueAt(fault, hint)),
-        _ => failure(rt, ProgramFault::League(fault)),
+    failure(rt, hinted(rt.alloc(), text, fault))
+}
+
+/// The fault of a league's text, with the hint on it if there is one.
+fn hinted(alloc: Global, text: &[u8], fault: LeagueFault) -> ProgramFault
+    ensures { IsHinted text.now fault result }
+{
+    match hint_on(alloc, text, fault) {
+        Ok(Some(hint)) => ProgramFault::LeagueAt(fault, hint),
+        Ok(None) => ProgramFault::League(fault),
+        Err(_) => ProgramFault::Memory,
     }
 }
 
@@ -83,6 +95,7 @@ pub(crate) fn not_begun<R: Runtime + AllocGlobal>(
         _ => "input",
     };
     let _ = match fault {
+        BeginFault::Row(row) => eprintln!(rt; "ttp: {name}: {row}"),
         BeginFault::NoRound => eprintln!(rt; "ttp: {name} has no line \"round R: H-A\""),
         BeginFault::NotRoundRobin => eprintln!(rt; "ttp: {name} is no double round robin"),
         BeginFault::RoundRange => eprintln!(rt;
@@ -113,6 +126,41 @@ fn start_faults<R: Runtime + AllocGlobal>(rt: &R, request: &Request, texts: &Tex
     if let Ok(league) = read_league(rt.alloc(), league_text(request.job, texts)) {
         let mut sink = WriterSink::new(ErrorWriter { rt });
         let _ = write_start_faults(rt.alloc(), &league, from, &mut sink);
+    }
+    tell_line(rt, hint_on_schedule(from));
+}
+
+/// Says what is wrong with the first bad line of a script or a schedule.
+pub(crate) fn tell_bad_line(rt: &impl Eprint, job: Job, texts: &Texts<'_>) {
+    let hint = match (job, second_text(job, texts)) {
+        (Job::Play { .. }, Some(script)) => script_hint(script),
+        (_, Some(schedule)) => hint_on_schedule(schedule),
+        (_, None) => None,
+    };
+    tell_line(rt, hint);
+}
+
+/// What is wrong with the first bad line of a schedule, which a table has not.
+fn hint_on_schedule(text: &[u8]) -> Option<LineHint> {
+    if is_table(text) {
+        None
+    } else {
+        schedule_hint(text)
+    }
+}
+
+fn tell_line(rt: &impl Eprint, hint: Option<LineHint>) {
+    if let Some(hint) = hint {
+        let _ = eprintln!(rt; "ttp: {hint}");
+    }
+}
+
+/// Says that standard input is read, if it is a terminal and a text is to come from it.
+pub(crate) fn tell_terminal(rt: &impl Eprint, is_terminal: bool, request: &Request) {
+    if is_terminal && reads_input(request.job, &request.files) {
+        let _ = eprintln!(rt;
+            "remark: standard input is read, which is the terminal: Ctrl-D on a line of its own ends it"
+        );
     }
 }
 

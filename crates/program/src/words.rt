@@ -11,13 +11,16 @@ ghost use Rattle.command_line.specs.CommandLine.{beginning_of_words, files_of_wo
 ghost use Rattle.command_line.specs.Files.{Files, files_of};
 ghost use Rattle.command_line.specs.declared.job.Job.{Job as Named};
 ghost use Rattle.league.specs.Limits.{max_weight};
-ghost use Rattle.program.specs.Program.{is_followed, is_judged, is_plain, status_of, DoesJob, DoesJobOn, EndsWithFiles, IsJudged, IsStatusOf};
+ghost use Rattle.program.specs.Program.{is_followed, is_judged, is_plain, status_of, DoesJob, DoesJobOn, EndsWithFiles, IsJudged, IsStatusOf, IsStatusOfWords};
 ghost use Rattle.program.specs.Program.{IsStatusBehind};
 
 use crate::follower::Follower;
 use crate::jobs::{Console, Ending, Texts, league_text, perform};
 use crate::texts_read::{TextsRead, read_texts};
-use crate::told::{failure, not_begun, refused, tell_full, tell_remarks, unread, unwritten};
+use crate::told::{
+    failure, not_begun, refused, tell_bad_line, tell_full, tell_remarks, tell_terminal, unread,
+    unwritten,
+};
 use clap::error::ErrorKind;
 use command_line::{FileWords, Job, Request, args};
 use commands::{Beginning, NoWatcher, ProgramFault, SearchEnd, Verdict, Watcher};
@@ -40,24 +43,36 @@ const INFEASIBLE: u8 = 3;
 /// Does what the program's words ask for, between standard input and output. The exit status is 0 on success, 1 after a
 /// fault, 2 if the words are wrong, and 3 after a report on a schedule that isn't feasible or an improvement that found none
 /// that is. A search shows how far it is if standard error is a terminal.
-pub fn run<R, E>(rt: &R, error: E) -> ExitCode
+pub fn run<R, I, E>(rt: &R, input: &I, error: E) -> ExitCode
 where
     R: Runtime + AllocGlobal + Threads + Wait + Sync,
+    I: IsTerminal,
     E: Write + IsTerminal + Send + Drop,
 {
-    let terminal = if error.is_terminal() {
-        Some(error)
-    } else {
-        None
+    let terminals = Terminals {
+        input: input.is_terminal(),
+        error: if error.is_terminal() {
+            Some(error)
+        } else {
+            None
+        },
     };
     match words_of(rt) {
         Ok(words) => {
             let source = ReaderSource::new(rt.reader());
             let mut sink = WriterSink::new(io::writer(rt));
-            answer(rt, terminal, &words, source, &mut sink)
+            answer(rt, terminals, &words, source, &mut sink)
         }
         Err(error) => words_not_had(rt, error),
     }
+}
+
+/// Which of the standard streams are terminals.
+#[derive(Drop)]
+struct Terminals<E> {
+    input: bool,
+    /// Standard error, if it is one.
+    error: Option<E>,
 }
 
 fn words_of<R: Runtime + AllocGlobal>(rt: &R) -> io::Result<Vec<String>> {
@@ -71,7 +86,7 @@ fn answer<
     E: Write + Send + Drop,
     R: Source + Drop,
     W: Sink,
->(rt: &T, terminal: Option<E>, words: &[String], source: R, sink: &mut W) -> ExitCode
+>(rt: &T, terminals: Terminals<E>, words: &[String], source: R, sink: &mut W) -> ExitCode
     ensures done { (job : Named) (files : Files) (kept : Kept) → words_fault (map string_bytes words.now) ≡ []
         → job_of_words (map string_bytes words.now) ≡ Some job → files_of_words (map string_bytes words.now) ≡ Some files
         → beginning_of_words (map string_bytes words.now) ≡ Some kept → is_plain files kept ≡ true
@@ -83,14 +98,12 @@ fn answer<
     ensures quiet { (kind : Kind) → words_fault (map string_bytes words.now) ≡ kind ∷ [] → sink.new ≡ sink.old }
     ensures taken { words_fault (map string_bytes words.now) ≡ [] → exit_status result ≢ 2 }
     ensures infeasible { exit_status result ≡ 3 → IsJudged (job_of_words (map string_bytes words.now)) }
-    ensures shown { words_fault (map string_bytes words.now) ≡ ErrorKind.DisplayHelp ∷ [] → exit_status result ≤ 1 }
-    ensures told { words_fault (map string_bytes words.now) ≡ ErrorKind.DisplayVersion ∷ [] → exit_status result ≤ 1 }
-    ensures wrong { (kind : Kind) → words_fault (map string_bytes words.now) ≡ kind ∷ []
-        → kind ≢ ErrorKind.DisplayHelp → kind ≢ ErrorKind.DisplayVersion → 1 ≤ exit_status result }
+    ensures fault { (kind : Kind) → words_fault (map string_bytes words.now) ≡ kind ∷ []
+        → IsStatusOfWords kind (exit_status result) }
     ensures most { exit_status result ≤ 3 }
 {
     let request = args(rt.alloc(), words);
-    respond(rt, terminal, request, source, sink)
+    respond(rt, terminals, request, source, sink)
 }
 
 /// Does what a request asks for, or says why there is none.
@@ -101,7 +114,7 @@ fn respond<
     W: Sink,
 >(
     rt: &T,
-    terminal: Option<E>,
+    terminals: Terminals<E>,
     request: Result<Request, clap::Error>,
     source: R,
     sink: &mut W,
@@ -123,11 +136,11 @@ fn respond<
         Ok(request) => request,
         Err(error) => return words_not_taken(rt, error),
     };
-    let alloc = rt.alloc();
+    tell_terminal(rt, terminals.input, &request);
     let console = Console {
         rt,
-        alloc,
-        terminal,
+        alloc: rt.alloc(),
+        terminal: terminals.error,
     };
     if is_plain(&request) {
         respond_on_input(console, request.job, source, sink)
@@ -259,7 +272,7 @@ fn respond_on<
     ended(rt, request.job, &given, outcome)
 }
 
-/// The status of a job on these texts. What went wrong is said, and that a search ended with its history full.
+/// The status of a job on these texts. What went wrong is said, the first bad line, and that a search ended with its history full.
 fn ended<R: Runtime + AllocGlobal>(
     rt: &R,
     job: Job,
@@ -268,6 +281,9 @@ fn ended<R: Runtime + AllocGlobal>(
 ) -> ExitCode
     ensures { exit_status result ≡ status_of outcome }
 {
+    if outcome.is_ok() {
+        tell_bad_line(rt, job, texts);
+    }
     match outcome {
         Ok(Ending::Judged(Verdict::Infeasible)) => ExitCode::from(INFEASIBLE),
         Ok(Ending::Searched(SearchEnd::HistoryFull)) => {

@@ -26,6 +26,7 @@ mod searches;
 mod second_format;
 mod session;
 mod starts;
+mod tables;
 mod text_beginnings;
 mod told;
 mod worked;

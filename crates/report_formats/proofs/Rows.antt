@@ -1,7 +1,9 @@
 -- Rows that are written one after another.
-use Rattle.std.proofs.Common.{ℕ, ◌+◌, add-one, List, [], ◌++◌, Option, Some, None, sym, append_assoc, append-nil}
+use Rattle.std.proofs.Common.{ℕ, ◌+◌, add-one, List, [], ◌++◌, Option, Some, None, refl, sym, subst, ◌∙◌, append_assoc, append-nil}
 use Rattle.std.specs.Io.KnownBytes.{Appends}
+use Rattle.csv.specs.Writing.{writer_setup}
 use Rattle.csv.specs.declared.writer.Writer.{Writer}
+use Rattle.csv.specs.declared.writer.WriterBuilder.{WriterBuilder}
 use Rattle.streams.specs.Pieces.{pieces_below}
 use Rattle.report_formats.specs.Table.{AddsRows, IsBetweenRows}
 
@@ -17,12 +19,19 @@ both_appended (Some xs) (Some ys) (Some zs) p q first second = rw (second, first
 
 module _ {W : Type 0} {contents : W → Option (List ℕ)} where
   pub AddsRows-nothing : {a : Writer W} → IsBetweenRows a → AddsRows contents a a []
-  AddsRows-nothing {a} between = record { between = between; bytes = none_appended _ }
+  AddsRows-nothing {a} between = record { between = between; setup = refl; bytes = none_appended _ }
 
   pub AddsRows-then : {a b c : Writer W} {p q : List ℕ} → AddsRows contents a b p → AddsRows contents b c q → AddsRows contents a c (p ++ q)
   AddsRows-then {a} {b} {c} {p} {q} first second =
-      record { between = second.between; bytes = both_appended _ _ _ p q first.bytes second.bytes }
+      record { between = second.between; setup = second.setup ∙ first.setup; bytes = both_appended _ _ _ p q first.bytes second.bytes }
 
-  pub AddsRows-piece : {a b c : Writer W} (piece : ℕ → List ℕ) (n : ℕ) → AddsRows contents a b (pieces_below piece n)
-      → AddsRows contents b c (piece n) → AddsRows contents a c (pieces_below piece (n + 1))
-  AddsRows-piece piece n first second = rw add-one (AddsRows-then first second)
+  -- a text that depends on how the writer is set up
+  pub AddsRows-after : {a b c : Writer W} {p : List ℕ} (text : WriterBuilder → List ℕ) → AddsRows contents a b p
+      → AddsRows contents b c (text (writer_setup b)) → AddsRows contents a c (p ++ text (writer_setup a))
+  AddsRows-after {a} {b} {c} {p} text first second =
+      AddsRows-then first (subst (λ setup. AddsRows contents b c (text setup)) first.setup second)
+
+  pub AddsRows-piece : {a b c : Writer W} (piece : WriterBuilder → ℕ → List ℕ) (n : ℕ)
+      → AddsRows contents a b (pieces_below (piece (writer_setup a)) n) → AddsRows contents b c (piece (writer_setup b) n)
+      → AddsRows contents a c (pieces_below (piece (writer_setup a)) (n + 1))
+  AddsRows-piece piece n first second = rw add-one (AddsRows-after (λ setup. piece setup n) first second)

@@ -6,15 +6,17 @@ use Rattle.league.specs.League.{LeagueData}
 use Rattle.reports.specs.Report.{report_text}
 use Rattle.report_formats.specs.declared.format.Format.{Format}
 use Rattle.report_formats.specs.declared.format.Prepared.{Prepared}
-use Rattle.report_formats.specs.declared.format.Format.TheVariants.{Text, Csv, Html}
+use Rattle.report_formats.specs.declared.format.Format.TheVariants.{Text, Csv, Html, Names}
 use Rattle.report_formats.specs.Page.{page_text}
+use Rattle.report_formats.specs.Pairings.{pairings_text}
 use Rattle.report_formats.specs.Table.{table_text}
 
 -- what a format has in place of the text of a double round robin
 abbrev pub prepared_of : Format → LeagueData → Games → Option (List ℕ)
 prepared_of Text l g = None
-prepared_of Csv l g = Some (table_text l g)
+prepared_of (Csv form) l g = Some (table_text form l g)
 prepared_of Html l g = Some (page_text l g)
+prepared_of Names l g = Some (pairings_text l g)
 
 -- the report of the double round robin that the lines give, in the format, or else the text of their faults; behind a text
 -- stand the remarks

@@ -1,4 +1,5 @@
 pub mod Table
+pub mod Pairings
 pub mod Pieces
 pub mod Style
 pub mod Grid

@@ -1,7 +1,8 @@
 -- Pieces of a page.
-use Rattle.std.specs.Prelude.{ℕ, ◌==◌, List, [], ◌∷◌, ◌++◌, codes, decimal, if◌then◌else◌}
+use Rattle.std.specs.Prelude.{ℕ, zero, suc, ◌==◌, ◌||◌, List, [], ◌∷◌, ◌++◌, Bool, not, codes, decimal, nat_eq, if◌then◌else◌}
+use Rattle.std.specs.List.{starts_with}
 use Rattle.report_formats.specs.declared.pieces.Piece.{Piece}
-use Rattle.report_formats.specs.declared.pieces.Piece.TheVariants.{Html, Name, Number}
+use Rattle.report_formats.specs.declared.pieces.Piece.TheVariants.{Raw, Name, Number}
 
 -- a byte of a name in which the marks of HTML stand for themselves
 abbrev pub escape_of : ℕ → List ℕ
@@ -14,7 +15,7 @@ escaped [] = []
 escaped (b ∷ bs) = escape_of b ++ escaped bs
 
 abbrev pub text_of_piece : Piece → List ℕ
-text_of_piece (Html text) = text.now
+text_of_piece (Raw text) = text.now
 text_of_piece (Name text) = escaped text.now
 text_of_piece (Number number) = decimal number
 
@@ -22,3 +23,18 @@ text_of_piece (Number number) = decimal number
 abbrev pub text_of_pieces : List Piece → List ℕ
 text_of_pieces [] = []
 text_of_pieces (piece ∷ pieces) = text_of_piece piece ++ text_of_pieces pieces
+
+-- whether the byte is no mark that begins or ends markup: `<`, `>`, `"` or `'`
+abbrev pub is_plain : ℕ → Bool
+is_plain b = not (b == 60 || (b == 62 || (b == 34 || b == 39)))
+
+-- what a browser reads from a text, behind so many bytes that it has read: `&amp;` and its like are the marks that they stand for
+abbrev pub unescaped : ℕ → List ℕ → List ℕ
+unescaped read [] = []
+unescaped (suc read) (b ∷ bs) = unescaped read bs
+unescaped zero (b ∷ bs) = if not (b == 38) then b ∷ unescaped 0 bs
+    else (if starts_with nat_eq bs (codes "amp;") then 38 ∷ unescaped 4 bs
+    else (if starts_with nat_eq bs (codes "lt;") then 60 ∷ unescaped 3 bs
+    else (if starts_with nat_eq bs (codes "gt;") then 62 ∷ unescaped 3 bs
+    else (if starts_with nat_eq bs (codes "quot;") then 34 ∷ unescaped 5 bs
+    else (if starts_with nat_eq bs (codes "#39;") then 39 ∷ unescaped 4 bs else 38 ∷ unescaped 0 bs)))))

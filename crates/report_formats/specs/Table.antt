@@ -1,43 +1,73 @@
 -- The games of a schedule as CSV. Teams and rounds are numbered from 0 in calls, and from 1 in the text.
-use Rattle.std.specs.Prelude.{◌≡◌, ℕ, ◌+◌, List, [], ◌∷◌, ◌++◌, false, Option, codes, decimal, map, if◌then◌else◌}
+use Rattle.std.specs.Prelude.{◌≡◌, ℕ, ◌+◌, ◌==◌, ◌||◌, List, [], ◌∷◌, ◌++◌, Bool, false, Option, codes, decimal, map, if◌then◌else◌}
 use Rattle.std.specs.Borrow.{Bor}
 use Rattle.std.specs.Io.KnownBytes.{Appends}
-use Rattle.csv.specs.Writing.{default_writer, fields_written, has_written, row_text, text_written, writer_setup}
+use Rattle.csv.specs.Writing.{default_writer, fields_written, has_written, row_text, text_written, with_delimiter, writer_setup}
+use Rattle.csv.specs.declared.writer.QuoteStyle.TheVariants.{Necessary}
 use Rattle.csv.specs.declared.writer.Writer.{Writer}
+use Rattle.csv.specs.declared.writer.WriterBuilder.{WriterBuilder}
 use Rattle.fixtures.specs.Games.{Games, cell, round_count}
 use Rattle.league.specs.League.{LeagueData, name_of}
 use Rattle.streams.specs.Pieces.{pieces_below}
+use Rattle.report_formats.specs.Style.{word_if}
+use Rattle.report_formats.specs.declared.csv_form.CsvForm.{CsvForm}
+use Rattle.report_formats.specs.declared.csv_form.Separator.{Separator}
+use Rattle.report_formats.specs.declared.csv_form.Separator.TheVariants.{Comma, Semicolon, Tab}
+
+abbrev pub byte_of : Separator → ℕ
+byte_of Comma = 44
+byte_of Semicolon = 59
+byte_of Tab = 9
+
+abbrev pub writer_of : Separator → WriterBuilder
+writer_of separator = with_delimiter default_writer (byte_of separator)
+
+abbrev pub byte_order_mark : List ℕ
+byte_order_mark = 239 ∷ 187 ∷ 191 ∷ []
+
+-- whether a spreadsheet takes the cell for a formula: it begins with `=`, `+`, `-`, `@`, a tab or a carriage return
+abbrev pub is_formula : List ℕ → Bool
+is_formula [] = false
+is_formula (b ∷ bs) = b == 61 || (b == 43 || (b == 45 || (b == 64 || (b == 9 || b == 13))))
+
+-- a cell that would be taken for a formula has an apostrophe before it
+abbrev pub guarded : List ℕ → List ℕ
+guarded cell = word_if (is_formula cell) (codes "'") ++ cell
 
 -- the text of a record with these fields
-abbrev pub row_of : List (Bor (List ℕ)) → List ℕ
-row_of fields = row_text default_writer (map (λ f. f.now) fields)
+abbrev pub row_of : WriterBuilder → List (Bor (List ℕ)) → List ℕ
+row_of writer fields = row_text writer (map (λ f. f.now) fields)
 
-abbrev pub head_row : List ℕ
-head_row = row_text default_writer (codes "round" ∷ codes "home" ∷ codes "home name" ∷ codes "away" ∷ codes "away name" ∷ [])
+abbrev pub head_row : WriterBuilder → List ℕ
+head_row writer = row_text writer (codes "round" ∷ codes "home" ∷ codes "home name" ∷ codes "away" ∷ codes "away name" ∷ [])
 
-abbrev pub game_row : LeagueData → ℕ → ℕ → ℕ → List ℕ
-game_row l round home away =
-    row_text default_writer (decimal (round + 1) ∷ decimal (home + 1) ∷ name_of l home ∷ decimal (away + 1) ∷ name_of l away ∷ [])
+abbrev pub game_row : WriterBuilder → LeagueData → ℕ → ℕ → ℕ → List ℕ
+game_row writer l round home away =
+    row_text writer (decimal (round + 1) ∷ decimal (home + 1) ∷ guarded (name_of l home) ∷ decimal (away + 1) ∷ guarded (name_of l away) ∷ [])
 
 -- the team's game in the round, if the team is at home there
-abbrev pub game_at : LeagueData → Games → ℕ → ℕ → List ℕ
-game_at l g round team = if (cell g team round).home then game_row l round team (cell g team round).opponent else []
+abbrev pub game_at : WriterBuilder → LeagueData → Games → ℕ → ℕ → List ℕ
+game_at writer l g round team = if (cell g team round).home then game_row writer l round team (cell g team round).opponent else []
 
 -- in the order of the home teams
-abbrev pub games_of_round : LeagueData → Games → ℕ → List ℕ
-games_of_round l g round = pieces_below (game_at l g round) g.teams
+abbrev pub games_of_round : WriterBuilder → LeagueData → Games → ℕ → List ℕ
+games_of_round writer l g round = pieces_below (game_at writer l g round) g.teams
 
--- a head line, and the games of each round
-unfoldable pub table_text : LeagueData → Games → List ℕ
-table_text l g = head_row ++ pieces_below (games_of_round l g) (round_count g.teams)
+abbrev pub rows_text : WriterBuilder → LeagueData → Games → List ℕ
+rows_text writer l g = head_row writer ++ pieces_below (games_of_round writer l g) (round_count g.teams)
 
--- the writer has ended the records that it wrote, in the default form
+-- the mark if it is asked for, a head line, and the games of each round
+unfoldable pub table_text : CsvForm → LeagueData → Games → List ℕ
+table_text form l g = word_if form.has_mark byte_order_mark ++ rows_text (writer_of form.separator) l g
+
+-- the writer has ended the records that it wrote, and quotes where it is needed
 pub record IsBetweenRows {W : Type 0} (w : Writer W) : Type 0 where
-  pub setup : writer_setup w ≡ default_writer
+  pub style : (writer_setup w).style ≡ Necessary
   pub fields : fields_written w ≡ 0
   pub wrote : has_written w ≡ false
 
 -- whole records with this text were added
 pub record AddsRows {W : Type 0} (contents : W → Option (List ℕ)) (old new : Writer W) (text : List ℕ) : Type 0 where
   pub between : IsBetweenRows new
+  pub setup : writer_setup new ≡ writer_setup old
   pub bytes : Appends (text_written contents old) (text_written contents new) text

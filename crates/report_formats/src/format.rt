@@ -11,7 +11,9 @@ ghost use Rattle.schedule_texts.specs.Judged.{IsJudgedBy};
 ghost use Rattle.reports.specs.Report.{report_text};
 ghost use Rattle.report_formats.specs.Format.{prepared_of, text_with, IsPrepared};
 
+use crate::csv_form::CsvForm;
 use crate::page::page;
+use crate::pairings::pairings;
 use crate::table::table;
 use fixtures::Schedule;
 use league::League;
@@ -26,9 +28,11 @@ pub enum Format {
     /// Lines of text: the sheet, the cost and its parts.
     Text,
     /// A head line and a line for each game, as CSV.
-    Csv,
+    Csv(CsvForm),
     /// A page for a browser, which needs nothing beside it.
     Html,
+    /// The games in words, by round.
+    Names,
 }
 
 /// What a report takes memory for.
@@ -70,8 +74,9 @@ fn prepare_schedule(
 {
     match format {
         Format::Text => Ok(None),
-        Format::Csv => Ok(Some(table(alloc, league, schedule)?)),
+        Format::Csv(form) => Ok(Some(table(alloc, form, league, schedule)?)),
         Format::Html => Ok(Some(page(alloc, league, schedule)?)),
+        Format::Names => Ok(Some(pairings(alloc, league, schedule)?)),
     }
 }
 

@@ -29,7 +29,7 @@ pub(crate) fn push_grid(
 {
     push_legend(page, league)?;
     push_lines(page, league, schedule)?;
-    push_pieces(page, &[Piece::Html(b"</tr></table></div>")])
+    push_pieces(page, &[Piece::Raw(b"</tr></table></div>")])
 }
 
 /// Adds what the marks in the grid mean.
@@ -39,16 +39,16 @@ fn push_legend(page: &mut Vec<u8>, league: &League) -> Result<(), AllocError>
     push_pieces(
         page,
         &[
-            Piece::Html(b"<h2>Games</h2><p><span class='h'>Shaded</span>: at home. @: away. "),
-            Piece::Html(b"<span class='o'>Ringed</span>: more than "),
+            Piece::Raw(b"<h2>Games</h2><p><span class='h'>Shaded</span>: at home. @: away. "),
+            Piece::Raw(b"<span class='o'>Ringed</span>: more than "),
             Piece::Number(league.at_most() as u64),
-            Piece::Html(b" in a row at home or away. "),
-            Piece::Html(b"<span class='r'>Dashed</span>: the opponent of the round before.</p>"),
-            Piece::Html(word_if(
+            Piece::Raw(b" in a row at home or away. "),
+            Piece::Raw(b"<span class='r'>Dashed</span>: the opponent of the round before.</p>"),
+            Piece::Raw(word_if(
                 league.given(),
                 b"<p><span class='m'>Underlined</span>: in another round than at the start.</p>",
             )),
-            Piece::Html(b"<div class='wide'><table class='grid'><tr><th>Team</th>"),
+            Piece::Raw(b"<div class='wide'><table class='grid'><tr><th>Team</th>"),
         ],
     )
 }
@@ -68,9 +68,9 @@ fn push_round_heads(page: &mut Vec<u8>, schedule: &Schedule) -> Result<(), Alloc
         push_pieces(
             page,
             &[
-                Piece::Html(b"<th>"),
+                Piece::Raw(b"<th>"),
                 Piece::Number(round as u64 + 1),
-                Piece::Html(b"</th>"),
+                Piece::Raw(b"</th>"),
             ],
         )?;
     }
@@ -97,7 +97,7 @@ fn push_row(
     requires team { team < schedule.now.teams }
     ensures { OnOk result (page.new.items ≡ page.old.items ++ grid_row league.now schedule.now team) }
 {
-    push_pieces(page, &[Piece::Html(b"</tr>")])?;
+    push_pieces(page, &[Piece::Raw(b"</tr>")])?;
     push_team_head(page, league, team)?;
     push_cells(page, league, schedule, team)
 }
@@ -114,11 +114,11 @@ pub(crate) fn push_team_head(
     push_pieces(
         page,
         &[
-            Piece::Html(b"<tr><th>"),
+            Piece::Raw(b"<tr><th>"),
             Piece::Number(team as u64 + 1),
-            Piece::Html(b" "),
+            Piece::Raw(b" "),
             Piece::Name(league.name(team).as_bytes()),
-            Piece::Html(b"</th>"),
+            Piece::Raw(b"</th>"),
         ],
     )
 }
@@ -193,15 +193,15 @@ fn push_cell(page: &mut Vec<u8>, game: Cell, marks: Marks) -> Result<(), AllocEr
     push_pieces(
         page,
         &[
-            Piece::Html(b"<td class='"),
-            Piece::Html(word_if(game.home, b"h")),
-            Piece::Html(word_if(marks.over, b" o")),
-            Piece::Html(word_if(marks.again, b" r")),
-            Piece::Html(word_if(marks.moved, b" m")),
-            Piece::Html(b"'>"),
-            Piece::Html(word_if(!game.home, b"@")),
+            Piece::Raw(b"<td class='"),
+            Piece::Raw(word_if(game.home, b"h")),
+            Piece::Raw(word_if(marks.over, b" o")),
+            Piece::Raw(word_if(marks.again, b" r")),
+            Piece::Raw(word_if(marks.moved, b" m")),
+            Piece::Raw(b"'>"),
+            Piece::Raw(word_if(!game.home, b"@")),
             Piece::Number(game.opponent as u64 + 1),
-            Piece::Html(b"</td>"),
+            Piece::Raw(b"</td>"),
         ],
     )
 }

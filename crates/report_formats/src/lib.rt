@@ -1,15 +1,20 @@
-//! The report of a judged schedule in the format that is asked for: a text, a table of its games as CSV, or a page for a
-//! browser. Games that are no double round robin are answered by the text's faults in each format.
+//! The report of a judged schedule in the format that is asked for: a text, a table of its games as CSV, a page for a
+//! browser, or its games in words. Games that are no double round robin are answered by the text's faults in each format.
 //!
 //! Teams and rounds are numbered from 0 in calls, and from 1 in texts. [`prepare`] alone takes memory.
 #![tactic(auto)]
 
+mod csv_form;
 mod format;
 mod grid;
+mod laws;
 mod moved_games;
 mod page;
+mod pairings;
 mod pieces;
 mod style;
 mod table;
 
+pub use csv_form::{CsvForm, Separator};
 pub use format::{Format, Prepared, prepare, write_prepared};
+pub use laws::{names_are_read_back, names_have_no_marks};

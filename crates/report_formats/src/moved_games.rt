@@ -28,11 +28,11 @@ pub(crate) fn push_near(
     push_pieces(
         page,
         &[
-            Piece::Html(b"<li>near <b>"),
+            Piece::Raw(b"<li>near <b>"),
             Piece::Number(near as u64),
-            Piece::Html(b"</b> moved <b>"),
+            Piece::Raw(b"</b> moved <b>"),
             Piece::Number(moved),
-            Piece::Html(b"</b></li>"),
+            Piece::Raw(b"</b></li>"),
         ],
     )
 }
@@ -63,12 +63,12 @@ fn push_moved_table(
 {
     push_pieces(
         page,
-        &[Piece::Html(
+        &[Piece::Raw(
             b"<h2>Moved games</h2><table><tr><th>Game</th><th>Round at the start</th><th>Round now</th></tr>",
         )],
     )?;
     push_all_moved(page, league, schedule)?;
-    push_pieces(page, &[Piece::Html(b"</table>")])
+    push_pieces(page, &[Piece::Raw(b"</table>")])
 }
 
 fn push_all_moved(
@@ -132,15 +132,15 @@ fn push_was(page: &mut Vec<u8>, game: (u8, u8), was: u8, now: u8) -> Result<(), 
     push_pieces(
         page,
         &[
-            Piece::Html(b"<tr><td>"),
+            Piece::Raw(b"<tr><td>"),
             Piece::Number(game.0 as u64 + 1),
-            Piece::Html(b"-"),
+            Piece::Raw(b"-"),
             Piece::Number(game.1 as u64 + 1),
-            Piece::Html(b"</td><td>"),
+            Piece::Raw(b"</td><td>"),
             Piece::Number(was as u64 + 1),
-            Piece::Html(b"</td><td>"),
+            Piece::Raw(b"</td><td>"),
             Piece::Number(now as u64 + 1),
-            Piece::Html(b"</td></tr>"),
+            Piece::Raw(b"</td></tr>"),
         ],
     )
 }

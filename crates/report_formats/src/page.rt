@@ -35,7 +35,7 @@ pub(crate) fn page(
     let mut page = Vec::new(alloc);
     push_top(&mut page, league, schedule)?;
     push_sections(&mut page, league, schedule)?;
-    push_pieces(&mut page, &[Piece::Html(b"</body></html>\n")])?;
+    push_pieces(&mut page, &[Piece::Raw(b"</body></html>\n")])?;
     Ok(page)
 }
 
@@ -83,11 +83,11 @@ fn push_measures(page: &mut Vec<u8>, schedule: &Schedule, travel: u64) -> Result
         page,
         &[
             Piece::Number(schedule.teams() as u64),
-            Piece::Html(b";--rounds:"),
+            Piece::Raw(b";--rounds:"),
             Piece::Number(schedule.rounds() as u64),
-            Piece::Html(b";--travel:"),
+            Piece::Raw(b";--travel:"),
             Piece::Number(travel),
-            Piece::Html(b"'>"),
+            Piece::Raw(b"'>"),
         ],
     )
 }
@@ -114,17 +114,17 @@ fn push_counts(page: &mut Vec<u8>, league: &League, cost: Cost) -> Result<(), Al
     push_pieces(
         page,
         &[
-            Piece::Html(b"<h1>"),
+            Piece::Raw(b"<h1>"),
             Piece::Number(teams as u64),
-            Piece::Html(b" teams, "),
+            Piece::Raw(b" teams, "),
             Piece::Number(round_count(teams) as u64),
-            Piece::Html(b" rounds</h1><ul><li>travel <b>"),
+            Piece::Raw(b" rounds</h1><ul><li>travel <b>"),
             Piece::Number(cost.travel),
-            Piece::Html(b"</b></li><li>hard <b>"),
+            Piece::Raw(b"</b></li><li>hard <b>"),
             Piece::Number(cost.hard),
-            Piece::Html(b"</b></li><li>soft <b>"),
+            Piece::Raw(b"</b></li><li>soft <b>"),
             Piece::Number(cost.soft),
-            Piece::Html(b"</b></li>"),
+            Piece::Raw(b"</b></li>"),
         ],
     )
 }
@@ -137,15 +137,15 @@ fn push_total(page: &mut Vec<u8>, cost: Cost) -> Result<(), AllocError>
         push_pieces(
             page,
             &[
-                Piece::Html(b"<li>total <b>"),
+                Piece::Raw(b"<li>total <b>"),
                 Piece::Number(cost.total()),
-                Piece::Html(b"</b></li></ul>"),
+                Piece::Raw(b"</b></li></ul>"),
             ],
         )
     } else {
         push_pieces(
             page,
-            &[Piece::Html(b"<li class='bad'><b>infeasible</b></li></ul>")],
+            &[Piece::Raw(b"<li class='bad'><b>infeasible</b></li></ul>")],
         )
     }
 }
@@ -156,12 +156,12 @@ fn push_travel(page: &mut Vec<u8>, league: &League, schedule: &Schedule) -> Resu
 {
     push_pieces(
         page,
-        &[Piece::Html(
+        &[Piece::Raw(
             b"<h2>Travel</h2><p>A bar that ends at the line is as long as the average.</p><table class='travel'>",
         )],
     )?;
     push_tours(page, league, schedule)?;
-    push_pieces(page, &[Piece::Html(b"</table>")])
+    push_pieces(page, &[Piece::Raw(b"</table>")])
 }
 
 fn push_tours(page: &mut Vec<u8>, league: &League, schedule: &Schedule) -> Result<(), AllocError>
@@ -183,11 +183,11 @@ fn push_tour(page: &mut Vec<u8>, league: &League, team: u8, travel: u64) -> Resu
     push_pieces(
         page,
         &[
-            Piece::Html(b"<td>"),
+            Piece::Raw(b"<td>"),
             Piece::Number(travel),
-            Piece::Html(b"</td><td class='bar'><div style='--tour:"),
+            Piece::Raw(b"</td><td class='bar'><div style='--tour:"),
             Piece::Number(travel),
-            Piece::Html(b"'></div></td></tr>"),
+            Piece::Raw(b"'></div></td></tr>"),
         ],
     )
 }
@@ -216,12 +216,12 @@ fn push_rule_table(
     push_pieces(
         page,
         &[
-            Piece::Html(b"<h2>Rules</h2><p>Broken ones first.</p><table class='rules'>"),
-            Piece::Html(b"<tr><th>Rule</th><th>Class</th><th>Kind</th><th>Deviation</th></tr>"),
+            Piece::Raw(b"<h2>Rules</h2><p>Broken ones first.</p><table class='rules'>"),
+            Piece::Raw(b"<tr><th>Rule</th><th>Class</th><th>Kind</th><th>Deviation</th></tr>"),
         ],
     )?;
     push_sorted_rules(page, league, schedule)?;
-    push_pieces(page, &[Piece::Html(b"</table>")])
+    push_pieces(page, &[Piece::Raw(b"</table>")])
 }
 
 /// Adds the broken rules, and then the others.
@@ -273,20 +273,20 @@ fn push_rule(
     push_pieces(
         page,
         &[
-            Piece::Html(row_head(broken)),
+            Piece::Raw(row_head(broken)),
             Piece::Number(i + 1),
-            Piece::Html(b"</td><td>"),
-            Piece::Html(class_name(&rule.body)),
-            Piece::Html(b"</td><td>"),
+            Piece::Raw(b"</td><td>"),
+            Piece::Raw(class_name(&rule.body)),
+            Piece::Raw(b"</td><td>"),
         ],
     )?;
     push_weight(page, rule.weight)?;
     push_pieces(
         page,
         &[
-            Piece::Html(b"</td><td>"),
+            Piece::Raw(b"</td><td>"),
             Piece::Number(deviation),
-            Piece::Html(b"</td></tr>"),
+            Piece::Raw(b"</td></tr>"),
         ],
     )
 }
@@ -305,10 +305,10 @@ fn push_weight(page: &mut Vec<u8>, weight: Weight) -> Result<(), AllocError>
     ensures { OnOk result (page.new.items ≡ page.old.items ++ weight_text weight) }
 {
     match weight {
-        Weight::Hard => push_pieces(page, &[Piece::Html(b"hard")]),
+        Weight::Hard => push_pieces(page, &[Piece::Raw(b"hard")]),
         Weight::Soft(weight) => push_pieces(
             page,
-            &[Piece::Html(b"soft "), Piece::Number(weight as u64)],
+            &[Piece::Raw(b"soft "), Piece::Number(weight as u64)],
         ),
     }
 }

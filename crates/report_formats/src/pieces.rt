@@ -8,8 +8,8 @@ use std::alloc::AllocError;
 /// A piece of a page.
 #[derive(Clone, Copy)]
 pub(crate) enum Piece<'a> {
-    /// Markup, as it is.
-    Html(&'a [u8]),
+    /// As it is.
+    Raw(&'a [u8]),
     /// A text that stands for itself, whatever it holds.
     Name(&'a [u8]),
     /// In decimal.
@@ -32,7 +32,7 @@ fn push_piece(page: &mut Vec<u8>, piece: Piece<'_>) -> Result<(), AllocError>
     ensures { OnOk result (page.new.items ≡ page.old.items ++ text_of_piece piece.entry) }
 {
     match piece {
-        Piece::Html(text) => page.extend_from_slice(text),
+        Piece::Raw(text) => page.extend_from_slice(text),
         Piece::Name(text) => push_escaped(page, text),
         Piece::Number(number) => push_number(page, number),
     }

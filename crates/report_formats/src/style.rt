@@ -16,80 +16,80 @@ pub(crate) fn push_style(page: &mut Vec<u8>, league: &League) -> Result<(), Allo
     push_pieces(
         page,
         &[
-            Piece::Html(b"<!DOCTYPE html>\n"),
-            Piece::Html(b"<html lang='en'><head><meta charset='utf-8'><title>Schedule</title>\n"),
-            Piece::Html(
+            Piece::Raw(b"<!DOCTYPE html>\n"),
+            Piece::Raw(b"<html lang='en'><head><meta charset='utf-8'><title>Schedule</title>\n"),
+            Piece::Raw(
                 b"<meta name='viewport' content='width=device-width, initial-scale=1'><style>\n",
             ),
-            Piece::Html(
+            Piece::Raw(
                 b":root { color-scheme: light dark; --back: #fff; --text: #1c1d21; --pale: #5d6168; --line: #d3d6db }\n",
             ),
-            Piece::Html(b":root { --home: #dbe9fa; --bad: #b3261e; --bar: #3f7fbf }\n"),
-            Piece::Html(
+            Piece::Raw(b":root { --home: #dbe9fa; --bad: #b3261e; --bar: #3f7fbf }\n"),
+            Piece::Raw(
                 b"@media (prefers-color-scheme: dark) { :root { --back: #17191d; --text: #e5e6e9; --pale: #a3a7ae }\n",
             ),
-            Piece::Html(
+            Piece::Raw(
                 b":root { --line: #3c4048; --home: #20405f; --bad: #ff8a80; --bar: #6aa9e9 } }\n",
             ),
-            Piece::Html(
+            Piece::Raw(
                 b"body { margin: 0 auto; padding: 1rem; max-width: 100rem; font: 1rem/1.4 sans-serif }\n",
             ),
-            Piece::Html(
+            Piece::Raw(
                 b"body { background: var(--back); color: var(--text) } p { margin: 0 0 .5rem; color: var(--pale) }\n",
             ),
-            Piece::Html(
+            Piece::Raw(
                 b"h1 { font-size: 1.4rem } h2 { font-size: 1.15rem; margin: 1.5rem 0 .3rem }\n",
             ),
-            Piece::Html(
+            Piece::Raw(
                 b"ul { display: flex; flex-wrap: wrap; gap: .5rem; margin: 0; padding: 0; list-style: none }\n",
             ),
-            Piece::Html(
+            Piece::Raw(
                 b"li { border: 1px solid var(--line); border-radius: .4rem; padding: .3rem .7rem }\n",
             ),
-            Piece::Html(
+            Piece::Raw(
                 b"table { border-collapse: collapse; font-variant-numeric: tabular-nums }\n",
             ),
-            Piece::Html(
+            Piece::Raw(
                 b"th, td { border: 1px solid var(--line); padding: .15rem .45rem; text-align: right }\n",
             ),
-            Piece::Html(
+            Piece::Raw(
                 b"th:first-child { text-align: left } .wide { overflow-x: auto } p span { padding: .1rem .4rem }\n",
             ),
-            Piece::Html(
+            Piece::Raw(
                 b".wide th:first-child { position: sticky; left: 0; z-index: 1; background: var(--back) }\n",
             ),
-            Piece::Html(
+            Piece::Raw(
                 b".wide th:first-child { max-width: min(12rem, 30vw); overflow: hidden; white-space: nowrap }\n",
             ),
-            Piece::Html(b".wide th:first-child { text-overflow: ellipsis }\n"),
-            Piece::Html(b".travel th { min-width: min(12rem, 30vw); overflow-wrap: anywhere }\n"),
-            Piece::Html(
+            Piece::Raw(b".wide th:first-child { text-overflow: ellipsis }\n"),
+            Piece::Raw(b".travel th { min-width: min(12rem, 30vw); overflow-wrap: anywhere }\n"),
+            Piece::Raw(
                 b".h { background: var(--home) } .o { box-shadow: inset 0 0 0 .12em var(--bad) }\n",
             ),
-            Piece::Html(b".r { outline: .12em dashed var(--bad); outline-offset: -.25em }\n"),
-            Piece::Html(
+            Piece::Raw(b".r { outline: .12em dashed var(--bad); outline-offset: -.25em }\n"),
+            Piece::Raw(
                 b".bad { color: var(--bad); font-weight: bold } .travel { width: 100% } .bar { width: 100%; padding: 0 }\n",
             ),
-            Piece::Html(
+            Piece::Raw(
                 b".bar { background: linear-gradient(var(--line), var(--line)) 50% / 1px 100% no-repeat }\n",
             ),
-            Piece::Html(
+            Piece::Raw(
                 b".bar div { width: calc(100% * var(--tour) * var(--teams) / (2 * var(--travel))) }\n",
             ),
-            Piece::Html(b".bar div { height: .8em; max-width: 100%; background: var(--bar) }\n"),
-            Piece::Html(
+            Piece::Raw(b".bar div { height: .8em; max-width: 100%; background: var(--bar) }\n"),
+            Piece::Raw(
                 b"@media print { @page { size: landscape; margin: 10mm } * { print-color-adjust: exact }\n",
             ),
-            Piece::Html(
+            Piece::Raw(
                 b".wide { overflow: visible } body { padding: 0; font-size: 10pt } tr { break-inside: avoid }\n",
             ),
-            Piece::Html(b".grid { font-size: min(10pt, 270mm / (var(--rounds) * 2.4 + 12)) }\n"),
-            Piece::Html(b".grid th, .grid td { padding: .05em .1em; min-width: 2em } }\n"),
-            Piece::Html(word_if(
+            Piece::Raw(b".grid { font-size: min(10pt, 270mm / (var(--rounds) * 2.4 + 12)) }\n"),
+            Piece::Raw(b".grid th, .grid td { padding: .05em .1em; min-width: 2em } }\n"),
+            Piece::Raw(word_if(
                 league.given(),
                 b".m { font-weight: bold; text-decoration: underline }\n",
             )),
-            Piece::Html(b"</style></head><body style='--teams:"),
+            Piece::Raw(b"</style></head><body style='--teams:"),
         ],
     )
 }

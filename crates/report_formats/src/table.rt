@@ -1,12 +1,15 @@
 //! The games of a schedule as CSV.
 
 ghost use Rattle.std.specs.Prelude.{◌≡◌, ◌+◌, ◌<◌, [], ◌∷◌, codes, decimal, IfOk, OnOk};
+ghost use Rattle.csv.specs.Writing.{writer_pending, writer_setup, writer_under};
 ghost use Rattle.fixtures.specs.Games.{round_count};
 ghost use Rattle.league.specs.League.{name_of, teams};
 ghost use Rattle.streams.specs.Pieces.{pieces_below};
-ghost use Rattle.report_formats.specs.Table.{game_at, game_row, games_of_round, row_of, table_text, AddsRows, IsBetweenRows};
+ghost use Rattle.report_formats.specs.Table.{game_at, game_row, games_of_round, guarded, is_formula, row_of, table_text, writer_of, AddsRows, IsBetweenRows};
 
-use csv::Writer;
+use crate::csv_form::CsvForm;
+use crate::style::word_if;
+use csv::{Writer, WriterBuilder};
 use fixtures::Schedule;
 use league::League;
 use std::alloc::{AllocError, Global};
@@ -15,25 +18,41 @@ use std::io::Write;
 /// A head line and a line for each game, ordered by round and home team.
 pub(crate) fn table(
     alloc: Global,
+    form: CsvForm,
     league: &League,
     schedule: &Schedule,
 ) -> Result<Vec<u8>, AllocError>
     requires { schedule.now.teams ≡ teams league.now }
-    ensures { IfOk result (λ text. text.items ≡ table_text league.now schedule.now) }
+    ensures { IfOk result (λ text. text.items ≡ table_text form league.now schedule.now) }
 {
-    let mut writer = Writer::from_writer(Vec::new(alloc));
+    let mut start = Vec::new(alloc);
+    start.extend_from_slice(word_if(form.has_mark, b"\xEF\xBB\xBF"))?;
+    let mut writer = writer_behind(start, form);
     write_row(
         &mut writer,
         &[b"round", b"home", b"home name", b"away", b"away name"],
     )?;
-    write_rounds(&mut writer, league, schedule)?;
+    write_rounds(alloc, &mut writer, league, schedule)?;
     match writer.into_inner() {
         Ok(text) => Ok(text),
         Err(_) => Err(AllocError),
     }
 }
 
+/// A writer of lines behind the text.
+fn writer_behind(start: Vec<u8>, form: CsvForm) -> Writer<Vec<u8>>
+    ensures between { IsBetweenRows result }
+    ensures setup { writer_setup result ≡ writer_of form.separator }
+    ensures under { writer_under result ≡ start }
+    ensures pending { writer_pending result ≡ [] }
+{
+    WriterBuilder::new()
+        .delimiter(form.separator.byte())
+        .from_writer(start)
+}
+
 fn write_rounds<W: Write + Drop>(
+    alloc: Global,
     writer: &mut Writer<W>,
     league: &League,
     schedule: &Schedule,
@@ -41,15 +60,16 @@ fn write_rounds<W: Write + Drop>(
     requires same { schedule.now.teams ≡ teams league.now }
     requires between { IsBetweenRows writer.old }
     ensures { OnOk result (AddsRows W.contents writer.old writer.new
-        (pieces_below (games_of_round league.now schedule.now) (round_count schedule.now.teams))) }
+        (pieces_below (games_of_round (writer_setup writer.old) league.now schedule.now) (round_count schedule.now.teams))) }
 {
     for round in 0..schedule.rounds() {
-        write_round(writer, league, schedule, round)?;
+        write_round(alloc, writer, league, schedule, round)?;
     }
     Ok(())
 }
 
 fn write_round<W: Write + Drop>(
+    alloc: Global,
     writer: &mut Writer<W>,
     league: &League,
     schedule: &Schedule,
@@ -58,16 +78,17 @@ fn write_round<W: Write + Drop>(
     requires same { schedule.now.teams ≡ teams league.now }
     requires round { round < round_count schedule.now.teams }
     requires between { IsBetweenRows writer.old }
-    ensures { OnOk result (AddsRows W.contents writer.old writer.new (games_of_round league.now schedule.now round)) }
+    ensures { OnOk result (AddsRows W.contents writer.old writer.new (games_of_round (writer_setup writer.old) league.now schedule.now round)) }
 {
     for team in 0..schedule.teams() {
-        write_game(writer, league, schedule, round, team)?;
+        write_game(alloc, writer, league, schedule, round, team)?;
     }
     Ok(())
 }
 
 /// Writes the team's game in the round, if the team is at home there.
 fn write_game<W: Write + Drop>(
+    alloc: Global,
     writer: &mut Writer<W>,
     league: &League,
     schedule: &Schedule,
@@ -78,17 +99,18 @@ fn write_game<W: Write + Drop>(
     requires team { team < schedule.now.teams }
     requires round { round < round_count schedule.now.teams }
     requires between { IsBetweenRows writer.old }
-    ensures { OnOk result (AddsRows W.contents writer.old writer.new (game_at league.now schedule.now round team)) }
+    ensures { OnOk result (AddsRows W.contents writer.old writer.new (game_at (writer_setup writer.old) league.now schedule.now round team)) }
 {
     let game = schedule.game_at(team, round);
     if game.home {
-        write_pairing(writer, league, round, team, game.opponent)
+        write_pairing(alloc, writer, league, round, team, game.opponent)
     } else {
         Ok(())
     }
 }
 
 fn write_pairing<W: Write + Drop>(
+    alloc: Global,
     writer: &mut Writer<W>,
     league: &League,
     round: u8,
@@ -98,8 +120,10 @@ fn write_pairing<W: Write + Drop>(
     requires home { home < teams league.now }
     requires away { away < teams league.now }
     requires between { IsBetweenRows writer.old }
-    ensures { OnOk result (AddsRows W.contents writer.old writer.new (game_row league.now round home away)) }
+    ensures { OnOk result (AddsRows W.contents writer.old writer.new (game_row (writer_setup writer.old) league.now round home away)) }
 {
+    let home_name = guarded(alloc, league.name(home).as_bytes())?;
+    let away_name = guarded(alloc, league.name(away).as_bytes())?;
     let mut round_digits = itoa::Buffer::new();
     let mut home_digits = itoa::Buffer::new();
     let mut away_digits = itoa::Buffer::new();
@@ -108,17 +132,36 @@ fn write_pairing<W: Write + Drop>(
         &[
             round_digits.format(round as u64 + 1).as_bytes(),
             home_digits.format(home as u64 + 1).as_bytes(),
-            league.name(home).as_bytes(),
+            home_name.as_slice(),
             away_digits.format(away as u64 + 1).as_bytes(),
-            league.name(away).as_bytes(),
+            away_name.as_slice(),
         ],
     )
+}
+
+/// The cell, so that no spreadsheet takes it for a formula.
+fn guarded(alloc: Global, cell: &[u8]) -> Result<Vec<u8>, AllocError>
+    ensures { IfOk result (λ text. text.items ≡ guarded cell.now) }
+{
+    let mut text = Vec::new(alloc);
+    text.extend_from_slice(word_if(is_formula(cell), b"'"))?;
+    text.extend_from_slice(cell)?;
+    Ok(text)
+}
+
+fn is_formula(cell: &[u8]) -> bool
+    ensures { result ≡ is_formula cell.now }
+{
+    match cell {
+        [byte, ..] => matches!(byte, b'=' | b'+' | b'-' | b'@' | b'\t' | b'\r'),
+        [] => false,
+    }
 }
 
 /// Writes a record. A writer over memory fails only if memory is refused, and rows of one length don't differ in length.
 fn write_row<W: Write + Drop>(writer: &mut Writer<W>, fields: &[&[u8]]) -> Result<(), AllocError>
     requires { IsBetweenRows writer.old }
-    ensures { OnOk result (AddsRows W.contents writer.old writer.new (row_of fields.now)) }
+    ensures { OnOk result (AddsRows W.contents writer.old writer.new (row_of (writer_setup writer.old) fields.now)) }
 {
     match writer.write_fields(fields) {
         Ok(()) => Ok(()),

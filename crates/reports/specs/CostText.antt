@@ -15,6 +15,7 @@ use Rattle.robinx.specs.Deviations.{deviation}
 use Rattle.fixture_board.specs.declared.cost.Cost.{Cost}
 use Rattle.fixture_board.specs.Costs.{cost_of, total_of}
 use Rattle.texts.specs.Classes.{class_name}
+use Rattle.breaches.specs.BreachText.{breaches_text}
 use Rattle.reports.specs.Leaving.{leaving_text}
 use Rattle.reports.specs.Runs.{is_over, ended_streak}
 
@@ -78,10 +79,14 @@ rule_line g i rule (Soft weight) =
     concat (codes "rule " ∷ decimal (i + 1) ∷ codes " " ∷ class_name rule.body ∷ codes " soft " ∷ decimal weight ∷
     codes " deviation " ∷ decimal (deviation g rule.body) ∷ codes "\n" ∷ [])
 
+-- a rule, and behind it its breaches
+abbrev pub rule_text : Games → ℕ → Rule → List ℕ
+rule_text g i rule = rule_line g i rule rule.weight ++ breaches_text g i rule.body
+
 -- if there is one
 abbrev pub rule_at : Games → ℕ → Option Rule → List ℕ
 rule_at g i None = []
-rule_at g i (Some rule) = rule_line g i rule rule.weight
+rule_at g i (Some rule) = rule_text g i rule
 
 -- the rules in their order
 abbrev pub rule_lines : LeagueData → Games → List ℕ

@@ -8,10 +8,11 @@ ghost use Rattle.fixture_board.specs.Costs.{total_of};
 ghost use Rattle.streams.specs.Pieces.{pieces_below};
 ghost use Rattle.streams.specs.Writing.{Writes};
 ghost use Rattle.reports.specs.CostText.{cost_text, costs_line, half_line, half_lines, halves_text, meetings_line};
-ghost use Rattle.reports.specs.CostText.{repeat_line, repeat_lines, rule_line, rule_lines, total_line, tour_line};
+ghost use Rattle.reports.specs.CostText.{repeat_line, repeat_lines, rule_line, rule_lines, rule_text, total_line, tour_line};
 
 use crate::leaving::write_leaving;
 use crate::runs::write_runs;
+use breaches::write_breaches;
 use fixture_board::{Cost, cost_of};
 use fixtures::Schedule;
 use league::{League, Rule, Weight};
@@ -240,7 +241,22 @@ fn write_rules<W: Sink>(
     Ok(())
 }
 
+/// Writes the rule, and a line for each breach of it.
 fn write_rule<W: Sink>(
+    out: &mut BufferedSink<'_, W>,
+    schedule: &Schedule,
+    i: u64,
+    rule: &Rule,
+) -> Result<(), WriteFault>
+    requires few { i < 256 }
+    requires body { IsBodyFor schedule.now.teams rule.now.body }
+    ensures { Writes W.held W.tally out.old out.new result (rule_text schedule.now i rule.now) }
+{
+    write_rule_line(out, schedule, i, rule)?;
+    write_breaches(out, i, schedule, rule)
+}
+
+fn write_rule_line<W: Sink>(
     out: &mut BufferedSink<'_, W>,
     schedule: &Schedule,
     i: u64,

@@ -2,12 +2,12 @@
 //! Python's reader.
 
 use advice::hint_on;
-use commands::{Format, ProgramFault, report};
-use league::{LeagueFault, read_league};
+use commands::ProgramFault;
+use league::LeagueFault::{MissingField, WrongKind};
+use league::{Field, LeagueFault, read_league};
 use std::alloc::Global;
 use std::process::Abort;
 use std::test::Fail;
-use streams::{MemorySink, MemorySource};
 
 /// The members of four teams up to their distances, and from these on.
 const TEAMS: &str = r#"{"format":2,"teams":["A","B","C","D"],"distances":"#;
@@ -20,11 +20,19 @@ type Case = (&'static str, &'static str);
 const DISTANCES: &[Case] = &[
     (
         "[[0,1,2,1],[1,0,1,2],3,[1,2,1,0]]",
-        "see distances: row 3 is wrong, an array of numbers is wanted",
+        "see distances: row 3 is 3, an array of numbers is wanted",
     ),
     (
         "[[0,1],[1,0.5]]",
-        "see distances: row 2, column 2 is wrong, a whole number from 0 to 1000000 is wanted",
+        "see distances: row 2, column 2 is a floating-point number, a whole number from 0 to 1000000 is wanted",
+    ),
+    (
+        "[[0,-1],[1,0]]",
+        "see distances: row 1, column 2 is -1, a whole number from 0 to 1000000 is wanted",
+    ),
+    (
+        r#"[[0,"1"],[1,0]]"#,
+        r#"see distances: row 1, column 2 is "1", a whole number from 0 to 1000000 is wanted"#,
     ),
     ("[[0,1,2,1],[1,0,1,2]]", "see distances: 2 rows for 4 teams"),
     (
@@ -43,13 +51,16 @@ const DISTANCES: &[Case] = &[
         "[[0,1,2,1],[1,0,1,2],[2,1,0,1],[1,3,1,0]]",
         "see distances: 2 to 4 is 2, 4 to 2 is 3",
     ),
-    ("7", ""),
+    (
+        "7",
+        r#"see the league: member "distances" is 7, an array of arrays of numbers is wanted"#,
+    ),
 ];
 
 const RULES: &[Case] = &[
     (
         r#"{"class":"CA9"}"#,
-        r#"see rule 1: member "class" is wrong, CA1, CA2, CA3, CA4, GA1, BR1, BR2, SE1 or, in format 2, FA2 is wanted"#,
+        r#"see rule 1: member "class" is "CA9", CA1, CA2, CA3, CA4, GA1, BR1, BR2, SE1 or, in format 2, FA2 is wanted"#,
     ),
     (
         r#"{"kind":"hard"}"#,
@@ -61,7 +72,7 @@ const RULES: &[Case] = &[
     ),
     (
         r#"{"class":"SE1","kind":"Hard"}"#,
-        r#"see rule 1: member "kind" is wrong, "hard" or "soft" is wanted"#,
+        r#"see rule 1: member "kind" is "Hard", "hard" or "soft" is wanted"#,
     ),
     (
         r#"{"class":"SE1","kind":"soft","weight":0}"#,
@@ -69,7 +80,7 @@ const RULES: &[Case] = &[
     ),
     (
         r#"{"class":"SE1","kind":"soft","weight":1.5}"#,
-        r#"see rule 1: member "weight" is wrong, a whole number from 1 to 1000000 is wanted"#,
+        r#"see rule 1: member "weight" is a floating-point number, a whole number from 1 to 1000000 is wanted"#,
     ),
     (
         r#"{"class":"SE1","kind":"hard","teams":[1,5,6],"min":1}"#,
@@ -77,7 +88,7 @@ const RULES: &[Case] = &[
     ),
     (
         r#"{"class":"SE1","kind":"hard","teams":[1,"B",5],"min":1}"#,
-        r#"see rule 1: member "teams" is wrong, an array of team numbers from 1 to 4 is wanted"#,
+        r#"see rule 1: member "teams" has "B", an array of team numbers from 1 to 4 is wanted"#,
     ),
     (
         r#"{"class":"CA2","kind":"hard","teams1":1,"mode":"H","max":1}"#,
@@ -89,7 +100,7 @@ const RULES: &[Case] = &[
     ),
     (
         r#"{"class":"CA1","kind":"hard","teams":[1],"mode":"HA","max":1}"#,
-        r#"see rule 1: member "mode" is wrong, "H" or "A" is wanted"#,
+        r#"see rule 1: member "mode" is "HA", "H" or "A" is wanted"#,
     ),
     (
         r#"{"class":"BR1","kind":"hard","teams":[1],"intp":0}"#,
@@ -105,11 +116,27 @@ const RULES: &[Case] = &[
     ),
     (
         r#"{"class":"CA4","kind":"hard","teams1":[1],"mode":"H","mode2":"each","max":1}"#,
-        r#"see rule 1: member "mode2" is wrong, "EVERY" or "GLOBAL" is wanted"#,
+        r#"see rule 1: member "mode2" is "each", "EVERY" or "GLOBAL" is wanted"#,
     ),
     (
         r#"{"class":"GA1","kind":"hard","games":[[1,1]],"min":0,"max":1}"#,
-        r#"see rule 1: member "games" is wrong, an array of pairs of distinct team numbers from 1 to 4 is wanted"#,
+        r#"see rule 1: member "games" has [1, 1], an array of pairs of distinct team numbers from 1 to 4 is wanted"#,
+    ),
+    (
+        r#"{"class":"GA1","kind":"hard","games":[[1,2],[1,2,3]],"min":0,"max":1}"#,
+        r#"see rule 1: member "games" has an array of length 3, an array of pairs of distinct team numbers from 1 to 4 is wanted"#,
+    ),
+    (
+        r#"{"class":"GA1","kind":"hard","games":{},"min":0,"max":1}"#,
+        r#"see rule 1: member "games" is an object, an array of pairs of distinct team numbers from 1 to 4 is wanted"#,
+    ),
+    (
+        r#"{"class":"SE1","kind":"a\u0007bcdefghijklmnopqrstuvwxyz0123456789äöü"}"#,
+        r#"see rule 1: member "kind" is "a?bcdefghijklmnopqrstuvwxyz0123456789äöü", "hard" or "soft" is wanted"#,
+    ),
+    (
+        r#"{"class":"SE1","kind":"abcdefghijklmnopqrstuvwxyz0123456789äöü東京"}"#,
+        r#"see rule 1: member "kind" is "abcdefghijklmnopqrstuvwxyz0123456789äöü東..", "hard" or "soft" is wanted"#,
     ),
     (
         r#"{"class":"GA1","kind":"hard","games":[[1,2]],"min":2,"max":1}"#,
@@ -125,19 +152,19 @@ const RULES: &[Case] = &[
 const NAMES: &[Case] = &[
     (
         r#"["A","B","東京東京東京東京東京東京東京","D"]"#,
-        "see teams: number 3 has 42 bytes, a string of 1 to 40 bytes without control bytes is wanted",
+        "see teams: number 3 \"東京東京東京東京東京東京東京\" has 42 bytes, a string of 1 to 40 bytes without control bytes is wanted",
     ),
     (
         r#"["A","","C",""]"#,
-        "see teams: number 2 has 0 bytes, a string of 1 to 40 bytes without control bytes is wanted",
+        "see teams: number 2 \"\" has 0 bytes, a string of 1 to 40 bytes without control bytes is wanted",
     ),
     (
         r#"["A","B","C","D\t"]"#,
-        "see teams: number 4 has a control byte, a string of 1 to 40 bytes without control bytes is wanted",
+        "see teams: number 4 \"D?\" has a control byte, a string of 1 to 40 bytes without control bytes is wanted",
     ),
     (
         r#"[1,"","C","D"]"#,
-        "see teams: number 1 is wrong, a string of 1 to 40 bytes without control bytes is wanted",
+        "see teams: number 1 is 1, a string of 1 to 40 bytes without control bytes is wanted",
     ),
     (
         r#"["A","B","C","D","E"]"#,
@@ -147,7 +174,10 @@ const NAMES: &[Case] = &[
         "[]",
         "see teams: 0 of them, an even number from 4 to 40 is wanted",
     ),
-    ("4", ""),
+    (
+        "4",
+        r#"see the league: member "teams" is 4, an array of strings is wanted"#,
+    ),
 ];
 
 const TEXTS: &[Case] = &[
@@ -156,11 +186,80 @@ const TEXTS: &[Case] = &[
         "\u{feff}{\"format\": 1}",
         "see line 1: it begins with a byte order mark",
     ),
-    ("{}", ""),
-    ("[]", ""),
+    ("", "see the text: it is empty"),
+    (" \r\n\t", "see the text: it is empty"),
     (
         r#"{"format":1,"teams":["A","B","C","D"],"distances":[[0,1,1,1],[1,0,1,1],[1,1,0,1],[1,1,1,0]],"rules":[{"class":"FA2"}]}"#,
         r#"see rule 1: class FA2 needs "format": 2"#,
+    ),
+];
+
+/// What stands behind the distances of four teams, and the line.
+const MEMBERS: &[Case] = &[
+    (
+        r#""at_most":0"#,
+        r#"see the league: member "at_most" is 0, a whole number from 1 to 78 is wanted"#,
+    ),
+    (
+        r#""at_most":null"#,
+        r#"see the league: member "at_most" is null, a whole number from 1 to 78 is wanted"#,
+    ),
+    (
+        r#""hard_weight":1000001"#,
+        r#"see the league: member "hard_weight" is 1000001, a whole number from 1 to 1000000 is wanted"#,
+    ),
+    (
+        r#""rules":{"class":"SE1"}"#,
+        r#"see the league: member "rules" is an object, an array of objects is wanted"#,
+    ),
+    (
+        r#""rules":[{},["SE1"]]"#,
+        "see rule 2: it is an array of length 1, an object is wanted",
+    ),
+    (
+        r#""start":"FIDE""#,
+        r#"see the league: member "start" is "FIDE", "plain" or "fide" is wanted"#,
+    ),
+    (
+        r#""phased":"true""#,
+        r#"see the league: member "phased" is "true", true or false is wanted"#,
+    ),
+];
+
+/// A text, its fault, and the line.
+type Fault = (&'static str, LeagueFault, &'static str);
+
+/// A text for each fault of a league's members.
+const FAULTS: &[Fault] = &[
+    (
+        "[1, 2]",
+        WrongKind(Field::Whole),
+        "see the text: it is [1, 2], an object is wanted",
+    ),
+    (
+        "{}",
+        MissingField(Field::Format),
+        r#"see the league: member "format" is absent, a whole number from 1 to 2 is wanted"#,
+    ),
+    (
+        r#"{"format":3}"#,
+        WrongKind(Field::Format),
+        r#"see the league: member "format" is 3, a whole number from 1 to 2 is wanted"#,
+    ),
+    (
+        r#"{"format":1}"#,
+        MissingField(Field::Teams),
+        r#"see the league: member "teams" is absent, an array of strings is wanted"#,
+    ),
+    (
+        r#"{"format":1,"teams":false}"#,
+        WrongKind(Field::Teams),
+        r#"see the league: member "teams" is false, an array of strings is wanted"#,
+    ),
+    (
+        r#"{"format":1,"teams":[]}"#,
+        MissingField(Field::Distances),
+        r#"see the league: member "distances" is absent, an array of arrays of numbers is wanted"#,
     ),
 ];
 
@@ -183,6 +282,51 @@ fn text_that_is_no_league_has_its_place(rt: HostRuntime) -> Result<(), Fail> {
         check_hint(&rt, rt.alloc(), text, line)?;
     }
     Ok(())
+}
+
+#[test]
+fn text_that_is_no_utf8_has_its_line(rt: HostRuntime) -> Result<(), Fail> {
+    let text = b"{\"format\": 1,\n\"teams\": [\"A\xff\"]}";
+    let hint = hint_on(rt.alloc(), text, LeagueFault::NotJson)?;
+    let line = match hint {
+        Some(hint) => format!(in rt.alloc(); "{hint}")?,
+        None => String::new(rt.alloc()),
+    };
+    assert_eq!(&rt; line.as_str(), "see line 2: it is no UTF-8");
+    Ok(())
+}
+
+#[test]
+fn each_fault_of_a_member_has_its_line(rt: HostRuntime) -> Result<(), Fail> {
+    for &(text, fault, line) in FAULTS {
+        assert_eq!(&rt;
+            read_league(rt.alloc(), text.as_bytes()).err(),
+            Some(fault),
+            "{text}"
+        );
+        check_hint(&rt, rt.alloc(), text, line)?;
+    }
+    Ok(())
+}
+
+#[test]
+fn wrong_member_has_its_name(rt: HostRuntime) -> Result<(), Fail> {
+    for &(members, line) in MEMBERS {
+        let text = format!(in rt.alloc(); "{TEAMS}{CIRCLE},{members}}}")?;
+        check_hint(&rt, rt.alloc(), text.as_str(), line)?;
+    }
+    Ok(())
+}
+
+#[test]
+fn too_many_rules_are_counted(rt: HostRuntime) -> Result<(), Fail> {
+    let mut text = format!(in rt.alloc(); "{TEAMS}{CIRCLE},\"rules\":[{{}}")?;
+    for _ in 0..256 {
+        text.push_str(",{}")?;
+    }
+    text.push_str("]}")?;
+    let line = "see rules: 257 of them, at most 256 are wanted";
+    check_hint(&rt, rt.alloc(), text.as_str(), line)
 }
 
 #[test]
@@ -213,20 +357,21 @@ fn refused_rule_has_its_member_and_what_is_wanted(rt: HostRuntime) -> Result<(),
 }
 
 #[test]
-fn report_of_a_refused_league_says_both(rt: HostRuntime) -> Result<(), Fail> {
-    let input = format!(in rt.alloc(); "{TEAMS}[[0,1],[1,0.5]]}}\nsheet\n")?;
-    let mut room = [0; 10];
-    let mut sink = MemorySink::new(&mut room);
-    let source = MemorySource::new(input.as_bytes());
-    let fault = match report(rt.alloc(), source, &mut sink, Format::Text) {
-        Ok(_) => ProgramFault::Memory,
+fn fault_and_hint_stand_on_two_lines(rt: HostRuntime) -> Result<(), Fail> {
+    let text = format!(in rt.alloc(); "{TEAMS}[[0,1],[1,0.5]]}}")?;
+    let fault = match read_league(rt.alloc(), text.as_bytes()) {
+        Ok(_) => LeagueFault::Memory,
         Err(fault) => fault,
     };
-    let said = format!(in rt.alloc(); "{fault}")?;
+    let told = match commands::hint_on(rt.alloc(), text.as_bytes(), fault)? {
+        Some(hint) => ProgramFault::LeagueAt(fault, hint),
+        None => ProgramFault::League(fault),
+    };
+    let said = format!(in rt.alloc(); "{told}")?;
     assert_eq!(&rt;
         said.as_str(),
         "league member distances is wrong\n\
-         ttp: see distances: row 2, column 2 is wrong, a whole number from 0 to 1000000 is wanted"
+         ttp: see distances: row 2, column 2 is a floating-point number, a whole number from 0 to 1000000 is wanted"
     );
     Ok(())
 }

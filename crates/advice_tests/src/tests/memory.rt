@@ -3,7 +3,7 @@
 //! `rt try --test --fail-alloc N` refuses the Nth allocation of each test. A test `.._tells_refused_memory` passes at
 //! every N; `.._with_ample_memory` fails while N is among its allocations.
 
-use advice::{Hint, Place, Seen, Wanted, hint_on, remarks_on};
+use advice::{Form, Hint, Place, Seen, Wanted, hint_on, remarks_on};
 use league::LeagueFault::{self, Diagonal, NotJson};
 use std::alloc::{AllocError, Global};
 use std::process::Abort;
@@ -17,7 +17,11 @@ const HINTS: [Case; 2] = [
     (
         r#"{"format":1,"teams":["A","B","C","D"],"distances":[[0,1,2,1],[1,0,1,2],[2,1,5,1],[1,2,1,0]]}"#,
         Diagonal,
-        Hint::Value(Place::Distance(3, 3), Seen::Number(5), Wanted::Exactly(0)),
+        Hint::Value(
+            Place::Distance(3, 3),
+            Seen::Value(Form::Whole(5)),
+            Wanted::Exactly(0),
+        ),
     ),
     (
         "{\"format\": 1,\n \"teams\": [,]}",

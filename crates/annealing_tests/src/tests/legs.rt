@@ -7,6 +7,7 @@ use crate::tests::chains::{Asked, MILD, WEIGHTS, annealed, board_of};
 use crate::tests::checks::{check_holds_of, check_same};
 use crate::tests::leagues::SAMPLES;
 use annealing::Annealed;
+use fixture_board::{Board, Cost};
 use policy::{Leg, MoveSet};
 use std::alloc::Global;
 use std::process::Abort;
@@ -21,33 +22,44 @@ const MOVE_SETS: [MoveSet; 5] = [
     MoveSet::WideRepair,
 ];
 
-/// The figures are those of the history, which another board takes, and all moves are of the leg's set.
-fn check_leg<R: Wait + Abort>(rt: &R, alloc: Global, asked: Asked) -> Result<(), Fail>
-    requires { IsLeg asked.leg }
-{
-    let Annealed { chain, end } = annealed(rt, alloc, asked)?;
-    check_replay(
-        rt,
-        &mut board_of(alloc, asked.sample, asked.room)?,
-        &chain.board,
-    );
-    let best = chain.board.best().map(|best| best.total);
-    check_same(rt, &(end.hard, end.best), &(chain.board.cost().hard, best));
+/// The figures of a leg are those of its board, and the weight is within its limits.
+fn check_figures(rt: &impl Abort, asked: Asked, found: &Annealed) {
+    let (board, end, weight) = (&found.chain.board, found.end, found.chain.weight);
+    let best = board.best().map(|best| best.total);
+    check_same(rt, &(end.hard, end.best), &(board.cost().hard, best));
     check_same(
         rt,
         &(end.steps, end.accepted),
-        &(asked.leg.steps, chain.board.version()),
+        &(asked.leg.steps, board.version()),
     );
-    for i in 0..chain.board.version() {
-        let kind = moved(rt, chain.board.entry(i)).kind();
-        check_holds_of(rt, &(asked, kind), asked.leg.moves.kinds().contains(&kind));
-    }
     check_holds_of(
         rt,
-        &chain.weight,
-        (WEIGHTS.least..=WEIGHTS.most).contains(&chain.weight),
+        &weight,
+        (WEIGHTS.least..=WEIGHTS.most).contains(&weight),
     );
+}
+
+/// All moves of the history are of the leg's set.
+fn check_kinds(rt: &impl Abort, asked: Asked, board: &Board) {
+    for i in 0..board.version() {
+        let kind = moved(rt, board.entry(i)).kind();
+        check_holds_of(rt, &(asked, kind), asked.leg.moves.kinds().contains(&kind));
+    }
+}
+
+/// The history leads another board to the same.
+fn check_history(rt: &impl Abort, alloc: Global, asked: Asked, board: &Board) -> Result<(), Fail> {
+    check_replay(rt, &mut board_of(alloc, asked.sample, asked.room)?, board);
     Ok(())
+}
+
+fn check_leg<R: Wait + Abort>(rt: &R, alloc: Global, asked: Asked) -> Result<(), Fail>
+    requires { IsLeg asked.leg }
+{
+    let found = annealed(rt, alloc, asked)?;
+    check_figures(rt, asked, &found);
+    check_kinds(rt, asked, &found.chain.board);
+    check_history(rt, alloc, asked, &found.chain.board)
 }
 
 #[test]
@@ -69,24 +81,45 @@ fn legs_of_each_set_in_each_league(rt: HostRuntime) -> Result<(), Fail> {
     Ok(())
 }
 
+/// Another leg by the same words has the same history.
+fn check_again<R: Wait + Abort>(
+    rt: &R,
+    alloc: Global,
+    asked: Asked,
+    first: &Annealed,
+) -> Result<(), Fail>
+    requires { IsLeg asked.leg }
+{
+    let again = annealed(rt, alloc, asked)?;
+    check_same_board(rt, &first.chain.board, &again.chain.board);
+    check_same(
+        rt,
+        &(first.end, first.chain.weight),
+        &(again.end, again.chain.weight),
+    );
+    Ok(())
+}
+
 #[test]
 fn equal_words_lead_to_equal_histories(rt: HostRuntime) -> Result<(), Fail> {
     let first = annealed(&rt, rt.alloc(), MILD)?;
-    let second = annealed(&rt, rt.alloc(), MILD)?;
-    check_same_board(&rt, &first.chain.board, &second.chain.board);
-    check_same(
-        &rt,
-        &(first.end, first.chain.weight),
-        &(second.end, second.chain.weight),
-    );
+    check_again(&rt, rt.alloc(), MILD, &first)
+}
+
+/// How many moves a leg made, and what its schedule costs.
+fn figures<R: Wait>(rt: &R, alloc: Global, asked: Asked) -> Result<(u64, Cost), Fail>
+    requires { IsLeg asked.leg }
+{
+    let found = annealed(rt, alloc, asked)?;
+    Ok((found.end.accepted, found.chain.board.cost()))
+}
+
+#[test]
+fn other_words_lead_to_other_histories(rt: HostRuntime) -> Result<(), Fail> {
+    let first = figures(&rt, rt.alloc(), MILD)?;
     for other in [Asked { seed: 2, ..MILD }, Asked { stream: 1, ..MILD }] {
-        let other = annealed(&rt, rt.alloc(), other)?;
-        let accepted = (first.end.accepted, first.chain.board.cost());
-        check_holds_of(
-            &rt,
-            &accepted,
-            (other.end.accepted, other.chain.board.cost()) != accepted,
-        );
+        let found = figures(&rt, rt.alloc(), other)?;
+        check_holds_of(&rt, &found, found != first);
     }
     Ok(())
 }

@@ -7,31 +7,37 @@ use crate::tests::boards::{check_same_board, moved};
 use crate::tests::chains::{Asked, MILD, annealed, board_of};
 use crate::tests::checks::{check_holds_of, check_same};
 use crate::tests::leagues::Sample;
-use crate::tests::twin::twin_of;
-use fixture_board::Trial;
-use policy::{Course, Leg, MoveSet};
+use crate::tests::twin::{Twin, twin_of};
+use fixture_board::{Board, Trial};
+use policy::{Course, Leg, LegEnd, MoveSet};
 use std::alloc::Global;
 use std::process::Abort;
 use std::sync::Wait;
 use std::test::Fail;
 
-/// The leg's blocks are of these temperatures, in millionths of the unit, and of these steps.
+/// A twin after blocks of these temperatures, in millionths of the unit, and of these steps.
+fn twin_after(alloc: Global, asked: Asked, blocks: &[(u128, u32)]) -> Result<Twin, Fail> {
+    let mut twin = twin_of(alloc, asked)?;
+    for (heat, steps) in blocks {
+        twin.take_block(asked.leg.moves.kinds(), *heat, *steps);
+    }
+    Ok(twin)
+}
+
+/// The leg has these blocks. Tells what it came to.
 fn check_blocks<R: Wait + Abort>(
     rt: &R,
     alloc: Global,
     asked: Asked,
     blocks: &[(u128, u32)],
-) -> Result<(), Fail>
+) -> Result<LegEnd, Fail>
     requires { IsLeg asked.leg }
 {
+    let twin = twin_after(alloc, asked, blocks)?;
     let found = annealed(rt, alloc, asked)?;
-    let mut twin = twin_of(alloc, asked)?;
-    for (heat, steps) in blocks {
-        twin.take_block(asked.leg.moves.kinds(), *heat, *steps);
-    }
     check_same_board(rt, &found.chain.board, &twin.board);
     check_same(rt, &u128::from(found.chain.weight), &twin.weight);
-    Ok(())
+    Ok(found.end)
 }
 
 #[test]
@@ -44,7 +50,8 @@ fn legs_cool_block_by_block(rt: HostRuntime) -> Result<(), Fail> {
         (330_000, 1000),
         (240_000, 1000),
     ];
-    check_blocks(&rt, rt.alloc(), MILD, &blocks)
+    check_blocks(&rt, rt.alloc(), MILD, &blocks)?;
+    Ok(())
 }
 
 #[test]
@@ -58,7 +65,8 @@ fn last_blocks_may_be_shorter(rt: HostRuntime) -> Result<(), Fail> {
         steps: 2500,
     };
     let blocks = [(1_500_000, 1000), (1_100_000, 1000), (700_000, 500)];
-    check_blocks(&rt, rt.alloc(), Asked { leg, ..MILD }, &blocks)
+    check_blocks(&rt, rt.alloc(), Asked { leg, ..MILD }, &blocks)?;
+    Ok(())
 }
 
 const HEATING: Leg = Leg {
@@ -77,8 +85,7 @@ fn feasible_chains_heat_for_a_block(rt: HostRuntime) -> Result<(), Fail> {
         leg: HEATING,
         ..MILD
     };
-    check_blocks(&rt, rt.alloc(), asked, &[(1_000_000, 1000)])?;
-    let end = annealed(&rt, rt.alloc(), asked)?.end;
+    let end = check_blocks(&rt, rt.alloc(), asked, &[(1_000_000, 1000)])?;
     check_same(&rt, &(end.steps, end.hottest), &(1000, 1000));
     Ok(())
 }
@@ -100,8 +107,7 @@ fn other_chains_heat_until_half_of_the_steps(rt: HostRuntime) -> Result<(), Fail
         (5_000_000, 1000),
         (5_000_000, 1000),
     ];
-    check_blocks(&rt, rt.alloc(), asked, &blocks)?;
-    let end = annealed(&rt, rt.alloc(), asked)?.end;
+    let end = check_blocks(&rt, rt.alloc(), asked, &blocks)?;
     check_same(
         &rt,
         &(end.steps, end.hottest, end.best),
@@ -129,7 +135,24 @@ fn even(heat: u32, steps: u64) -> Asked
 #[test]
 fn all_that_can_be_made_is_made_where_it_is_hot(rt: HostRuntime) -> Result<(), Fail> {
     // the twin lets each score rise as far as it will
-    check_blocks(&rt, rt.alloc(), even(u32::MAX, 1000), &[(u128::MAX, 1000)])
+    check_blocks(&rt, rt.alloc(), even(u32::MAX, 1000), &[(u128::MAX, 1000)])?;
+    Ok(())
+}
+
+/// No move of the history raised the score by the weight.
+fn check_falls(rt: &impl Abort, again: &mut Board, played: &Board, weight: u32)
+    requires { 1 ≤ weight }
+{
+    for i in 0..played.version() {
+        let mv = moved(rt, played.entry(i));
+        let trial = Trial {
+            mv,
+            weight,
+            rise: 0,
+        };
+        check_same(rt, &(i, again.try_move(0, trial).is_some()), &(i, true));
+    }
+    check_holds_of(rt, &played.version(), played.version() > 0);
 }
 
 #[test]
@@ -137,16 +160,6 @@ fn no_score_rises_at_zero(rt: HostRuntime) -> Result<(), Fail> {
     let found = annealed(&rt, rt.alloc(), even(0, 1000))?;
     let mut board = board_of(rt.alloc(), Sample::Circle, MILD.room)?;
     // the weight is the whole part of 2 * 128 / 56
-    let weight = 4;
-    for i in 0..found.chain.board.version() {
-        let mv = moved(&rt, found.chain.board.entry(i));
-        let trial = Trial {
-            mv,
-            weight,
-            rise: 0,
-        };
-        check_same(&rt, &(i, board.try_move(0, trial).is_some()), &(i, true));
-    }
-    check_holds_of(&rt, &found.end, found.end.accepted > 0);
+    check_falls(&rt, &mut board, &found.chain.board, 4);
     Ok(())
 }

@@ -77,6 +77,12 @@ impl Twin {
         self.adapt(feasible, steps);
     }
 
+    /// Goes back to the start of the league.
+    pub(crate) fn begin_anew(&mut self, alloc: Global) -> Result<(), Fail> {
+        self.board = self.board.anew(alloc)?;
+        Ok(())
+    }
+
     /// Draws a threshold and then a move, and tries the move.
     fn step(&mut self, kinds: &'static [MoveKind], temperature: u128, weight: u32) {
         let quantile = QUANTILES[(self.generator.next_u32() >> 24) as usize];

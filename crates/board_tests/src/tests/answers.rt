@@ -93,29 +93,3 @@ pub(crate) fn travels(rt: &impl Abort, board: &Board) -> [u64; 4] {
         travel_of(schedule, league, 3),
     ]
 }
-
-/// Whether a team of two schedules has each game in the same round.
-fn plays_alike(one: &Schedule, other: &Schedule, team: u8) -> bool {
-    if team >= one.teams() || team >= other.teams() || one.teams() != other.teams() {
-        return false;
-    }
-    for round in 0..one.rounds() {
-        if one.game_at(team, round) != other.game_at(team, round) {
-            return false;
-        }
-    }
-    true
-}
-
-/// Whether two schedules have each game in the same round.
-pub(crate) fn have_same_games(one: &Schedule, other: &Schedule) -> bool {
-    if one.teams() != other.teams() || one.rounds() != other.rounds() {
-        return false;
-    }
-    for team in 0..one.teams() {
-        if !plays_alike(one, other, team) {
-            return false;
-        }
-    }
-    true
-}

@@ -14,6 +14,11 @@ pub(crate) fn check_same<T: PartialEq + Debug>(rt: &impl Abort, found: &T, wante
     assert_eq!(rt; found, wanted);
 }
 
+/// Something holds, which is about this.
+pub(crate) fn check_holds(rt: &impl Abort, about: &impl Debug, holds: bool) {
+    assert!(rt; holds, "{about:?}");
+}
+
 /// What is asked by a call of its own is answered so.
 pub(crate) fn check_ask(rt: &impl Abort, board: &mut Board, caller: u32, ask: Ask, reply: Reply) {
     check_same(rt, &(ask, ask_board(board, caller, ask)), &(ask, reply));

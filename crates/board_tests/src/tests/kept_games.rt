@@ -173,30 +173,37 @@ fn check_drawn(rt: &impl Abort, board: &mut Board, known: &mut Known, ask: Ask) 
     check_standing(rt, board, &known.standing);
 }
 
-/// A new board of the league, and what is known of it.
-fn begun(alloc: Global, league: League) -> Result<(Board, Known), Fail> {
-    let mut unpriced = league.duplicate(alloc)?;
-    unpriced.set_near(0);
-    let standing = league.kept().duplicate();
-    let board = Board::new(alloc, league, 2048)?;
-    let known = Known {
+/// A new board of a league that is drawn.
+fn new_board(alloc: Global, state: &mut u64, teams: u8) -> Result<Board, Fail> {
+    let league = beginning(alloc, state, teams)?;
+    Ok(Board::new(alloc, league, 2048)?)
+}
+
+/// The league without a price.
+fn unpriced(alloc: Global, league: &League) -> Result<League, Fail> {
+    let mut league = league.duplicate(alloc)?;
+    league.set_near(0);
+    Ok(league)
+}
+
+/// What is known of a new board.
+fn known_of(alloc: Global, board: &Board) -> Result<Known, Fail> {
+    let copy = board.schedule().duplicate(alloc)?;
+    let unpriced = unpriced(alloc, board.league())?;
+    Ok(Known {
         unpriced,
-        standing,
-        best: best_now(&board, None),
-        copy: board.schedule().duplicate(alloc)?,
-    };
-    Ok((board, known))
+        standing: board.league().kept().duplicate(),
+        best: best_now(board, None),
+        copy,
+    })
 }
 
 /// After each of 1,000 changes that are drawn.
-fn drawn_board(rt: &impl Abort, alloc: Global, state: &mut u64, teams: u8) -> Result<Board, Fail> {
-    let league = beginning(alloc, state, teams)?;
-    let (mut board, mut known) = begun(alloc, league)?;
+fn check_changes(rt: &impl Abort, board: &mut Board, known: &mut Known, state: &mut u64) {
     for _ in 0..1000 {
-        let ask = drawn_ask(&board, state);
-        check_drawn(rt, &mut board, &mut known, ask);
+        let ask = drawn_ask(board, state);
+        check_drawn(rt, board, known, ask);
     }
-    Ok(board)
 }
 
 /// Whether both boards have the same games at home of the team pinned.
@@ -223,17 +230,22 @@ pub(crate) fn check_same_boards(rt: &impl Abort, one: &Board, other: &Board) {
     }
 }
 
-/// The history as a script for a new board of the league leads to the same.
-fn check_replayed(rt: &impl Abort, alloc: Global, board: &Board) -> Result<(), Fail> {
-    let league = board.league().duplicate(alloc)?;
-    let mut other = Board::new(alloc, league, board.room())?;
+/// The history as a script for a new board leads to the same.
+fn check_replay(rt: &impl Abort, new: &mut Board, board: &Board) {
     for i in 0..board.version() {
         let ask = Ask::of(board.entry(i).change, i, u64::MAX);
-        let reply = other.answer(0, ask);
+        let reply = new.answer(0, ask);
         let is_granted = matches!(reply, Reply::Done { .. });
         check_same(rt, &(i, is_granted), &(i, true));
     }
-    check_same_boards(rt, &other, board);
+    check_same_boards(rt, new, board);
+}
+
+fn check_board(rt: &impl Abort, alloc: Global, state: &mut u64, teams: u8) -> Result<(), Fail> {
+    let mut board = new_board(alloc, state, teams)?;
+    let mut known = known_of(alloc, &board)?;
+    check_changes(rt, &mut board, &mut known, state);
+    check_replay(rt, &mut board.anew(alloc)?, &board);
     Ok(())
 }
 
@@ -241,8 +253,7 @@ fn check_replayed(rt: &impl Abort, alloc: Global, board: &Board) -> Result<(), F
 fn drawn_changes_of_a_given_start(rt: HostRuntime) -> Result<(), Fail> {
     let mut state = 3;
     for teams in [4, 6, 10, 20, 40] {
-        let board = drawn_board(&rt, rt.alloc(), &mut state, teams)?;
-        check_replayed(&rt, rt.alloc(), &board)?;
+        check_board(&rt, rt.alloc(), &mut state, teams)?;
     }
     Ok(())
 }
@@ -265,19 +276,27 @@ fn ask_both<R: Wait + Abort>(
     }
 }
 
+/// A seat of the board that begins anew is answered as the board.
+fn check_seat<R: Wait + Abort>(
+    rt: &R,
+    alloc: Global,
+    state: &mut u64,
+    board: &mut Board,
+) -> Result<(), Fail> {
+    let (shared, mut seat) = Shared::new(alloc, board.anew(alloc)?)?;
+    ask_both(rt, &shared, &mut seat, board, state);
+    check_same_boards(rt, &close(rt, shared, seat, true), board);
+    Ok(())
+}
+
 fn check_shared<R: Wait + Abort>(
     rt: &R,
     alloc: Global,
     state: &mut u64,
     teams: u8,
 ) -> Result<(), Fail> {
-    let league = beginning(alloc, state, teams)?;
-    let mut board = Board::new(alloc, league.duplicate(alloc)?, 2048)?;
-    let (shared, mut seat) = Shared::new(alloc, Board::new(alloc, league, 2048)?)?;
-    ask_both(rt, &shared, &mut seat, &mut board, state);
-    let closed = close(rt, shared, seat, true);
-    check_same_boards(rt, &closed, &board);
-    Ok(())
+    let mut board = new_board(alloc, state, teams)?;
+    check_seat(rt, alloc, state, &mut board)
 }
 
 #[test]

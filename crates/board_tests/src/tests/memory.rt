@@ -7,14 +7,14 @@ use crate::tests::questions::{homes, shift, undo};
 use fixture_board::{Board, BoardFault, Change};
 use league::circular;
 use shared_board::Shared;
+use std::alloc::Global;
 use std::process::Abort;
 use std::test::Fail;
 
 #[test]
-fn a_board_with_ample_memory(rt: HostRuntime) -> Result<(), Fail> {
-    let board = Board::new(rt.alloc(), circular(rt.alloc(), 4)?, 8)?;
+fn a_board_with_ample_memory(rt: HostRuntime) {
+    let board = circle(rt.alloc()).expect(&rt, "a board");
     check_same(&rt, &board.room(), &8);
-    Ok(())
 }
 
 #[test]
@@ -87,26 +87,47 @@ fn check_begun(rt: &impl Abort, board: &Board) {
     check_same(rt, &board.room(), &8);
 }
 
-#[test]
-fn boards_of_a_board_with_ample_memory(rt: HostRuntime) -> Result<(), Fail> {
-    let mut board = circle(rt.alloc()).expect(&rt, "a board");
+/// A board where the home rights of two teams are exchanged, if there is memory.
+fn exchanged(alloc: Global) -> Option<Board> {
+    let mut board = circle(alloc)?;
     shift(&mut board, homes(1, 2));
-    check_exchanged(&rt, &board.duplicate(rt.alloc())?);
-    check_begun(&rt, &board.anew(rt.alloc())?);
-    Ok(())
+    Some(board)
+}
+
+/// Whether there is memory for a second board, which shows the same.
+fn has_duplicate(rt: &impl Abort, alloc: Global, board: &Board) -> bool {
+    let Ok(second) = board.duplicate(alloc) else {
+        return false;
+    };
+    check_exchanged(rt, &second);
+    true
+}
+
+/// Whether there is memory for a board that begins anew.
+fn has_anew(rt: &impl Abort, alloc: Global, board: &Board) -> bool {
+    let Ok(anew) = board.anew(alloc) else {
+        return false;
+    };
+    check_begun(rt, &anew);
+    true
+}
+
+/// Whether there is memory for a board and for both boards of it.
+fn has_boards(rt: &impl Abort, alloc: Global) -> bool {
+    let Some(board) = exchanged(alloc) else {
+        return false;
+    };
+    let has_both = has_duplicate(rt, alloc, &board) & has_anew(rt, alloc, &board);
+    check_exchanged(rt, &board);
+    has_both
+}
+
+#[test]
+fn boards_of_a_board_with_ample_memory(rt: HostRuntime) {
+    check_same(&rt, &has_boards(&rt, rt.alloc()), &true);
 }
 
 #[test]
 fn refused_memory_makes_no_board_of_a_board(rt: HostRuntime) {
-    let Some(mut board) = circle(rt.alloc()) else {
-        return;
-    };
-    shift(&mut board, homes(1, 2));
-    if let Ok(second) = board.duplicate(rt.alloc()) {
-        check_exchanged(&rt, &second);
-    }
-    if let Ok(anew) = board.anew(rt.alloc()) {
-        check_begun(&rt, &anew);
-    }
-    check_exchanged(&rt, &board);
+    has_boards(&rt, rt.alloc());
 }

@@ -2,7 +2,7 @@
 //! seats were dropped. The answers were worked out by hand.
 
 use crate::tests::answers::Answer::{Done, No};
-use crate::tests::answers::{have_same_games, seen, travel};
+use crate::tests::answers::{seen, travel};
 use crate::tests::boards::four;
 use crate::tests::checks::{check_cost, check_same, check_version};
 use crate::tests::questions::{Asked, propose};
@@ -99,9 +99,9 @@ fn a_dropped_seat_makes_the_board_not_whole(rt: HostRuntime) -> Result<(), Fail>
     let (shared, mut a, start) = four(rt.alloc())?;
     drop(split(&rt, &shared, &mut a)?);
     let mut copy = berger_fide(rt.alloc(), 4)?;
-    check_same(&rt, &have_same_games(&copy, &start), &false);
+    check_same(&rt, &copy.is_same(&start), &false);
     check_look(&rt, &shared, &mut a, &mut copy, &seen(0, 30));
-    check_same(&rt, &have_same_games(&copy, &start), &true);
+    check_same(&rt, &copy.is_same(&start), &true);
     let board = close(&rt, shared, a, false);
     check_version(&rt, &board, 0);
     Ok(())

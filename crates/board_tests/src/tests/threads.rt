@@ -3,7 +3,6 @@
 ghost use Rattle.std.specs.Prelude.{◌≡◌, ◌<◌, IfSome};
 ghost use Rattle.std.specs.Thread.{IsSync};
 
-use crate::tests::answers::have_same_games;
 use crate::tests::boards::board;
 use crate::tests::checks::{check_same, check_version};
 use crate::tests::drawn_numbers::{next_word, part};
@@ -137,8 +136,8 @@ fn check_run<R: Threads + Wait + Sync + Abort>(
 
 fn check_replay(rt: &impl Abort, alloc: Global, changed: &Board) -> Result<(), Fail> {
     let board = replayed(rt, alloc, changed)?;
-    let has_same_games = have_same_games(board.schedule(), changed.schedule());
-    check_same(rt, &has_same_games, &true);
+    let is_same = board.schedule().is_same(changed.schedule());
+    check_same(rt, &is_same, &true);
     check_same(rt, &board.cost(), &changed.cost());
     check_same(rt, &board.best(), &changed.best());
     Ok(())

@@ -2,7 +2,7 @@
 
 ghost use Rattle.std.specs.Prelude.{◌≤◌};
 
-use crate::tests::checks::{check_entry, check_same};
+use crate::tests::checks::{check_entry, check_holds, check_same};
 use crate::tests::drawn_asks::drawn_ask;
 use crate::tests::drawn_numbers::{among, drawn, drawn_move};
 use crate::tests::kept_cost::{league, league_with};
@@ -116,6 +116,19 @@ fn try_drawn(
     Ok(made)
 }
 
+/// Tries so many drawn moves on a new board of the league. Tells how many were made, and the version in the end.
+fn tried(
+    rt: &impl Abort,
+    alloc: Global,
+    (league, room): (League, u32),
+    state: &mut u64,
+    count: u64,
+) -> Result<(u64, u64), Fail> {
+    let mut board = Board::new(alloc, league, room)?;
+    let made = try_drawn(rt, alloc, &mut board, state, count)?;
+    Ok((made, board.version()))
+}
+
 /// On a board with ample room, where a tenth of the moves at least is made and a tenth isn't.
 fn check_league(
     rt: &impl Abort,
@@ -124,13 +137,10 @@ fn check_league(
     state: &mut u64,
     count: u64,
 ) -> Result<(), Fail> {
-    let mut board = Board::new(alloc, league, 4096)?;
-    let made = try_drawn(rt, alloc, &mut board, state, count)?;
+    let (made, _) = tried(rt, alloc, (league, 4096), state, count)?;
     let tenth = count / 10;
-    assert!(rt;
-        made >= tenth && count.saturating_sub(made) >= tenth,
-        "{made} of {count}"
-    );
+    let unmade = count.saturating_sub(made);
+    check_holds(rt, &(made, count), made >= tenth && unmade >= tenth);
     Ok(())
 }
 
@@ -162,9 +172,8 @@ fn trials_where_games_are_kept(rt: HostRuntime) -> Result<(), Fail> {
     let mut state = 3;
     for &(teams, count) in SIZES {
         let league = beginning(rt.alloc(), &mut state, teams)?;
-        let mut board = Board::new(rt.alloc(), league, 4096)?;
-        let made = try_drawn(&rt, rt.alloc(), &mut board, &mut state, count)?;
-        assert!(rt; made > 0, "{teams} teams");
+        let (made, _) = tried(&rt, rt.alloc(), (league, 4096), &mut state, count)?;
+        check_holds(&rt, &teams, made > 0);
     }
     Ok(())
 }
@@ -176,9 +185,9 @@ const ROOMS: &[u32] = &[0, 1, 9, 40];
 fn trials_until_there_is_no_room(rt: HostRuntime) -> Result<(), Fail> {
     let mut state = 4;
     for &room in ROOMS {
-        let mut board = Board::new(rt.alloc(), league(rt.alloc(), 6)?, room)?;
-        try_drawn(&rt, rt.alloc(), &mut board, &mut state, 300)?;
-        check_same(&rt, &board.version(), &u64::from(room));
+        let league = league(rt.alloc(), 6)?;
+        let (_, version) = tried(&rt, rt.alloc(), (league, room), &mut state, 300)?;
+        check_same(&rt, &version, &u64::from(room));
     }
     Ok(())
 }
@@ -191,11 +200,15 @@ fn check_equal(rt: &impl Abort, one: &Board, other: &Board) {
     for i in 0..one.version().min(other.version()) {
         check_same(rt, &(i, one.entry(i)), &(i, other.entry(i)));
     }
-    let same_best = match (one.best_schedule(), other.best_schedule()) {
+    check_same(rt, &have_same_best(one, other), &true);
+}
+
+/// Whether both boards have the same best schedule, or none.
+fn have_same_best(one: &Board, other: &Board) -> bool {
+    match (one.best_schedule(), other.best_schedule()) {
         (Some(one), Some(other)) => one.is_same(other),
         (one, other) => one.is_none() && other.is_none(),
-    };
-    check_same(rt, &same_best, &true);
+    }
 }
 
 /// A drawn board after some trials.
@@ -205,52 +218,57 @@ fn drawn_board(rt: &impl Abort, alloc: Global, state: &mut u64, teams: u8) -> Re
     Ok(board)
 }
 
-/// What is done on the second board leaves the first as it was, and done on that too leads to the same.
+/// The same done on two boards that show the same leads to the same.
+fn check_alike(
+    rt: &impl Abort,
+    alloc: Global,
+    one: &mut Board,
+    other: &mut Board,
+    mut state: u64,
+) -> Result<(), Fail> {
+    check_equal(rt, one, other);
+    let mut same = state;
+    try_drawn(rt, alloc, one, &mut state, 200)?;
+    try_drawn(rt, alloc, other, &mut same, 200)?;
+    check_equal(rt, one, other);
+    Ok(())
+}
+
+/// A second board is as the first.
 fn check_duplicate(
     rt: &impl Abort,
     alloc: Global,
     board: &mut Board,
-    mut state: u64,
+    state: u64,
 ) -> Result<(), Fail> {
-    let before = board.duplicate(alloc)?;
     let mut second = board.duplicate(alloc)?;
-    check_equal(rt, &second, board);
-    let mut same = state;
-    try_drawn(rt, alloc, &mut second, &mut state, 200)?;
-    check_equal(rt, board, &before);
-    try_drawn(rt, alloc, board, &mut same, 200)?;
-    check_equal(rt, board, &second);
-    Ok(())
+    check_alike(rt, alloc, &mut second, board, state)
 }
 
-#[test]
-fn a_second_board_goes_its_own_way(rt: HostRuntime) -> Result<(), Fail> {
-    let mut state = 5;
-    for teams in [4, 6, 10, 40] {
-        let mut board = drawn_board(&rt, rt.alloc(), &mut state, teams)?;
-        check_duplicate(&rt, rt.alloc(), &mut board, state)?;
-    }
-    Ok(())
+/// A new board of the league of another one.
+fn new_board(alloc: Global, board: &Board) -> Result<Board, Fail> {
+    let league = board.league().duplicate(alloc)?;
+    Ok(Board::new(alloc, league, board.room())?)
 }
 
 /// A board that begins anew is as one that is made of the league.
-fn check_anew(rt: &impl Abort, alloc: Global, board: &Board, mut state: u64) -> Result<(), Fail> {
-    let mut anew = board.anew(alloc)?;
-    let mut first = Board::new(alloc, board.league().duplicate(alloc)?, board.room())?;
-    check_equal(rt, &anew, &first);
-    let mut same = state;
-    try_drawn(rt, alloc, &mut anew, &mut state, 200)?;
-    try_drawn(rt, alloc, &mut first, &mut same, 200)?;
-    check_equal(rt, &anew, &first);
+fn check_anew(rt: &impl Abort, alloc: Global, board: &Board) -> Result<(), Fail> {
+    let first = new_board(alloc, board)?;
+    check_equal(rt, &board.anew(alloc)?, &first);
     Ok(())
 }
 
+fn check_boards(rt: &impl Abort, alloc: Global, state: &mut u64, teams: u8) -> Result<(), Fail> {
+    let mut board = drawn_board(rt, alloc, state, teams)?;
+    check_anew(rt, alloc, &board)?;
+    check_duplicate(rt, alloc, &mut board, *state)
+}
+
 #[test]
-fn a_board_anew_begins_at_the_start(rt: HostRuntime) -> Result<(), Fail> {
-    let mut state = 6;
+fn boards_of_a_board_begin_and_go_on_as_it(rt: HostRuntime) -> Result<(), Fail> {
+    let mut state = 5;
     for teams in [4, 6, 10, 40] {
-        let board = drawn_board(&rt, rt.alloc(), &mut state, teams)?;
-        check_anew(&rt, rt.alloc(), &board, state)?;
+        check_boards(&rt, rt.alloc(), &mut state, teams)?;
     }
     Ok(())
 }

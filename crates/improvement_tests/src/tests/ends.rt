@@ -1,5 +1,6 @@
 //! Improvements that end early, and one without a feasible schedule.
 
+use super::legs::number_behind;
 use super::{Improved, asked, check_same, impossible, improved_by, improvement_of};
 use improvement::ImproveFault;
 use league::{LeagueFault, circular};
@@ -8,7 +9,7 @@ use std::process::Abort;
 use std::sync::Wait;
 use std::thread::Threads;
 use streams::Step;
-use texts::split_at_line;
+use texts::{next_line, split_at_line};
 
 /// How an improvement of four teams by so many workers ends whose writes go by these steps.
 fn ended<T: Threads + Wait + Sync>(
@@ -106,6 +107,35 @@ fn wrong_numbers_of_workers_write_nothing(rt: HostRuntime) {
             &(Err(ImproveFault::Workers), 0),
         );
     }
+}
+
+/// How many chains the legs of a text have, and the line before its history.
+fn chains_told(text: &[u8]) -> (u64, &[u8]) {
+    let mut chains = 0;
+    let mut last: &[u8] = b"";
+    let mut rest = text;
+    for _ in 0..100_000 {
+        match next_line(&mut rest) {
+            Some(line) if !line.starts_with(b"history ") => {
+                chains = number_behind(line, b"chain").unwrap_or(0).max(chains);
+                last = line;
+            }
+            _ => break,
+        }
+    }
+    (chains, last)
+}
+
+/// A rule that no schedule keeps is broken in each chain.
+#[test]
+fn rule_that_cannot_be_kept_is_broken_in_each_chain(rt: HostRuntime) {
+    let league = impossible(&rt, rt.alloc());
+    let found = improvement_of(&rt, rt.alloc(), league, asked(1, 3000));
+    let (chains, last) = chains_told(&found.text);
+    let wanted = format!(in rt.alloc(); "rule 1 CA1 broken in {chains} of {chains}").expect(
+        &rt, "memory",
+    );
+    check_same(&rt, &(chains > 1, last == wanted.as_bytes()), &(true, true));
 }
 
 #[test]

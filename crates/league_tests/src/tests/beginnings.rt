@@ -4,7 +4,6 @@ use crate::tests::checks::check_same;
 use crate::tests::equality::check_each;
 use crate::tests::league_texts::circle_with;
 use fixtures::{Schedule, berger, berger_fide};
-use league::limits::round_count;
 use league::{League, TeamSet, circular, constant};
 use std::alloc::Global;
 use std::process::Abort;
@@ -30,6 +29,12 @@ fn keep(rt: &impl Abort, league: &mut League, home: u8, away: u8) {
     let teams = league.teams();
     assert!(rt; home < teams && away < teams && home != away);
     league.keep(home, away);
+}
+
+/// Sets what leaving the start costs.
+fn price(rt: &impl Abort, league: &mut League, weight: u32) {
+    assert!(rt; weight <= 1_000_000);
+    league.set_near(weight);
 }
 
 /// Whether the game is kept, as the league says and as the set of its kept games.
@@ -78,28 +83,45 @@ fn check_start(
     Ok(())
 }
 
+/// The league begins at the Berger table of six teams.
+fn check_berger(rt: &impl Abort, alloc: Global, league: &League) -> Result<(), Fail> {
+    check_same(rt, &league.fide(), &false);
+    check_start(rt, alloc, league, &berger(alloc, 6)?)
+}
+
 #[test]
 fn leagues_begin_at_the_berger_table(rt: HostRuntime) -> Result<(), Fail> {
-    let table = berger(rt.alloc(), 6)?;
-    for league in [circular(rt.alloc(), 6)?, constant(rt.alloc(), 6)?] {
-        check_same(&rt, &league.fide(), &false);
-        check_start(&rt, rt.alloc(), &league, &table)?;
-    }
-    Ok(())
+    check_berger(&rt, rt.alloc(), &circular(rt.alloc(), 6)?)?;
+    check_berger(&rt, rt.alloc(), &constant(rt.alloc(), 6)?)
+}
+
+/// The league begins in the order of FIDE, with four teams.
+fn check_fide(rt: &impl Abort, alloc: Global, league: &League) -> Result<(), Fail> {
+    check_same(rt, &league.fide(), &true);
+    check_start(rt, alloc, league, &berger_fide(alloc, 4)?)
 }
 
 #[test]
 fn a_league_begins_in_the_order_of_fide(rt: HostRuntime) -> Result<(), Fail> {
     let league = circle_with(rt.alloc(), 2, ",\"start\":\"fide\"")?;
-    check_same(&rt, &league.fide(), &true);
-    check_start(&rt, rt.alloc(), &league, &berger_fide(rt.alloc(), 4)?)
+    check_fide(&rt, rt.alloc(), &league)
+}
+
+/// The league begins with two rounds of the Berger table exchanged.
+fn check_given(
+    rt: &impl Abort,
+    alloc: Global,
+    league: &League,
+    (k, l): (u8, u8),
+) -> Result<(), Fail> {
+    check_same(rt, &league.fide(), &false);
+    check_start(rt, alloc, league, &exchanged(alloc, k, l)?)
 }
 
 #[test]
 fn a_league_begins_at_a_given_schedule(rt: HostRuntime) -> Result<(), Fail> {
     let league = given(&rt, rt.alloc(), 1, 7)?;
-    check_same(&rt, &league.fide(), &false);
-    check_start(&rt, rt.alloc(), &league, &exchanged(rt.alloc(), 1, 7)?)
+    check_given(&rt, rt.alloc(), &league, (1, 7))
 }
 
 /// How many games at home of the team are kept.
@@ -128,22 +150,11 @@ fn check_kept(rt: &impl Abort, league: &League, wanted: u32) {
 }
 
 #[test]
-fn a_league_that_was_read_or_made_keeps_nothing(rt: HostRuntime) -> Result<(), Fail> {
-    let read = circle_with(rt.alloc(), 2, ",\"start\":\"fide\"")?;
-    for league in [read, circular(rt.alloc(), 6)?, constant(rt.alloc(), 40)?] {
-        check_kept(&rt, &league, 0);
-        check_same(&rt, &league.near(), &0);
-    }
-    Ok(())
-}
-
-#[test]
 fn a_game_that_is_kept_twice_is_kept_once(rt: HostRuntime) -> Result<(), Fail> {
     let mut league = given(&rt, rt.alloc(), 1, 7)?;
+    check_kept(&rt, &league, 0);
     keep(&rt, &mut league, 5, 0);
-    let once = league.duplicate(rt.alloc())?;
     keep(&rt, &mut league, 5, 0);
-    check_same(&rt, &league.is_same(&once), &true);
     check_kept(&rt, &league, 1);
     check_same(&rt, &is_kept(&rt, &league, 5, 0), &(true, true));
     check_same(&rt, &is_kept(&rt, &league, 0, 5), &(false, false));
@@ -153,65 +164,32 @@ fn a_game_that_is_kept_twice_is_kept_once(rt: HostRuntime) -> Result<(), Fail> {
 /// Games of home teams and guests, in the second round of the given start, which is the eighth of the Berger table.
 const SECOND_ROUND: &[(u8, u8)] = &[(5, 1), (0, 2), (4, 3)];
 
-fn check_second_round(rt: &impl Abort, league: &League) {
-    for &(home, away) in SECOND_ROUND {
-        let found = is_kept(rt, league, home, away);
-        check_same(rt, &(home, away, found), &(home, away, (true, true)));
-    }
-    check_kept(rt, league, 3);
+/// Six teams at the given start, with its second round kept, and a price.
+fn kept_at_a_price(rt: &impl Abort, alloc: Global) -> Result<League, Fail> {
+    let mut league = given(rt, alloc, 1, 7)?;
+    league.keep_round(1);
+    league.set_near(9);
+    Ok(league)
 }
 
 #[test]
 fn a_round_is_kept_by_its_games(rt: HostRuntime) -> Result<(), Fail> {
-    let mut league = given(&rt, rt.alloc(), 1, 7)?;
-    league.keep_round(1);
-    check_second_round(&rt, &league);
-    let once = league.duplicate(rt.alloc())?;
-    keep(&rt, &mut league, 5, 1);
-    league.keep_round(1);
-    check_same(&rt, &league.is_same(&once), &true);
-    Ok(())
-}
-
-/// Keeps each round of the league in turn, each of which has half as many games as there are teams. There is no round after the last.
-fn check_rounds(rt: &impl Abort, league: &mut League) {
-    let teams = u32::from(league.teams());
-    let rounds = round_count(league.teams());
-    let mut wanted: u32 = 0;
-    for round in 0..rounds {
-        league.keep_round(round);
-        wanted = wanted.saturating_add(teams / 2);
-        check_kept(rt, league, wanted);
+    let league = kept_at_a_price(&rt, rt.alloc())?;
+    for &(home, away) in SECOND_ROUND {
+        let found = is_kept(&rt, &league, home, away);
+        check_same(&rt, &(home, away, found), &(home, away, (true, true)));
     }
-    for round in [rounds, 255] {
-        league.keep_round(round);
-    }
-    check_kept(rt, league, wanted);
-}
-
-#[test]
-fn each_round_is_kept_in_turn(rt: HostRuntime) -> Result<(), Fail> {
-    let fide = circle_with(rt.alloc(), 2, ",\"start\":\"fide\"")?;
-    for mut league in [
-        given(&rt, rt.alloc(), 1, 7)?,
-        circular(rt.alloc(), 6)?,
-        fide,
-        constant(rt.alloc(), 40)?,
-    ] {
-        check_rounds(&rt, &mut league);
-    }
+    check_kept(&rt, &league, 3);
     Ok(())
 }
 
 #[test]
 fn a_league_that_begins_elsewhere_keeps_nothing(rt: HostRuntime) -> Result<(), Fail> {
-    let mut league = given(&rt, rt.alloc(), 1, 7)?;
-    league.keep_round(1);
-    league.set_near(9);
+    let mut league = kept_at_a_price(&rt, rt.alloc())?;
     begin_at(&rt, &mut league, exchanged(rt.alloc(), 0, 3)?);
     check_kept(&rt, &league, 0);
     check_same(&rt, &league.near(), &9);
-    check_start(&rt, rt.alloc(), &league, &exchanged(rt.alloc(), 0, 3)?)
+    check_given(&rt, rt.alloc(), &league, (0, 3))
 }
 
 const WEIGHTS: &[u32] = &[0, 1, 999_999, 1_000_000];
@@ -220,49 +198,71 @@ const WEIGHTS: &[u32] = &[0, 1, 999_999, 1_000_000];
 fn each_price_can_be_set(rt: HostRuntime) -> Result<(), Fail> {
     let mut league = circular(rt.alloc(), 6)?;
     for &weight in WEIGHTS {
-        assert!(rt; weight <= 1_000_000);
-        league.set_near(weight);
+        price(&rt, &mut league, weight);
         check_same(&rt, &league.near(), &weight);
     }
     Ok(())
 }
 
-/// A copy has memory of its own: what is done to the league afterwards it knows nothing of.
-#[test]
-fn a_copy_begins_where_the_league_began(rt: HostRuntime) -> Result<(), Fail> {
-    let mut league = given(&rt, rt.alloc(), 1, 7)?;
-    league.keep_round(1);
-    league.set_near(9);
-    let copy = league.duplicate(rt.alloc())?;
-    check_same(&rt, &league.is_same(&copy), &true);
-    begin_at(&rt, &mut league, berger(rt.alloc(), 6)?);
-    league.set_near(1);
-    check_second_round(&rt, &copy);
-    check_same(&rt, &copy.near(), &9);
-    check_start(&rt, rt.alloc(), &copy, &exchanged(rt.alloc(), 1, 7)?)
+/// The rounds of the Berger table that are exchanged, a game that is kept, and the price of leaving the start.
+struct Beginning {
+    exchanged: (u8, u8),
+    kept: Option<(u8, u8)>,
+    near: u32,
 }
 
-/// Leagues of six teams that differ in their start, in what is kept or in their price.
-fn leagues(rt: &impl Abort, alloc: Global) -> Result<Vec<League>, Fail> {
-    let mut leagues = Vec::new(alloc);
-    leagues.push(circular(alloc, 6)?)?;
-    leagues.push(given(rt, alloc, 1, 7)?)?;
-    leagues.push(given(rt, alloc, 1, 8)?)?;
-    // equal to the first but in how the start is said
-    leagues.push(given(rt, alloc, 0, 0)?)?;
-    let mut one = given(rt, alloc, 1, 7)?;
-    keep(rt, &mut one, 0, 1);
-    leagues.push(one)?;
-    let mut other = given(rt, alloc, 1, 7)?;
-    keep(rt, &mut other, 1, 0);
-    leagues.push(other)?;
-    let mut priced = given(rt, alloc, 1, 7)?;
-    priced.set_near(1);
-    leagues.push(priced)?;
-    Ok(leagues)
+// the last one is equal to the Berger table but in how the start is said
+const BEGINNINGS: &[Beginning] = &[
+    Beginning {
+        exchanged: (1, 7),
+        kept: None,
+        near: 0,
+    },
+    Beginning {
+        exchanged: (1, 8),
+        kept: None,
+        near: 0,
+    },
+    Beginning {
+        exchanged: (1, 7),
+        kept: Some((0, 1)),
+        near: 0,
+    },
+    Beginning {
+        exchanged: (1, 7),
+        kept: Some((1, 0)),
+        near: 0,
+    },
+    Beginning {
+        exchanged: (1, 7),
+        kept: None,
+        near: 1,
+    },
+    Beginning {
+        exchanged: (0, 0),
+        kept: None,
+        near: 0,
+    },
+];
+
+/// Six teams in a circle that begin so.
+fn begun(rt: &impl Abort, alloc: Global, beginning: &Beginning) -> Result<League, Fail> {
+    let (k, l) = beginning.exchanged;
+    let mut league = given(rt, alloc, k, l)?;
+    if let Some((home, away)) = beginning.kept {
+        keep(rt, &mut league, home, away);
+    }
+    price(rt, &mut league, beginning.near);
+    Ok(league)
 }
 
 #[test]
 fn leagues_that_begin_otherwise_differ(rt: HostRuntime) -> Result<(), Fail> {
-    check_each(&rt, rt.alloc(), &leagues(&rt, rt.alloc())?)
+    let alloc = rt.alloc();
+    let mut leagues = Vec::new(alloc);
+    leagues.push(circular(alloc, 6)?)?;
+    for beginning in BEGINNINGS {
+        leagues.push(begun(&rt, alloc, beginning)?)?;
+    }
+    check_each(&rt, alloc, &leagues)
 }

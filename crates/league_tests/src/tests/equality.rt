@@ -69,13 +69,19 @@ fn leagues_that_differ_in_one_part(rt: HostRuntime) -> Result<(), Fail> {
     check_each(&rt, alloc, &leagues)
 }
 
+/// Four teams in a circle with one rule.
+fn ruled(alloc: Global, rule: &str) -> Result<League, Fail> {
+    let rules = format!(in alloc; "[{rule}]")?;
+    with_rules(alloc, 2, rules.as_str())
+}
+
 #[test]
 fn leagues_that_differ_in_one_rule(rt: HostRuntime) -> Result<(), Fail> {
     let alloc = rt.alloc();
     let mut leagues = Vec::new(alloc);
     leagues.push(made(alloc, (TEAMS, CIRCLE, ""))?)?;
     for &rule in RULES {
-        leagues.push(with_rules(alloc, 2, format!(in alloc; "[{rule}]")?.as_str())?)?;
+        leagues.push(ruled(alloc, rule)?)?;
     }
     check_each(&rt, alloc, &leagues)
 }

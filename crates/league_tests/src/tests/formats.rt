@@ -3,8 +3,7 @@
 use crate::tests::checks::check_same;
 use crate::tests::league_texts::{check_circle, circle_with};
 use league::LeagueFault::WrongKind;
-use league::{Field, League, circular, constant};
-use std::alloc::Global;
+use league::{Field, League};
 use std::process::Abort;
 use std::test::Fail;
 
@@ -29,31 +28,12 @@ fn check_order_and_phases(rt: &impl Abort, league: &League, expected: (bool, boo
     check_same(rt, &(league.fide(), league.phased()), &expected);
 }
 
-// the league, and its copy
-fn check_copied(
-    rt: &impl Abort,
-    alloc: Global,
-    league: &League,
-    expected: (bool, bool),
-) -> Result<(), Fail> {
-    check_order_and_phases(rt, league, expected);
-    check_order_and_phases(rt, &league.duplicate(alloc)?, expected);
-    Ok(())
-}
-
 #[test]
 fn reads_the_order_of_the_start_and_the_phases(rt: HostRuntime) -> Result<(), Fail> {
     for &(format, more, expected) in STARTS {
         let league = circle_with(rt.alloc(), format, more)?;
-        check_copied(&rt, rt.alloc(), &league, expected)?;
+        check_order_and_phases(&rt, &league, expected);
     }
-    Ok(())
-}
-
-#[test]
-fn made_leagues_have_neither_order_nor_phases(rt: HostRuntime) -> Result<(), Fail> {
-    check_order_and_phases(&rt, &circular(rt.alloc(), 4)?, (false, false));
-    check_order_and_phases(&rt, &constant(rt.alloc(), 4)?, (false, false));
     Ok(())
 }
 

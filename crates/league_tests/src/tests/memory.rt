@@ -14,7 +14,6 @@ use fixtures::{Schedule, berger};
 use league::{League, LeagueFault, SlotSet, TeamSet, Weight, circular, constant, read_league};
 use std::alloc::{AllocError, Global};
 use std::process::Abort;
-use std::test::Fail;
 
 const ASYMMETRIC: &str =
     r#"{"format":1,"teams":["T1","T2","T3","T4"],"distances":[[0,2,2,1],[1,0,1,2],[2,1,0,1],[1,2,1,0]]}"#;
@@ -74,24 +73,24 @@ fn told(rt: &impl Abort, answer: Result<League, LeagueFault>) -> Option<League> 
     }
 }
 
-// the league without rules, or memory was refused
-fn check_told(rt: &impl Abort, answer: Result<League, LeagueFault>, distances: &Table) {
-    if let Some(league) = told(rt, answer) {
-        check_four(rt, &league, 0, distances);
-    }
+// whether there was memory for the league, which has no rules
+fn is_told(rt: &impl Abort, answer: Result<League, LeagueFault>, distances: &Table) -> bool {
+    let Some(league) = told(rt, answer) else {
+        return false;
+    };
+    check_four(rt, &league, 0, distances);
+    true
 }
 
 #[test]
-fn read_league_succeeds_with_ample_memory(rt: HostRuntime) -> Result<(), Fail> {
-    let league = read_league(rt.alloc(), FOUR_TEAMS.as_bytes())?;
-    check_four(&rt, &league, 0, CIRCLE);
-    Ok(())
+fn read_league_succeeds_with_ample_memory(rt: HostRuntime) {
+    let answer = read_league(rt.alloc(), FOUR_TEAMS.as_bytes());
+    check_same(&rt, &is_told(&rt, answer, CIRCLE), &true);
 }
 
 #[test]
 fn read_league_tells_refused_memory(rt: HostRuntime) {
-    let answer = read_league(rt.alloc(), FOUR_TEAMS.as_bytes());
-    check_told(&rt, answer, CIRCLE);
+    is_told(&rt, read_league(rt.alloc(), FOUR_TEAMS.as_bytes()), CIRCLE);
 }
 
 #[test]
@@ -115,42 +114,62 @@ fn check_rules(rt: &impl Abort, league: &League) {
     check_body(rt, league, 1, ("BR2", None, [4, 0]), sets);
 }
 
-fn check_rules_and_copy(rt: &impl Abort, alloc: Global, league: &League) -> Result<(), AllocError> {
-    check_rules(rt, league);
-    check_rules(rt, &league.duplicate(alloc)?);
-    Ok(())
+// whether there is memory for a copy, which has the same rules
+fn are_rules_copied(rt: &impl Abort, alloc: Global, league: &League) -> bool {
+    let Ok(copy) = league.duplicate(alloc) else {
+        return false;
+    };
+    check_rules(rt, &copy);
+    true
+}
+
+// whether there is memory for the league and its copy
+fn has_rules(rt: &impl Abort, alloc: Global) -> bool {
+    let Some(league) = told(rt, read_league(alloc, WITH_RULES.as_bytes())) else {
+        return false;
+    };
+    let are_copied = are_rules_copied(rt, alloc, &league);
+    check_rules(rt, &league);
+    are_copied
 }
 
 #[test]
-fn read_league_with_rules_succeeds_with_ample_memory(rt: HostRuntime) -> Result<(), Fail> {
-    let league = read_league(rt.alloc(), WITH_RULES.as_bytes())?;
-    check_rules_and_copy(&rt, rt.alloc(), &league)?;
-    Ok(())
+fn read_league_with_rules_succeeds_with_ample_memory(rt: HostRuntime) {
+    check_same(&rt, &has_rules(&rt, rt.alloc()), &true);
 }
 
 #[test]
 fn read_league_with_rules_tells_refused_memory(rt: HostRuntime) {
-    if let Some(league) = told(&rt, read_league(rt.alloc(), WITH_RULES.as_bytes())) {
-        let _copied = check_rules_and_copy(&rt, rt.alloc(), &league);
-        check_rules(&rt, &league);
-    }
+    has_rules(&rt, rt.alloc());
 }
 
-// the league, its copy if there is memory, and the league again
-fn check_copied(rt: &impl Abort, alloc: Global, league: &League, rules: usize) {
-    check_four(rt, league, rules, CIRCLE);
-    if let Ok(copy) = league.duplicate(alloc) {
-        check_four(rt, &copy, rules, CIRCLE);
+// whether there is memory for a copy of the league, which then is as before
+fn is_copied(rt: &impl Abort, alloc: Global, league: &League, rules: usize) -> bool {
+    let copy = league.duplicate(alloc).ok();
+    if let Some(copy) = &copy {
+        check_four(rt, copy, rules, CIRCLE);
     }
     check_four(rt, league, rules, CIRCLE);
+    copy.is_some()
+}
+
+// whether there was memory for the league and its copy
+fn is_told_and_copied(
+    rt: &impl Abort,
+    alloc: Global,
+    answer: Result<League, LeagueFault>,
+    rules: usize,
+) -> bool {
+    match told(rt, answer) {
+        Some(league) => is_copied(rt, alloc, &league, rules),
+        None => false,
+    }
 }
 
 // four teams in a circle with so many rules
 fn check_many_rules(rt: &impl Abort, alloc: Global, count: usize) -> Result<(), AllocError> {
     let text = many_rules_text(alloc, count)?;
-    if let Some(league) = told(rt, read_league(alloc, text.as_bytes())) {
-        check_copied(rt, alloc, &league, count);
-    }
+    is_told_and_copied(rt, alloc, read_league(alloc, text.as_bytes()), count);
     Ok(())
 }
 
@@ -174,41 +193,34 @@ fn read_league_tells_refused_memory_at_all_games(rt: HostRuntime) {
 }
 
 #[test]
-fn circular_succeeds_with_ample_memory(rt: HostRuntime) -> Result<(), Fail> {
-    check_four(&rt, &circular(rt.alloc(), 4)?, 0, CIRCLE);
-    Ok(())
+fn circular_succeeds_with_ample_memory(rt: HostRuntime) {
+    check_same(&rt, &is_told(&rt, circular(rt.alloc(), 4), CIRCLE), &true);
 }
 
 #[test]
 fn circular_tells_refused_memory(rt: HostRuntime) {
-    check_told(&rt, circular(rt.alloc(), 4), CIRCLE);
+    is_told(&rt, circular(rt.alloc(), 4), CIRCLE);
 }
 
 #[test]
-fn constant_succeeds_with_ample_memory(rt: HostRuntime) -> Result<(), Fail> {
-    check_four(&rt, &constant(rt.alloc(), 4)?, 0, CONSTANT);
-    Ok(())
+fn constant_succeeds_with_ample_memory(rt: HostRuntime) {
+    check_same(&rt, &is_told(&rt, constant(rt.alloc(), 4), CONSTANT), &true);
 }
 
 #[test]
 fn constant_tells_refused_memory(rt: HostRuntime) {
-    check_told(&rt, constant(rt.alloc(), 4), CONSTANT);
+    is_told(&rt, constant(rt.alloc(), 4), CONSTANT);
 }
 
 #[test]
-fn duplicate_succeeds_with_ample_memory(rt: HostRuntime) -> Result<(), Fail> {
-    let league = circular(rt.alloc(), 4)?;
-    let copy = league.duplicate(rt.alloc())?;
-    check_four(&rt, &copy, 0, CIRCLE);
-    check_four(&rt, &league, 0, CIRCLE);
-    Ok(())
+fn duplicate_succeeds_with_ample_memory(rt: HostRuntime) {
+    let is_copied = is_told_and_copied(&rt, rt.alloc(), circular(rt.alloc(), 4), 0);
+    check_same(&rt, &is_copied, &true);
 }
 
 #[test]
 fn duplicate_tells_refused_memory(rt: HostRuntime) {
-    if let Some(league) = told(&rt, circular(rt.alloc(), 4)) {
-        check_copied(&rt, rt.alloc(), &league, 0);
-    }
+    is_told_and_copied(&rt, rt.alloc(), circular(rt.alloc(), 4), 0);
 }
 
 // the Berger table of four teams with its last two rounds exchanged
@@ -244,49 +256,61 @@ const BERGER: &[u8; 4] = &[4, 4, 5, 5];
 
 const EXCHANGED: &[u8; 4] = &[5, 5, 4, 4];
 
-// the league begins there, whether or not there is memory for it
-fn check_begun(rt: &impl Abort, alloc: Global, league: &League, rounds: &[u8; 4]) {
+// whether there is memory for the start of the league, which is this
+fn has_start(rt: &impl Abort, alloc: Global, league: &League, rounds: &[u8; 4]) -> bool {
     check_same(rt, &league.teams(), &4);
-    if let Ok(start) = league.start(alloc) {
-        check_same(rt, &last_rounds(rt, &start), rounds);
-    }
+    let Ok(start) = league.start(alloc) else {
+        return false;
+    };
+    check_same(rt, &last_rounds(rt, &start), rounds);
+    true
+}
+
+// whether there is memory for a league and its start, twice over
+fn has_both_starts(rt: &impl Abort, alloc: Global) -> bool {
+    let Ok(league) = circular(alloc, 4) else {
+        return false;
+    };
+    has_start(rt, alloc, &league, BERGER) & has_start(rt, alloc, &league, BERGER)
 }
 
 #[test]
-fn a_start_with_ample_memory(rt: HostRuntime) -> Result<(), Fail> {
-    let start = circular(rt.alloc(), 4)?.start(rt.alloc())?;
-    check_same(&rt, &last_rounds(&rt, &start), BERGER);
-    Ok(())
-}
-
-#[test]
-fn a_given_start_with_ample_memory(rt: HostRuntime) -> Result<(), Fail> {
-    let league = begun_elsewhere(rt.alloc()).expect(&rt, "a league");
-    let start = league.duplicate(rt.alloc())?.start(rt.alloc())?;
-    check_same(&rt, &last_rounds(&rt, &start), EXCHANGED);
-    check_same(&rt, &league.kept().is_empty(), &false);
-    Ok(())
+fn a_start_with_ample_memory(rt: HostRuntime) {
+    check_same(&rt, &has_both_starts(&rt, rt.alloc()), &true);
 }
 
 #[test]
 fn refused_memory_makes_no_start(rt: HostRuntime) {
-    if let Ok(league) = circular(rt.alloc(), 4) {
-        check_begun(&rt, rt.alloc(), &league, BERGER);
-        check_begun(&rt, rt.alloc(), &league, BERGER);
-    }
+    has_both_starts(&rt, rt.alloc());
+}
+
+// whether there is memory for a copy of the league, which has the given start, and for that
+fn has_copied_start(rt: &impl Abort, alloc: Global, league: &League) -> bool {
+    let Ok(copy) = league.duplicate(alloc) else {
+        return false;
+    };
+    check_same(rt, &copy.is_same(league), &true);
+    has_start(rt, alloc, &copy, EXCHANGED)
+}
+
+// whether there is memory for a league of a given start, for its copy and for the start
+fn has_given_start(rt: &impl Abort, alloc: Global) -> bool {
+    let Some(league) = begun_elsewhere(alloc) else {
+        return false;
+    };
+    let is_copied = has_copied_start(rt, alloc, &league);
+    check_same(rt, &league.kept().is_empty(), &false);
+    has_start(rt, alloc, &league, EXCHANGED) && is_copied
+}
+
+#[test]
+fn a_given_start_with_ample_memory(rt: HostRuntime) {
+    check_same(&rt, &has_given_start(&rt, rt.alloc()), &true);
 }
 
 #[test]
 fn refused_memory_leaves_the_given_start(rt: HostRuntime) {
-    let Some(league) = begun_elsewhere(rt.alloc()) else {
-        return;
-    };
-    check_begun(&rt, rt.alloc(), &league, EXCHANGED);
-    if let Ok(copy) = league.duplicate(rt.alloc()) {
-        check_same(&rt, &copy.is_same(&league), &true);
-        check_begun(&rt, rt.alloc(), &copy, EXCHANGED);
-    }
-    check_begun(&rt, rt.alloc(), &league, EXCHANGED);
+    has_given_start(&rt, rt.alloc());
 }
 
 const WRONG_COUNTS: &[u8] = &[0, 5, 42];

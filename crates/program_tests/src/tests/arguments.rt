@@ -8,7 +8,7 @@ use clap::error::ErrorKind::{
     self, ArgumentConflict, DisplayHelp, DisplayVersion, InvalidSubcommand, InvalidValue,
     MissingSubcommand, OutOfMemory, UnknownArgument, ValueValidation,
 };
-use command_line::{Format, Job, SearchPlan, args};
+use command_line::{CsvForm, Format, Job, SearchPlan, Separator, args};
 use std::alloc::{AllocError, Global};
 use std::process::Abort;
 use std::test::Fail;
@@ -51,6 +51,26 @@ const PLAIN: SearchPlan = SearchPlan {
     slack: 0,
 };
 
+const COMMAS: Job = Job::Report(Format::Csv(CsvForm {
+    separator: Separator::Comma,
+    has_mark: false,
+}));
+
+const SEMICOLONS: Job = Job::Report(Format::Csv(CsvForm {
+    separator: Separator::Semicolon,
+    has_mark: false,
+}));
+
+const MARKED_COMMAS: Job = Job::Report(Format::Csv(CsvForm {
+    separator: Separator::Comma,
+    has_mark: true,
+}));
+
+const MARKED_TABS: Job = Job::Report(Format::Csv(CsvForm {
+    separator: Separator::Tab,
+    has_mark: true,
+}));
+
 const JOBS: &[Row<'_>] = &[
     (&["ttp", "start"], Ok(Job::Start)),
     (&["ttp", "play"], Ok(Job::Play { room: 1024 })),
@@ -65,13 +85,33 @@ const JOBS: &[Row<'_>] = &[
         &["ttp", "report", "--format", "text"],
         Ok(Job::Report(Format::Text)),
     ),
+    (&["ttp", "report", "--format", "csv"], Ok(COMMAS)),
     (
-        &["ttp", "report", "--format", "csv"],
-        Ok(Job::Report(Format::Csv)),
+        &["ttp", "report", "--format=csv", "--separator", ","],
+        Ok(COMMAS),
+    ),
+    (
+        &["ttp", "report", "--separator=;", "--format=csv"],
+        Ok(SEMICOLONS),
+    ),
+    (
+        &[
+            "ttp",
+            "report",
+            "--bom",
+            "--format=csv",
+            "--separator",
+            "tab",
+        ],
+        Ok(MARKED_TABS),
     ),
     (
         &["ttp", "report", "--format=html"],
         Ok(Job::Report(Format::Html)),
+    ),
+    (
+        &["ttp", "report", "--format=names"],
+        Ok(Job::Report(Format::Names)),
     ),
 ];
 
@@ -184,6 +224,20 @@ const ENDS: &[Row<'_>] = &[
         Err((ArgumentConflict, 2)),
     ),
     (
+        &["ttp", "report", "--format=csv", "--separator=:"],
+        Err((InvalidValue, 2)),
+    ),
+    (&["ttp", "report", "--separator=,"], Err((InvalidValue, 2))),
+    (
+        &["ttp", "report", "--bom", "--format=html"],
+        Err((InvalidValue, 2)),
+    ),
+    (
+        &["ttp", "report", "--bom", "--bom", "--format=csv"],
+        Err((ArgumentConflict, 2)),
+    ),
+    (&["ttp", "start", "--bom"], Err((UnknownArgument, 2))),
+    (
         &["ttp", "start", "--format", "csv"],
         Err((UnknownArgument, 2)),
     ),
@@ -207,7 +261,7 @@ fn wrong_command_lines_end_with_two_and_help_and_version_with_zero(
 }
 
 /// Jobs that differ in one number each.
-const DISTINCT: [Job; 12] = [
+const DISTINCT: [Job; 16] = [
     Job::Find {
         room: 8,
         plan: PLAIN,
@@ -242,8 +296,12 @@ const DISTINCT: [Job; 12] = [
         plan: SearchPlan { slack: 1, ..PLAIN },
     },
     Job::Report(Format::Text),
-    Job::Report(Format::Csv),
+    COMMAS,
+    SEMICOLONS,
+    MARKED_COMMAS,
+    MARKED_TABS,
     Job::Report(Format::Html),
+    Job::Report(Format::Names),
 ];
 
 #[test]

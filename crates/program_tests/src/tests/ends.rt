@@ -7,7 +7,6 @@ use crate::tests::checks::check_same_of;
 use crate::tests::judged_schedules::FAULTY;
 use crate::tests::samples::{FIND, PLAY, REPORT, START, TABLE};
 use crate::tests::told::{Answer, Case, Command};
-use advice::Hint;
 use commands::{NoGate, ProgramFault, Workplace, find_from, play_from, report_from, start_from};
 use league::LeagueFault;
 use std::alloc::{AllocError, Global};
@@ -281,23 +280,14 @@ fn each_command_leaves_a_front_where_a_write_takes_nothing(rt: HostRuntime) -> R
     Ok(())
 }
 
-/// What no command takes for a league, why, and where the fault lies.
-const REFUSED: [(&[u8], LeagueFault, Hint); 2] = [
-    (b"", LeagueFault::NotJson, Hint::Text { line: 1, column: 0 }),
+/// What no command takes for a league, and why.
+const REFUSED: [(&[u8], LeagueFault); 2] = [
+    (b"", LeagueFault::NotJson),
     (
         br#"{"format":1,"teams":["A","B","C"],"distances":[]}"#,
         LeagueFault::TeamCount,
-        Hint::TeamCount(3),
     ),
 ];
-
-/// What a command answers to a league with this fault. Only a report tells where it lies.
-fn refusal(command: Command, fault: LeagueFault, hint: Hint) -> ProgramFault {
-    match command {
-        Command::Report(_) => ProgramFault::LeagueAt(fault, hint),
-        _ => ProgramFault::League(fault),
-    }
-}
 
 fn check_no_write<T: Threads + Wait + Sync + Abort>(
     rt: &T,
@@ -318,8 +308,8 @@ fn check_no_writes<T: Threads + Wait + Sync + Abort>(
     too_long: &[u8],
 ) -> Result<(), Fail> {
     check_no_write(rt, alloc, command, (too_long, ProgramFault::TooLong))?;
-    for (input, fault, hint) in REFUSED {
-        check_no_write(rt, alloc, command, (input, refusal(command, fault, hint)))?;
+    for (input, fault) in REFUSED {
+        check_no_write(rt, alloc, command, (input, ProgramFault::League(fault)))?;
     }
     Ok(())
 }

@@ -1,12 +1,12 @@
-//! Reports as CSV and as a page: the games read back, names that try to break out, damage, and a page whose writes are refused.
+//! Reports as CSV, as a page and in words: the games read back, names that try to break out, damage, and a page whose writes are refused.
 
 use crate::tests::checks::{check_holds, check_same};
 use crate::tests::circle::{CIRCLE, SHEET};
 use crate::tests::judged_schedules::{DAMAGE, FAULTS_ALONE};
-use crate::tests::samples::{JUDGED, PAGE, TABLE};
+use crate::tests::samples::{COMMAS, JUDGED, NAMES, PAGE, TABLE};
 use crate::tests::told::Text::Excerpt;
 use crate::tests::told::{Case, Command, Text, check_cases, tell};
-use commands::{Format, ProgramFault, Verdict, report};
+use commands::{CsvForm, Format, ProgramFault, Separator, Verdict, report};
 use csv::{ByteRecord, ReaderBuilder};
 use std::alloc::Global;
 use std::process::Abort;
@@ -19,14 +19,21 @@ use streams::{MemorySink, MemorySource, RehearsedSink, Step};
 const CASES: &[Case<'_>] = &[
     TABLE,
     PAGE,
+    NAMES,
     (
-        Command::Report(Format::Csv),
+        Command::Report(Format::Csv(COMMAS)),
         DAMAGE,
         Ok(Some(Verdict::Infeasible)),
         FAULTS_ALONE,
     ),
     (
         Command::Report(Format::Html),
+        DAMAGE,
+        Ok(Some(Verdict::Infeasible)),
+        FAULTS_ALONE,
+    ),
+    (
+        Command::Report(Format::Names),
         DAMAGE,
         Ok(Some(Verdict::Infeasible)),
         FAULTS_ALONE,
@@ -39,7 +46,7 @@ fn tables_and_pages_have_the_games_or_the_faults(rt: HostRuntime) -> Result<(), 
 }
 
 /// Four teams whose names have marks of CSV and of HTML.
-const MARKED: &str =
+pub(crate) const MARKED: &str =
     r#"{"format":1,"teams":["a, b","say \"c\"","<script>d</script>","\"' onload='&lt;"],
     "distances":[[0,1,2,1],[1,0,1,2],[2,1,0,1],[1,2,1,0]]}"#;
 
@@ -68,7 +75,7 @@ const RECORDS: [[&str; 5]; 12] = [
 ];
 
 /// What is written of that league and its start, which is feasible.
-fn marked<T: Threads + Wait + Sync + Abort>(
+pub(crate) fn marked<T: Threads + Wait + Sync + Abort>(
     rt: &T,
     alloc: Global,
     format: Format,
@@ -90,7 +97,7 @@ fn is_record(record: &ByteRecord, fields: &[&str]) -> bool {
 
 #[test]
 fn table_with_any_names_is_read_back(rt: HostRuntime) -> Result<(), Fail> {
-    let table = marked(&rt, rt.alloc(), Format::Csv)?;
+    let table = marked(&rt, rt.alloc(), Format::Csv(COMMAS))?;
     let mut reader = ReaderBuilder::new().from_reader(rt.alloc(), table.as_slice());
     let mut record = ByteRecord::new(rt.alloc());
     for wanted in &RECORDS {
@@ -99,6 +106,43 @@ fn table_with_any_names_is_read_back(rt: HostRuntime) -> Result<(), Fail> {
     }
     let is_over = !reader.read_byte_record(&mut record).unwrap_or(true);
     check_same(&rt, &is_over, &true);
+    Ok(())
+}
+
+/// Four teams whose names begin as formulas of a spreadsheet do, and what stands in a name behind its first mark.
+const FORMULAS: &str =
+    r#"{"format":1,"teams":["=1+1","+2","-3; 4","@5=\""],"distances":[[0,1,2,1],[1,0,1,2],[2,1,0,1],[1,2,1,0]]}"#;
+
+/// A form, and the first lines of the start of those teams in it.
+const GUARDED: [(CsvForm, &str); 3] = [
+    (
+        COMMAS,
+        "round,home,home name,away,away name\n1,1,'=1+1,4,\"'@5=\"\"\"\n1,2,'+2,3,'-3; 4\n2,1,'=1+1,2,'+2\n",
+    ),
+    (
+        CsvForm {
+            separator: Separator::Semicolon,
+            has_mark: true,
+        },
+        "\u{feff}round;home;home name;away;away name\n1;1;'=1+1;4;\"'@5=\"\"\"\n1;2;'+2;3;\"'-3; 4\"\n",
+    ),
+    (
+        CsvForm {
+            separator: Separator::Tab,
+            has_mark: false,
+        },
+        "round\thome\thome name\taway\taway name\n1\t1\t'=1+1\t4\t\"'@5=\"\"\"\n1\t2\t'+2\t3\t'-3; 4\n",
+    ),
+];
+
+#[test]
+fn no_cell_is_a_formula(rt: HostRuntime) -> Result<(), Fail> {
+    let input = [FORMULAS, JUDGED, SHEET].concat(rt.alloc())?;
+    for (form, wanted) in GUARDED {
+        let command = Command::Report(Format::Csv(form));
+        let told = tell(&rt, rt.alloc(), command, input.as_bytes())?;
+        check_holds(&rt, &wanted, told.text.starts_with(wanted.as_bytes()));
+    }
     Ok(())
 }
 
@@ -124,6 +168,20 @@ fn names_stay_names_on_a_page(rt: HostRuntime) -> Result<(), Fail> {
     for part in BREAKING_OUT {
         check_holds(&rt, &part, !page.contains(part));
     }
+    Ok(())
+}
+
+/// The first rounds in words with those names.
+const IN_WORDS: Text<'_> = Excerpt(
+    "Round 1\na, b - \"' onload='&lt;\nsay \"c\" - <script>d</script>\n\nRound 2\n",
+    &["\n\nRound 6\na, b - <script>d</script>\n"],
+    "\"' onload='&lt; - say \"c\"\n",
+);
+
+#[test]
+fn names_in_words_are_as_they_are(rt: HostRuntime) -> Result<(), Fail> {
+    let text = marked(&rt, rt.alloc(), Format::Names)?;
+    check_holds(&rt, &"in words", IN_WORDS.is_told(&text));
     Ok(())
 }
 

@@ -98,7 +98,11 @@ const HELP: &[(&[&str], &[&str])] = &[
             "and 3 where it isn't.\n",
             "docs/report.md",
             "--format <FORMAT>",
-            "How the report is written: text, csv (the games) or html (a page for a browser)",
+            "--separator <SEPARATOR>",
+            "What parts the cells of CSV: `,`, `;` or tab [default: ,]",
+            "--bom",
+            "A byte order mark stands before CSV, for a spreadsheet that wants one",
+            "How the report is written: text, csv (the games), html (a page for a browser) or names (the games in words)",
             "[default: text]",
         ],
     ),
@@ -153,8 +157,19 @@ const TEXTS: &[(&[&str], &str)] = &[
     (
         &["ttp", "report", "--format", "pdf"],
         "error: invalid value 'pdf' for '--format <FORMAT>'\n  \
-        [possible values: text, csv, html]\n\nUsage: ttp report [OPTIONS] [LEAGUE] [SCHEDULE]\n\n\
+        [possible values: text, csv, html, names]\n\nUsage: ttp report [OPTIONS] [LEAGUE] [SCHEDULE]\n\n\
         For more information, try '--help'.\n",
+    ),
+    (
+        &["ttp", "report", "--format=csv", "--separator", ":"],
+        "error: invalid value ':' for '--separator <SEPARATOR>'\n  \
+        [possible values: ',', ';', tab]\n\nUsage: ttp report [OPTIONS] [LEAGUE] [SCHEDULE]\n\n\
+        For more information, try '--help'.\n",
+    ),
+    (
+        &["ttp", "report", "--bom"],
+        "error: --separator and --bom want --format csv\n\n\
+        Usage: ttp report [OPTIONS] [LEAGUE] [SCHEDULE]\n\nFor more information, try '--help'.\n",
     ),
     // and a wrong value of a start what is wanted
     (

@@ -6,8 +6,7 @@ use crate::tests::circle::{CIRCLE, FIRST, FOUR, SHEET};
 use crate::tests::samples::{COST, JUDGED, REPORT};
 use crate::tests::told::Text::Whole;
 use crate::tests::told::{Case, Command, NOTHING, TEXT_REPORT, Text, check_case, check_cases};
-use advice::Hint;
-use commands::ProgramFault::{LeagueAt, NoSheet};
+use commands::ProgramFault::{League, NoSheet};
 use commands::{Format, Verdict};
 use league::LeagueFault::NotJson;
 use league::read_league;
@@ -73,7 +72,9 @@ const COST_UNDER_RULES: &str = "travel 30 hard 2 soft 10\n\
     tour 3 travel 8\n\
     tour 4 travel 8\n\
     rule 1 CA3 soft 10 deviation 1\n\
+    over rule 1 team 3 rounds 3-5 by 1: 3-1 @ 3 3-2 @ 4 3-4 @ 5\n\
     rule 2 BR1 hard deviation 2\n\
+    over rule 2 team 1 by 2: rounds 4 5\n\
     infeasible\n";
 
 /// The start with a bad line, three games that are none, and a game that stands in another's place.
@@ -184,7 +185,7 @@ const CASES: &[Case<'_>] = &[
     (
         Command::Report(Format::Text),
         &["sheet\n"],
-        Err(LeagueAt(NotJson, Hint::Text { line: 1, column: 0 })),
+        Err(League(NotJson)),
         NOTHING,
     ),
 ];

@@ -5,6 +5,7 @@
 
 use crate::tests::checks::check_holds;
 use crate::tests::samples::{FIND, PAGE, PLAY, START, TABLE};
+use crate::tests::tables::READ_AGAIN;
 use crate::tests::told::{Case, Told, check_case, tell};
 use commands::ProgramFault;
 use std::alloc::{AllocError, Global};
@@ -93,4 +94,14 @@ fn page_with_ample_memory(rt: HostRuntime) -> Result<(), Fail> {
 #[test]
 fn page_tells_refused_memory(rt: HostRuntime) {
     check_refused(&rt, rt.alloc(), &PAGE, &[ProgramFault::Memory]);
+}
+
+#[test]
+fn read_table_succeeds_with_ample_memory(rt: HostRuntime) -> Result<(), Fail> {
+    check_case(&rt, rt.alloc(), &READ_AGAIN)
+}
+
+#[test]
+fn read_table_tells_refused_memory(rt: HostRuntime) {
+    check_refused(&rt, rt.alloc(), &READ_AGAIN, &[ProgramFault::Memory]);
 }

@@ -69,7 +69,9 @@ const BACK_UNDER_RULES: &str = "travel 30 hard 2 soft 70\n\
     tour 3 travel 8\n\
     tour 4 travel 8\n\
     rule 1 CA3 soft 10 deviation 1\n\
+    over rule 1 team 3 rounds 3-5 by 1: 3-1 @ 3 3-2 @ 4 3-4 @ 5\n\
     rule 2 BR1 hard deviation 2\n\
+    over rule 2 team 1 by 2: rounds 4 5\n\
     near 10 moved 6\n\
     was 1-2 round 5 now 2\n\
     was 1-4 round 3 now 1\n\

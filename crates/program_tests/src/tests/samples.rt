@@ -3,7 +3,7 @@
 use crate::tests::circle::{CIRCLE, SHEET};
 use crate::tests::told::Text::{Excerpt, Whole};
 use crate::tests::told::{Case, Command, Text, WRITTEN};
-use commands::{Format, SearchPlan, Verdict};
+use commands::{CsvForm, Format, SearchPlan, Separator, Verdict};
 
 /// The line between a league and a script.
 pub(crate) const SCRIPT: &str = "\nscript\n";
@@ -73,9 +73,15 @@ pub(crate) const REPORT: Case<'_> = (
     Whole(&[SHEET, COST]),
 );
 
+/// CSV as it is if nothing else is asked for.
+pub(crate) const COMMAS: CsvForm = CsvForm {
+    separator: Separator::Comma,
+    has_mark: false,
+};
+
 /// The games of the start as CSV.
 pub(crate) const TABLE: Case<'_> = (
-    Command::Report(Format::Csv),
+    Command::Report(Format::Csv(COMMAS)),
     &[CIRCLE, JUDGED, SHEET],
     Ok(Some(Verdict::Feasible)),
     Whole(&[
@@ -92,6 +98,21 @@ pub(crate) const TABLE: Case<'_> = (
         5,3,T3,4,T4\n\
         6,1,T1,3,T3\n\
         6,4,T4,2,T2\n",
+    ]),
+);
+
+/// The games of the start in words.
+pub(crate) const NAMES: Case<'_> = (
+    Command::Report(Format::Names),
+    &[CIRCLE, JUDGED, SHEET],
+    Ok(Some(Verdict::Feasible)),
+    Whole(&[
+        "Round 1\nT1 - T4\nT2 - T3\n\n\
+        Round 2\nT1 - T2\nT4 - T3\n\n\
+        Round 3\nT2 - T4\nT3 - T1\n\n\
+        Round 4\nT3 - T2\nT4 - T1\n\n\
+        Round 5\nT2 - T1\nT3 - T4\n\n\
+        Round 6\nT1 - T3\nT4 - T2\n",
     ]),
 );
 

@@ -3,9 +3,10 @@
 use crate::tests::checks::{check_holds, check_same, check_same_of};
 use crate::tests::circle::{CIRCLE, SHEET};
 use crate::tests::judged_schedules::{DAMAGED, FAULTS};
-use beginnings::BeginFault::{self, GameRange, Memory, NoRound, NotRoundRobin, RoundRange};
+use beginnings::BeginFault::{self, GameRange, Memory, NoRound, NotRoundRobin, RoundRange, Row};
 use beginnings::{Beginning, begin, write_start_faults};
 use league::{League, SlotSet, read_league};
+use schedule_tables::{CellFault, Column, RowFault};
 use std::alloc::Global;
 use std::process::Abort;
 use std::test::Fail;
@@ -15,6 +16,9 @@ use streams::MemorySink;
 const LAST: &str = "league 4 teams 6 rounds\nround 1: 1-2\nleague\n\
     round 6: 1-4 2-3\nround 2: 1-2 4-3\nround 3: 2-4 3-1\n\
     round 4: 3-2 4-1\nround 5: 2-1 3-4\nround 1: 1-3 4-2\n";
+
+/// The same as a table.
+const TABLE: &str = "home,away\n1,3\n4,2\n1,2\n4,3\n2,4\n3,1\n3,2\n4,1\n2,1\n3,4\nT1,T4\nT2,T3\n";
 
 /// Where the circle of four teams begins with a text, if a round and a game of it are kept at a price of 7.
 fn begun(alloc: Global, text: &str, round: u8, game: (u8, u8)) -> Result<League, BeginFault> {
@@ -48,19 +52,30 @@ const GAMES: &[(u8, u8, (u8, bool))] = &[
 
 #[test]
 fn a_league_begins_at_the_last_sheet(rt: HostRuntime) -> Result<(), Fail> {
-    let league = begun(rt.alloc(), LAST, 1, (0, 3))?;
-    for &(home, away, wanted) in GAMES {
-        let found = game_of(&rt, &league, home, away);
-        check_same_of(&rt, &(home, away), &found, &wanted);
+    for text in [LAST, TABLE] {
+        let league = begun(rt.alloc(), text, 1, (0, 3))?;
+        for &(home, away, wanted) in GAMES {
+            let found = game_of(&rt, &league, home, away);
+            check_same_of(&rt, &(home, away), &found, &wanted);
+        }
+        check_same(&rt, &league.near(), &7);
     }
-    check_same(&rt, &league.near(), &7);
     Ok(())
 }
+
+const UNKNOWN: RowFault = RowFault {
+    line: 3,
+    column: Column::Away,
+    why: CellFault::NoTeam,
+};
 
 /// Texts, a round and a game to keep, and the fault.
 const FAULTY: &[(&str, u8, (u8, u8), BeginFault)] = &[
     ("rounds 1 2\n", 6, (0, 4), NoRound),
     ("round 1: 1-4 2-3\n", 6, (0, 4), NotRoundRobin),
+    ("home,away\n1,4\n2,T5\n", 6, (0, 4), Row(UNKNOWN)),
+    ("home,away\n", 6, (0, 4), NoRound),
+    ("home,away\n1,4\n", 6, (0, 4), NotRoundRobin),
     (SHEET, 6, (0, 4), RoundRange),
     (SHEET, 5, (0, 4), GameRange),
     (SHEET, 5, (1, 1), GameRange),
@@ -76,8 +91,10 @@ fn the_first_fault_of_a_beginning_is_told(rt: HostRuntime) {
 
 #[test]
 fn a_beginning_tells_refused_memory(rt: HostRuntime) {
-    let fault = begun(rt.alloc(), LAST, 1, (0, 3)).err();
-    check_holds(&rt, &fault, matches!(fault, None | Some(Memory)));
+    for text in [LAST, TABLE] {
+        let fault = begun(rt.alloc(), text, 1, (0, 3)).err();
+        check_holds(&rt, &fault, matches!(fault, None | Some(Memory)));
+    }
 }
 
 #[test]

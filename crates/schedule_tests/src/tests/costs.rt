@@ -41,99 +41,73 @@ fn costs_of(schedule: &Schedule, league: &League) -> Option<Costs> {
     ))
 }
 
-/// Tours and costs of four teams in a circle that allows so many rounds in a row.
-fn found(alloc: Global, plan: Plan, at_most: u8) -> Result<(Option<Tours>, Option<Costs>), Fail> {
-    let schedule = schedule(alloc, plan)?;
-    let league = league_of(alloc, at_most)?;
-    Ok((tours_of(&schedule, &league), costs_of(&schedule, &league)))
-}
-
 fn check_tours(rt: &impl Abort, alloc: Global, plan: Plan, tours: Tours) -> Result<(), Fail> {
-    let (found, _) = found(alloc, plan, 3)?;
-    check_same(rt, &found, &Some(tours));
+    let schedule = schedule(alloc, plan)?;
+    let found = tours_of(&schedule, &league_of(alloc, 3)?);
+    check_same(rt, &(tours, found), &(tours, Some(tours)));
     Ok(())
 }
 
-fn check_costs(rt: &impl Abort, alloc: Global, plan: Plan, costs: Costs) -> Result<(), Fail> {
-    let (_, found) = found(alloc, plan, 3)?;
-    check_same(rt, &found, &Some(costs));
+/// Four teams in a circle that allows so many rounds in a row.
+fn check_costs(
+    rt: &impl Abort,
+    alloc: Global,
+    (plan, at_most): (Plan, u8),
+    costs: Costs,
+) -> Result<(), Fail> {
+    let schedule = schedule(alloc, plan)?;
+    let found = costs_of(&schedule, &league_of(alloc, at_most)?);
+    check_same(rt, &(costs, found), &(costs, Some(costs)));
     Ok(())
-}
-
-#[test]
-fn costs_of_the_start(rt: HostRuntime) -> Result<(), Fail> {
-    check_tours(&rt, rt.alloc(), Plan::Berger(4), [6, 8, 8, 8])?;
-    check_costs(&rt, rt.alloc(), Plan::Berger(4), (30, 0, 0))
-}
-
-#[test]
-fn costs_in_the_order_of_fide(rt: HostRuntime) -> Result<(), Fail> {
-    check_tours(&rt, rt.alloc(), Plan::Fide(4), [8, 8, 8, 6])?;
-    check_costs(&rt, rt.alloc(), Plan::Fide(4), (30, 0, 0))
-}
-
-#[test]
-fn costs_after_an_exchange_of_homes(rt: HostRuntime) -> Result<(), Fail> {
-    check_tours(&rt, rt.alloc(), HOMES_EXCHANGED, [4, 6, 8, 8])?;
-    check_costs(&rt, rt.alloc(), HOMES_EXCHANGED, (26, 0, 0))
 }
 
 const TEAMS_EXCHANGED: Plan = Plan::Moved(&[Move::Teams { i: 0, j: 1 }]);
-
-#[test]
-fn costs_after_an_exchange_of_teams(rt: HostRuntime) -> Result<(), Fail> {
-    check_tours(&rt, rt.alloc(), TEAMS_EXCHANGED, [6, 6, 6, 8])?;
-    check_costs(&rt, rt.alloc(), TEAMS_EXCHANGED, (26, 0, 0))
-}
 
 const HOMES_AND_TEAMS_EXCHANGED: Plan = Plan::Moved(&[
     Move::Homes { i: 0, j: 1 },
     Move::Teams { i: 0, j: 1 },
 ]);
 
-#[test]
-fn tours_after_exchanges_of_homes_and_teams(rt: HostRuntime) -> Result<(), Fail> {
-    check_tours(&rt, rt.alloc(), HOMES_AND_TEAMS_EXCHANGED, [8, 4, 6, 8])
-}
+const TOURS: &[(Plan, Tours)] = &[
+    (Plan::Berger(4), [6, 8, 8, 8]),
+    (Plan::Fide(4), [8, 8, 8, 6]),
+    (HOMES_EXCHANGED, [4, 6, 8, 8]),
+    (TEAMS_EXCHANGED, [6, 6, 6, 8]),
+    (HOMES_AND_TEAMS_EXCHANGED, [8, 4, 6, 8]),
+    (Plan::Rounds(4, 5), [6, 6, 8, 8]),
+];
 
 #[test]
-fn tours_after_an_exchange_of_rounds(rt: HostRuntime) -> Result<(), Fail> {
-    check_tours(&rt, rt.alloc(), Plan::Rounds(4, 5), [6, 6, 8, 8])
-}
-
-#[test]
-fn costs_after_exchanges_of_rounds(rt: HostRuntime) -> Result<(), Fail> {
-    check_costs(&rt, rt.alloc(), Plan::Rounds(4, 5), (28, 0, 0))?;
-    check_costs(&rt, rt.alloc(), Plan::Rounds(1, 3), (30, 0, 4))?;
-    check_costs(&rt, rt.alloc(), Plan::Rounds(0, 2), (32, 0, 2))
-}
-
-/// The runs of a schedule of four teams, which travels 30, where so many rounds in a row are allowed.
-fn check_runs(
-    rt: &impl Abort,
-    alloc: Global,
-    plan: Plan,
-    (at_most, runs): (u8, u64),
-) -> Result<(), Fail> {
-    let (_, found) = found(alloc, plan, at_most)?;
-    check_same(rt, &found, &Some((30, runs, 0)));
-    Ok(())
-}
-
-/// How many rounds in a row are allowed, and the runs of the start.
-const RUNS: &[(u8, u64)] = &[(1, 6), (2, 2), (3, 0), (5, 0), (6, 0), (78, 0)];
-
-#[test]
-fn runs_of_the_start(rt: HostRuntime) -> Result<(), Fail> {
-    for &runs in RUNS {
-        check_runs(&rt, rt.alloc(), Plan::Berger(4), runs)?;
+fn tours_of_each_of_four_teams(rt: HostRuntime) -> Result<(), Fail> {
+    for &(plan, tours) in TOURS {
+        check_tours(&rt, rt.alloc(), plan, tours)?;
     }
     Ok(())
 }
 
+/// How many rounds in a row are allowed, and the costs.
+const COSTS: &[(Plan, u8, Costs)] = &[
+    (Plan::Berger(4), 3, (30, 0, 0)),
+    (Plan::Fide(4), 3, (30, 0, 0)),
+    (HOMES_EXCHANGED, 3, (26, 0, 0)),
+    (TEAMS_EXCHANGED, 3, (26, 0, 0)),
+    (Plan::Rounds(4, 5), 3, (28, 0, 0)),
+    (Plan::Rounds(1, 3), 3, (30, 0, 4)),
+    (Plan::Rounds(0, 2), 3, (32, 0, 2)),
+    (Plan::Berger(4), 1, (30, 6, 0)),
+    (Plan::Berger(4), 2, (30, 2, 0)),
+    (Plan::Berger(4), 5, (30, 0, 0)),
+    (Plan::Berger(4), 6, (30, 0, 0)),
+    (Plan::Berger(4), 78, (30, 0, 0)),
+    (Plan::Fide(4), 2, (30, 0, 0)),
+];
+
 #[test]
-fn runs_in_the_order_of_fide(rt: HostRuntime) -> Result<(), Fail> {
-    check_runs(&rt, rt.alloc(), Plan::Fide(4), (2, 0))
+fn costs_of_four_teams(rt: HostRuntime) -> Result<(), Fail> {
+    for &(plan, at_most, costs) in COSTS {
+        check_costs(&rt, rt.alloc(), (plan, at_most), costs)?;
+    }
+    Ok(())
 }
 
 fn check_start(rt: &impl Abort, alloc: Global, league: &League, costs: Costs) -> Result<(), Fail> {

@@ -40,35 +40,8 @@ fn check_rounds(
     Ok(())
 }
 
-fn check_same_games(
-    rt: &impl Abort,
-    alloc: Global,
-    found: &Schedule,
-    wanted: &Schedule,
-) -> Result<(), Fail> {
-    let games = games_of(alloc, found)?;
-    check_same(rt, &games, &games_of(alloc, wanted)?);
-    Ok(())
-}
-
-/// What the move's exchange makes of the start, and that made once more it gives the start back.
-fn check_made(
-    rt: &impl Abort,
-    alloc: Global,
-    start: &Schedule,
-    (mv, _, after): Effect,
-) -> Result<(), Fail> {
-    check(start, mv)?;
-    let exchange = exchange(start, mv);
-    let mut schedule = start.duplicate(alloc)?;
-    exchange.make(&mut schedule);
-    check_rounds(rt, alloc, &schedule, exchange.main().rounds, after)?;
-    exchange.make(&mut schedule);
-    check_same_games(rt, alloc, &schedule, start)
-}
-
 /// What the move makes of the schedule, and that it tells the touched cells.
-fn check_applied(
+fn check_made(
     rt: &impl Abort,
     alloc: Global,
     mut schedule: Schedule,
@@ -87,8 +60,7 @@ fn check_effect(
     effect: Effect,
 ) -> Result<(), Fail> {
     check_said(rt, start, effect)?;
-    check_made(rt, alloc, start, effect)?;
-    check_applied(rt, alloc, start.duplicate(alloc)?, effect)
+    check_made(rt, alloc, start.duplicate(alloc)?, effect)
 }
 
 /// On the start of so many teams.

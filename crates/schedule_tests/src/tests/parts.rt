@@ -4,101 +4,11 @@
 use crate::tests::checks::check_same;
 use crate::tests::small_leagues::{HOMES_EXCHANGED, Plan, last_two_rounds, league_of, schedule};
 use fixtures::{Schedule, Touched};
-use league::{League, SlotSet, TeamSet, circular};
+use league::{League, SlotSet, TeamSet};
 use std::alloc::Global;
 use std::process::Abort;
 use std::test::Fail;
-use tours::{
-    repeats, repeats_part, repeats_with, runs_over, runs_part, travel, travel_around, travel_part,
-};
-
-/// Wholes and parts of one schedule, for the same touched cells.
-#[derive(Drop)]
-struct Counts {
-    travel: u64,
-    travel_part: u64,
-    travel_around: u64,
-    runs: u64,
-    runs_part: u64,
-    repeats: u64,
-    repeats_part: u64,
-    repeats_with: u64,
-}
-
-/// All counts, where the league has as many teams as the schedule.
-fn counts_of(schedule: &Schedule, league: &League, touched: Touched) -> Option<Counts> {
-    if schedule.teams() != league.teams() {
-        return None;
-    }
-    Some(Counts {
-        travel: travel(schedule, league),
-        travel_part: travel_part(schedule, league, touched),
-        travel_around: travel_around(schedule, league, touched),
-        runs: runs_over(schedule, league),
-        runs_part: runs_part(schedule, league, touched),
-        repeats: repeats(schedule),
-        repeats_part: repeats_part(schedule, touched),
-        repeats_with: repeats_with(schedule, touched),
-    })
-}
-
-/// Whether a part changed by as much as its whole.
-fn follows(old: u64, new: u64, old_part: u64, new_part: u64) -> bool {
-    new.wrapping_add(old_part) == old.wrapping_add(new_part)
-}
-
-/// Whether each part changed by as much as its whole.
-fn all_follow(old: &Counts, new: &Counts) -> bool {
-    follows(old.travel, new.travel, old.travel_part, new.travel_part)
-        && follows(old.travel, new.travel, old.travel_around, new.travel_around)
-        && follows(old.runs, new.runs, old.runs_part, new.runs_part)
-        && follows(old.repeats, new.repeats, old.repeats_part, new.repeats_part)
-        && follows(old.repeats, new.repeats, old.repeats_with, new.repeats_with)
-}
-
-/// The two games of two teams.
-fn their_games(schedule: &Schedule, i: u8, j: u8) -> Option<Touched> {
-    if i == j || i >= schedule.teams() || j >= schedule.teams() {
-        return None;
-    }
-    let first = schedule.round_of(i, j);
-    let second = schedule.round_of(j, i);
-    Some(Touched {
-        teams: TeamSet::empty().with(i).with(j),
-        rounds: SlotSet::empty().with(first).with(second),
-    })
-}
-
-/// Exchanges the homes of two teams, and tells whether the parts follow.
-fn homes_follow(schedule: &mut Schedule, league: &League, i: u8, j: u8) -> Option<bool> {
-    if i == j || i >= schedule.teams() || j >= schedule.teams() {
-        return None;
-    }
-    let touched = their_games(schedule, i, j)?;
-    let old = counts_of(schedule, league, touched)?;
-    schedule.exchange_homes(i, j);
-    let new = counts_of(schedule, league, touched)?;
-    Some(all_follow(&old, &new))
-}
-
-/// Exchanges the homes of each team and the next in a circle of so many, and has the parts follow each time.
-fn check_neighbours(rt: &impl Abort, alloc: Global, teams: u8) -> Result<(), Fail> {
-    let league = circular(alloc, teams)?;
-    let mut schedule = league.start(alloc)?;
-    for i in 1..teams {
-        let found = homes_follow(&mut schedule, &league, i - 1, i);
-        check_same(rt, &found, &Some(true));
-    }
-    Ok(())
-}
-
-#[test]
-fn parts_follow_exchanges_of_homes(rt: HostRuntime) -> Result<(), Fail> {
-    for half in 2..=20 {
-        check_neighbours(&rt, rt.alloc(), 2 * half)?;
-    }
-    Ok(())
-}
+use tours::{repeats_part, repeats_with, runs_part, travel_around, travel_part};
 
 /// The legs of touched teams and those around them, and the runs, that touch touched rounds, where the league has as many
 /// teams as the schedule.
@@ -158,4 +68,17 @@ fn parts_around_two_hosts(rt: HostRuntime) -> Result<(), Fail> {
         rounds: SlotSet::empty().with(0),
     };
     check_parts(&rt, rt.alloc(), (Plan::Berger(4), 3), touched, (1, 6, 0))
+}
+
+/// Where rounds 2 and 4 are exchanged, both pairs of round 1 meet again in round 2, of which team 1 has one.
+#[test]
+fn repeats_around_the_second_round(rt: HostRuntime) -> Result<(), Fail> {
+    let schedule = schedule(rt.alloc(), Plan::Rounds(1, 3))?;
+    let touched = Touched {
+        teams: TeamSet::below(1),
+        rounds: SlotSet::empty().with(1),
+    };
+    let part = repeats_part(&schedule, touched);
+    check_same(&rt, &(part, repeats_with(&schedule, touched)), &(2, 1));
+    Ok(())
 }

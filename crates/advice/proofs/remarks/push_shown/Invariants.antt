@@ -1,6 +1,6 @@
 -- The bytes so far, with those that are left, are the whole name.
 use Rattle.std.proofs.Common.{◌≡◌, ◌++◌, map, drop}
-use Rattle.advice.specs.Remarks.{shown_byte}
+use Rattle.json_forms.specs.Shown.{shown_byte}
 use Rattle.advice.proofs.remarks.push_shown.Given as goal
 
 abbrev pub invariant-loop-byte : goal.invariant-loop-byte

@@ -14,7 +14,7 @@ pub loop-told-init : goal.loop-told-init
 loop-told-init g c =
     let s = c.args.setting in
     under_way_none g.W.Sink.held g.W.Sink.tally s.start.now s.unit s.plan c.args.out.now c.new-line.result _ c.requires.none
-    c.new-line.ensures.line c.new-line.ensures.left c.in_ok-board_or_new.ensures refl refl
+    c.new-line.ensures.line c.new-line.ensures.left c.in_ok-board_or_new.ensures refl refl c.new.ensures
 
 pub tell-requires-clause-under_way : goal.tell-requires-clause-under_way
 tell-requires-clause-under_way g c = λ κs within.

@@ -85,7 +85,7 @@ returns-clause-under_way g c = λ first w.
     (All-head (IsRunning s.start.now w.sent.legs) c.args.leg [] w.running) in
     under_way_more g.W.Sink.held g.W.Sink.tally s.start.now s.unit s.plan c.args.leg c.args.line.now c.go_on.new.self c.args.told.now
     c.meet.new.self now w e c.in_ok-write_leg.ensures.writes.ok c.in_ok-write_leg.ensures.sent c.in_ok-leads.ensures.lead
-    (c.in_ok-leads.ensures.least) c.in_ok-leads.ensures.legs (λ legs is line. c.in_ok-go_on.ensures.line s.start.now legs is line)
+    (c.in_ok-leads.ensures.least) c.in_ok-leads.ensures.legs c.in_ok-leads.ensures.chains (λ legs is line. c.in_ok-go_on.ensures.line s.start.now legs is line)
     c.in_ok-go_on.ensures.left
 
 pub returns-clause-fewer : goal.returns-clause-fewer

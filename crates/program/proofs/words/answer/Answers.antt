@@ -1,7 +1,7 @@
 use Rattle.std.proofs.Common.{map, string_bytes}
 use Rattle.clap.specs.Words.{subcommand_of}
 use Rattle.command_line.specs.CommandLine.{program}
-use Rattle.program.proofs.Requests.{done, near_of_request, on_files}
+use Rattle.program.proofs.Requests.{at_fault, done, near_of_request, on_files}
 use Rattle.program.proofs.words.answer.Goals as goal
 
 pub returns-clause-done : goal.returns-clause-done
@@ -15,6 +15,9 @@ returns-clause-on_files g c = λ job files kept none.
     on_files g.R.Source.left g.R.Source.tally g.W.Sink.held g.W.Sink.tally c.args.source c.args.sink.now _ _ _ _ c.respond.new.sink _
     c.args-request.result c.args-request.ensures.fault c.args-request.ensures.job c.args-request.ensures.files
     c.args-request.ensures.beginning c.respond.ensures.on_files c.respond.ensures.status c.respond.ensures.quiet job files kept none
+
+pub returns-clause-fault : goal.returns-clause-fault
+returns-clause-fault g c = λ kind is. at_fault _ kind _ c.args-request.result c.args-request.ensures.fault c.respond.ensures.status is
 
 pub respond-requires-clause-near : goal.respond-requires-clause-near
 respond-requires-clause-near g c κs within = near_of_request (subcommand_of program (map string_bytes c.args.words.now)) c.args-request.result

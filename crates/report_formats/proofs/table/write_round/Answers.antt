@@ -6,5 +6,5 @@ pub loop-team-init : goal.loop-team-init
 loop-team-init g c = AddsRows-nothing c.requires.between
 
 pub loop-team-preserved : goal.loop-team-preserved
-loop-team-preserved g c = AddsRows-piece (game_at c.args.league.now c.args.schedule.now c.args.round) c.loop-team.team c.loop-team.invariant
+loop-team-preserved g c = AddsRows-piece (λ setup. game_at setup c.args.league.now c.args.schedule.now c.args.round) c.loop-team.team c.loop-team.invariant
     c.in_ok-write_game.ensures

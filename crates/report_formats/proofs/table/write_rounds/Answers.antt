@@ -6,5 +6,5 @@ pub loop-round-init : goal.loop-round-init
 loop-round-init g c = AddsRows-nothing c.requires.between
 
 pub loop-round-preserved : goal.loop-round-preserved
-loop-round-preserved g c = AddsRows-piece (games_of_round c.args.league.now c.args.schedule.now) c.loop-round.round c.loop-round.invariant
+loop-round-preserved g c = AddsRows-piece (λ setup. games_of_round setup c.args.league.now c.args.schedule.now) c.loop-round.round c.loop-round.invariant
     c.in_ok-write_round.ensures

@@ -1,4 +1,4 @@
-use Rattle.std.proofs.Common.{sym, subst, ◌∙◌, ap}
+use Rattle.std.proofs.Common.{sym, subst}
 use Rattle.improvement.specs.Lines.{IsStage, MayBegin}
 use Rattle.improvement.specs.declared.stage.Beginning.{Beginning}
 use Rattle.improvement.proofs.Lines.{best_begins, line_with, on_ok, stage_entering}

@@ -1,0 +1,8 @@
+pub mod AddingUp
+pub mod Largest
+pub mod ListedGames
+pub mod HomeGames
+pub mod Counting
+pub mod Amounts
+pub mod Naming
+pub mod Rows

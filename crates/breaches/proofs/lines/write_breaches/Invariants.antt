@@ -1,0 +1,10 @@
+use Rattle.streams.specs.Pieces.{pieces_below}
+use Rattle.streams.specs.Writing.{Adds}
+use Rattle.breaches.specs.BreachText.{lines_of}
+use Rattle.breaches.specs.Terms.{breaches_in_row}
+use Rattle.breaches.proofs.lines.write_breaches.Given as goal
+
+abbrev pub invariant-loop-row : goal.invariant-loop-row
+invariant-loop-row g l =
+    Adds g.W.Sink.held g.W.Sink.tally l.initial.out l.out
+    (pieces_below (λ k. lines_of l.schedule l.number l.rule.body (breaches_in_row l.schedule l.rule.body k)) l.row)

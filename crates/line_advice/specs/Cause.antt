@@ -1,0 +1,37 @@
+-- What is said of a bad line.
+use Rattle.std.specs.Prelude.{ℕ, List, [], ◌∷◌, ◌++◌, codes, decimal, if◌then◌else◌}
+use Rattle.std.specs.List.{concat}
+use Rattle.std.specs.Str.{is_utf8}
+use Rattle.json_forms.specs.declared.form.Quote.{Quote}
+use Rattle.json_forms.specs.Forms.{quote_of, quote_words}
+use Rattle.line_advice.specs.declared.cause.Arguments.{Arguments}
+use Rattle.line_advice.specs.declared.cause.Arguments.TheVariants as arguments
+use Rattle.line_advice.specs.declared.cause.Cause.{Cause}
+use Rattle.line_advice.specs.declared.cause.Cause.TheVariants as cause
+use Rattle.line_advice.specs.declared.cause.LineHint.{LineHint}
+
+-- the beginning of the bytes, or a question mark if they are no UTF-8
+abbrev pub quote_of_bytes : List ℕ → Quote
+quote_of_bytes bytes = quote_of (if is_utf8 bytes then bytes else codes "?")
+
+abbrev pub arguments_words : Arguments → List ℕ
+arguments_words arguments.Teams = codes "two teams are"
+arguments_words arguments.Rounds = codes "two rounds are"
+arguments_words arguments.TeamAndRounds = codes "a team and two rounds are"
+arguments_words arguments.TeamsAndRound = codes "two teams and a round are"
+arguments_words arguments.Game = codes "a round and two teams are"
+arguments_words arguments.Nothing = codes "nothing more is"
+arguments_words arguments.Slack = codes "one number is"
+
+abbrev pub cause_words : Cause → List ℕ
+cause_words (cause.NoLine word) =
+    quote_words word ++ codes " is none of homes, rounds, teams, part-rounds, part-teams, pin, unpin, undo, slack and try"
+cause_words cause.NoMove = codes "a move is wanted behind try"
+cause_words (cause.NoNumber word) = quote_words word ++ codes " is no whole number of 64 bits"
+cause_words (cause.Arguments arguments) = arguments_words arguments ++ codes " wanted"
+cause_words cause.NoRound = codes "a number and a colon are wanted behind round"
+cause_words (cause.NoColon word) = quote_words word ++ codes " has no colon behind it"
+cause_words (cause.NoGame word) = quote_words word ++ codes " is no game H-A"
+
+abbrev pub line_words : LineHint → List ℕ
+line_words hint = concat (codes "see line " ∷ decimal hint.number ∷ codes ": " ∷ quote_words hint.line ∷ codes ": " ∷ cause_words hint.cause ∷ [])

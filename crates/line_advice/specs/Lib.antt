@@ -1,0 +1,4 @@
+pub mod Cause
+pub mod Script
+pub mod Schedule
+pub mod Hints

@@ -1,0 +1,5 @@
+pub mod Cells
+pub mod Head
+pub mod Names
+pub mod Games
+pub mod Table
