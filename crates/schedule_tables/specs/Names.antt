@@ -1,5 +1,5 @@
 -- The team that a cell means.
-use Rattle.std.specs.Prelude.{ℕ, zero, suc, ◌+◌, ◌||◌, Bool, List, [], ◌∷◌, Option, Some, None, Result, Ok, Err, if◌then◌else◌}
+use Rattle.std.specs.Prelude.{ℕ, zero, suc, ◌+◌, ◌==◌, ◌||◌, Bool, List, [], ◌∷◌, Option, Some, None, Result, Ok, Err, if◌then◌else◌}
 use Rattle.std.specs.Str.{bytes_eq}
 use Rattle.league.specs.League.{LeagueData, name_of, teams}
 use Rattle.texts.specs.Number.{number_of}
@@ -14,9 +14,18 @@ abbrev pub doubled : List ℕ → List ℕ
 doubled [] = []
 doubled (b ∷ bs) = if is_mark b then b ∷ b ∷ doubled bs else b ∷ doubled bs
 
--- whether a cell is the name, or the name in quotation marks
+-- without the apostrophe at its front that tells a spreadsheet that a cell is a text
+abbrev pub unguarded : List ℕ → List ℕ
+unguarded [] = []
+unguarded (b ∷ bs) = if b == 39 then bs else b ∷ bs
+
+-- whether a text between quotation marks is the name, or the name behind an apostrophe
+abbrev pub is_marked_name : List ℕ → List ℕ → Bool
+is_marked_name name text = bytes_eq text (doubled name) || bytes_eq (unguarded text) (doubled name)
+
+-- whether a cell is the name, or the name in quotation marks, behind an apostrophe or not
 abbrev pub stands_for : List ℕ → List ℕ → Bool
-stands_for name cell = bytes_eq cell name || bytes_eq (unmarked cell) (doubled name)
+stands_for name cell = bytes_eq cell name || is_marked_name name (unmarked cell)
 
 -- with one team more
 abbrev pub and_also : ℕ → Named → Named

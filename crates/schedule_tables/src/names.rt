@@ -3,7 +3,7 @@
 ghost use Rattle.std.specs.Prelude.{◌≡◌};
 ghost use Rattle.std.specs.Str.{bytes_eq};
 ghost use Rattle.league.specs.League.{teams};
-ghost use Rattle.schedule_tables.specs.Names.{and_also, doubled, named_below, only_one, stands_for, team_of};
+ghost use Rattle.schedule_tables.specs.Names.{and_also, doubled, is_marked_name, named_below, only_one, stands_for, team_of, unguarded};
 
 use crate::cells::{MARK, unmarked};
 use crate::fault::CellFault;
@@ -62,11 +62,27 @@ fn and_also(team: u8, named: Named) -> Named
     }
 }
 
-/// Whether a cell is the name, or the name in quotation marks.
+/// Whether a cell is the name, or the name in quotation marks, behind an apostrophe or not.
 fn stands_for(name: &[u8], cell: &[u8]) -> bool
     ensures { result ≡ stands_for name.now cell.now }
 {
-    cell == name || is_doubled(name, unmarked(cell))
+    cell == name || is_marked_name(name, unmarked(cell))
+}
+
+fn is_marked_name(name: &[u8], text: &[u8]) -> bool
+    ensures { result ≡ is_marked_name name.now text.now }
+{
+    is_doubled(name, text) || is_doubled(name, unguarded(text))
+}
+
+/// Without the apostrophe at its front that tells a spreadsheet that a cell is a text.
+fn unguarded(text: &[u8]) -> &[u8]
+    ensures { result.now ≡ unguarded text.now }
+{
+    match text {
+        [b'\'', rest @ ..] => rest,
+        _ => text,
+    }
 }
 
 /// Whether the text is the name with each of its quotation marks doubled.
