@@ -28,6 +28,7 @@ pub(crate) const PLAY_LINES: &str = "Script lines (docs/script.md), with teams a
   unpin R H A        that game may move again
   undo               the last change in effect is taken back
   slack S            from here on a move may raise the score by at most S
+  try MOVE           tells what one of the five moves would cost, and changes nothing
 
 Example:
   (cat leagues/circular-4.json; echo script; echo 'homes 1 2'; echo undo) | ttp play --room 8
@@ -67,8 +68,8 @@ double round robin, what is wrong with it if not, what it costs, and what that i
 
 pub(crate) const REPORT_LINES: &str =
     "Of the schedule the lines `round R: H-A H-A ..` are read, with teams and rounds from 1
-(docs/report.md). The exit status is 0 where it is a double round robin that breaks no hard
-limit, and 3 where it isn't.
+(docs/report.md), or a table of games as CSV (docs/spreadsheets.md). The exit status is 0 where
+it is a double round robin that breaks no hard limit, and 3 where it isn't.
 
 Example:
   (cat leagues/circular-4.json; echo sheet; ttp start < leagues/circular-4.json) | ttp report
