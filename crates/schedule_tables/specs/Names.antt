@@ -20,7 +20,7 @@ unguarded [] = []
 unguarded (b ∷ bs) = if b == 39 then bs else b ∷ bs
 
 -- whether a text between quotation marks is the name, or the name behind an apostrophe
-abbrev pub is_marked_name : List ℕ → List ℕ → Bool
+unfoldable pub is_marked_name : List ℕ → List ℕ → Bool
 is_marked_name name text = bytes_eq text (doubled name) || bytes_eq (unguarded text) (doubled name)
 
 -- whether a cell is the name, or the name in quotation marks, behind an apostrophe or not

@@ -69,6 +69,7 @@ fn stands_for(name: &[u8], cell: &[u8]) -> bool
     cell == name || is_marked_name(name, unmarked(cell))
 }
 
+#[tactic(auto, unfolding(crate::specs::Names::is_marked_name))]
 fn is_marked_name(name: &[u8], text: &[u8]) -> bool
     ensures { result ≡ is_marked_name name.now text.now }
 {
