@@ -1,6 +1,6 @@
 -- A leg, block by block.
 use Rattle.std.proofs.Common.{◌≡◌, ℕ, ◌+◌, ◌-◌, ◌*◌, ◌/◌, ◌<◌, ◌≤◌, min, Option, Some, None, refl, sym, ◌∙◌, ap, subst, arith}
-use Rattle.fixture_board.specs.declared.cost.Best.{Best}
+use Rattle.fixture_board.specs.declared.best.Best.{Best}
 use Rattle.fixture_board.specs.History.{best_of}
 use Rattle.fixture_board.specs.Laws.{as_number, least_of}
 use Rattle.fixture_board.specs.Record.{Book}

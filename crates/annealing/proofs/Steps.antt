@@ -8,7 +8,7 @@ use Rattle.moves.specs.declared.moves.Move.{Move}
 use Rattle.moves.specs.declared.moves.MoveKind.{MoveKind}
 use Rattle.moves.specs.Moves.{kind_of}
 use Rattle.fixture_board.specs.declared.change.Entry.{Entry}
-use Rattle.fixture_board.specs.declared.cost.Cost.{Cost}
+use Rattle.costs.specs.declared.cost.Cost.{Cost}
 use Rattle.fixture_board.specs.declared.trial.Trial.{Trial}
 use Rattle.fixture_board.specs.History.{cost_at}
 use Rattle.fixture_board.specs.Record.{Book, book}

@@ -5,7 +5,7 @@ use Rattle.moves.specs.Moves.{kind_of}
 use Rattle.fixture_board.specs.declared.change.Change.{Change}
 use Rattle.fixture_board.specs.declared.change.Change.TheVariants.{Shift}
 use Rattle.fixture_board.specs.declared.change.Entry.{Entry}
-use Rattle.fixture_board.specs.declared.cost.Best.{Best}
+use Rattle.fixture_board.specs.declared.best.Best.{Best}
 use Rattle.fixture_board.specs.History.{IsLegal, best_of, cost_at}
 use Rattle.fixture_board.specs.Laws.{least_of}
 use Rattle.fixture_board.specs.Record.{Book}

@@ -9,7 +9,7 @@ use Rattle.league.specs.Starts.{near_at}
 use Rattle.league.specs.Sums.{sum_below}
 use Rattle.moves.specs.declared.moves.Move.{Move}
 use Rattle.fixture_board.specs.declared.change.Entry.{Entry}
-use Rattle.fixture_board.specs.Costs.{total_of}
+use Rattle.costs.specs.Costs.{total_of}
 use Rattle.fixture_board.specs.History.{cost_at}
 use Rattle.fixture_board.specs.Replies.{greatest}
 use Rattle.fixture_board.specs.Trials.{trial_history}

@@ -8,7 +8,7 @@ ghost use Rattle.search.specs.Steps.{IsKnown};
 
 use crate::kind::Kind;
 use crate::plan::Plan;
-use fixture_board::{Attempt, Cost, KeptGaps, cost_of, make_within};
+use costs::{Attempt, Cost, KeptGaps, cost_of, make_within};
 use fixtures::Schedule;
 use league::League;
 use league::limits::round_count;

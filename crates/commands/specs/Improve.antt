@@ -2,7 +2,7 @@
 use Rattle.std.specs.Prelude.{◌≡◌, ◌⊎◌, ℕ, List, is_some, Option, Some, None, Result, Ok, Err}
 use Rattle.streams.specs.declared.tally.Tally.{Tally}
 use Rattle.league.specs.League.{LeagueData}
-use Rattle.fixture_board.specs.declared.cost.Best.{Best}
+use Rattle.fixture_board.specs.declared.best.Best.{Best}
 use Rattle.improvement.specs.declared.plan.ImproveFault.{ImproveFault}
 use Rattle.improvement.specs.declared.plan.ImproveFault.TheVariants as improve
 use Rattle.improvement.specs.declared.plan.ImprovePlan.{ImprovePlan}

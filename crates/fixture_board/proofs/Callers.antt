@@ -3,8 +3,8 @@ use Rattle.std.proofs.Common.{◌≡◌, suc, Bool, true, false, if◌then◌els
 use Rattle.std.proofs.Common.{Option, Some, None, refl, sym, ◌∙◌, ap}
 use Rattle.std.specs.Option.{option_map}
 use Rattle.league.specs.League.{LeagueData}
-use Rattle.fixture_board.specs.Costs.{cost_of, total_of}
-use Rattle.fixture_board.specs.declared.cost.Cost.{Cost}
+use Rattle.costs.specs.Costs.{cost_of, total_of}
+use Rattle.costs.specs.declared.cost.Cost.{Cost}
 use Rattle.fixture_board.specs.declared.change.Change.{Change}
 use Rattle.fixture_board.specs.declared.change.Entry.{Entry}
 use Rattle.fixture_board.specs.History.{effect, effective, effective_after, games_of, pins_of, cost_at, better, best_after}

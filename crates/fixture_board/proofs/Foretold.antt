@@ -4,8 +4,8 @@ use Rattle.std.proofs.lemmas.Result.{err_from_is_err_and}
 use Rattle.league.specs.League.{LeagueData}
 use Rattle.fixtures.specs.Games.{Games}
 use Rattle.moves.specs.Moves.{moved}
-use Rattle.fixture_board.specs.Costs.{cost_of}
-use Rattle.fixture_board.specs.declared.cost.Cost.{Cost}
+use Rattle.costs.specs.Costs.{cost_of}
+use Rattle.costs.specs.declared.cost.Cost.{Cost}
 use Rattle.fixture_board.specs.declared.ask.Ask.TheVariants as ask
 use Rattle.fixture_board.specs.declared.ask.Proposal.{Proposal}
 use Rattle.fixture_board.specs.declared.reply.Why.{Why}

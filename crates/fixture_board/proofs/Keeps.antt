@@ -8,9 +8,9 @@ use Rattle.league.specs.League.{LeagueData, teams, IsLeague}
 use Rattle.fixtures.specs.declared.game.Game.{Game}
 use Rattle.fixtures.specs.Games.{Games, IsDoubleRoundRobin}
 use Rattle.moves.specs.Moves.{moved}
-use Rattle.fixture_board.specs.Costs.{cost_of, total_of}
-use Rattle.fixture_board.specs.declared.cost.Cost.{Cost}
-use Rattle.fixture_board.specs.declared.cost.Best.{Best}
+use Rattle.costs.specs.Costs.{cost_of, total_of}
+use Rattle.costs.specs.declared.cost.Cost.{Cost}
+use Rattle.fixture_board.specs.declared.best.Best.{Best}
 use Rattle.fixture_board.specs.declared.change.Change.{Change}
 use Rattle.fixture_board.specs.declared.change.Change.TheVariants.{Shift, Pin, Unpin, Undo}
 use Rattle.fixture_board.specs.declared.change.Entry.{Entry}
@@ -29,7 +29,8 @@ use Rattle.fixture_board.specs.Replies.{change_of, refusal, entry}
 use Rattle.fixture_board.proofs.OneMore.{effective-none, effective-more, games_of-none, pins_of-none, games_of-by}
 use Rattle.fixture_board.proofs.OneMore.{pins_of-by, games_after-more, pins_after-more, games_of-more, pins_of-more}
 use Rattle.fixture_board.proofs.OneMore.{effective-undo, IsLegal-none, IsLegal-more, best_prefix-none, best_prefix-more}
-use Rattle.fixture_board.proofs.Scores.{moved-teams, games_of-teams, score_below}
+use Rattle.costs.proofs.ForCallers.{score_below}
+use Rattle.fixture_board.proofs.Scored.{moved-teams, games_of-teams}
 use Rattle.fixture_board.proofs.Stand.{pinned_stands}
 use Rattle.fixture_board.proofs.Next.{can_make, IsLegal-within}
 use Rattle.fixture_board.proofs.Sound.{IsSound-legal, IsLastMade, IsLastMade-legal}

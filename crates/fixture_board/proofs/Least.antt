@@ -5,7 +5,7 @@ use Rattle.std.proofs.Common.{append-nil, length-append, take_all, arith}
 use Rattle.std.proofs.lemmas.List.{take-append-le}
 use Rattle.std.proofs.lemmas.Bool.{cases_lt, and_parts, and_cases, eqb-true, eqb-false, ltb-true, ltb-false}
 use Rattle.league.specs.League.{LeagueData}
-use Rattle.fixture_board.specs.Costs.{total_of}
+use Rattle.costs.specs.Costs.{total_of}
 use Rattle.fixture_board.specs.declared.change.Entry.{Entry}
 use Rattle.fixture_board.specs.History.{cost_at, better, best_after, best_prefix, IsBestPrefix, IsBestOf}
 

@@ -1,12 +1,7 @@
 pub mod OneMore
 pub mod Least
-pub mod Scores
+pub mod Scored
 pub mod KeptGames
-pub mod Parts
-pub mod PartLimits
-pub mod Partial
-pub mod Alike
-pub mod Fitting
 pub mod Stand
 pub mod Next
 pub mod Sound

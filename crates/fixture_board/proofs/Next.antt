@@ -9,7 +9,7 @@ use Rattle.fixtures.specs.Games.{Games}
 use Rattle.moves.specs.declared.fault.MoveFault.{MoveFault}
 use Rattle.moves.specs.declared.fault.MoveFault.TheVariants.{BadMove, Meet}
 use Rattle.moves.specs.Moves.{moved, fault_of}
-use Rattle.fixture_board.specs.Costs.{cost_of, score_of, score_limit, total_of}
+use Rattle.costs.specs.Costs.{cost_of, score_of, score_limit, total_of}
 use Rattle.fixture_board.specs.declared.change.Entry.{Entry}
 use Rattle.fixture_board.specs.declared.ask.Ask.{Ask}
 use Rattle.fixture_board.specs.declared.ask.Ask.TheVariants as ask
@@ -22,7 +22,8 @@ use Rattle.fixture_board.specs.Replies.{change_of, is_bad, is_meeting, first_of,
 use Rattle.fixture_board.specs.Replies.{score_rows, refusal, entry, next_if, reply_if, next_of, reply_of, greatest}
 use Rattle.fixture_board.specs.Laws.{as_number, least_of, TellsOf}
 use Rattle.fixture_board.proofs.OneMore.{effective-more, games_of-by, IsLegal-more, best_prefix-more}
-use Rattle.fixture_board.proofs.Scores.{score_below, games_of-teams}
+use Rattle.costs.proofs.ForCallers.{score_below}
+use Rattle.fixture_board.proofs.Scored.{games_of-teams}
 
 -- no row applies
 abbrev pub NoneApplies : List (Bool × Why) → Type 0

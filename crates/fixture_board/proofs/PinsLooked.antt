@@ -4,10 +4,10 @@ use Rattle.std.proofs.lemmas.Bool.{cases_eq, not-true, eqb-false, ne_eqb, trueâ‰
 use Rattle.league.specs.Pairs.{has_pair}
 use Rattle.fixtures.specs.declared.game.Game.{Game}
 use Rattle.fixtures.specs.Games.{Games, round_of, IsPair}
-use Rattle.moves.specs.declared.exchanges.Exchange.{Exchange}
-use Rattle.moves.specs.Exchanges.{exchanged_by, IsExchange}
-use Rattle.moves.specs.Kept.{moves_one_of}
-use Rattle.moves.proofs.ForCallers.{moves_one_of_kept, moves_one_of_yes}
+use Rattle.fixtures.specs.declared.exchanges.Exchange.{Exchange}
+use Rattle.fixtures.specs.Exchanges.{exchanged_by, IsExchange}
+use Rattle.fixtures.specs.Kept.{moves_one_of}
+use Rattle.fixtures.proofs.ForCallers.{moves_one_of_kept, moves_one_of_yes}
 use Rattle.fixture_board.specs.History.{is_pinned, moves_pin, AllStand}
 use Rattle.fixture_board.specs.PinTable.{free, pin_at, ArePinsAt, ArePinnedPairs}
 use Rattle.fixture_board.proofs.PinTable.{entry-pinned, moves_pin-none, moves_pin-some}

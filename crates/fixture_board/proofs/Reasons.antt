@@ -10,8 +10,8 @@ use Rattle.fixtures.specs.declared.game.Game.{Game}
 use Rattle.fixtures.specs.Draft.{is_game_in_range}
 use Rattle.fixtures.specs.Games.{Games, IsDoubleRoundRobin}
 use Rattle.moves.specs.Moves.{moved}
-use Rattle.fixture_board.specs.Costs.{cost_of, score_of}
-use Rattle.fixture_board.specs.declared.cost.Cost.{Cost}
+use Rattle.costs.specs.Costs.{cost_of, score_of}
+use Rattle.costs.specs.declared.cost.Cost.{Cost}
 use Rattle.fixture_board.specs.declared.change.Change.{Change}
 use Rattle.fixture_board.specs.declared.ask.Ask.{Ask}
 use Rattle.fixture_board.specs.declared.ask.Ask.TheVariants as ask

@@ -8,9 +8,9 @@ use Rattle.league.specs.League.{LeagueData, teams, IsLeague}
 use Rattle.fixtures.specs.declared.game.Game.{Game}
 use Rattle.fixtures.specs.Games.{Games, IsDoubleRoundRobin}
 use Rattle.league.specs.Starts.{start_of, kept_games}
-use Rattle.fixture_board.specs.Costs.{cost_of, total_of}
-use Rattle.fixture_board.specs.declared.cost.Best.{Best}
-use Rattle.fixture_board.specs.declared.cost.Cost.{Cost}
+use Rattle.costs.specs.Costs.{cost_of, total_of}
+use Rattle.fixture_board.specs.declared.best.Best.{Best}
+use Rattle.costs.specs.declared.cost.Cost.{Cost}
 use Rattle.fixture_board.specs.declared.change.Change.{Change}
 use Rattle.fixture_board.specs.declared.change.Change.TheVariants.{Shift, Pin, Unpin, Undo}
 use Rattle.fixture_board.specs.declared.change.Entry.{Entry}
@@ -27,7 +27,8 @@ use Rattle.fixture_board.proofs.KeptGames.{AllStand-kept}
 use Rattle.fixture_board.proofs.Least.{best_prefix-is_best}
 use Rattle.fixture_board.proofs.OneMore.{effective-more}
 use Rattle.fixture_board.proofs.PinTable.{IsPair-in_range, ArePinsAt-games, ArePinsAt-pin, ArePinsAt-unpin}
-use Rattle.fixture_board.proofs.Scores.{moved-teams, games_of-teams, score_below}
+use Rattle.costs.proofs.ForCallers.{score_below}
+use Rattle.fixture_board.proofs.Scored.{moved-teams, games_of-teams}
 use Rattle.league.proofs.ForCallers.{round_robin_start}
 use Rattle.fixture_board.proofs.Sound.{FitFrom-legal, IsDoubleRoundRobin-change}
 use Rattle.fixture_board.proofs.Stand.{Fit, AllStand-change, pinned_stands}

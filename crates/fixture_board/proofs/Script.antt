@@ -7,11 +7,11 @@ use Rattle.league.specs.League.{LeagueData, IsLeague}
 use Rattle.fixtures.specs.declared.game.Game.{Game}
 use Rattle.moves.specs.declared.moves.Move.{Move}
 use Rattle.moves.specs.Moves.{moved}
-use Rattle.fixture_board.specs.Costs.{cost_of, score_of}
+use Rattle.costs.specs.Costs.{cost_of, score_of}
 use Rattle.fixture_board.specs.declared.change.Change.{Change}
 use Rattle.fixture_board.specs.declared.change.Change.TheVariants.{Shift, Pin, Unpin, Undo}
 use Rattle.fixture_board.specs.declared.change.Entry.{Entry}
-use Rattle.fixture_board.specs.declared.cost.Cost.{Cost}
+use Rattle.costs.specs.declared.cost.Cost.{Cost}
 use Rattle.fixture_board.specs.declared.ask.Ask.{Ask}
 use Rattle.fixture_board.specs.declared.reply.Why.{Why}
 use Rattle.fixture_board.specs.declared.reply.Reply.TheVariants.{Done}
@@ -22,7 +22,7 @@ use Rattle.fixture_board.specs.Replies.{ask_of, played_from, answers_from}
 use Rattle.fixture_board.specs.Replay.{changes_of, under_caller_0, AllDone, IsReplayed}
 use Rattle.fixture_board.proofs.Callers.{under-more, length-under, effective-under, games_of-under, pins_of-under, best_of-under}
 use Rattle.fixture_board.proofs.OneMore.{games_of-more, accepted, replies_done}
-use Rattle.fixture_board.proofs.Scores.{IsScored, IsScored-league}
+use Rattle.fixture_board.proofs.Scored.{IsScored, IsScored-league}
 use Rattle.fixture_board.proofs.Stand.{FitFrom, FitFrom-more, AllStand-fit, pinned_stands}
 
 -- the row doesn't apply, and none after it

@@ -16,7 +16,7 @@ use Rattle.fixture_board.specs.History.{effect, effective, shifted, games_after,
 use Rattle.fixture_board.specs.History.{pins_after, pins_of, is_there, moves_pin, AllStand, Fits, May}
 use Rattle.fixture_board.proofs.OneMore.{effective-more}
 use Rattle.fixture_board.proofs.KeptGames.{AllStand-kept}
-use Rattle.fixture_board.proofs.Scores.{moved-teams}
+use Rattle.fixture_board.proofs.Scored.{moved-teams}
 
 -- the game is one of the schedule
 abbrev pub Stands : Games → Game → Type 0

@@ -6,10 +6,10 @@ use Rattle.league.specs.League.{LeagueData}
 use Rattle.fixtures.specs.Games.{Games}
 use Rattle.moves.specs.declared.fault.MoveFault.{MoveFault}
 use Rattle.moves.specs.Moves.{moved, fault_of}
-use Rattle.fixture_board.specs.Costs.{cost_of, score_by}
+use Rattle.costs.specs.Costs.{cost_of, score_by}
 use Rattle.fixture_board.specs.declared.change.Change.TheVariants.{Shift}
 use Rattle.fixture_board.specs.declared.change.Entry.{Entry}
-use Rattle.fixture_board.specs.declared.cost.Cost.{Cost}
+use Rattle.costs.specs.declared.cost.Cost.{Cost}
 use Rattle.fixture_board.specs.declared.trial.Trial.{Trial}
 use Rattle.fixture_board.specs.History.{games_of, pins_of, moves_pin, May, IsLegal, cost_at}
 use Rattle.fixture_board.specs.Kept.{Kept, FollowsHistory, IsLeft, IsMade}
@@ -19,7 +19,8 @@ use Rattle.fixture_board.proofs.Keeps.{IsGranted-shift, known_cost}
 use Rattle.fixture_board.proofs.Next.{cost_at-callers}
 use Rattle.fixture_board.proofs.OneMore.{IsLegal-more}
 use Rattle.fixture_board.proofs.Script.{granted-shift}
-use Rattle.fixture_board.proofs.Scores.{score_fits, IsScored-league}
+use Rattle.costs.proofs.ForCallers.{score_fits}
+use Rattle.fixture_board.proofs.Scored.{IsScored-league}
 
 -- what is so of a move that passes
 

@@ -7,13 +7,13 @@ use Rattle.fixtures.specs.Draft.{is_game_in_range}
 use Rattle.fixtures.specs.Games.{Games, round_of}
 use Rattle.league.specs.Starts.{start_of, kept_games}
 use Rattle.moves.specs.Moves.{moved, fault_of}
-use Rattle.fixture_board.specs.declared.cost.Cost.{Cost}
+use Rattle.costs.specs.declared.cost.Cost.{Cost}
 use Rattle.league.specs.League.{LeagueData}
-use Rattle.fixture_board.specs.Costs.{cost_of, total_of}
+use Rattle.costs.specs.Costs.{cost_of, total_of}
 use Rattle.fixture_board.specs.declared.change.Change.{Change}
 use Rattle.fixture_board.specs.declared.change.Change.TheVariants.{Shift, Pin, Unpin, Undo}
 use Rattle.fixture_board.specs.declared.change.Entry.{Entry}
-use Rattle.fixture_board.specs.declared.cost.Best.{Best}
+use Rattle.fixture_board.specs.declared.best.Best.{Best}
 
 -- the changes in effect after one more
 abbrev pub effect : List Change → Change → List Change

@@ -12,12 +12,12 @@ use Rattle.fixture_board.specs.declared.ask.Proposal.{Proposal}
 use Rattle.fixture_board.specs.declared.change.Change.{Change}
 use Rattle.fixture_board.specs.declared.change.Change.TheVariants.{Shift, Pin, Unpin, Undo}
 use Rattle.fixture_board.specs.declared.change.Entry.{Entry}
-use Rattle.fixture_board.specs.declared.cost.Best.{Best}
-use Rattle.fixture_board.specs.declared.cost.Cost.{Cost}
+use Rattle.fixture_board.specs.declared.best.Best.{Best}
+use Rattle.costs.specs.declared.cost.Cost.{Cost}
 use Rattle.fixture_board.specs.declared.reply.Why.{Why}
 use Rattle.fixture_board.specs.declared.state.State.{State}
 use Rattle.fixture_board.specs.declared.trial.Trial.{Trial}
-use Rattle.fixture_board.specs.Costs.{score_of, score_limit, total_of}
+use Rattle.costs.specs.Costs.{score_of, score_limit, total_of}
 use Rattle.fixture_board.specs.History.{effective, games_of, pins_of, cost_at, best_prefix, best_at, max_room, IsLegal}
 use Rattle.fixture_board.specs.PinTable.{ArePinsAt, pin_entries}
 use Rattle.fixture_board.specs.Replies.{refusal, entry}

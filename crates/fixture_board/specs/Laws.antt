@@ -2,7 +2,7 @@
 use Rattle.std.specs.Prelude.{◌≡◌, ℕ, List, [], ◌∷◌, ◌++◌, length, Option, Some, None}
 use Rattle.fixtures.specs.Games.{IsDoubleRoundRobin}
 use Rattle.league.specs.League.{LeagueData}
-use Rattle.fixture_board.specs.declared.cost.Best.{Best}
+use Rattle.fixture_board.specs.declared.best.Best.{Best}
 use Rattle.fixture_board.specs.declared.change.Entry.{Entry}
 use Rattle.fixture_board.specs.declared.reply.Reply.{Reply}
 use Rattle.fixture_board.specs.declared.reply.Reply.TheVariants.{Done, No}

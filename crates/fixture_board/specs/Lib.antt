@@ -1,5 +1,3 @@
-pub mod Costs
-pub mod CostParts
 pub mod History
 pub mod Replies
 pub mod Trials

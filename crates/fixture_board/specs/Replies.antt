@@ -9,7 +9,7 @@ use Rattle.moves.specs.declared.fault.MoveFault.TheVariants.{BadMove, Meet}
 use Rattle.moves.specs.declared.moves.Move.{Move}
 use Rattle.moves.specs.Moves.{moved, fault_of}
 use Rattle.league.specs.League.{LeagueData}
-use Rattle.fixture_board.specs.Costs.{cost_of, score_of}
+use Rattle.costs.specs.Costs.{cost_of, score_of}
 use Rattle.fixture_board.specs.declared.change.Change.{Change}
 use Rattle.fixture_board.specs.declared.change.Change.TheVariants.{Shift, Pin, Unpin, Undo}
 use Rattle.fixture_board.specs.declared.change.Entry.{Entry}

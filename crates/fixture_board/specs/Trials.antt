@@ -5,10 +5,10 @@ use Rattle.fixtures.specs.declared.game.Game.{Game}
 use Rattle.fixtures.specs.Games.{Games}
 use Rattle.moves.specs.Moves.{moved, fault_of}
 use Rattle.league.specs.League.{LeagueData}
-use Rattle.fixture_board.specs.Costs.{cost_of, score_by}
+use Rattle.costs.specs.Costs.{cost_of, score_by}
 use Rattle.fixture_board.specs.declared.change.Change.TheVariants.{Shift}
 use Rattle.fixture_board.specs.declared.change.Entry.{Entry}
-use Rattle.fixture_board.specs.declared.cost.Cost.{Cost}
+use Rattle.costs.specs.declared.cost.Cost.{Cost}
 use Rattle.fixture_board.specs.declared.trial.Trial.{Trial}
 use Rattle.fixture_board.specs.History.{games_of, pins_of, moves_pin, cost_at}
 

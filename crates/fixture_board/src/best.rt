@@ -1,11 +1,20 @@
 //! The best version so far.
 
 ghost use Rattle.std.specs.Prelude.{◌≡◌, ◌^◌, ◌<◌, if◌then◌else◌};
-ghost use Rattle.fixture_board.specs.Costs.{total_of};
+ghost use Rattle.costs.specs.Costs.{total_of};
 ghost use Rattle.fixture_board.specs.Kept.{leads, led_by};
 
-use crate::cost::{Best, Cost};
+use costs::Cost;
 use fixtures::Schedule;
+
+/// The least total, travel and soft together, of the feasible versions so far.
+#[derive(Clone, Copy, Debug, PartialEq, Eq)]
+pub struct Best {
+    /// The first version that has it.
+    pub at: u64,
+    /// Its travel and soft penalties.
+    pub total: u64,
+}
 
 /// Keeps the best of the versions so far, with its schedule: the version `at` has this schedule, of this cost.
 pub(crate) fn keep_best(

@@ -13,7 +13,8 @@ mod calls;
 mod copies;
 
 use crate::change::Entry;
-use crate::cost::{Best, Cost};
+use crate::best::Best;
+use costs::Cost;
 use crate::state::State;
 use fixtures::Schedule;
 use league::League;

@@ -5,7 +5,7 @@ ghost use Rattle.fixture_board.specs.History.{games_of, cost_at, IsLegal};
 ghost use Rattle.fixture_board.specs.Looks.{copied};
 
 use crate::board::Board;
-use crate::cost::Cost;
+use costs::Cost;
 use fixtures::Schedule;
 
 /// What a look shows, beside the schedule.

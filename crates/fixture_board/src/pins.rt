@@ -5,17 +5,16 @@ ghost use Rattle.std.specs.Prelude.{replicate, length, slice_set, slice_index_or
 ghost use Rattle.league.specs.League.{teams};
 ghost use Rattle.league.specs.Limits.{max_teams};
 ghost use Rattle.fixtures.specs.declared.game.Game.{Game};
-ghost use Rattle.moves.specs.Exchanges.{exchanged_by, IsExchange};
+ghost use Rattle.fixtures.specs.Exchanges.{exchanged_by, IsExchange};
 ghost use Rattle.fixture_board.specs.History.{moves_pin, AllStand};
 ghost use Rattle.fixture_board.specs.declared.change.Change.{Change};
 ghost use Rattle.fixture_board.specs.Retraced.{HasPlace, written, IsRetraced};
 ghost use Rattle.fixture_board.specs.PinTable.{free, pin_at, pin_index, pin_entries, AreBegun, ArePinsAt, IsFirstTable};
 
 use crate::change::Change;
-use fixtures::{Game, Schedule};
+use fixtures::{Exchange, Game, Schedule};
 use league::limits::MAX_TEAMS;
 use league::{League, PairSet};
-use moves::Exchange;
 use std::alloc::{AllocError, Global};
 use std::marker::Model;
 

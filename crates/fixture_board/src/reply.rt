@@ -1,6 +1,6 @@
 //! What a board answers.
 
-use crate::cost::Cost;
+use costs::Cost;
 
 /// Why a board refuses. If several reasons hold, the first in this order is told.
 #[derive(Clone, Copy, Debug, PartialEq, Eq)]

@@ -5,14 +5,15 @@ mod copies;
 mod rewind;
 mod steps;
 
-use crate::best::keep_best;
+use crate::best::{Best, keep_best};
 use crate::change::{Change, Entry};
-use crate::cost::{Best, Cost};
+use crate::best::Best;
+use costs::Cost;
 use crate::pins::Pins;
-use crate::whole_cost::cost_of;
+use costs::cost_of;
 use fixtures::Schedule;
 use league::League;
-use robinx::KeptGaps;
+use costs::KeptGaps;
 use std::alloc::{AllocError, Global};
 
 /// A history of at most `room` entries, and what follows from it.
@@ -35,7 +36,7 @@ pub(crate) struct State {
 
 impl State {
     ghost use Rattle.std.specs.Prelude.{◌≡◌, ◌+◌, ◌^◌, ◌<◌, ◌≤◌, [], length, IfOk};
-    ghost use Rattle.fixture_board.specs.Costs.{total_of};
+    ghost use Rattle.costs.specs.Costs.{total_of};
     ghost use Rattle.fixture_board.specs.History.{max_room};
     ghost use Rattle.fixture_board.specs.Kept.{kept_of, entered, HasMemory, FollowsHistory};
 

@@ -3,7 +3,7 @@ use Rattle.std.proofs.Common.{◌≡◌, ℕ, true, List, [], ◌++◌, All, Opt
 use Rattle.std.specs.Borrow.{MutBor}
 use Rattle.std.specs.Io.KnownBytes.{Appends}
 use Rattle.league.specs.League.{IsLeague, LeagueData}
-use Rattle.fixture_board.specs.declared.cost.Best.{Best}
+use Rattle.fixture_board.specs.declared.best.Best.{Best}
 use Rattle.fixture_board.specs.History.{best_of}
 use Rattle.fixture_board.specs.Record.{Book}
 use Rattle.streams.specs.declared.buffered.BufferedSink.{BufferedSink}

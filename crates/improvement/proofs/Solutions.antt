@@ -7,10 +7,10 @@ use Rattle.std.specs.List.{cons_option}
 use Rattle.std.specs.Option.{option_map, unwrap_or}
 use Rattle.league.specs.League.{IsLeague, LeagueData}
 use Rattle.league.specs.Starts.{start_of}
-use Rattle.fixture_board.specs.Costs.{cost_of, total_of}
+use Rattle.costs.specs.Costs.{cost_of, total_of}
 use Rattle.fixture_board.specs.declared.change.Entry.{Entry}
-use Rattle.fixture_board.specs.declared.cost.Best.{Best}
-use Rattle.fixture_board.specs.declared.cost.Cost.{Cost}
+use Rattle.fixture_board.specs.declared.best.Best.{Best}
+use Rattle.costs.specs.declared.cost.Cost.{Cost}
 use Rattle.fixture_board.specs.History.{IsBestOf, IsLegal, as_best, best_of, best_prefix, cost_at, effective, games_after, games_of}
 use Rattle.fixture_board.specs.Rewound.{rewound}
 use Rattle.fixture_board.proofs.ForCallers.{games_of_teams}

@@ -9,7 +9,7 @@ use Rattle.fixtures.specs.Games.{Games}
 use Rattle.tours.specs.Phased.{unphased}
 use Rattle.tours.specs.Repeats.{repeats}
 use Rattle.tours.specs.Runs.{runs_over}
-use Rattle.fixture_board.specs.Costs.{hard_penalty, penalty_of, where_phased}
+use Rattle.costs.specs.Costs.{hard_penalty, penalty_of, where_phased}
 use Rattle.texts.specs.LeastHard.{rule_name}
 use Rattle.improvement.specs.declared.broken.Part.{Part}
 use Rattle.improvement.specs.declared.broken.Part.TheVariants.{Runs, Repeats, Halves, RuleAt}

@@ -3,9 +3,9 @@ use Rattle.std.specs.Prelude.{◌≡◌, ℕ, ◌<◌, ◌≤◌, true, List, []
 use Rattle.league.specs.League.{LeagueData, teams}
 use Rattle.fixtures.specs.Games.{Games, IsDoubleRoundRobin}
 use Rattle.league.specs.Starts.{start_of}
-use Rattle.fixture_board.specs.Costs.{cost_of, total_of}
+use Rattle.costs.specs.Costs.{cost_of, total_of}
 use Rattle.fixture_board.specs.declared.change.Entry.{Entry}
-use Rattle.fixture_board.specs.declared.cost.Best.{Best}
+use Rattle.fixture_board.specs.declared.best.Best.{Best}
 use Rattle.fixture_board.specs.History.{IsLegal, best_of}
 use Rattle.improvement.specs.declared.broken.Part.{Part}
 use Rattle.improvement.specs.Broken.{breaches}

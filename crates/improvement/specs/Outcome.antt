@@ -6,7 +6,7 @@ use Rattle.streams.specs.Limits.{write_limit}
 use Rattle.streams.specs.Sending.{AppendsPrefix}
 use Rattle.streams.specs.Tally.{FailsWriting}
 use Rattle.streams.specs.declared.tally.Tally.{Tally}
-use Rattle.fixture_board.specs.declared.cost.Best.{Best}
+use Rattle.fixture_board.specs.declared.best.Best.{Best}
 use Rattle.fixture_board.specs.History.{best_of}
 use Rattle.texts.specs.SearchText.{PlaysBack}
 use Rattle.annealing.specs.declared.unit.Unit.{Unit as Measure}

@@ -1,6 +1,6 @@
 -- An improvement under way, and how its parts end.
 use Rattle.std.specs.Prelude.{◌≡◌, ℕ, ◌+◌, Bool, true, List, [], length, sum_by, All, Option, Result, Ok, Err}
-use Rattle.fixture_board.specs.declared.cost.Best.{Best}
+use Rattle.fixture_board.specs.declared.best.Best.{Best}
 use Rattle.fixture_board.specs.History.{best_of}
 use Rattle.fixture_board.specs.Record.{Book, book}
 use Rattle.streams.specs.declared.buffered.BufferedSink.{BufferedSink}

@@ -7,7 +7,7 @@ use Rattle.std.specs.Int.{bit_at}
 use Rattle.league.specs.Sets.{has, with_number}
 use Rattle.league.proofs.ForCallers.{has_with_number}
 use Rattle.league.proofs.ForCallers.{has_empty}
-use Rattle.moves.specs.Exchanges.{both, set_where}
+use Rattle.moves.specs.ExchangeOf.{set_where}
 
 -- sets with the same members are one
 pub same_set : (a b : ℕ) → ((k : ℕ) → has a k ≡ has b k) → a ≡ b
@@ -23,15 +23,6 @@ same_set a b same =
       where
         zeros : (x y : ℕ) → x ≢ 1 → y ≢ 1 → x < 2 → y < 2 → x ≡ y
         zeros x y not_x not_y in_x in_y = omega arith
-
-or_false : (x : Bool) → (x || false) ≡ x
-or_false true = refl
-or_false false = refl
-
-pub has-both : (i j k : ℕ) → has (both i j) k ≡ (eqb k i || eqb k j)
-has-both i j k =
-    has_with_number (with_number 0 j) i k ∙
-    ap (λ b. eqb k i || b) (has_with_number 0 j k ∙ ap (λ b. eqb k j || b) (has_empty k) ∙ or_false (eqb k j))
 
 pub has-set_where : (n : ℕ) (passes : ℕ → Bool) (k : ℕ) → has (set_where n passes) k ≡ (ltb k n && passes k)
 unfolding set_where

@@ -1,4 +1,3 @@
 pub mod Moves
-pub mod Exchanges
-pub mod Kept
+pub mod ExchangeOf
 pub mod Laws

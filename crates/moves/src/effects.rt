@@ -5,11 +5,10 @@ ghost use Rattle.league.specs.Sets.{has};
 ghost use Rattle.fixtures.specs.Games.{round_of, round_count, IsPair, IsDoubleRoundRobin};
 ghost use Rattle.fixtures.specs.Changes.{DiffersOnlyIn};
 ghost use Rattle.moves.specs.Moves.{fault_of, moved, touched_team, touched_round};
-ghost use Rattle.moves.specs.Exchanges.{IsExchange, main_cells, touched_by};
+ghost use Rattle.fixtures.specs.Exchanges.{IsExchange, main_cells, touched_by};
 
-use crate::exchange_of::two_teams;
-use crate::{Exchange, Move, exchange};
-use fixtures::{Schedule, Touched};
+use crate::{Move, exchange};
+use fixtures::{Exchange, Schedule, Touched};
 use league::{SlotSet, TeamSet};
 
 /// Makes a move that `check` lets pass, and gives the teams and the rounds whose cells it changed. Takes no memory.
@@ -64,7 +63,7 @@ fn teams_with_opponents(schedule: &Schedule, i: u8, j: u8, rounds: SlotSet) -> T
         (nat_lt t schedule.now.teams &&
         (has rounds (round_of schedule.now i t) || has rounds (round_of schedule.now t i)))) }
 {
-    let mut found = two_teams(i, j);
+    let mut found = TeamSet::two(i, j);
     for round in rounds {
         found = found.with(schedule.game_at(i, round).opponent);
     }

@@ -5,10 +5,10 @@ ghost use Rattle.league.specs.Limits.{max_teams, max_rounds};
 ghost use Rattle.league.specs.Sets.{has, IsBelow};
 ghost use Rattle.fixtures.specs.Games.{IsPair};
 ghost use Rattle.moves.specs.Moves.{fault_of};
-ghost use Rattle.moves.specs.Exchanges.{exchange_of, IsExchangeOf, both, rounds_apart};
+ghost use Rattle.moves.specs.ExchangeOf.{exchange_of, IsExchangeOf, rounds_apart};
 
-use crate::{Exchange, Move, moved_rounds, moved_teams};
-use fixtures::Schedule;
+use crate::{Move, moved_rounds, moved_teams};
+use fixtures::{Exchange, Schedule};
 use league::{SlotSet, TeamSet};
 
 /// The exchange that a move is which `check` lets pass. A chain is walked once. Takes no memory.
@@ -22,7 +22,7 @@ pub fn exchange(schedule: &Schedule, mv: Move) -> Exchange
         Move::Homes { i, j } => Exchange::Rounds {
             k: schedule.round_of(i, j),
             l: schedule.round_of(j, i),
-            among: two_teams(i, j),
+            among: TeamSet::two(i, j),
         },
         Move::Rounds { k, l } => Exchange::Rounds {
             k,
@@ -47,29 +47,11 @@ pub fn exchange(schedule: &Schedule, mv: Move) -> Exchange
     }
 }
 
-pub(crate) fn two_teams(i: u8, j: u8) -> TeamSet
-    requires i { i < max_teams }
-    requires j { j < max_teams }
-    ensures value { result ≡ both i j }
-    ensures members { (t : ℕ) → has result t ≡ (t == i || t == j) }
-{
-    TeamSet::empty().with(j).with(i)
-}
-
-pub(crate) fn two_rounds(k: u8, l: u8) -> SlotSet
-    requires k { k < max_rounds }
-    requires l { l < max_rounds }
-    ensures value { result ≡ both k l }
-    ensures below { (m : ℕ) → k < m → l < m → IsBelow m result }
-{
-    SlotSet::empty().with(l).with(k)
-}
-
 /// The rounds in which `i` and `j` don't meet.
-pub(crate) fn rounds_apart(schedule: &Schedule, i: u8, j: u8) -> SlotSet
+fn rounds_apart(schedule: &Schedule, i: u8, j: u8) -> SlotSet
     requires { IsPair schedule.now.teams i j }
     ensures { result ≡ rounds_apart schedule.now i j }
 {
-    let theirs = two_rounds(schedule.round_of(i, j), schedule.round_of(j, i));
+    let theirs = SlotSet::two(schedule.round_of(i, j), schedule.round_of(j, i));
     SlotSet::below(schedule.rounds()).difference(theirs)
 }

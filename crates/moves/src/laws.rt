@@ -1,9 +1,8 @@
-//! The laws of the moves and of the exchanges that they are. The functions do nothing: what is known is in their
-//! contracts, each of which speaks of all double round robins and all moves or exchanges that can be made there.
+//! The laws of the moves. The functions do nothing: what is known is in their contracts, each of which speaks of all
+//! double round robins and all moves that can be made there.
 
 ghost use Rattle.moves.specs.Laws.{OfEachMove, IsItsOwnInverse, StaysDoubleRoundRobin, DiffersWhereTouched};
 ghost use Rattle.moves.specs.Laws.{DiffersInEachTouched, IsItsExchange};
-ghost use Rattle.moves.specs.Laws.{OfEachExchange, IsUndoneByItself, DiffersAroundMain, SidesDifferAtTurning, KeepsMeetings};
 
 /// Each move is its own inverse: it can be made on the schedule that it gives, and gives the first one back. The
 /// teams or rounds that have to follow, and those that are touched, are the same both times.
@@ -31,25 +30,4 @@ pub fn differs_in_each_touched()
 /// A move is its exchange.
 pub fn moves_are_exchanges()
     ensures { OfEachMove IsItsExchange }
-{}
-
-/// An exchange can be made on the schedule that it gives, which is a double round robin too, and gives the first one back.
-pub fn exchanges_back()
-    ensures { OfEachExchange IsUndoneByItself }
-{}
-
-/// What an exchange changes is around its main teams, in their rounds: each other team keeps its sides, and its opponents
-/// but for a main team that stands for another.
-pub fn differs_around_main()
-    ensures { OfEachExchange DiffersAroundMain }
-{}
-
-/// Only the turning teams of an exchange change their sides, in its rounds.
-pub fn sides_differ_at_turning()
-    ensures { OfEachExchange SidesDifferAtTurning }
-{}
-
-/// After an exchange that is said to keep the meetings the same pairs meet in each round, perhaps under two other names.
-pub fn meetings_are_kept()
-    ensures { OfEachExchange KeepsMeetings }
 {}

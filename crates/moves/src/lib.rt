@@ -9,10 +9,8 @@ mod chains;
 mod changed_games;
 mod effects;
 mod exchange_of;
-mod exchanges;
 mod fault;
 mod laws;
-mod moved_pairs;
 mod moves;
 mod refusals;
 
@@ -20,11 +18,9 @@ pub use chains::{moved_rounds, moved_teams};
 pub use changed_games::would_change;
 pub use effects::{apply, touched};
 pub use exchange_of::exchange;
-pub use exchanges::Exchange;
 pub use fault::MoveFault;
 pub use laws::{
-    differs_around_main, differs_in_each_touched, differs_where_touched, exchanges_back,
-    meetings_are_kept, moves_are_exchanges, moves_back, sides_differ_at_turning,
+    differs_in_each_touched, differs_where_touched, moves_are_exchanges, moves_back,
     stays_double_round_robin,
 };
 pub use moves::{Move, MoveKind};

@@ -4,8 +4,8 @@ use Rattle.std.specs.Prelude.{codes, decimal, if◌then◌else◌}
 use Rattle.std.specs.Bool.{beq}
 use Rattle.std.specs.List.{concat}
 use Rattle.fixtures.specs.Games.{Games, round_count}
-use Rattle.fixture_board.specs.declared.cost.Cost.{Cost}
-use Rattle.fixture_board.specs.Costs.{cost_of, total_of}
+use Rattle.costs.specs.declared.cost.Cost.{Cost}
+use Rattle.costs.specs.Costs.{cost_of, total_of}
 use Rattle.league.specs.League.{LeagueData, teams}
 use Rattle.league.specs.Starts.{is_given}
 use Rattle.league.specs.declared.rule.Rule.{Rule}

@@ -1,7 +1,7 @@
 //! The page of a schedule: the league's figures, the grid of its games, the travel of each team, the rules, and the moved games.
 
 ghost use Rattle.std.specs.Prelude.{◌≡◌, ◌++◌, ◌<◌, ◌^◌, IfOk, OnOk};
-ghost use Rattle.fixture_board.specs.Costs.{total_of};
+ghost use Rattle.costs.specs.Costs.{total_of};
 ghost use Rattle.league.specs.League.{teams};
 ghost use Rattle.league.specs.RuleLimits.{IsBodyFor};
 ghost use Rattle.streams.specs.Pieces.{pieces_below};
@@ -13,7 +13,7 @@ use crate::grid::{push_grid, push_team_head};
 use crate::moved_games::{push_moved, push_near};
 use crate::pieces::{Piece, push_pieces};
 use crate::style::push_style;
-use fixture_board::{Cost, cost_of};
+use costs::{Cost, cost_of};
 use fixtures::Schedule;
 use league::limits::round_count;
 use league::{League, Rule, Weight};

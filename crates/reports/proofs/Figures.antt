@@ -11,7 +11,7 @@ use Rattle.tours.specs.Repeats.{repeats_after, repeats}
 use Rattle.tours.specs.Phased.{unphased}
 use Rattle.tours.specs.Tours.{travel}
 use Rattle.tours.proofs.meetings.HigherTeams.{repeats_at_higher}
-use Rattle.fixture_board.specs.Costs.{cost_of}
+use Rattle.costs.specs.Costs.{cost_of}
 use Rattle.reports.specs.Figures.{repeats_told, told_cost, windows_told, AddsUp}
 use Rattle.reports.specs.Runs.{ended_streak, is_over, streak}
 

@@ -12,8 +12,8 @@ use Rattle.fixtures.specs.Games.{Games, round_count, round_of, cell, is_home}
 use Rattle.tours.specs.Tours.{travel_of}
 use Rattle.tours.specs.Phased.{is_unphased}
 use Rattle.robinx.specs.Deviations.{deviation}
-use Rattle.fixture_board.specs.declared.cost.Cost.{Cost}
-use Rattle.fixture_board.specs.Costs.{cost_of, total_of}
+use Rattle.costs.specs.declared.cost.Cost.{Cost}
+use Rattle.costs.specs.Costs.{cost_of, total_of}
 use Rattle.texts.specs.Classes.{class_name}
 use Rattle.breaches.specs.BreachText.{breaches_text}
 use Rattle.reports.specs.Leaving.{leaving_text}

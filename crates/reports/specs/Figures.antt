@@ -5,8 +5,8 @@ use Rattle.league.specs.Sums.{sum_below, count_where}
 use Rattle.fixtures.specs.Games.{Games, round_count}
 use Rattle.tours.specs.Tours.{travel_of}
 use Rattle.tours.specs.Phased.{is_unphased}
-use Rattle.fixture_board.specs.declared.cost.Cost.{Cost}
-use Rattle.fixture_board.specs.Costs.{cost_of, hard_penalty, near_cost, soft_penalty, sum_over_rules, where_phased}
+use Rattle.costs.specs.declared.cost.Cost.{Cost}
+use Rattle.costs.specs.Costs.{cost_of, hard_penalty, near_cost, soft_penalty, sum_over_rules, where_phased}
 use Rattle.reports.specs.CostText.{repeats_lower}
 use Rattle.reports.specs.Runs.{is_over, ended_streak}
 

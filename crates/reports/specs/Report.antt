@@ -2,7 +2,7 @@
 use Rattle.std.specs.Prelude.{ℕ, ◌==◌, Bool, false, List, ◌++◌, Option, Some, None}
 use Rattle.league.specs.League.{LeagueData, teams}
 use Rattle.fixtures.specs.Games.{Games}
-use Rattle.fixture_board.specs.Costs.{cost_of}
+use Rattle.costs.specs.Costs.{cost_of}
 use Rattle.texts.specs.Sheet.{sheet_of}
 use Rattle.schedule_texts.specs.Faults.{faults_text}
 use Rattle.reports.specs.CostText.{cost_text}

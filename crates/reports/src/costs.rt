@@ -4,7 +4,7 @@ ghost use Rattle.std.specs.Prelude.{◌≡◌, ◌+◌, ◌-◌, ◌^◌, ◌<�
 ghost use Rattle.league.specs.League.{teams};
 ghost use Rattle.league.specs.RuleLimits.{IsBodyFor};
 ghost use Rattle.fixtures.specs.Games.{round_count};
-ghost use Rattle.fixture_board.specs.Costs.{total_of};
+ghost use Rattle.costs.specs.Costs.{total_of};
 ghost use Rattle.streams.specs.Pieces.{pieces_below};
 ghost use Rattle.streams.specs.Writing.{Writes};
 ghost use Rattle.reports.specs.CostText.{cost_text, costs_line, half_line, half_lines, halves_text, meetings_line};
@@ -13,7 +13,7 @@ ghost use Rattle.reports.specs.CostText.{repeat_line, repeat_lines, rule_line, r
 use crate::leaving::write_leaving;
 use crate::runs::write_runs;
 use breaches::write_breaches;
-use fixture_board::{Cost, cost_of};
+use costs::{Cost, cost_of};
 use fixtures::Schedule;
 use league::{League, Rule, Weight};
 use robinx::deviation;

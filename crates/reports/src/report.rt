@@ -14,7 +14,7 @@ ghost use Rattle.reports.specs.CostText.{cost_text};
 ghost use Rattle.reports.specs.Report.{is_feasible, report_text};
 
 use crate::costs::write_costs;
-use fixture_board::cost_of;
+use costs::cost_of;
 use fixtures::Schedule;
 use league::League;
 use schedule_texts::Judged;

@@ -6,7 +6,7 @@ use Rattle.league.specs.League.{LeagueData, IsLeague, teams}
 use Rattle.fixtures.specs.Games.{Games}
 use Rattle.fixture_board.specs.declared.change.Entry.{Entry}
 use Rattle.fixture_board.specs.declared.look.Seen.{Seen}
-use Rattle.fixture_board.specs.Costs.{cost_of, score_of}
+use Rattle.costs.specs.Costs.{cost_of, score_of}
 use Rattle.fixture_board.specs.History.{cost_at, games_of}
 use Rattle.fixture_board.specs.Looks.{copied}
 use Rattle.fixture_board.proofs.ForCallers.{games_of_teams, is_scored_league}

@@ -3,13 +3,13 @@ use Rattle.std.specs.Prelude.{◌≡◌, ◌≢◌, ◌⊎◌, ℕ, ◌+◌, ◌
 use Rattle.std.specs.Prelude.{Option, Some, None, Ok}
 use Rattle.league.specs.League.{LeagueData}
 use Rattle.fixtures.specs.Games.{Games}
-use Rattle.moves.specs.declared.exchanges.Exchange.{Exchange}
+use Rattle.fixtures.specs.declared.exchanges.Exchange.{Exchange}
 use Rattle.moves.specs.declared.moves.Move.{Move}
-use Rattle.moves.specs.Exchanges.{IsExchangeOf}
-use Rattle.moves.specs.Kept.{moves_one_of}
+use Rattle.moves.specs.ExchangeOf.{IsExchangeOf}
+use Rattle.fixtures.specs.Kept.{moves_one_of}
 use Rattle.moves.specs.Moves.{fault_of, moved}
-use Rattle.fixture_board.specs.declared.cost.Cost.{Cost}
-use Rattle.fixture_board.specs.Costs.{cost_of, score_of}
+use Rattle.costs.specs.declared.cost.Cost.{Cost}
+use Rattle.costs.specs.Costs.{cost_of, score_of}
 use Rattle.search.specs.declared.workers.Report.{Report}
 use Rattle.search.specs.declared.workers.steps.StepResult.{StepResult}
 use Rattle.search.specs.declared.workers.steps.StepResult.TheVariants.{Nothing, Accepted, Refused, Full}

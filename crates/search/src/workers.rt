@@ -10,7 +10,7 @@ mod steps;
 
 use crate::gates::{Hearing, HearingGate};
 use crate::{Door, Gate, Progress, draw};
-use fixture_board::KeptGaps;
+use costs::KeptGaps;
 use fixtures::Schedule;
 use league::League;
 use rand_pcg::Lcg64Xsh32;

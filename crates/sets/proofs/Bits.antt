@@ -1,13 +1,13 @@
 -- A set of numbers as the number of its bits.
-use Rattle.std.proofs.Common.{◌≡◌, ℕ, ◌-◌, ◌*◌, ◌^◌, ◌%◌, ◌<◌, ◌≤◌, ◌||◌, ◌==◌, nat_lt, max, bit_or, true, false, refl}
+use Rattle.std.proofs.Common.{◌≡◌, ℕ, ◌-◌, ◌*◌, ◌^◌, ◌%◌, ◌<◌, ◌≤◌, ◌||◌, ◌==◌, nat_lt, max, bit_or, Bool, true, false, refl}
 use Rattle.std.proofs.Common.{sym, ◌∙◌, ap, inl, inr, arith}
 use Rattle.std.proofs.Math.Nat.{pow-le-pow_right, max-zero}
 use Rattle.std.proofs.lemmas.Bool.{cases_eq, cases_lt, eq-eqb, ne_eqb, lt-ltb, le-ltb, or_left, false≢true}
 use Rattle.std.proofs.lemmas.Nat.{pow_pos, pow_below, or_lt, le_or_l, one_shl}
 use Rattle.std.proofs.lemmas.Nat.Bits.{bit_at_or, bit_at-lt, bit_at-pow_same, bit_at-pow_other, bit_at_ones}
-use Rattle.std.proofs.lemmas.Nat.Bits.{bit_at_ones_above, bit_at_above}
+use Rattle.std.proofs.lemmas.Nat.Bits.{bit_at_ones_above, bit_at_above, bit_at-zero}
 use Rattle.std.specs.Int.{bit_at}
-use Rattle.sets.specs.Sets.{has, IsBelow, with_number, all_numbers}
+use Rattle.sets.specs.Sets.{has, IsBelow, with_number, both, all_numbers}
 
 -- a set has no number beyond its bound
 pub has_beyond : (m set k : ℕ) → IsBelow m set → m ≤ k → has set k ≡ false
@@ -41,6 +41,14 @@ has_with_number set k t = elim (cases_eq t k) [
       rw (same, bit_at_or set (2 ^ k) k, bit_at-pow_same k, eq-eqb k k refl) (one_bit (bit_at set k) (bit_at-lt set k))
   | inr other ↦ rw (bit_at_or set (2 ^ k) t, bit_at-pow_other k t other, max-zero (bit_at set t), ne_eqb t k other) refl
 ]
+
+pub has_both : (i j k : ℕ) → has (both i j) k ≡ (k == i || k == j)
+has_both i j k =
+    rw (has_with_number (with_number 0 j) i k, has_with_number 0 j k, bit_at-zero k) (ap (λ b. k == i || b) (or_false (k == j)))
+  where
+    or_false : (x : Bool) → (x || false) ≡ x
+    or_false true = refl
+    or_false false = refl
 
 -- the words of bits in which the code holds a set
 pub all_numbers_shifted : (k w : ℕ) → k < w → 1 * 2 ^ k % 2 ^ w - 1 ≡ all_numbers k

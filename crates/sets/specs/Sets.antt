@@ -22,6 +22,10 @@ IsBelow m set = set < 2 ^ m
 unfoldable pub with_number : ℕ → ℕ → ℕ
 with_number set k = bit_or set (2 ^ k)
 
+-- the set of two numbers
+abbrev pub both : ℕ → ℕ → ℕ
+both i j = with_number (with_number 0 j) i
+
 -- all numbers below m
 unfoldable pub all_numbers : ℕ → ℕ
 all_numbers m = 2 ^ m - 1

@@ -4,7 +4,7 @@ ghost use Rattle.std.specs.Prelude.{◌≡◌, ℕ, ◌+◌, ◌-◌, ◌*◌, �
 ghost use Rattle.std.specs.Iterator.{at_most};
 ghost use Rattle.sets.specs.Limits.{max_rounds};
 ghost use Rattle.sets.specs.Sums.{count_where, all_below, any_below};
-ghost use Rattle.sets.specs.Sets.{has, has_or_follows, is_like_next, IsBelow, with_number, all_numbers, TakesLowest};
+ghost use Rattle.sets.specs.Sets.{has, has_or_follows, is_like_next, IsBelow, with_number, both, all_numbers, TakesLowest};
 
 use std::marker::Model;
 
@@ -58,6 +58,16 @@ impl SlotSet {
         SlotSet {
             bits: self.bits | 1 << slot,
         }
+    }
+
+    /// The set of these two slots.
+    pub fn two(k: u8, l: u8) -> Self
+        requires k { k < max_rounds }
+        requires l { l < max_rounds }
+        ensures value { result ≡ both k l }
+        ensures below { (m : ℕ) → k < m → l < m → IsBelow m result }
+    {
+        SlotSet::empty().with(l).with(k)
     }
 
     /// Whether the set has this slot.

@@ -4,7 +4,7 @@ ghost use Rattle.std.specs.Prelude.{◌≡◌, ℕ, ◌-◌, ◌<◌, ◌≤◌,
 ghost use Rattle.std.specs.Iterator.{at_most};
 ghost use Rattle.sets.specs.Limits.{max_teams};
 ghost use Rattle.sets.specs.Sums.{count_where, any_below};
-ghost use Rattle.sets.specs.Sets.{has, IsBelow, with_number, all_numbers, TakesLowest};
+ghost use Rattle.sets.specs.Sets.{has, IsBelow, with_number, both, all_numbers, TakesLowest};
 
 use std::marker::Model;
 
@@ -58,6 +58,17 @@ impl TeamSet {
         TeamSet {
             bits: self.bits | 1 << team,
         }
+    }
+
+    /// The set of these two teams.
+    #[tactic(auto, using(crate::proofs::Bits::has_both))]
+    pub fn two(i: u8, j: u8) -> Self
+        requires i { i < max_teams }
+        requires j { j < max_teams }
+        ensures value { result ≡ both i j }
+        ensures members { (t : ℕ) → has result t ≡ (t == i || t == j) }
+    {
+        TeamSet::empty().with(j).with(i)
     }
 
     /// Whether the set has this team.

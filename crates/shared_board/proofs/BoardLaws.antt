@@ -6,7 +6,7 @@ use Rattle.fixture_board.specs.declared.ask.Ask.{Ask}
 use Rattle.fixture_board.specs.declared.change.Entry.{Entry}
 use Rattle.fixture_board.specs.History.{IsLegal, best_of, best_prefix, as_best, games_of, games_after, effective, cost_at}
 use Rattle.league.specs.Starts.{start_of}
-use Rattle.fixture_board.specs.Costs.{cost_of}
+use Rattle.costs.specs.Costs.{cost_of}
 use Rattle.fixture_board.specs.Laws.{least_of, as_number, TellsOf}
 use Rattle.fixture_board.specs.Replies.{entry, next_of, reply_of}
 use Rattle.fixture_board.proofs.ForCallers.{is_legal_none, is_legal_next, tells_of_reply, least_of_falls}

@@ -3,7 +3,7 @@ use Rattle.std.specs.Prelude.{◌≡◌, List, length}
 use Rattle.fixtures.specs.Games.{IsDoubleRoundRobin}
 use Rattle.league.specs.Starts.{start_of}
 use Rattle.fixture_board.specs.declared.change.Entry.{Entry}
-use Rattle.fixture_board.specs.Costs.{cost_of}
+use Rattle.costs.specs.Costs.{cost_of}
 use Rattle.fixture_board.specs.History.{IsLegal, AllStand, IsBestOf, games_of, games_after, effective, pins_of, cost_at}
 use Rattle.fixture_board.specs.History.{best_of, best_prefix, as_best}
 use Rattle.fixture_board.specs.Laws.{least_of}

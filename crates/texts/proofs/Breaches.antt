@@ -6,7 +6,7 @@ use Rattle.league.specs.declared.rule.Rule.{Rule}
 use Rattle.league.proofs.ForCallers.{sum_below_more}
 use Rattle.fixtures.specs.Games.{Games}
 use Rattle.robinx.specs.Deviations.{deviation}
-use Rattle.fixture_board.specs.Costs.{cost_of, hard_penalty, penalty_of, sum_over_rules}
+use Rattle.costs.specs.Costs.{cost_of, hard_penalty, penalty_of, sum_over_rules}
 use Rattle.texts.specs.LeastHard.{breaches_of, breaches_told, part_text, rule_name, rule_part}
 
 pub add_up : (l : LeagueData) (g : Games) → breaches_told l g ≡ (cost_of l g).hard

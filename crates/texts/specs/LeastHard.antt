@@ -11,7 +11,7 @@ use Rattle.tours.specs.Phased.{unphased}
 use Rattle.tours.specs.Repeats.{repeats}
 use Rattle.tours.specs.Runs.{runs_over}
 use Rattle.robinx.specs.Deviations.{deviation}
-use Rattle.fixture_board.specs.Costs.{cost_of, hard_penalty, penalty_of, where_phased}
+use Rattle.costs.specs.Costs.{cost_of, hard_penalty, penalty_of, where_phased}
 use Rattle.texts.specs.Classes.{class_name}
 use Rattle.texts.specs.PlayText.{counted}
 

@@ -11,7 +11,8 @@ ghost use Rattle.texts.specs.PlayText.{played, reply_line, slack_after, tried_li
 use crate::input::next_line;
 use crate::lines::{write_counted, write_numbered};
 use crate::script_line::{ScriptLine, parse_line};
-use fixture_board::{Ask, Board, Change, Cost, Proposal, Reply, Why};
+use costs::Cost;
+use fixture_board::{Ask, Board, Change, Proposal, Reply, Why};
 use moves::Move;
 use streams::{BufferedSink, Sink, WriteFault};
 

@@ -8,14 +8,14 @@ ghost use Rattle.league.specs.RuleLimits.{IsBodyFor};
 ghost use Rattle.streams.specs.Writing.{Writes};
 ghost use Rattle.tours.specs.Phased.{unphased};
 ghost use Rattle.robinx.specs.Deviations.{deviation};
-ghost use Rattle.fixture_board.specs.Costs.{cost_of, hard_penalty, where_phased};
+ghost use Rattle.costs.specs.Costs.{cost_of, hard_penalty, where_phased};
 ghost use Rattle.texts.specs.LeastHard.{breaches_told, lead_text, least_hard_line, part_text, rule_name, rule_parts};
 ghost use Rattle.texts.specs.Pieces.{text_of_pieces};
 
 use crate::classes::class_name;
 use crate::lines::write_counted;
 use crate::pieces::{Piece, write_pieces};
-use fixture_board::cost_of;
+use costs::cost_of;
 use fixtures::Schedule;
 use league::{League, Rule, RuleBody, Weight};
 use robinx::deviation;

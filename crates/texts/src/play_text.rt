@@ -15,7 +15,8 @@ use crate::answers::{write_answers, write_costs};
 use crate::history::write_history;
 use crate::lines::{write_counted, write_numbered};
 use crate::sheets::write_sheet;
-use fixture_board::{Best, Board, Cost};
+use costs::Cost;
+use fixture_board::{Best, Board};
 use streams::{BufferedSink, Sink, WriteFault};
 
 /// Plays a script on a new board, and writes the play text. Takes no memory. The board then has the script's history.

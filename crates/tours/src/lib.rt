@@ -23,14 +23,9 @@ mod whole_travel;
 
 pub use laws::{changes_around_balance, changes_balance, parts_balance, same_pairs_repeat_alike};
 pub use moved::moved_games;
-pub use moved_told::{moved_of_rounds, moved_of_teams};
 pub use repeat_counts::{repeats, repeats_part, repeats_with};
-pub use repeats_told::{repeats_of_rounds, repeats_of_teams};
-pub use rounds_told::legs_of_rounds;
 pub use runs::{runs_over, runs_part, windows_spent};
-pub use runs_told::{runs_of_rounds, runs_of_teams};
-pub use teams_told::legs_of_teams;
-pub use told::{Breaches, Legs, Moved};
+pub use told::{Breaches, Legs, Moved, legs_of, moved_of, repeats_of, runs_of};
 pub use travel_parts::{travel_around, travel_part};
 pub use unphased_pairs::{is_unphased, unphased, unphased_part};
 pub use whole_travel::{travel, travel_of};

@@ -16,7 +16,7 @@ use league::{SlotSet, TeamSet};
 
 /// The repeats that change if rounds `k` and `l` are exchanged for the teams of the set, which has the opponents of its
 /// teams in the two rounds.
-pub fn repeats_of_rounds(schedule: &Schedule, k: u8, l: u8, among: TeamSet) -> Breaches
+pub(crate) fn repeats_of_rounds(schedule: &Schedule, k: u8, l: u8, among: TeamSet) -> Breaches
     requires k { k < round_count schedule.now.teams }
     requires l { l < round_count schedule.now.teams }
     requires distinct { k ≢ l }
@@ -152,7 +152,7 @@ fn met(schedule: &Schedule, team: u8, index: u8) -> u8
 
 /// The repeats that change if teams `i` and `j` are exchanged in the games of the rounds of the set. In none of them the
 /// two meet, and if one of them meets a team in a round of the set, so does the other.
-pub fn repeats_of_teams(schedule: &Schedule, i: u8, j: u8, among: SlotSet) -> Breaches
+pub(crate) fn repeats_of_teams(schedule: &Schedule, i: u8, j: u8, among: SlotSet) -> Breaches
     requires i { i < schedule.now.teams }
     requires j { j < schedule.now.teams }
     requires distinct { i ≢ j }

@@ -21,7 +21,7 @@ use league::{League, SlotSet};
 
 /// The legs that change if teams `i` and `j` are exchanged in the games of the rounds of the set. In none of them the
 /// two meet, and if one of them meets a team in a round of the set, so does the other.
-pub fn legs_of_teams(schedule: &Schedule, league: &League, i: u8, j: u8, among: SlotSet) -> Legs
+pub(crate) fn legs_of_teams(schedule: &Schedule, league: &League, i: u8, j: u8, among: SlotSet) -> Legs
     requires same { teams league.now ≡ schedule.now.teams }
     requires i { i < schedule.now.teams }
     requires j { j < schedule.now.teams }

@@ -1,4 +1,21 @@
-//! What an exchange changes, told on the schedule before it.
+//! What an exchange changes, told on the schedule before it: rounds or teams are exchanged, and each kind is told by itself.
+
+ghost use Rattle.std.specs.Prelude.{◌≡◌, ◌+◌, ◌*◌, ◌≤◌};
+ghost use Rattle.league.specs.League.{teams};
+ghost use Rattle.league.specs.Limits.{max_distance, max_rounds, max_teams};
+ghost use Rattle.fixtures.specs.Exchanges.{exchanged_by, IsExchange};
+ghost use Rattle.tours.specs.Moved.{moved_games};
+ghost use Rattle.tours.specs.Repeats.{repeats};
+ghost use Rattle.tours.specs.Runs.{runs_over};
+ghost use Rattle.tours.specs.Tours.{travel};
+
+use crate::moved_told::{moved_of_rounds, moved_of_teams};
+use crate::repeats_told::{repeats_of_rounds, repeats_of_teams};
+use crate::rounds_told::legs_of_rounds;
+use crate::runs_told::{runs_of_rounds, runs_of_teams};
+use crate::teams_told::legs_of_teams;
+use fixtures::{Exchange, Schedule};
+use league::League;
 
 /// The legs that an exchange of rounds or of teams alters, before it and after it, in the unit of the league's
 /// distances. Legs that stay as long as they are may be in both or in neither.
@@ -21,4 +38,61 @@ pub struct Breaches {
 pub struct Moved {
     pub before: u64,
     pub after: u64,
+}
+
+/// The legs that an exchange alters, before it and after it.
+pub fn legs_of(schedule: &Schedule, league: &League, exchange: &Exchange) -> Legs
+    requires same_size { teams league.now ≡ schedule.now.teams }
+    requires can_be_made { IsExchange schedule.now exchange.now }
+    ensures balance { travel league.now (exchanged_by schedule.now exchange.now) + result.before ≡
+        travel league.now schedule.now + result.after }
+    ensures after_most { result.after ≤ (8 * max_rounds + 2) * max_distance }
+{
+    match *exchange {
+        Exchange::Rounds { k, l, among } => legs_of_rounds(schedule, league, k, l, among),
+        Exchange::Teams { i, j, among } => legs_of_teams(schedule, league, i, j, among),
+    }
+}
+
+/// The runs that an exchange alters.
+pub fn runs_of(schedule: &Schedule, league: &League, exchange: &Exchange) -> Breaches
+    requires same_size { teams league.now ≡ schedule.now.teams }
+    requires can_be_made { IsExchange schedule.now exchange.now }
+    ensures balance { runs_over (exchanged_by schedule.now exchange.now) league.now.at_most + result.before ≡
+        runs_over schedule.now league.now.at_most + result.after }
+    ensures within { result.before ≤ runs_over schedule.now league.now.at_most }
+    ensures after_most { result.after ≤ max_teams * max_rounds }
+{
+    match *exchange {
+        Exchange::Rounds { k, l, among } => runs_of_rounds(schedule, league, k, l, among),
+        Exchange::Teams { i, j, among } => runs_of_teams(schedule, league, i, j, among),
+    }
+}
+
+/// The repeats that an exchange alters.
+pub fn repeats_of(schedule: &Schedule, exchange: &Exchange) -> Breaches
+    requires { IsExchange schedule.now exchange.now }
+    ensures balance { repeats (exchanged_by schedule.now exchange.now) + result.before ≡
+        repeats schedule.now + result.after }
+    ensures after_most { result.after ≤ 4 * max_teams }
+{
+    match *exchange {
+        Exchange::Rounds { k, l, among } => repeats_of_rounds(schedule, k, l, among),
+        Exchange::Teams { i, j, among } => repeats_of_teams(schedule, i, j, among),
+    }
+}
+
+/// The games that an exchange alters and that have another round than at the start.
+pub fn moved_of(schedule: &Schedule, league: &League, exchange: &Exchange) -> Moved
+    requires same_size { teams league.now ≡ schedule.now.teams }
+    requires can_be_made { IsExchange schedule.now exchange.now }
+    ensures balance { moved_games league.now (exchanged_by schedule.now exchange.now) + result.before ≡
+        moved_games league.now schedule.now + result.after }
+    ensures before_most { result.before ≤ 2 * max_rounds }
+    ensures after_most { result.after ≤ 2 * max_rounds }
+{
+    match *exchange {
+        Exchange::Rounds { k, l, among } => moved_of_rounds(schedule, league, k, l, among),
+        Exchange::Teams { i, j, among } => moved_of_teams(schedule, league, i, j, among),
+    }
 }

@@ -1,7 +1,8 @@
 //! Boards compared.
 
 use crate::tests::checks::check_same;
-use fixture_board::{Best, Board, Change, Cost, Entry, Trial};
+use costs::Cost;
+use fixture_board::{Best, Board, Change, Entry, Trial};
 use std::process::Abort;
 
 fn entry(rt: &impl Abort, board: &Board, i: u64) -> Entry {

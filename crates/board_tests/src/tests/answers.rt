@@ -1,6 +1,7 @@
 //! What boards answer and show, in few words.
 
-use fixture_board::{Best, Board, Cost, Reply, Seen, Why};
+use costs::Cost;
+use fixture_board::{Best, Board, Reply, Seen, Why};
 use fixtures::Schedule;
 use std::process::Abort;
 use tours::travel_of;

@@ -3,7 +3,8 @@
 
 use crate::tests::answers::{is_pinned, round_of, travels};
 use crate::tests::questions::{ask_board, pin, shift, undo, unpin, would_shift};
-use fixture_board::{Ask, Best, Board, Change, Cost, Entry, Reply};
+use costs::Cost;
+use fixture_board::{Ask, Best, Board, Change, Entry, Reply};
 use fixtures::{Game, Schedule};
 use moves::Move;
 use std::fmt::Debug;

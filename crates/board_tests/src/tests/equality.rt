@@ -2,7 +2,8 @@
 
 use crate::tests::answers::{done, no, seen};
 use crate::tests::questions::{at, game, homes, pin_from_0, unpin_from_0};
-use fixture_board::{Ask, Best, BoardFault, Change, Cost, Entry, Proposal, Reply, Seen, Why};
+use costs::Cost;
+use fixture_board::{Ask, Best, BoardFault, Change, Entry, Proposal, Reply, Seen, Why};
 use std::fmt::Debug;
 use std::process::Abort;
 

@@ -3,7 +3,8 @@
 use crate::tests::checks::check_same;
 use crate::tests::drawn_numbers::{drawn, drawn_move};
 use crate::tests::questions::{ask_board, propose, shift, undo};
-use fixture_board::{Board, cost_of};
+use costs::cost_of;
+use fixture_board::Board;
 use league::{League, read_league};
 use moves::Move;
 use std::alloc::Global;

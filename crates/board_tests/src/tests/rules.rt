@@ -28,7 +28,7 @@ fn runs_make_the_start_no_best(rt: HostRuntime) -> Result<(), Fail> {
     check_board_with(&rt, rt.alloc(), (1, "\"at_most\":2"), RUNS)
 }
 
-const WORSE: fixture_board::Cost = fixture_board::Cost {
+const WORSE: costs::Cost = costs::Cost {
     travel: 26,
     hard: 0,
     soft: 110,

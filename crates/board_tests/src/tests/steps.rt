@@ -8,7 +8,8 @@ use crate::tests::checks::{
     check_travels, check_undo, check_unpin, check_version,
 };
 use crate::tests::questions::{Asked, game, homes, rounds, teams};
-use fixture_board::{Board, Change, Cost};
+use costs::Cost;
+use fixture_board::{Board, Change};
 use moves::Move;
 use std::alloc::Global;
 use std::process::Abort;

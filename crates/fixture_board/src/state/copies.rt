@@ -3,7 +3,7 @@
 ghost use Rattle.std.specs.Prelude.{◌≡◌, ◌≤◌, length, vec_capacity, IfOk};
 
 use crate::state::State;
-use robinx::KeptGaps;
+use costs::KeptGaps;
 use std::alloc::{AllocError, Global};
 
 impl State {

@@ -5,7 +5,7 @@ ghost use Rattle.fixture_board.specs.History.{effect, effective};
 
 use crate::change::{Change, Entry};
 use crate::state::State;
-use crate::whole_cost::cost_of;
+use costs::cost_of;
 use league::League;
 
 impl State {

@@ -1,10 +1,10 @@
 //! The steps of the calls: a change judged, and made if nothing speaks against it, but for its entry.
 
 use crate::ask::{Ask, Proposal};
-use crate::attempt::Attempt;
+use costs::Attempt;
 use crate::change::Change;
-use crate::cost::Cost;
-use crate::made_exchanges::{make_at_cost, make_within};
+use costs::Cost;
+use costs::{make_at_cost, make_within};
 use crate::reply::Why;
 use crate::state::State;
 use crate::state::checks::Limit;
@@ -16,7 +16,7 @@ use moves::{check, exchange};
 impl State {
     ghost use Rattle.std.specs.Prelude.{◌≡◌, ◌≤◌, length};
     ghost use Rattle.league.specs.League.{LeagueData, teams};
-    ghost use Rattle.fixture_board.specs.Costs.{cost_of};
+    ghost use Rattle.costs.specs.Costs.{cost_of};
     ghost use Rattle.fixture_board.specs.History.{shifted};
     ghost use Rattle.fixture_board.specs.PinTable.{taken_back};
     ghost use Rattle.fixture_board.specs.Kept.{kept_of, HasMemory, FollowsHistory, IsForetold, IsStep, IsTried, CanTakeBack};

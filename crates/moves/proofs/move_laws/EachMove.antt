@@ -8,17 +8,19 @@ use Rattle.fixtures.specs.Games.{Games, round_of, round_count, IsPair, IsDoubleR
 use Rattle.fixtures.specs.Changes.{DiffersOnlyIn}
 use Rattle.fixtures.proofs.ForCallers.{cases_exchanged, are_apart_true, Meets, meets_swapped, same_opponent}
 use Rattle.fixtures.specs.TouchedCells.{TouchedCells}
-use Rattle.moves.specs.declared.exchanges.Exchange.{Exchange}
+use Rattle.fixtures.specs.declared.exchanges.Exchange.{Exchange}
 use Rattle.moves.specs.declared.moves.Move.{Move}
 use Rattle.moves.specs.declared.moves.Move.TheVariants.{Homes, Rounds, Teams, PartRounds, PartTeams}
 use Rattle.moves.specs.Moves.{fault_of, moved, touched_team, touched_round}
-use Rattle.moves.specs.Exchanges.{exchange_of, exchanged_by, main_cells, touched_of, touched_by}
-use Rattle.moves.specs.Laws.{OfEachMove, IsItsOwnInverse, StaysDoubleRoundRobin, DiffersWhereTouched, DiffersInEach, DiffersInEachTouched}
+use Rattle.fixtures.specs.Exchanges.{exchanged_by, main_cells, touched_of, touched_by}
+use Rattle.moves.specs.ExchangeOf.{exchange_of}
+use Rattle.fixtures.specs.Laws.{DiffersInEach}
+use Rattle.moves.specs.Laws.{OfEachMove, IsItsOwnInverse, StaysDoubleRoundRobin, DiffersWhereTouched, DiffersInEachTouched}
 use Rattle.moves.proofs.move_laws.Checked.{homes-checked, rounds-checked, teams-checked, part_rounds-checked, part_teams-checked}
 use Rattle.moves.proofs.move_laws.MovesAsExchanges.{each-exchange}
-use Rattle.moves.proofs.exchange_laws.EachExchange.{each-undone, each-differs_by, each-in_touched}
-use Rattle.moves.proofs.Sets.{has-both}
-use Rattle.moves.proofs.exchange_laws.TouchedTeams.{touched-first, touched-second, touched-other}
+use Rattle.fixtures.proofs.ForCallers.{each_undone, each_differs_by, each_in_touched}
+use Rattle.league.proofs.ForCallers.{has_both}
+use Rattle.fixtures.proofs.ForCallers.{touched_first, touched_second, touched_other}
 use Rattle.moves.proofs.move_laws.WholeMoves.{apart, has-apart, IsItsOwnInverse-homes, IsItsOwnInverse-rounds, IsItsOwnInverse-teams}
 use Rattle.moves.proofs.move_laws.PartMoves.{has-movers, has-taken, IsItsOwnInverse-part_rounds, IsItsOwnInverse-part_teams}
 
@@ -35,18 +37,18 @@ each-its_own_inverse g (PartTeams i j k) rr checked =
 pub each-double_round_robin : OfEachMove StaysDoubleRoundRobin
 each-double_round_robin g mv rr checked =
     let one = each-exchange g mv rr checked in
-    subst IsDoubleRoundRobin (sym one.is) (each-undone g (exchange_of g mv) one.can_be_made).again.round_robin
+    subst IsDoubleRoundRobin (sym one.is) (each_undone g (exchange_of g mv) one.can_be_made).again.round_robin
 
 -- all teams are touched by an exchange of two in all rounds in which they don't meet
 module _ (g : Games) (rr : IsDoubleRoundRobin g) (i j : ℕ) (p : IsPair g.teams i j) where
   all_touched : (t : ℕ) → t < g.teams → (t ≡ i) ⊎ ((t ≡ j) ⊎ ((t ≢ i) × (t ≢ j))) →
       touched_of g i j (apart g rr i j p) t ≡ true
-  all_touched t _ (inl e) = ap (touched_of g i j (apart g rr i j p)) e ∙ touched-first g i j (apart g rr i j p) p
-  all_touched t _ (inr (inl e)) = ap (touched_of g i j (apart g rr i j p)) e ∙ touched-second g i j (apart g rr i j p) p
+  all_touched t _ (inl e) = ap (touched_of g i j (apart g rr i j p)) e ∙ touched_first g i j (apart g rr i j p) p
+  all_touched t _ (inr (inl e)) = ap (touched_of g i j (apart g rr i j p)) e ∙ touched_second g i j (apart g rr i j p) p
   all_touched t in_t (inr (inr ne)) =
       let q : IsPair g.teams t i = record { home_in = in_t; away_in = p.home_in; distinct = ne.0 } in
       let met : Meets g t i (round_of g t i) = (q, inl refl) in
-      touched-other g i j (apart g rr i j p) p t in_t
+      touched_other g i j (apart g rr i j p) p t in_t
       (or_left _ _ (or_left _ _ (or_right (apart g rr i j p (round_of g i t)) _
       (and_from _ _ (lt-ltb (round_of g t i) (round_count g.teams) (rr.in_range t i q))
       (are_apart_true g i j (round_of g t i)
@@ -64,7 +66,7 @@ module _ (g : Games) (rr : IsDoubleRoundRobin g) (i j : ℕ) (p : IsPair g.teams
 
 same_touched_team : (g : Games) (mv : Move) → IsDoubleRoundRobin g → fault_of g mv ≡ Ok tt → (t : ℕ) →
     touched_team g mv t ≡ touched_by g (exchange_of g mv) t
-same_touched_team g (Homes i j) rr checked t = sym (has-both i j t)
+same_touched_team g (Homes i j) rr checked t = sym (has_both i j t)
 same_touched_team g (Rounds k l) rr checked t = sym (has_all_numbers g.teams t)
 same_touched_team g (Teams i j) rr checked t =
     let p = teams-checked g i j checked in
@@ -77,10 +79,10 @@ same_touched_team g (PartTeams i j k) rr checked t =
 
 same_touched_round : (g : Games) (mv : Move) → IsDoubleRoundRobin g → fault_of g mv ≡ Ok tt → (r : ℕ) →
     touched_round g mv r ≡ has (main_cells (exchange_of g mv)).rounds r
-same_touched_round g (Homes i j) rr checked r = sym (has-both (round_of g i j) (round_of g j i) r)
-same_touched_round g (Rounds k l) rr checked r = sym (has-both k l r)
+same_touched_round g (Homes i j) rr checked r = sym (has_both (round_of g i j) (round_of g j i) r)
+same_touched_round g (Rounds k l) rr checked r = sym (has_both k l r)
 same_touched_round g (Teams i j) rr checked r = sym (has-apart g rr i j (teams-checked g i j checked) r)
-same_touched_round g (PartRounds i k l) rr checked r = sym (has-both k l r)
+same_touched_round g (PartRounds i k l) rr checked r = sym (has_both k l r)
 same_touched_round g (PartTeams i j k) rr checked r = sym (has-taken g rr i j k (part_teams-checked g i j k checked) r)
 
 -- what holds of the exchange over what it touches holds of the move
@@ -98,12 +100,12 @@ by_exchange Law g mv rr checked of_exchange =
 pub each-differs : OfEachMove DiffersWhereTouched
 each-differs g mv rr checked =
     by_exchange DiffersOnlyIn g mv rr checked
-    (each-differs_by g (exchange_of g mv) (each-exchange g mv rr checked).can_be_made)
+    (each_differs_by g (exchange_of g mv) (each-exchange g mv rr checked).can_be_made)
 
 pub each-differs_in_touched : OfEachMove DiffersInEachTouched
 each-differs_in_touched g mv rr checked =
     by_exchange DiffersInEach g mv rr checked
-    (each-in_touched g (exchange_of g mv) (each-exchange g mv rr checked).can_be_made)
+    (each_in_touched g (exchange_of g mv) (each-exchange g mv rr checked).can_be_made)
 
 -- what is told of a move's exchange, over sets of teams and rounds, is what is told of the move
 pub record TellsTouched (g : Games) (mv : Move) (cells : TouchedCells) : Type 0 where

@@ -7,17 +7,19 @@ use Rattle.fixtures.specs.Edits.{rounds_exchanged, teams_exchanged}
 use Rattle.fixtures.specs.Closed.{member, moved_teams_of, moved_rounds_of}
 use Rattle.moves.specs.declared.moves.Move.{Move}
 use Rattle.moves.specs.declared.moves.Move.TheVariants.{Homes, Rounds, Teams, PartRounds, PartTeams}
-use Rattle.moves.specs.declared.exchanges.Exchange.{Exchange}
-use Rattle.moves.specs.declared.exchanges.Exchange.TheVariants as edit
+use Rattle.fixtures.specs.declared.exchanges.Exchange.{Exchange}
+use Rattle.fixtures.specs.declared.exchanges.Exchange.TheVariants as edit
 use Rattle.moves.specs.Moves.{fault_of, moved}
-use Rattle.moves.specs.Exchanges.{exchange_of, exchanged_by, IsOfRounds, IsOfTeams, IsInSeason, Fits, IsExchangeOf}
+use Rattle.fixtures.specs.Exchanges.{exchanged_by, IsOfRounds, IsOfTeams, IsInSeason, Fits}
+use Rattle.moves.specs.ExchangeOf.{exchange_of, IsExchangeOf}
 use Rattle.moves.proofs.move_laws.Checked.{at_variant, homes-checked, rounds-checked, teams-checked}
 use Rattle.moves.proofs.move_laws.Checked.{part_rounds-checked, part_teams-checked}
 use Rattle.moves.proofs.move_laws.WholeMoves.{IsOfRounds-homes, IsOfRounds-rounds, IsOfTeams-teams, as_rounds}
 use Rattle.moves.proofs.move_laws.WholeMoves.{all_rounds, of_all_teams, has-apart}
 use Rattle.moves.proofs.move_laws.PartMoves.{IsOfRounds-part_rounds, IsOfTeams-part_teams, has-movers, has-taken}
 use Rattle.league.proofs.ForCallers.{has_all_numbers}
-use Rattle.moves.proofs.Sets.{same_set, has-both}
+use Rattle.league.proofs.ForCallers.{has_both}
+use Rattle.moves.proofs.Sets.{same_set}
 
 is_of : (g : Games) → IsDoubleRoundRobin g → (mv : Move) (exchange : Exchange) → IsInSeason exchange → Fits g exchange →
     moved g mv ≡ exchanged_by g exchange → IsExchangeOf g mv exchange
@@ -47,7 +49,7 @@ pub each-exchange : (g : Games) (mv : Move) → IsDoubleRoundRobin g → fault_o
     IsExchangeOf g mv (exchange_of g mv)
 each-exchange g (Homes i j) rr checked =
     let p = homes-checked g i j checked in
-    of_rounds g rr (Homes i j) _ _ _ _ (has-both i j) (IsOfRounds-homes g rr i j p) (sym (as_rounds g rr i j p))
+    of_rounds g rr (Homes i j) _ _ _ _ (has_both i j) (IsOfRounds-homes g rr i j p) (sym (as_rounds g rr i j p))
 each-exchange g (Rounds k l) rr checked =
     let p = rounds-checked g k l checked in
     of_rounds g rr (Rounds k l) k l _ _ (has_all_numbers g.teams) (IsOfRounds-rounds g rr k l p) (of_all_teams g rr k l p)

@@ -12,11 +12,12 @@ use Rattle.fixtures.proofs.ForCallers.{moved_rounds_of_teams_exchanged, are_apar
 use Rattle.fixtures.proofs.ForCallers.{are_apart_step, shares_in_range}
 use Rattle.moves.specs.declared.moves.Move.TheVariants.{PartRounds, PartTeams}
 use Rattle.moves.specs.Moves.{fault_of, moved, touched_team}
-use Rattle.moves.specs.Exchanges.{IsOfRounds, IsOfTeams, set_where, touched_of}
+use Rattle.fixtures.specs.Exchanges.{IsOfRounds, IsOfTeams, touched_of}
+use Rattle.moves.specs.ExchangeOf.{set_where}
 use Rattle.moves.specs.Laws.{IsItsOwnInverse}
 use Rattle.moves.proofs.move_laws.Checked.{IsPartTeams, with_same_meeting}
 use Rattle.moves.proofs.Sets.{has-set_of_all}
-use Rattle.moves.proofs.exchange_laws.TouchedTeams.{touched_same}
+use Rattle.fixtures.proofs.ForCallers.{touched_same}
 
 -- ---- rounds
 

@@ -5,15 +5,16 @@ use Rattle.std.proofs.lemmas.Bool.{cases_eq, cond-true, and_from, and_parts, and
 use Rattle.std.proofs.lemmas.Bool.{or_from, eqb-true, eq-eqb, ne_eqb, lt-ltb, ltb-true, not_from_false}
 use Rattle.league.specs.Sets.{has}
 use Rattle.fixtures.specs.Games.{Games, round_of, round_count, IsPair, IsDoubleRoundRobin}
+use Rattle.fixtures.specs.Exchanges.{IsOfRounds, IsOfTeams}
 use Rattle.fixtures.specs.Edits.{exchanged, homes_exchanged, rounds_exchanged, teams_exchanged, all_games_exchanged}
 use Rattle.fixtures.proofs.ForCallers.{pair_swapped, distinct_rounds, round_of_games, games_ext, plays_in_parts}
 use Rattle.fixtures.proofs.ForCallers.{rounds_exchanged_twice, round_of_homes_exchanged, homes_exchanged_twice, IsTwo}
 use Rattle.fixtures.proofs.ForCallers.{is_closed_two, homes_rounds_exchanged, stays_among_closed, StaysAmong}
-use Rattle.fixtures.proofs.ForCallers.{teams_exchanged_twice, round_robin_teams_exchanged, are_apart, are_apart_first}
+use Rattle.fixtures.proofs.ForCallers.{teams_exchanged_twice, round_robin_teams_exchanged, are_apart, are_apart_first, two_below}
 use Rattle.fixtures.proofs.ForCallers.{are_apart_second, are_apart_step, shares_in_range, all_games_exchanged_rounds}
 use Rattle.moves.specs.declared.moves.Move.TheVariants.{Homes, Rounds, Teams}
 use Rattle.moves.specs.Moves.{fault_of}
-use Rattle.moves.specs.Exchanges.{IsOfRounds, IsOfTeams, rounds_apart as set_apart}
+use Rattle.moves.specs.ExchangeOf.{rounds_apart as set_apart}
 use Rattle.moves.specs.Laws.{IsItsOwnInverse}
 use Rattle.moves.proofs.Sets.{has-set_where}
 
@@ -32,13 +33,6 @@ third_number k l =
         ]
         | inr f ↦ (0, omega arith, e, f)
       ]
-    ]
-
-pub two_below : (n i j : ℕ) → IsPair n i j → (t : ℕ) → (eqb t i || eqb t j) ≡ true → t < n
-two_below n i j p t e =
-    elim (or_cases (eqb t i) (eqb t j) e) [
-      | inl at_i ↦ subst (λ x. x < n) (sym (eqb-true t i at_i)) p.home_in
-      | inr at_j ↦ subst (λ x. x < n) (sym (eqb-true t j at_j)) p.away_in
     ]
 
 -- ---- homes

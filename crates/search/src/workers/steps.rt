@@ -2,17 +2,18 @@
 
 ghost use Rattle.std.specs.Prelude.{◌≡◌, ◌+◌, ◌^◌, ◌<◌, MatchOption};
 ghost use Rattle.league.specs.League.{teams};
-ghost use Rattle.moves.specs.Exchanges.{exchanged_by, IsExchange};
+ghost use Rattle.fixtures.specs.Exchanges.{exchanged_by, IsExchange};
 ghost use Rattle.fixture_board.specs.declared.reply.Reply.{Reply};
 ghost use Rattle.search.specs.Doors.{done_count};
 ghost use Rattle.search.specs.Steps.{IsCandidate, IsKnown, IsLeftOut, IsMeasured, IsProposed, accepted_count, least_with};
 
 use crate::Door;
 use crate::gates::HearingGate;
-use fixture_board::{Attempt, Cost, KeptGaps, Proposal, Reply, Why, cost_of, make_within};
-use fixtures::Schedule;
+use costs::{Attempt, Cost, KeptGaps, cost_of, make_within};
+use fixture_board::{Proposal, Reply, Why};
+use fixtures::{Exchange, Schedule};
 use league::League;
-use moves::{Exchange, Move, check, exchange};
+use moves::{Move, check, exchange};
 use std::sync::Wait;
 
 /// What costs are counted with.

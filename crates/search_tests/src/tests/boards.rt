@@ -3,7 +3,8 @@
 ghost use Rattle.std.specs.Prelude.{◌≡◌, [], IfOk};
 
 use crate::tests::checks::{check_holds, check_same};
-use fixture_board::{Best, Board, Change, Cost, Entry, Proposal, Reply};
+use costs::Cost;
+use fixture_board::{Best, Board, Change, Entry, Proposal, Reply};
 use fixtures::Schedule;
 use league::limits::MAX_WEIGHT;
 use league::{League, circular};

@@ -2,7 +2,8 @@
 
 use crate::tests::boards::{Beginning, league_from};
 use crate::tests::checks::{check_holds, check_same};
-use fixture_board::{Board, cost_of};
+use costs::cost_of;
+use fixture_board::Board;
 use league::{League, circular};
 use moves::Move;
 use search::{Outcome, SearchPlan, run};

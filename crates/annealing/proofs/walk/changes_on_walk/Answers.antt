@@ -1,6 +1,6 @@
 use Rattle.std.proofs.Common.{◌≡◌, ◌++◌, ◌∙◌, ap, arith, rules}
 use Rattle.league.specs.League.{teams}
-use Rattle.fixture_board.specs.Costs.{total_of}
+use Rattle.costs.specs.Costs.{total_of}
 use Rattle.fixture_board.specs.Record.{Book}
 use Rattle.fixture_board.specs.Replies.{greatest}
 use Rattle.fixture_board.specs.Trials.{trial_history}

@@ -2,7 +2,7 @@ use Rattle.streams.proofs.Pieces.{Adds-stops, Adds-then, Adds-writes, Stops-more
 use Rattle.std.proofs.Common.{◌-◌}
 use Rattle.streams.specs.Pieces.{pieces_below}
 use Rattle.fixtures.specs.Games.{round_count}
-use Rattle.fixture_board.specs.Costs.{cost_of}
+use Rattle.costs.specs.Costs.{cost_of}
 use Rattle.reports.specs.Leaving.{leaving_text}
 use Rattle.reports.specs.CostText.{cost_text, halves_text, repeat_lines, rule_lines, run_lines, total_line, tour_line}
 use Rattle.reports.proofs.costs.write_costs.Goals as goal

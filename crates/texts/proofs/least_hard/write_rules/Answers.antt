@@ -2,7 +2,7 @@ use Rattle.std.proofs.Common.{◌+◌, arith}
 use Rattle.std.specs.Prelude.{slice_get}
 use Rattle.league.proofs.ForCallers.{sum_below_none}
 use Rattle.streams.proofs.Pieces.{Adds-nothing, Adds-piece, Stops-in_pieces, Stops-writes}
-use Rattle.fixture_board.specs.Costs.{hard_penalty, penalty_of}
+use Rattle.costs.specs.Costs.{hard_penalty, penalty_of}
 use Rattle.texts.specs.LeastHard.{breaches_of, rule_part}
 use Rattle.texts.proofs.Breaches.{breaches_more, part_is}
 use Rattle.texts.proofs.least_hard.write_rules.Goals as goal

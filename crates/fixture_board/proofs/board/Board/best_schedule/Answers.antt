@@ -1,7 +1,7 @@
 use Rattle.std.proofs.Common.{◌∙◌, ap}
 use Rattle.fixtures.specs.Games.{Games}
 use Rattle.fixture_board.proofs.Keeps.{prefix_of-best}
-use Rattle.fixture_board.proofs.Scores.{games_of-teams}
+use Rattle.fixture_board.proofs.Scored.{games_of-teams}
 use Rattle.fixture_board.proofs.board.Board.best_schedule.Goals as goal
 
 pub returns-in-Some-clause-some : goal.returns-in-Some-clause-some

@@ -1,13 +1,13 @@
 use Rattle.std.proofs.Common.{Err, refl, ◌∙◌, ap, sym, arith}
 use Rattle.std.specs.Result.{result_err}
 use Rattle.fixtures.specs.Games.{Games}
-use Rattle.moves.specs.Exchanges.{exchanged_by}
-use Rattle.fixture_board.specs.Costs.{cost_of}
+use Rattle.fixtures.specs.Exchanges.{exchanged_by}
+use Rattle.costs.specs.Costs.{cost_of}
 use Rattle.fixture_board.specs.History.{moves_pin, pins_of}
 use Rattle.fixture_board.specs.Kept.{kept_of}
 use Rattle.fixture_board.proofs.Keeps.{IsGranted-shift, IsSound-kept, known_cost}
 use Rattle.fixture_board.proofs.Reasons.{IsStep-stopped, shift_stopped, shift_told, shift_judged}
-use Rattle.fixture_board.proofs.Parts.{score_after}
+use Rattle.costs.proofs.ForCallers.{score_after}
 use Rattle.fixture_board.proofs.state.State.shift.Goals as goal
 
 pub returns-in_err-check_move-clause-step : goal.returns-in_err-check_move-clause-step

@@ -1,5 +1,5 @@
 use Rattle.std.proofs.Common.{◌∙◌, ap}
-use Rattle.fixture_board.specs.Costs.{cost_of}
+use Rattle.costs.specs.Costs.{cost_of}
 use Rattle.fixture_board.proofs.Keeps.{FollowsHistory-start}
 use Rattle.fixture_board.proofs.state.State.start.Goals as goal
 

@@ -1,7 +1,7 @@
 use Rattle.std.proofs.Common.{sym, ◌∙◌, ap}
 use Rattle.fixtures.specs.Games.{Games}
-use Rattle.fixture_board.specs.Costs.{cost_of}
-use Rattle.fixture_board.specs.declared.cost.Cost.{Cost}
+use Rattle.costs.specs.Costs.{cost_of}
+use Rattle.costs.specs.declared.cost.Cost.{Cost}
 use Rattle.fixture_board.specs.declared.state.State.{State}
 use Rattle.fixture_board.proofs.state.State.take_back.Goals as goal
 

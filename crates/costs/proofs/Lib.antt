@@ -1,0 +1,6 @@
+pub mod Scores
+pub mod Parts
+pub mod PartLimits
+pub mod Partial
+pub mod Alike
+pub mod ForCallers

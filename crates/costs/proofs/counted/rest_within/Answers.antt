@@ -1,0 +1,31 @@
+use Rattle.std.proofs.Common.{arith, sym, ◌∙◌, length}
+use Rattle.std.proofs.lemmas.Bool.{leb-false}
+use Rattle.fixtures.specs.Exchanges.{exchanged_by}
+use Rattle.costs.specs.CostParts.{last_fairness}
+use Rattle.costs.proofs.Alike.{asked_scores}
+use Rattle.costs.proofs.Parts.{rest_scores, score_fits_after}
+use Rattle.costs.proofs.counted.rest_within.Goals as goal
+use Rattle.costs.proofs.counted.rest_within.Goals.{then-score-most-via-then-score-most}
+use Rattle.costs.proofs.counted.rest_within.Goals.{then-score-most-via-else-score-most+then-not-leaves_room}
+
+pub score_by-score-requires : goal.score_by-score-requires
+score_by-score-requires c =
+    omega (
+      arith,
+      rest_scores c.args.league.now c.args.scope.now.attempt.weight c.args.scope.now (exchanged_by c.args.schedule.now c.args.scope.now.attempt.exchange.now)
+          c.rest_of-rest.result c.rest_of-rest.ensures,
+      score_fits_after c.args.league.now c.args.schedule.now c.args.scope.now.attempt.exchange.now c.args.scope.now.attempt.weight
+          c.teams.ensures.limits c.requires.same_size (omega arith),
+    )
+
+pub returns-then-score-most : goal.returns-then-score-most
+returns-then-score-most c =
+    let scores =
+    asked_scores c.args.league.now c.args.scope.now _ c.rest_of-rest.result
+    (last_fairness c.args.league.now.rules (length c.args.league.now.rules)) c.rest_of-rest.ensures in
+    elim c.then-score-most.branch [
+      | then-score-most-via-then-score-most w ↦ omega (arith, w.if-score-most.true, c.score_by-score.ensures, scores)
+      | then-score-most-via-else-score-most+then-not-leaves_room w ↦
+          let more = leb-false _ _ (sym w.leaves_room.ensures ∙ w.if-not-leaves_room.true) in
+          omega (arith, w.if-score-most.false, c.score_by-score.ensures, scores, more)
+    ]

@@ -1,0 +1,14 @@
+use Rattle.std.proofs.Common.{◌≡◌, ◌*◌, ◌≤◌}
+use Rattle.std.specs.Prelude.{slice_get}
+use Rattle.league.specs.Limits.{deviation_limit, max_weight}
+use Rattle.league.specs.Sums.{sum_below}
+use Rattle.costs.specs.Costs.{hard_penalty, soft_penalty, penalty_of}
+use Rattle.costs.proofs.rule_costs.costs_of_rules.Given as goal
+
+abbrev pub invariant-loop-i : goal.invariant-loop-i
+invariant-loop-i l = record {
+  hard : l.costs.hard ≡ sum_below l.i (λ i. penalty_of hard_penalty l.schedule (slice_get l.league.rules i));
+  soft : l.costs.soft ≡ sum_below l.i (λ i. penalty_of soft_penalty l.schedule (slice_get l.league.rules i));
+  hard_most : l.costs.hard ≤ l.i * deviation_limit;
+  soft_most : l.costs.soft ≤ l.i * (max_weight * deviation_limit);
+}

@@ -1,0 +1,143 @@
+-- What of the costs an exchange can change, counted on the schedule before it or after it. `main` has its main teams and
+-- their rounds.
+use Rattle.std.specs.Prelude.{◌≡◌, ℕ, zero, suc, ◌+◌, ◌*◌, ◌<◌, ◌==◌, ◌&&◌, nat_lt, Bool, false, if◌then◌else◌}
+use Rattle.std.specs.Prelude.{List, length, slice_get, Option, Some, None}
+use Rattle.league.specs.League.{LeagueData, teams}
+use Rattle.league.specs.RuleLimits.{IsRuleFor}
+use Rattle.league.specs.Sets.{has}
+use Rattle.league.specs.Sums.{sum_below}
+use Rattle.league.specs.declared.rule.Rule.{Rule}
+use Rattle.league.specs.declared.rule.RuleBody.{RuleBody}
+use Rattle.league.specs.declared.rule.RuleBody.TheVariants.{Fa2}
+use Rattle.league.specs.declared.rule.Weight.{Weight}
+use Rattle.league.specs.declared.rule.Weight.TheVariants.{Hard, Soft}
+use Rattle.fixtures.specs.Games.{Games}
+use Rattle.fixtures.specs.TouchedCells.{TouchedCells}
+use Rattle.fixtures.specs.declared.exchanges.Exchange.{Exchange}
+use Rattle.fixtures.specs.Exchanges.{exchanged_by, IsExchange, main_cells, turning_team}
+use Rattle.tours.specs.Tours.{travel}
+use Rattle.tours.specs.Runs.{runs_over}
+use Rattle.tours.specs.Repeats.{repeats}
+use Rattle.tours.specs.Phased.{unphased_part}
+use Rattle.robinx.specs.Parts.{deviation_part}
+use Rattle.robinx.specs.LastCounts.{Counting}
+use Rattle.robinx.specs.declared.fairness_rules.Fairness.{Fairness}
+use Rattle.costs.specs.Costs.{cost_of, hard_penalty, near_cost, soft_penalty, score_limit, where_phased}
+use Rattle.costs.specs.declared.cost.Cost.{Cost}
+use Rattle.costs.specs.declared.penalties.Penalties.{Penalties}
+use Rattle.costs.specs.declared.scope.Scope.{Scope}
+
+-- what the scope says of its exchange is so on the schedule before it
+pub record IsScope (g : Games) (scope : Scope) : Type 0 where
+  pub can_be_made : IsExchange g scope.attempt.exchange.now
+  pub main : scope.main ≡ main_cells scope.attempt.exchange.now
+  pub turning : (t : ℕ) → has scope.turning t ≡ turning_team g scope.attempt.exchange.now t
+
+-- what parts are counted of: a schedule, and the change that the scope's exchange is
+abbrev pub counting_of : Games → Scope → Counting
+counting_of g scope =
+    record { games = g; main = scope.main.teams; rounds = scope.main.rounds; sides = scope.turning }
+
+-- the hard costs of every league: runs and repeats
+abbrev pub games_cost : LeagueData → Games → ℕ
+games_cost l g = runs_over g l.at_most + repeats g
+
+-- whether a schedule of this cost may break a rule of this weight: no rule of a kind that costs nothing
+abbrev pub may_break : Cost → Weight → Bool
+may_break cost Hard = nat_lt 0 cost.hard
+may_break cost (Soft weight) = nat_lt 0 cost.soft
+
+-- the part of the deviation from a rule that a schedule of this cost may break
+abbrev pub breakable_part : Games → TouchedCells → ℕ → Cost → Rule → ℕ
+breakable_part g main sides cost rule =
+    if may_break cost rule.weight then deviation_part g main.teams main.rounds sides rule.body else 0
+
+-- of what one rule adds, if there is one
+abbrev pub rule_part : (Weight → ℕ → ℕ) → TouchedCells → ℕ → Games → Option Rule → ℕ
+rule_part penalty main sides g None = 0
+rule_part penalty main sides g (Some rule) = penalty rule.weight (deviation_part g main.teams main.rounds sides rule.body)
+
+-- the sum over the rules, by their indices
+unfoldable pub rules_part : (Weight → ℕ → ℕ) → List Rule → TouchedCells → ℕ → Games → ℕ
+rules_part penalty rules main sides g =
+    sum_below (length rules) (λ i. rule_part penalty main sides g (slice_get rules i))
+
+-- of all costs but travel, runs and repeats: of the rules, and in a phased league of the pairs with both games in one half
+abbrev pub penalties_part : LeagueData → Scope → Games → Penalties
+penalties_part l scope g = record {
+  hard =
+      where_phased l (unphased_part g (has scope.main.teams)) + rules_part hard_penalty l.rules scope.main scope.turning g;
+  soft = rules_part soft_penalty l.rules scope.main scope.turning g;
+}
+
+-- a cost with penalties that it lacks
+abbrev pub with_penalties : Cost → Penalties → Cost
+with_penalties rest penalties =
+    record { travel = rest.travel; hard = rest.hard + penalties.hard; soft = rest.soft + penalties.soft }
+
+-- with the penalties that the exchange can change, counted after it, this is the cost after it
+abbrev pub IsRest : LeagueData → Scope → Games → Cost → Type 0
+IsRest l scope after rest = with_penalties rest (penalties_part l scope after) ≡ cost_of l after
+
+-- travel, runs, repeats and what leaving the start costs as they are after the exchange, and all else as it is before it
+pub record IsTold (l : LeagueData) (g : Games) (exchange : Exchange) (told : Cost) : Type 0 where
+  pub travel_is : told.travel ≡ travel l (exchanged_by g exchange)
+  pub hard : told.hard + games_cost l g ≡ (cost_of l g).hard + games_cost l (exchanged_by g exchange)
+  pub soft : told.soft + near_cost l g ≡ (cost_of l g).soft + near_cost l (exchanged_by g exchange)
+
+-- each of the costs is below the limit of scores
+pub record IsSmall (cost : Cost) : Type 0 where
+  pub travel : cost.travel < score_limit
+  pub hard : cost.hard < score_limit
+  pub soft : cost.soft < score_limit
+
+-- what a deviation of 1 from a rule of this weight adds to the score by a weight of hard breaches
+abbrev pub score_weight : ℕ → Weight → ℕ
+score_weight hard_weight Hard = hard_weight
+score_weight hard_weight (Soft weight) = weight
+
+-- whether the rule is of class FA2 and asks this
+unfoldable pub asks : RuleBody → Fairness → Bool
+asks (Fa2 teams slots most) asked = teams == asked.teams && slots == asked.slots && most == asked.most
+asks body asked = false
+
+-- what a deviation of 1 adds to the score from the rule that stands somewhere, if it asks this
+abbrev pub weight_at : ℕ → Fairness → Option Rule → ℕ
+weight_at hard_weight asked None = 0
+weight_at hard_weight asked (Some rule) = if asks rule.body asked then score_weight hard_weight rule.weight else 0
+
+-- the sum over all rules, by their indices
+unfoldable pub weight_of : LeagueData → ℕ → Fairness → ℕ
+weight_of l hard_weight asked = sum_below (length l.rules) (λ i. weight_at hard_weight asked (slice_get l.rules i))
+
+-- what the rule asks if it is of class FA2, and else what was asked earlier
+unfoldable pub asked_by : RuleBody → Option Fairness → Option Fairness
+asked_by (Fa2 teams slots most) earlier = Some (record { teams = teams; slots = slots; most = most })
+asked_by body earlier = earlier
+
+-- the same of the rule that stands somewhere
+abbrev pub asked_at : Option Rule → Option Fairness → Option Fairness
+asked_at None earlier = earlier
+asked_at (Some rule) earlier = asked_by rule.body earlier
+
+-- what the last rule of class FA2 asks, of the first n
+unfoldable pub last_fairness : List Rule → ℕ → Option Fairness
+last_fairness rules zero = None
+last_fairness rules (suc n) = asked_at (slice_get rules n) (last_fairness rules n)
+
+-- the rule is one of the league's, and asks this
+pub record IsFound (l : LeagueData) (rule : Rule) (asked : Fairness) : Type 0 where
+  pub index : ℕ
+  pub at : slice_get l.rules index ≡ Some rule
+  pub body : rule.body ≡ Fa2 asked.teams asked.slots asked.most
+  pub range : IsRuleFor (teams l) rule
+
+-- what an exchange can alter of what all rules that ask the same add to the score
+abbrev pub asked_part : LeagueData → Scope → Games → Option Fairness → ℕ
+asked_part l scope g None = 0
+asked_part l scope g (Some asked) =
+    weight_of l scope.attempt.weight asked * deviation_part g scope.main.teams scope.main.rounds scope.turning (Fa2 asked.teams asked.slots asked.most)
+
+-- the same of those that ask what the last rule of class FA2 does
+abbrev pub fairness_part : LeagueData → Scope → Games → ℕ
+fairness_part l scope g = asked_part l scope g (last_fairness l.rules (length l.rules))

@@ -1,0 +1,72 @@
+-- What a schedule costs in a league.
+use Rattle.std.specs.Prelude.{◌≡◌, ℕ, ◌+◌, ◌*◌, ◌^◌, ◌<◌, ◌≤◌, if◌then◌else◌, List, length, slice_get, Option, Some, None}
+use Rattle.league.specs.League.{LeagueData}
+use Rattle.league.specs.Sums.{sum_below}
+use Rattle.league.specs.declared.rule.Rule.{Rule}
+use Rattle.league.specs.declared.rule.Weight.{Weight}
+use Rattle.league.specs.declared.rule.Weight.TheVariants.{Hard, Soft}
+use Rattle.fixtures.specs.Games.{Games}
+use Rattle.tours.specs.Moved.{moved_games}
+use Rattle.tours.specs.Tours.{travel}
+use Rattle.tours.specs.Runs.{runs_over}
+use Rattle.tours.specs.Repeats.{repeats}
+use Rattle.tours.specs.Phased.{unphased}
+use Rattle.robinx.specs.Deviations.{deviation}
+use Rattle.costs.specs.declared.cost.Cost.{Cost}
+
+-- what a deviation of a rule of this weight adds to hard
+abbrev pub hard_penalty : Weight → ℕ → ℕ
+hard_penalty Hard deviation = deviation
+hard_penalty (Soft weight) deviation = 0
+
+-- what it adds to soft
+abbrev pub soft_penalty : Weight → ℕ → ℕ
+soft_penalty Hard deviation = 0
+soft_penalty (Soft weight) deviation = weight * deviation
+
+-- what one rule adds, if there is one
+abbrev pub penalty_of : (Weight → ℕ → ℕ) → Games → Option Rule → ℕ
+penalty_of penalty g None = 0
+penalty_of penalty g (Some rule) = penalty rule.weight (deviation g rule.body)
+
+-- the sum over the rules, by their indices
+unfoldable pub sum_over_rules : (Weight → ℕ → ℕ) → List Rule → Games → ℕ
+sum_over_rules penalty rules g = sum_below (length rules) (λ i. penalty_of penalty g (slice_get rules i))
+
+-- what is counted in a phased league alone
+abbrev pub where_phased : LeagueData → ℕ → ℕ
+where_phased l count = if l.phased then count else 0
+
+-- what the games cost that have another round than at the start
+abbrev pub near_cost : LeagueData → Games → ℕ
+near_cost l g = l.origin.near * moved_games l g
+
+-- travel as it is; hard: runs, repeats, the deviations of hard rules, and in a phased league the pairs of teams with
+-- both games in one half; soft: the weighted deviations of soft rules, and what leaving the start costs
+unfoldable pub cost_of : LeagueData → Games → Cost
+cost_of l g = record {
+  travel = travel l g;
+  hard = runs_over g l.at_most + repeats g + sum_over_rules hard_penalty l.rules g + where_phased l (unphased g);
+  soft = sum_over_rules soft_penalty l.rules g + near_cost l g;
+}
+
+-- what is compared if hard limits may be broken, with this weight for each breach of one
+abbrev pub score_by : ℕ → Cost → ℕ
+score_by weight cost = cost.travel + cost.soft + weight * cost.hard
+
+-- the same by the league's weight
+abbrev pub score_of : LeagueData → Cost → ℕ
+score_of l cost = score_by l.hard_weight cost
+
+-- what is compared among schedules that break none
+abbrev pub total_of : Cost → ℕ
+total_of cost = cost.travel + cost.soft
+
+-- the cost of the games if their score by this weight is at most this, and none if it is more
+abbrev pub IsCostWithin : LeagueData → ℕ → ℕ → Games → Option Cost → Type 0
+IsCostWithin l weight most g (Some cost) = (cost ≡ cost_of l g) × (score_by weight cost ≤ most)
+IsCostWithin l weight most g None = most < score_by weight (cost_of l g)
+
+-- no score of a league's schedules by its own weight reaches this
+abbrev pub score_limit : ℕ
+score_limit = 10 ^ 16

@@ -1,0 +1,17 @@
+//! What is tried on a schedule.
+
+use crate::cost::Cost;
+use fixtures::Exchange;
+
+/// An exchange to be made on a schedule of known cost, if the score after it by this weight is at most `most`.
+#[derive(Clone, Copy)]
+pub struct Attempt<'a> {
+    /// The exchange.
+    pub exchange: &'a Exchange,
+    /// What the schedule costs before it.
+    pub known: Cost,
+    /// What each breach of a hard limit adds to the score by which the exchange is judged: at least 1.
+    pub weight: u32,
+    /// The greatest score after it with which it is made.
+    pub most: u64,
+}

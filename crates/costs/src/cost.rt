@@ -1,0 +1,64 @@
+//! What a schedule costs.
+
+use league::{League, Weight};
+
+/// What a schedule costs in a league. It is feasible if `hard` is 0.
+#[derive(Clone, Copy, Debug, PartialEq, Eq)]
+pub struct Cost {
+    /// How far all teams travel, in the unit of the league's distances.
+    pub travel: u64,
+    /// The runs, the repeats, the deviations of the hard rules and, in a phased league, the pairs of teams with both
+    /// games in one half of the season.
+    pub hard: u64,
+    /// The deviations of the soft rules, each times its weight.
+    pub soft: u64,
+}
+
+impl Cost {
+    ghost use Rattle.std.specs.Prelude.{◌≡◌, ◌^◌, ◌<◌, ◌==◌};
+    ghost use Rattle.costs.specs.Costs.{score_by, score_of, total_of};
+    ghost use Rattle.costs.specs.CostParts.{may_break};
+
+    /// What is compared if hard limits may be broken: travel and soft, and the league's hard weight for each
+    /// breach of a hard limit.
+    pub fn score(self, league: &League) -> u64
+        requires { score_of league.now self < 2 ^ 64 }
+        ensures { result ≡ score_of league.now self }
+    {
+        self.score_by(league.hard_weight())
+    }
+
+    /// The same with this weight for each breach of a hard limit.
+    pub fn score_by(self, weight: u32) -> u64
+        requires { score_by weight self < 2 ^ 64 }
+        ensures { result ≡ score_by weight self }
+    {
+        self.total() + u64::from(weight) * self.hard
+    }
+
+    /// What is compared among feasible schedules: travel and soft.
+    pub fn total(self) -> u64
+        requires { total_of self < 2 ^ 64 }
+        ensures { result ≡ total_of self }
+    {
+        self.travel + self.soft
+    }
+
+    /// Whether no hard limit is broken.
+    pub fn is_feasible(self) -> bool
+        ensures { result ≡ (self.hard == 0) }
+    {
+        self.hard == 0
+    }
+
+    /// Whether a schedule of this cost may break a rule of this weight: no hard one if nothing is hard, no soft one if
+    /// nothing is soft.
+    pub(crate) fn may_break(self, weight: Weight) -> bool
+        ensures { result ≡ may_break self weight }
+    {
+        match weight {
+            Weight::Hard => self.hard > 0,
+            Weight::Soft(_) => self.soft > 0,
+        }
+    }
+}

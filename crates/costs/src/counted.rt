@@ -1,0 +1,123 @@
+//! What an exchange can change of a cost that has to be counted, before it and after it: of the rules, and in a phased league of
+//! the pairs with both games in one half.
+
+ghost use Rattle.std.specs.Prelude.{◌≡◌, ◌*◌, ◌<◌, ◌≤◌, MatchOption};
+ghost use Rattle.league.specs.League.{teams};
+ghost use Rattle.league.specs.Limits.{max_teams};
+ghost use Rattle.league.specs.Sets.{has};
+ghost use Rattle.tours.specs.Phased.{unphased_part};
+ghost use Rattle.fixtures.specs.Exchanges.{exchanged_by};
+ghost use Rattle.costs.specs.Costs.{cost_of, score_by, where_phased, IsCostWithin};
+ghost use Rattle.costs.specs.CostParts.{IsRest, IsScope, IsTold};
+
+use crate::cost::Cost;
+use crate::fairness::leaves_room;
+use crate::penalties::Penalties;
+use crate::rule_costs::parts_of_rules;
+use crate::scope::Scope;
+use fixtures::{Schedule, Touched};
+use league::League;
+use robinx::{KeptGaps, PartCounter};
+use tours::unphased_part;
+
+/// A told cost without the penalties that the exchange can change. None of them is counted if the known cost has none.
+fn rest_of(
+    schedule: &Schedule,
+    league: &League,
+    gaps: &mut KeptGaps,
+    scope: &Scope<'_>,
+    told: Cost,
+) -> Cost
+    requires same_size { teams league.now ≡ schedule.now.teams }
+    requires scope { IsScope schedule.now scope.now }
+    requires known { scope.now.attempt.known ≡ cost_of league.now schedule.now }
+    requires told { IsTold league.now schedule.now scope.now.attempt.exchange.now told }
+    ensures { IsRest league.now scope.now (exchanged_by schedule.now scope.now.attempt.exchange.now) result }
+{
+    prove_eq!(league.teams(), schedule.teams());
+    let known = scope.attempt.known;
+    if known.hard == 0 && known.soft == 0 {
+        return told;
+    }
+    let rules = parts_of_rules(schedule, league, gaps, scope);
+    Cost {
+        travel: told.travel,
+        hard: told.hard - phases_part(schedule, league, scope.main) - rules.hard,
+        soft: told.soft - rules.soft,
+    }
+}
+
+/// That rest, unless it or the rules of class FA2 that ask what the last one does take the score after the exchange over the greatest
+/// that the attempt allows. For that nothing is made.
+pub(crate) fn rest_within(
+    schedule: &Schedule,
+    league: &League,
+    gaps: &mut KeptGaps,
+    scope: &Scope<'_>,
+    told: Cost,
+) -> Option<Cost>
+    requires same_size { teams league.now ≡ schedule.now.teams }
+    requires scope { IsScope schedule.now scope.now }
+    requires known { scope.now.attempt.known ≡ cost_of league.now schedule.now }
+    requires weight { 1 ≤ scope.now.attempt.weight }
+    requires told { IsTold league.now schedule.now scope.now.attempt.exchange.now told }
+    ensures { MatchOption result
+        (scope.now.attempt.most < score_by scope.now.attempt.weight (cost_of league.now (exchanged_by schedule.now scope.now.attempt.exchange.now)))
+        (λ rest. IsRest league.now scope.now (exchanged_by schedule.now scope.now.attempt.exchange.now) rest) }
+{
+    prove_eq!(league.teams(), schedule.teams());
+    let rest = rest_of(schedule, league, gaps, scope, told);
+    let score = rest.score_by(scope.attempt.weight);
+    let most = scope.attempt.most;
+    if score > most || !leaves_room(schedule, league, gaps, scope, most - score) {
+        return None;
+    }
+    Some(rest)
+}
+
+/// The cost after an exchange, of which the rest is known, if its score is at most the greatest that the attempt allows. The rules
+/// are counted one after another, until the score is above that.
+pub(crate) fn whole_within(
+    schedule: &Schedule,
+    league: &League,
+    gaps: &mut KeptGaps,
+    scope: &Scope<'_>,
+    rest: Cost,
+) -> Option<Cost>
+    requires same_size { teams league.now ≡ schedule.now.teams }
+    requires rest { IsRest league.now scope.now schedule.now rest }
+    ensures { IsCostWithin league.now scope.now.attempt.weight scope.now.attempt.most schedule.now result }
+{
+    prove_eq!(league.teams(), schedule.teams());
+    let (weight, most) = (scope.attempt.weight, scope.attempt.most);
+    let mut cost = Cost {
+        hard: rest.hard + phases_part(schedule, league, scope.main),
+        ..rest
+    };
+    let mut parts = PartCounter::new(schedule, scope.main, scope.turning);
+    for i in 0..league.rule_count() {
+        if cost.score_by(weight) > most {
+            return None;
+        }
+        let rule = league.rule(i);
+        let added = Penalties::of_rule(rule.weight, parts.part(rule, gaps));
+        cost.hard += added.hard;
+        cost.soft += added.soft;
+    }
+    if cost.score_by(weight) > most {
+        return None;
+    }
+    Some(cost)
+}
+
+/// Those of the pairs that the exchange can change, if the league is phased.
+fn phases_part(schedule: &Schedule, league: &League, main: Touched) -> u64
+    ensures value { result ≡ where_phased league.now (unphased_part schedule.now (has main.teams)) }
+    ensures most { result ≤ max_teams * max_teams }
+{
+    if league.phased() {
+        unphased_part(schedule, main)
+    } else {
+        0
+    }
+}

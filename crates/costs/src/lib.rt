@@ -1,0 +1,22 @@
+//! What a double round robin costs in a league, and what an exchange would make of that: tried on a schedule of known cost,
+//! and made if the score after it is within a limit.
+//!
+//! Teams and rounds are numbered from 0. No call takes memory.
+#![tactic(auto)]
+
+mod attempt;
+mod cost;
+mod counted;
+mod fairness;
+mod made_exchanges;
+mod penalties;
+mod rule_costs;
+mod scope;
+mod told_cost;
+mod whole_cost;
+
+pub use attempt::Attempt;
+pub use cost::Cost;
+pub use made_exchanges::{make_at_cost, make_within};
+pub use robinx::KeptGaps;
+pub use whole_cost::cost_of;
