@@ -12,10 +12,10 @@ ghost use Rattle.fixture_board.specs.declared.change.Entry.{Entry};
 mod calls;
 mod copies;
 
-use crate::change::Entry;
 use crate::best::Best;
-use costs::Cost;
+use crate::change::Entry;
 use crate::state::State;
+use costs::Cost;
 use fixtures::Schedule;
 use league::League;
 use std::alloc::Global;

@@ -7,13 +7,10 @@ mod steps;
 
 use crate::best::{Best, keep_best};
 use crate::change::{Change, Entry};
-use crate::best::Best;
-use costs::Cost;
 use crate::pins::Pins;
-use costs::cost_of;
+use costs::{Cost, KeptGaps, cost_of};
 use fixtures::Schedule;
 use league::League;
-use costs::KeptGaps;
 use std::alloc::{AllocError, Global};
 
 /// A history of at most `room` entries, and what follows from it.

@@ -10,9 +10,9 @@ ghost use Rattle.fixture_board.specs.Trials.{trial_cost, trial_history};
 use crate::ask::{Ask, Proposal};
 use crate::board::Board;
 use crate::change::{Change, Entry};
-use costs::Cost;
 use crate::reply::Reply;
 use crate::trial::Trial;
+use costs::Cost;
 use fixtures::Game;
 
 impl Board {

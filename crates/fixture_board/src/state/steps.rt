@@ -1,14 +1,12 @@
 //! The steps of the calls: a change judged, and made if nothing speaks against it, but for its entry.
 
 use crate::ask::{Ask, Proposal};
-use costs::Attempt;
 use crate::change::Change;
-use costs::Cost;
-use costs::{make_at_cost, make_within};
 use crate::reply::Why;
 use crate::state::State;
 use crate::state::checks::Limit;
 use crate::trial::Trial;
+use costs::{Attempt, Cost, make_at_cost, make_within};
 use fixtures::Game;
 use league::League;
 use moves::{check, exchange};

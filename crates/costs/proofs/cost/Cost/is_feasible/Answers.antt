@@ -1,5 +1,5 @@
 use Rattle.std.proofs.Common.{rules}
-use Rattle.fixture_board.proofs.cost.Cost.score_by.Goals as goal
+use Rattle.costs.proofs.cost.Cost.is_feasible.Goals as goal
 
 pub returns : goal.returns
 returns c = search rules
