@@ -5,7 +5,7 @@ pub mod KeptGames
 pub mod Parts
 pub mod PartLimits
 pub mod Partial
-pub mod Alike
+pub mod LastFairness
 pub mod Fitting
 pub mod Stand
 pub mod Next
