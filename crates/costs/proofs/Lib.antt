@@ -2,5 +2,5 @@ pub mod Scores
 pub mod Parts
 pub mod PartLimits
 pub mod Partial
-pub mod Alike
+pub mod LastFairness
 pub mod ForCallers

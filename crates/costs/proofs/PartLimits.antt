@@ -81,7 +81,7 @@ sum_below_grows m (suc n) f le = elim (cases_eq m (suc n)) [
   | inr other ↦ omega (arith, sum_below_grows m n f (omega arith))
 ]
 
-pub term_le_sum : (n k : ℕ) (f : ℕ → ℕ) → k < n → f k ≤ sum_below n f
+term_le_sum : (n k : ℕ) (f : ℕ → ℕ) → k < n → f k ≤ sum_below n f
 term_le_sum n k f below = omega (arith, sum_below_more k f, sum_below_grows (k + 1) n f (omega arith))
 
 -- A rule that a schedule of this cost can't break has nothing to alter.

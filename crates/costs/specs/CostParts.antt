@@ -1,6 +1,6 @@
 -- What of the costs an exchange can change, counted on the schedule before it or after it. `main` has its main teams and
 -- their rounds.
-use Rattle.std.specs.Prelude.{◌≡◌, ℕ, zero, suc, ◌+◌, ◌*◌, ◌<◌, ◌==◌, ◌&&◌, nat_lt, Bool, false, if◌then◌else◌}
+use Rattle.std.specs.Prelude.{◌≡◌, ℕ, zero, suc, ◌+◌, ◌*◌, ◌<◌, nat_lt, Bool, true, false, if◌then◌else◌}
 use Rattle.std.specs.Prelude.{List, length, slice_get, Option, Some, None}
 use Rattle.league.specs.League.{LeagueData, teams}
 use Rattle.league.specs.RuleLimits.{IsRuleFor}
@@ -20,7 +20,6 @@ use Rattle.tours.specs.Runs.{runs_over}
 use Rattle.tours.specs.Repeats.{repeats}
 use Rattle.tours.specs.Phased.{unphased_part}
 use Rattle.robinx.specs.Parts.{deviation_part}
-use Rattle.robinx.specs.LastCounts.{Counting}
 use Rattle.robinx.specs.declared.fairness_rules.Fairness.{Fairness}
 use Rattle.costs.specs.Costs.{cost_of, hard_penalty, near_cost, soft_penalty, score_limit, where_phased}
 use Rattle.costs.specs.declared.cost.Cost.{Cost}
@@ -32,11 +31,6 @@ pub record IsScope (g : Games) (scope : Scope) : Type 0 where
   pub can_be_made : IsExchange g scope.attempt.exchange.now
   pub main : scope.main ≡ main_cells scope.attempt.exchange.now
   pub turning : (t : ℕ) → has scope.turning t ≡ turning_team g scope.attempt.exchange.now t
-
--- what parts are counted of: a schedule, and the change that the scope's exchange is
-abbrev pub counting_of : Games → Scope → Counting
-counting_of g scope =
-    record { games = g; main = scope.main.teams; rounds = scope.main.rounds; sides = scope.turning }
 
 -- the hard costs of every league: runs and repeats
 abbrev pub games_cost : LeagueData → Games → ℕ
@@ -96,48 +90,33 @@ abbrev pub score_weight : ℕ → Weight → ℕ
 score_weight hard_weight Hard = hard_weight
 score_weight hard_weight (Soft weight) = weight
 
--- whether the rule is of class FA2 and asks this
-unfoldable pub asks : RuleBody → Fairness → Bool
-asks (Fa2 teams slots most) asked = teams == asked.teams && slots == asked.slots && most == asked.most
-asks body asked = false
+-- whether the rule is of class FA2
+unfoldable pub is_fairness : RuleBody → Bool
+is_fairness (Fa2 teams slots most) = true
+is_fairness body = false
 
--- what a deviation of 1 adds to the score from the rule that stands somewhere, if it asks this
-abbrev pub weight_at : ℕ → Fairness → Option Rule → ℕ
-weight_at hard_weight asked None = 0
-weight_at hard_weight asked (Some rule) = if asks rule.body asked then score_weight hard_weight rule.weight else 0
+-- the rule that stands somewhere if it is of class FA2, and else an earlier one
+abbrev pub later_fairness : Option Rule → Option Rule → Option Rule
+later_fairness None earlier = earlier
+later_fairness (Some rule) earlier = if is_fairness rule.body then Some rule else earlier
 
--- the sum over all rules, by their indices
-unfoldable pub weight_of : LeagueData → ℕ → Fairness → ℕ
-weight_of l hard_weight asked = sum_below (length l.rules) (λ i. weight_at hard_weight asked (slice_get l.rules i))
-
--- what the rule asks if it is of class FA2, and else what was asked earlier
-unfoldable pub asked_by : RuleBody → Option Fairness → Option Fairness
-asked_by (Fa2 teams slots most) earlier = Some (record { teams = teams; slots = slots; most = most })
-asked_by body earlier = earlier
-
--- the same of the rule that stands somewhere
-abbrev pub asked_at : Option Rule → Option Fairness → Option Fairness
-asked_at None earlier = earlier
-asked_at (Some rule) earlier = asked_by rule.body earlier
-
--- what the last rule of class FA2 asks, of the first n
-unfoldable pub last_fairness : List Rule → ℕ → Option Fairness
+-- the last rule of class FA2, of the first n
+unfoldable pub last_fairness : List Rule → ℕ → Option Rule
 last_fairness rules zero = None
-last_fairness rules (suc n) = asked_at (slice_get rules n) (last_fairness rules n)
+last_fairness rules (suc n) = later_fairness (slice_get rules n) (last_fairness rules n)
 
--- the rule is one of the league's, and asks this
+-- the rule is one for the league, and asks this
 pub record IsFound (l : LeagueData) (rule : Rule) (asked : Fairness) : Type 0 where
-  pub index : ℕ
-  pub at : slice_get l.rules index ≡ Some rule
   pub body : rule.body ≡ Fa2 asked.teams asked.slots asked.most
   pub range : IsRuleFor (teams l) rule
 
--- what an exchange can alter of what all rules that ask the same add to the score
-abbrev pub asked_part : LeagueData → Scope → Games → Option Fairness → ℕ
-asked_part l scope g None = 0
-asked_part l scope g (Some asked) =
-    weight_of l scope.attempt.weight asked * deviation_part g scope.main.teams scope.main.rounds scope.turning (Fa2 asked.teams asked.slots asked.most)
+-- what an exchange can alter of what the rule adds to the score
+abbrev pub score_part : Scope → Games → Option Rule → ℕ
+score_part scope g None = 0
+score_part scope g (Some rule) =
+    score_weight scope.attempt.weight rule.weight *
+    deviation_part g scope.main.teams scope.main.rounds scope.turning rule.body
 
--- the same of those that ask what the last rule of class FA2 does
+-- the same of the last rule of class FA2
 abbrev pub fairness_part : LeagueData → Scope → Games → ℕ
-fairness_part l scope g = asked_part l scope g (last_fairness l.rules (length l.rules))
+fairness_part l scope g = score_part scope g (last_fairness l.rules (length l.rules))

@@ -17,7 +17,7 @@ use crate::rule_costs::parts_of_rules;
 use crate::scope::Scope;
 use fixtures::{Schedule, Touched};
 use league::League;
-use robinx::{KeptGaps, PartCounter};
+use robinx::{KeptGaps, deviation_part};
 use tours::unphased_part;
 
 /// A told cost without the penalties that the exchange can change. None of them is counted if the known cost has none.
@@ -47,8 +47,8 @@ fn rest_of(
     }
 }
 
-/// That rest, unless it or the rules of class FA2 that ask what the last one does take the score after the exchange over the greatest
-/// that the attempt allows. For that nothing is made.
+/// That rest, unless it or the last rule of class FA2 takes the score after the exchange over the greatest that the attempt allows. For
+/// that nothing is made.
 pub(crate) fn rest_within(
     schedule: &Schedule,
     league: &League,
@@ -94,13 +94,13 @@ pub(crate) fn whole_within(
         hard: rest.hard + phases_part(schedule, league, scope.main),
         ..rest
     };
-    let mut parts = PartCounter::new(schedule, scope.main, scope.turning);
     for i in 0..league.rule_count() {
         if cost.score_by(weight) > most {
             return None;
         }
         let rule = league.rule(i);
-        let added = Penalties::of_rule(rule.weight, parts.part(rule, gaps));
+        let part = deviation_part(schedule, rule, scope.main, scope.turning, gaps);
+        let added = Penalties::of_rule(rule.weight, part);
         cost.hard += added.hard;
         cost.soft += added.soft;
     }

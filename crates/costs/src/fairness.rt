@@ -1,10 +1,9 @@
-//! What the rules of class FA2 that ask what the last one does add to the score after an exchange, told before it is made.
+//! What the last rule of class FA2 adds to the score after an exchange, told before it is made.
 
-ghost use Rattle.std.specs.Prelude.{◌≡◌, ◌^◌, ◌<◌, ◌≤◌, length, nat_le, option_map, IfSome};
+ghost use Rattle.std.specs.Prelude.{◌≡◌, ◌≤◌, length, nat_le, option_map, IfSome};
 ghost use Rattle.league.specs.League.{teams};
-ghost use Rattle.league.specs.RuleLimits.{IsWeight};
 ghost use Rattle.fixtures.specs.Exchanges.{exchanged_by};
-ghost use Rattle.costs.specs.CostParts.{asks, fairness_part, last_fairness, score_weight, weight_of, IsFound, IsScope};
+ghost use Rattle.costs.specs.CostParts.{fairness_part, last_fairness, score_weight, IsFound, IsScope};
 
 use crate::scope::Scope;
 use fixtures::Schedule;
@@ -40,15 +39,15 @@ pub(crate) fn leaves_room(
         schedule,
         turned,
         &fairness,
-        left / weight_of(league, scope.attempt.weight, &fairness),
+        left / score_weight(scope.attempt.weight, rule.weight),
         gaps,
     )
 }
 
 /// The last rule of class FA2, if there is one, and what it asks.
-#[tactic(auto, unfolding(crate::specs::CostParts::last_fairness, crate::specs::CostParts::asked_by))]
+#[tactic(auto, unfolding(crate::specs::CostParts::last_fairness, crate::specs::CostParts::is_fairness))]
 fn last_fairness(league: &League) -> Option<(&Rule, Fairness)>
-    ensures value { option_map (λ found. found.1) result ≡ last_fairness league.now.rules (length league.now.rules) }
+    ensures value { option_map (λ found. found.0.now) result ≡ last_fairness league.now.rules (length league.now.rules) }
     ensures found { IfSome result (λ found. IsFound league.now found.0.now found.1) }
 {
     let mut last = None;
@@ -61,39 +60,9 @@ fn last_fairness(league: &League) -> Option<(&Rule, Fairness)>
     last
 }
 
-/// What a deviation of 1 adds to the score from all rules that ask this.
-#[tactic(auto, using(league::proofs::ForCallers::sums), unfolding(crate::specs::CostParts::weight_of))]
-fn weight_of(league: &League, hard_weight: u32, asked: &Fairness) -> u64
-    ensures { result ≡ weight_of league.now hard_weight asked.now }
-{
-    let mut weight = 0;
-    for i in 0..league.rule_count() {
-        let rule = league.rule(i);
-        if asks(rule, asked) {
-            weight += score_weight(hard_weight, rule.weight);
-        }
-    }
-    weight
-}
-
-/// Whether the rule is of class FA2 and asks this.
-#[tactic(auto, unfolding(crate::specs::CostParts::asks))]
-fn asks(rule: &Rule, asked: &Fairness) -> bool
-    ensures { result ≡ asks rule.now.body asked.now }
-{
-    match &rule.body {
-        RuleBody::Fa2 { teams, slots, most } => {
-            *teams == asked.teams && *slots == asked.slots && *most == asked.most
-        }
-        _ => false,
-    }
-}
-
 /// What a deviation of 1 from a rule of this weight adds to the score.
 fn score_weight(hard_weight: u32, weight: Weight) -> u64
-    requires { IsWeight weight }
-    ensures value { result ≡ score_weight hard_weight weight }
-    ensures most { result < 2 ^ 32 }
+    ensures { result ≡ score_weight hard_weight weight }
 {
     match weight {
         Weight::Hard => u64::from(hard_weight),

@@ -4,16 +4,14 @@ ghost use Rattle.std.specs.Prelude.{◌≡◌, ◌*◌, ◌<◌, ◌≤◌};
 ghost use Rattle.league.specs.League.{teams};
 ghost use Rattle.league.specs.Limits.{deviation_limit, max_rules, max_weight};
 ghost use Rattle.league.specs.RuleLimits.{IsBodyFor};
-ghost use Rattle.fixtures.specs.TouchedCells.{touched_cells};
 ghost use Rattle.costs.specs.Costs.{cost_of, hard_penalty, soft_penalty, sum_over_rules};
 ghost use Rattle.costs.specs.CostParts.{breakable_part, rules_part};
 
-use crate::cost::Cost;
 use crate::penalties::Penalties;
 use crate::scope::Scope;
 use fixtures::Schedule;
 use league::{League, Rule};
-use robinx::{KeptGaps, PartCounter, deviation};
+use robinx::{KeptGaps, deviation, deviation_part};
 
 /// What the rules add to the cost of a schedule.
 #[tactic(auto, using(league::proofs::ForCallers::sums), unfolding(crate::specs::Costs::sum_over_rules))]
@@ -49,11 +47,10 @@ pub(crate) fn parts_of_rules(
     ensures hard_most { result.hard ≤ max_rules * deviation_limit }
     ensures soft_most { result.soft ≤ max_rules * (max_weight * deviation_limit) }
 {
-    let mut parts = PartCounter::new(schedule, scope.main, scope.turning);
     let mut costs = Penalties { hard: 0, soft: 0 };
     for i in 0..league.rule_count() {
         let rule = league.rule(i);
-        let part = breakable_part(&mut parts, rule, gaps, scope.attempt.known);
+        let part = breakable_part(schedule, rule, gaps, scope);
         let added = Penalties::of_rule(rule.weight, part);
         costs.hard += added.hard;
         costs.soft += added.soft;
@@ -61,16 +58,15 @@ pub(crate) fn parts_of_rules(
     costs
 }
 
-/// The part of the rule's deviation, if a schedule of the known cost may break it.
-fn breakable_part(parts: &mut PartCounter<'_>, rule: &Rule, gaps: &mut KeptGaps, known: Cost) -> u64
-    requires { IsBodyFor parts.old.games.teams rule.now.body }
+/// The part of the rule's deviation that the exchange can alter, if a schedule of the known cost may break the rule.
+fn breakable_part(schedule: &Schedule, rule: &Rule, gaps: &mut KeptGaps, scope: &Scope<'_>) -> u64
+    requires { IsBodyFor schedule.now.teams rule.now.body }
     ensures value { result ≡
-        breakable_part parts.old.games (touched_cells parts.old.main parts.old.rounds) parts.old.sides known rule.now }
+        breakable_part schedule.now scope.now.main scope.now.turning scope.now.attempt.known rule.now }
     ensures below { result < deviation_limit }
-    ensures same { parts.new ≡ parts.old }
 {
-    if known.may_break(rule.weight) {
-        parts.part(rule, gaps)
+    if scope.attempt.known.may_break(rule.weight) {
+        deviation_part(schedule, rule, scope.main, scope.turning, gaps)
     } else {
         0
     }

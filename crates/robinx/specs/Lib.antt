@@ -1,6 +1,5 @@
 pub mod Deviations
 pub mod Gaps
-pub mod LastCounts
 pub mod Laws
 pub mod LooksPast
 pub mod Parts

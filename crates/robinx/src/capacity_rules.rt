@@ -25,6 +25,14 @@ use league::{SlotSet, TeamSet};
 /// Up to so many slots are counted one by one, which takes fewer instructions there.
 const FEW_SLOTS: u32 = 6;
 
+/// A rule of class CA3: in each window of consecutive rounds at most so many of these games.
+#[derive(Clone, Copy, Drop)]
+pub(crate) struct WindowRule {
+    pub games: CountedGames,
+    pub window: u32,
+    pub most: u32,
+}
+
 /// The games of each team that count in the slots, over the most.
 #[tactic(auto, unfolding(crate::specs::Deviations::deviation))]
 pub(crate) fn ca2(schedule: &Schedule, games: &CountedGames, slots: SlotSet, most: u32) -> u64
@@ -56,8 +64,27 @@ pub(crate) fn ca3(schedule: &Schedule, games: &CountedGames, window: u32, most: 
     over_by_teams(schedule, games, SlotSet::below(windows), length, most)
 }
 
+/// The windows of a rule of class CA3 that the change can alter, over the most.
+pub(crate) fn met_windows(schedule: &Schedule, change: &Around, rule: &WindowRule) -> u64
+    requires round_robin { IsDoubleRoundRobin schedule.now }
+    requires teams { IsBelow schedule.now.teams rule.now.games.teams }
+    requires least { 1 ≤ rule.now.window }
+    requires window { rule.now.window ≤ round_count schedule.now.teams }
+    ensures { result ≡ changing_terms schedule.now change.now.main change.now.rounds change.now.sides
+        (RuleBody.Ca3 rule.now.games.teams rule.now.games.side rule.now.games.opponents rule.now.window rule.now.most) }
+{
+    let CountedGames {
+        teams,
+        side,
+        opponents,
+    } = rule.games;
+    let otherwise = teams_otherwise(schedule, change, teams, opponents);
+    let games = CountedGames::new(otherwise, side, opponents);
+    ca3_part(schedule, &games, change.rounds, rule.window, rule.most)
+}
+
 /// Those windows of `ca3` that have one of the rounds.
-pub(crate) fn ca3_part(
+fn ca3_part(
     schedule: &Schedule,
     games: &CountedGames,
     rounds: SlotSet,

@@ -1,12 +1,15 @@
 //! Fairness rules: the numbers of home games stay close to each other.
 
-ghost use Rattle.std.specs.Prelude.{◌≡◌, true};
-ghost use Rattle.league.specs.Sets.{IsBelow};
+ghost use Rattle.std.specs.Prelude.{◌≡◌, if◌then◌else◌};
+ghost use Rattle.league.specs.Sets.{has, IsBelow};
 ghost use Rattle.league.specs.declared.rule.RuleBody.TheVariants as RuleBody;
 ghost use Rattle.fixtures.specs.Games.{round_count, IsDoubleRoundRobin};
 ghost use Rattle.robinx.specs.Deviations.{deviation};
+ghost use Rattle.robinx.specs.Touches.{has_touched_team};
 
 use crate::gap_table::GapTable;
+use crate::guests::Around;
+use crate::kept_gaps::KeptGaps;
 use fixtures::Schedule;
 use league::{SlotSet, TeamSet};
 
@@ -25,13 +28,6 @@ impl Fairness {
     {
         Fairness { teams, slots, most }
     }
-
-    /// Whether the other asks the same.
-    pub(crate) fn is_same(&self, other: &Fairness) -> bool
-        ensures { result ≡ true → self.now ≡ other.now }
-    {
-        self.teams == other.teams && self.slots == other.slots && self.most == other.most
-    }
 }
 
 /// The worst gap of each pair of the teams.
@@ -46,4 +42,26 @@ pub(crate) fn fa2(schedule: &Schedule, fairness: &Fairness) -> u64
     let mut table = none;
     table.follow(&none, schedule, fairness);
     table.deviation(schedule, fairness)
+}
+
+/// `fa2` if the change can alter it: if one of the teams may change its sides. Then all of it, since with the kept gaps that takes less
+/// than the pairs of those teams alone.
+#[tactic(auto, unfolding(crate::specs::Touches::has_touched_team))]
+pub(crate) fn fa2_part(
+    schedule: &Schedule,
+    change: &Around,
+    fairness: &Fairness,
+    gaps: &mut KeptGaps,
+) -> u64
+    requires round_robin { IsDoubleRoundRobin schedule.now }
+    requires teams { IsBelow schedule.now.teams fairness.now.teams }
+    requires slots { IsBelow (round_count schedule.now.teams) fairness.now.slots }
+    ensures { result ≡ (if has_touched_team fairness.now.teams (has change.now.sides) then
+        deviation schedule.now (RuleBody.Fa2 fairness.now.teams fairness.now.slots fairness.now.most) else 0) }
+{
+    if fairness.teams.intersects(change.sides) {
+        gaps.deviation(schedule, fairness)
+    } else {
+        0
+    }
 }

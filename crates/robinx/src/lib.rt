@@ -4,7 +4,6 @@
 //! Teams and rounds are numbered from 0. Nothing here takes memory.
 #![tactic(auto)]
 
-mod break_count;
 mod break_rules;
 mod capacity_rules;
 mod counted_rows;
@@ -17,7 +16,6 @@ mod gaps;
 mod guests;
 mod home_rows;
 mod kept_gaps;
-mod last_counts;
 mod laws;
 mod pairs;
 mod parts;
@@ -33,6 +31,6 @@ pub use deviations::deviation;
 pub use fairness_rules::Fairness;
 pub use kept_gaps::{KeptGaps, turned_within};
 pub use laws::{deviations_balance, looked_past_stays, nothing_to_alter, untouched_stays};
-pub use parts::{PartCounter, deviation_part};
+pub use parts::deviation_part;
 pub use touched_rules::touches;
 pub use unaffected_rules::looks_past;

@@ -7,23 +7,20 @@ ghost use Rattle.league.specs.Sets.{has, IsBelow};
 ghost use Rattle.fixtures.specs.Games.{IsDoubleRoundRobin};
 ghost use Rattle.robinx.specs.Deviations.{deviation};
 ghost use Rattle.robinx.specs.Parts.{counts_otherwise, changing_terms, deviation_part};
-ghost use Rattle.robinx.specs.LastCounts.{AreLastCounts};
 ghost use Rattle.robinx.specs.Walked.{counted_of};
 
-use crate::break_rules::br1;
-use crate::capacity_rules::{ca2, ca4_part};
+use crate::break_rules::{br1, br2_part};
+use crate::capacity_rules::{WindowRule, ca2, ca4_part, met_windows};
 use crate::counts::{Capacity, CountedGames};
 use crate::deviations::deviation;
-use crate::fairness_rules::Fairness;
+use crate::fairness_rules::{Fairness, fa2_part};
 use crate::game_rules::has_moved_game;
 use crate::guests::{Around, teams_otherwise};
 use crate::kept_gaps::KeptGaps;
-use crate::last_counts::{LastCounts, WindowRule};
 use crate::separation_rules::se1_part;
 use crate::touched_rules::can_alter;
 use fixtures::{Schedule, Touched};
 use league::{Rule, RuleBody, TeamSet};
-use std::marker::Model;
 
 /// The part of the rule's [`deviation`](crate::deviation) that a change can alter: `main` has the teams that get other
 /// games and the rounds in which anything changes, and `sides` the teams that may change their sides. Other teams keep
@@ -42,80 +39,24 @@ pub fn deviation_part(
     ensures below { result < deviation_limit }
 {
     prove!(schedule.teams() > 0);
-    PartCounter::new(schedule, main, sides).part(rule, gaps)
-}
-
-/// Counts for one rule after another the part of its deviation that a change can alter, as [`deviation_part`] does. What was counted for
-/// the last rules of BR2, CA3 and FA2 serves the next ones of the same games.
-///
-/// Contracts see the schedule and the change.
-#[derive(Drop)]
-pub struct PartCounter<'a> {
-    schedule: &'a Schedule,
-    change: Around,
-    last: LastCounts,
-}
-
-impl<'a> Model for PartCounter<'a> {
-    ghost use Rattle.robinx.specs.LastCounts.{Counting, AreLastCounts};
-
-    ghost Value = { Counting };
-
-    ghost view = { λ c. record { games = c.schedule.now; main = c.change.main; rounds = c.change.rounds; sides = c.change.sides } };
-
-    ghost invariant = { λ c. AreLastCounts c.schedule.now c.change.main c.change.rounds c.change.sides c.last };
-}
-
-impl<'a> PartCounter<'a> {
-    /// Nothing counted yet, on this schedule and around a change as [`deviation_part`] has it.
-    pub fn new(schedule: &'a Schedule, main: Touched, sides: TeamSet) -> Self
-        ensures { result ≡ record { games = schedule.now; main = main.teams; rounds = main.rounds; sides = sides } }
-    {
-        PartCounter {
-            schedule,
-            change: Around {
-                main: main.teams,
-                rounds: main.rounds,
-                sides,
-            },
-            last: LastCounts::nothing(),
-        }
+    if !can_alter(rule, main.rounds) {
+        return 0;
     }
-
-    /// The part of the rule's deviation that the change can alter. What FA2 counts is kept in `gaps`, for the next schedule.
-    #[tactic(auto, unfolding(crate::specs::Parts::deviation_part))]
-    pub fn part(&mut self, rule: &Rule, gaps: &mut KeptGaps) -> u64
-        requires { IsBodyFor self.old.games.teams rule.now.body }
-        ensures value { result ≡ deviation_part self.old.games self.old.main self.old.rounds self.old.sides rule.now.body }
-        ensures below { result < deviation_limit }
-        ensures same { self.new ≡ self.old }
-    {
-        let schedule = self.schedule;
-        prove!(schedule.teams() > 0);
-        if !can_alter(rule, self.change.rounds) {
-            return 0;
-        }
-        changing_terms(schedule, rule, &self.change, &mut self.last, gaps)
-    }
+    let change = Around {
+        main: main.teams,
+        rounds: main.rounds,
+        sides,
+    };
+    changing_terms(schedule, rule, &change, gaps)
 }
 
 /// The part for a rule whose deviation a change in its rounds can alter.
 #[tactic(auto, unfolding(crate::specs::Parts::changing_terms))]
-fn changing_terms(
-    schedule: &Schedule,
-    rule: &Rule,
-    change: &Around,
-    last: &mut LastCounts,
-    gaps: &mut KeptGaps,
-) -> u64
+fn changing_terms(schedule: &Schedule, rule: &Rule, change: &Around, gaps: &mut KeptGaps) -> u64
     requires body { IsBodyFor schedule.now.teams rule.now.body }
     requires round_robin { IsDoubleRoundRobin schedule.now }
-    requires counts { AreLastCounts schedule.now change.now.main change.now.rounds change.now.sides last.old }
-    ensures value { result ≡
-        changing_terms schedule.now change.now.main change.now.rounds change.now.sides rule.now.body }
-    ensures counts { AreLastCounts schedule.now change.now.main change.now.rounds change.now.sides last.new }
+    ensures { result ≡ changing_terms schedule.now change.now.main change.now.rounds change.now.sides rule.now.body }
 {
-    let sides = change.sides;
     match &rule.body {
         RuleBody::Ca1 { slots, max, .. } | RuleBody::Ca2 { slots, max, .. } => {
             let games = games_otherwise(schedule, rule, change);
@@ -127,7 +68,7 @@ fn changing_terms(
                 window: *window,
                 most: *max,
             };
-            last.ca3(schedule, change, &rule)
+            met_windows(schedule, change, &rule)
         }
         RuleBody::Ca4 {
             slots,
@@ -147,14 +88,20 @@ fn changing_terms(
             side,
             slots,
             most,
-        } => br1(schedule, teams.intersection(sides), *side, *slots, *most),
+        } => br1(
+            schedule,
+            teams.intersection(change.sides),
+            *side,
+            *slots,
+            *most,
+        ),
         RuleBody::Br2 { teams, slots, most } => {
-            last.br2(schedule, change, *teams, *slots, *most)
+            br2_part(schedule, change, *teams, *slots, *most)
         }
         RuleBody::Se1 { teams, min } => se1_part(schedule, *teams, change, *min),
         RuleBody::Fa2 { teams, slots, most } => {
             let fairness = Fairness::new(*teams, *slots, *most);
-            last.fa2(schedule, change, &fairness, gaps)
+            fa2_part(schedule, change, &fairness, gaps)
         }
     }
 }

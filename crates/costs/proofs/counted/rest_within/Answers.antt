@@ -1,8 +1,7 @@
-use Rattle.std.proofs.Common.{arith, sym, ◌∙◌, length}
+use Rattle.std.proofs.Common.{arith, sym, ◌∙◌}
 use Rattle.std.proofs.lemmas.Bool.{leb-false}
 use Rattle.fixtures.specs.Exchanges.{exchanged_by}
-use Rattle.costs.specs.CostParts.{last_fairness}
-use Rattle.costs.proofs.Alike.{asked_scores}
+use Rattle.costs.proofs.LastFairness.{fairness_scores}
 use Rattle.costs.proofs.Parts.{rest_scores, score_fits_after}
 use Rattle.costs.proofs.counted.rest_within.Goals as goal
 use Rattle.costs.proofs.counted.rest_within.Goals.{then-score-most-via-then-score-most}
@@ -21,8 +20,7 @@ score_by-score-requires c =
 pub returns-then-score-most : goal.returns-then-score-most
 returns-then-score-most c =
     let scores =
-    asked_scores c.args.league.now c.args.scope.now _ c.rest_of-rest.result
-    (last_fairness c.args.league.now.rules (length c.args.league.now.rules)) c.rest_of-rest.ensures in
+    fairness_scores c.args.league.now c.args.scope.now _ c.rest_of-rest.result c.rest_of-rest.ensures in
     elim c.then-score-most.branch [
       | then-score-most-via-then-score-most w ↦ omega (arith, w.if-score-most.true, c.score_by-score.ensures, scores)
       | then-score-most-via-else-score-most+then-not-leaves_room w ↦

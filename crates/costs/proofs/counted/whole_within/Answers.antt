@@ -1,4 +1,4 @@
-use Rattle.std.proofs.Common.{◌+◌, refl, subst, ap, ◌∙◌, arith}
+use Rattle.std.proofs.Common.{◌+◌, refl, subst, ap, arith}
 use Rattle.costs.specs.declared.cost.Cost.{Cost}
 use Rattle.costs.proofs.Partial.{IsCountedTo, all_counted, no_more, none_counted, one_more_counted}
 use Rattle.costs.proofs.Scores.{cost_small}
@@ -17,19 +17,16 @@ loop-i-init c =
     let counted : IsCountedTo c.args.league.now c.args.scope.now c.args.schedule.now c.args.rest 0 _ =
     none_counted _ _ _ _ _ refl (omega (arith, c.phases_part.ensures.value)) refl in
     record {
-      parts = c.new-parts.ensures;
       counted = counted;
       no_more = no_more c.args.scope.now.attempt.weight (omega arith) c.teams.ensures.limits c.requires.same_size c.requires.rest (omega arith) counted;
     }
 
 pub loop-i-preserved : goal.loop-i-preserved
 loop-i-preserved c =
-    let part = rw c.loop-i.invariant.parts at c.part.ensures.value in
     let counted : IsCountedTo c.args.league.now c.args.scope.now c.args.schedule.now c.args.rest (c.loop-i.i + 1) _ =
     one_more_counted _ _ _ _ c.loop-i.cost _ c.loop-i.i c.rule-rule.result.now c.loop-i.invariant.counted c.rule-rule.ensures.value refl
-    (omega (arith, rw part at c.of_rule-added.ensures.hard)) (omega (arith, rw part at c.of_rule-added.ensures.soft)) in
+    (omega (arith, rw c.deviation_part-part.ensures.value at c.of_rule-added.ensures.hard)) (omega (arith, rw c.deviation_part-part.ensures.value at c.of_rule-added.ensures.soft)) in
     record {
-      parts = c.part.ensures.same ∙ c.loop-i.invariant.parts;
       counted = counted;
       no_more = no_more c.args.scope.now.attempt.weight (omega arith) c.teams.ensures.limits c.requires.same_size c.requires.rest
           (omega (arith, c.loop-i-test.true, c.rule_count-i-end.ensures.value)) counted;

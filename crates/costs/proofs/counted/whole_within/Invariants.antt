@@ -1,11 +1,8 @@
-use Rattle.std.proofs.Common.{◌≡◌}
-use Rattle.costs.specs.CostParts.{counting_of}
 use Rattle.costs.proofs.Partial.{IsCountedTo, IsNoMore}
 use Rattle.costs.proofs.counted.whole_within.Given as goal
 
 abbrev pub invariant-loop-i : goal.invariant-loop-i
 invariant-loop-i l = record {
-  parts : l.parts ≡ counting_of l.schedule l.scope;
   counted : IsCountedTo l.league l.scope l.schedule l.fn.rest l.i l.cost;
   no_more : IsNoMore l.league l.scope.attempt.weight l.schedule l.cost;
 }

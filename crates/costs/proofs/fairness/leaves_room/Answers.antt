@@ -3,7 +3,7 @@ use Rattle.std.proofs.Math.Path.{fun_ext}
 use Rattle.league.specs.Sets.{has}
 use Rattle.fixtures.specs.TouchedCells.{TouchedCells}
 use Rattle.fixtures.specs.Exchanges.{exchanged_by}
-use Rattle.costs.proofs.Alike.{touched_fits, untouched_fits, weight_least}
+use Rattle.costs.proofs.LastFairness.{score_least, touched_fits, untouched_fits}
 use Rattle.costs.proofs.Parts.{round_robin_after}
 use Rattle.costs.proofs.fairness.leaves_room.Goals as goal
 
@@ -13,7 +13,7 @@ returns-then-not-touches c =
     (sym c.touches.ensures ∙ c.if-not-touches.true)
 
 pub nonzero_div-left : goal.nonzero_div-left
-nonzero_div-left c = rw c.weight_of.ensures (weight_least _ _ _ _ c.requires.weight c.in-Some.ensures.found)
+nonzero_div-left c = rw c.score_weight.ensures (score_least _ _ c.requires.weight c.in-Some.ensures.found.range.weight)
 
 pub returns : goal.returns
 returns c =
@@ -21,7 +21,7 @@ returns c =
     let told =
     c.turned_within.ensures (exchanged_by c.args.schedule.now c.args.scope.now.attempt.exchange.now)
     (round_robin_after c.args.schedule.now c.args.scope.now c.requires.scope) (rw turning c.turned_rounds-turned-inside.ensures.turned) in
-    rw c.weight_of.ensures at told ∙
+    rw c.score_weight.ensures at told ∙
     touched_fits c.args.league.now c.args.scope.now _ _ _ c.in-Some.ensures.value c.in-Some.ensures.found.body c.args.left _
     c.turned.view_is (sym c.touches.ensures ∙ c.if-not-touches.false)
-    (weight_least _ _ _ _ c.requires.weight c.in-Some.ensures.found)
+    (score_least _ _ c.requires.weight c.in-Some.ensures.found.range.weight)

@@ -7,8 +7,8 @@ use Rattle.robinx.proofs.rows.AllTeams.{Ca2-all}
 use Rattle.robinx.proofs.balances.PartTerms.{Ca1-terms, Ca2-terms, Br1-terms, otherwise_turned}
 use Rattle.robinx.proofs.parts.changing_terms.Goals as goal
 
-pub returns-in-Ca1-clause-value : goal.returns-in-Ca1-clause-value
-returns-in-Ca1-clause-value c =
+pub returns-in-Ca1 : goal.returns-in-Ca1
+returns-in-Ca1 c =
     let games = c.games_otherwise-games in
     elim c.in-Ca1.is [
       | inl is ↦
@@ -33,8 +33,8 @@ returns-in-Ca1-clause-value c =
           ap (changing_terms c.args.schedule.now c.args.change.now.main c.args.change.now.rounds c.args.change.now.sides) (sym is.3)
     ]
 
-pub returns-in-Br1-clause-value : goal.returns-in-Br1-clause-value
-returns-in-Br1-clause-value c =
+pub returns-in-Br1 : goal.returns-in-Br1
+returns-in-Br1 c =
     c.br1.ensures ∙
     Br1-terms c.args.schedule.now c.args.change.now.main c.args.change.now.rounds c.args.change.now.sides c.in-Br1.teams c.in-Br1.side
     c.in-Br1.slots c.in-Br1.most c.intersection.result c.intersection.ensures.members ∙

@@ -1,6 +1,6 @@
 use Rattle.std.proofs.Common.{◌∙◌}
 use Rattle.robinx.proofs.balances.PartTerms.{Ca3-terms}
-use Rattle.robinx.proofs.last_counts.met_windows.Goals as goal
+use Rattle.robinx.proofs.capacity_rules.met_windows.Goals as goal
 
 pub returns : goal.returns
 returns c =
