@@ -6,8 +6,5 @@ pub use Rattle.moves.proofs.move_laws.EachMove.{each-double_round_robin as each_
 pub use Rattle.moves.proofs.exchange_laws.EachExchange.{each-undone as each_undone}
 pub use Rattle.moves.proofs.exchange_laws.Around.{each-around as each_around}
 pub use Rattle.moves.proofs.exchange_laws.TurnedSides.{each-sides as each_sides}
--- the games that it gives another round
-pub use Rattle.moves.proofs.exchange_laws.ChangedGames.{each-tells as each_tells}
-pub use Rattle.moves.proofs.exchange_laws.ChangedGames.{main_teams_below, main_rounds_below}
 -- whether it gives the game of one of some pairs another round
 pub use Rattle.moves.proofs.exchange_laws.MovedPairs.{moves_one_of-kept as moves_one_of_kept, moves_one_of-yes as moves_one_of_yes}

@@ -2,7 +2,6 @@
 pub mod Around
 pub mod TouchedTeams
 pub mod DiffersThere
-pub mod KeptMeetings
 pub mod ChangedGames
 pub mod EachExchange
 pub mod TurnedSides

@@ -4,7 +4,7 @@ use Rattle.std.specs.Bool.{beq}
 use Rattle.league.specs.Limits.{max_teams, max_rounds}
 use Rattle.league.specs.Sets.{has, with_number, all_numbers}
 use Rattle.league.specs.Sums.{any_below}
-use Rattle.fixtures.specs.Games.{Games, round_of, round_count, cell, is_home, IsPair, IsDoubleRoundRobin}
+use Rattle.fixtures.specs.Games.{Games, round_of, round_count, is_home, IsPair, IsDoubleRoundRobin}
 use Rattle.fixtures.specs.Edits.{rounds_exchanged, teams_exchanged}
 use Rattle.fixtures.specs.Closed.{IsClosed, plays_in, shares_opponent, member, moved_teams_of, moved_rounds_of}
 use Rattle.fixtures.specs.Changes.{turns}
@@ -89,13 +89,6 @@ abbrev pub turning_team : Games → Exchange → ℕ → Bool
 turning_team g (edit.Rounds k l among) t = has among t && turns g k l t
 turning_team g (edit.Teams i j among) t =
     (t == i || t == j) && any_below max_rounds (λ r. has among r && not (beq (is_home g i r) (is_home g j r)))
-
--- whether the same pairs meet after it in each round, perhaps under two other names: each of its teams meets the same one
--- in both rounds, or its rounds are all in which the two teams don't meet
-abbrev pub same_meetings : Games → Exchange → Bool
-same_meetings g (edit.Rounds k l among) =
-    not (any_below g.teams (λ t. has among t && not ((cell g t k).opponent == (cell g t l).opponent)))
-same_meetings g (edit.Teams i j among) = among == rounds_apart g i j
 
 -- the teams that an exchange of teams i and j touches: the two, and who plays one of them in a round of the set
 abbrev pub touched_of : Games → ℕ → ℕ → (ℕ → Bool) → ℕ → Bool

@@ -2,13 +2,13 @@
 use Rattle.std.specs.Prelude.{◌≡◌, ◌≢◌, ℕ, ◌<◌, Bool, true, Ok}
 use Rattle.league.specs.Sets.{has}
 use Rattle.fixtures.specs.Games.{Games, round_count, cell, is_home, IsDoubleRoundRobin}
-use Rattle.fixtures.specs.Changes.{DiffersOnlyIn, DiffersOnlyAt, DiffersOnlyAround, MeetingsExchanged, box}
+use Rattle.fixtures.specs.Changes.{DiffersOnlyIn, DiffersOnlyAt, DiffersOnlyAround, box}
 use Rattle.fixtures.specs.Closed.{moved_teams_of, moved_rounds_of}
 use Rattle.moves.specs.declared.moves.Move.{Move}
 use Rattle.moves.specs.declared.moves.Move.TheVariants.{PartRounds, PartTeams}
 use Rattle.moves.specs.Moves.{fault_of, moved, touched_team, touched_round}
 use Rattle.moves.specs.declared.exchanges.Exchange.{Exchange}
-use Rattle.moves.specs.Exchanges.{exchange_of, exchanged_by, IsExchange, main_cells, turning_team, same_meetings}
+use Rattle.moves.specs.Exchanges.{exchange_of, exchanged_by, IsExchange, main_cells, turning_team}
 
 -- the law holds on each double round robin of each move that can be made there
 abbrev pub OfEachMove : (Games → Move → Type 0) → Type 0
@@ -76,8 +76,3 @@ DiffersAroundMain g exchange =
 abbrev pub SidesDifferAtTurning : Games → Exchange → Type 0
 SidesDifferAtTurning g exchange =
     DiffersOnlyAt is_home g (exchanged_by g exchange) (box (turning_team g exchange) (has (main_cells exchange).rounds))
-
--- if it is said to keep the meetings, each team meets whom it met, or whom another met, with the two exchanged
-abbrev pub KeepsMeetings : Games → Exchange → Type 0
-KeepsMeetings g exchange =
-    same_meetings g exchange ≡ true → (i : ℕ) × (j : ℕ) × MeetingsExchanged g (exchanged_by g exchange) i j

@@ -5,11 +5,11 @@ ghost use Rattle.std.specs.Bool.{beq};
 ghost use Rattle.league.specs.Limits.{max_teams, max_rounds};
 ghost use Rattle.league.specs.Sets.{has, IsBelow};
 ghost use Rattle.league.specs.Sums.{any_below};
-ghost use Rattle.fixtures.specs.Games.{round_count, cell, is_home, IsPair};
+ghost use Rattle.fixtures.specs.Games.{round_count, is_home, IsPair};
 ghost use Rattle.fixtures.specs.Changes.{IsTurned, turns};
-ghost use Rattle.moves.specs.Exchanges.{exchanged_by, IsExchange, IsInSeason, main_cells, turning_team, same_meetings};
+ghost use Rattle.moves.specs.Exchanges.{exchanged_by, IsExchange, IsInSeason, main_cells, turning_team};
 
-use crate::exchange_of::{rounds_apart, two_rounds, two_teams};
+use crate::exchange_of::{two_rounds, two_teams};
 use fixtures::{Schedule, Touched};
 use league::{SlotSet, TeamSet};
 
@@ -82,17 +82,6 @@ impl Exchange {
             Exchange::Teams { i, j, among } => other_sides(schedule, i, j).intersection(among),
         }
     }
-
-    /// Whether the same pairs meet after the exchange in each round, perhaps under two other names. Takes no memory.
-    pub fn same_meetings(&self, schedule: &Schedule) -> bool
-        requires { IsExchange schedule.now self.now }
-        ensures { result ≡ same_meetings schedule.now self.now }
-    {
-        match *self {
-            Exchange::Rounds { k, l, among } => !meet_others(schedule, k, l, among),
-            Exchange::Teams { i, j, among } => among == rounds_apart(schedule, i, j),
-        }
-    }
 }
 
 /// The teams of the set that are on different sides in the two rounds.
@@ -143,21 +132,4 @@ fn other_sides(schedule: &Schedule, i: u8, j: u8) -> SlotSet
     schedule
         .home_rounds(i)
         .symmetric_difference(schedule.home_rounds(j))
-}
-
-/// Whether a team of the set meets another team in round `l` than in `k`.
-fn meet_others(schedule: &Schedule, k: u8, l: u8, among: TeamSet) -> bool
-    requires k { k < round_count schedule.now.teams }
-    requires l { l < round_count schedule.now.teams }
-    requires below { (t : ℕ) → has among t ≡ true → t < schedule.now.teams }
-    ensures { result ≡
-        any_below schedule.now.teams (λ t. has among t &&
-        not ((cell schedule.now t k).opponent == (cell schedule.now t l).opponent)) }
-{
-    for team in among {
-        if schedule.game_at(team, k).opponent != schedule.game_at(team, l).opponent {
-            return true;
-        }
-    }
-    false
 }

@@ -3,7 +3,7 @@
 
 ghost use Rattle.moves.specs.Laws.{OfEachMove, IsItsOwnInverse, StaysDoubleRoundRobin, DiffersWhereTouched};
 ghost use Rattle.moves.specs.Laws.{DiffersInEachTouched, IsItsExchange};
-ghost use Rattle.moves.specs.Laws.{OfEachExchange, IsUndoneByItself, DiffersAroundMain, SidesDifferAtTurning, KeepsMeetings};
+ghost use Rattle.moves.specs.Laws.{OfEachExchange, IsUndoneByItself, DiffersAroundMain, SidesDifferAtTurning};
 
 /// Each move is its own inverse: it can be made on the schedule that it gives, and gives the first one back. The
 /// teams or rounds that have to follow, and those that are touched, are the same both times.
@@ -47,9 +47,4 @@ pub fn differs_around_main()
 /// Only the turning teams of an exchange change their sides, in its rounds.
 pub fn sides_differ_at_turning()
     ensures { OfEachExchange SidesDifferAtTurning }
-{}
-
-/// After an exchange that is said to keep the meetings the same pairs meet in each round, perhaps under two other names.
-pub fn meetings_are_kept()
-    ensures { OfEachExchange KeepsMeetings }
 {}

@@ -24,8 +24,7 @@ pub use exchanges::Exchange;
 pub use fault::MoveFault;
 pub use laws::{
     differs_around_main, differs_in_each_touched, differs_where_touched, exchanges_back,
-    meetings_are_kept, moves_are_exchanges, moves_back, sides_differ_at_turning,
-    stays_double_round_robin,
+    moves_are_exchanges, moves_back, sides_differ_at_turning, stays_double_round_robin,
 };
 pub use moves::{Move, MoveKind};
 pub use refusals::check;

@@ -1,12 +1,15 @@
 -- What the walks over a part count at each of its teams: words of private functions alone.
-use Rattle.std.specs.Prelude.{ℕ, ◌+◌, ◌&&◌, ◌||◌, ◌==◌, not, nat_lt, Bool, if◌then◌else◌, slice_index}
+use Rattle.std.specs.Prelude.{ℕ, ◌+◌, ◌&&◌, ◌||◌, nat_lt, Bool, if◌then◌else◌, slice_index}
 use Rattle.league.specs.League.{LeagueData, distance}
 use Rattle.league.specs.Sums.{sum_below, sum_where}
-use Rattle.fixtures.specs.Games.{Games, round_count, cell}
-use Rattle.fixtures.specs.Changes.{with_guests}
+use Rattle.fixtures.specs.Games.{Games, round_count, cell, place}
 use Rattle.fixtures.specs.Edits.{exchanged}
-use Rattle.tours.specs.Tours.{tour, leg_count, leg}
+use Rattle.tours.specs.Tours.{tour, leg_count}
 use Rattle.tours.specs.Parts.{touches_leg}
+
+-- the teams of the first set and their guests, each in the rounds of the second
+unfoldable pub with_guests : Games → (ℕ → Bool) → (ℕ → Bool) → ℕ → ℕ → Bool
+with_guests g teams rounds t r = rounds r && (teams t || teams (place g t r))
 
 -- of legs that are told by a function of team and index, those of a team that touch a round of the set
 abbrev pub part_of : (ℕ → ℕ → ℕ) → Games → (ℕ → Bool) → ℕ → ℕ
@@ -37,12 +40,3 @@ abbrev pub guest_terms : (ℕ → ℕ → ℕ) → Games → (ℕ → Bool) → 
 guest_terms f g hosts rounds host r =
     if hosts (cell g host r).opponent then 0
     else there_and_on f g (with_guests g hosts rounds (cell g host r).opponent) (cell g host r).opponent r
-
-abbrev pub legs_of_guest : LeagueData → Games → (ℕ → Bool) → (ℕ → Bool) → ℕ → ℕ → ℕ
-legs_of_guest l g = guest_terms (leg l g) g
-
--- 1 if a team meets the same team in a round and in the next, and that isn't a higher team of the set
-abbrev pub repeat_at : Games → (ℕ → Bool) → ℕ → ℕ → ℕ
-repeat_at g teams r t =
-    if (cell g t r).opponent == (cell g t (r + 1)).opponent &&
-    (nat_lt (cell g t r).opponent t || not (teams (cell g t r).opponent)) then 1 else 0

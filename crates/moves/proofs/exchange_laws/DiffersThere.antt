@@ -6,12 +6,17 @@ use Rattle.fixtures.specs.declared.game.Cell.{Cell}
 use Rattle.fixtures.specs.Games.{Games, round_of, round_count, cell_round, IsPair, IsDoubleRoundRobin, cell}
 use Rattle.fixtures.specs.Edits.{exchanged, rounds_exchanged, teams_exchanged, is_either}
 use Rattle.fixtures.proofs.ForCallers.{pair_swapped, is_cell, exchanged_first, exchanged_second, exchanged_other}
-use Rattle.fixtures.proofs.ForCallers.{cases_exchanged, Meets, meets_swapped, same_opponent, meets_cell}
+use Rattle.fixtures.proofs.ForCallers.{cases_exchanged, Meets, meets_swapped, meets_in_range, same_opponent, meets_cell}
 use Rattle.fixtures.proofs.ForCallers.{stays_among_closed, other_cell, cell_rounds_exchanged, cell_teams_exchanged}
 use Rattle.moves.specs.Exchanges.{IsOfRounds, IsOfTeams, touched_of}
 use Rattle.moves.specs.Laws.{DiffersAt, DiffersInEach}
-use Rattle.moves.proofs.exchange_laws.KeptMeetings.{opponent-meets}
 use Rattle.moves.proofs.exchange_laws.TouchedTeams.{plays_among, touched-first}
+
+-- whom a team's cell has is whom it meets
+opponent-meets : (g : Games) → IsDoubleRoundRobin g → (t o r : ℕ) → Meets g t o r → (cell g t r).opponent ≡ o
+opponent-meets g rr t o r met =
+    same_opponent g rr t (cell g t r).opponent o r
+    (meets_cell g t r (cell g t r) (is_cell g rr t r met.0.home_in (meets_in_range g rr t o r met))) met
 
 -- ---- rounds
 

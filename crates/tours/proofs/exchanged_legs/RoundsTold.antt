@@ -16,7 +16,7 @@ use Rattle.tours.specs.Tours.{tour, leg_count, leg, travel}
 use Rattle.tours.specs.Parts.{touches_leg, travel_part_of, travel_part}
 use Rattle.tours.specs.Walked.{leg_exchanged, legs_exchanged}
 use Rattle.tours.specs.Told.{legs_around, legs_changed}
-use Rattle.tours.proofs.balances.AroundBalance.{travel_balance}
+use Rattle.tours.proofs.balances.TravelBalance.{travel_balance}
 use Rattle.tours.proofs.exchanged_legs.ExchangedTours.{legs_after}
 
 -- which stop comes at an index
