@@ -1,6 +1,6 @@
-//! The laws of the parts: what a change adds to a part that holds all that it can alter, it adds to the whole. So a
-//! cost after a change is the cost before it, and the part after less the part before. The functions do nothing:
-//! what is known is in their contracts, each of which speaks of all schedules.
+//! The law of the parts: what a change adds to a part that holds all that it can alter, it adds to the whole. So a
+//! cost after a change is the cost before it, and the part after less the part before. The function does nothing:
+//! what is known is in its contract, which speaks of all schedules.
 
 ghost use Rattle.std.specs.Prelude.{◌≡◌, ℕ, ◌+◌, Bool};
 ghost use Rattle.league.specs.League.{LeagueData};

@@ -17,11 +17,11 @@ use Rattle.fixtures.proofs.ForCallers.{exchanged_lt, games_ext, cell_teams_excha
 use Rattle.fixtures.proofs.ForCallers.{meets_cell, is_cell}
 use Rattle.tours.specs.Tours.{tour, leg_count, leg, travel}
 use Rattle.tours.specs.Parts.{touches_leg, travel_part_of}
-use Rattle.tours.specs.Walked.{with_guests, part_of, around, guest_terms}
+use Rattle.tours.specs.Walked.{with_guests, part_of, guest_terms}
 use Rattle.tours.specs.Told.{in_rounds, stop_told, leg_told}
 use Rattle.tours.proofs.stops.Stops.{tour_at_round, tour_at_end}
 use Rattle.tours.proofs.balances.TravelBalance.{travel_at, travel_balance_at}
-use Rattle.tours.proofs.legs.GuestLegs.{around_walked}
+use Rattle.tours.proofs.legs.GuestLegs.{around, around_walked}
 use Rattle.tours.proofs.meetings.Opponents.{opponent_in}
 use Rattle.tours.proofs.exchanged_legs.RoundsTold.{and_one}
 

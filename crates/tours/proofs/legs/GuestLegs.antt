@@ -9,7 +9,7 @@ use Rattle.league.specs.Sets.{has}
 use Rattle.fixtures.specs.Games.{Games, round_count, cell, is_home, place, IsDoubleRoundRobin}
 use Rattle.tours.specs.Tours.{leg_count}
 use Rattle.tours.specs.Parts.{touches_leg}
-use Rattle.tours.specs.Walked.{with_guests, part_of, around, there_and_on, guest_terms}
+use Rattle.tours.specs.Walked.{with_guests, part_of, there_and_on, guest_terms}
 use Rattle.tours.proofs.legs.TravelWalk.{inside, outside, sum_where_swap}
 use Rattle.tours.proofs.meetings.Turned.{sum_below_turned}
 use Rattle.tours.proofs.meetings.Opponents.{opponent_in, side_of_opponent, IsPairing-opponents}
@@ -235,6 +235,10 @@ sum_of_visits g f t home rounds visits homes members =
     turned true false = refl
     turned false true = refl
     turned false false = refl
+
+-- the legs of the teams of the first set, and of their guests, that touch a round of the second
+abbrev pub around : (ℕ → ℕ → ℕ) → Games → (ℕ → Bool) → (ℕ → Bool) → ℕ
+around f g teams rounds = sum_below g.teams (λ t. part_of f g (with_guests g teams rounds t) t)
 
 pub around_walked : (f : ℕ → ℕ → ℕ) (g : Games) (teams rounds : ℕ → Bool) → IsDoubleRoundRobin g →
     around f g teams rounds ≡
