@@ -1,2 +1,2 @@
--- What the crates above cite: the law of the unphased pairs, of a change around some teams. The others are contracts (src/laws.rt).
+-- What the crates above cite: by how much a change around some teams alters the unphased pairs.
 pub use Rattle.tours.proofs.balances.PhasedBalance.{unphased_balance_around}

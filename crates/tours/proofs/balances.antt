@@ -4,4 +4,3 @@ pub mod TravelBalance
 pub mod RunsBalance
 pub mod PhasedBalance
 pub mod RepeatsBalance
-pub mod AroundBalance

@@ -3,4 +3,3 @@ pub mod Turned
 pub mod Opponents
 pub mod HigherTeams
 pub mod Members
-pub mod SamePairs

@@ -1,9 +1,8 @@
 -- The parts of travel, runs and repeats that a change can alter.
-use Rattle.std.specs.Prelude.{ℕ, ◌+◌, ◌-◌, ◌&&◌, ◌||◌, ◌==◌, not, nat_lt, Bool, if◌then◌else◌}
+use Rattle.std.specs.Prelude.{ℕ, ◌+◌, ◌-◌, ◌&&◌, ◌||◌, ◌==◌, not, nat_lt, Bool}
 use Rattle.league.specs.League.{LeagueData}
-use Rattle.league.specs.Sums.{sum_below, sum_where, count_where, sum_of_pairs, any_below}
-use Rattle.fixtures.specs.Games.{Games, round_count, meets}
-use Rattle.fixtures.specs.Changes.{with_guests}
+use Rattle.league.specs.Sums.{sum_where, count_where, any_below}
+use Rattle.fixtures.specs.Games.{Games, round_count}
 use Rattle.tours.specs.Tours.{leg_count, leg}
 use Rattle.tours.specs.Runs.{windows, is_run}
 use Rattle.tours.specs.Repeats.{repeats_after}
@@ -16,17 +15,9 @@ touches_leg g rounds r = (not (r == 0) && rounds (r - 1)) || (nat_lt r (round_co
 unfoldable pub travel_part_of : LeagueData → Games → (ℕ → Bool) → ℕ → ℕ
 travel_part_of l g rounds team = sum_where (leg_count g) (touches_leg g rounds) (leg l g team)
 
--- the legs of each team that touch a round of the team's set
-unfoldable pub travel_at : LeagueData → Games → (ℕ → ℕ → Bool) → ℕ
-travel_at l g at = sum_below g.teams (λ t. travel_part_of l g (at t) t)
-
 -- the legs of the teams of the first set that touch a round of the second
 unfoldable pub travel_part : LeagueData → Games → (ℕ → Bool) → (ℕ → Bool) → ℕ
 travel_part l g teams rounds = sum_where g.teams teams (travel_part_of l g rounds)
-
--- the legs that touch a round of the second set in which the team or its host is in the first
-unfoldable pub travel_around : LeagueData → Games → (ℕ → Bool) → (ℕ → Bool) → ℕ
-travel_around l g teams rounds = travel_at l g (with_guests g teams rounds)
 
 -- whether one of the consecutive rounds is in the set
 unfoldable pub touches_window : (ℕ → Bool) → ℕ → ℕ → Bool
@@ -38,10 +29,6 @@ runs_part_of g at_most rounds team =
     count_where (windows g (at_most + 1)) (λ first. touches_window rounds first (at_most + 1) &&
     is_run g team first (at_most + 1))
 
--- the runs of each team that touch a round of the team's set
-unfoldable pub runs_at : Games → ℕ → (ℕ → ℕ → Bool) → ℕ
-runs_at g at_most at = sum_below g.teams (λ t. runs_part_of g at_most (at t) t)
-
 -- the runs of the teams of the first set that touch a round of the second
 unfoldable pub runs_part : Games → ℕ → (ℕ → Bool) → (ℕ → Bool) → ℕ
 runs_part g at_most teams rounds = sum_where g.teams teams (runs_part_of g at_most rounds)
@@ -49,14 +36,3 @@ runs_part g at_most teams rounds = sum_where g.teams teams (runs_part_of g at_mo
 -- the repeats that have one of their two rounds in the set
 unfoldable pub repeats_part : Games → (ℕ → Bool) → ℕ
 repeats_part g rounds = sum_where (round_count g.teams - 1) (λ r. rounds r || rounds (r + 1)) (repeats_after g)
-
--- how many pairs with a team of the set meet both in a round and in the next
-unfoldable pub repeats_with_after : Games → (ℕ → Bool) → ℕ → ℕ
-repeats_with_after g teams round =
-    sum_of_pairs g.teams (λ low high.
-    if (teams low || teams high) && (meets g high low round && meets g high low (round + 1)) then 1 else 0)
-
--- the repeats of pairs with a team of the first set that have one of their two rounds in the second
-unfoldable pub repeats_with : Games → (ℕ → Bool) → (ℕ → Bool) → ℕ
-repeats_with g teams rounds =
-    sum_where (round_count g.teams - 1) (λ r. rounds r || rounds (r + 1)) (repeats_with_after g teams)

@@ -1,36 +1,24 @@
 -- What the walks over a part count at each of its teams: words of private functions alone.
-use Rattle.std.specs.Prelude.{ℕ, ◌+◌, ◌&&◌, ◌||◌, ◌==◌, not, nat_lt, Bool, if◌then◌else◌, slice_index}
+use Rattle.std.specs.Prelude.{ℕ, ◌+◌, ◌&&◌, ◌||◌, nat_lt, Bool, if◌then◌else◌, slice_index}
 use Rattle.league.specs.League.{LeagueData, distance}
-use Rattle.league.specs.Sums.{sum_below, sum_where}
-use Rattle.fixtures.specs.Games.{Games, round_count, cell}
-use Rattle.fixtures.specs.Changes.{with_guests}
+use Rattle.league.specs.Sums.{sum_where}
+use Rattle.fixtures.specs.Games.{Games, round_count, cell, place}
 use Rattle.fixtures.specs.Edits.{exchanged}
-use Rattle.tours.specs.Tours.{tour, leg_count, leg}
+use Rattle.tours.specs.Tours.{tour, leg_count}
 use Rattle.tours.specs.Parts.{touches_leg}
+
+-- the teams of the first set and their guests, each in the rounds of the second
+unfoldable pub with_guests : Games → (ℕ → Bool) → (ℕ → Bool) → ℕ → ℕ → Bool
+with_guests g teams rounds t r = rounds r && (teams t || teams (place g t r))
 
 -- of legs that are told by a function of team and index, those of a team that touch a round of the set
 abbrev pub part_of : (ℕ → ℕ → ℕ) → Games → (ℕ → Bool) → ℕ → ℕ
 part_of f g set t = sum_where (leg_count g) (touches_leg g set) (f t)
 
--- those of the teams of the first set, and of their guests, that touch a round of the second
-abbrev pub around : (ℕ → ℕ → ℕ) → Games → (ℕ → Bool) → (ℕ → Bool) → ℕ
-around f g teams rounds = sum_below g.teams (λ t. part_of f g (with_guests g teams rounds t) t)
-
 -- the leg to a place and, unless the next round of the season is in the set too, the leg on from there
 abbrev pub there_and_on : (ℕ → ℕ → ℕ) → Games → (ℕ → Bool) → ℕ → ℕ → ℕ
 there_and_on f g set t r =
     f t r + (if nat_lt (r + 1) (round_count g.teams) && set (r + 1) then 0 else f t (r + 1))
-
--- the leg with this index in a tour in which the places of rounds k and m are exchanged: none if they are the same
-abbrev pub leg_exchanged : LeagueData → Games → ℕ → ℕ → ℕ → ℕ → ℕ
-leg_exchanged l g k m t r =
-    distance l (slice_index (tour g t) (exchanged (k + 1) (m + 1) r))
-    (slice_index (tour g t) (exchanged (k + 1) (m + 1) (r + 1)))
-
--- such legs of the teams of the first set that touch a round of the second
-abbrev pub legs_exchanged : LeagueData → Games → ℕ → ℕ → (ℕ → Bool) → (ℕ → Bool) → ℕ
-legs_exchanged l g k m teams rounds =
-    sum_where g.teams teams (λ t. sum_where (leg_count g) (touches_leg g rounds) (leg_exchanged l g k m t))
 
 -- those of a host's opponent, unless it is one of the hosts
 abbrev pub guest_terms : (ℕ → ℕ → ℕ) → Games → (ℕ → Bool) → (ℕ → Bool) → ℕ → ℕ → ℕ
@@ -38,11 +26,8 @@ guest_terms f g hosts rounds host r =
     if hosts (cell g host r).opponent then 0
     else there_and_on f g (with_guests g hosts rounds (cell g host r).opponent) (cell g host r).opponent r
 
-abbrev pub legs_of_guest : LeagueData → Games → (ℕ → Bool) → (ℕ → Bool) → ℕ → ℕ → ℕ
-legs_of_guest l g = guest_terms (leg l g) g
-
--- 1 if a team meets the same team in a round and in the next, and that isn't a higher team of the set
-abbrev pub repeat_at : Games → (ℕ → Bool) → ℕ → ℕ → ℕ
-repeat_at g teams r t =
-    if (cell g t r).opponent == (cell g t (r + 1)).opponent &&
-    (nat_lt (cell g t r).opponent t || not (teams (cell g t r).opponent)) then 1 else 0
+-- the leg with this index in a tour in which the places of rounds k and m are exchanged: none if they are the same
+abbrev pub leg_exchanged : LeagueData → Games → ℕ → ℕ → ℕ → ℕ → ℕ
+leg_exchanged l g k m t r =
+    distance l (slice_index (tour g t) (exchanged (k + 1) (m + 1) r))
+    (slice_index (tour g t) (exchanged (k + 1) (m + 1) (r + 1)))

@@ -21,11 +21,11 @@ mod travel_parts;
 mod unphased_pairs;
 mod whole_travel;
 
-pub use laws::{changes_around_balance, changes_balance, parts_balance, same_pairs_repeat_alike};
+pub use laws::parts_balance;
 pub use moved::moved_games;
-pub use repeat_counts::{repeats, repeats_part, repeats_with};
+pub use repeat_counts::{repeats, repeats_part};
 pub use runs::{runs_over, runs_part, windows_spent};
 pub use told::{Breaches, Legs, Moved, legs_of, moved_of, repeats_of, runs_of};
-pub use travel_parts::{travel_around, travel_part};
+pub use travel_parts::travel_part;
 pub use unphased_pairs::{is_unphased, unphased, unphased_part};
 pub use whole_travel::{travel, travel_of};

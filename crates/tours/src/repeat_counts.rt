@@ -4,14 +4,13 @@ ghost use Rattle.std.specs.Prelude.{◌≡◌, ◌+◌, ◌-◌, ◌*◌, ◌<�
 ghost use Rattle.league.specs.Limits.{max_teams, max_rounds};
 ghost use Rattle.league.specs.Sets.{has, IsBelow};
 ghost use Rattle.league.specs.Sums.{sum_below, sum_where};
-ghost use Rattle.fixtures.specs.Games.{round_count, meets, IsDoubleRoundRobin};
+ghost use Rattle.fixtures.specs.Games.{round_count, meets};
 ghost use Rattle.tours.specs.Repeats.{repeats_after, repeats};
-ghost use Rattle.tours.specs.Parts.{repeats_part, repeats_with_after, repeats_with};
-ghost use Rattle.tours.specs.Walked.{repeat_at};
+ghost use Rattle.tours.specs.Parts.{repeats_part};
 
-use crate::season::{rounds_next_to, teams_in};
+use crate::season::rounds_next_to;
 use fixtures::{Schedule, Touched};
-use league::{SlotSet, TeamSet};
+use league::SlotSet;
 
 /// How many pairs of teams meet in a round and in the next, summed over the rounds. The middle of the season is
 /// no exception.
@@ -57,14 +56,7 @@ pub fn repeats_part(schedule: &Schedule, touched: Touched) -> u64
     ensures value { result ≡ repeats_part schedule.now (has touched.rounds) }
     ensures most { result ≤ max_rounds * max_teams }
 {
-    repeats_near(schedule, touched.rounds)
-}
-
-fn repeats_near(schedule: &Schedule, rounds: SlotSet) -> u64
-    ensures value { result ≡ repeats_part schedule.now (has rounds) }
-    ensures most { result ≤ max_rounds * max_teams }
-{
-    let firsts = rounds_next_to(schedule, rounds);
+    let firsts = rounds_next_to(schedule, touched.rounds);
     repeats_from(schedule, firsts)
 }
 
@@ -80,66 +72,4 @@ fn repeats_from(schedule: &Schedule, firsts: SlotSet) -> u64
         total += repeats_after(schedule, round);
     }
     total
-}
-
-/// The repeats of pairs with a touched team that have one of their two rounds touched.
-pub fn repeats_with(schedule: &Schedule, touched: Touched) -> u64
-    ensures value { result ≡ repeats_with schedule.now (has touched.teams) (has touched.rounds) }
-    ensures most { result ≤ max_rounds * max_teams }
-{
-    repeats_near_with(schedule, touched.teams, touched.rounds)
-}
-
-fn repeats_near_with(schedule: &Schedule, set: TeamSet, rounds: SlotSet) -> u64
-    ensures value { result ≡ repeats_with schedule.now (has set) (has rounds) }
-    ensures most { result ≤ max_rounds * max_teams }
-{
-    let among = teams_in(schedule, set);
-    let firsts = rounds_next_to(schedule, rounds);
-    repeats_from_with(schedule, among, firsts)
-}
-
-/// The repeats with a team of the set whose first round is one of these.
-fn repeats_from_with(schedule: &Schedule, among: TeamSet, firsts: SlotSet) -> u64
-    requires round_robin { IsDoubleRoundRobin schedule.now }
-    requires among { IsBelow schedule.now.teams among }
-    requires below { IsBelow (round_count schedule.now.teams - 1) firsts }
-    ensures value { result ≡
-        sum_where (round_count schedule.now.teams - 1) (has firsts) (repeats_with_after schedule.now (has among)) }
-    ensures most { result ≤ max_rounds * max_teams }
-{
-    let mut total = 0;
-    for round in firsts {
-        total += repeats_with_after(schedule, among, round);
-    }
-    total
-}
-
-/// How many pairs with a team of the set meet in a round and in the next.
-fn repeats_with_after(schedule: &Schedule, among: TeamSet, round: u8) -> u64
-    requires round_robin { IsDoubleRoundRobin schedule.now }
-    requires below { IsBelow schedule.now.teams among }
-    requires next { round + 1 < round_count schedule.now.teams }
-    ensures value { result ≡ repeats_with_after schedule.now (has among) round }
-    ensures most { result ≤ schedule.now.teams }
-{
-    let mut total = 0;
-    for team in among {
-        total += repeat_at(schedule, among, team, round);
-    }
-    total
-}
-
-/// 1 if a team meets the same team in a round and in the next, otherwise 0: 0 too if that is a higher team of
-/// the set, so that each pair is counted once.
-fn repeat_at(schedule: &Schedule, among: TeamSet, team: u8, round: u8) -> u64
-    requires team { team < schedule.now.teams }
-    requires next { round + 1 < round_count schedule.now.teams }
-    requires season { round_count schedule.now.teams ≤ max_rounds }
-    ensures value { result ≡ repeat_at schedule.now (has among) round team }
-    ensures most { result ≤ 1 }
-{
-    let opponent = schedule.game_at(team, round).opponent;
-    let next = schedule.game_at(team, round + 1).opponent;
-    u64::from(opponent == next && (opponent < team || !among.has(opponent)))
 }

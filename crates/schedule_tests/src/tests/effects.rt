@@ -173,29 +173,3 @@ fn partial_moves_of_four_that_are_whole(rt: HostRuntime) -> Result<(), Fail> {
     }
     Ok(())
 }
-
-/// Moves of the start of four teams, and whether the same pairs meet after each.
-const MEETINGS: &[(Move, bool)] = &[
-    (Move::Homes { i: 0, j: 1 }, true),
-    (Move::Teams { i: 0, j: 1 }, true),
-    (Move::Rounds { k: 4, l: 5 }, false),
-];
-
-fn keeps_meetings(start: &Schedule, mv: Move) -> Result<bool, Fail> {
-    check(start, mv)?;
-    Ok(exchange(start, mv).same_meetings(start))
-}
-
-fn check_meetings(rt: &impl Abort, alloc: Global, (mv, kept): (Move, bool)) -> Result<(), Fail> {
-    let found = keeps_meetings(&berger(alloc, 4)?, mv)?;
-    check_same(rt, &(mv, found), &(mv, kept));
-    Ok(())
-}
-
-#[test]
-fn meetings_are_kept_by_whole_moves_of_homes_and_teams(rt: HostRuntime) -> Result<(), Fail> {
-    for &case in MEETINGS {
-        check_meetings(&rt, rt.alloc(), case)?;
-    }
-    Ok(())
-}

@@ -1,12 +1,31 @@
 -- Repeats change by as many as have a pair and a round where meetings change.
-use Rattle.std.proofs.Common.{◌≡◌, ℕ, ◌+◌, ◌-◌, ◌<◌, Bool, true, false, ◌&&◌, ◌||◌, refl, ap, arith}
-use Rattle.std.specs.Prelude.{if◌then◌else◌}
+use Rattle.std.proofs.Common.{◌≡◌, ℕ, ◌+◌, ◌-◌, ◌<◌, Bool, true, false, ◌&&◌, ◌||◌, refl, sym, ◌∙◌, ap, arith}
+use Rattle.std.specs.Prelude.{◌==◌, if◌then◌else◌}
 use Rattle.std.proofs.lemmas.Bool.{or_parts, and_left, and_right, or_from}
-use Rattle.fixtures.specs.Games.{Games, round_count, meets}
-use Rattle.fixtures.specs.Changes.{MeetingsDifferOnlyIn}
+use Rattle.league.specs.Sums.{sum_of_pairs, sum_where}
+use Rattle.fixtures.specs.declared.game.Cell.{Cell}
+use Rattle.fixtures.specs.Games.{Games, round_count, cell, meets}
+use Rattle.fixtures.specs.Changes.{DiffersOnlyIn}
 use Rattle.tours.specs.Repeats.{repeats_after, repeats}
-use Rattle.tours.specs.Parts.{repeats_with_after, repeats_with, repeats_part}
+use Rattle.tours.specs.Parts.{repeats_part}
 use Rattle.tours.proofs.balances.Balances.{one, where_balance, count_balance, sum_balance, pairs_balance, pairs_same}
+
+-- the same pairs meet in both, but pairs with a team of the first set in the rounds of the second
+pub record MeetingsDifferOnlyIn (g g' : Games) (teams rounds : ℕ → Bool) : Type 0 where
+  pub same_size : g'.teams ≡ g.teams
+  pub same : (t u r : ℕ) → t < g.teams → u < g.teams → r < round_count g.teams →
+      ((teams t || teams u) && rounds r) ≡ false → meets g' t u r ≡ meets g t u r
+
+-- how many pairs with a team of the set meet both in a round and in the next
+unfoldable pub repeats_with_after : Games → (ℕ → Bool) → ℕ → ℕ
+repeats_with_after g teams round =
+    sum_of_pairs g.teams (λ low high.
+    if (teams low || teams high) && (meets g high low round && meets g high low (round + 1)) then 1 else 0)
+
+-- the repeats of pairs with a team of the first set that have one of their two rounds in the second
+unfoldable pub repeats_with : Games → (ℕ → Bool) → (ℕ → Bool) → ℕ
+repeats_with g teams rounds =
+    sum_where (round_count g.teams - 1) (λ r. rounds r || rounds (r + 1)) (repeats_with_after g teams)
 
 -- a pair meets both in a round and in the next
 abbrev meet_twice : Games → ℕ → ℕ → ℕ → Bool
@@ -60,6 +79,23 @@ repeats_balance_with g g' teams rounds d =
     (λ inside. after_balance g g' teams rounds d r (omega arith)) (after_same g g' teams rounds d r (omega arith)))
 
 -- all teams
-pub repeats_with_all : (g : Games) (rounds : ℕ → Bool) → repeats_with g (λ _. true) rounds ≡ repeats_part g rounds
+repeats_with_all : (g : Games) (rounds : ℕ → Bool) → repeats_with g (λ _. true) rounds ≡ repeats_part g rounds
 unfolding repeats_with repeats_part repeats_with_after repeats_after
 repeats_with_all g rounds = refl
+
+meeting_of_cell : (g g' : Games) (t u r : ℕ) → cell g' t r ≡ cell g t r → meets g' t u r ≡ meets g t u r
+unfolding meets
+meeting_of_cell g g' t u r same = ap (λ (c : Cell). c.opponent == u) same
+
+pub repeats_balance : (g g' : Games) (teams rounds : ℕ → Bool) → DiffersOnlyIn g g' teams rounds →
+    repeats g' + repeats_part g rounds ≡ repeats g + repeats_part g' rounds
+repeats_balance g g' teams rounds d =
+    ap (λ x. repeats g' + x) (sym (repeats_with_all g rounds)) ∙ repeats_balance_with g g' (λ _. true) rounds meetings ∙
+    ap (λ x. repeats g + x) (repeats_with_all g' rounds)
+  where
+    meetings : MeetingsDifferOnlyIn g g' (λ _. true) rounds
+    meetings = record {
+      same_size = d.same_size;
+      same = λ t u r in_t in_u in_r out.
+          meeting_of_cell g g' t u r (d.same_cells t r in_t in_r (and_right (teams t) (rounds r) out));
+    }

@@ -1,11 +1,12 @@
 -- Runs change by as many as touch a round where a team changes sides.
-use Rattle.std.proofs.Common.{◌≡◌, ℕ, ◌+◌, ◌-◌, ◌<◌, ◌≤◌, Bool, true, false, not, ◌&&◌, refl, ap, arith}
+use Rattle.std.proofs.Common.{◌≡◌, ℕ, ◌+◌, ◌-◌, ◌<◌, ◌≤◌, Bool, true, false, not, ◌&&◌, refl, sym, ◌∙◌, ap, arith}
 use Rattle.std.specs.Prelude.{if◌then◌else◌}
-use Rattle.league.proofs.ForCallers.{all_below_same, any_below_fails, any_below_from_none, count_where_none, sum_below_same}
-use Rattle.fixtures.specs.Games.{Games, round_count, is_home}
-use Rattle.fixtures.specs.Changes.{DiffersOnlyAt, box}
+use Rattle.league.proofs.ForCallers.{all_below_same, any_below_fails, any_below_from_none, count_where_none}
+use Rattle.fixtures.specs.declared.game.Cell.{Cell}
+use Rattle.fixtures.specs.Games.{Games, round_count, cell, is_home}
+use Rattle.fixtures.specs.Changes.{DiffersOnlyIn}
 use Rattle.tours.specs.Runs.{is_run, windows, runs_of, runs_over}
-use Rattle.tours.specs.Parts.{touches_window, runs_part_of, runs_at, runs_part}
+use Rattle.tours.specs.Parts.{touches_window, runs_part_of, runs_part}
 use Rattle.tours.proofs.balances.Balances.{one, count_balance, sum_balance}
 
 -- the sides of a team stay, but in rounds of the set
@@ -36,15 +37,7 @@ runs_of_balance g g' most rounds t size stay =
     (λ f below. count_balance (touches_window rounds f (most + 1)) (is_run g' t f (most + 1)) (is_run g t f (most + 1))
     (is_run_same g g' rounds t f (most + 1) stay (omega arith)))
 
-pub runs_balance_at : (g g' : Games) (most : ℕ) (at : ℕ → ℕ → Bool) → DiffersOnlyAt is_home g g' at →
-    runs_over g' most + runs_at g most at ≡ runs_over g most + runs_at g' most at
-unfolding runs_over runs_at
-runs_balance_at g g' most at d =
-    sum_balance g.teams g'.teams (runs_of g' most) (runs_of g most) (λ t. runs_part_of g' most (at t) t)
-    (λ t. runs_part_of g most (at t) t) d.same_size
-    (λ t in_t. runs_of_balance g g' most (at t) t d.same_size (λ r. d.same t r in_t))
-
--- a box of touched cells is a case of sets of rounds for each team
+-- cells of touched teams in touched rounds
 
 none_touched : (first rounds : ℕ) (run : Bool) → (touches_window (λ _. false) first rounds && run) ≡ false
 unfolding touches_window
@@ -58,8 +51,18 @@ part_of_box g most rounds t false =
     count_where_none (windows g (most + 1)) (λ f. touches_window (λ _. false) f (most + 1) && is_run g t f (most + 1))
     (λ f below. none_touched f (most + 1) (is_run g t f (most + 1)))
 
-pub runs_at_box : (g : Games) (most : ℕ) (teams rounds : ℕ → Bool) → runs_at g most (box teams rounds) ≡ runs_part g most teams rounds
-unfolding runs_at runs_part
-runs_at_box g most teams rounds =
-    sum_below_same g.teams (λ t. runs_part_of g most (box teams rounds t) t) (λ t. if teams t then runs_part_of g most rounds t else 0)
-    (λ t below. part_of_box g most rounds t (teams t))
+side_of_cell : (g g' : Games) (t r : ℕ) → cell g' t r ≡ cell g t r → is_home g' t r ≡ is_home g t r
+unfolding is_home
+side_of_cell g g' t r same = ap (λ (c : Cell). c.home) same
+
+pub runs_balance : (g g' : Games) (most : ℕ) (teams rounds : ℕ → Bool) → DiffersOnlyIn g g' teams rounds →
+    runs_over g' most + runs_part g most teams rounds ≡ runs_over g most + runs_part g' most teams rounds
+unfolding runs_over runs_part
+runs_balance g g' most teams rounds d =
+    sum_balance g.teams g'.teams (runs_of g' most) (runs_of g most) (λ t. if teams t then runs_part_of g' most rounds t else 0)
+    (λ t. if teams t then runs_part_of g most rounds t else 0) d.same_size
+    (λ t in_t.
+    ap (λ x. runs_of g' most t + x) (sym (part_of_box g most rounds t (teams t))) ∙
+    runs_of_balance g g' most (λ r. teams t && rounds r) t d.same_size
+    (λ r in_r out. side_of_cell g g' t r (d.same_cells t r in_t in_r out)) ∙
+    ap (λ x. runs_of g most t + x) (part_of_box g' most rounds t (teams t)))

@@ -6,11 +6,13 @@ use Rattle.std.proofs.lemmas.Bool.{cases_lt, cases_eq}
 use Rattle.std.proofs.lemmas.Bool.Decides.{nat_tests}
 use Rattle.std.proofs.Math.Nat.{add_comm}
 use Rattle.league.specs.League.{LeagueData, distance}
-use Rattle.league.proofs.ForCallers.{sum_where_none, sum_below_same}
-use Rattle.fixtures.specs.Games.{Games, round_count, place}
-use Rattle.fixtures.specs.Changes.{DiffersOnlyAt, box}
+use Rattle.league.specs.Sums.{sum_below}
+use Rattle.league.proofs.ForCallers.{sum_where_none}
+use Rattle.fixtures.specs.declared.game.Cell.{Cell}
+use Rattle.fixtures.specs.Games.{Games, round_count, cell, place}
+use Rattle.fixtures.specs.Changes.{DiffersOnlyAt, DiffersOnlyIn}
 use Rattle.tours.specs.Tours.{tour, leg_count, leg, travel_of, travel}
-use Rattle.tours.specs.Parts.{touches_leg, travel_part_of, travel_at, travel_part}
+use Rattle.tours.specs.Parts.{touches_leg, travel_part_of, travel_part}
 use Rattle.tours.proofs.stops.Stops.{tour_at_round, tour_at_end}
 use Rattle.tours.proofs.balances.Balances.{where_balance, sum_balance}
 
@@ -71,15 +73,19 @@ travel_of_balance l g g' rounds t size stay =
     (λ r in_r. where_balance (touches_leg g rounds r) (touches_leg g' rounds r) (leg l g' t r) (leg l g t r) (leg l g' t r) (leg l g t r)
     (touches_leg_same g g' rounds r size) (λ inside. add_comm (leg l g' t r) (leg l g t r)) (leg_same l g g' rounds t r size stay in_r))
 
+-- the legs of each team that touch a round of the team's set
+abbrev pub travel_at : LeagueData → Games → (ℕ → ℕ → Bool) → ℕ
+travel_at l g at = sum_below g.teams (λ t. travel_part_of l g (at t) t)
+
 pub travel_balance_at : (l : LeagueData) (g g' : Games) (at : ℕ → ℕ → Bool) → DiffersOnlyAt place g g' at →
     travel l g' + travel_at l g at ≡ travel l g + travel_at l g' at
-unfolding travel travel_at
+unfolding travel
 travel_balance_at l g g' at d =
     sum_balance g.teams g'.teams (travel_of l g') (travel_of l g) (λ t. travel_part_of l g' (at t) t)
     (λ t. travel_part_of l g (at t) t) d.same_size
     (λ t in_t. travel_of_balance l g g' (at t) t d.same_size (λ r. d.same t r in_t))
 
--- a box of touched cells is a case of sets of rounds for each team
+-- cells of touched teams in touched rounds
 
 none_touched : (g : Games) (r : ℕ) → touches_leg g (λ _. false) r ≡ false
 unfolding touches_leg
@@ -91,8 +97,18 @@ unfolding travel_part_of
 part_of_box l g rounds t true = refl
 part_of_box l g rounds t false = sum_where_none (leg_count g) (touches_leg g (λ _. false)) (leg l g t) (λ r below. none_touched g r)
 
-pub travel_at_box : (l : LeagueData) (g : Games) (teams rounds : ℕ → Bool) → travel_at l g (box teams rounds) ≡ travel_part l g teams rounds
-unfolding travel_at travel_part
-travel_at_box l g teams rounds =
-    sum_below_same g.teams (λ t. travel_part_of l g (box teams rounds t) t) (λ t. if teams t then travel_part_of l g rounds t else 0)
-    (λ t below. part_of_box l g rounds t (teams t))
+place_of_cell : (g g' : Games) (t r : ℕ) → cell g' t r ≡ cell g t r → place g' t r ≡ place g t r
+unfolding place
+place_of_cell g g' t r same = ap (λ (c : Cell). if c.home then t else c.opponent) same
+
+pub travel_balance : (l : LeagueData) (g g' : Games) (teams rounds : ℕ → Bool) → DiffersOnlyIn g g' teams rounds →
+    travel l g' + travel_part l g teams rounds ≡ travel l g + travel_part l g' teams rounds
+unfolding travel travel_part
+travel_balance l g g' teams rounds d =
+    sum_balance g.teams g'.teams (travel_of l g') (travel_of l g) (λ t. if teams t then travel_part_of l g' rounds t else 0)
+    (λ t. if teams t then travel_part_of l g rounds t else 0) d.same_size
+    (λ t in_t.
+    ap (λ x. travel_of l g' t + x) (sym (part_of_box l g rounds t (teams t))) ∙
+    travel_of_balance l g g' (λ r. teams t && rounds r) t d.same_size
+    (λ r in_r out. place_of_cell g g' t r (d.same_cells t r in_t in_r out)) ∙
+    ap (λ x. travel_of l g t + x) (part_of_box l g' rounds t (teams t)))

@@ -8,7 +8,7 @@ use Rattle.league.specs.League.{LeagueData, distance}
 use Rattle.fixtures.specs.Games.{Games, round_count}
 use Rattle.fixtures.specs.Edits.{exchanged}
 use Rattle.tours.specs.Tours.{tour, leg}
-use Rattle.tours.specs.Told.{in_rounds, stop_told, leg_told}
+use Rattle.tours.specs.Told.{in_rounds, leg_told}
 use Rattle.tours.proofs.exchanged_legs.TeamsTold.{at_round, told_out, told_first, told_second}
 
 -- two teams have a round
@@ -46,9 +46,6 @@ module _ (l : LeagueData) (symmetric : (a b : ℕ) → distance l a b ≡ distan
     (rounds : ℕ → Bool) (s : ℕ) (in_s : s < round_count g.teams) where
   abbrev at : ℕ → ℕ → ℕ
   at t k = get_or (tour g t) k 0
-
-  abbrev told : ℕ → ℕ → ℕ
-  told = stop_told g i j rounds
 
   two_on : s + 1 + 1 ≡ s + 2
   two_on = omega arith

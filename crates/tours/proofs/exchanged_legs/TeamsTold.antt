@@ -11,17 +11,17 @@ use Rattle.league.proofs.ForCallers.{sum_below_same, sum_below_only, sum_where_s
 use Rattle.fixtures.specs.declared.game.Cell.{Cell}
 use Rattle.fixtures.specs.Games.{Games, round_of, round_count, cell, place, is_home, IsPair, IsDoubleRoundRobin}
 use Rattle.fixtures.specs.Edits.{exchanged, teams_exchanged, is_either}
-use Rattle.fixtures.specs.Changes.{with_guests, DiffersOnlyAt}
+use Rattle.fixtures.specs.Changes.{DiffersOnlyAt}
 use Rattle.fixtures.proofs.ForCallers.{exchanged_first, exchanged_second, exchanged_other, exchanged_exchanged}
 use Rattle.fixtures.proofs.ForCallers.{exchanged_lt, games_ext, cell_teams_exchanged, other_cell, StaysAmong}
 use Rattle.fixtures.proofs.ForCallers.{meets_cell, is_cell}
 use Rattle.tours.specs.Tours.{tour, leg_count, leg, travel}
-use Rattle.tours.specs.Parts.{touches_leg, travel_at, travel_part_of}
-use Rattle.tours.specs.Walked.{part_of, around, guest_terms}
+use Rattle.tours.specs.Parts.{touches_leg, travel_part_of}
+use Rattle.tours.specs.Walked.{with_guests, part_of, guest_terms}
 use Rattle.tours.specs.Told.{in_rounds, stop_told, leg_told}
 use Rattle.tours.proofs.stops.Stops.{tour_at_round, tour_at_end}
-use Rattle.tours.proofs.balances.TravelBalance.{travel_balance_at}
-use Rattle.tours.proofs.legs.GuestLegs.{around_walked}
+use Rattle.tours.proofs.balances.TravelBalance.{travel_at, travel_balance_at}
+use Rattle.tours.proofs.legs.GuestLegs.{around, around_walked}
 use Rattle.tours.proofs.meetings.Opponents.{opponent_in}
 use Rattle.tours.proofs.exchanged_legs.RoundsTold.{and_one}
 
@@ -136,7 +136,7 @@ module _ (g : Games) (rr : IsDoubleRoundRobin g) (i j : ℕ) (p : IsPair g.teams
 
   around_after : (l : LeagueData) →
       travel_at l after (with_guests g (is_either i j) rounds) ≡ around (leg_told l g i j rounds) g (is_either i j) rounds
-  unfolding travel_at travel_part_of touches_leg
+  unfolding travel_part_of touches_leg
   around_after l =
       sum_below_same g.teams
       (λ t. sum_where (leg_count g) (touches_leg g (with_guests g (is_either i j) rounds t)) (leg l after t))
@@ -147,7 +147,7 @@ module _ (g : Games) (rr : IsDoubleRoundRobin g) (i j : ℕ) (p : IsPair g.teams
 
   around_before : (l : LeagueData) →
       travel_at l g (with_guests g (is_either i j) rounds) ≡ around (leg l g) g (is_either i j) rounds
-  unfolding travel_at travel_part_of
+  unfolding travel_part_of
   around_before l = refl
 
   -- the legs of i and j, and those of their guests
@@ -224,9 +224,6 @@ told_second g i j rounds k is =
 
 module _ (g : Games) (rr : IsDoubleRoundRobin g) (i j : ℕ) (p : IsPair g.teams i j) (rounds among : ℕ → Bool)
     (cut : (r : ℕ) → r < round_count g.teams → rounds r ≡ among r) where
-  pub cut_out : (x y : ℕ) → IsPair g.teams x y → among (round_of g x y) ≡ false → rounds (round_of g x y) ≡ false
-  cut_out x y q out = cut (round_of g x y) (rr.in_range x y q) ∙ out
-
   pub cut_exchanged : teams_exchanged g i j rounds ≡ teams_exchanged g i j among
   cut_exchanged = games_ext g.teams _ _ (λ h a q.
       ap (λ b. if b then round_of g (exchanged i j h) (exchanged i j a) else round_of g h a)

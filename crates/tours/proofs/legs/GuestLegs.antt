@@ -1,18 +1,15 @@
 -- The travel around some teams: their own legs, and those of their guests.
-use Rattle.std.proofs.Common.{◌≡◌, ℕ, zero, suc, ◌+◌, ◌-◌, ◌<◌, Bool, true, false, not, ◌&&◌, ◌||◌, refl, sym, ◌∙◌, ap, arith, add-one}
+use Rattle.std.proofs.Common.{◌≡◌, ◌≢◌, ℕ, zero, suc, ◌+◌, ◌-◌, ◌<◌, Bool, true, false, not, ◌&&◌, ◌||◌, refl, sym, ◌∙◌, ap, arith, add-one}
 use Rattle.std.specs.Prelude.{◌==◌, nat_lt, if◌then◌else◌}
-use Rattle.std.proofs.lemmas.Bool.{lt-ltb}
+use Rattle.std.proofs.lemmas.Bool.{lt-ltb, ltb-true, not-true, eqb-false}
 use Rattle.std.proofs.lemmas.Bool.Decides.{nat_tests}
-use Rattle.league.specs.League.{LeagueData}
 use Rattle.league.specs.Sums.{sum_below, sum_where}
 use Rattle.league.proofs.ForCallers.{sum_below_same, sum_below_swap, sum_below_more, sum_where_same, sum_where_split}
 use Rattle.league.specs.Sets.{has}
 use Rattle.fixtures.specs.Games.{Games, round_count, cell, is_home, place, IsDoubleRoundRobin}
-use Rattle.fixtures.specs.Changes.{with_guests}
-use Rattle.tours.specs.Tours.{leg_count, leg}
-use Rattle.tours.specs.Parts.{touches_leg, travel_part_of, travel_at, travel_part, travel_around}
-use Rattle.tours.specs.Walked.{part_of, around, there_and_on, guest_terms, legs_of_guest}
-use Rattle.tours.proofs.balances.AroundBalance.{touches_leg_of}
+use Rattle.tours.specs.Tours.{leg_count}
+use Rattle.tours.specs.Parts.{touches_leg}
+use Rattle.tours.specs.Walked.{with_guests, part_of, there_and_on, guest_terms}
 use Rattle.tours.proofs.legs.TravelWalk.{inside, outside, sum_where_swap}
 use Rattle.tours.proofs.meetings.Turned.{sum_below_turned}
 use Rattle.tours.proofs.meetings.Opponents.{opponent_in, side_of_opponent, IsPairing-opponents}
@@ -91,6 +88,22 @@ part_by_rounds f g set t =
     (λ k in_k. at_season k (round_count g.teams) (set k) in_k) (λ k in_k touched. refl)
 
 -- the teams' own legs, and those of the others
+
+where_guarded : (guard b b' : Bool) → (guard ≡ true → b' ≡ b) → (guard && b') ≡ (guard && b)
+where_guarded true b b' same = same refl
+where_guarded false b b' same = refl
+
+-- which legs are touched depends on rounds of the season alone
+touches_leg_of : (g : Games) (set set' : ℕ → Bool) (r : ℕ) → r < leg_count g → ((k : ℕ) → k < round_count g.teams → set' k ≡ set k) →
+    touches_leg g set' r ≡ touches_leg g set r
+unfolding touches_leg
+touches_leg_of g set set' r in_r same =
+    ap (λ b. b || (nat_lt r (round_count g.teams) && set' r)) (where_guarded (not (r == 0)) (set (r - 1)) (set' (r - 1)) before) ∙
+    ap (λ b. (not (r == 0) && set (r - 1)) || b)
+    (where_guarded (nat_lt r (round_count g.teams)) (set r) (set' r) (λ round. same r (ltb-true r (round_count g.teams) round)))
+  where
+    before : not (r == 0) ≡ true → set' (r - 1) ≡ set (r - 1)
+    before later = let some : r ≢ 0 = eqb-false r 0 (not-true (r == 0) later) in same (r - 1) (omega arith)
 
 own_rounds : (mine round at : Bool) → mine ≡ true → (round && (mine || at)) ≡ round
 own_rounds mine true at is = rw is refl
@@ -223,6 +236,10 @@ sum_of_visits g f t home rounds visits homes members =
     turned false true = refl
     turned false false = refl
 
+-- the legs of the teams of the first set, and of their guests, that touch a round of the second
+abbrev pub around : (ℕ → ℕ → ℕ) → Games → (ℕ → Bool) → (ℕ → Bool) → ℕ
+around f g teams rounds = sum_below g.teams (λ t. part_of f g (with_guests g teams rounds t) t)
+
 pub around_walked : (f : ℕ → ℕ → ℕ) (g : Games) (teams rounds : ℕ → Bool) → IsDoubleRoundRobin g →
     around f g teams rounds ≡
     sum_where g.teams teams (part_of f g rounds) +
@@ -239,10 +256,3 @@ around_walked f g teams rounds rr =
     (λ r. sum_where g.teams teams (hosted_at f g teams rounds r)) (λ r in_r. refl)
     (λ r in_r touched. guests_by_host g teams (guest_legs f g teams rounds r) r rr in_r) ∙
     guests_of_hosts f g teams rounds)
-
-pub travel_around_walked : (l : LeagueData) (g : Games) (teams rounds : ℕ → Bool) → IsDoubleRoundRobin g →
-    travel_around l g teams rounds ≡
-    travel_part l g teams rounds +
-    sum_where g.teams teams (λ t. sum_where (round_count g.teams) (λ r. rounds r && is_home g t r) (legs_of_guest l g teams rounds t))
-unfolding travel_around travel_at travel_part travel_part_of
-travel_around_walked l g teams rounds rr = around_walked (leg l g) g teams rounds rr

@@ -6,7 +6,9 @@ use Rattle.league.specs.Sums.{sum_below, count_where}
 use Rattle.league.proofs.ForCallers.{sum_below_same}
 use Rattle.fixtures.specs.declared.game.Cell.{Cell}
 use Rattle.fixtures.specs.Games.{Games, cell, meets}
-use Rattle.tours.specs.Parts.{repeats_with_after}
+use Rattle.tours.specs.Repeats.{repeats_after}
+use Rattle.tours.proofs.balances.Balances.{one}
+use Rattle.tours.proofs.balances.RepeatsBalance.{repeats_with_after}
 use Rattle.tours.proofs.meetings.Opponents.{opponent_in}
 
 one_more : (n a b s : ℕ) (p : ℕ → Bool) → s ≡ (if p a && (nat_lt a n && a == b) then 1 else 0) →
@@ -45,3 +47,11 @@ repeats_with_after_higher g teams r =
     (λ t. count_where t (λ low. (teams low || teams t) && (opponent_in g r t == low && opponent_in g (r + 1) t == low)))
     (λ t. if is_repeat_with g teams r t then 1 else 0)
     (λ t below. count_where_both t (opponent_in g r t) (opponent_in g (r + 1) t) (λ low. teams low || teams t))
+
+abbrev pub at_higher : (ℕ → ℕ) → (ℕ → ℕ) → ℕ → ℕ
+at_higher a b t = one (nat_lt (a t) t && a t == b t)
+
+-- as many repeats as teams that meet a lower team twice
+pub repeats_after_higher : (g : Games) (r : ℕ) → repeats_after g r ≡ sum_below g.teams (at_higher (opponent_in g r) (opponent_in g (r + 1)))
+unfolding repeats_after repeats_with_after
+repeats_after_higher g r = repeats_with_after_higher g (λ _. true) r

@@ -1,15 +1,13 @@
 -- Repeats with a team of a set, counted at the teams of the set.
-use Rattle.std.proofs.Common.{◌≡◌, ◌≢◌, ℕ, ◌+◌, ◌<◌, Bool, not, ◌&&◌, ◌||◌, inl, inr, refl, sym, ◌∙◌, ap, arith}
+use Rattle.std.proofs.Common.{◌≡◌, ◌≢◌, ℕ, ◌+◌, ◌<◌, Bool, not, ◌&&◌, ◌||◌, inl, inr, sym, ◌∙◌, ap, arith}
 use Rattle.std.specs.Prelude.{◌==◌, nat_lt, if◌then◌else◌}
 use Rattle.std.proofs.lemmas.Bool.{cases_eq, eq-eqb, ne_eqb}
 use Rattle.std.proofs.lemmas.Bool.Decides.{nat_tests}
 use Rattle.league.specs.Sums.{sum_below, count_where, sum_where}
 use Rattle.league.proofs.ForCallers.{sum_below_same, sum_below_add}
 use Rattle.fixtures.specs.Games.{Games, round_count, cell, IsDoubleRoundRobin}
-use Rattle.fixtures.specs.declared.game.Cell.{Cell}
-use Rattle.tours.specs.Parts.{repeats_with_after}
-use Rattle.tours.specs.Walked.{repeat_at}
 use Rattle.tours.proofs.balances.Balances.{one}
+use Rattle.tours.proofs.balances.RepeatsBalance.{repeats_with_after}
 use Rattle.tours.proofs.meetings.Turned.{IsTurn, IsPairing, sum_below_turned}
 use Rattle.tours.proofs.meetings.Opponents.{opponent_in, IsPairing-opponents}
 use Rattle.tours.proofs.meetings.HigherTeams.{repeats_with_after_higher}
@@ -26,7 +24,7 @@ split : (mine other lower same : Bool) →
 split mine other lower same = grind arith
 
 -- seen from the other team
-pub same_there : (n : ℕ) (a b : ℕ → ℕ) → IsTurn n a → IsTurn n b → (t : ℕ) → t < n → (t == b (a t)) ≡ (a t == b t)
+same_there : (n : ℕ) (a b : ℕ → ℕ) → IsTurn n a → IsTurn n b → (t : ℕ) → t < n → (t == b (a t)) ≡ (a t == b t)
 same_there n a b turn_a turn_b t in_t = elim (cases_eq (a t) (b t)) [
   | inl same ↦ eq-eqb t (b (a t)) (sym (ap b same ∙ turn_b.back t in_t)) ∙ sym (eq-eqb (a t) (b t) same)
   | inr other ↦
@@ -57,13 +55,15 @@ at_members n teams a b pairing turn =
         rw (pairing.turn.back t in_t, same_there n a b pairing.turn turn t in_t)
         (counted (teams t) (teams (a t)) (a t == b t) (a t) t (pairing.apart t in_t))
 
+-- 1 if a team meets the same team in a round and in the next, and that isn't a higher team of the set
+abbrev pub repeat_at : Games → (ℕ → Bool) → ℕ → ℕ → ℕ
+repeat_at g teams r t =
+    if (cell g t r).opponent == (cell g t (r + 1)).opponent &&
+    (nat_lt (cell g t r).opponent t || not (teams (cell g t r).opponent)) then 1 else 0
+
 pub repeats_with_after_members : (g : Games) (teams : ℕ → Bool) (r : ℕ) → IsDoubleRoundRobin g → r + 1 < round_count g.teams →
     repeats_with_after g teams r ≡ sum_where g.teams teams (repeat_at g teams r)
 repeats_with_after_members g teams r rr in_r =
     repeats_with_after_higher g teams r ∙
     at_members g.teams teams (opponent_in g r) (opponent_in g (r + 1)) (IsPairing-opponents g rr r (omega arith))
     (IsPairing-opponents g rr (r + 1) in_r).turn
-
-pub repeat_at_cells : (g : Games) (teams : ℕ → Bool) (r t : ℕ) (now next : Cell) → now ≡ cell g t r → next ≡ cell g t (r + 1) →
-    repeat_at g teams r t ≡ (if now.opponent == next.opponent && (nat_lt now.opponent t || not (teams now.opponent)) then 1 else 0)
-repeat_at_cells g teams r t now next is_now is_next = rw (is_now, is_next) refl

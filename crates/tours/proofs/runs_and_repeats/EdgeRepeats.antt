@@ -1,26 +1,31 @@
 -- The repeats after i and j are exchanged in the rounds of a set: they change at its edges.
-use Rattle.std.proofs.Common.{◌≡◌, ℕ, ◌+◌, ◌-◌, ◌<◌, Bool, true, false, not, ◌&&◌, ◌||◌, inl, inr, refl, sym, ◌∙◌, ap, ap₂, arith}
+use Rattle.std.proofs.Common.{◌≡◌, ◌≢◌, ℕ, ◌+◌, ◌-◌, ◌<◌, Bool, true, false, not, ◌&&◌, ◌||◌, inl, inr, refl, sym, ◌∙◌, ap, ap₂, arith}
 use Rattle.std.specs.Prelude.{◌==◌, nat_lt, if◌then◌else◌}
 use Rattle.std.specs.Bool.{beq}
-use Rattle.std.proofs.lemmas.Bool.{cases_Bool, and_cases, and_parts, or_cases, or_left, or_parts, cond-true, cond-false, eqb-true}
+use Rattle.std.proofs.lemmas.Bool.{cases_Bool, cases_eq, and_cases, and_parts, or_cases, or_left, or_parts, cond-true, cond-false, eqb-true, eq-eqb, ne_eqb}
 use Rattle.league.specs.Sums.{sum_where}
 use Rattle.league.proofs.ForCallers.{sum_below_balance}
 use Rattle.fixtures.specs.declared.game.Cell.{Cell}
 use Rattle.fixtures.specs.Games.{Games, round_of, round_count, cell, meets, IsPair, IsDoubleRoundRobin}
 use Rattle.fixtures.specs.Edits.{exchanged, teams_exchanged, is_either}
-use Rattle.fixtures.specs.Changes.{MeetingsDifferOnlyIn}
-use Rattle.fixtures.proofs.ForCallers.{exchanged_first, exchanged_second, cell_teams_exchanged, other_cell}
+use Rattle.fixtures.proofs.ForCallers.{exchanged_first, exchanged_second, exchanged_exchanged, cell_teams_exchanged, other_cell}
 use Rattle.fixtures.proofs.ForCallers.{round_robin_teams_exchanged, StaysAmong}
 use Rattle.tours.specs.Repeats.{repeats}
-use Rattle.tours.specs.Parts.{repeats_with_after, repeats_with}
-use Rattle.tours.specs.Walked.{repeat_at}
 use Rattle.tours.specs.Told.{meets_next}
 use Rattle.tours.proofs.balances.Balances.{one}
-use Rattle.tours.proofs.balances.RepeatsBalance.{repeats_balance_with}
-use Rattle.tours.proofs.meetings.Members.{repeats_with_after_members}
+use Rattle.tours.proofs.balances.RepeatsBalance.{MeetingsDifferOnlyIn, repeats_with_after, repeats_with, repeats_balance_with}
+use Rattle.tours.proofs.meetings.Members.{repeat_at, repeats_with_after_members}
 use Rattle.tours.proofs.meetings.Opponents.{opponent_in}
-use Rattle.tours.proofs.meetings.SamePairs.{same_exchanged}
 use Rattle.tours.proofs.exchanged_legs.TeamsTold.{unmoved, of_either, of_first, of_second, meets_neither}
+
+exchanged_apart : (i j x y : ℕ) → x ≢ y → exchanged i j x ≢ exchanged i j y
+exchanged_apart i j x y apart is = apart (sym (exchanged_exchanged i j x) ∙ ap (exchanged i j) is ∙ exchanged_exchanged i j y)
+
+same_exchanged : (i j x y : ℕ) → (exchanged i j x == exchanged i j y) ≡ (x == y)
+same_exchanged i j x y = elim (cases_eq x y) [
+  | inl same ↦ eq-eqb (exchanged i j x) (exchanged i j y) (ap (exchanged i j) same) ∙ sym (eq-eqb x y same)
+  | inr other ↦ ne_eqb (exchanged i j x) (exchanged i j y) (exchanged_apart i j x y other) ∙ sym (ne_eqb x y other)
+]
 
 -- whom a team of the two meets twice is none of them
 abbrev MeetsOthers : Games → ℕ → ℕ → ℕ → ℕ → Type 0

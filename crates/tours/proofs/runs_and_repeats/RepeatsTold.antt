@@ -21,7 +21,7 @@ use Rattle.tours.proofs.meetings.Opponents.{opponent_in}
 use Rattle.tours.proofs.exchanged_legs.OwnLegs.{first_leg}
 use Rattle.tours.proofs.exchanged_legs.RoundsTold.{exchanged_terms, exchanged_turned, legs_touched, stop_same, touches_two, two_rounds}
 use Rattle.tours.proofs.exchanged_legs.RoundsTold.{two_before, two_after, neighbours_before, neighbours_after}
-use Rattle.tours.proofs.meetings.SamePairs.{at_higher, repeats_after_higher}
+use Rattle.tours.proofs.meetings.HigherTeams.{at_higher, repeats_after_higher}
 
 -- all terms between stops change by as much as those around the two rounds that are exchanged
 

@@ -1,4 +1,6 @@
-use Rattle.tours.proofs.balances.AroundBalance.{travel_balance, runs_balance, repeats_balance}
+use Rattle.tours.proofs.balances.TravelBalance.{travel_balance}
+use Rattle.tours.proofs.balances.RunsBalance.{runs_balance}
+use Rattle.tours.proofs.balances.RepeatsBalance.{repeats_balance}
 use Rattle.tours.proofs.balances.PhasedBalance.{unphased_balance}
 use Rattle.tours.proofs.laws.parts_balance.Goals as goal
 
