@@ -1,7 +1,7 @@
 -- How large leagues, their seasons and their rules may be.
 use Rattle.std.specs.Prelude.{ℕ}
--- of teams and rounds
-pub use Rattle.sets.specs.Limits.{min_teams, max_teams, max_rounds, round_count}
+-- of teams, rounds and rules
+pub use Rattle.sets.specs.Limits.{min_teams, max_teams, max_rounds, max_rules, round_count}
 
 -- of a league's text
 abbrev pub max_format : ℕ
@@ -21,9 +21,6 @@ max_distance = 1000000
 -- of a hard limit, and of a soft rule
 abbrev pub max_weight : ℕ
 max_weight = 1000000
-
-abbrev pub max_rules : ℕ
-max_rules = 256
 
 -- the numbers of a rule
 abbrev pub max_count : ℕ

@@ -21,4 +21,4 @@ pub use made::{circular, constant};
 pub use origins::Start;
 pub use reader::read_league;
 pub use rule::{GameList, Pairing, Rule, RuleBody, Side, Weight};
-pub use sets::{PairSet, SlotSet, Slots, TeamSet, Teams};
+pub use sets::{PairSet, RuleSet, Rules, SlotSet, Slots, TeamSet, Teams};

@@ -32,5 +32,5 @@ pub use fairness_rules::Fairness;
 pub use kept_gaps::{KeptGaps, turned_within};
 pub use laws::{deviations_balance, looked_past_stays, nothing_to_alter, untouched_stays};
 pub use parts::deviation_part;
-pub use touched_rules::touches;
+pub use touched_rules::{looks_at_round, touches};
 pub use unaffected_rules::looks_past;

@@ -40,7 +40,7 @@ fn looks_at_team(rule: &Rule, teams: TeamSet) -> bool
 
 /// Whether the rule looks at one of the rounds.
 #[tactic(auto, unfolding(crate::specs::Touches::looks_at_round, crate::specs::Touches::has_touched_slot))]
-fn looks_at_round(rule: &Rule, rounds: SlotSet) -> bool
+pub fn looks_at_round(rule: &Rule, rounds: SlotSet) -> bool
     ensures { result ≡ looks_at_round rule.now.body (has rounds) }
 {
     match &rule.body {

@@ -1,4 +1,4 @@
--- A set of slots by its halves: the numbers below 64, and those from 64 on, each 64 further down.
+-- A set in two words of m bits: the numbers below m, and those from m on, each m further down.
 use Rattle.std.proofs.Common.{◌≡◌, ℕ, ◌+◌, ◌-◌, ◌*◌, ◌^◌, ◌<◌, ◌≤◌, ◌&&◌, ◌==◌, not, bit_and, false}
 use Rattle.std.proofs.Math.Bool.{and-true}
 use Rattle.std.proofs.Common.{sym, ◌∙◌, ap, inl, inr, arith}
@@ -6,7 +6,8 @@ use Rattle.std.proofs.Math.Nat.{mul-lt-mul_of_pos_right}
 use Rattle.std.proofs.lemmas.Bool.{cases_eq, cases_lt, eq-eqb, ne_eqb}
 use Rattle.std.proofs.lemmas.Nat.{pow_pos}
 use Rattle.std.proofs.lemmas.Nat.Bits.{bit_at-zero, bit_at_cat_low, bit_at_cat_high}
-use Rattle.std.specs.Int.{w64, trailing_zeros}
+use Rattle.std.specs.Int.{Width, trailing_zeros}
+use mir.Val.{bits}
 use Rattle.sets.specs.Sets.{has, IsWithoutLowest}
 use Rattle.sets.proofs.LowestBits.{lowest_taken}
 use Rattle.sets.proofs.WalkedSums.{lowest_below}
@@ -74,18 +75,17 @@ lowest_moved set m k rest taken = record {
       | inr other ↦ ne_eqb (i - m) k (λ same. other (omega arith)) ∙ sym (ne_eqb i (m + k) other)
     ]
 
--- what a step of the walk does to the set of those left, which is (high * 2 ^ 64 + low) * 2 ^ base
+-- what a step of the walk does to the set of those left, which is (high * 2 ^ w + low) * 2 ^ base for words of w bits
 
-pub earliest_taken : (low high base : ℕ) → 0 < low → low < 2 ^ 64
-    → IsWithoutLowest ((high * 2 ^ 64 + low) * 2 ^ base) (base + trailing_zeros w64 low)
-    ((high * 2 ^ 64 + bit_and low (low - 1)) * 2 ^ base)
-earliest_taken low high base some fits =
-    let k = trailing_zeros w64 low in
+pub earliest_taken : (w : Width) (low high base : ℕ) → 0 < low → low < 2 ^ bits w
+    → IsWithoutLowest ((high * 2 ^ bits w + low) * 2 ^ base) (base + trailing_zeros w low)
+    ((high * 2 ^ bits w + bit_and low (low - 1)) * 2 ^ base)
+earliest_taken w low high base some fits =
+    let k = trailing_zeros w low in
     let rest = bit_and low (low - 1) in
-    lowest_moved (high * 2 ^ 64 + low) base k (high * 2 ^ 64 + rest)
-    (lowest_of_low_half high low 64 k rest fits (lowest_taken w64 low some fits))
+    lowest_moved (high * 2 ^ bits w + low) base k (high * 2 ^ bits w + rest)
+    (lowest_of_low_half high low (bits w) k rest fits (lowest_taken w low some fits))
 
 -- the high half alone, once the low half has none
-pub upper_half : (low high base : ℕ) → low ≡ 0 → base ≡ 0
-    → (high * 2 ^ 64 + low) * 2 ^ base ≡ (0 * 2 ^ 64 + high) * 2 ^ 64
-upper_half low high base none first = rw (none, first) (omega arith)
+pub upper_half : (m low high base : ℕ) → low ≡ 0 → base ≡ 0 → (high * 2 ^ m + low) * 2 ^ base ≡ (0 * 2 ^ m + high) * 2 ^ m
+upper_half m low high base none first = rw (none, first) (omega arith)

@@ -6,5 +6,6 @@ mod Halves
 mod SetBits
 mod SetRows
 mod SetWords
+mod RuleWords
 mod PairSets
 pub mod ForCallers

@@ -1,4 +1,4 @@
--- How many teams and rounds there are at most.
+-- How many teams, rounds and rules there are at most.
 use Rattle.std.specs.Prelude.{ℕ, ◌-◌, ◌*◌}
 
 abbrev pub min_teams : ℕ
@@ -14,3 +14,7 @@ max_rounds = 78
 -- how many rounds n teams play: each meets each other twice
 abbrev pub round_count : ℕ → ℕ
 round_count n = 2 * (n - 1)
+
+-- of a league
+abbrev pub max_rules : ℕ
+max_rules = 256

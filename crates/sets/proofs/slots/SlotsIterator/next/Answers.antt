@@ -1,4 +1,5 @@
 use Rattle.std.proofs.Common.{◌≡◌, ◌+◌, ◌*◌, ◌^◌, ◌<◌, sym, ◌∙◌, arith, rules}
+use Rattle.std.specs.Int.{w64}
 use Rattle.sets.proofs.Halves.{earliest_taken, upper_half}
 use Rattle.sets.proofs.slots.SlotsIterator.next.Goals as goal
 use Rattle.sets.proofs.slots.SlotsIterator.next.Goals.{then-self-eq0+else-self-eq0-2, else-self-eq0}
@@ -12,11 +13,11 @@ returns-clause-steps c =
       | then-self-eq0+else-self-eq0-2 w ↦
           let old = c.self.inside in
           let some : 0 < old.high = omega arith in
-          let whole = upper_half old.low old.high old.base w.if-self-eq0.true (c.self.invariant.1 some) in
+          let whole = upper_half 64 old.low old.high old.base w.if-self-eq0.true (c.self.invariant.1 some) in
           rw w.self-inside-is (some, omega arith, sym c.self.view_is ∙ whole)
       | else-self-eq0 w ↦ rw w.self-inside-is (omega arith, omega arith, sym c.self.view_is)
     ] in
-    rw left.2 (earliest_taken now.low now.high now.base left.0 left.1)
+    rw left.2 (earliest_taken w64 now.low now.high now.base left.0 left.1)
 
 pub returns-then-self-eq0-2 : goal.returns-then-self-eq0-2
 returns-then-self-eq0-2 c = search rules

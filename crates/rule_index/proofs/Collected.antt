@@ -1,0 +1,111 @@
+-- Sets that a loop over the rules of a league makes.
+use Rattle.std.proofs.Common.{◌≡◌, ℕ, ◌+◌, ◌/◌, ◌%◌, ◌^◌, ◌<◌, ◌≤◌, ◌&&◌, ◌||◌, ◌==◌, nat_lt, Bool, true, false, List, [], ◌∷◌, ◌++◌, length, get_or, Some, slice_get}
+use Rattle.std.proofs.Common.{refl, sym, ◌∙◌, ap, inl, inr, arith, subst}
+use Rattle.std.specs.Option.{option_map_or}
+use Rattle.std.specs.Int.{bit_at}
+use Rattle.std.proofs.lemmas.Bool.{cases_eq, cases_lt, eq-eqb, ne_eqb, lt-ltb, le-ltb}
+use Rattle.std.proofs.lemmas.Nat.{pow_pos, mod_below, shr_split}
+use Rattle.std.proofs.lemmas.Nat.Bits.{bit_at_cat_low}
+use Rattle.std.proofs.lemmas.List.{length_push, get_or_append_left}
+use Rattle.std.proofs.Math.Seq.{get_or-append_seam}
+use Rattle.std.proofs.lemmas.Option.{slice_get_past, slice_get_within, slice_get-get_or, get_or_from_slice_get}
+use Rattle.league.specs.Sets.{has, IsBelow}
+use Rattle.league.specs.declared.rule.Rule.{Rule}
+use Rattle.league.specs.declared.rule.RuleBody.{RuleBody}
+use Rattle.league.proofs.ForCallers.{has_beyond, same_sets}
+use Rattle.rule_index.specs.Alterable.{passes_at}
+
+pub passes_past : (rules : List Rule) (test : RuleBody → Bool) (i : ℕ) → length rules ≤ i → passes_at rules test i ≡ false
+unfolding passes_at
+passes_past rules test i past = ap (λ o. option_map_or (λ (rule : Rule). test rule.body) o false) (slice_get_past rules i past)
+
+passes_here : (rules : List Rule) (test : RuleBody → Bool) (i : ℕ) (rule : Rule) → slice_get rules i ≡ Some rule →
+    passes_at rules test i ≡ test rule.body
+unfolding passes_at
+passes_here rules test i rule is = ap (λ o. option_map_or (λ (r : Rule). test r.body) o false) is
+
+-- of the first rules those that pass
+pub record IsCollected (rules : List Rule) (test : RuleBody → Bool) (count set : ℕ) : Type 0 where
+  pub members : (k : ℕ) → has set k ≡ (nat_lt k count && passes_at rules test k)
+
+pub collected_none : (rules : List Rule) (test : RuleBody → Bool) (set : ℕ) → ((k : ℕ) → has set k ≡ false) →
+    IsCollected rules test 0 set
+collected_none rules test set empty = record {
+  members = λ k. empty k ∙ sym (ap (λ b. b && passes_at rules test k) (le-ltb k 0 (omega arith)));
+}
+
+pub collected_more : (rules : List Rule) (test : RuleBody → Bool) (i set more : ℕ) (rule : Rule) (belongs : Bool) →
+    IsCollected rules test i set → slice_get rules i ≡ Some rule → belongs ≡ test rule.body →
+    ((k : ℕ) → has more k ≡ ((k == i && belongs) || has set k)) → IsCollected rules test (i + 1) more
+collected_more rules test i set more rule belongs so_far is tested added = record {
+  members = λ k. added k ∙ ap (λ b. (k == i && belongs) || b) (so_far.members k) ∙ at k;
+}
+  where
+    or_none : (b c : Bool) → ((true && b) || (false && c)) ≡ (true && b)
+    or_none true c = refl
+    or_none false c = refl
+
+    at : (k : ℕ) → ((k == i && belongs) || (nat_lt k i && passes_at rules test k)) ≡ (nat_lt k (i + 1) && passes_at rules test k)
+    at k = elim (cases_eq k i) [
+      | inl here ↦
+          let passes : belongs ≡ passes_at rules test k =
+          tested ∙ sym (passes_here rules test i rule is) ∙ ap (λ j. passes_at rules test j) (sym here) in
+          ap (λ b. (b && belongs) || (nat_lt k i && passes_at rules test k)) (eq-eqb k i here) ∙
+          ap (λ b. (true && belongs) || (b && passes_at rules test k)) (le-ltb k i (omega arith)) ∙
+          or_none belongs (passes_at rules test k) ∙ ap (λ b. true && b) passes ∙
+          ap (λ b. b && passes_at rules test k) (sym (lt-ltb k (i + 1) (omega arith)))
+      | inr other ↦
+          ap (λ b. (b && belongs) || (nat_lt k i && passes_at rules test k)) (ne_eqb k i other) ∙
+          ap (λ b. b && passes_at rules test k) (one_more k other)
+    ]
+      where
+        one_more : (k : ℕ) → (k ≡ i → ⊥) → nat_lt k i ≡ nat_lt k (i + 1)
+        one_more k other = elim (cases_lt k i) [
+          | inl lt ↦ lt-ltb k i lt ∙ sym (lt-ltb k (i + 1) (omega arith))
+          | inr from ↦ le-ltb k i from ∙ sym (le-ltb k (i + 1) (omega arith))
+        ]
+
+pub collected_all : (rules : List Rule) (test : RuleBody → Bool) (count set : ℕ) → IsCollected rules test count set →
+    count ≡ length rules → (k : ℕ) → has set k ≡ passes_at rules test k
+collected_all rules test count set all whole k = all.members k ∙ elim (cases_lt k count) [
+  | inl inside ↦ ap (λ b. b && passes_at rules test k) (lt-ltb k count inside)
+  | inr past ↦
+      ap (λ b. b && passes_at rules test k) (le-ltb k count past) ∙ sym (passes_past rules test k (omega arith))
+]
+
+-- a set that has no number from m on is below m
+pub IsBelow_without : (m set : ℕ) → ((k : ℕ) → m ≤ k → has set k ≡ false) → IsBelow m set
+IsBelow_without m set none = subst (IsBelow m) (sym same) low
+  where
+    low : set % 2 ^ m < 2 ^ m
+    low = mod_below set (2 ^ m) (pow_pos m)
+
+    same : set ≡ set % 2 ^ m
+    same = same_sets set (set % 2 ^ m) (λ k. elim (cases_lt k m) [
+      | inl lt ↦
+          ap (λ n. n == 1) (ap (λ n. bit_at n k) (sym (shr_split set m)) ∙ bit_at_cat_low (set / 2 ^ m) m (set % 2 ^ m) k lt)
+      | inr past ↦ none k past ∙ sym (has_beyond m (set % 2 ^ m) k low past)
+    ])
+
+-- what holds of each row of a list, and of one more
+pub each_row_more : {X : Type 0} (P : ℕ → X → Type 0) (rows : List X) (row : X) →
+    ((k : ℕ) (x : X) → slice_get rows k ≡ Some x → P k x) → P (length rows) row →
+    (k : ℕ) (x : X) → slice_get (rows ++ row ∷ []) k ≡ Some x → P k x
+each_row_more P rows row each last k x is =
+    elim (cases_lt k (length rows)) [
+      | inl before ↦
+          each k x (slice_get-get_or rows k x before ∙
+          ap Some (sym (get_or_append_left rows (row ∷ []) x k before) ∙ get_or_from_slice_get (rows ++ row ∷ []) k x x is))
+      | inr from ↦
+          let within : k < length (rows ++ row ∷ []) = slice_get_within (rows ++ row ∷ []) k x is in
+          let here : k ≡ length rows = omega (arith, within, length_push rows row) in
+          let same : row ≡ x =
+          sym (get_or-append_seam rows row [] x) ∙ ap (λ i. get_or (rows ++ row ∷ []) i x) (sym here) ∙
+          get_or_from_slice_get (rows ++ row ∷ []) k x x is in
+          subst (λ i. P i x) (sym here) (subst (P (length rows)) same last)
+    ]
+
+pub no_rows : {X : Type 0} (P : ℕ → X → Type 0) (rows : List X) → rows ≡ [] → (k : ℕ) (x : X) → slice_get rows k ≡ Some x → P k x
+no_rows P rows none k x is =
+    let within : k < length rows = slice_get_within rows k x is in
+    let empty : length rows ≡ 0 = ap length none in absurd (omega (arith, within, empty))
