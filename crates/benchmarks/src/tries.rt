@@ -2,13 +2,14 @@
 //! Otherwise the schedule is as it was, and the move counts as withdrawn.
 
 ghost use Rattle.std.specs.Prelude.{◌≡◌, ◌≤◌};
+ghost use Rattle.costs.specs.Evaluators.{IsEvaluatorOf};
 ghost use Rattle.league.specs.League.{teams};
 ghost use Rattle.league.specs.Limits.{max_teams};
 ghost use Rattle.search.specs.Steps.{IsKnown};
 
 use crate::kind::Kind;
 use crate::plan::Plan;
-use costs::{Attempt, Cost, KeptGaps, cost_of, make_within};
+use costs::{Attempt, Cost, Evaluator, cost_of, make_within};
 use fixtures::Schedule;
 use league::League;
 use league::limits::round_count;
@@ -100,7 +101,7 @@ pub fn try_moves(schedule: &mut Schedule, league: &League, tried: Tried, plan: P
     let cost = cost_of(schedule, league);
     let score = cost.score(league);
     let mut known = Known { cost, score };
-    let mut gaps = KeptGaps::new();
+    let mut evaluator = Evaluator::new(league);
     let mut kept = 0;
     let mut withdrawn = 0;
     for index in 0..plan.count {
@@ -108,7 +109,7 @@ pub fn try_moves(schedule: &mut Schedule, league: &League, tried: Tried, plan: P
             mv: tried.nth(&mut generator, index, teams),
             slack: plan.slack_at(index),
         };
-        match try_move(schedule, league, &mut gaps, trial, &mut known) {
+        match try_move(schedule, league, &mut evaluator, trial, &mut known) {
             TryEnd::Kept => kept += 1,
             TryEnd::Withdrawn => withdrawn += 1,
             TryEnd::Refused => {}
@@ -125,12 +126,14 @@ pub fn try_moves(schedule: &mut Schedule, league: &League, tried: Tried, plan: P
 fn try_move(
     schedule: &mut Schedule,
     league: &League,
-    gaps: &mut KeptGaps,
+    evaluator: &mut Evaluator,
     trial: Trial,
     known: &mut Known,
 ) -> TryEnd
     requires same_size { teams league.now ≡ schedule.old.teams }
+    requires evaluator { IsEvaluatorOf league.now.rules evaluator.old }
     requires known { IsKnown league.now schedule.old known.old.cost known.old.score }
+    ensures evaluator { evaluator.new ≡ evaluator.old }
     ensures same_size { schedule.new.teams ≡ schedule.old.teams }
     ensures known { IsKnown league.now schedule.new known.new.cost known.new.score }
 {
@@ -145,7 +148,7 @@ fn try_move(
         weight: league.hard_weight(),
         most: known.score.saturating_add(slack),
     };
-    let Some(cost) = make_within(schedule, league, gaps, &attempt) else {
+    let Some(cost) = make_within(schedule, league, evaluator, &attempt) else {
         return TryEnd::Withdrawn;
     };
     let score = cost.score(league);

@@ -1,5 +1,5 @@
 -- What the last rule of class FA2 adds to the score, and how it is told.
-use Rattle.std.proofs.Common.{◌≡◌, ℕ, zero, suc, ◌+◌, ◌*◌, ◌/◌, ◌≤◌, ◌&&◌, Bool, true, false, if◌then◌else◌, length}
+use Rattle.std.proofs.Common.{◌≡◌, ℕ, zero, suc, ◌+◌, ◌*◌, ◌/◌, ◌<◌, ◌≤◌, ◌&&◌, Bool, true, false, if◌then◌else◌, length}
 use Rattle.std.proofs.Common.{nat_le, inl, inr, List, slice_get, Option, Some, None, refl, sym, ap, ◌∙◌, arith}
 use Rattle.std.proofs.Math.Nat.{div-lt_iff_lt-mul, le-div_iff_mul-le}
 use Rattle.std.proofs.lemmas.Bool.{cases_Bool, cases_lt, le-leb, lt-leb}
@@ -17,9 +17,10 @@ use Rattle.robinx.specs.Deviations.{deviation}
 use Rattle.robinx.specs.Parts.{can_alter, changing_terms, deviation_part, tells_apart}
 use Rattle.robinx.specs.Touches.{has_touched_team, has_touched_until, looks_at_round, looks_at_team, touches}
 use Rattle.robinx.specs.declared.fairness_rules.Fairness.{Fairness}
+use Rattle.rule_index.specs.Alterable.{passes_at}
 use Rattle.costs.specs.Costs.{cost_of, hard_penalty, soft_penalty, score_by}
-use Rattle.costs.specs.CostParts.{fairness_part, is_fairness, last_fairness, later_fairness}
-use Rattle.costs.specs.CostParts.{rule_part, rules_part, score_part, score_weight, IsRest}
+use Rattle.costs.specs.Evaluators.{is_fairness, last_fairness}
+use Rattle.costs.specs.CostParts.{fairness_part, rule_part, rules_part, score_part, scored_part, score_weight, IsRest}
 use Rattle.costs.specs.declared.cost.Cost.{Cost}
 use Rattle.costs.specs.declared.scope.Scope.{Scope}
 
@@ -30,29 +31,40 @@ by_weight : (hard_weight : ℕ) (weight : Weight) (part : ℕ) →
 by_weight hard_weight Hard part = omega arith
 by_weight hard_weight (Soft weight) part = omega arith
 
-later_adds : (scope : Scope) (g : Games) (rule earlier : Option Rule) (hard soft : ℕ) →
-    score_part scope g earlier ≤ scope.attempt.weight * hard + soft →
-    score_part scope g (later_fairness rule earlier) ≤
-    scope.attempt.weight * (hard + rule_part hard_penalty scope.main scope.turning g rule) +
-    (soft + rule_part soft_penalty scope.main scope.turning g rule)
-later_adds scope g None earlier hard soft least = omega (arith, least)
-later_adds scope g (Some rule) earlier hard soft least = elim (cases_Bool (is_fairness rule.body)) [
-  | inl fair ↦
-      rw fair (omega (
-        arith,
-        by_weight scope.attempt.weight rule.weight (deviation_part g scope.main.teams scope.main.rounds scope.turning rule.body),
-      ))
-  | inr other ↦ rw other (omega (arith, least))
-]
+one_adds : (scope : Scope) (g : Games) (rule : Option Rule) →
+    scored_part scope g rule ≤
+    scope.attempt.weight * rule_part hard_penalty scope.main scope.turning g rule + rule_part soft_penalty scope.main scope.turning g rule
+one_adds scope g None = omega arith
+one_adds scope g (Some rule) =
+    omega (
+      arith,
+      by_weight scope.attempt.weight rule.weight (deviation_part g scope.main.teams scope.main.rounds scope.turning rule.body),
+    )
 
 last_adds : (scope : Scope) (g : Games) (rules : List Rule) (n : ℕ) →
-    score_part scope g (last_fairness rules n) ≤
+    score_part rules scope g (last_fairness rules n) ≤
     scope.attempt.weight * sum_below n (λ i. rule_part hard_penalty scope.main scope.turning g (slice_get rules i)) +
     sum_below n (λ i. rule_part soft_penalty scope.main scope.turning g (slice_get rules i))
 unfolding last_fairness sum_below
 last_adds scope g rules zero = omega arith
-last_adds scope g rules (suc n) =
-    omega (arith, later_adds scope g (slice_get rules n) (last_fairness rules n) _ _ (last_adds scope g rules n))
+last_adds scope g rules (suc n) = elim (cases_Bool (passes_at rules is_fairness n)) [
+  | inl fair ↦ rw fair (omega (arith, one_adds scope g (slice_get rules n)))
+  | inr other ↦ rw other (omega (arith, last_adds scope g rules n))
+]
+
+-- it is one of the rules, and of this class
+pub record IsFound (rules : List Rule) (i : ℕ) : Type 0 where
+  pub below : i < length rules
+  pub passes : passes_at rules is_fairness i ≡ true
+
+pub found_last : (rules : List Rule) (n i : ℕ) → n ≤ length rules → last_fairness rules n ≡ Some i → IsFound rules i
+unfolding last_fairness
+found_last rules zero i within ()
+found_last rules (suc n) i within is = by_test (passes_at rules is_fairness n) refl is
+  where
+    by_test : (b : Bool) → passes_at rules is_fairness n ≡ b → (if b then Some n else last_fairness rules n) ≡ Some i → IsFound rules i
+    by_test true passes refl = record { below = within; passes = passes }
+    by_test false passes e = found_last rules n i (omega arith) e
 
 -- so with what that rule adds the rest scores no more than the whole cost
 pub fairness_scores : (l : LeagueData) (scope : Scope) (g : Games) (rest : Cost) → IsRest l scope g rest →
@@ -84,15 +96,15 @@ within_weight weight number left least = elim (cases_lt left (number * weight)) 
 ]
 
 -- So it fits if the deviation is at most what is left for each unit of the weight, and if the exchange touches nothing of it.
-module _ (l : LeagueData) (scope : Scope) (g : Games) (rule : Rule) (asked : Fairness)
-    (last : Some rule ≡ last_fairness l.rules (length l.rules)) (is : rule.body ≡ Fa2 asked.teams asked.slots asked.most) (left : ℕ)
-    (main : TouchedCells) (same : main ≡ scope.main) where
+module _ (l : LeagueData) (scope : Scope) (g : Games) (i : ℕ) (rule : Rule) (asked : Fairness)
+    (last : last_fairness l.rules (length l.rules) ≡ Some i) (at : slice_get l.rules i ≡ Some rule)
+    (is : rule.body ≡ Fa2 asked.teams asked.slots asked.most) (left : ℕ) (main : TouchedCells) (same : main ≡ scope.main) where
   part_is : fairness_part l scope g ≡
       score_weight scope.attempt.weight rule.weight *
       (if touches rule.body (has scope.turning) (has main.rounds) then deviation g (Fa2 asked.teams asked.slots asked.most) else 0)
   unfolding deviation_part can_alter looks_at_round tells_apart changing_terms touches looks_at_team
   part_is =
-      ap (score_part scope g) (sym last) ∙
+      ap (score_part l.rules scope g) last ∙ ap (scored_part scope g) at ∙
       rw is (rw same (ap (λ n. score_weight scope.attempt.weight rule.weight * n)
       (both_asked (has_touched_until asked.slots (has scope.main.rounds)) (has_touched_team asked.teams (has scope.turning)) _)))
 

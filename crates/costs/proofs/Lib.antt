@@ -1,6 +1,7 @@
 pub mod Scores
 pub mod Parts
 pub mod PartLimits
+pub mod Walked
 pub mod Partial
 pub mod LastFairness
 pub mod ForCallers

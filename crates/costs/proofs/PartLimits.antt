@@ -86,11 +86,11 @@ term_le_sum n k f below = omega (arith, sum_below_more k f, sum_below_grows (k +
 
 -- A rule that a schedule of this cost can't break has nothing to alter.
 
-hard_nothing : (weight : Weight) → hard_penalty weight 0 ≡ 0
+pub hard_nothing : (weight : Weight) → hard_penalty weight 0 ≡ 0
 hard_nothing Hard = refl
 hard_nothing (Soft weight) = refl
 
-soft_nothing : (weight : Weight) → soft_penalty weight 0 ≡ 0
+pub soft_nothing : (weight : Weight) → soft_penalty weight 0 ≡ 0
 soft_nothing Hard = refl
 soft_nothing (Soft weight) = omega arith
 

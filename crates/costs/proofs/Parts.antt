@@ -88,7 +88,7 @@ rule_balances penalty even g scope is (Some rule) for =
     scope.main.teams
     scope.main.rounds scope.turning (around g scope is) (sides g scope is) rule.body (for rule refl))
 
-rule_for : (l : LeagueData) (g : Games) (i : ℕ) → IsLeague l → teams l ≡ g.teams → (rule : Rule) →
+pub rule_for : (l : LeagueData) (g : Games) (i : ℕ) → IsLeague l → teams l ≡ g.teams → (rule : Rule) →
     slice_get l.rules i ≡ Some rule → IsBodyFor g.teams rule.body
 rule_for l g i is same rule at =
     let for : IsRuleFor (teams l) rule =

@@ -4,7 +4,7 @@ use Rattle.std.specs.Prelude.{◌≡◌, ℕ, zero, suc, ◌+◌, ◌*◌, ◌<�
 use Rattle.std.specs.Prelude.{List, length, slice_get, Option, Some, None}
 use Rattle.league.specs.League.{LeagueData, teams}
 use Rattle.league.specs.RuleLimits.{IsRuleFor}
-use Rattle.league.specs.Sets.{has}
+use Rattle.league.specs.Sets.{has, IsBelow}
 use Rattle.league.specs.Sums.{sum_below}
 use Rattle.league.specs.declared.rule.Rule.{Rule}
 use Rattle.league.specs.declared.rule.RuleBody.{RuleBody}
@@ -19,8 +19,11 @@ use Rattle.tours.specs.Tours.{travel}
 use Rattle.tours.specs.Runs.{runs_over}
 use Rattle.tours.specs.Repeats.{repeats}
 use Rattle.tours.specs.Phased.{unphased_part}
+use Rattle.robinx.specs.Laws.{SidesAreMain}
 use Rattle.robinx.specs.Parts.{deviation_part}
+use Rattle.rule_index.specs.Alterable.{is_alterable_at}
 use Rattle.robinx.specs.declared.fairness_rules.Fairness.{Fairness}
+use Rattle.costs.specs.Evaluators.{last_fairness}
 use Rattle.costs.specs.Costs.{cost_of, hard_penalty, near_cost, soft_penalty, score_limit, where_phased}
 use Rattle.costs.specs.declared.cost.Cost.{Cost}
 use Rattle.costs.specs.declared.penalties.Penalties.{Penalties}
@@ -31,6 +34,13 @@ pub record IsScope (g : Games) (scope : Scope) : Type 0 where
   pub can_be_made : IsExchange g scope.attempt.exchange.now
   pub main : scope.main ≡ main_cells scope.attempt.exchange.now
   pub turning : (t : ℕ) → has scope.turning t ≡ turning_team g scope.attempt.exchange.now t
+
+-- what the scope says of the league's rules: those that the exchange can alter, and the last of class FA2
+pub record KnowsRules (l : LeagueData) (scope : Scope) : Type 0 where
+  pub sides : SidesAreMain scope.main.teams scope.turning
+  pub below : IsBelow (length l.rules) scope.rules
+  pub rules : (i : ℕ) → has scope.rules i ≡ is_alterable_at l.rules scope.main.teams scope.main.rounds i
+  pub fairness : scope.fairness ≡ last_fairness l.rules (length l.rules)
 
 -- the hard costs of every league: runs and repeats
 abbrev pub games_cost : LeagueData → Games → ℕ
@@ -90,33 +100,18 @@ abbrev pub score_weight : ℕ → Weight → ℕ
 score_weight hard_weight Hard = hard_weight
 score_weight hard_weight (Soft weight) = weight
 
--- whether the rule is of class FA2
-unfoldable pub is_fairness : RuleBody → Bool
-is_fairness (Fa2 teams slots most) = true
-is_fairness body = false
-
--- the rule that stands somewhere if it is of class FA2, and else an earlier one
-abbrev pub later_fairness : Option Rule → Option Rule → Option Rule
-later_fairness None earlier = earlier
-later_fairness (Some rule) earlier = if is_fairness rule.body then Some rule else earlier
-
--- the last rule of class FA2, of the first n
-unfoldable pub last_fairness : List Rule → ℕ → Option Rule
-last_fairness rules zero = None
-last_fairness rules (suc n) = later_fairness (slice_get rules n) (last_fairness rules n)
-
--- the rule is one for the league, and asks this
-pub record IsFound (l : LeagueData) (rule : Rule) (asked : Fairness) : Type 0 where
-  pub body : rule.body ≡ Fa2 asked.teams asked.slots asked.most
-  pub range : IsRuleFor (teams l) rule
-
--- what an exchange can alter of what the rule adds to the score
-abbrev pub score_part : Scope → Games → Option Rule → ℕ
-score_part scope g None = 0
-score_part scope g (Some rule) =
+-- what an exchange can alter of what one rule adds to the score, if there is one
+abbrev pub scored_part : Scope → Games → Option Rule → ℕ
+scored_part scope g None = 0
+scored_part scope g (Some rule) =
     score_weight scope.attempt.weight rule.weight *
     deviation_part g scope.main.teams scope.main.rounds scope.turning rule.body
 
+-- what an exchange can alter of what the rule at an index adds to the score
+abbrev pub score_part : List Rule → Scope → Games → Option ℕ → ℕ
+score_part rules scope g None = 0
+score_part rules scope g (Some i) = scored_part scope g (slice_get rules i)
+
 -- the same of the last rule of class FA2
 abbrev pub fairness_part : LeagueData → Scope → Games → ℕ
-fairness_part l scope g = score_part scope g (last_fairness l.rules (length l.rules))
+fairness_part l scope g = score_part l.rules scope g (last_fairness l.rules (length l.rules))

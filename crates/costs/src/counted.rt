@@ -8,7 +8,7 @@ ghost use Rattle.league.specs.Sets.{has};
 ghost use Rattle.tours.specs.Phased.{unphased_part};
 ghost use Rattle.fixtures.specs.Exchanges.{exchanged_by};
 ghost use Rattle.costs.specs.Costs.{cost_of, score_by, where_phased, IsCostWithin};
-ghost use Rattle.costs.specs.CostParts.{IsRest, IsScope, IsTold};
+ghost use Rattle.costs.specs.CostParts.{IsRest, IsScope, IsTold, KnowsRules};
 
 use crate::cost::Cost;
 use crate::fairness::leaves_room;
@@ -30,6 +30,7 @@ fn rest_of(
 ) -> Cost
     requires same_size { teams league.now ≡ schedule.now.teams }
     requires scope { IsScope schedule.now scope.now }
+    requires rules { KnowsRules league.now scope.now }
     requires known { scope.now.attempt.known ≡ cost_of league.now schedule.now }
     requires told { IsTold league.now schedule.now scope.now.attempt.exchange.now told }
     ensures { IsRest league.now scope.now (exchanged_by schedule.now scope.now.attempt.exchange.now) result }
@@ -58,6 +59,7 @@ pub(crate) fn rest_within(
 ) -> Option<Cost>
     requires same_size { teams league.now ≡ schedule.now.teams }
     requires scope { IsScope schedule.now scope.now }
+    requires rules { KnowsRules league.now scope.now }
     requires known { scope.now.attempt.known ≡ cost_of league.now schedule.now }
     requires weight { 1 ≤ scope.now.attempt.weight }
     requires told { IsTold league.now schedule.now scope.now.attempt.exchange.now told }
@@ -76,7 +78,7 @@ pub(crate) fn rest_within(
 }
 
 /// The cost after an exchange, of which the rest is known, if its score is at most the greatest that the attempt allows. The rules
-/// are counted one after another, until the score is above that.
+/// that the exchange can alter are counted one after another, until the score is above that.
 pub(crate) fn whole_within(
     schedule: &Schedule,
     league: &League,
@@ -85,6 +87,7 @@ pub(crate) fn whole_within(
     rest: Cost,
 ) -> Option<Cost>
     requires same_size { teams league.now ≡ schedule.now.teams }
+    requires rules { KnowsRules league.now scope.now }
     requires rest { IsRest league.now scope.now schedule.now rest }
     ensures { IsCostWithin league.now scope.now.attempt.weight scope.now.attempt.most schedule.now result }
 {
@@ -94,7 +97,7 @@ pub(crate) fn whole_within(
         hard: rest.hard + phases_part(schedule, league, scope.main),
         ..rest
     };
-    for i in 0..league.rule_count() {
+    for i in scope.rules {
         if cost.score_by(weight) > most {
             return None;
         }

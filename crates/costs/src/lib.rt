@@ -7,6 +7,7 @@
 mod attempt;
 mod cost;
 mod counted;
+mod evaluator;
 mod fairness;
 mod made_exchanges;
 mod penalties;
@@ -17,6 +18,6 @@ mod whole_cost;
 
 pub use attempt::Attempt;
 pub use cost::Cost;
+pub use evaluator::Evaluator;
 pub use made_exchanges::{make_at_cost, make_within};
-pub use robinx::KeptGaps;
 pub use whole_cost::cost_of;

@@ -4,26 +4,28 @@ ghost use Rattle.std.specs.Prelude.{◌≡◌, ◌<◌, ◌≤◌, IfSome, Match
 ghost use Rattle.league.specs.League.{teams};
 ghost use Rattle.fixtures.specs.Exchanges.{exchanged_by, IsExchange};
 ghost use Rattle.costs.specs.Costs.{cost_of, score_of, score_limit, IsCostWithin};
+ghost use Rattle.costs.specs.Evaluators.{IsEvaluatorOf};
 
 use crate::attempt::Attempt;
 use crate::cost::Cost;
 use crate::counted::{rest_within, whole_within};
+use crate::evaluator::Evaluator;
 use crate::scope::Scope;
 use crate::told_cost::told_within;
 use fixtures::{Exchange, Schedule};
 use league::League;
-use robinx::KeptGaps;
 
 /// Makes an exchange on a schedule of known cost, and gives the cost after. Made once more, it gives the schedule back.
-/// What FA2 counts is kept in `gaps`. Takes no memory.
+/// What FA2 counts is kept in the evaluator. Takes no memory.
 pub fn make_at_cost(
     schedule: &mut Schedule,
     league: &League,
-    gaps: &mut KeptGaps,
+    evaluator: &mut Evaluator,
     exchange: &Exchange,
     known: Cost,
 ) -> Cost
     requires same_size { teams league.now ≡ schedule.old.teams }
+    requires evaluator { IsEvaluatorOf league.now.rules evaluator.old }
     requires can_be_made { IsExchange schedule.old exchange.now }
     requires known { known ≡ cost_of league.now schedule.old }
     ensures made { schedule.new ≡ exchanged_by schedule.old exchange.now }
@@ -31,6 +33,7 @@ pub fn make_at_cost(
     ensures back { exchanged_by schedule.new exchange.now ≡ schedule.old }
     ensures value { result ≡ cost_of league.now schedule.new }
     ensures small { score_of league.now result < score_limit }
+    ensures same { evaluator.new ≡ evaluator.old }
 {
     prove_eq!(league.teams(), schedule.teams());
     let attempt = Attempt {
@@ -39,20 +42,21 @@ pub fn make_at_cost(
         weight: 1,
         most: u64::MAX,
     };
-    make_within(schedule, league, gaps, &attempt).unwrap()
+    make_within(schedule, league, evaluator, &attempt).unwrap()
 }
 
 /// Makes the exchange of an attempt as `make_at_cost` does if the score after by the attempt's weight is at most the greatest allowed, and
 /// gives the cost after. Otherwise the schedule is left as it was, and what costs little to count is counted first: travel, runs and repeats,
-/// then some rules on fairness, for all of which nothing is made, and last the other rules. What FA2 counts is kept in `gaps`. Takes no
+/// then some rules on fairness, for all of which nothing is made, and last the other rules. What FA2 counts is kept in the evaluator. Takes no
 /// memory.
 pub fn make_within(
     schedule: &mut Schedule,
     league: &League,
-    gaps: &mut KeptGaps,
+    evaluator: &mut Evaluator,
     attempt: &Attempt<'_>,
 ) -> Option<Cost>
     requires same_size { teams league.now ≡ schedule.old.teams }
+    requires evaluator { IsEvaluatorOf league.now.rules evaluator.old }
     requires can_be_made { IsExchange schedule.old attempt.now.exchange.now }
     requires known { attempt.now.known ≡ cost_of league.now schedule.old }
     requires weight { 1 ≤ attempt.now.weight }
@@ -62,6 +66,7 @@ pub fn make_within(
     ensures again { IsExchange schedule.new attempt.now.exchange.now }
     ensures back { IfSome result (λ cost. exchanged_by schedule.new attempt.now.exchange.now ≡ schedule.old) }
     ensures small { IfSome result (λ cost. score_of league.now cost < score_limit) }
+    ensures same { evaluator.new ≡ evaluator.old }
 {
     prove_eq!(league.teams(), schedule.teams());
     let told = told_within(schedule, league, attempt)?;
@@ -73,10 +78,10 @@ pub fn make_within(
         exchange.make(schedule);
         return Some(told);
     }
-    let scope = Scope::of(attempt, schedule);
-    let rest = rest_within(schedule, league, gaps, &scope, told)?;
+    let scope = Scope::of(attempt, schedule, evaluator);
+    let rest = rest_within(schedule, league, &mut evaluator.gaps, &scope, told)?;
     exchange.make(schedule);
-    let cost = whole_within(schedule, league, gaps, &scope, rest);
+    let cost = whole_within(schedule, league, &mut evaluator.gaps, &scope, rest);
     if cost.is_none() {
         exchange.make(schedule);
     }

@@ -5,7 +5,7 @@ ghost use Rattle.league.specs.League.{teams};
 ghost use Rattle.league.specs.Limits.{deviation_limit, max_rules, max_weight};
 ghost use Rattle.league.specs.RuleLimits.{IsBodyFor};
 ghost use Rattle.costs.specs.Costs.{cost_of, hard_penalty, soft_penalty, sum_over_rules};
-ghost use Rattle.costs.specs.CostParts.{breakable_part, rules_part};
+ghost use Rattle.costs.specs.CostParts.{breakable_part, rules_part, KnowsRules};
 
 use crate::penalties::Penalties;
 use crate::scope::Scope;
@@ -32,8 +32,7 @@ pub(crate) fn costs_of_rules(schedule: &Schedule, league: &League) -> Penalties
     costs
 }
 
-/// What of that the exchange of the scope can alter. A rule isn't counted if the known cost has nothing of its kind.
-#[tactic(auto, using(league::proofs::ForCallers::sums), unfolding(crate::specs::CostParts::rules_part))]
+/// What of that the exchange of the scope can alter. A rule isn't counted if it can't alter it, or if the known cost has nothing of its kind.
 pub(crate) fn parts_of_rules(
     schedule: &Schedule,
     league: &League,
@@ -41,14 +40,16 @@ pub(crate) fn parts_of_rules(
     scope: &Scope<'_>,
 ) -> Penalties
     requires same_size { teams league.now ≡ schedule.now.teams }
+    requires rules { KnowsRules league.now scope.now }
     requires known { scope.now.attempt.known ≡ cost_of league.now schedule.now }
     ensures hard { result.hard ≡ rules_part hard_penalty league.now.rules scope.now.main scope.now.turning schedule.now }
     ensures soft { result.soft ≡ rules_part soft_penalty league.now.rules scope.now.main scope.now.turning schedule.now }
     ensures hard_most { result.hard ≤ max_rules * deviation_limit }
     ensures soft_most { result.soft ≤ max_rules * (max_weight * deviation_limit) }
 {
+    prove_eq!(league.teams(), schedule.teams());
     let mut costs = Penalties { hard: 0, soft: 0 };
-    for i in 0..league.rule_count() {
+    for i in scope.rules {
         let rule = league.rule(i);
         let part = breakable_part(schedule, rule, gaps, scope);
         let added = Penalties::of_rule(rule.weight, part);

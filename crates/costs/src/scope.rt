@@ -1,12 +1,15 @@
 //! What an exchange can change of a cost that has to be counted.
 
 ghost use Rattle.std.specs.Prelude.{◌≡◌};
+ghost use Rattle.league.specs.League.{LeagueData};
 ghost use Rattle.fixtures.specs.Exchanges.{IsExchange};
-ghost use Rattle.costs.specs.CostParts.{IsScope};
+ghost use Rattle.costs.specs.CostParts.{IsScope, KnowsRules};
+ghost use Rattle.costs.specs.Evaluators.{IsEvaluatorOf};
 
 use crate::attempt::Attempt;
+use crate::evaluator::Evaluator;
 use fixtures::{Schedule, Touched};
-use league::TeamSet;
+use league::{RuleSet, TeamSet};
 
 /// An attempt and what its exchange can change of such a cost, told once on the schedule before it.
 #[derive(Clone, Copy)]
@@ -16,19 +19,27 @@ pub(crate) struct Scope<'a> {
     pub(crate) main: Touched,
     /// The teams whose sides change.
     pub(crate) turning: TeamSet,
+    /// The rules whose deviation can change.
+    pub(crate) rules: RuleSet,
+    /// The last rule of class FA2.
+    pub(crate) fairness: Option<usize>,
 }
 
 impl<'a> Scope<'a> {
     /// The scope of an attempt whose exchange can be made on the schedule.
-    pub(crate) fn of(attempt: &Attempt<'a>, schedule: &Schedule) -> Self
+    pub(crate) fn of(attempt: &Attempt<'a>, schedule: &Schedule, evaluator: &Evaluator) -> Self
         requires { IsExchange schedule.now attempt.now.exchange.now }
         ensures attempt { result.attempt ≡ attempt.now }
         ensures scope { IsScope schedule.now result }
+        ensures rules { (l : LeagueData) → IsEvaluatorOf l.rules evaluator.now → KnowsRules l result }
     {
+        let main = attempt.exchange.main();
         Scope {
             attempt: *attempt,
-            main: attempt.exchange.main(),
+            main,
             turning: attempt.exchange.turning(schedule),
+            rules: evaluator.index.alterable(main),
+            fairness: evaluator.fairness,
         }
     }
 }

@@ -8,7 +8,7 @@ mod steps;
 use crate::best::{Best, keep_best};
 use crate::change::{Change, Entry};
 use crate::pins::Pins;
-use costs::{Cost, KeptGaps, cost_of};
+use costs::{Cost, Evaluator, cost_of};
 use fixtures::Schedule;
 use league::League;
 use std::alloc::{AllocError, Global};
@@ -27,13 +27,14 @@ pub(crate) struct State {
     pub(crate) best: Option<Best>,
     /// The schedule at the best version, if there is one.
     pub(crate) best_schedule: Schedule,
-    /// What FA2 counted last, for the next count. It is large and a board is passed by value, so it lies in a box.
-    pub(crate) gaps: Box<KeptGaps>,
+    /// It is large and a board is passed by value, so it lies in a box.
+    pub(crate) evaluator: Box<Evaluator>,
 }
 
 impl State {
     ghost use Rattle.std.specs.Prelude.{◌≡◌, ◌+◌, ◌^◌, ◌<◌, ◌≤◌, [], length, IfOk};
     ghost use Rattle.costs.specs.Costs.{total_of};
+    ghost use Rattle.costs.specs.Evaluators.{IsEvaluatorOf};
     ghost use Rattle.fixture_board.specs.History.{max_room};
     ghost use Rattle.fixture_board.specs.Kept.{kept_of, entered, HasMemory, FollowsHistory};
 
@@ -44,13 +45,14 @@ impl State {
         ensures room { IfOk result (λ s. s.room ≡ room) }
         ensures memory { IfOk result HasMemory }
         ensures kept { IfOk result (λ s. FollowsHistory league.now (kept_of s)) }
+        ensures evaluator { IfOk result (λ s. IsEvaluatorOf league.now.rules s.evaluator) }
     {
         let history = Vec::with_capacity(alloc, room as usize)?;
         let changes = Vec::with_capacity(alloc, room as usize)?;
         let pins = Pins::of(alloc, league)?;
         let schedule = league.start(alloc)?;
         let mut best_schedule = schedule.duplicate(alloc)?;
-        let gaps = Box::new(alloc, KeptGaps::new())?;
+        let evaluator = Box::new(alloc, Evaluator::new(league))?;
         let cost = cost_of(&schedule, league);
         let mut best = None;
         keep_best(&mut best, &mut best_schedule, &schedule, cost, 0);
@@ -63,7 +65,7 @@ impl State {
             cost,
             best,
             best_schedule,
-            gaps,
+            evaluator,
         })
     }
 
@@ -81,6 +83,7 @@ impl State {
         requires total { total_of self.old.cost < 2 ^ 64 }
         ensures memory { HasMemory self.new }
         ensures entered { kept_of self.new ≡ entered (kept_of self.old) entry }
+        ensures evaluator { self.new.evaluator ≡ self.old.evaluator }
     {
         self.history.push_reserved(entry);
         let at = self.version();

@@ -9,5 +9,5 @@ pub use Rattle.sets.proofs.ForCallers.{sum_of_pairs_le, sum_of_pairs_balance, ea
 pub use Rattle.sets.proofs.ForCallers.{all_below_same, any_below_found, any_below_from_none, any_below_fails, any_below_same}
 pub use Rattle.sets.proofs.ForCallers.{has_beyond, has_all_numbers, has_both, has_with_number, le-with_number, with_number-grows}
 pub use Rattle.sets.proofs.ForCallers.{IsSumWithout, sum_without_none, sum_without_more, sum_without_all, lowest_below}
-pub use Rattle.sets.proofs.ForCallers.{lowest_gone, others_kept, has_empty, if_le, sums}
+pub use Rattle.sets.proofs.ForCallers.{lowest_gone, others_kept, has_empty, if_le, sum_where_without, sums}
 pub use Rattle.sets.proofs.ForCallers.{has_pair_beyond, has_no_pairs, has_with_pair, same_sets, same_pairs}

@@ -1,14 +1,14 @@
 -- Sets that a loop over the rules of a league makes.
-use Rattle.std.proofs.Common.{◌≡◌, ℕ, ◌+◌, ◌/◌, ◌%◌, ◌^◌, ◌<◌, ◌≤◌, ◌&&◌, ◌||◌, ◌==◌, nat_lt, Bool, true, false, List, [], ◌∷◌, ◌++◌, length, get_or, Some, slice_get}
+use Rattle.std.proofs.Common.{◌≡◌, ℕ, ◌+◌, ◌/◌, ◌%◌, ◌^◌, ◌<◌, ◌≤◌, ◌&&◌, ◌||◌, ◌==◌, nat_lt, Bool, true, false, List, length, get_or, Some, slice_get, slice_set}
 use Rattle.std.proofs.Common.{refl, sym, ◌∙◌, ap, inl, inr, arith, subst}
 use Rattle.std.specs.Option.{option_map_or}
 use Rattle.std.specs.Int.{bit_at}
 use Rattle.std.proofs.lemmas.Bool.{cases_eq, cases_lt, eq-eqb, ne_eqb, lt-ltb, le-ltb}
 use Rattle.std.proofs.lemmas.Nat.{pow_pos, mod_below, shr_split}
 use Rattle.std.proofs.lemmas.Nat.Bits.{bit_at_cat_low}
-use Rattle.std.proofs.lemmas.List.{length_push, get_or_append_left}
-use Rattle.std.proofs.Math.Seq.{get_or-append_seam}
-use Rattle.std.proofs.lemmas.Option.{slice_get_past, slice_get_within, slice_get-get_or, get_or_from_slice_get}
+use Rattle.std.proofs.lemmas.Grind.{get_or-set_at}
+use Rattle.std.proofs.lemmas.List.{get_or-set_other}
+use Rattle.std.proofs.lemmas.Option.{slice_get_past, slice_get-get_or, get_or_from_slice_get}
 use Rattle.league.specs.Sets.{has, IsBelow}
 use Rattle.league.specs.declared.rule.Rule.{Rule}
 use Rattle.league.specs.declared.rule.RuleBody.{RuleBody}
@@ -87,25 +87,19 @@ IsBelow_without m set none = subst (IsBelow m) (sym same) low
       | inr past ↦ none k past ∙ sym (has_beyond m (set % 2 ^ m) k low past)
     ])
 
--- what holds of each row of a list, and of one more
-pub each_row_more : {X : Type 0} (P : ℕ → X → Type 0) (rows : List X) (row : X) →
-    ((k : ℕ) (x : X) → slice_get rows k ≡ Some x → P k x) → P (length rows) row →
-    (k : ℕ) (x : X) → slice_get (rows ++ row ∷ []) k ≡ Some x → P k x
-each_row_more P rows row each last k x is =
-    elim (cases_lt k (length rows)) [
+-- what holds of the first rows of a list, and of one more
+pub each_row_written : {X : Type 0} (P : ℕ → X → Type 0) (rows : List X) (n : ℕ) (row : X) → n < length rows →
+    ((k : ℕ) (x : X) → k < n → slice_get rows k ≡ Some x → P k x) → P n row →
+    (k : ℕ) (x : X) → k < n + 1 → slice_get (slice_set rows n row) k ≡ Some x → P k x
+each_row_written P rows n row within each last k x below is =
+    let read : get_or (slice_set rows n row) k x ≡ x = get_or_from_slice_get (slice_set rows n row) k x x is in
+    elim (cases_lt k n) [
       | inl before ↦
-          each k x (slice_get-get_or rows k x before ∙
-          ap Some (sym (get_or_append_left rows (row ∷ []) x k before) ∙ get_or_from_slice_get (rows ++ row ∷ []) k x x is))
+          let other : k ≡ n → ⊥ = λ e. absurd (omega (arith, before, e)) in
+          each k x before
+          (slice_get-get_or rows k x (omega (arith, before, within)) ∙ ap Some (sym (get_or-set_other rows n k row x other) ∙ read))
       | inr from ↦
-          let within : k < length (rows ++ row ∷ []) = slice_get_within (rows ++ row ∷ []) k x is in
-          let here : k ≡ length rows = omega (arith, within, length_push rows row) in
-          let same : row ≡ x =
-          sym (get_or-append_seam rows row [] x) ∙ ap (λ i. get_or (rows ++ row ∷ []) i x) (sym here) ∙
-          get_or_from_slice_get (rows ++ row ∷ []) k x x is in
-          subst (λ i. P i x) (sym here) (subst (P (length rows)) same last)
+          let here : k ≡ n = omega (arith, from, below) in
+          let same : row ≡ x = sym (get_or-set_at rows n k row x here within) ∙ read in
+          subst (λ i. P i x) (sym here) (subst (P n) same last)
     ]
-
-pub no_rows : {X : Type 0} (P : ℕ → X → Type 0) (rows : List X) → rows ≡ [] → (k : ℕ) (x : X) → slice_get rows k ≡ Some x → P k x
-no_rows P rows none k x is =
-    let within : k < length rows = slice_get_within rows k x is in
-    let empty : length rows ≡ 0 = ap length none in absurd (omega (arith, within, empty))

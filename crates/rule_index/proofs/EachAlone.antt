@@ -64,7 +64,8 @@ takes_alone t opponents = at (has opponents t) refl
         or_right (not (any_below max_teams (λ u. has (alone t) u && has opponents u)))
         (not (any_below max_teams (λ u. has (alone t) u && not (has opponents u))))
         (ap not (any_below_from_none max_teams (λ u. has (alone t) u && not (has opponents u))
-        (λ u in_u. not_both (has (alone t) u) (not (has opponents u)) (λ one. ap (λ k. not (has opponents k)) (alone_only t u one) ∙ ap not is))))
+        (λ u in_u. not_both (has (alone t) u) (not (has opponents u))
+        (λ one. ap (λ k. not (has opponents k)) (alone_only t u one) ∙ ap not is))))
     at false is =
         or_left (not (any_below max_teams (λ u. has (alone t) u && has opponents u)))
         (not (any_below max_teams (λ u. has (alone t) u && not (has opponents u))))
@@ -96,7 +97,8 @@ of_opponents : (teams opponents main : ℕ) → IsBelow max_teams main →
     (any_below max_teams (λ t. has main t && not (not (has_touched_team teams (has (alone t))) && takes_all_or_none (alone t) opponents)) ||
     (any_below max_teams (λ t. has main t && has opponents t) && any_below max_teams (λ t. has main t && not (has opponents t))))
 of_opponents teams opponents main below = parted teams opponents main ∙
-    ap (λ b. b || (any_below max_teams (λ t. has main t && has opponents t) && any_below max_teams (λ t. has main t && not (has opponents t))))
+    ap (λ b. b ||
+    (any_below max_teams (λ t. has main t && has opponents t) && any_below max_teams (λ t. has main t && not (has opponents t))))
     (by_one max_teams (has_touched_team teams) (has main) (meets_teams teams) (within max_teams main below) ∙
     any_below_same max_teams (λ t. has main t && has_touched_team teams (has (alone t)))
     (λ t. has main t && not (not (has_touched_team teams (has (alone t))) && takes_all_or_none (alone t) opponents))

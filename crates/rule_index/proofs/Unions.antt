@@ -60,12 +60,12 @@ pub rules_without_more : (rules : List Rule) (teams left lowest rest own opponen
     IsTeamRow rules lowest row → ((i : ℕ) → has own' i ≡ (has own i || has row.own i)) →
     ((i : ℕ) → has opponent' i ≡ (has opponent i || has row.opponent i)) →
     ((i : ℕ) → has stranger' i ≡ (has stranger i || has row.stranger i)) → AreRulesWithout rules teams rest own' opponent' stranger'
-rules_without_more rules teams left lowest rest own opponent stranger own' opponent' stranger' row so_far below taken is more_own more_opponent
-    more_stranger = record {
-      own = union_without_more max_teams teams left lowest rest own row.own own' (λ t. passes_at rules (looks_at_games_of t)) so_far.own below
-          taken is.own more_own;
-      opponent = union_without_more max_teams teams left lowest rest opponent row.opponent opponent' (λ t. passes_at rules (has_opponent t))
-          so_far.opponent below taken is.opponent more_opponent;
-      stranger = union_without_more max_teams teams left lowest rest stranger row.stranger stranger' (λ t. passes_at rules (has_stranger t))
-          so_far.stranger below taken is.stranger more_stranger;
+rules_without_more rules teams left lowest rest own opponent stranger own' opponent' stranger' row so_far below taken is more more' more'' =
+    record {
+      own = union_without_more max_teams teams left lowest rest own row.own own' (λ t. passes_at rules (looks_at_games_of t))
+          so_far.own below taken is.own more;
+      opponent = union_without_more max_teams teams left lowest rest opponent row.opponent opponent'
+          (λ t. passes_at rules (has_opponent t)) so_far.opponent below taken is.opponent more';
+      stranger = union_without_more max_teams teams left lowest rest stranger row.stranger stranger'
+          (λ t. passes_at rules (has_stranger t)) so_far.stranger below taken is.stranger more'';
     }

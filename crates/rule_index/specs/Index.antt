@@ -1,6 +1,7 @@
 -- What an index of a league's rules has: for each team and each round the set of the rules that look at it.
-use Rattle.std.specs.Prelude.{◌≡◌, ℕ, not, Bool, false, List, Option, Some, None, slice_get}
+use Rattle.std.specs.Prelude.{◌≡◌, ℕ, not, Bool, false, List, Option, Some, None, length, slice_get}
 use Rattle.std.specs.Option.{option_map_or}
+use Rattle.league.specs.Limits.{max_teams, max_rounds}
 use Rattle.league.specs.Sets.{has, with_number}
 use Rattle.league.specs.declared.rule.Rule.{Rule}
 use Rattle.league.specs.declared.rule.RuleBody.{RuleBody}
@@ -42,6 +43,7 @@ has_opponent team body = option_map_or (λ opponents. has opponents team) (oppon
 unfoldable pub has_stranger : ℕ → RuleBody → Bool
 has_stranger team body = option_map_or (λ opponents. not (has opponents team)) (opponents_of body) false
 
+-- whether the rule looks at the round
 unfoldable pub looks_in_round : ℕ → RuleBody → Bool
 looks_in_round round body = looks_at_round body (has (alone round))
 
@@ -63,6 +65,9 @@ pub record IsRoundRow (rules : List Rule) (round row : ℕ) : Type 0 where
 abbrev pub AreRoundRows : List Rule → List ℕ → Type 0
 AreRoundRows rules rows = (round row : ℕ) → slice_get rows round ≡ Some row → IsRoundRow rules round row
 
+-- the rows of each of the most teams and of the most rounds
 pub record IsIndexOf (rules : List Rule) (index : IndexRows) : Type 0 where
+  pub team_count : length index.teams ≡ max_teams
+  pub round_count : length index.rounds ≡ max_rounds
   pub teams : AreTeamRows rules index.teams
   pub rounds : AreRoundRows rules index.rounds

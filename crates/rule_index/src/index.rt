@@ -1,6 +1,6 @@
 //! The index of a league's rules.
 
-ghost use Rattle.std.specs.Prelude.{◌≡◌, ℕ, List, length, IfOk};
+ghost use Rattle.std.specs.Prelude.{◌≡◌, ℕ, List, length};
 ghost use Rattle.league.specs.Limits.{max_teams, max_rounds};
 ghost use Rattle.league.specs.Sets.{has, IsBelow};
 ghost use Rattle.league.specs.declared.rule.Rule.{Rule as LeagueRule};
@@ -8,19 +8,16 @@ ghost use Rattle.rule_index.specs.Alterable.{is_alterable_at};
 ghost use Rattle.rule_index.specs.Index.{IsIndexOf};
 ghost use Rattle.rule_index.specs.Unions.{AreRulesAround, AreRulesWithin};
 
-use crate::rows::{TeamRules, round_rows, team_rows};
+use crate::rows::{ROUNDS, TEAMS, TeamRules, round_rows, team_rows};
 use fixtures::Touched;
 use league::{League, RuleSet, SlotSet, TeamSet};
-use std::alloc::{AllocError, Global};
 use std::marker::Model;
 
 /// For each team and each round the rules that look at it. A change finds the rules that it can alter by its teams and rounds.
-#[derive(Debug, Drop)]
+#[derive(Clone, Copy, Debug, Drop)]
 pub struct RuleIndex {
-    /// A row for each of the most teams, whatever the league's size.
-    teams: Vec<TeamRules>,
-    /// And for each of the most rounds.
-    rounds: Vec<RuleSet>,
+    teams: [TeamRules; TEAMS],
+    rounds: [RuleSet; ROUNDS],
 }
 
 impl Model for RuleIndex {
@@ -30,25 +27,27 @@ impl Model for RuleIndex {
 
     ghost Value = { IndexRows };
 
-    ghost view = { λ s. record { teams = s.teams.items; rounds = s.rounds.items } };
+    ghost view = { λ s. record { teams = s.teams; rounds = s.rounds } };
 
-    ghost invariant = { λ s. (length s.teams.items ≡ max_teams) × (length s.rounds.items ≡ max_rounds) };
+    ghost inverse = { λ v. record { teams = v.teams; rounds = v.rounds } };
+
+    ghost invariant = { λ s. (length s.teams ≡ max_teams) × (length s.rounds ≡ max_rounds) };
 }
 
 impl RuleIndex {
-    /// The index of the league's rules. It takes memory here alone.
-    pub fn new(alloc: Global, league: &League) -> Result<RuleIndex, AllocError>
-        ensures { IfOk result (λ index. IsIndexOf league.now.rules index) }
+    /// The index of the league's rules.
+    pub fn new(league: &League) -> RuleIndex
+        ensures { IsIndexOf league.now.rules result }
     {
-        Ok(RuleIndex {
-            teams: team_rows(alloc, league)?,
-            rounds: round_rows(alloc, league)?,
-        })
+        RuleIndex {
+            teams: team_rows(league),
+            rounds: round_rows(league),
+        }
     }
 
     /// The rules whose deviation a change around the main teams in the rounds can alter: those that don't look past these teams
     /// ([`looks_past`](robinx::looks_past)) and look at one of the rounds ([`looks_at_round`](robinx::looks_at_round)). Any other rule
-    /// keeps its deviation ([`nothing_else_alters`](crate::nothing_else_alters)). Takes no memory.
+    /// keeps its deviation ([`nothing_else_alters`](crate::nothing_else_alters)).
     pub fn alterable(&self, main: Touched) -> RuleSet
         ensures members { (rules : List LeagueRule) → IsIndexOf rules self.now →
             (i : ℕ) → has result i ≡ is_alterable_at rules main.teams main.rounds i }

@@ -1,6 +1,6 @@
 //! The rules that look at a team, and those that look at a round.
 
-ghost use Rattle.std.specs.Prelude.{◌≡◌, ℕ, ◌<◌, ◌&&◌, ◌||◌, ◌==◌, length, IfOk};
+ghost use Rattle.std.specs.Prelude.{◌≡◌, ℕ, ◌<◌, ◌&&◌, ◌||◌, ◌==◌, length};
 ghost use Rattle.league.specs.Limits.{max_teams, max_rounds, max_rules};
 ghost use Rattle.league.specs.Sets.{has};
 ghost use Rattle.rule_index.specs.Index.{opponents_of, has_opponent, has_stranger, IsTeamRow, IsRoundRow, AreTeamRows, AreRoundRows};
@@ -8,7 +8,12 @@ ghost use Rattle.rule_index.specs.Index.{opponents_of, has_opponent, has_strange
 use league::limits::{MAX_ROUNDS, MAX_TEAMS};
 use league::{League, Rule, RuleBody, RuleSet, SlotSet, TeamSet};
 use robinx::{looks_at_round, looks_past};
-use std::alloc::{AllocError, Global};
+
+/// A row for each of the most teams, whatever a league's size.
+pub(crate) const TEAMS: usize = MAX_TEAMS as usize;
+
+/// And for each of the most rounds.
+pub(crate) const ROUNDS: usize = MAX_ROUNDS as usize;
 
 /// The rules that look at a team.
 #[derive(Clone, Copy, Debug, Drop)]
@@ -21,28 +26,39 @@ pub(crate) struct TeamRules {
     pub(crate) stranger: RuleSet,
 }
 
-/// The rows of all teams.
-pub(crate) fn team_rows(alloc: Global, league: &League) -> Result<Vec<TeamRules>, AllocError>
-    ensures count { IfOk result (λ rows. length rows.items ≡ max_teams) }
-    ensures rows { IfOk result (λ rows. AreTeamRows league.now.rules rows.items) }
-{
-    let mut rows = Vec::with_capacity(alloc, MAX_TEAMS.into())?;
-    for team in 0..MAX_TEAMS {
-        rows.push(team_row(league, team))?;
+impl TeamRules {
+    /// No rules.
+    fn none() -> Self {
+        TeamRules {
+            own: RuleSet::empty(),
+            opponent: RuleSet::empty(),
+            stranger: RuleSet::empty(),
+        }
     }
-    Ok(rows)
+}
+
+/// The rows of all teams.
+pub(crate) fn team_rows(league: &League) -> [TeamRules; TEAMS]
+    ensures count { length result ≡ max_teams }
+    ensures rows { AreTeamRows league.now.rules result }
+{
+    let mut rows = [TeamRules::none(); TEAMS];
+    for team in 0..MAX_TEAMS {
+        rows[usize::from(team)] = team_row(league, team);
+    }
+    rows
 }
 
 /// The rows of all rounds.
-pub(crate) fn round_rows(alloc: Global, league: &League) -> Result<Vec<RuleSet>, AllocError>
-    ensures count { IfOk result (λ rows. length rows.items ≡ max_rounds) }
-    ensures rows { IfOk result (λ rows. AreRoundRows league.now.rules rows.items) }
+pub(crate) fn round_rows(league: &League) -> [RuleSet; ROUNDS]
+    ensures count { length result ≡ max_rounds }
+    ensures rows { AreRoundRows league.now.rules result }
 {
-    let mut rows = Vec::with_capacity(alloc, MAX_ROUNDS.into())?;
+    let mut rows = [RuleSet::empty(); ROUNDS];
     for round in 0..MAX_ROUNDS {
-        rows.push(round_row(league, round))?;
+        rows[usize::from(round)] = round_row(league, round);
     }
-    Ok(rows)
+    rows
 }
 
 /// A rule looks at the team's games if it doesn't look past the team alone.

@@ -10,7 +10,7 @@ mod steps;
 
 use crate::gates::{Hearing, HearingGate};
 use crate::{Door, Gate, Progress, draw};
-use costs::KeptGaps;
+use costs::Evaluator;
 use fixtures::Schedule;
 use league::League;
 use rand_pcg::Lcg64Xsh32;
@@ -125,7 +125,7 @@ pub(crate) fn take_steps<R: Wait, D: Door, G: HearingGate>(
         let mut generator = Lcg64Xsh32::new(plan.seed, u64::from(plan.worker));
         let mut kept = Kept {
             known: refresh(means.rt, door, means.measure, copy),
-            gaps: KeptGaps::new(),
+            evaluator: Evaluator::new(means.measure.league),
         };
         let mut progress = Progress {
             steps: 0,

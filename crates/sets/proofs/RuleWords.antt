@@ -1,11 +1,11 @@
 -- The same at the two words in which the code holds a set of rules: 128 bits each.
-use Rattle.std.proofs.Common.{◌≡◌, ℕ, ◌+◌, ◌-◌, ◌*◌, ◌^◌, ◌%◌, ◌<◌, ◌≤◌, ◌&&◌, ◌||◌, bit_and, bit_or, refl, sym, ◌∙◌, ap}
+use Rattle.std.proofs.Common.{◌≡◌, ℕ, ◌+◌, ◌-◌, ◌*◌, ◌^◌, ◌%◌, ◌<◌, ◌≤◌, ◌&&◌, ◌||◌, bit_and, bit_or, sym, ◌∙◌, ap}
 use Rattle.std.proofs.Common.{subst, arith}
 use Rattle.std.proofs.lemmas.Nat.{pow-add, pow_below, pow_pos, mod_below, or_block, and_block}
 use Rattle.std.specs.Int.Bits.{or_zero_r}
 use Rattle.sets.specs.Limits.{max_rules}
 use Rattle.sets.specs.Sets.{has, IsBelow, with_number}
-use Rattle.sets.proofs.Bits.{has_with_number, IsBelow_with_number, with_number_shifted}
+use Rattle.sets.proofs.Bits.{with_number_shifted}
 use Rattle.sets.proofs.SetBits.{has_union, has_intersection, IsBelow_union, IsBelow_common}
 
 -- a rule of the low half

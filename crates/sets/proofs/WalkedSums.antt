@@ -45,7 +45,7 @@ others_kept set lowest rest k taken other =
     taken.others k ∙ ap (λ b. has set k && not b) (ne_eqb k lowest other) ∙ and-true (has set k)
 
 -- the sum over a set is its lowest number's term more than that over the others
-sum_where_without : (n set lowest rest : ℕ) (f : ℕ → ℕ) → lowest < n → IsWithoutLowest set lowest rest
+pub sum_where_without : (n set lowest rest : ℕ) (f : ℕ → ℕ) → lowest < n → IsWithoutLowest set lowest rest
     → sum_where n (has set) f ≡ sum_where n (has rest) f + f lowest
 sum_where_without n set lowest rest f below taken =
     sum_below_one n lowest (f lowest) (λ k. if has rest k then f k else 0) (λ k. if has set k then f k else 0) below

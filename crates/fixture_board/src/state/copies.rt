@@ -3,7 +3,6 @@
 ghost use Rattle.std.specs.Prelude.{◌≡◌, ◌≤◌, length, vec_capacity, IfOk};
 
 use crate::state::State;
-use costs::KeptGaps;
 use std::alloc::{AllocError, Global};
 
 impl State {
@@ -16,6 +15,7 @@ impl State {
         requires no_more { length self.now.changes.items ≤ length self.now.history.items }
         ensures memory { IfOk result HasMemory }
         ensures kept { IfOk result (λ s. kept_of s ≡ kept_of self.now) }
+        ensures evaluator { IfOk result (λ s. s.evaluator ≡ self.now.evaluator) }
     {
         Ok(State {
             room: self.room,
@@ -26,7 +26,7 @@ impl State {
             cost: self.cost,
             best: self.best,
             best_schedule: self.best_schedule.duplicate(alloc)?,
-            gaps: Box::new(alloc, KeptGaps::new())?,
+            evaluator: Box::new(alloc, self.evaluator.anew())?,
         })
     }
 }

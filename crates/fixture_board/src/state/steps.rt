@@ -15,6 +15,7 @@ impl State {
     ghost use Rattle.std.specs.Prelude.{◌≡◌, ◌≤◌, length};
     ghost use Rattle.league.specs.League.{LeagueData, teams};
     ghost use Rattle.costs.specs.Costs.{cost_of};
+    ghost use Rattle.costs.specs.Evaluators.{IsEvaluatorOf};
     ghost use Rattle.fixture_board.specs.History.{shifted};
     ghost use Rattle.fixture_board.specs.PinTable.{taken_back};
     ghost use Rattle.fixture_board.specs.Kept.{kept_of, HasMemory, FollowsHistory, IsForetold, IsStep, IsTried, CanTakeBack};
@@ -23,7 +24,9 @@ impl State {
     pub(crate) fn step(&mut self, league: &League, ask: Ask) -> Result<(), Why>
         requires memory { HasMemory self.old }
         requires kept { FollowsHistory league.now (kept_of self.old) }
+        requires evaluator { IsEvaluatorOf league.now.rules self.old.evaluator }
         ensures memory { HasMemory self.new }
+        ensures evaluator { self.new.evaluator ≡ self.old.evaluator }
         ensures step { IsStep league.now (kept_of self.old) (kept_of self.new) ask result }
     {
         match ask {
@@ -39,7 +42,9 @@ impl State {
     fn shift(&mut self, league: &League, proposal: Proposal) -> Result<(), Why>
         requires memory { HasMemory self.old }
         requires kept { FollowsHistory league.now (kept_of self.old) }
+        requires evaluator { IsEvaluatorOf league.now.rules self.old.evaluator }
         ensures memory { HasMemory self.new }
+        ensures evaluator { self.new.evaluator ≡ self.old.evaluator }
         ensures step { IsStep league.now (kept_of self.old) (kept_of self.new) (Ask.Shift proposal) result }
     {
         let mv = proposal.mv;
@@ -56,7 +61,7 @@ impl State {
             weight: league.hard_weight(),
             most,
         };
-        let Some(cost) = make_within(&mut self.schedule, league, &mut self.gaps, &attempt) else {
+        let Some(cost) = make_within(&mut self.schedule, league, &mut self.evaluator, &attempt) else {
             return Err(above);
         };
         if let Err(why) = self.check_score(proposal, before, cost.score(league)) {
@@ -72,7 +77,9 @@ impl State {
     pub(crate) fn would_shift(&mut self, league: &League, proposal: Proposal) -> Result<Cost, Why>
         requires memory { HasMemory self.old }
         requires kept { FollowsHistory league.now (kept_of self.old) }
+        requires evaluator { IsEvaluatorOf league.now.rules self.old.evaluator }
         ensures memory { HasMemory self.new }
+        ensures evaluator { self.new.evaluator ≡ self.old.evaluator }
         ensures same { kept_of self.new ≡ kept_of self.old }
         ensures told { IsForetold league.now (kept_of self.old) proposal result }
     {
@@ -86,7 +93,7 @@ impl State {
         let cost = make_at_cost(
             &mut self.schedule,
             league,
-            &mut self.gaps,
+            &mut self.evaluator,
             &exchange,
             self.cost,
         );
@@ -99,8 +106,10 @@ impl State {
     pub(crate) fn try_move(&mut self, league: &League, trial: Trial) -> Option<Cost>
         requires memory { HasMemory self.old }
         requires kept { FollowsHistory league.now (kept_of self.old) }
+        requires evaluator { IsEvaluatorOf league.now.rules self.old.evaluator }
         requires weight { 1 ≤ trial.weight }
         ensures memory { HasMemory self.new }
+        ensures evaluator { self.new.evaluator ≡ self.old.evaluator }
         ensures tried { IsTried league.now (kept_of self.old) (kept_of self.new) trial result }
     {
         let Trial { mv, weight, rise } = trial;
@@ -118,7 +127,7 @@ impl State {
             weight,
             most: before.saturating_add(rise),
         };
-        let cost = make_within(&mut self.schedule, league, &mut self.gaps, &attempt)?;
+        let cost = make_within(&mut self.schedule, league, &mut self.evaluator, &attempt)?;
         self.cost = cost;
         self.changes.push_reserved(Change::Shift(mv));
         Some(cost)
@@ -130,6 +139,7 @@ impl State {
         requires within { length self.old.history.items ≤ self.old.room }
         requires no_more { length self.old.changes.items ≤ length self.old.history.items }
         ensures memory { HasMemory self.new }
+        ensures evaluator { self.new.evaluator ≡ self.old.evaluator }
         ensures step { (league : LeagueData) → FollowsHistory league (kept_of self.old) →
             IsStep league (kept_of self.old) (kept_of self.new) (Ask.Pin version game) result }
     {
@@ -147,6 +157,7 @@ impl State {
         requires within { length self.old.history.items ≤ self.old.room }
         requires no_more { length self.old.changes.items ≤ length self.old.history.items }
         ensures memory { HasMemory self.new }
+        ensures evaluator { self.new.evaluator ≡ self.old.evaluator }
         ensures step { (league : LeagueData) → FollowsHistory league (kept_of self.old) →
             IsStep league (kept_of self.old) (kept_of self.new) (Ask.Unpin version game) result }
     {
@@ -162,7 +173,9 @@ impl State {
     fn undo(&mut self, league: &League, version: u64) -> Result<(), Why>
         requires memory { HasMemory self.old }
         requires kept { FollowsHistory league.now (kept_of self.old) }
+        requires evaluator { IsEvaluatorOf league.now.rules self.old.evaluator }
         ensures memory { HasMemory self.new }
+        ensures evaluator { self.new.evaluator ≡ self.old.evaluator }
         ensures step { IsStep league.now (kept_of self.old) (kept_of self.new) (Ask.Undo version) result }
     {
         self.check_version(version)?;
@@ -175,6 +188,7 @@ impl State {
 
     /// Takes a change back that was the last in effect.
     fn take_back(&mut self, league: &League, change: Change)
+        requires evaluator { IsEvaluatorOf league.now.rules self.old.evaluator }
         requires same_size { teams league.now ≡ self.old.schedule.teams }
         requires last { CanTakeBack self.old.schedule change }
         requires known { self.old.cost ≡ cost_of league.now self.old.schedule }
@@ -190,7 +204,7 @@ impl State {
                 self.cost = make_at_cost(
                     &mut self.schedule,
                     league,
-                    &mut self.gaps,
+                    &mut self.evaluator,
                     &exchange,
                     self.cost,
                 );

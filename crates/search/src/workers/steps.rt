@@ -2,6 +2,7 @@
 
 ghost use Rattle.std.specs.Prelude.{◌≡◌, ◌+◌, ◌^◌, ◌<◌, MatchOption};
 ghost use Rattle.league.specs.League.{teams};
+ghost use Rattle.costs.specs.Evaluators.{IsEvaluatorOf};
 ghost use Rattle.fixtures.specs.Exchanges.{exchanged_by, IsExchange};
 ghost use Rattle.fixture_board.specs.declared.reply.Reply.{Reply};
 ghost use Rattle.search.specs.Doors.{done_count};
@@ -9,7 +10,7 @@ ghost use Rattle.search.specs.Steps.{IsCandidate, IsKnown, IsLeftOut, IsMeasured
 
 use crate::Door;
 use crate::gates::HearingGate;
-use costs::{Attempt, Cost, KeptGaps, cost_of, make_within};
+use costs::{Attempt, Cost, Evaluator, cost_of, make_within};
 use fixture_board::{Proposal, Reply, Why};
 use fixtures::{Exchange, Schedule};
 use league::League;
@@ -46,8 +47,7 @@ pub(crate) struct Known {
 #[derive(Drop)]
 pub(crate) struct Kept {
     pub(crate) known: Known,
-    /// What FA2 counted last, of the copy or of a move that was tried on it.
-    pub(crate) gaps: KeptGaps,
+    pub(crate) evaluator: Evaluator,
 }
 
 /// What a step tries, and how many proposals the worker made before.
@@ -119,9 +119,11 @@ pub(crate) fn step<R: Wait, D: Door, G: HearingGate>(
     requires same_size { teams means.measure.league.now ≡ copy.old.teams }
     requires measured { IsMeasured means.measure.of_boards means.measure.league.now (D.may_have door.old) }
     requires known { IsKnown means.measure.league.now copy.old kept.old.known.cost kept.old.known.score }
+    requires evaluator { IsEvaluatorOf means.measure.league.now.rules kept.old.evaluator }
     requires granted { D.granted door.old < 2 ^ 63 }
     ensures same_size { copy.new.teams ≡ copy.old.teams }
     ensures known { IsKnown means.entry.measure.league.now copy.new kept.new.known.cost kept.new.known.score }
+    ensures evaluator { kept.new.evaluator ≡ kept.old.evaluator }
     ensures counted { D.granted door.new ≡ D.granted door.old + accepted_count result }
     ensures heard { IsProposed result → (reply : Reply)
         × G.heard means.entry.gate.now trial.worker trial.made reply × (done_count reply ≡ accepted_count result) }
@@ -138,7 +140,7 @@ pub(crate) fn step<R: Wait, D: Door, G: HearingGate>(
         weight: measure.league.hard_weight(),
         most: kept.known.score.saturating_add(trial.slack),
     };
-    let Some(cost) = make_within(copy, measure.league, &mut kept.gaps, &attempt) else {
+    let Some(cost) = make_within(copy, measure.league, &mut kept.evaluator, &attempt) else {
         return StepResult::Nothing;
     };
     let score = cost.score(measure.league);

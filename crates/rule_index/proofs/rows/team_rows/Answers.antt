@@ -1,19 +1,18 @@
-use Rattle.std.proofs.Common.{◌+◌, ◌∙◌, ap, length}
-use Rattle.std.proofs.lemmas.List.{length_push}
+use Rattle.std.proofs.Common.{◌∙◌, arith}
+use Rattle.std.proofs.lemmas.List.{length-set}
+use Rattle.std.proofs.lemmas.Option.{slice_get_within}
 use Rattle.rule_index.specs.Index.{IsTeamRow}
-use Rattle.rule_index.proofs.Collected.{no_rows, each_row_more}
+use Rattle.rule_index.proofs.Collected.{each_row_written}
 use Rattle.rule_index.proofs.rows.team_rows.Goals as goal
-
-pub loop-team-init : goal.loop-team-init
-loop-team-init c = record {
-  len = ap length c.in_ok-rows.ensures.items;
-  rows = no_rows (IsTeamRow c.args.league.now.rules) c.in_ok-rows.rows.items c.in_ok-rows.ensures.items;
-}
 
 pub loop-team-preserved : goal.loop-team-preserved
 loop-team-preserved c = record {
-  len = rw c.in_ok-push.ensures.items (length_push _ _ ∙ ap (λ k. k + 1) c.loop-team.invariant.len);
-  rows = rw c.in_ok-push.ensures.items
-      (each_row_more (IsTeamRow c.args.league.now.rules) c.loop-team.rows.items c.team_row.result c.loop-team.invariant.rows
-      (rw c.loop-team.invariant.len c.team_row.ensures));
+  len = length-set _ _ _ ∙ c.loop-team.invariant.len;
+  rows = rw c.from.ensures (each_row_written (IsTeamRow c.args.league.now.rules) c.loop-team.rows c.loop-team.team c.team_row.result
+      (omega (arith, c.loop-team.invariant.len, c.loop-team-test.true)) c.loop-team.invariant.rows c.team_row.ensures);
 }
+
+pub returns-clause-rows : goal.returns-clause-rows
+returns-clause-rows c k row is =
+    c.loop-team.invariant.rows k row
+    (omega (arith, slice_get_within c.loop-team.rows k row is, c.loop-team.invariant.len, c.loop-team-test.false)) is

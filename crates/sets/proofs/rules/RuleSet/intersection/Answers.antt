@@ -1,5 +1,4 @@
 use Rattle.sets.proofs.RuleWords.{has_rules_common, IsBelow_rules_common}
-use Rattle.sets.proofs.SetBits.{IsBelow_common}
 use Rattle.sets.proofs.rules.RuleSet.intersection.Goals as goal
 
 pub returns-clause-members : goal.returns-clause-members

@@ -1,0 +1,48 @@
+-- A walk over the rules that an exchange can alter counts what all rules do.
+use Rattle.std.proofs.Common.{◌≡◌, ℕ, ◌&&◌, ◌||◌, ◌==◌, Bool, true, false, if◌then◌else◌, length, slice_get, Option, Some, None, refl, sym, ◌∙◌, ap}
+use Rattle.std.proofs.lemmas.Bool.{and_parts}
+use Rattle.league.specs.League.{LeagueData, teams, IsLeague}
+use Rattle.league.specs.Sets.{has}
+use Rattle.league.specs.Sums.{sum_where}
+use Rattle.league.specs.declared.rule.Rule.{Rule}
+use Rattle.league.specs.declared.rule.Weight.{Weight}
+use Rattle.league.proofs.ForCallers.{sum_below_same, has_both}
+use Rattle.fixtures.specs.Games.{Games, IsDoubleRoundRobin}
+use Rattle.fixtures.specs.declared.exchanges.Exchange.{Exchange}
+use Rattle.fixtures.specs.declared.exchanges.Exchange.TheVariants as edit
+use Rattle.fixtures.specs.Exchanges.{main_cells, turning_team}
+use Rattle.rule_index.proofs.ForCallers.{nothing_else_altered}
+use Rattle.costs.specs.CostParts.{rule_part, rules_part, KnowsRules}
+use Rattle.costs.specs.declared.scope.Scope.{Scope}
+use Rattle.costs.proofs.Parts.{rule_for}
+
+-- only main teams turn
+pub turning_main : (g : Games) (exchange : Exchange) (t : ℕ) → turning_team g exchange t ≡ true →
+    has (main_cells exchange).teams t ≡ true
+turning_main g (edit.Rounds k l among) t e = (and_parts (has among t) _ e).0
+turning_main g (edit.Teams i j among) t e = has_both i j t ∙ (and_parts (t == i || t == j) _ e).0
+
+module _ (penalty : Weight → ℕ → ℕ) (nothing : (weight : Weight) → penalty weight 0 ≡ 0) (l : LeagueData) (scope : Scope) (g : Games)
+    (is : IsLeague l) (same : teams l ≡ g.teams) (robin : IsDoubleRoundRobin g) (knows : KnowsRules l scope) where
+  part_nothing : (i : ℕ) (rule : Option Rule) → slice_get l.rules i ≡ rule → has scope.rules i ≡ false →
+      rule_part penalty scope.main scope.turning g rule ≡ 0
+  part_nothing i None at out = refl
+  part_nothing i (Some rule) at out =
+      ap (penalty rule.weight)
+      (nothing_else_altered g l.rules i rule scope.main.teams scope.main.rounds scope.turning robin at (rule_for l g i is same rule at)
+      knows.sides (sym (knows.rules i) ∙ out)) ∙
+      nothing rule.weight
+
+  pub walked : sum_where (length l.rules) (has scope.rules) (λ i. rule_part penalty scope.main scope.turning g (slice_get l.rules i)) ≡
+      rules_part penalty l.rules scope.main scope.turning g
+  unfolding rules_part
+  walked =
+      sum_below_same (length l.rules) (λ i. if has scope.rules i then rule_part penalty scope.main scope.turning g (slice_get l.rules i) else 0)
+      (λ i. rule_part penalty scope.main scope.turning g (slice_get l.rules i))
+      (λ i below. by_test i (has scope.rules i) refl)
+    where
+      by_test : (i : ℕ) (b : Bool) → has scope.rules i ≡ b →
+          (if b then rule_part penalty scope.main scope.turning g (slice_get l.rules i) else 0) ≡
+          rule_part penalty scope.main scope.turning g (slice_get l.rules i)
+      by_test i true e = refl
+      by_test i false e = sym (part_nothing i (slice_get l.rules i) refl e)
