@@ -1,14 +1,16 @@
 -- What the last rule of class FA2 adds to the score, and how it is told.
 use Rattle.std.proofs.Common.{◌≡◌, ℕ, zero, suc, ◌+◌, ◌*◌, ◌/◌, ◌<◌, ◌≤◌, ◌&&◌, Bool, true, false, if◌then◌else◌, length}
-use Rattle.std.proofs.Common.{nat_le, inl, inr, List, slice_get, Option, Some, None, refl, sym, ap, ◌∙◌, arith}
+use Rattle.std.proofs.Common.{nat_le, inl, inr, List, slice_get, Option, Some, None, is_some, unwrap_or, refl, sym, ap, ◌∙◌, subst, le_refl, arith}
+use Rattle.std.specs.Option.{option_map_or}
 use Rattle.std.proofs.Math.Nat.{div-lt_iff_lt-mul, le-div_iff_mul-le}
-use Rattle.std.proofs.lemmas.Bool.{cases_Bool, cases_lt, le-leb, lt-leb}
+use Rattle.std.proofs.lemmas.Bool.{cases_Bool, cases_lt, le-leb, lt-leb, false≢true}
 use Rattle.league.specs.League.{LeagueData}
 use Rattle.league.specs.RuleLimits.{IsWeight}
 use Rattle.league.specs.Sets.{has}
 use Rattle.league.specs.Sums.{sum_below}
 use Rattle.league.specs.declared.rule.Rule.{Rule}
-use Rattle.league.specs.declared.rule.RuleBody.TheVariants.{Fa2}
+use Rattle.league.specs.declared.rule.RuleBody.{RuleBody}
+use Rattle.league.specs.declared.rule.RuleBody.TheVariants.{Ca1, Ca2, Ca3, Ca4, Ga1, Br1, Br2, Se1, Fa2}
 use Rattle.league.specs.declared.rule.Weight.{Weight}
 use Rattle.league.specs.declared.rule.Weight.TheVariants.{Hard, Soft}
 use Rattle.fixtures.specs.Games.{Games}
@@ -20,7 +22,7 @@ use Rattle.robinx.specs.declared.fairness_rules.Fairness.{Fairness}
 use Rattle.rule_index.specs.Alterable.{passes_at}
 use Rattle.costs.specs.Costs.{cost_of, hard_penalty, soft_penalty, score_by}
 use Rattle.costs.specs.Evaluators.{is_fairness, last_fairness}
-use Rattle.costs.specs.CostParts.{fairness_part, rule_part, rules_part, score_part, scored_part, score_weight, IsRest}
+use Rattle.costs.specs.CostParts.{fairness_part, rule_part, rules_part, score_part, scored_part, score_weight, IsRest, KnowsRules}
 use Rattle.costs.specs.declared.cost.Cost.{Cost}
 use Rattle.costs.specs.declared.scope.Scope.{Scope}
 
@@ -57,14 +59,51 @@ pub record IsFound (rules : List Rule) (i : ℕ) : Type 0 where
   pub below : i < length rules
   pub passes : passes_at rules is_fairness i ≡ true
 
-pub found_last : (rules : List Rule) (n i : ℕ) → n ≤ length rules → last_fairness rules n ≡ Some i → IsFound rules i
+found_last : (rules : List Rule) (n i : ℕ) → n ≤ length rules → last_fairness rules n ≡ Some i → IsFound rules i
 unfolding last_fairness
-found_last rules zero i within ()
-found_last rules (suc n) i within is = by_test (passes_at rules is_fairness n) refl is
+found_last rules zero i within none = absurd (false≢true (ap is_some none))
+found_last rules (suc n) i within is =
+    by_test (passes_at rules is_fairness n) refl (found_last rules n i (omega (arith, within))) is
   where
-    by_test : (b : Bool) → passes_at rules is_fairness n ≡ b → (if b then Some n else last_fairness rules n) ≡ Some i → IsFound rules i
-    by_test true passes refl = record { below = within; passes = passes }
-    by_test false passes e = found_last rules n i (omega arith) e
+    by_test : (b : Bool) → passes_at rules is_fairness n ≡ b → (last_fairness rules n ≡ Some i → IsFound rules i) →
+        (if b then Some n else last_fairness rules n) ≡ Some i → IsFound rules i
+    by_test true passes earlier e =
+        let here : n ≡ i = ap (λ found. unwrap_or found 0) e in
+        subst (IsFound rules) here (record { below = within; passes = passes })
+    by_test false passes earlier e = earlier e
+
+pub found_here : (l : LeagueData) (scope : Scope) (i : ℕ) → KnowsRules l scope → scope.fairness ≡ Some i → IsFound l.rules i
+found_here l scope i knows is = found_last l.rules (length l.rules) i (le_refl _) (sym knows.fairness ∙ is)
+
+-- one rule more
+pub last_more : (rules : List Rule) (i : ℕ) (rule : Rule) (fair : Bool) → slice_get rules i ≡ Some rule → fair ≡ is_fairness rule.body →
+    last_fairness rules (i + 1) ≡ (if fair then Some i else last_fairness rules i)
+unfolding last_fairness passes_at
+last_more rules i rule fair at is =
+    let next : i + 1 ≡ suc i = omega arith in
+    rw next
+    (ap (λ b. if b then Some i else last_fairness rules i)
+    (ap (λ o. option_map_or (λ (r : Rule). is_fairness r.body) o false) at ∙ sym is))
+
+fair_at : (rules : List Rule) (i : ℕ) (rule : Rule) → IsFound rules i → slice_get rules i ≡ Some rule → is_fairness rule.body ≡ true
+unfolding passes_at
+fair_at rules i rule found at = sym (ap (λ o. option_map_or (λ (r : Rule). is_fairness r.body) o false) at) ∙ found.passes
+
+is_fair : (body : RuleBody) → is_fairness body ≡ true → ((teams slots most : ℕ) → body ≡ Fa2 teams slots most → ⊥) → ⊥
+unfolding is_fairness
+is_fair (Ca1 teams side slots most) fair other = absurd (false≢true fair)
+is_fair (Ca2 teams1 side teams2 slots most) fair other = absurd (false≢true fair)
+is_fair (Ca3 teams1 side teams2 window most) fair other = absurd (false≢true fair)
+is_fair (Ca4 teams1 side teams2 slots each most) fair other = absurd (false≢true fair)
+is_fair (Ga1 games slots least most) fair other = absurd (false≢true fair)
+is_fair (Br1 teams side slots most) fair other = absurd (false≢true fair)
+is_fair (Br2 teams slots most) fair other = absurd (false≢true fair)
+is_fair (Se1 teams least) fair other = absurd (false≢true fair)
+is_fair (Fa2 teams slots most) fair other = other teams slots most refl
+
+pub fair_body : (rules : List Rule) (i : ℕ) (rule : Rule) → IsFound rules i → slice_get rules i ≡ Some rule →
+    ((teams slots most : ℕ) → rule.body ≡ Fa2 teams slots most → ⊥) → ⊥
+fair_body rules i rule found at = is_fair rule.body (fair_at rules i rule found at)
 
 -- so with what that rule adds the rest scores no more than the whole cost
 pub fairness_scores : (l : LeagueData) (scope : Scope) (g : Games) (rest : Cost) → IsRest l scope g rest →

@@ -1,4 +1,4 @@
-use Rattle.std.proofs.Common.{sym, ◌∙◌, subst, arith, rules}
+use Rattle.std.proofs.Common.{sym, ◌∙◌, subst, arith}
 use Rattle.costs.specs.declared.attempt.Attempt.{Attempt}
 use Rattle.costs.specs.CostParts.{IsTold}
 use Rattle.costs.proofs.Parts.{score_after, told_alone, within_is_small}
@@ -33,11 +33,8 @@ rest_within-requires-clause-told c =
     subst (λ (a : Attempt). IsTold c.args.league.now c.args.schedule.now a.exchange.now c.in_ok-told.told) (sym c.of-scope.ensures.attempt)
     c.in_ok-told.ensures
 
-pub returns-else-is_none-clause-small : goal.returns-else-is_none-clause-small
-returns-else-is_none-clause-small c =
+pub returns-clause-small : goal.returns-clause-small
+returns-clause-small c =
     within_is_small c.args.league.now _ _ _ _ c.whole_within-cost.ensures
     (rw c.make-2.ensures.made
     (score_after c.args.league.now c.args.schedule.now c.args.attempt.now.exchange.now c.teams.ensures.limits c.requires.same_size))
-
-pub returns-else-is_none-clause-schedule : goal.returns-else-is_none-clause-schedule
-returns-else-is_none-clause-schedule c = search rules
