@@ -65,7 +65,7 @@ impl Model for Board {
 
     ghost view = { λ b. book b.league b.state.room b.state.history.items };
 
-    ghost invariant = { λ b. HasMemory b.state × FollowsHistory b.league (kept_of b.state) × IsEvaluatorOf b.league.rules b.state.evaluator };
+    ghost invariant = { λ b. HasMemory b.state × FollowsHistory b.league (kept_of b.state) × IsEvaluatorOf b.league.rules b.state.evaluator.value };
 }
 
 impl Board {

@@ -45,7 +45,7 @@ impl State {
         ensures room { IfOk result (λ s. s.room ≡ room) }
         ensures memory { IfOk result HasMemory }
         ensures kept { IfOk result (λ s. FollowsHistory league.now (kept_of s)) }
-        ensures evaluator { IfOk result (λ s. IsEvaluatorOf league.now.rules s.evaluator) }
+        ensures evaluator { IfOk result (λ s. IsEvaluatorOf league.now.rules s.evaluator.value) }
     {
         let history = Vec::with_capacity(alloc, room as usize)?;
         let changes = Vec::with_capacity(alloc, room as usize)?;
@@ -83,7 +83,7 @@ impl State {
         requires total { total_of self.old.cost < 2 ^ 64 }
         ensures memory { HasMemory self.new }
         ensures entered { kept_of self.new ≡ entered (kept_of self.old) entry }
-        ensures evaluator { self.new.evaluator ≡ self.old.evaluator }
+        ensures evaluator { self.new.evaluator.value ≡ self.old.evaluator.value }
     {
         self.history.push_reserved(entry);
         let at = self.version();

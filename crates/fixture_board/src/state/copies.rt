@@ -15,7 +15,7 @@ impl State {
         requires no_more { length self.now.changes.items ≤ length self.now.history.items }
         ensures memory { IfOk result HasMemory }
         ensures kept { IfOk result (λ s. kept_of s ≡ kept_of self.now) }
-        ensures evaluator { IfOk result (λ s. s.evaluator ≡ self.now.evaluator) }
+        ensures evaluator { IfOk result (λ s. s.evaluator.value ≡ self.now.evaluator.value) }
     {
         Ok(State {
             room: self.room,

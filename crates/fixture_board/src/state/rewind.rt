@@ -20,7 +20,7 @@ impl State {
         requires kept { FollowsHistory league.now (kept_of self.old) }
         ensures memory { HasMemory self.new }
         ensures room { self.new.room ≡ self.old.room }
-        ensures evaluator { self.new.evaluator ≡ self.old.evaluator }
+        ensures evaluator { self.new.evaluator.value ≡ self.old.evaluator.value }
         ensures history { self.new.history.items ≡ rewound league.now self.old.history.items }
         ensures kept { FollowsHistory league.now (kept_of self.new) }
     {

@@ -24,9 +24,9 @@ impl State {
     pub(crate) fn step(&mut self, league: &League, ask: Ask) -> Result<(), Why>
         requires memory { HasMemory self.old }
         requires kept { FollowsHistory league.now (kept_of self.old) }
-        requires evaluator { IsEvaluatorOf league.now.rules self.old.evaluator }
+        requires evaluator { IsEvaluatorOf league.now.rules self.old.evaluator.value }
         ensures memory { HasMemory self.new }
-        ensures evaluator { self.new.evaluator ≡ self.old.evaluator }
+        ensures evaluator { self.new.evaluator.value ≡ self.old.evaluator.value }
         ensures step { IsStep league.now (kept_of self.old) (kept_of self.new) ask result }
     {
         match ask {
@@ -42,9 +42,9 @@ impl State {
     fn shift(&mut self, league: &League, proposal: Proposal) -> Result<(), Why>
         requires memory { HasMemory self.old }
         requires kept { FollowsHistory league.now (kept_of self.old) }
-        requires evaluator { IsEvaluatorOf league.now.rules self.old.evaluator }
+        requires evaluator { IsEvaluatorOf league.now.rules self.old.evaluator.value }
         ensures memory { HasMemory self.new }
-        ensures evaluator { self.new.evaluator ≡ self.old.evaluator }
+        ensures evaluator { self.new.evaluator.value ≡ self.old.evaluator.value }
         ensures step { IsStep league.now (kept_of self.old) (kept_of self.new) (Ask.Shift proposal) result }
     {
         let mv = proposal.mv;
@@ -77,9 +77,9 @@ impl State {
     pub(crate) fn would_shift(&mut self, league: &League, proposal: Proposal) -> Result<Cost, Why>
         requires memory { HasMemory self.old }
         requires kept { FollowsHistory league.now (kept_of self.old) }
-        requires evaluator { IsEvaluatorOf league.now.rules self.old.evaluator }
+        requires evaluator { IsEvaluatorOf league.now.rules self.old.evaluator.value }
         ensures memory { HasMemory self.new }
-        ensures evaluator { self.new.evaluator ≡ self.old.evaluator }
+        ensures evaluator { self.new.evaluator.value ≡ self.old.evaluator.value }
         ensures same { kept_of self.new ≡ kept_of self.old }
         ensures told { IsForetold league.now (kept_of self.old) proposal result }
     {
@@ -106,10 +106,10 @@ impl State {
     pub(crate) fn try_move(&mut self, league: &League, trial: Trial) -> Option<Cost>
         requires memory { HasMemory self.old }
         requires kept { FollowsHistory league.now (kept_of self.old) }
-        requires evaluator { IsEvaluatorOf league.now.rules self.old.evaluator }
+        requires evaluator { IsEvaluatorOf league.now.rules self.old.evaluator.value }
         requires weight { 1 ≤ trial.weight }
         ensures memory { HasMemory self.new }
-        ensures evaluator { self.new.evaluator ≡ self.old.evaluator }
+        ensures evaluator { self.new.evaluator.value ≡ self.old.evaluator.value }
         ensures tried { IsTried league.now (kept_of self.old) (kept_of self.new) trial result }
     {
         let Trial { mv, weight, rise } = trial;
@@ -139,7 +139,7 @@ impl State {
         requires within { length self.old.history.items ≤ self.old.room }
         requires no_more { length self.old.changes.items ≤ length self.old.history.items }
         ensures memory { HasMemory self.new }
-        ensures evaluator { self.new.evaluator ≡ self.old.evaluator }
+        ensures evaluator { self.new.evaluator.value ≡ self.old.evaluator.value }
         ensures step { (league : LeagueData) → FollowsHistory league (kept_of self.old) →
             IsStep league (kept_of self.old) (kept_of self.new) (Ask.Pin version game) result }
     {
@@ -157,7 +157,7 @@ impl State {
         requires within { length self.old.history.items ≤ self.old.room }
         requires no_more { length self.old.changes.items ≤ length self.old.history.items }
         ensures memory { HasMemory self.new }
-        ensures evaluator { self.new.evaluator ≡ self.old.evaluator }
+        ensures evaluator { self.new.evaluator.value ≡ self.old.evaluator.value }
         ensures step { (league : LeagueData) → FollowsHistory league (kept_of self.old) →
             IsStep league (kept_of self.old) (kept_of self.new) (Ask.Unpin version game) result }
     {
@@ -173,9 +173,9 @@ impl State {
     fn undo(&mut self, league: &League, version: u64) -> Result<(), Why>
         requires memory { HasMemory self.old }
         requires kept { FollowsHistory league.now (kept_of self.old) }
-        requires evaluator { IsEvaluatorOf league.now.rules self.old.evaluator }
+        requires evaluator { IsEvaluatorOf league.now.rules self.old.evaluator.value }
         ensures memory { HasMemory self.new }
-        ensures evaluator { self.new.evaluator ≡ self.old.evaluator }
+        ensures evaluator { self.new.evaluator.value ≡ self.old.evaluator.value }
         ensures step { IsStep league.now (kept_of self.old) (kept_of self.new) (Ask.Undo version) result }
     {
         self.check_version(version)?;
@@ -188,7 +188,7 @@ impl State {
 
     /// Takes a change back that was the last in effect.
     fn take_back(&mut self, league: &League, change: Change)
-        requires evaluator { IsEvaluatorOf league.now.rules self.old.evaluator }
+        requires evaluator { IsEvaluatorOf league.now.rules self.old.evaluator.value }
         requires same_size { teams league.now ≡ self.old.schedule.teams }
         requires last { CanTakeBack self.old.schedule change }
         requires known { self.old.cost ≡ cost_of league.now self.old.schedule }

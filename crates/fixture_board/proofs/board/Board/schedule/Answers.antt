@@ -3,7 +3,7 @@ use Rattle.fixture_board.proofs.Keeps.{IsSound-kept}
 use Rattle.fixture_board.proofs.board.Board.schedule.Goals as goal
 
 pub returns-clause-pinned_stand : goal.returns-clause-pinned_stand
-returns-clause-pinned_stand c = rw (← c.self.view_is) ((IsSound-kept c.self.invariant.1.0).1)
+returns-clause-pinned_stand c = rw (← c.self.view_is) ((IsSound-kept c.self.invariant.1).1)
 
 pub returns-clause-games : goal.returns-clause-games
 returns-clause-games c = search rules
