@@ -7,7 +7,9 @@ use Rattle.fixtures.specs.Games.{Games, round_count, is_home}
 use Rattle.robinx.specs.Deviations.{over}
 use Rattle.robinx.specs.Walked.{row_length, row_of, worst_apart, one_in}
 use Rattle.robinx.specs.declared.gaps.Gaps.{Gaps}
+use Rattle.robinx.specs.declared.fairness_rules.Fairness.{Fairness}
 use Rattle.robinx.specs.declared.gap_table.GapTable.{GapTable}
+use Rattle.robinx.specs.declared.table_pairs.TablePair.{TablePair}
 
 -- the gap of two teams in a table that has a row for each team
 abbrev pub gap_at : List (List ℕ) → ℕ → ℕ → ℕ
@@ -63,3 +65,17 @@ pub record IsTableOf (kept : GapTable) (g : Games) (of_teams of_slots : ℕ) : T
   pub is_for : IsTableFor kept g.teams of_slots
   pub teams : (t : ℕ) → has kept.gaps.teams t ≡ has of_teams t
   pub homes : (t r : ℕ) → has of_teams t ≡ true → r < round_count g.teams → has (slice_index kept.homes t) r ≡ is_home g t r
+
+-- for how many rules there are tables
+abbrev pub pair_count : ℕ
+pair_count = 16
+
+-- whether the pair was begun for the rule
+abbrev pub is_pair_of : TablePair → Fairness → Bool
+is_pair_of pair fairness =
+    pair.rule.teams == fairness.teams && (pair.rule.slots == fairness.slots && pair.rule.most == fairness.most)
+
+-- both are tables
+pub record IsTablePair (pair : TablePair) : Type 0 where
+  pub first : IsGapTable pair.first
+  pub second : IsGapTable pair.second

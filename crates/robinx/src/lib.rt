@@ -21,6 +21,7 @@ mod pairs;
 mod parts;
 mod round_numbers;
 mod separation_rules;
+mod table_pairs;
 mod team_windows;
 mod touched_rules;
 mod unaffected_rules;
