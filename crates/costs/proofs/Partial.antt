@@ -5,7 +5,6 @@ use Rattle.league.specs.League.{LeagueData, teams, IsLeague}
 use Rattle.league.specs.Sets.{has, IsBelow, IsWithoutLowest}
 use Rattle.league.specs.Sums.{sum_where}
 use Rattle.league.specs.declared.rule.Rule.{Rule}
-use Rattle.league.specs.declared.rule.Weight.{Weight}
 use Rattle.league.proofs.ForCallers.{has_empty, lowest_below, sum_where_none, sum_where_without}
 use Rattle.fixtures.specs.Games.{Games, IsDoubleRoundRobin}
 use Rattle.tours.specs.Phased.{unphased_part}

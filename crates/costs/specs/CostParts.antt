@@ -1,14 +1,11 @@
 -- What of the costs an exchange can change, counted on the schedule before it or after it. `main` has its main teams and
 -- their rounds.
-use Rattle.std.specs.Prelude.{◌≡◌, ℕ, zero, suc, ◌+◌, ◌*◌, ◌<◌, nat_lt, Bool, true, false, if◌then◌else◌}
+use Rattle.std.specs.Prelude.{◌≡◌, ℕ, ◌+◌, ◌*◌, ◌<◌, nat_lt, Bool, if◌then◌else◌}
 use Rattle.std.specs.Prelude.{List, length, slice_get, Option, Some, None}
-use Rattle.league.specs.League.{LeagueData, teams}
-use Rattle.league.specs.RuleLimits.{IsRuleFor}
+use Rattle.league.specs.League.{LeagueData}
 use Rattle.league.specs.Sets.{has, IsBelow}
 use Rattle.league.specs.Sums.{sum_below}
 use Rattle.league.specs.declared.rule.Rule.{Rule}
-use Rattle.league.specs.declared.rule.RuleBody.{RuleBody}
-use Rattle.league.specs.declared.rule.RuleBody.TheVariants.{Fa2}
 use Rattle.league.specs.declared.rule.Weight.{Weight}
 use Rattle.league.specs.declared.rule.Weight.TheVariants.{Hard, Soft}
 use Rattle.fixtures.specs.Games.{Games}
@@ -22,7 +19,6 @@ use Rattle.tours.specs.Phased.{unphased_part}
 use Rattle.robinx.specs.Laws.{SidesAreMain}
 use Rattle.robinx.specs.Parts.{deviation_part}
 use Rattle.rule_index.specs.Alterable.{is_alterable_at}
-use Rattle.robinx.specs.declared.fairness_rules.Fairness.{Fairness}
 use Rattle.costs.specs.Evaluators.{last_fairness}
 use Rattle.costs.specs.Costs.{cost_of, hard_penalty, near_cost, soft_penalty, score_limit, where_phased}
 use Rattle.costs.specs.declared.cost.Cost.{Cost}

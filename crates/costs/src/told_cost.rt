@@ -2,10 +2,8 @@
 
 ghost use Rattle.std.specs.Prelude.{◌≡◌, ◌+◌, ◌*◌, ◌<◌, ◌≤◌, MatchOption};
 ghost use Rattle.league.specs.League.{teams};
-ghost use Rattle.league.specs.Limits.{max_distance, max_rounds, max_teams, max_weight};
-ghost use Rattle.tours.specs.Moved.{moved_games};
+ghost use Rattle.league.specs.Limits.{max_rounds, max_weight};
 ghost use Rattle.tours.specs.Repeats.{repeats};
-ghost use Rattle.tours.specs.Runs.{runs_over};
 ghost use Rattle.tours.specs.Tours.{travel};
 ghost use Rattle.fixtures.specs.Exchanges.{exchanged_by, IsExchange};
 ghost use Rattle.costs.specs.Costs.{cost_of, near_cost, score_by};

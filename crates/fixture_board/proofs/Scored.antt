@@ -1,5 +1,5 @@
 -- The schedule of a history is of the league's teams, and scores below the limit of scores.
-use Rattle.std.proofs.Common.{◌≡◌, ℕ, ◌^◌, ◌<◌, List, [], ◌∷◌, refl, ◌∙◌, arith}
+use Rattle.std.proofs.Common.{◌≡◌, ◌^◌, ◌<◌, List, [], ◌∷◌, refl, ◌∙◌, arith}
 use Rattle.league.specs.League.{LeagueData, teams, IsLeague}
 use Rattle.league.specs.Starts.{start_of}
 use Rattle.fixtures.specs.Games.{Games}

@@ -1,6 +1,6 @@
 //! The board: its league, its history, and what follows from them.
 
-ghost use Rattle.std.specs.Prelude.{◌≡◌, ◌<◌, ◌≤◌, ℕ, [], List, Some, None, length, nat_lt, slice_index_or};
+ghost use Rattle.std.specs.Prelude.{◌≡◌, ◌<◌, ◌≤◌, [], List, Some, None, length, nat_lt, slice_index_or};
 ghost use Rattle.std.specs.Prelude.{if◌then◌else◌, IfOk, IfErr, IfNone, IfSome};
 ghost use Rattle.fixtures.specs.Games.{IsPair};
 ghost use Rattle.league.specs.League.{teams, IsLeague};

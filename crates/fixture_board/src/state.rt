@@ -32,7 +32,7 @@ pub(crate) struct State {
 }
 
 impl State {
-    ghost use Rattle.std.specs.Prelude.{◌≡◌, ◌+◌, ◌^◌, ◌<◌, ◌≤◌, [], length, IfOk};
+    ghost use Rattle.std.specs.Prelude.{◌≡◌, ◌^◌, ◌<◌, ◌≤◌, [], length, IfOk};
     ghost use Rattle.costs.specs.Costs.{total_of};
     ghost use Rattle.costs.specs.Evaluators.{IsEvaluatorOf};
     ghost use Rattle.fixture_board.specs.History.{max_room};

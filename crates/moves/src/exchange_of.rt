@@ -1,8 +1,6 @@
 //! Which exchange a move is: beside `check`, the one place where the five moves are told apart.
 
-ghost use Rattle.std.specs.Prelude.{◌≡◌, ℕ, ◌<◌, ◌||◌, ◌==◌, Ok};
-ghost use Rattle.league.specs.Limits.{max_teams, max_rounds};
-ghost use Rattle.league.specs.Sets.{has, IsBelow};
+ghost use Rattle.std.specs.Prelude.{◌≡◌, Ok};
 ghost use Rattle.fixtures.specs.Games.{IsPair};
 ghost use Rattle.moves.specs.Moves.{fault_of};
 ghost use Rattle.moves.specs.ExchangeOf.{exchange_of, IsExchangeOf, rounds_apart};

@@ -4,7 +4,7 @@
 //! Teams and rounds are numbered from 0 in calls, and from 1 in texts. Nothing here takes memory.
 #![tactic(auto)]
 
-mod costs;
+mod cost_text;
 mod laws;
 mod leaving;
 mod report;

@@ -13,7 +13,7 @@ ghost use Rattle.schedule_texts.specs.Judged.{IsJudgedBy};
 ghost use Rattle.reports.specs.CostText.{cost_text};
 ghost use Rattle.reports.specs.Report.{is_feasible, report_text};
 
-use crate::costs::write_costs;
+use crate::cost_text::write_costs;
 use costs::cost_of;
 use fixtures::Schedule;
 use league::League;

@@ -1,6 +1,6 @@
 //! Sets of the rules of a league, each in two words of bits.
 
-ghost use Rattle.std.specs.Prelude.{◌≡◌, ℕ, ◌+◌, ◌-◌, ◌*◌, ◌/◌, ◌%◌, ◌^◌, ◌<◌, ◌≤◌, ◌&&◌, ◌||◌, ◌==◌, not, false};
+ghost use Rattle.std.specs.Prelude.{◌≡◌, ℕ, ◌+◌, ◌-◌, ◌*◌, ◌/◌, ◌%◌, ◌^◌, ◌<◌, ◌≤◌, ◌&&◌, ◌||◌, ◌==◌, false};
 ghost use Rattle.std.specs.Iterator.{at_most};
 ghost use Rattle.std.proofs.lemmas.Nat.{div-mul-add, mod-mul-add};
 ghost use Rattle.sets.specs.Limits.{max_rules};

@@ -17,7 +17,13 @@ use league::{League, SlotSet, TeamSet};
 
 /// How many of the games that change their rounds have another than at the start of the league, if rounds `k` and `l` are
 /// exchanged for the teams of the set, which has the opponents of its teams in the two rounds.
-pub(crate) fn moved_of_rounds(schedule: &Schedule, league: &League, k: u8, l: u8, among: TeamSet) -> Moved
+pub(crate) fn moved_of_rounds(
+    schedule: &Schedule,
+    league: &League,
+    k: u8,
+    l: u8,
+    among: TeamSet,
+) -> Moved
     requires same { teams league.now ≡ schedule.now.teams }
     requires k { k < round_count schedule.now.teams }
     requires l { l < round_count schedule.now.teams }
@@ -86,7 +92,13 @@ fn moved_at_home(league: &League, team: u8, game: Cell, before: u8, after: u8) -
 /// How many of the games that change their rounds have another than at the start of the league, if teams `i` and `j` are
 /// exchanged in the games of the rounds of the set. In none of them the two meet, and if one of them meets a team in a
 /// round of the set, so does the other.
-pub(crate) fn moved_of_teams(schedule: &Schedule, league: &League, i: u8, j: u8, among: SlotSet) -> Moved
+pub(crate) fn moved_of_teams(
+    schedule: &Schedule,
+    league: &League,
+    i: u8,
+    j: u8,
+    among: SlotSet,
+) -> Moved
     requires same { teams league.now ≡ schedule.now.teams }
     requires i { i < schedule.now.teams }
     requires j { j < schedule.now.teams }

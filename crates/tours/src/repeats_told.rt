@@ -1,9 +1,9 @@
 //! What an exchange changes in the repeats, told on the schedule before it.
 
-ghost use Rattle.std.specs.Prelude.{◌≡◌, ◌≢◌, ◌+◌, ◌-◌, ◌*◌, ◌<◌, ◌≤◌, ◌==◌, nat_lt, false, if◌then◌else◌};
+ghost use Rattle.std.specs.Prelude.{◌≡◌, ◌≢◌, ◌+◌, ◌-◌, ◌*◌, ◌<◌, ◌≤◌, ◌==◌, false, if◌then◌else◌};
 ghost use Rattle.league.specs.Limits.{max_teams, max_rounds};
 ghost use Rattle.league.specs.Sets.{has, IsBelow};
-ghost use Rattle.fixtures.specs.Games.{cell, round_count, round_of, IsDoubleRoundRobin};
+ghost use Rattle.fixtures.specs.Games.{round_count, round_of, IsDoubleRoundRobin};
 ghost use Rattle.fixtures.specs.Edits.{exchanged, rounds_exchanged, teams_exchanged};
 ghost use Rattle.fixtures.specs.Closed.{IsClosed, plays_in, shares_opponent};
 ghost use Rattle.tours.specs.Repeats.{repeats};

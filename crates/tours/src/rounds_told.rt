@@ -1,6 +1,6 @@
 //! What an exchange of two rounds changes in the travel, told on the schedule before it.
 
-ghost use Rattle.std.specs.Prelude.{◌≡◌, ◌≢◌, ℕ, ◌+◌, ◌*◌, ◌<◌, ◌≤◌};
+ghost use Rattle.std.specs.Prelude.{◌≡◌, ◌≢◌, ◌+◌, ◌*◌, ◌<◌, ◌≤◌};
 ghost use Rattle.league.specs.League.{teams};
 ghost use Rattle.league.specs.Limits.{max_teams, max_distance};
 ghost use Rattle.league.specs.Sets.{has, IsBelow};
@@ -19,7 +19,13 @@ use league::{League, TeamSet};
 
 /// The legs that change if rounds `k` and `l` are exchanged for the teams of the set, which has the opponents of its
 /// teams in the two rounds.
-pub(crate) fn legs_of_rounds(schedule: &Schedule, league: &League, k: u8, l: u8, among: TeamSet) -> Legs
+pub(crate) fn legs_of_rounds(
+    schedule: &Schedule,
+    league: &League,
+    k: u8,
+    l: u8,
+    among: TeamSet,
+) -> Legs
     requires same { teams league.now ≡ schedule.now.teams }
     requires k { k < round_count schedule.now.teams }
     requires l { l < round_count schedule.now.teams }

@@ -80,7 +80,13 @@ fn turned_runs(schedule: &Schedule, at_most: u8, k: u8, l: u8, team: u8) -> Brea
 
 /// The runs of teams `i` and `j` if they are exchanged in the games of the rounds of the set. In none of them the two
 /// meet, and if one of them meets a team in a round of the set, so does the other.
-pub(crate) fn runs_of_teams(schedule: &Schedule, league: &League, i: u8, j: u8, among: SlotSet) -> Breaches
+pub(crate) fn runs_of_teams(
+    schedule: &Schedule,
+    league: &League,
+    i: u8,
+    j: u8,
+    among: SlotSet,
+) -> Breaches
     requires same { teams league.now ≡ schedule.now.teams }
     requires i { i < schedule.now.teams }
     requires j { j < schedule.now.teams }

@@ -1,10 +1,10 @@
 //! What an exchange of two teams changes in the travel, told on the schedule before it.
 
-ghost use Rattle.std.specs.Prelude.{◌≡◌, ◌≢◌, ℕ, ◌+◌, ◌*◌, ◌<◌, ◌≤◌, true, false};
+ghost use Rattle.std.specs.Prelude.{◌≡◌, ◌≢◌, ◌+◌, ◌*◌, ◌<◌, ◌≤◌, false};
 ghost use Rattle.league.specs.League.{teams};
 ghost use Rattle.league.specs.Limits.{max_rounds, max_distance};
 ghost use Rattle.league.specs.Sets.{has};
-ghost use Rattle.fixtures.specs.Games.{round_count, round_of};
+ghost use Rattle.fixtures.specs.Games.{round_of};
 ghost use Rattle.fixtures.specs.Edits.{teams_exchanged};
 ghost use Rattle.fixtures.specs.Closed.{IsClosed, shares_opponent};
 ghost use Rattle.tours.specs.Tours.{travel};
@@ -21,7 +21,13 @@ use league::{League, SlotSet};
 
 /// The legs that change if teams `i` and `j` are exchanged in the games of the rounds of the set. In none of them the
 /// two meet, and if one of them meets a team in a round of the set, so does the other.
-pub(crate) fn legs_of_teams(schedule: &Schedule, league: &League, i: u8, j: u8, among: SlotSet) -> Legs
+pub(crate) fn legs_of_teams(
+    schedule: &Schedule,
+    league: &League,
+    i: u8,
+    j: u8,
+    among: SlotSet,
+) -> Legs
     requires same { teams league.now ≡ schedule.now.teams }
     requires i { i < schedule.now.teams }
     requires j { j < schedule.now.teams }

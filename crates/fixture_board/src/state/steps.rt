@@ -61,7 +61,8 @@ impl State {
             weight: league.hard_weight(),
             most,
         };
-        let Some(cost) = make_within(&mut self.schedule, league, &mut self.evaluator, &attempt) else {
+        let Some(cost) = make_within(&mut self.schedule, league, &mut self.evaluator, &attempt)
+        else {
             return Err(above);
         };
         if let Err(why) = self.check_score(proposal, before, cost.score(league)) {

@@ -1,8 +1,8 @@
 -- The laws of the moves of homes, of rounds and of teams.
 use Rattle.std.proofs.Common.{◌≡◌, ◌≢◌, ℕ, ◌<◌, inl, inr, Bool, true, not, ◌&&◌, ◌||◌, eqb, ltb, refl, sym, ◌∙◌, ap, ap₂, subst, Ok, arith}
 use Rattle.std.proofs.Math.Bool.{or_comm}
-use Rattle.std.proofs.lemmas.Bool.{cases_eq, cond-true, and_from, and_parts, and_right, or_cases, or_left, or_right}
-use Rattle.std.proofs.lemmas.Bool.{or_from, eqb-true, eq-eqb, ne_eqb, lt-ltb, ltb-true, not_from_false}
+use Rattle.std.proofs.lemmas.Bool.{cases_eq, cond-true, and_from, and_parts, and_right, or_left, or_right}
+use Rattle.std.proofs.lemmas.Bool.{or_from, eq-eqb, ne_eqb, lt-ltb, ltb-true, not_from_false}
 use Rattle.league.specs.Sets.{has}
 use Rattle.fixtures.specs.Games.{Games, round_of, round_count, IsPair, IsDoubleRoundRobin}
 use Rattle.fixtures.specs.Exchanges.{IsOfRounds, IsOfTeams}

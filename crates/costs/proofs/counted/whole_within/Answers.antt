@@ -1,4 +1,4 @@
-use Rattle.std.proofs.Common.{◌+◌, refl, ap, arith}
+use Rattle.std.proofs.Common.{refl, ap, arith}
 use Rattle.league.proofs.ForCallers.{lowest_below}
 use Rattle.costs.specs.declared.cost.Cost.{Cost}
 use Rattle.costs.proofs.Partial.{IsCountedWithout, all_counted, no_more, none_counted, one_more_counted}

@@ -1,4 +1,4 @@
-use Rattle.std.proofs.Common.{◌≡◌, ◌<◌, length, refl, ◌∙◌, arith}
+use Rattle.std.proofs.Common.{◌<◌, length, refl, ◌∙◌}
 use Rattle.league.specs.Sets.{IsBelow}
 use Rattle.league.proofs.ForCallers.{lowest_below, sum_without_none, sum_without_more, sum_without_all}
 use Rattle.costs.specs.Costs.{hard_penalty, soft_penalty}

@@ -1,4 +1,4 @@
-use Rattle.std.proofs.Common.{◌≡◌, sym, ◌∙◌, ap, subst}
+use Rattle.std.proofs.Common.{sym, ◌∙◌, ap, subst}
 use Rattle.league.specs.Sets.{has}
 use Rattle.fixtures.specs.TouchedCells.{TouchedCells}
 use Rattle.costs.specs.Evaluators.{IsEvaluatorOf}

@@ -5,7 +5,7 @@ use Rattle.fixtures.specs.Games.{round_count}
 use Rattle.costs.specs.Costs.{cost_of}
 use Rattle.reports.specs.Leaving.{leaving_text}
 use Rattle.reports.specs.CostText.{cost_text, halves_text, repeat_lines, rule_lines, run_lines, total_line, tour_line}
-use Rattle.reports.proofs.costs.write_costs.Goals as goal
+use Rattle.reports.proofs.cost_text.write_costs.Goals as goal
 
 pub returns-in_err-write_cost : goal.returns-in_err-write_cost
 unfolding cost_text

@@ -1,6 +1,6 @@
 use Rattle.streams.proofs.Pieces.{Adds-piece, Stops-in_pieces, Stops-writes}
 use Rattle.reports.specs.CostText.{half_line}
-use Rattle.reports.proofs.costs.write_halves_of.Goals as goal
+use Rattle.reports.proofs.cost_text.write_halves_of.Goals as goal
 
 pub loop-low-preserved : goal.loop-low-preserved
 loop-low-preserved g c =

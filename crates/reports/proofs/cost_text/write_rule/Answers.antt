@@ -1,6 +1,6 @@
 use Rattle.streams.proofs.Pieces.{Adds-writes, Stops-more, Stops-writes}
 use Rattle.breaches.specs.BreachText.{breaches_text}
-use Rattle.reports.proofs.costs.write_rule.Goals as goal
+use Rattle.reports.proofs.cost_text.write_rule.Goals as goal
 
 pub returns-in_err-write_rule_line : goal.returns-in_err-write_rule_line
 returns-in_err-write_rule_line g c =

@@ -1,6 +1,6 @@
 use Rattle.streams.proofs.Pieces.{Adds-piece, Stops-in_pieces, Stops-writes}
 use Rattle.reports.specs.CostText.{tour_line}
-use Rattle.reports.proofs.costs.write_tours.Goals as goal
+use Rattle.reports.proofs.cost_text.write_tours.Goals as goal
 
 pub loop-team-preserved : goal.loop-team-preserved
 loop-team-preserved g c =

@@ -1,7 +1,7 @@
 use Rattle.streams.proofs.Pieces.{Adds-piece, Stops-in_pieces, Stops-writes}
 use Rattle.std.specs.Prelude.{slice_get}
 use Rattle.reports.specs.CostText.{rule_at}
-use Rattle.reports.proofs.costs.write_rules.Goals as goal
+use Rattle.reports.proofs.cost_text.write_rules.Goals as goal
 
 pub loop-i-preserved : goal.loop-i-preserved
 loop-i-preserved g c =
