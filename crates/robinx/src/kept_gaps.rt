@@ -20,14 +20,14 @@ pub struct KeptGaps {
 }
 
 impl Model for KeptGaps {
-    ghost use Rattle.std.specs.Prelude.{◌≡◌, ◌<◌, All, length};
+    ghost use Rattle.std.specs.Prelude.{◌≡◌, ◌≤◌, All, length};
     ghost use Rattle.robinx.specs.Gaps.{pair_count, IsTablePair};
 
     ghost Value = { Unit };
 
     ghost view = { λ _. tt };
 
-    ghost invariant = { λ kept. All IsTablePair kept.tables.pairs × (length kept.tables.pairs ≡ pair_count) × (kept.tables.next < pair_count) };
+    ghost invariant = { λ kept. All IsTablePair kept.tables.pairs × (length kept.tables.pairs ≡ pair_count) × (kept.tables.begun ≤ pair_count) };
 }
 
 impl KeptGaps {

@@ -1,6 +1,6 @@
 //! Tables of gaps for some rules of class FA2.
 
-ghost use Rattle.std.specs.Prelude.{◌≡◌, ℕ, ◌<◌, nat_le, true, false, All, MatchOption, length, slice_index_or};
+ghost use Rattle.std.specs.Prelude.{◌≡◌, ℕ, ◌<◌, ◌≤◌, nat_le, true, false, All, MatchOption, length, slice_index_or};
 ghost use Rattle.league.specs.Sets.{has, IsBelow};
 ghost use Rattle.fixtures.specs.Changes.{IsTurned};
 ghost use Rattle.fixtures.specs.Games.{Games, round_count, IsDoubleRoundRobin};
@@ -14,8 +14,8 @@ use crate::gap_table::GapTable;
 use fixtures::{Schedule, Touched};
 use league::{SlotSet, TeamSet};
 
-/// For how many rules there are tables. A league seldom has more than two of the class; if it has more than this, they share them.
-const PAIRS: usize = 16;
+/// For how many rules there are tables. They lie on the stack, and a league seldom has more than two rules of the class.
+const PAIRS: usize = 4;
 
 /// The tables of the two schedules that were counted last for a rule: a search counts a schedule before and after each move.
 #[derive(Clone, Copy, Drop)]
@@ -100,8 +100,8 @@ impl TablePair {
 #[derive(Drop)]
 pub(crate) struct TablePairs {
     pub pairs: [TablePair; PAIRS],
-    /// The pair that the next new rule takes.
-    pub next: usize,
+    /// How many were begun for a rule.
+    pub begun: usize,
 }
 
 impl TablePairs {
@@ -109,30 +109,30 @@ impl TablePairs {
     pub(crate) fn new() -> Self
         ensures tables { All IsTablePair result.pairs }
         ensures count { length result.pairs ≡ pair_count }
-        ensures next { result.next < pair_count }
+        ensures begun { result.begun ≤ pair_count }
     {
         TablePairs {
             pairs: [TablePair::new(); PAIRS],
-            next: 0,
+            begun: 0,
         }
     }
 
-    /// Where the rule's pair stands. If it has none, it takes the one that was taken longest ago.
+    /// Where the rule's pair stands. If it has none, one is begun for it, or it takes the last one if all are begun.
     pub(crate) fn place_of(&mut self, fairness: &Fairness) -> usize
         requires tables { All IsTablePair self.old.pairs }
         requires count { length self.old.pairs ≡ pair_count }
-        requires next { self.old.next < pair_count }
+        requires begun { self.old.begun ≤ pair_count }
         ensures tables { All IsTablePair self.new.pairs }
         ensures count { length self.new.pairs ≡ pair_count }
-        ensures next { self.new.next < pair_count }
+        ensures begun { self.new.begun ≤ pair_count }
         ensures within { result < pair_count }
         ensures own { (d : TablePair) → is_pair_of (slice_index_or self.new.pairs result d) fairness.now ≡ true }
     {
         if let Some(place) = self.find(fairness) {
             return place;
         }
-        let place = self.next;
-        self.next = (place + 1) % PAIRS;
+        let place = self.begun.min(PAIRS - 1);
+        self.begun = place + 1;
         self.pairs[place].rule = *fairness;
         place
     }

@@ -8,5 +8,5 @@ pub invariant_of-gaps : goal.invariant_of-gaps
 invariant_of-gaps c = (
   All-set IsTablePair c.place_of-place.new.self.pairs c.place_of-place.result _ c.turned_within.ensures.tables c.place_of-place.ensures.tables,
   length-set c.place_of-place.new.self.pairs c.place_of-place.result _ ∙ c.place_of-place.ensures.count,
-  c.place_of-place.ensures.next,
+  c.place_of-place.ensures.begun,
 )

@@ -8,5 +8,5 @@ pub invariant_of-self : goal.invariant_of-self
 invariant_of-self c = (
   All-set IsTablePair c.place_of-place.new.self.pairs c.place_of-place.result _ c.deviation.ensures.tables c.place_of-place.ensures.tables,
   length-set c.place_of-place.new.self.pairs c.place_of-place.result _ ∙ c.place_of-place.ensures.count,
-  c.place_of-place.ensures.next,
+  c.place_of-place.ensures.begun,
 )

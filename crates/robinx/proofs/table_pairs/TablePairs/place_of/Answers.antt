@@ -6,6 +6,6 @@ use Rattle.robinx.proofs.table_pairs.TablePairs.place_of.Goals as goal
 pub returns-clause-tables : goal.returns-clause-tables
 returns-clause-tables c =
     let taken : IsTablePair _ =
-    All-get_or IsTablePair c.args.self.now.pairs c.args.self.now.next c.index-self-place.result
-    (omega (arith, c.requires.count, c.requires.next)) c.requires.tables in
-    All-set IsTablePair c.args.self.now.pairs c.args.self.now.next _ (record { first = taken.first; second = taken.second }) c.requires.tables
+    All-get_or IsTablePair c.args.self.now.pairs c.min-place.result c.index-self-place.result
+    (omega (arith, c.requires.count, c.min-place.ensures)) c.requires.tables in
+    All-set IsTablePair c.args.self.now.pairs c.min-place.result _ (record { first = taken.first; second = taken.second }) c.requires.tables
