@@ -68,7 +68,7 @@ pub record IsTableOf (kept : GapTable) (g : Games) (of_teams of_slots : ℕ) : T
 
 -- for how many rules there are tables
 abbrev pub pair_count : ℕ
-pair_count = 4
+pair_count = 3
 
 -- whether the pair was begun for the rule
 abbrev pub is_pair_of : TablePair → Fairness → Bool

@@ -15,7 +15,7 @@ use fixtures::{Schedule, Touched};
 use league::{SlotSet, TeamSet};
 
 /// For how many rules there are tables. They lie on the stack, and a league seldom has more than two rules of the class.
-const PAIRS: usize = 4;
+const PAIRS: usize = 3;
 
 /// The tables of the two schedules that were counted last for a rule: a search counts a schedule before and after each move.
 #[derive(Clone, Copy, Drop)]
