@@ -2,7 +2,7 @@
 //! Otherwise the schedule is as it was, and the move counts as withdrawn.
 
 ghost use Rattle.std.specs.Prelude.{◌≡◌, ◌≤◌};
-ghost use Rattle.costs.specs.Evaluators.{IsEvaluatorOf};
+ghost use Rattle.costs.specs.Evaluators.{IsEvaluatorAt};
 ghost use Rattle.league.specs.League.{teams};
 ghost use Rattle.league.specs.Limits.{max_teams};
 ghost use Rattle.search.specs.Steps.{IsKnown};
@@ -131,9 +131,9 @@ fn try_move(
     known: &mut Known,
 ) -> TryEnd
     requires same_size { teams league.now ≡ schedule.old.teams }
-    requires evaluator { IsEvaluatorOf league.now.rules evaluator.old }
+    requires evaluator { IsEvaluatorAt league.now schedule.old evaluator.old }
     requires known { IsKnown league.now schedule.old known.old.cost known.old.score }
-    ensures evaluator { evaluator.new ≡ evaluator.old }
+    ensures evaluator { IsEvaluatorAt league.now schedule.new evaluator.new }
     ensures same_size { schedule.new.teams ≡ schedule.old.teams }
     ensures known { IsKnown league.now schedule.new known.new.cost known.new.score }
 {

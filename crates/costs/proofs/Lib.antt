@@ -4,4 +4,5 @@ pub mod PartLimits
 pub mod Walked
 pub mod Partial
 pub mod LastFairness
+pub mod CountsKept
 pub mod ForCallers

@@ -24,6 +24,9 @@ use Rattle.tours.specs.Runs.{runs_over}
 use Rattle.tours.specs.Phased.{unphased, unphased_part}
 use Rattle.tours.specs.Tours.{travel}
 use Rattle.tours.proofs.ForCallers.{unphased_balance_around}
+use Rattle.league.specs.declared.rule.RuleBody.{RuleBody}
+use Rattle.robinx.specs.Deviations.{deviation}
+use Rattle.robinx.specs.Parts.{deviation_part}
 use Rattle.robinx.proofs.ForCallers.{deviation_balance}
 use Rattle.costs.specs.Costs.{hard_penalty, soft_penalty, penalty_of, sum_over_rules, where_phased, cost_of, score_by, score_of}
 use Rattle.costs.specs.Costs.{near_cost, score_limit, IsCostWithin}
@@ -55,6 +58,14 @@ sides g scope is =
 pub round_robin_after : (g : Games) (scope : Scope) → IsScope g scope → IsDoubleRoundRobin (exchanged_by g scope.attempt.exchange.now)
 round_robin_after g scope is = (each_undone g scope.attempt.exchange.now is.can_be_made).again.round_robin
 
+-- what the exchange adds to the part of a deviation, it adds to the deviation
+pub body_balances : (g : Games) (scope : Scope) → IsScope g scope → (body : RuleBody) → IsBodyFor g.teams body →
+    deviation (exchanged_by g scope.attempt.exchange.now) body + deviation_part g scope.main.teams scope.main.rounds scope.turning body ≡
+    deviation g body + deviation_part (exchanged_by g scope.attempt.exchange.now) scope.main.teams scope.main.rounds scope.turning body
+body_balances g scope is =
+    deviation_balance g (exchanged_by g scope.attempt.exchange.now) is.can_be_made.round_robin (round_robin_after g scope is)
+    scope.main.teams scope.main.rounds scope.turning (around g scope is) (sides g scope is)
+
 -- a count that is taken or not
 counted_balances : (taken : Bool) (new old before after : ℕ) → new + before ≡ old + after →
     (if taken then new else 0) + (if taken then before else 0) ≡ (if taken then old else 0) + (if taken then after else 0)
@@ -83,10 +94,7 @@ rule_balances : (penalty : Weight → ℕ → ℕ) → IsEven penalty → (g : G
     penalty_of penalty g rule + rule_part penalty scope.main scope.turning (exchanged_by g scope.attempt.exchange.now) rule
 rule_balances penalty even g scope is None for = refl
 rule_balances penalty even g scope is (Some rule) for =
-    even rule.weight _ _ _ _
-    (deviation_balance g (exchanged_by g scope.attempt.exchange.now) is.can_be_made.round_robin (round_robin_after g scope is)
-    scope.main.teams
-    scope.main.rounds scope.turning (around g scope is) (sides g scope is) rule.body (for rule refl))
+    even rule.weight _ _ _ _ (body_balances g scope is rule.body (for rule refl))
 
 pub rule_for : (l : LeagueData) (g : Games) (i : ℕ) → IsLeague l → teams l ≡ g.teams → (rule : Rule) →
     slice_get l.rules i ≡ Some rule → IsBodyFor g.teams rule.body

@@ -1,3 +1,4 @@
 pub mod Costs
 pub mod Evaluators
 pub mod CostParts
+pub mod CountsKept

@@ -1,30 +1,32 @@
 //! What an exchange can change of a cost that has to be counted, before it and after it: of the rules, and in a phased league of
 //! the pairs with both games in one half.
 
-ghost use Rattle.std.specs.Prelude.{◌≡◌, ◌*◌, ◌<◌, ◌≤◌, MatchOption};
+ghost use Rattle.std.specs.Prelude.{◌≡◌, ◌*◌, ◌<◌, ◌≤◌, true, length, IfSome, MatchOption};
 ghost use Rattle.league.specs.League.{teams};
-ghost use Rattle.league.specs.Limits.{max_teams};
+ghost use Rattle.league.specs.Limits.{max_rules, max_teams};
 ghost use Rattle.league.specs.Sets.{has};
 ghost use Rattle.tours.specs.Phased.{unphased_part};
 ghost use Rattle.fixtures.specs.Exchanges.{exchanged_by};
 ghost use Rattle.costs.specs.Costs.{cost_of, score_by, where_phased, IsCostWithin};
 ghost use Rattle.costs.specs.CostParts.{IsRest, IsScope, IsTold, KnowsRules};
+ghost use Rattle.costs.specs.CountsKept.{AreCounts, AreRests, IsKeptOf};
 
 use crate::cost::Cost;
+use crate::counts::Counts;
 use crate::fairness::leaves_room;
 use crate::penalties::Penalties;
 use crate::rule_costs::parts_of_rules;
 use crate::scope::Scope;
 use fixtures::{Schedule, Touched};
 use league::League;
-use robinx::{KeptGaps, deviation_part};
+use robinx::deviation_part;
 use tours::unphased_part;
 
-/// A told cost without the penalties that the exchange can change. None of them is counted if the known cost has none.
+/// A told cost without the penalties that the exchange can change.
 fn rest_of(
     schedule: &Schedule,
     league: &League,
-    gaps: &mut KeptGaps,
+    counts: &mut Counts,
     scope: &Scope<'_>,
     told: Cost,
 ) -> Cost
@@ -32,15 +34,15 @@ fn rest_of(
     requires scope { IsScope schedule.now scope.now }
     requires rules { KnowsRules league.now scope.now }
     requires known { scope.now.attempt.known ≡ cost_of league.now schedule.now }
+    requires counts { AreCounts league.now.rules schedule.now counts.old }
     requires told { IsTold league.now schedule.now scope.now.attempt.exchange.now told }
-    ensures { IsRest league.now scope.now (exchanged_by schedule.now scope.now.attempt.exchange.now) result }
+    ensures rest { IsRest league.now scope.now (exchanged_by schedule.now scope.now.attempt.exchange.now) result }
+    ensures counts { AreCounts league.now.rules schedule.now counts.new }
+    ensures same { IsKeptOf counts.new counts.old }
+    ensures rests { counts.new.is_known ≡ true → AreRests league.now.rules scope.now scope.now.rules schedule.now counts.new.next }
 {
     prove_eq!(league.teams(), schedule.teams());
-    let known = scope.attempt.known;
-    if known.hard == 0 && known.soft == 0 {
-        return told;
-    }
-    let rules = parts_of_rules(schedule, league, gaps, scope);
+    let rules = parts_of_rules(schedule, league, counts, scope);
     Cost {
         travel: told.travel,
         hard: told.hard - phases_part(schedule, league, scope.main) - rules.hard,
@@ -53,7 +55,7 @@ fn rest_of(
 pub(crate) fn rest_within(
     schedule: &Schedule,
     league: &League,
-    gaps: &mut KeptGaps,
+    counts: &mut Counts,
     scope: &Scope<'_>,
     told: Cost,
 ) -> Option<Cost>
@@ -62,16 +64,20 @@ pub(crate) fn rest_within(
     requires rules { KnowsRules league.now scope.now }
     requires known { scope.now.attempt.known ≡ cost_of league.now schedule.now }
     requires weight { 1 ≤ scope.now.attempt.weight }
+    requires counts { AreCounts league.now.rules schedule.now counts.old }
     requires told { IsTold league.now schedule.now scope.now.attempt.exchange.now told }
-    ensures { MatchOption result
+    ensures rest { MatchOption result
         (scope.now.attempt.most < score_by scope.now.attempt.weight (cost_of league.now (exchanged_by schedule.now scope.now.attempt.exchange.now)))
         (λ rest. IsRest league.now scope.now (exchanged_by schedule.now scope.now.attempt.exchange.now) rest) }
+    ensures counts { AreCounts league.now.rules schedule.now counts.new }
+    ensures same { IsKeptOf counts.new counts.old }
+    ensures rests { counts.new.is_known ≡ true → AreRests league.now.rules scope.now scope.now.rules schedule.now counts.new.next }
 {
     prove_eq!(league.teams(), schedule.teams());
-    let rest = rest_of(schedule, league, gaps, scope, told);
+    let rest = rest_of(schedule, league, counts, scope, told);
     let score = rest.score_by(scope.attempt.weight);
     let most = scope.attempt.most;
-    if score > most || !leaves_room(schedule, league, gaps, scope, most - score) {
+    if score > most || !leaves_room(schedule, league, &mut counts.gaps, scope, most - score) {
         return None;
     }
     Some(rest)
@@ -82,14 +88,19 @@ pub(crate) fn rest_within(
 pub(crate) fn whole_within(
     schedule: &Schedule,
     league: &League,
-    gaps: &mut KeptGaps,
+    counts: &mut Counts,
     scope: &Scope<'_>,
     rest: Cost,
 ) -> Option<Cost>
     requires same_size { teams league.now ≡ schedule.now.teams }
     requires rules { KnowsRules league.now scope.now }
     requires rest { IsRest league.now scope.now schedule.now rest }
-    ensures { IsCostWithin league.now scope.now.attempt.weight scope.now.attempt.most schedule.now result }
+    requires next_length { length counts.old.next ≡ max_rules }
+    requires rests { counts.old.is_known ≡ true → AreRests league.now.rules scope.now scope.now.rules schedule.now counts.old.next }
+    ensures cost { IsCostWithin league.now scope.now.attempt.weight scope.now.attempt.most schedule.now result }
+    ensures same { IsKeptOf counts.new counts.old }
+    ensures next_length { length counts.new.next ≡ max_rules }
+    ensures all { IfSome result (λ _. counts.new.is_known ≡ true → AreRests league.now.rules scope.now 0 schedule.now counts.new.next) }
 {
     prove_eq!(league.teams(), schedule.teams());
     let (weight, most) = (scope.attempt.weight, scope.attempt.most);
@@ -102,7 +113,8 @@ pub(crate) fn whole_within(
             return None;
         }
         let rule = league.rule(i);
-        let part = deviation_part(schedule, rule, scope.main, scope.turning, gaps);
+        let part = deviation_part(schedule, rule, scope.main, scope.turning, &mut counts.gaps);
+        counts.next[i] = counts.next[i].saturating_add(part as u32);
         let added = Penalties::of_rule(rule.weight, part);
         cost.hard += added.hard;
         cost.soft += added.soft;

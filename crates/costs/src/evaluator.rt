@@ -1,52 +1,69 @@
 //! What serves to judge exchanges on the schedules of one league.
 
-ghost use Rattle.std.specs.Prelude.{◌≡◌, length, Some};
+ghost use Rattle.std.specs.Prelude.{◌≡◌, length, Some, None};
 ghost use Rattle.costs.specs.Evaluators.{is_fairness, last_fairness, IsEvaluatorOf};
 
+use crate::counts::Counts;
 use league::{League, Rule, RuleBody};
-use robinx::KeptGaps;
 use rule_index::RuleIndex;
 use std::marker::Model;
 
-/// What serves to judge exchanges on the schedules of one league: which of its rules a change can alter, and what FA2 counted last. Whatever
-/// was counted, an exchange is judged the same.
+/// What serves to judge exchanges on a schedule of a league, and to make them on it one after another: which of the rules a change can
+/// alter, and what was counted of them on that schedule. Whatever was counted, an exchange is judged the same. If the schedule is changed
+/// in another way, what was counted has to be forgotten ([`forget`](Evaluator::forget)).
 #[derive(Drop)]
 pub struct Evaluator {
     pub(crate) index: RuleIndex,
     /// The last rule of class FA2.
     pub(crate) fairness: Option<usize>,
-    pub(crate) gaps: KeptGaps,
+    pub(crate) counts: Counts,
 }
 
 impl Model for Evaluator {
-    ghost use Rattle.costs.specs.Evaluators.{Known};
+    ghost use Rattle.std.specs.Prelude.{◌≡◌, length};
+    ghost use Rattle.league.specs.Limits.{max_rules};
+    ghost use Rattle.costs.specs.Evaluators.{Known, if_known};
 
     ghost Value = { Known };
 
-    ghost view = { λ e. record { index = e.index; fairness = e.fairness } };
+    ghost view = { λ e. record {
+      index = e.index;
+      fairness = e.fairness;
+      deviations = if_known e.counts.is_known e.counts.kept;
+    } };
+
+    ghost invariant = { λ e. (length e.counts.kept ≡ max_rules) × (length e.counts.next ≡ max_rules) };
 }
 
 impl Evaluator {
     /// The evaluator of a league, with nothing counted. Takes no memory.
     pub fn new(league: &League) -> Evaluator
-        ensures { IsEvaluatorOf league.now.rules result }
+        ensures league { IsEvaluatorOf league.now.rules result }
+        ensures unknown { result.deviations ≡ None }
     {
         Evaluator {
             index: RuleIndex::new(league),
             fairness: last_fairness(league),
-            gaps: KeptGaps::new(),
+            counts: Counts::new(),
         }
     }
 
     /// Another one of the same league, with nothing counted.
     pub fn anew(&self) -> Evaluator
-        ensures { result ≡ self.now }
+        ensures { result ≡ record self.now { deviations = None } }
     {
         Evaluator {
             index: self.index,
             fairness: self.fairness,
-            gaps: KeptGaps::new(),
+            counts: Counts::new(),
         }
+    }
+
+    /// Forgets what was counted of the rules on a schedule, as it serves on no other one.
+    pub fn forget(&mut self)
+        ensures { self.new ≡ record self.old { deviations = None } }
+    {
+        self.counts.forget();
     }
 }
 

@@ -7,6 +7,7 @@
 mod attempt;
 mod cost;
 mod counted;
+mod counts;
 mod evaluator;
 mod fairness;
 mod made_exchanges;

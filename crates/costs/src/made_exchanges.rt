@@ -4,7 +4,7 @@ ghost use Rattle.std.specs.Prelude.{◌≡◌, ◌<◌, ◌≤◌, IfSome, Match
 ghost use Rattle.league.specs.League.{teams};
 ghost use Rattle.fixtures.specs.Exchanges.{exchanged_by, IsExchange};
 ghost use Rattle.costs.specs.Costs.{cost_of, score_of, score_limit, IsCostWithin};
-ghost use Rattle.costs.specs.Evaluators.{IsEvaluatorOf};
+ghost use Rattle.costs.specs.Evaluators.{IsEvaluatorAt};
 
 use crate::attempt::Attempt;
 use crate::cost::Cost;
@@ -16,7 +16,7 @@ use fixtures::{Exchange, Schedule};
 use league::League;
 
 /// Makes an exchange on a schedule of known cost, and gives the cost after. Made once more, it gives the schedule back.
-/// What FA2 counts is kept in the evaluator. Takes no memory.
+/// What is counted is kept in the evaluator. Takes no memory.
 pub fn make_at_cost(
     schedule: &mut Schedule,
     league: &League,
@@ -25,7 +25,7 @@ pub fn make_at_cost(
     known: Cost,
 ) -> Cost
     requires same_size { teams league.now ≡ schedule.old.teams }
-    requires evaluator { IsEvaluatorOf league.now.rules evaluator.old }
+    requires evaluator { IsEvaluatorAt league.now schedule.old evaluator.old }
     requires can_be_made { IsExchange schedule.old exchange.now }
     requires known { known ≡ cost_of league.now schedule.old }
     ensures made { schedule.new ≡ exchanged_by schedule.old exchange.now }
@@ -33,7 +33,7 @@ pub fn make_at_cost(
     ensures back { exchanged_by schedule.new exchange.now ≡ schedule.old }
     ensures value { result ≡ cost_of league.now schedule.new }
     ensures small { score_of league.now result < score_limit }
-    ensures same { evaluator.new ≡ evaluator.old }
+    ensures evaluator { IsEvaluatorAt league.now schedule.new evaluator.new }
 {
     prove_eq!(league.teams(), schedule.teams());
     let attempt = Attempt {
@@ -47,7 +47,7 @@ pub fn make_at_cost(
 
 /// Makes the exchange of an attempt as `make_at_cost` does if the score after by the attempt's weight is at most the greatest allowed, and
 /// gives the cost after. Otherwise the schedule is left as it was, and what costs little to count is counted first: travel, runs and repeats,
-/// then some rules on fairness, for all of which nothing is made, and last the other rules. What FA2 counts is kept in the evaluator. Takes no
+/// then some rules on fairness, for all of which nothing is made, and last the other rules. What is counted is kept in the evaluator. Takes no
 /// memory.
 pub fn make_within(
     schedule: &mut Schedule,
@@ -56,7 +56,7 @@ pub fn make_within(
     attempt: &Attempt<'_>,
 ) -> Option<Cost>
     requires same_size { teams league.now ≡ schedule.old.teams }
-    requires evaluator { IsEvaluatorOf league.now.rules evaluator.old }
+    requires evaluator { IsEvaluatorAt league.now schedule.old evaluator.old }
     requires can_be_made { IsExchange schedule.old attempt.now.exchange.now }
     requires known { attempt.now.known ≡ cost_of league.now schedule.old }
     requires weight { 1 ≤ attempt.now.weight }
@@ -66,7 +66,7 @@ pub fn make_within(
     ensures again { IsExchange schedule.new attempt.now.exchange.now }
     ensures back { IfSome result (λ cost. exchanged_by schedule.new attempt.now.exchange.now ≡ schedule.old) }
     ensures small { IfSome result (λ cost. score_of league.now cost < score_limit) }
-    ensures same { evaluator.new ≡ evaluator.old }
+    ensures evaluator { IsEvaluatorAt league.now schedule.new evaluator.new }
 {
     prove_eq!(league.teams(), schedule.teams());
     let told = told_within(schedule, league, attempt)?;
@@ -79,11 +79,15 @@ pub fn make_within(
         return Some(told);
     }
     let scope = Scope::of(attempt, schedule, evaluator);
-    let rest = rest_within(schedule, league, &mut evaluator.gaps, &scope, told)?;
+    let counts = &mut evaluator.counts;
+    counts.learn(schedule, league);
+    let rest = rest_within(schedule, league, counts, &scope, told)?;
     exchange.make(schedule);
-    let cost = whole_within(schedule, league, &mut evaluator.gaps, &scope, rest);
+    let cost = whole_within(schedule, league, counts, &scope, rest);
     if cost.is_none() {
         exchange.make(schedule);
+    } else {
+        counts.keep(scope.rules);
     }
     cost
 }

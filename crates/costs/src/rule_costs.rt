@@ -1,17 +1,18 @@
 //! What the rules of a league add to a schedule's cost.
 
-ghost use Rattle.std.specs.Prelude.{◌≡◌, ◌*◌, ◌<◌, ◌≤◌};
+ghost use Rattle.std.specs.Prelude.{◌≡◌, ◌*◌, ◌≤◌, true};
 ghost use Rattle.league.specs.League.{teams};
 ghost use Rattle.league.specs.Limits.{deviation_limit, max_rules, max_weight};
-ghost use Rattle.league.specs.RuleLimits.{IsBodyFor};
 ghost use Rattle.costs.specs.Costs.{cost_of, hard_penalty, soft_penalty, sum_over_rules};
-ghost use Rattle.costs.specs.CostParts.{breakable_part, rules_part, KnowsRules};
+ghost use Rattle.costs.specs.CostParts.{rules_part, KnowsRules};
+ghost use Rattle.costs.specs.CountsKept.{AreCounts, AreRests, IsKeptOf};
 
+use crate::counts::Counts;
 use crate::penalties::Penalties;
 use crate::scope::Scope;
 use fixtures::Schedule;
-use league::{League, Rule};
-use robinx::{KeptGaps, deviation, deviation_part};
+use league::League;
+use robinx::deviation;
 
 /// What the rules add to the cost of a schedule.
 #[tactic(auto, using(league::proofs::ForCallers::sums), unfolding(crate::specs::Costs::sum_over_rules))]
@@ -32,43 +33,35 @@ pub(crate) fn costs_of_rules(schedule: &Schedule, league: &League) -> Penalties
     costs
 }
 
-/// What of that the exchange of the scope can alter. A rule isn't counted if it can't alter it, or if the known cost has nothing of its kind.
+/// What of that the exchange of the scope can alter. No part is counted of a rule that isn't broken. What each rule's deviation is without
+/// the part goes into the counts.
 pub(crate) fn parts_of_rules(
     schedule: &Schedule,
     league: &League,
-    gaps: &mut KeptGaps,
+    counts: &mut Counts,
     scope: &Scope<'_>,
 ) -> Penalties
     requires same_size { teams league.now ≡ schedule.now.teams }
     requires rules { KnowsRules league.now scope.now }
     requires known { scope.now.attempt.known ≡ cost_of league.now schedule.now }
+    requires counts { AreCounts league.now.rules schedule.now counts.old }
     ensures hard { result.hard ≡ rules_part hard_penalty league.now.rules scope.now.main scope.now.turning schedule.now }
     ensures soft { result.soft ≡ rules_part soft_penalty league.now.rules scope.now.main scope.now.turning schedule.now }
     ensures hard_most { result.hard ≤ max_rules * deviation_limit }
     ensures soft_most { result.soft ≤ max_rules * (max_weight * deviation_limit) }
+    ensures counts { AreCounts league.now.rules schedule.now counts.new }
+    ensures same { IsKeptOf counts.new counts.old }
+    ensures rests { counts.new.is_known ≡ true → AreRests league.now.rules scope.now scope.now.rules schedule.now counts.new.next }
 {
     prove_eq!(league.teams(), schedule.teams());
     let mut costs = Penalties { hard: 0, soft: 0 };
     for i in scope.rules {
         let rule = league.rule(i);
-        let part = breakable_part(schedule, rule, gaps, scope);
+        let part = counts.part_before(schedule, rule, i, scope);
+        counts.next[i] = counts.kept[i].saturating_sub(part as u32);
         let added = Penalties::of_rule(rule.weight, part);
         costs.hard += added.hard;
         costs.soft += added.soft;
     }
     costs
-}
-
-/// The part of the rule's deviation that the exchange can alter, if a schedule of the known cost may break the rule.
-fn breakable_part(schedule: &Schedule, rule: &Rule, gaps: &mut KeptGaps, scope: &Scope<'_>) -> u64
-    requires { IsBodyFor schedule.now.teams rule.now.body }
-    ensures value { result ≡
-        breakable_part schedule.now scope.now.main scope.now.turning scope.now.attempt.known rule.now }
-    ensures below { result < deviation_limit }
-{
-    if scope.attempt.known.may_break(rule.weight) {
-        deviation_part(schedule, rule, scope.main, scope.turning, gaps)
-    } else {
-        0
-    }
 }

@@ -58,14 +58,14 @@ pub struct Board {
 
 impl Model for Board {
     ghost use Rattle.fixture_board.specs.Record.{Book, book};
-    ghost use Rattle.costs.specs.Evaluators.{IsEvaluatorOf};
+    ghost use Rattle.costs.specs.Evaluators.{IsEvaluatorAt};
     ghost use Rattle.fixture_board.specs.Kept.{kept_of, HasMemory, FollowsHistory};
 
     ghost Value = { Book };
 
     ghost view = { λ b. book b.league b.state.room b.state.history.items };
 
-    ghost invariant = { λ b. HasMemory b.state × FollowsHistory b.league (kept_of b.state) × IsEvaluatorOf b.league.rules b.state.evaluator.value };
+    ghost invariant = { λ b. HasMemory b.state × FollowsHistory b.league (kept_of b.state) × IsEvaluatorAt b.league b.state.schedule b.state.evaluator.value };
 }
 
 impl Board {

@@ -34,7 +34,7 @@ pub(crate) struct State {
 impl State {
     ghost use Rattle.std.specs.Prelude.{◌≡◌, ◌^◌, ◌<◌, ◌≤◌, [], length, IfOk};
     ghost use Rattle.costs.specs.Costs.{total_of};
-    ghost use Rattle.costs.specs.Evaluators.{IsEvaluatorOf};
+    ghost use Rattle.costs.specs.Evaluators.{IsEvaluatorAt};
     ghost use Rattle.fixture_board.specs.History.{max_room};
     ghost use Rattle.fixture_board.specs.Kept.{kept_of, entered, HasMemory, FollowsHistory};
 
@@ -45,7 +45,7 @@ impl State {
         ensures room { IfOk result (λ s. s.room ≡ room) }
         ensures memory { IfOk result HasMemory }
         ensures kept { IfOk result (λ s. FollowsHistory league.now (kept_of s)) }
-        ensures evaluator { IfOk result (λ s. IsEvaluatorOf league.now.rules s.evaluator.value) }
+        ensures evaluator { IfOk result (λ s. IsEvaluatorAt league.now s.schedule s.evaluator.value) }
     {
         let history = Vec::with_capacity(alloc, room as usize)?;
         let changes = Vec::with_capacity(alloc, room as usize)?;
@@ -84,6 +84,7 @@ impl State {
         ensures memory { HasMemory self.new }
         ensures entered { kept_of self.new ≡ entered (kept_of self.old) entry }
         ensures evaluator { self.new.evaluator.value ≡ self.old.evaluator.value }
+        ensures schedule { self.new.schedule ≡ self.old.schedule }
     {
         self.history.push_reserved(entry);
         let at = self.version();

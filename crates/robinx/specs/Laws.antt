@@ -7,7 +7,7 @@ use Rattle.fixtures.specs.Games.{Games, is_home, IsDoubleRoundRobin}
 use Rattle.fixtures.specs.Changes.{DiffersOnlyIn, DiffersOnlyAt, DiffersOnlyAround, box}
 use Rattle.robinx.specs.Deviations.{deviation}
 use Rattle.robinx.specs.Touches.{touches}
-use Rattle.robinx.specs.LooksPast.{LooksPast, looks_past}
+use Rattle.robinx.specs.LooksPast.{looks_past}
 use Rattle.robinx.specs.Parts.{is_guest, deviation_part}
 
 -- schedules that differ only in cells that don't touch a rule are equally far from it
@@ -16,17 +16,6 @@ UntouchedStays =
     (g g' : Games) (teams rounds : ℕ → Bool) (body : RuleBody) → IsDoubleRoundRobin g → IsDoubleRoundRobin g' →
     IsBodyFor g.teams body → DiffersOnlyIn g g' teams rounds → touches body teams rounds ≡ false →
     deviation g' body ≡ deviation g body
-
--- schedules that differ only around teams that a rule looks past are equally far from it
-abbrev pub LookedPastStays : Type 0
-LookedPastStays =
-    (g g' : Games) (teams rounds : ℕ → Bool) (body : RuleBody) → IsDoubleRoundRobin g → IsDoubleRoundRobin g' →
-    IsBodyFor g.teams body → DiffersOnlyAround g g' teams rounds → LooksPast teams body →
-    deviation g' body ≡ deviation g body
-
--- the test holds only if the rule looks past the teams of the set
-abbrev pub LooksPastWhereTested : Type 0
-LooksPastWhereTested = (teams : ℕ) (body : RuleBody) → looks_past teams body ≡ true → LooksPast (has teams) body
 
 -- what a change around some teams, of which only side teams change their sides, adds to the part of a deviation, it adds to the deviation
 abbrev pub DeviationsBalance : Type 0

@@ -1,7 +1,7 @@
 -- Rules that a change around some teams leaves as they are: in it these teams play other games than before, and any
 -- other team keeps its side and its opponent, but that it may meet another of these teams.
-use Rattle.std.specs.Prelude.{◌≡◌, ℕ, ◌<◌, ◌&&◌, ◌||◌, not, Bool, true, false, List}
-use Rattle.std.specs.List.{list_any, AllByRecursion}
+use Rattle.std.specs.Prelude.{ℕ, ◌&&◌, ◌||◌, not, Bool, List}
+use Rattle.std.specs.List.{list_any}
 use Rattle.league.specs.Limits.{max_teams}
 use Rattle.league.specs.Sets.{has}
 use Rattle.league.specs.Sums.{any_below}
@@ -9,30 +9,6 @@ use Rattle.league.specs.declared.rule.Pairing.{Pairing}
 use Rattle.league.specs.declared.rule.RuleBody.{RuleBody}
 use Rattle.league.specs.declared.rule.RuleBody.TheVariants.{Ca1, Ca2, Ca3, Ca4, Ga1, Br1, Br2, Se1, Fa2}
 use Rattle.robinx.specs.Touches.{has_touched_team}
-
--- no team passes both
-abbrev pub AreApart : (ℕ → Bool) → (ℕ → Bool) → Type 0
-AreApart p q = (t : ℕ) → t < max_teams → p t ≡ true → q t ≡ false
-
--- the opponents have all of the teams, or none of them: to meet another of the teams makes no difference
-abbrev pub TakesAllOrNone : (ℕ → Bool) → (ℕ → Bool) → Type 0
-TakesAllOrNone teams opponents =
-    (t u : ℕ) → t < max_teams → u < max_teams → teams t ≡ true → teams u ≡ true → opponents t ≡ opponents u
-
--- the rule looks at the games of none of the teams, and counts as opponents all of them or none
-abbrev pub LooksPast : (ℕ → Bool) → RuleBody → Type 0
-LooksPast teams (Ca1 t side slots most) = AreApart (has t) teams
-LooksPast teams (Ca2 t side opponents slots most) = AreApart (has t) teams × TakesAllOrNone teams (has opponents)
-LooksPast teams (Ca3 t side opponents window most) = AreApart (has t) teams × TakesAllOrNone teams (has opponents)
-LooksPast teams (Ca4 t side opponents slots each most) = AreApart (has t) teams × TakesAllOrNone teams (has opponents)
-LooksPast teams (Br1 t side slots most) = AreApart (has t) teams
-LooksPast teams (Br2 t slots most) = AreApart (has t) teams
-LooksPast teams (Ga1 games slots least most) =
-    AllByRecursion (λ (game : Pairing). (teams game.home ≡ false) × (teams game.away ≡ false)) games
-LooksPast teams (Se1 t least) = AreApart (has t) teams
-LooksPast teams (Fa2 t slots most) = AreApart (has t) teams
-
--- The test of it, by searches.
 
 -- whether one of the set isn't one of the teams
 unfoldable pub has_team_outside : ℕ → (ℕ → Bool) → Bool

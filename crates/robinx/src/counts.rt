@@ -169,15 +169,7 @@ fn rounds_with(schedule: &Schedule, side: Side, opponent: u8, team: u8) -> SlotS
 pub(crate) fn number_of(schedule: &Schedule, teams: TeamSet) -> u32
     ensures { result ≡ count_where schedule.now.teams (has teams) }
 {
-    let all = TeamSet::below(schedule.teams());
-    if teams == all {
-        return schedule.teams().into();
-    }
-    let mut count = 0;
-    for _ in all.intersection(teams) {
-        count += 1;
-    }
-    count
+    TeamSet::below(schedule.teams()).intersection(teams).len()
 }
 
 /// In how many rounds of the slots the team's game counts, if there are so many opponents. It looks at the slots or at the

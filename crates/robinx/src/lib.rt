@@ -31,7 +31,7 @@ pub use break_rules::breaks;
 pub use deviations::deviation;
 pub use fairness_rules::Fairness;
 pub use kept_gaps::{KeptGaps, turned_within};
-pub use laws::{deviations_balance, looked_past_stays, nothing_to_alter, untouched_stays};
+pub use laws::{deviations_balance, nothing_to_alter, untouched_stays};
 pub use parts::deviation_part;
 pub use touched_rules::{looks_at_round, touches};
 pub use unaffected_rules::looks_past;

@@ -9,7 +9,7 @@ use league::{GameList, Pairing, Rule, RuleBody, TeamSet};
 
 /// Whether the rule looks at the games of none of these teams, and counts as opponents all of them or none. A change
 /// in which only they get other games, and other teams meet one of them in place of another, then leaves a schedule
-/// as far from the rule as it was ([`looked_past_stays`](crate::looked_past_stays)).
+/// as far from the rule as it was ([`nothing_to_alter`](crate::nothing_to_alter)).
 #[tactic(auto, unfolding(crate::specs::LooksPast::looks_past, crate::specs::Touches::has_touched_team))]
 pub fn looks_past(rule: &Rule, changed: TeamSet) -> bool
     ensures { result ≡ looks_past changed rule.now.body }
@@ -45,12 +45,8 @@ pub(crate) fn takes_all_or_none(teams: TeamSet, opponents: TeamSet) -> bool
 fn has_team_outside(teams: TeamSet, set: TeamSet) -> bool
     ensures { result ≡ has_team_outside teams (has set) }
 {
-    for team in teams {
-        if !set.has(team) {
-            return true;
-        }
-    }
-    false
+    let outside = teams.difference(set);
+    outside.intersects(teams)
 }
 
 /// Whether a team of one of the games is in the set.

@@ -6,7 +6,7 @@ use crate::state::State;
 use std::alloc::{AllocError, Global};
 
 impl State {
-    ghost use Rattle.std.specs.Prelude.{◌≡◌, ◌≤◌, length, IfOk};
+    ghost use Rattle.std.specs.Prelude.{◌≡◌, ◌≤◌, length, None, IfOk};
     ghost use Rattle.fixture_board.specs.Kept.{kept_of, HasMemory};
 
     /// The same with memory of its own, and room for as many entries.
@@ -15,7 +15,7 @@ impl State {
         requires no_more { length self.now.changes.items ≤ length self.now.history.items }
         ensures memory { IfOk result HasMemory }
         ensures kept { IfOk result (λ s. kept_of s ≡ kept_of self.now) }
-        ensures evaluator { IfOk result (λ s. s.evaluator.value ≡ self.now.evaluator.value) }
+        ensures evaluator { IfOk result (λ s. s.evaluator.value ≡ record self.now.evaluator.value { deviations = None }) }
     {
         Ok(State {
             room: self.room,

@@ -12,15 +12,17 @@ impl State {
     ghost use Rattle.std.specs.Prelude.{◌≡◌};
     ghost use Rattle.fixture_board.specs.Kept.{kept_of, HasMemory, FollowsHistory};
     ghost use Rattle.fixture_board.specs.Rewound.{rewound};
+    ghost use Rattle.costs.specs.Evaluators.{IsEvaluatorAt};
 
     /// Goes back to the best version, if there is one. What follows from the history is made anew, but the schedule
     /// of the best version, which is kept.
     pub(crate) fn rewind(&mut self, league: &League)
         requires memory { HasMemory self.old }
         requires kept { FollowsHistory league.now (kept_of self.old) }
+        requires evaluator { IsEvaluatorAt league.now self.old.schedule self.old.evaluator.value }
         ensures memory { HasMemory self.new }
         ensures room { self.new.room ≡ self.old.room }
-        ensures evaluator { self.new.evaluator.value ≡ self.old.evaluator.value }
+        ensures evaluator { IsEvaluatorAt league.now self.new.schedule self.new.evaluator.value }
         ensures history { self.new.history.items ≡ rewound league.now self.old.history.items }
         ensures kept { FollowsHistory league.now (kept_of self.new) }
     {
@@ -31,6 +33,7 @@ impl State {
         retrace(&mut self.changes, &self.history);
         self.pins.retrace(league, &self.changes);
         self.schedule.copy_from(&self.best_schedule);
+        self.evaluator.forget();
         self.cost = cost_of(&self.schedule, league);
     }
 }

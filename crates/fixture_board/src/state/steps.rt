@@ -15,7 +15,7 @@ impl State {
     ghost use Rattle.std.specs.Prelude.{◌≡◌, ◌≤◌, length};
     ghost use Rattle.league.specs.League.{LeagueData, teams};
     ghost use Rattle.costs.specs.Costs.{cost_of};
-    ghost use Rattle.costs.specs.Evaluators.{IsEvaluatorOf};
+    ghost use Rattle.costs.specs.Evaluators.{IsEvaluatorAt};
     ghost use Rattle.fixture_board.specs.History.{shifted};
     ghost use Rattle.fixture_board.specs.PinTable.{taken_back};
     ghost use Rattle.fixture_board.specs.Kept.{kept_of, HasMemory, FollowsHistory, IsForetold, IsStep, IsTried, CanTakeBack};
@@ -24,9 +24,9 @@ impl State {
     pub(crate) fn step(&mut self, league: &League, ask: Ask) -> Result<(), Why>
         requires memory { HasMemory self.old }
         requires kept { FollowsHistory league.now (kept_of self.old) }
-        requires evaluator { IsEvaluatorOf league.now.rules self.old.evaluator.value }
+        requires evaluator { IsEvaluatorAt league.now self.old.schedule self.old.evaluator.value }
         ensures memory { HasMemory self.new }
-        ensures evaluator { self.new.evaluator.value ≡ self.old.evaluator.value }
+        ensures evaluator { IsEvaluatorAt league.now self.new.schedule self.new.evaluator.value }
         ensures step { IsStep league.now (kept_of self.old) (kept_of self.new) ask result }
     {
         match ask {
@@ -42,9 +42,9 @@ impl State {
     fn shift(&mut self, league: &League, proposal: Proposal) -> Result<(), Why>
         requires memory { HasMemory self.old }
         requires kept { FollowsHistory league.now (kept_of self.old) }
-        requires evaluator { IsEvaluatorOf league.now.rules self.old.evaluator.value }
+        requires evaluator { IsEvaluatorAt league.now self.old.schedule self.old.evaluator.value }
         ensures memory { HasMemory self.new }
-        ensures evaluator { self.new.evaluator.value ≡ self.old.evaluator.value }
+        ensures evaluator { IsEvaluatorAt league.now self.new.schedule self.new.evaluator.value }
         ensures step { IsStep league.now (kept_of self.old) (kept_of self.new) (Ask.Shift proposal) result }
     {
         let mv = proposal.mv;
@@ -67,6 +67,7 @@ impl State {
         };
         if let Err(why) = self.check_score(proposal, before, cost.score(league)) {
             exchange.make(&mut self.schedule);
+            self.evaluator.forget();
             return Err(why);
         }
         self.cost = cost;
@@ -78,9 +79,9 @@ impl State {
     pub(crate) fn would_shift(&mut self, league: &League, proposal: Proposal) -> Result<Cost, Why>
         requires memory { HasMemory self.old }
         requires kept { FollowsHistory league.now (kept_of self.old) }
-        requires evaluator { IsEvaluatorOf league.now.rules self.old.evaluator.value }
+        requires evaluator { IsEvaluatorAt league.now self.old.schedule self.old.evaluator.value }
         ensures memory { HasMemory self.new }
-        ensures evaluator { self.new.evaluator.value ≡ self.old.evaluator.value }
+        ensures evaluator { IsEvaluatorAt league.now self.new.schedule self.new.evaluator.value }
         ensures same { kept_of self.new ≡ kept_of self.old }
         ensures told { IsForetold league.now (kept_of self.old) proposal result }
     {
@@ -99,6 +100,7 @@ impl State {
             self.cost,
         );
         exchange.make(&mut self.schedule);
+        self.evaluator.forget();
         self.check_score(proposal, before, cost.score(league))?;
         Ok(cost)
     }
@@ -107,10 +109,10 @@ impl State {
     pub(crate) fn try_move(&mut self, league: &League, trial: Trial) -> Option<Cost>
         requires memory { HasMemory self.old }
         requires kept { FollowsHistory league.now (kept_of self.old) }
-        requires evaluator { IsEvaluatorOf league.now.rules self.old.evaluator.value }
+        requires evaluator { IsEvaluatorAt league.now self.old.schedule self.old.evaluator.value }
         requires weight { 1 ≤ trial.weight }
         ensures memory { HasMemory self.new }
-        ensures evaluator { self.new.evaluator.value ≡ self.old.evaluator.value }
+        ensures evaluator { IsEvaluatorAt league.now self.new.schedule self.new.evaluator.value }
         ensures tried { IsTried league.now (kept_of self.old) (kept_of self.new) trial result }
     {
         let Trial { mv, weight, rise } = trial;
@@ -140,7 +142,8 @@ impl State {
         requires within { length self.old.history.items ≤ self.old.room }
         requires no_more { length self.old.changes.items ≤ length self.old.history.items }
         ensures memory { HasMemory self.new }
-        ensures evaluator { self.new.evaluator.value ≡ self.old.evaluator.value }
+        ensures evaluator { (league : LeagueData) → IsEvaluatorAt league self.old.schedule self.old.evaluator.value →
+            IsEvaluatorAt league self.new.schedule self.new.evaluator.value }
         ensures step { (league : LeagueData) → FollowsHistory league (kept_of self.old) →
             IsStep league (kept_of self.old) (kept_of self.new) (Ask.Pin version game) result }
     {
@@ -158,7 +161,8 @@ impl State {
         requires within { length self.old.history.items ≤ self.old.room }
         requires no_more { length self.old.changes.items ≤ length self.old.history.items }
         ensures memory { HasMemory self.new }
-        ensures evaluator { self.new.evaluator.value ≡ self.old.evaluator.value }
+        ensures evaluator { (league : LeagueData) → IsEvaluatorAt league self.old.schedule self.old.evaluator.value →
+            IsEvaluatorAt league self.new.schedule self.new.evaluator.value }
         ensures step { (league : LeagueData) → FollowsHistory league (kept_of self.old) →
             IsStep league (kept_of self.old) (kept_of self.new) (Ask.Unpin version game) result }
     {
@@ -174,9 +178,9 @@ impl State {
     fn undo(&mut self, league: &League, version: u64) -> Result<(), Why>
         requires memory { HasMemory self.old }
         requires kept { FollowsHistory league.now (kept_of self.old) }
-        requires evaluator { IsEvaluatorOf league.now.rules self.old.evaluator.value }
+        requires evaluator { IsEvaluatorAt league.now self.old.schedule self.old.evaluator.value }
         ensures memory { HasMemory self.new }
-        ensures evaluator { self.new.evaluator.value ≡ self.old.evaluator.value }
+        ensures evaluator { IsEvaluatorAt league.now self.new.schedule self.new.evaluator.value }
         ensures step { IsStep league.now (kept_of self.old) (kept_of self.new) (Ask.Undo version) result }
     {
         self.check_version(version)?;
@@ -189,14 +193,16 @@ impl State {
 
     /// Takes a change back that was the last in effect.
     fn take_back(&mut self, league: &League, change: Change)
-        requires evaluator { IsEvaluatorOf league.now.rules self.old.evaluator.value }
+        requires evaluator { IsEvaluatorAt league.now self.old.schedule self.old.evaluator.value }
         requires same_size { teams league.now ≡ self.old.schedule.teams }
         requires last { CanTakeBack self.old.schedule change }
         requires known { self.old.cost ≡ cost_of league.now self.old.schedule }
-        ensures { self.new ≡ record self.old {
+        ensures evaluator { IsEvaluatorAt league.now self.new.schedule self.new.evaluator.value }
+        ensures state { self.new ≡ record self.old {
           schedule = shifted self.old.schedule change;
           pins = taken_back self.old.pins change;
           cost = cost_of league.now (shifted self.old.schedule change);
+          evaluator = self.new.evaluator;
         } }
     {
         match change {

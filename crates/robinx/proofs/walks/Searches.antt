@@ -12,45 +12,6 @@ use Rattle.league.proofs.ForCallers.{any_below_found, any_below_from_none, any_b
 use Rattle.robinx.specs.Touches.{has_touched_round, has_touched_until, or_before}
 use Rattle.robinx.specs.Parts.{lacks_one}
 
--- no number of the set that isn't left passes the test
-pub record NoneBefore (n set left : ℕ) (test : ℕ → Bool) : Type 0 where
-  pub below : IsBelow n left
-  pub in_set : (k : ℕ) → has left k ≡ true → has set k ≡ true
-  pub none : (k : ℕ) → has set k ≡ true → has left k ≡ false → test k ≡ false
-
-pub none_before_start : (n set left : ℕ) (test : ℕ → Bool) → IsBelow n left → left ≡ set → NoneBefore n set left test
-none_before_start n set left test below whole = record {
-  below = below;
-  in_set = λ k is. sym (ap (λ s. has s k) whole) ∙ is;
-  none = λ k is out. absurd (false≢true (sym out ∙ ap (λ s. has s k) whole ∙ is));
-}
-
-pub none_before_more : (n set left lowest rest : ℕ) (test : ℕ → Bool) → NoneBefore n set left test → IsWithoutLowest left lowest rest →
-    test lowest ≡ false → NoneBefore n set rest test
-none_before_more n set left lowest rest test so_far taken fails = record {
-  below = omega (arith, so_far.below, taken.fewer);
-  in_set = λ k is. so_far.in_set k (and_parts (has left k) (not (k == lowest)) (sym (taken.others k) ∙ is)).0;
-  none = λ k is out. elim (cases_eq k lowest) [
-    | inl here ↦ ap test here ∙ fails
-    | inr other ↦ so_far.none k is (sym (others_kept left lowest rest k taken other) ∙ out)
-  ];
-}
-
-pub found_here : (n set left lowest rest : ℕ) (test : ℕ → Bool) → NoneBefore n set left test → IsWithoutLowest left lowest rest →
-    test lowest ≡ true → any_below n (λ k. has set k && test k) ≡ true
-found_here n set left lowest rest test so_far taken passes =
-    any_below_found n (λ k. has set k && test k) lowest (lowest_below n left lowest rest so_far.below taken)
-    (and_from (has set lowest) (test lowest) (so_far.in_set lowest taken.in_set) passes)
-
-pub found_none : (n set left : ℕ) (test : ℕ → Bool) → NoneBefore n set left test → left ≡ 0 →
-    any_below n (λ k. has set k && test k) ≡ false
-found_none n set left test so_far none_left =
-    any_below_from_none n (λ k. has set k && test k) (λ k below. at k (has set k) refl)
-  where
-    at : (k : ℕ) (b : Bool) → has set k ≡ b → (b && test k) ≡ false
-    at k true is = so_far.none k is (ap (λ s. has s k) none_left ∙ has_empty k)
-    at k false is = refl
-
 -- one of all rounds
 pub touched_round : (all : ℕ) (touched : ℕ → Bool) → ((r : ℕ) → has all r ≡ nat_lt r max_rounds) →
     any_below max_rounds (λ r. has all r && touched r) ≡ has_touched_round touched

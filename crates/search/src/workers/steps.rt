@@ -2,7 +2,7 @@
 
 ghost use Rattle.std.specs.Prelude.{◌≡◌, ◌+◌, ◌^◌, ◌<◌, MatchOption};
 ghost use Rattle.league.specs.League.{teams};
-ghost use Rattle.costs.specs.Evaluators.{IsEvaluatorOf};
+ghost use Rattle.costs.specs.Evaluators.{IsEvaluatorAt};
 ghost use Rattle.fixtures.specs.Exchanges.{exchanged_by, IsExchange};
 ghost use Rattle.fixture_board.specs.declared.reply.Reply.{Reply};
 ghost use Rattle.search.specs.Doors.{done_count};
@@ -108,6 +108,34 @@ pub(crate) fn refresh<R: Wait, D: Door>(
     }
 }
 
+impl Kept {
+    ghost use Rattle.std.specs.Prelude.{◌≡◌};
+    ghost use Rattle.league.specs.League.{teams};
+    ghost use Rattle.costs.specs.Evaluators.{IsEvaluatorAt, IsEvaluatorOf};
+    ghost use Rattle.search.specs.Steps.{IsKnown, IsMeasured};
+
+    /// Looks. What was counted of the copy before serves no more.
+    fn refresh<R: Wait, D: Door>(
+        &mut self,
+        rt: &R,
+        door: &mut D,
+        measure: Measure<'_>,
+        copy: &mut Schedule,
+    )
+        requires same_size { teams measure.league.now ≡ copy.old.teams }
+        requires measured { IsMeasured measure.of_boards measure.league.now (D.may_have door.old) }
+        requires evaluator { IsEvaluatorOf measure.league.now.rules self.old.evaluator }
+        ensures same_size { copy.new.teams ≡ copy.old.teams }
+        ensures known { IsKnown measure.entry.league.now copy.new self.new.known.cost self.new.known.score }
+        ensures evaluator { IsEvaluatorAt measure.entry.league.now copy.new self.new.evaluator }
+        ensures counted { D.granted door.new ≡ D.granted door.old }
+        ensures stays { D.stays door.old door.new }
+    {
+        self.evaluator.forget();
+        self.known = refresh(rt, door, measure, copy);
+    }
+}
+
 /// Tries a move, and proposes it if the slack lets it pass and the copy is still the board's schedule.
 pub(crate) fn step<R: Wait, D: Door, G: HearingGate>(
     means: Means<'_, R, G>,
@@ -119,11 +147,11 @@ pub(crate) fn step<R: Wait, D: Door, G: HearingGate>(
     requires same_size { teams means.measure.league.now ≡ copy.old.teams }
     requires measured { IsMeasured means.measure.of_boards means.measure.league.now (D.may_have door.old) }
     requires known { IsKnown means.measure.league.now copy.old kept.old.known.cost kept.old.known.score }
-    requires evaluator { IsEvaluatorOf means.measure.league.now.rules kept.old.evaluator }
+    requires evaluator { IsEvaluatorAt means.measure.league.now copy.old kept.old.evaluator }
     requires granted { D.granted door.old < 2 ^ 63 }
     ensures same_size { copy.new.teams ≡ copy.old.teams }
     ensures known { IsKnown means.entry.measure.league.now copy.new kept.new.known.cost kept.new.known.score }
-    ensures evaluator { kept.new.evaluator ≡ kept.old.evaluator }
+    ensures evaluator { IsEvaluatorAt means.entry.measure.league.now copy.new kept.new.evaluator }
     ensures counted { D.granted door.new ≡ D.granted door.old + accepted_count result }
     ensures heard { IsProposed result → (reply : Reply)
         × G.heard means.entry.gate.now trial.worker trial.made reply × (done_count reply ≡ accepted_count result) }
@@ -146,7 +174,7 @@ pub(crate) fn step<R: Wait, D: Door, G: HearingGate>(
     let score = cost.score(measure.league);
     if door.front(rt) != kept.known.version {
         exchange.make(copy);
-        kept.known = refresh(rt, door, measure, copy);
+        kept.refresh(rt, door, measure, copy);
         return StepResult::Nothing;
     }
     let proposal = Proposal {
@@ -164,7 +192,7 @@ pub(crate) fn step<R: Wait, D: Door, G: HearingGate>(
         score,
         reply,
     };
-    settle(means, door, copy, &mut kept.known, made)
+    settle(means, door, copy, kept, made)
 }
 
 /// The exchange that a drawn move is, unless it can't be made or would give a game another round that the league keeps.
@@ -189,16 +217,18 @@ fn settle<R: Wait, D: Door, G>(
     means: Means<'_, R, G>,
     door: &mut D,
     copy: &mut Schedule,
-    known: &mut Known,
+    kept: &mut Kept,
     made: Made<'_>,
 ) -> StepResult
     requires same_size { teams means.measure.league.now ≡ copy.old.teams }
     requires measured { IsMeasured means.measure.of_boards means.measure.league.now (D.may_have door.old) }
     requires again { IsExchange copy.old made.exchange.now }
     requires made { IsKnown means.measure.league.now copy.old made.cost made.score }
-    requires before { IsKnown means.measure.league.now (exchanged_by copy.old made.exchange.now) known.old.cost known.old.score }
+    requires before { IsKnown means.measure.league.now (exchanged_by copy.old made.exchange.now) kept.old.known.cost kept.old.known.score }
+    requires evaluator { IsEvaluatorAt means.measure.league.now copy.old kept.old.evaluator }
     ensures same_size { copy.new.teams ≡ copy.old.teams }
-    ensures known { IsKnown means.entry.measure.league.now copy.new known.new.cost known.new.score }
+    ensures known { IsKnown means.entry.measure.league.now copy.new kept.new.known.cost kept.new.known.score }
+    ensures evaluator { IsEvaluatorAt means.entry.measure.league.now copy.new kept.new.evaluator }
     ensures told { accepted_count result ≡ done_count made.entry.reply }
     ensures proposed { IsProposed result }
     ensures counted { D.granted door.new ≡ D.granted door.old }
@@ -207,24 +237,25 @@ fn settle<R: Wait, D: Door, G>(
     let Means { rt, measure, .. } = means;
     match made.reply {
         Reply::Done { at, cost } => {
-            if known.version.checked_add(1) == Some(at) {
-                *known = Known {
+            if kept.known.version.checked_add(1) == Some(at) {
+                kept.known = Known {
                     version: at,
                     cost: made.cost,
                     score: made.score,
                 };
             } else {
-                *known = refresh(rt, door, measure, copy);
+                kept.refresh(rt, door, measure, copy);
             }
             StepResult::Accepted(cost)
         }
         Reply::No { at, why } => {
             made.exchange.make(copy);
+            kept.evaluator.forget();
             if why == Why::Full {
                 return StepResult::Full;
             }
-            if at != known.version {
-                *known = refresh(rt, door, measure, copy);
+            if at != kept.known.version {
+                kept.refresh(rt, door, measure, copy);
             }
             StepResult::Refused
         }

@@ -1,6 +1,6 @@
 use Rattle.std.proofs.Common.{◌≡◌, ◌+◌, ◌≤◌}
 use Rattle.league.specs.League.{teams}
-use Rattle.costs.specs.Evaluators.{IsEvaluatorOf}
+use Rattle.costs.specs.Evaluators.{IsEvaluatorAt}
 use Rattle.search.specs.Steps.{IsKnown}
 use Rattle.benchmarks.proofs.tries.try_moves.Given as goal
 
@@ -9,6 +9,6 @@ invariant-loop-index l = record {
   counted : l.kept + l.withdrawn ≤ l.index;
   same_size : teams l.league ≡ l.schedule.teams;
   size : l.schedule.teams ≡ l.teams;
-  evaluator : IsEvaluatorOf l.league.rules l.evaluator;
+  evaluator : IsEvaluatorAt l.league l.schedule l.evaluator;
   known : IsKnown l.league l.schedule l.known.cost l.known.score;
 }

@@ -1,15 +1,7 @@
 use Rattle.std.proofs.Common.{refl, arith}
-use Rattle.costs.proofs.PartLimits.{hard_fits, none_taken, soft_fits}
+use Rattle.costs.proofs.PartLimits.{hard_fits, soft_fits}
 use Rattle.costs.proofs.Parts.{rest_after}
 use Rattle.costs.proofs.counted.rest_of.Goals as goal
-
-pub returns-then-known-eq0-2 : goal.returns-then-known-eq0-2
-returns-then-known-eq0-2 c =
-    rest_after c.args.league.now c.args.schedule.now c.args.scope.now _ _ c.teams.ensures.limits c.requires.same_size c.requires.scope
-    c.requires.told
-    (none_taken c.args.league.now c.args.scope.now c.args.schedule.now _ _ c.requires.told c.args.scope.now.attempt.known
-    c.requires.known c.if-known-eq0.true
-    c.if-known-eq0-2.true)
 
 pub overflow_sub-result : goal.overflow_sub-result
 overflow_sub-result c =
@@ -36,8 +28,8 @@ overflow_sub-result-3 c =
       c.parts_of_rules-rules.ensures.soft,
     )
 
-pub returns : goal.returns
-returns c =
+pub returns-clause-rest : goal.returns-clause-rest
+returns-clause-rest c =
     rest_after c.args.league.now c.args.schedule.now c.args.scope.now _ _ c.teams.ensures.limits c.requires.same_size c.requires.scope
     c.requires.told
     (record {

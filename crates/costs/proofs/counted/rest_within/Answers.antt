@@ -12,15 +12,15 @@ score_by-score-requires c =
     omega (
       arith,
       rest_scores c.args.league.now c.args.scope.now.attempt.weight c.args.scope.now (exchanged_by c.args.schedule.now c.args.scope.now.attempt.exchange.now)
-          c.rest_of-rest.result c.rest_of-rest.ensures,
+          c.rest_of-rest.result c.rest_of-rest.ensures.rest,
       score_fits_after c.args.league.now c.args.schedule.now c.args.scope.now.attempt.exchange.now c.args.scope.now.attempt.weight
           c.teams.ensures.limits c.requires.same_size (omega arith),
     )
 
-pub returns-then-score-most : goal.returns-then-score-most
-returns-then-score-most c =
+pub returns-then-score-most-clause-rest : goal.returns-then-score-most-clause-rest
+returns-then-score-most-clause-rest c =
     let scores =
-    fairness_scores c.args.league.now c.args.scope.now _ c.rest_of-rest.result c.rest_of-rest.ensures in
+    fairness_scores c.args.league.now c.args.scope.now _ c.rest_of-rest.result c.rest_of-rest.ensures.rest in
     elim c.then-score-most.branch [
       | then-score-most-via-then-score-most w ↦ omega (arith, w.if-score-most.true, c.score_by-score.ensures, scores)
       | then-score-most-via-else-score-most+then-not-leaves_room w ↦

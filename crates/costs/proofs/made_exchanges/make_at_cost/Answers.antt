@@ -17,5 +17,5 @@ returns c = record {
       (rw c.unwrap.ensures at c.make_within.ensures.value).0 ∙
       ap (cost_of c.args.league.now) (sym (rw c.unwrap.ensures at c.make_within.ensures.schedule));
   small = rw c.unwrap.ensures at c.make_within.ensures.small;
-  same = c.make_within.ensures.same;
+  evaluator = c.make_within.ensures.evaluator;
 }

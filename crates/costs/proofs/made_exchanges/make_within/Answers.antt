@@ -1,8 +1,14 @@
-use Rattle.std.proofs.Common.{sym, ◌∙◌, subst, arith}
+use Rattle.std.proofs.Common.{◌≡◌, not, length, sym, ◌∙◌, ap, subst, arith}
 use Rattle.costs.specs.declared.attempt.Attempt.{Attempt}
 use Rattle.costs.specs.CostParts.{IsTold}
+use Rattle.fixtures.specs.Exchanges.{exchanged_by}
+use Rattle.fixtures.specs.Games.{Games}
+use Rattle.costs.specs.CountsKept.{AreRests}
+use Rattle.costs.specs.Evaluators.{AreDeviations, IsEvaluatorOf}
+use Rattle.costs.proofs.CountsKept.{from_some, kept_after, known_at, rests_after, still_counts}
 use Rattle.costs.proofs.Parts.{score_after, told_alone, within_is_small}
 use Rattle.costs.proofs.made_exchanges.make_within.Goals as goal
+use Rattle.costs.proofs.made_exchanges.make_within.Goals.{then-is_none, else-is_none}
 
 pub score_by-requires : goal.score_by-requires
 score_by-requires c =
@@ -35,6 +41,54 @@ rest_within-requires-clause-told c =
 
 pub returns-clause-small : goal.returns-clause-small
 returns-clause-small c =
-    within_is_small c.args.league.now _ _ _ _ c.whole_within-cost.ensures
+    within_is_small c.args.league.now _ _ _ _ c.whole_within-cost.ensures.cost
     (rw c.make-2.ensures.made
     (score_after c.args.league.now c.args.schedule.now c.args.attempt.now.exchange.now c.teams.ensures.limits c.requires.same_size))
+
+-- the schedule after the exchange of the scope is that after the attempt's
+schedule_is : (c : goal.After-scope-2-1) → exchanged_by c.args.schedule.now c.of-scope.result.attempt.exchange.now ≡ c.make-2.new.schedule
+schedule_is c =
+    ap (λ (a : Attempt). exchanged_by c.args.schedule.now a.exchange.now) c.of-scope.ensures.attempt ∙ sym c.make-2.ensures.made
+
+pub whole_within-cost-requires-clause-rests : goal.whole_within-cost-requires-clause-rests
+whole_within-cost-requires-clause-rests c = λ known.
+    subst (λ (g : Games). AreRests c.args.league.now.rules c.of-scope.result c.of-scope.result.rules g c.rest_within.new.counts.next)
+    (schedule_is c)
+    (rests_after c.args.league.now c.args.schedule.now c.of-scope.result c.teams.ensures.limits c.requires.same_size c.of-scope.ensures.scope
+    _ (c.rest_within.ensures.rests known))
+
+pub returns-clause-evaluator : goal.returns-clause-evaluator
+returns-clause-evaluator c =
+    let league = subst (IsEvaluatorOf c.args.league.now.rules) (sym c.evaluator.view_is) c.requires.evaluator.league in
+    let moved = ap (λ (a : Attempt). exchanged_by c.args.schedule.now a.exchange.now) c.of-scope.ensures.attempt ∙
+    sym c.make-2.ensures.made in
+    let kept = still_counts c.args.league.now.rules c.args.schedule.now _ c.whole_within-cost.new.counts c.rest_within.ensures.counts
+    c.whole_within-cost.ensures.same c.whole_within-cost.ensures.next_length in
+    elim c.if-is_none.branch [
+      | then-is_none w ↦ rw (w.schedule-is, w.evaluator-inside-is)
+          (record {
+            league = record { index = league.index; fairness = league.fairness };
+            schedule = rw (w.make-then-is_none.ensures.made ∙ c.make-2.ensures.back)
+                (known_at c.args.league.now.rules c.args.schedule.now c.whole_within-cost.new.counts kept);
+          })
+      | else-is_none w ↦ rw (w.schedule-is, w.evaluator-inside-is)
+          (record {
+            league = record { index = league.index; fairness = league.fairness };
+            schedule = known_at c.args.league.now.rules c.make-2.new.schedule w.keep.new.self
+                (record {
+                  kept_length = w.keep.ensures.kept_length;
+                  next_length = ap length w.keep.ensures.next ∙ c.whole_within-cost.ensures.next_length;
+                  deviations = λ known.
+                      let was_known = sym w.keep.ensures.known ∙ known in
+                      subst (λ (g : Games). AreDeviations c.args.league.now.rules g w.keep.new.self.kept) moved
+                      (kept_after c.args.league.now c.args.schedule.now c.of-scope.result c.teams.ensures.limits c.requires.same_size
+                      c.of-scope.ensures.scope (c.of-scope.ensures.rules c.args.league.now c.requires.evaluator.league) c.whole_within-cost.new.counts.next
+                      c.whole_within-cost.new.counts.kept w.keep.new.self.kept (kept.deviations was_known)
+                      (subst (λ (g : Games). AreRests c.args.league.now.rules c.of-scope.result 0 g c.whole_within-cost.new.counts.next)
+                      (sym moved)
+                      (from_some c.whole_within-cost.result _ (c.is_none.ensures ∙ ap not w.if-is_none.false) c.whole_within-cost.ensures.all
+                      was_known))
+                      w.keep.ensures.kept);
+                });
+          })
+    ]

@@ -1,8 +1,13 @@
-use Rattle.std.proofs.Common.{◌<◌, length, refl, ◌∙◌}
-use Rattle.league.specs.Sets.{IsBelow}
+use Rattle.std.proofs.Common.{◌≡◌, ◌<◌, length, get_or, refl, ◌∙◌, sym, ap, true, true≢false, arith}
+use Rattle.std.proofs.lemmas.List.{length-set}
+use Rattle.league.specs.Limits.{max_rules}
+use Rattle.league.specs.Sets.{has, IsBelow}
 use Rattle.league.proofs.ForCallers.{lowest_below, sum_without_none, sum_without_more, sum_without_all}
+use Rattle.robinx.proofs.ForCallers.{part_le}
 use Rattle.costs.specs.Costs.{hard_penalty, soft_penalty}
-use Rattle.costs.proofs.PartLimits.{breakable_hard, breakable_soft, hard_nothing, soft_nothing}
+use Rattle.costs.specs.CountsKept.{part_before}
+use Rattle.costs.proofs.CountsKept.{before_hard, before_soft, rest_more}
+use Rattle.costs.proofs.PartLimits.{hard_nothing, soft_nothing}
 use Rattle.costs.proofs.Walked.{walked}
 use Rattle.costs.proofs.rule_costs.parts_of_rules.Goals as goal
 
@@ -13,26 +18,70 @@ loop-i-init c =
     record {
       hard = sum_without_none _ _ _ _ _ below c.into_iter-i-iterator.ensures.into_iter_gives;
       soft = sum_without_none _ _ _ _ _ below c.into_iter-i-iterator.ensures.into_iter_gives;
+      same = record { known = refl; kept = refl };
+      next_length = c.requires.counts.next_length;
+      rests = λ known k rule at in_scope gone.
+          absurd (true≢false (sym in_scope ∙ sym (ap (λ set. has set k) c.into_iter-i-iterator.ensures.into_iter_gives) ∙ gone));
     }
 
 pub rule-rule-requires : goal.rule-rule-requires
 rule-rule-requires c = lowest_below _ _ _ _ c.loop-i.invariant.hard.below c.in-Some.ensures.steps
 
+pub part_before-part-requires-clause-index : goal.part_before-part-requires-clause-index
+part_before-part-requires-clause-index c =
+    let below = lowest_below _ _ _ _ c.loop-i.invariant.hard.below c.in-Some.ensures.steps in
+    let length_is : length c.loop-i.counts.kept ≡ max_rules = ap length c.loop-i.invariant.same.kept ∙ c.requires.counts.kept_length in
+    omega (arith, below, c.teams.ensures.limits.rule_count, length_is)
+
+pub offset_bounds-counts-i : goal.offset_bounds-counts-i
+offset_bounds-counts-i c =
+    omega (arith, lowest_below _ _ _ _ c.loop-i.invariant.hard.below c.in-Some.ensures.steps, c.teams.ensures.limits.rule_count)
+
+pub bounds-counts-i : goal.bounds-counts-i
+bounds-counts-i c =
+    omega (arith, lowest_below _ _ _ _ c.loop-i.invariant.hard.below c.in-Some.ensures.steps, c.teams.ensures.limits.rule_count)
+
+pub offset_bounds-counts-i-in-loop-i : goal.offset_bounds-counts-i-in-loop-i
+offset_bounds-counts-i-in-loop-i c =
+    omega (arith, lowest_below _ _ _ _ c.loop-i.invariant.hard.below c.in-Some.ensures.steps, c.teams.ensures.limits.rule_count)
+
+pub bounds-counts-i-in-loop-i : goal.bounds-counts-i-in-loop-i
+bounds-counts-i-in-loop-i c =
+    omega (arith, lowest_below _ _ _ _ c.loop-i.invariant.hard.below c.in-Some.ensures.steps, c.teams.ensures.limits.rule_count)
+
 pub loop-i-preserved : goal.loop-i-preserved
 loop-i-preserved c =
-    let below : c.in-Some.i < length c.args.league.now.rules =
-    lowest_below _ _ _ _ c.loop-i.invariant.hard.below c.in-Some.ensures.steps in
+    let taken = c.in-Some.ensures.steps in
+    let below : c.in-Some.i < length c.args.league.now.rules = lowest_below _ _ _ _ c.loop-i.invariant.hard.below taken in
+    let step = c.part_before-part.ensures in
     record {
-      hard = sum_without_more _ _ _ _ _ _ _ _ _ c.loop-i.invariant.hard c.in-Some.ensures.steps
-          (rw c.breakable_part-part.ensures.value at c.of_rule-added.ensures.hard ∙
-          breakable_hard c.args.league.now c.args.schedule.now c.args.scope.now.main c.args.scope.now.turning
-          c.args.scope.now.attempt.known c.requires.known c.in-Some.i c.rule-rule.result.now below c.rule-rule.ensures.value)
+      hard = sum_without_more _ _ _ _ _ _ _ _ _ c.loop-i.invariant.hard taken
+          (rw step.value at c.of_rule-added.ensures.hard ∙
+          before_hard c.args.league.now c.args.schedule.now c.args.scope.now c.requires.known c.in-Some.i c.rule-rule.result.now below
+          c.rule-rule.ensures.value c.loop-i.counts.is_known)
           c.of_rule-added.ensures.hard_most;
-      soft = sum_without_more _ _ _ _ _ _ _ _ _ c.loop-i.invariant.soft c.in-Some.ensures.steps
-          (rw c.breakable_part-part.ensures.value at c.of_rule-added.ensures.soft ∙
-          breakable_soft c.args.league.now c.args.schedule.now c.args.scope.now.main c.args.scope.now.turning
-          c.args.scope.now.attempt.known c.requires.known c.in-Some.i c.rule-rule.result.now below c.rule-rule.ensures.value)
+      soft = sum_without_more _ _ _ _ _ _ _ _ _ c.loop-i.invariant.soft taken
+          (rw step.value at c.of_rule-added.ensures.soft ∙
+          before_soft c.args.league.now c.args.schedule.now c.args.scope.now c.requires.known c.in-Some.i c.rule-rule.result.now below
+          c.rule-rule.ensures.value c.loop-i.counts.is_known)
           c.of_rule-added.ensures.soft_most;
+      same = record { known = step.same.known ∙ c.loop-i.invariant.same.known; kept = step.same.kept ∙ c.loop-i.invariant.same.kept };
+      next_length = length-set _ _ _ ∙ ap length step.next ∙ c.loop-i.invariant.next_length;
+      rests = λ known.
+          let was_known : c.loop-i.counts.is_known ≡ true = sym step.same.known ∙ known in
+          let part : c.part_before-part.result ≡ part_before true c.args.schedule.now c.args.scope.now c.rule-rule.result.now =
+          step.value ∙ ap (λ b. part_before b c.args.schedule.now c.args.scope.now c.rule-rule.result.now) was_known in
+          let deviation_is = c.requires.counts.deviations (sym c.loop-i.invariant.same.known ∙ was_known) c.in-Some.i c.rule-rule.result.now
+          c.rule-rule.ensures.value in
+          let kept : get_or c.part_before-part.new.self.kept c.in-Some.i 0 ≡ get_or c.args.counts.now.kept c.in-Some.i 0 =
+          ap (λ kept. get_or kept c.in-Some.i 0) (step.same.kept ∙ c.loop-i.invariant.same.kept) in
+          let least = part_le c.args.schedule.now c.args.scope.now.main.teams c.args.scope.now.main.rounds c.args.scope.now.turning
+          c.rule-rule.result.now.body in
+          rw step.next
+          (rest_more c.args.league.now.rules c.args.scope.now _ _ _ c.args.schedule.now c.loop-i.counts.next c.rule-rule.result.now _
+          (omega (arith, below, c.teams.ensures.limits.rule_count, c.loop-i.invariant.next_length))
+          taken c.rule-rule.ensures.value
+          (omega (arith, c.saturating_sub.ensures, part, deviation_is, kept, least)) (c.loop-i.invariant.rests was_known));
     }
 
 pub returns-clause-hard : goal.returns-clause-hard

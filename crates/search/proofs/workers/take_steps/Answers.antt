@@ -24,7 +24,7 @@ loop-s-preserved g c =
       whole = counts.whole was.whole;
       few = omega (arith, counts.few, was.few);
       same_size = search rules;
-      evaluator = rw c.step-told.ensures.evaluator was.evaluator;
+      evaluator = c.step-told.ensures.evaluator;
       known = search rules;
       heard = heard_next _ c.loop-s.report c.with-report.result c.step-told.result c.with-report.ensures was.heard
           c.step-told.ensures.heard;

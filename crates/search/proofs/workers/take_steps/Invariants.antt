@@ -1,6 +1,6 @@
 use Rattle.std.proofs.Common.{◌≡◌, ◌+◌, ◌≤◌}
 use Rattle.league.specs.League.{teams}
-use Rattle.costs.specs.Evaluators.{IsEvaluatorOf}
+use Rattle.costs.specs.Evaluators.{IsEvaluatorAt}
 use Rattle.search.specs.Heard.{IsHeard}
 use Rattle.search.specs.Steps.{IsKnown}
 use Rattle.search.proofs.workers.take_steps.Given as goal
@@ -10,7 +10,7 @@ invariant-loop-s g l = record {
   whole : l.report.made ≡ l.report.accepted + l.report.refused;
   few : l.report.made ≤ l.s;
   same_size : teams l.means.measure.league.now ≡ l.copy.teams;
-  evaluator : IsEvaluatorOf l.means.measure.league.now.rules l.kept.evaluator;
+  evaluator : IsEvaluatorAt l.means.measure.league.now l.copy l.kept.evaluator;
   known : IsKnown l.means.measure.league.now l.copy l.kept.known.cost l.kept.known.score;
   heard : IsHeard (g.G.HearingGate.heard l.means.gate.now l.plan.worker) l.report;
   counted : g.D.Door.granted l.door ≡ g.D.Door.granted l.fn.door + l.report.accepted;

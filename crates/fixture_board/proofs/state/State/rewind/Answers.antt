@@ -16,7 +16,7 @@ cost_of-self-requires c =
     sym (ap (λ (g : Games). g.teams) c.copy_from.ensures ∙ best_size c.in-Some.best c.requires.kept c.in-Some.is)
 
 -- the pins are those of the history that is left
-retraced : (c : goal.After-self-1) → IsRetraced c.args.league.now (effective c.truncate.new.self.items) c.retrace-2.new.self
+retraced : (c : goal.After-self-2-1) → IsRetraced c.args.league.now (effective c.truncate.new.self.items) c.retrace-2.new.self
 retraced c =
     subst (λ changes. IsRetraced c.args.league.now changes c.retrace-2.new.self)
     (c.deref-2.ensures.value ∙ c.retrace.ensures.items ∙ ap effective c.deref.ensures.value) c.retrace-2.ensures

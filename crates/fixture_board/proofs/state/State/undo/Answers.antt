@@ -30,4 +30,4 @@ pub returns-clause-step : goal.returns-clause-step
 returns-clause-step c =
     let told = undo_told c.args.version c.requires.kept c.check_version.ensures c.in_ok-check_version.was
     (some_last _ _ _ c.in-Some.ensures.items) in
-    rw c.take_back.ensures (IsGranted-undo c.args.version _ _ c.requires.kept told c.in-Some.ensures.items)
+    rw c.take_back.ensures.state (IsGranted-undo c.args.version _ _ c.requires.kept told c.in-Some.ensures.items)
