@@ -2,13 +2,13 @@
 use Rattle.std.proofs.Common.{◌≡◌, ℕ, ◌+◌, ◌-◌, ◌&&◌, ◌||◌, ◌==◌, not, nat_lt, Bool, true, false, List, take, get_or, Some, refl, sym, ◌∙◌}
 use Rattle.std.proofs.Common.{ap, inl, inr, arith}
 use Rattle.std.specs.List.{slice_get, list_any}
-use Rattle.std.proofs.lemmas.Bool.{cases_eq, and_from, or_from, cases_lt, lt-ltb, le-ltb, and_right, false≢true, and_parts}
+use Rattle.std.proofs.lemmas.Bool.{or_from, cases_lt, lt-ltb, le-ltb, and_right}
 use Rattle.std.proofs.lemmas.List.Folds.{list_any_more, list_any_at}
 use Rattle.std.proofs.lemmas.Option.{slice_get_within, get_or_from_slice_get}
 use Rattle.league.specs.Limits.{max_rounds}
-use Rattle.league.specs.Sets.{has, IsBelow, IsWithoutLowest}
+use Rattle.league.specs.Sets.{has, IsWithoutLowest}
 use Rattle.league.specs.Sums.{any_below}
-use Rattle.league.proofs.ForCallers.{any_below_found, any_below_from_none, any_below_same, lowest_below, has_empty, others_kept}
+use Rattle.league.proofs.ForCallers.{any_below_found, any_below_from_none, any_below_same, has_empty}
 use Rattle.robinx.specs.Touches.{has_touched_round, has_touched_until, or_before}
 use Rattle.robinx.specs.Parts.{lacks_one}
 

@@ -1,7 +1,6 @@
-use Rattle.std.proofs.Common.{◌≡◌, ℕ, ◌&&◌, sym, ◌∙◌, ap, subst, arith}
+use Rattle.std.proofs.Common.{ℕ, ◌&&◌, ◌∙◌, ap, subst, arith}
 use Rattle.std.proofs.lemmas.Bool.{lt-ltb}
 use Rattle.league.specs.Sets.{has, IsBelow}
-use Rattle.league.specs.Sums.{count_where}
 use Rattle.league.proofs.ForCallers.{count_where_same}
 use Rattle.robinx.proofs.counts.number_of.Goals as goal
 
