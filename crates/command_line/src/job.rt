@@ -42,7 +42,7 @@ pub enum Job {
         workers: u32,
         seed: u64,
         effort: u64,
-        seconds: u32,
+        seconds: Option<u32>,
     },
     /// Search for a cheaper schedule of the league, on a board with room for so many changes.
     Find {
@@ -105,11 +105,15 @@ fn improve_of(values: &ArgMatches) -> Job
     ensures job { improve_in (rows_of (found_of values.now)) ≡ Some result }
     ensures in_range { IsInRange result }
 {
+    let seconds = match SECONDS.number_if_any(values) {
+        Some(seconds) => Some(seconds as u32),
+        None => None,
+    };
     Job::Improve {
         workers: WORKERS.number(values) as u32,
         seed: SEED.number(values),
         effort: EFFORT.number(values) * STEPS_OF_EFFORT,
-        seconds: SECONDS.number(values) as u32,
+        seconds,
     }
 }
 
