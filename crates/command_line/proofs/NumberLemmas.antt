@@ -25,7 +25,7 @@ pub record IsNumberOf (o : NumberArg) (rows : List Row) (r : Option ℕ) : Type 
   pub range : IfSome r (λ n. (o.least ≤ n) × (n ≤ o.most))
 
 module _ (o : NumberArg) (f : Found) where
-  parser : ValueParser
+  abbrev parser : ValueParser
   parser = Unsigned o.least o.most
 
   same : one_text f o.name.now ≡ one_of o.name.now (rows_of f)
@@ -39,7 +39,7 @@ module _ (o : NumberArg) (f : Found) where
           → option_map_or (accepts false parser) text (not (is_some (form_of o).default)) ≡ true → (one_text f o.name.now ≡ None → r ≡ None)
           → ((t : Text) → one_text f o.name.now ≡ Some t → ReadsOne Reads t r) → IsNumberOf o (rows_of f) r
       go None is r has none value =
-          rw none (same ∙ is) (record { number = rw is refl; some = λ d. absurd (true≢false (sym (rw d at has))); range = tt })
+          rw (none (same ∙ is)) (record { number = rw is refl; some = λ d. absurd (true≢false (sym (rw d at has))); range = tt })
       go (Some t) is None has none value =
           let accepted = accepts-Accepts false parser t has in
           absurd ((value t (same ∙ is)).1.0 (accepted.0, accepted.1))

@@ -151,7 +151,7 @@ module _ (options : List OptionForm) where
 
   abbrev defaulted : OptionForm → Bool → Option Text → List Row → List Row
   defaulted o b d rows =
-      cond b rows (default_rows o.name (reading_by (option_rule o)) (option_map_or (λ text. text ∷ []) d []) rows)
+      cond b rows (default_rows o.name (reading_by (option_rule o)) (option_rule (record o { default = d })).defaults rows)
 
   default_fine : (o : OptionForm) (rows : List Row) → IsSound options o → IsFine rows → IsFine (with_default rows (option_rule o))
   default_fine o rows sound fine = go (has_row o.name rows) refl o.default sound.default_fits
