@@ -17,14 +17,12 @@ use Rattle.fixtures.specs.Exchanges.{exchanged_by}
 use Rattle.fixtures.specs.Games.{Games}
 use Rattle.robinx.specs.Deviations.{deviation}
 use Rattle.robinx.specs.Parts.{deviation_part}
-use Rattle.costs.specs.Costs.{cost_of, hard_penalty, soft_penalty}
 use Rattle.rule_index.proofs.ForCallers.{nothing_else_altered}
-use Rattle.costs.specs.CostParts.{rule_part, IsScope, KnowsRules}
-use Rattle.costs.specs.CountsKept.{part_before, AreCounts, AreRests, IsKeptOf}
+use Rattle.costs.specs.CostParts.{IsScope, KnowsRules}
+use Rattle.costs.specs.CountsKept.{AreCounts, AreRests, IsKeptOf}
 use Rattle.costs.specs.Evaluators.{if_known, AreDeviations}
 use Rattle.costs.specs.declared.counts.Counts.{Counts}
 use Rattle.costs.specs.declared.scope.Scope.{Scope}
-use Rattle.costs.proofs.PartLimits.{breakable_hard, breakable_soft}
 use Rattle.costs.proofs.Parts.{body_balances, round_robin_after, rule_for}
 use Rattle.costs.proofs.Scores.{exchanged-teams}
 
@@ -90,19 +88,6 @@ rest_more rules scope left lowest rest g next rule d within taken at one so_far 
       (get_or-set_other next lowest k d 0 elsewhere) ∙
       so_far k other there in_scope (sym (others_kept left lowest rest k taken elsewhere) ∙ gone)
 ]
-
--- what a rule's part before the exchange adds, counted or not
-module _ (l : LeagueData) (g : Games) (scope : Scope) (is : scope.attempt.known ≡ cost_of l g) (i : ℕ) (rule : Rule) (below : i < length l.rules)
-    (at : slice_get l.rules i ≡ Some rule) where
-  pub before_hard : (known : Bool) → hard_penalty rule.weight (part_before known g scope rule) ≡
-      rule_part hard_penalty scope.main scope.turning g (slice_get l.rules i)
-  before_hard true = ap (rule_part hard_penalty scope.main scope.turning g) (sym at)
-  before_hard false = breakable_hard l g scope.main scope.turning scope.attempt.known is i rule below at
-
-  pub before_soft : (known : Bool) → soft_penalty rule.weight (part_before known g scope rule) ≡
-      rule_part soft_penalty scope.main scope.turning g (slice_get l.rules i)
-  before_soft true = ap (rule_part soft_penalty scope.main scope.turning g) (sym at)
-  before_soft false = breakable_soft l g scope.main scope.turning scope.attempt.known is i rule below at
 
 -- a loop after the exchange adds the part of each rule to what is put down of it
 pub rest_taken : (rules : List Rule) (scope : Scope) (left lowest rest : ℕ) (g : Games) (next : List ℕ) (rule : Rule) (d : ℕ) →

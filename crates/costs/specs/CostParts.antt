@@ -1,6 +1,6 @@
 -- What of the costs an exchange can change, counted on the schedule before it or after it. `main` has its main teams and
 -- their rounds.
-use Rattle.std.specs.Prelude.{◌≡◌, ℕ, ◌+◌, ◌*◌, ◌<◌, nat_lt, Bool, if◌then◌else◌}
+use Rattle.std.specs.Prelude.{◌≡◌, ℕ, ◌+◌, ◌*◌, ◌<◌}
 use Rattle.std.specs.Prelude.{List, length, slice_get, Option, Some, None}
 use Rattle.league.specs.League.{LeagueData}
 use Rattle.league.specs.Sets.{has, IsBelow}
@@ -41,16 +41,6 @@ pub record KnowsRules (l : LeagueData) (scope : Scope) : Type 0 where
 -- the hard costs of every league: runs and repeats
 abbrev pub games_cost : LeagueData → Games → ℕ
 games_cost l g = runs_over g l.at_most + repeats g
-
--- whether a schedule of this cost may break a rule of this weight: no rule of a kind that costs nothing
-abbrev pub may_break : Cost → Weight → Bool
-may_break cost Hard = nat_lt 0 cost.hard
-may_break cost (Soft weight) = nat_lt 0 cost.soft
-
--- the part of the deviation from a rule that a schedule of this cost may break
-abbrev pub breakable_part : Games → TouchedCells → ℕ → Cost → Rule → ℕ
-breakable_part g main sides cost rule =
-    if may_break cost rule.weight then deviation_part g main.teams main.rounds sides rule.body else 0
 
 -- of what one rule adds, if there is one
 abbrev pub rule_part : (Weight → ℕ → ℕ) → TouchedCells → ℕ → Games → Option Rule → ℕ

@@ -1,12 +1,11 @@
 -- What is kept of the rules' deviations while an exchange is judged.
-use Rattle.std.specs.Prelude.{◌≡◌, ℕ, ◌+◌, Bool, true, false, if◌then◌else◌, List, length, Some, slice_get, slice_index}
+use Rattle.std.specs.Prelude.{◌≡◌, ℕ, ◌+◌, true, if◌then◌else◌, List, length, Some, slice_get, slice_index}
 use Rattle.league.specs.Limits.{max_rules}
 use Rattle.league.specs.Sets.{has}
 use Rattle.league.specs.declared.rule.Rule.{Rule}
 use Rattle.fixtures.specs.Games.{Games}
 use Rattle.robinx.specs.Deviations.{deviation}
 use Rattle.robinx.specs.Parts.{deviation_part}
-use Rattle.costs.specs.CostParts.{breakable_part}
 use Rattle.costs.specs.Evaluators.{AreDeviations}
 use Rattle.costs.specs.declared.counts.Counts.{Counts}
 use Rattle.costs.specs.declared.scope.Scope.{Scope}
@@ -21,11 +20,6 @@ pub record AreCounts (rules : List Rule) (g : Games) (counts : Counts) : Type 0 
 pub record IsKeptOf (new old : Counts) : Type 0 where
   pub known : new.is_known ≡ old.is_known
   pub kept : new.kept ≡ old.kept
-
--- the part of a rule's deviation before the exchange, which needn't be counted if no schedule of the known cost breaks the rule
-abbrev pub part_before : Bool → Games → Scope → Rule → ℕ
-part_before true g scope rule = deviation_part g scope.main.teams scope.main.rounds scope.turning rule.body
-part_before false g scope rule = breakable_part g scope.main scope.turning scope.attempt.known rule
 
 -- For each rule that the exchange can alter: what of its deviation on a schedule isn't the part that the exchange can alter if the rule is in
 -- a set, otherwise all of it.

@@ -1,6 +1,6 @@
 //! What a schedule costs.
 
-use league::{League, Weight};
+use league::League;
 
 /// What a schedule costs in a league. It is feasible if `hard` is 0.
 #[derive(Clone, Copy, Debug, PartialEq, Eq)]
@@ -17,7 +17,6 @@ pub struct Cost {
 impl Cost {
     ghost use Rattle.std.specs.Prelude.{◌≡◌, ◌^◌, ◌<◌, ◌==◌};
     ghost use Rattle.costs.specs.Costs.{score_by, score_of, total_of};
-    ghost use Rattle.costs.specs.CostParts.{may_break};
 
     /// What is compared if hard limits may be broken: travel and soft, and the league's hard weight for each
     /// breach of a hard limit.
@@ -49,16 +48,5 @@ impl Cost {
         ensures { result ≡ (self.hard == 0) }
     {
         self.hard == 0
-    }
-
-    /// Whether a schedule of this cost may break a rule of this weight: no hard one if nothing is hard, no soft one if
-    /// nothing is soft.
-    pub(crate) fn may_break(self, weight: Weight) -> bool
-        ensures { result ≡ may_break self weight }
-    {
-        match weight {
-            Weight::Hard => self.hard > 0,
-            Weight::Soft(_) => self.soft > 0,
-        }
     }
 }

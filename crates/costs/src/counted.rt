@@ -33,7 +33,6 @@ fn rest_of(
     requires same_size { teams league.now ≡ schedule.now.teams }
     requires scope { IsScope schedule.now scope.now }
     requires rules { KnowsRules league.now scope.now }
-    requires known { scope.now.attempt.known ≡ cost_of league.now schedule.now }
     requires counts { AreCounts league.now.rules schedule.now counts.old }
     requires told { IsTold league.now schedule.now scope.now.attempt.exchange.now told }
     ensures rest { IsRest league.now scope.now (exchanged_by schedule.now scope.now.attempt.exchange.now) result }
@@ -62,7 +61,6 @@ pub(crate) fn rest_within(
     requires same_size { teams league.now ≡ schedule.now.teams }
     requires scope { IsScope schedule.now scope.now }
     requires rules { KnowsRules league.now scope.now }
-    requires known { scope.now.attempt.known ≡ cost_of league.now schedule.now }
     requires weight { 1 ≤ scope.now.attempt.weight }
     requires counts { AreCounts league.now.rules schedule.now counts.old }
     requires told { IsTold league.now schedule.now scope.now.attempt.exchange.now told }

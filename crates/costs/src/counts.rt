@@ -30,7 +30,7 @@ impl Counts {
     ghost use Rattle.league.specs.Sets.{has, IsBelow};
     ghost use Rattle.robinx.specs.Deviations.{deviation};
     ghost use Rattle.robinx.specs.Parts.{deviation_part};
-    ghost use Rattle.costs.specs.CountsKept.{part_before, AreCounts, IsKeptOf};
+    ghost use Rattle.costs.specs.CountsKept.{AreCounts, IsKeptOf};
 
     /// Nothing counted yet.
     pub(crate) fn new() -> Counts
@@ -77,7 +77,7 @@ impl Counts {
         self.is_known = true;
     }
 
-    /// The part of a rule's deviation that the exchange can alter, before it. It isn't counted if the rule isn't broken.
+    /// The part of a rule's deviation that the exchange can alter, before it. None is counted of a rule that is known not to be broken.
     pub(crate) fn part_before(
         &mut self,
         schedule: &Schedule,
@@ -88,16 +88,12 @@ impl Counts {
         requires body { IsBodyFor schedule.now.teams rule.now.body }
         requires index { i < length self.old.kept }
         requires kept { self.old.is_known ≡ true → slice_index self.old.kept i ≡ deviation schedule.now rule.now.body }
-        ensures value { result ≡ part_before self.old.is_known schedule.now scope.now rule.now }
+        ensures value { result ≡ deviation_part schedule.now scope.now.main.teams scope.now.main.rounds scope.now.turning rule.now.body }
         ensures below { result < deviation_limit }
         ensures same { IsKeptOf self.new self.old }
         ensures next { self.new.next ≡ self.old.next }
     {
-        if self.is_known {
-            if self.kept[i] == 0 {
-                return 0;
-            }
-        } else if !scope.attempt.known.may_break(rule.weight) {
+        if self.is_known && self.kept[i] == 0 {
             return 0;
         }
         deviation_part(schedule, rule, scope.main, scope.turning, &mut self.gaps)

@@ -3,7 +3,7 @@
 ghost use Rattle.std.specs.Prelude.{◌≡◌, ◌*◌, ◌≤◌, true};
 ghost use Rattle.league.specs.League.{teams};
 ghost use Rattle.league.specs.Limits.{deviation_limit, max_rules, max_weight};
-ghost use Rattle.costs.specs.Costs.{cost_of, hard_penalty, soft_penalty, sum_over_rules};
+ghost use Rattle.costs.specs.Costs.{hard_penalty, soft_penalty, sum_over_rules};
 ghost use Rattle.costs.specs.CostParts.{rules_part, KnowsRules};
 ghost use Rattle.costs.specs.CountsKept.{AreCounts, AreRests, IsKeptOf};
 
@@ -33,7 +33,7 @@ pub(crate) fn costs_of_rules(schedule: &Schedule, league: &League) -> Penalties
     costs
 }
 
-/// What of that the exchange of the scope can alter. No part is counted of a rule that isn't broken. What each rule's deviation is without
+/// What of that the exchange of the scope can alter. No part is counted of a rule that is known not to be broken. What each rule's deviation is without
 /// the part goes into the counts.
 pub(crate) fn parts_of_rules(
     schedule: &Schedule,
@@ -43,7 +43,6 @@ pub(crate) fn parts_of_rules(
 ) -> Penalties
     requires same_size { teams league.now ≡ schedule.now.teams }
     requires rules { KnowsRules league.now scope.now }
-    requires known { scope.now.attempt.known ≡ cost_of league.now schedule.now }
     requires counts { AreCounts league.now.rules schedule.now counts.old }
     ensures hard { result.hard ≡ rules_part hard_penalty league.now.rules scope.now.main scope.now.turning schedule.now }
     ensures soft { result.soft ≡ rules_part soft_penalty league.now.rules scope.now.main scope.now.turning schedule.now }

@@ -5,8 +5,8 @@ use Rattle.league.specs.Sets.{has, IsBelow}
 use Rattle.league.proofs.ForCallers.{lowest_below, sum_without_none, sum_without_more, sum_without_all}
 use Rattle.robinx.proofs.ForCallers.{part_le}
 use Rattle.costs.specs.Costs.{hard_penalty, soft_penalty}
-use Rattle.costs.specs.CountsKept.{part_before}
-use Rattle.costs.proofs.CountsKept.{before_hard, before_soft, rest_more}
+use Rattle.costs.specs.CostParts.{rule_part}
+use Rattle.costs.proofs.CountsKept.{rest_more}
 use Rattle.costs.proofs.PartLimits.{hard_nothing, soft_nothing}
 use Rattle.costs.proofs.Walked.{walked}
 use Rattle.costs.proofs.rule_costs.parts_of_rules.Goals as goal
@@ -57,20 +57,16 @@ loop-i-preserved c =
     record {
       hard = sum_without_more _ _ _ _ _ _ _ _ _ c.loop-i.invariant.hard taken
           (rw step.value at c.of_rule-added.ensures.hard ∙
-          before_hard c.args.league.now c.args.schedule.now c.args.scope.now c.requires.known c.in-Some.i c.rule-rule.result.now below
-          c.rule-rule.ensures.value c.loop-i.counts.is_known)
+          ap (rule_part hard_penalty c.args.scope.now.main c.args.scope.now.turning c.args.schedule.now) (sym c.rule-rule.ensures.value))
           c.of_rule-added.ensures.hard_most;
       soft = sum_without_more _ _ _ _ _ _ _ _ _ c.loop-i.invariant.soft taken
           (rw step.value at c.of_rule-added.ensures.soft ∙
-          before_soft c.args.league.now c.args.schedule.now c.args.scope.now c.requires.known c.in-Some.i c.rule-rule.result.now below
-          c.rule-rule.ensures.value c.loop-i.counts.is_known)
+          ap (rule_part soft_penalty c.args.scope.now.main c.args.scope.now.turning c.args.schedule.now) (sym c.rule-rule.ensures.value))
           c.of_rule-added.ensures.soft_most;
       same = record { known = step.same.known ∙ c.loop-i.invariant.same.known; kept = step.same.kept ∙ c.loop-i.invariant.same.kept };
       next_length = length-set _ _ _ ∙ ap length step.next ∙ c.loop-i.invariant.next_length;
       rests = λ known.
           let was_known : c.loop-i.counts.is_known ≡ true = sym step.same.known ∙ known in
-          let part : c.part_before-part.result ≡ part_before true c.args.schedule.now c.args.scope.now c.rule-rule.result.now =
-          step.value ∙ ap (λ b. part_before b c.args.schedule.now c.args.scope.now c.rule-rule.result.now) was_known in
           let deviation_is = c.requires.counts.deviations (sym c.loop-i.invariant.same.known ∙ was_known) c.in-Some.i c.rule-rule.result.now
           c.rule-rule.ensures.value in
           let kept : get_or c.part_before-part.new.self.kept c.in-Some.i 0 ≡ get_or c.args.counts.now.kept c.in-Some.i 0 =
@@ -81,7 +77,7 @@ loop-i-preserved c =
           (rest_more c.args.league.now.rules c.args.scope.now _ _ _ c.args.schedule.now c.loop-i.counts.next c.rule-rule.result.now _
           (omega (arith, below, c.teams.ensures.limits.rule_count, c.loop-i.invariant.next_length))
           taken c.rule-rule.ensures.value
-          (omega (arith, c.saturating_sub.ensures, part, deviation_is, kept, least)) (c.loop-i.invariant.rests was_known));
+          (omega (arith, c.saturating_sub.ensures, step.value, deviation_is, kept, least)) (c.loop-i.invariant.rests was_known));
     }
 
 pub returns-clause-hard : goal.returns-clause-hard
