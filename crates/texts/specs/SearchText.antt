@@ -1,5 +1,5 @@
 -- The parts of a search text. Workers are numbered from 1.
-use Rattle.std.specs.Prelude.{◌≡◌, ℕ, List, [], ◌∷◌, ◌++◌, Option, Some, None, if◌then◌else◌, codes}
+use Rattle.std.specs.Prelude.{◌≡◌, ℕ, List, [], ◌++◌, Option, Some, None, if◌then◌else◌, codes}
 use Rattle.std.specs.Str.Lines.{lines}
 use Rattle.league.specs.League.{LeagueData}
 use Rattle.league.specs.Starts.{is_given}

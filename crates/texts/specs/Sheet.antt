@@ -18,9 +18,16 @@ letter_of g team round = place_letter (cell g team round).home ∷ []
 abbrev pub pattern_of : Games → ℕ → List ℕ
 pattern_of g team = pieces_below (letter_of g team) (round_count g.teams)
 
+-- a word with a number, and what stands behind it
+abbrev pub label : List ℕ → ℕ → List ℕ → List ℕ
+label word number end = word ++ decimal (number + 1) ++ end
+
+-- a name at the end of a line
+abbrev pub name_end : List ℕ → List ℕ
+name_end name = codes " " ++ name ++ codes "\n"
+
 abbrev pub team_line : Games → LeagueData → ℕ → List ℕ
-team_line g league team = codes "team " ++ decimal (team + 1) ++ codes " " ++ pattern_of g team ++ codes " " ++ name_of league team ++
-    codes "\n"
+team_line g league team = label (codes "team ") team (codes " ") ++ pattern_of g team ++ name_end (name_of league team)
 
 -- a game, after a space
 abbrev pub pairing_of : ℕ → ℕ → List ℕ
@@ -32,7 +39,7 @@ game_text g round team = if (cell g team round).home then pairing_of team (cell 
 
 -- the games of the round, in the order of their home teams
 abbrev pub round_line : Games → ℕ → List ℕ
-round_line g round = codes "round " ++ decimal (round + 1) ++ codes ":" ++ pieces_below (game_text g round) g.teams ++ codes "\n"
+round_line g round = label (codes "round ") round (codes ":") ++ pieces_below (game_text g round) g.teams ++ codes "\n"
 
 -- a head line, a line for each team and a line for each round
 unfoldable pub sheet_of : Games → LeagueData → List ℕ

@@ -1,6 +1,6 @@
 //! What a board answers to the lines of a script.
 
-ghost use Rattle.std.specs.Prelude.{◌≡◌, [], OnOk};
+ghost use Rattle.std.specs.Prelude.{◌≡◌, ◌++◌, [], OnOk};
 ghost use Rattle.std.specs.Str.Lines.{lines};
 ghost use Rattle.streams.specs.Writing.{Writes};
 ghost use Rattle.fixture_board.specs.Record.{book};
@@ -10,6 +10,7 @@ ghost use Rattle.texts.specs.PlayText.{played, reply_line, slack_after, tried_li
 
 use crate::input::next_line;
 use crate::lines::{write_counted, write_numbered};
+use crate::pieces::{Piece, write_pieces};
 use crate::script_line::{ScriptLine, parse_line};
 use costs::Cost;
 use fixture_board::{Ask, Board, Change, Proposal, Reply, Why};
@@ -103,54 +104,70 @@ fn write_tried<W: Sink>(out: &mut BufferedSink<'_, W>, reply: Reply) -> Result<(
 fn write_would<W: Sink>(out: &mut BufferedSink<'_, W>, cost: Cost) -> Result<(), WriteFault>
     ensures { Writes W.held W.tally out.old out.new result (would_line cost) }
 {
-    out.write(b"would")?;
-    write_costs(out, cost)
+    write_costs(out, b"would", cost)
 }
 
 fn write_done<W: Sink>(out: &mut BufferedSink<'_, W>, at: u64, cost: Cost) -> Result<(), WriteFault>
     ensures { Writes W.held W.tally out.old out.new result (done_line at cost) }
 {
     write_counted(out, b"done ", at)?;
-    write_costs(out, cost)
+    write_costs(out, b"", cost)
 }
 
-/// Writes a cost, which ends the line.
+/// Writes a word, if it isn't empty, and a cost, which ends the line.
 pub(crate) fn write_costs<W: Sink>(
     out: &mut BufferedSink<'_, W>,
+    word: &[u8],
     cost: Cost,
 ) -> Result<(), WriteFault>
-    ensures { Writes W.held W.tally out.old out.new result (costs_of cost) }
+    ensures { Writes W.held W.tally out.old out.new result (word.now ++ costs_of cost) }
 {
-    write_counted(out, b" travel ", cost.travel)?;
-    write_counted(out, b" hard ", cost.hard)?;
-    write_numbered(out, b" soft ", cost.soft)
+    write_pieces(
+        out,
+        &[
+            Piece::Text(word),
+            Piece::Text(b" travel "),
+            Piece::Number(cost.travel),
+            Piece::Text(b" hard "),
+            Piece::Number(cost.hard),
+            Piece::Text(b" soft "),
+            Piece::Number(cost.soft),
+            Piece::Text(b"\n"),
+        ],
+    )
 }
 
 fn write_no<W: Sink>(out: &mut BufferedSink<'_, W>, at: u64, why: Why) -> Result<(), WriteFault>
     ensures { Writes W.held W.tally out.old out.new result (no_line at why) }
 {
-    write_counted(out, b"no ", at)?;
-    out.write(b" ")?;
-    write_why(out, why)?;
-    out.write(b"\n")
+    write_pieces(
+        out,
+        &[
+            Piece::Text(b"no "),
+            Piece::Number(at),
+            Piece::Text(b" "),
+            Piece::Text(why_text(why)),
+            Piece::Text(b"\n"),
+        ],
+    )
 }
 
-fn write_why<W: Sink>(out: &mut BufferedSink<'_, W>, why: Why) -> Result<(), WriteFault>
-    ensures { Writes W.held W.tally out.old out.new result (why_text why) }
+fn why_text(why: Why) -> &'static [u8]
+    ensures { result.now ≡ why_text why }
 {
     match why {
-        Why::Ahead => out.write(b"ahead"),
-        Why::Old => out.write(b"old"),
-        Why::Full => out.write(b"full"),
-        Why::BadMove => out.write(b"bad move"),
-        Why::Meet => out.write(b"meet"),
-        Why::Pinned => out.write(b"pinned"),
-        Why::WrongClaim => out.write(b"wrong claim"),
-        Why::Worse => out.write(b"worse"),
-        Why::BadGame => out.write(b"bad game"),
-        Why::NotThere => out.write(b"not there"),
-        Why::AlreadyPinned => out.write(b"already pinned"),
-        Why::NotPinned => out.write(b"not pinned"),
-        Why::NothingToUndo => out.write(b"nothing to undo"),
+        Why::Ahead => b"ahead",
+        Why::Old => b"old",
+        Why::Full => b"full",
+        Why::BadMove => b"bad move",
+        Why::Meet => b"meet",
+        Why::Pinned => b"pinned",
+        Why::WrongClaim => b"wrong claim",
+        Why::Worse => b"worse",
+        Why::BadGame => b"bad game",
+        Why::NotThere => b"not there",
+        Why::AlreadyPinned => b"already pinned",
+        Why::NotPinned => b"not pinned",
+        Why::NothingToUndo => b"nothing to undo",
     }
 }

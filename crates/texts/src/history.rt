@@ -1,10 +1,10 @@
 //! The history of a board, as a script that leads to it.
 
-ghost use Rattle.std.specs.Prelude.{◌≡◌};
 ghost use Rattle.streams.specs.Writing.{Writes};
 ghost use Rattle.texts.specs.PlayText.{change_line, change_lines, history_text, move_line, two_places, three_places};
 
-use crate::lines::{write_counted, write_numbered};
+use crate::lines::write_numbered;
+use crate::pieces::{Piece, write_pieces};
 use fixture_board::{Board, Change};
 use moves::Move;
 use streams::{BufferedSink, Sink, WriteFault};
@@ -61,8 +61,16 @@ fn write_two<W: Sink>(
 ) -> Result<(), WriteFault>
     ensures { Writes W.held W.tally out.old out.new result (two_places word.now first second) }
 {
-    write_counted(out, word, first as u64 + 1)?;
-    write_numbered(out, b" ", second as u64 + 1)
+    write_pieces(
+        out,
+        &[
+            Piece::Text(word),
+            Piece::Number(first as u64 + 1),
+            Piece::Text(b" "),
+            Piece::Number(second as u64 + 1),
+            Piece::Text(b"\n"),
+        ],
+    )
 }
 
 fn write_three<W: Sink>(
@@ -74,7 +82,16 @@ fn write_three<W: Sink>(
 ) -> Result<(), WriteFault>
     ensures { Writes W.held W.tally out.old out.new result (three_places word.now first second third) }
 {
-    write_counted(out, word, first as u64 + 1)?;
-    write_counted(out, b" ", second as u64 + 1)?;
-    write_numbered(out, b" ", third as u64 + 1)
+    write_pieces(
+        out,
+        &[
+            Piece::Text(word),
+            Piece::Number(first as u64 + 1),
+            Piece::Text(b" "),
+            Piece::Number(second as u64 + 1),
+            Piece::Text(b" "),
+            Piece::Number(third as u64 + 1),
+            Piece::Text(b"\n"),
+        ],
+    )
 }

@@ -3,6 +3,7 @@
 ghost use Rattle.streams.specs.Writing.{Writes};
 ghost use Rattle.texts.specs.PlayText.{counted, numbered};
 
+use crate::pieces::{Piece, write_pieces};
 use streams::{BufferedSink, Sink, WriteFault};
 
 /// Writes a text and a number after it.
@@ -13,8 +14,7 @@ pub(crate) fn write_counted<W: Sink>(
 ) -> Result<(), WriteFault>
     ensures { Writes W.held W.tally out.old out.new result (counted text.now number) }
 {
-    out.write(text)?;
-    out.write_number(number)
+    write_pieces(out, &[Piece::Text(text), Piece::Number(number)])
 }
 
 /// Writes a text and a number, which ends the line.
@@ -25,6 +25,8 @@ pub(crate) fn write_numbered<W: Sink>(
 ) -> Result<(), WriteFault>
     ensures { Writes W.held W.tally out.old out.new result (numbered text.now number) }
 {
-    write_counted(out, text, number)?;
-    out.write(b"\n")
+    write_pieces(
+        out,
+        &[Piece::Text(text), Piece::Number(number), Piece::Text(b"\n")],
+    )
 }

@@ -13,7 +13,7 @@ ghost use Rattle.texts.specs.PlayText.{best_line, closing_text, play_text, playe
 
 use crate::answers::{write_answers, write_costs};
 use crate::history::write_history;
-use crate::lines::{write_counted, write_numbered};
+use crate::pieces::{Piece, write_pieces};
 use crate::sheets::write_sheet;
 use costs::Cost;
 use fixture_board::{Best, Board};
@@ -46,8 +46,7 @@ pub fn play_script<W: Sink>(
 fn write_start<W: Sink>(out: &mut BufferedSink<'_, W>, cost: Cost) -> Result<(), WriteFault>
     ensures { Writes W.held W.tally out.old out.new result (start_line cost) }
 {
-    out.write(b"start")?;
-    write_costs(out, cost)
+    write_costs(out, b"start", cost)
 }
 
 /// Writes the board's history, the sheet of its schedule and its best version.
@@ -79,6 +78,14 @@ fn write_best_line<W: Sink>(
     let Some(best) = best else {
         return out.write(b"best none\n");
     };
-    write_counted(out, b"best ", best.total)?;
-    write_numbered(out, b" at ", best.at)
+    write_pieces(
+        out,
+        &[
+            Piece::Text(b"best "),
+            Piece::Number(best.total),
+            Piece::Text(b" at "),
+            Piece::Number(best.at),
+            Piece::Text(b"\n"),
+        ],
+    )
 }

@@ -10,7 +10,8 @@ ghost use Rattle.texts.specs.SearchText.{improved_text, least_hard_text};
 
 use crate::history::write_history;
 use crate::least_hard::write_least_hard;
-use crate::lines::{write_counted, write_numbered};
+use crate::lines::write_numbered;
+use crate::pieces::{Piece, write_pieces};
 use crate::play_text::write_best;
 use crate::sheets::write_sheet;
 use fixture_board::Board;
@@ -27,9 +28,18 @@ pub fn write_plan<W: Sink>(
 ) -> Result<(), WriteFault>
     ensures { Writes W.held W.tally out.old out.new result (plan_line workers steps seed) }
 {
-    write_counted(out, b"workers ", workers as u64)?;
-    write_counted(out, b" steps ", steps as u64)?;
-    write_numbered(out, b" seed ", seed)
+    write_pieces(
+        out,
+        &[
+            Piece::Text(b"workers "),
+            Piece::Number(workers as u64),
+            Piece::Text(b" steps "),
+            Piece::Number(steps as u64),
+            Piece::Text(b" seed "),
+            Piece::Number(seed),
+            Piece::Text(b"\n"),
+        ],
+    )
 }
 
 /// Writes how many proposals the worker of this number made, and how many of them were accepted and refused.
@@ -42,10 +52,20 @@ pub fn write_worker<W: Sink>(
 ) -> Result<(), WriteFault>
     ensures { Writes W.held W.tally out.old out.new result (worker_line number made accepted refused) }
 {
-    write_counted(out, b"worker ", number)?;
-    write_counted(out, b" made ", made as u64)?;
-    write_counted(out, b" accepted ", accepted as u64)?;
-    write_numbered(out, b" refused ", refused as u64)
+    write_pieces(
+        out,
+        &[
+            Piece::Text(b"worker "),
+            Piece::Number(number),
+            Piece::Text(b" made "),
+            Piece::Number(made as u64),
+            Piece::Text(b" accepted "),
+            Piece::Number(accepted as u64),
+            Piece::Text(b" refused "),
+            Piece::Number(refused as u64),
+            Piece::Text(b"\n"),
+        ],
+    )
 }
 
 /// Writes the board in the end: its history, the sheet of its best schedule, or of the present one if none was

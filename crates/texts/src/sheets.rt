@@ -9,9 +9,10 @@ ghost use Rattle.streams.specs.Sending.{AppendsPrefix};
 ghost use Rattle.streams.specs.Tally.{FailsWriting};
 ghost use Rattle.streams.specs.Writing.{Writes};
 ghost use Rattle.streams.specs.Pieces.{pieces_below};
-ghost use Rattle.texts.specs.Sheet.{head_line, place_letter, pattern_of, team_line};
+ghost use Rattle.texts.specs.Sheet.{head_line, label, name_end, place_letter, pattern_of, team_line};
 ghost use Rattle.texts.specs.Sheet.{pairing_of, game_text, round_line, sheet_of};
 
+use crate::pieces::{Piece, write_pieces};
 use fixtures::Schedule;
 use league::League;
 use streams::{BufferedSink, Sink, WriteFault};
@@ -49,11 +50,16 @@ pub fn write_sheet<W: Sink>(
 fn write_head<W: Sink>(out: &mut BufferedSink<'_, W>, schedule: &Schedule) -> Result<(), WriteFault>
     ensures { Writes W.held W.tally out.old out.new result (head_line schedule.now) }
 {
-    out.write(b"league ")?;
-    out.write_number(schedule.teams() as u64)?;
-    out.write(b" teams ")?;
-    out.write_number(schedule.rounds() as u64)?;
-    out.write(b" rounds\n")
+    write_pieces(
+        out,
+        &[
+            Piece::Text(b"league "),
+            Piece::Number(schedule.teams() as u64),
+            Piece::Text(b" teams "),
+            Piece::Number(schedule.rounds() as u64),
+            Piece::Text(b" rounds\n"),
+        ],
+    )
 }
 
 fn write_teams<W: Sink>(
@@ -82,13 +88,42 @@ fn write_team<W: Sink>(
     ensures { Writes W.held W.tally out.old out.new result
         (team_line schedule.now league.now team) }
 {
-    out.write(b"team ")?;
-    out.write_number(team as u64 + 1)?;
-    out.write(b" ")?;
+    write_label(out, b"team ", team, b" ")?;
     write_pattern(out, schedule, team)?;
-    out.write(b" ")?;
-    out.write(league.name(team).as_bytes())?;
-    out.write(b"\n")
+    write_name(out, league.name(team))
+}
+
+/// Writes the word, the number and what stands behind it.
+fn write_label<'a, W: Sink>(
+    out: &mut BufferedSink<'_, W>,
+    word: &'a [u8],
+    number: u8,
+    end: &'a [u8],
+) -> Result<(), WriteFault>
+    ensures { Writes W.held W.tally out.old out.new result (label word.now number end.now) }
+{
+    write_pieces(
+        out,
+        &[
+            Piece::Text(word),
+            Piece::Number(number as u64 + 1),
+            Piece::Text(end),
+        ],
+    )
+}
+
+/// Writes a blank and the name, which ends the line.
+fn write_name<W: Sink>(out: &mut BufferedSink<'_, W>, name: &str) -> Result<(), WriteFault>
+    ensures { Writes W.held W.tally out.old out.new result (name_end name.now) }
+{
+    write_pieces(
+        out,
+        &[
+            Piece::Text(b" "),
+            Piece::Text(name.as_bytes()),
+            Piece::Text(b"\n"),
+        ],
+    )
 }
 
 fn write_pattern<W: Sink>(
@@ -133,9 +168,7 @@ fn write_round<W: Sink>(
     requires { round < round_count schedule.now.teams }
     ensures { Writes W.held W.tally out.old out.new result (round_line schedule.now round) }
 {
-    out.write(b"round ")?;
-    out.write_number(round as u64 + 1)?;
-    out.write(b":")?;
+    write_label(out, b"round ", round, b":")?;
     write_games(out, schedule, round)?;
     out.write(b"\n")
 }
@@ -181,8 +214,13 @@ fn write_pairing<W: Sink>(
 ) -> Result<(), WriteFault>
     ensures { Writes W.held W.tally out.old out.new result (pairing_of home away) }
 {
-    out.write(b" ")?;
-    out.write_number(home as u64 + 1)?;
-    out.write(b"-")?;
-    out.write_number(away as u64 + 1)
+    write_pieces(
+        out,
+        &[
+            Piece::Text(b" "),
+            Piece::Number(home as u64 + 1),
+            Piece::Text(b"-"),
+            Piece::Number(away as u64 + 1),
+        ],
+    )
 }

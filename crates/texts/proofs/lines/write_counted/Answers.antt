@@ -1,9 +1,0 @@
-use Rattle.std.proofs.Common.{decimal}
-use Rattle.streams.proofs.Pieces.{Adds-writes, Stops-more, Stops-writes}
-use Rattle.texts.proofs.lines.write_counted.Goals as goal
-
-pub returns-in_err-write : goal.returns-in_err-write
-returns-in_err-write g c = Stops-writes c.from_residual.ensures.0 (Stops-more (decimal c.args.number) c.in_err-write.ensures.writes.err)
-
-pub returns : goal.returns
-returns g c = Adds-writes c.in_ok-write.ensures.writes.ok c.write_number.ensures.writes

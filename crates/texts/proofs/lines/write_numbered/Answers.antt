@@ -1,9 +1,0 @@
-use Rattle.std.proofs.Common.{codes}
-use Rattle.streams.proofs.Pieces.{Adds-writes, Stops-more, Stops-writes}
-use Rattle.texts.proofs.lines.write_numbered.Goals as goal
-
-pub returns-in_err-write_counted : goal.returns-in_err-write_counted
-returns-in_err-write_counted g c = Stops-writes c.from_residual.ensures.0 (Stops-more (codes "\n") c.in_err-write_counted.ensures.err)
-
-pub returns : goal.returns
-returns g c = Adds-writes c.in_ok-write_counted.ensures.ok c.write.ensures.writes
