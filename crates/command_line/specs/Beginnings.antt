@@ -1,13 +1,13 @@
 -- What is kept of the schedule at which boards begin, and what a moved game costs. Words number rounds and teams from 1, and the
 -- program numbers them from 0.
-use Rattle.std.specs.Prelude.{ℕ, ◌+◌, ◌-◌, ◌==◌, zero, suc, Bool, ◌&&◌, not, nat_le, List, [], ◌∷◌, ◌++◌, length, take, drop}
+use Rattle.std.specs.Prelude.{ℕ, ◌+◌, ◌-◌, ◌==◌, zero, suc, Bool, ◌&&◌, not, nat_le, List, [], ◌∷◌, ◌++◌, length}
 use Rattle.std.specs.Prelude.{Option, Some, None, codes, if◌then◌else◌, option_and_then}
 use Rattle.std.specs.List.{position_or_len, slice_split}
 use Rattle.std.specs.Option.{option_map_or}
 use Rattle.clap.specs.Words.{Row, Text, all_of, first_of}
 use Rattle.sets.specs.Limits.{max_rounds, max_teams}
 use Rattle.sets.specs.Sets.{with_number}
-use Rattle.texts.specs.Number.{number_of}
+use Rattle.texts.specs.Number.{after_dash, before_dash, number_of}
 use Rattle.command_line.specs.declared.beginning.BeginningWords.{BeginningWords}
 
 -- the set of the rounds that are kept, games that are kept, the home team first, and the cost of a moved game
@@ -21,16 +21,6 @@ beginning_of b = record { rounds = b.rounds; games = b.games.items; near = b.nea
 
 abbrev pub is_comma : ℕ → Bool
 is_comma b = b == 44
-
-abbrev pub is_dash : ℕ → Bool
-is_dash b = b == 45
-
--- the number before the first dash, and the one after it
-abbrev pub before_dash : Text → Option ℕ
-before_dash text = number_of (take (position_or_len is_dash text) text)
-
-abbrev pub after_dash : Text → Option ℕ
-after_dash text = number_of (drop (position_or_len is_dash text + 1) text)
 
 -- ---- rounds, as `1-8,12`
 
@@ -49,7 +39,7 @@ with_rounds set None last = None
 -- an item is a round, or the first and the last one with a dash between them
 abbrev pub with_item : ℕ → Text → Option ℕ
 with_item set item =
-    with_rounds set (before_dash item) (if position_or_len is_dash item == length item then before_dash item else after_dash item)
+    with_rounds set (before_dash item) (if position_or_len (λ b. b == 45) item == length item then before_dash item else after_dash item)
 
 abbrev pub with_items : ℕ → List Text → Option ℕ
 with_items set [] = Some set

@@ -1,18 +1,17 @@
 //! What the words keep of the schedule at which boards begin, and what a moved game costs.
 
-ghost use Rattle.std.specs.Prelude.{◌≡◌, ◌+◌, ◌<◌, ◌≤◌, [], map, IfOk, IfSome, Some, None, drop, length, option_map, take};
-ghost use Rattle.std.specs.List.{position_or_len};
+ghost use Rattle.std.specs.Prelude.{◌≡◌, ◌+◌, ◌≤◌, [], map, IfOk, IfSome, option_map};
 ghost use Rattle.clap.specs.Words.{found_of, rows_of};
 ghost use Rattle.sets.specs.Limits.{max_rounds};
-ghost use Rattle.command_line.specs.Beginnings.{after_dash, before_dash, game_of_numbers, game_of_text, games_in, is_comma, is_dash};
+ghost use Rattle.command_line.specs.Beginnings.{game_of_numbers, game_of_text, games_in};
 ghost use Rattle.command_line.specs.Beginnings.{max_near, near_in, near_of_text, rounds_in, rounds_of_text, with_games, with_item};
-ghost use Rattle.command_line.specs.Beginnings.{with_items, with_numbers, with_rounds};
+ghost use Rattle.command_line.specs.Beginnings.{with_numbers, with_rounds};
 
 use clap::ArgMatches;
 use sets::SlotSet;
 use sets::limits::{MAX_ROUNDS, MAX_TEAMS};
 use std::alloc::{AllocError, Global};
-use texts::number;
+use texts::{byte_index, number, numbers_at_dash, rest_after};
 
 /// The most that a moved game costs.
 const MAX_NEAR: u64 = 1_000_000;
@@ -43,12 +42,12 @@ fn rounds_of_text(text: &[u8]) -> Option<SlotSet>
 {
     let mut rounds = SlotSet::empty();
     let mut rest = text;
-    let mut comma = comma_index(rest);
+    let mut comma = byte_index(rest, b',');
     while comma < rest.len() {
         let (item, _rest) = rest.split_at(comma);
         rounds = with_item(rounds, item)?;
         rest = rest_after(rest, comma);
-        comma = comma_index(rest);
+        comma = byte_index(rest, b',');
     }
     with_item(rounds, rest)
 }
@@ -57,11 +56,11 @@ fn rounds_of_text(text: &[u8]) -> Option<SlotSet>
 fn with_item(rounds: SlotSet, item: &[u8]) -> Option<SlotSet>
     ensures { result ≡ with_item rounds item.now }
 {
-    let first = before_dash(item);
-    if dash_index(item) == item.len() {
+    let (first, last) = numbers_at_dash(item);
+    if byte_index(item, b'-') == item.len() {
         with_rounds(rounds, first, first)
     } else {
-        with_rounds(rounds, first, after_dash(item))
+        with_rounds(rounds, first, last)
     }
 }
 
@@ -123,8 +122,8 @@ fn games_of_texts(alloc: Global, texts: &[&str]) -> Result<Option<Vec<(u8, u8)>>
 pub(crate) fn game_of_text(text: &str) -> Option<(u8, u8)>
     ensures { result ≡ game_of_text text.now }
 {
-    let word = text.as_bytes();
-    game_of_numbers(before_dash(word), after_dash(word))
+    let (home, away) = numbers_at_dash(text.as_bytes());
+    game_of_numbers(home, away)
 }
 
 fn game_of_numbers(home: Option<u64>, away: Option<u64>) -> Option<(u8, u8)>
@@ -162,50 +161,4 @@ fn near_of_text(text: &[u8]) -> Option<u32>
         Some(near) if near <= MAX_NEAR => Some(near as u32),
         _ => None,
     }
-}
-
-/// The number before the first dash, or the number of the whole text.
-fn before_dash(text: &[u8]) -> Option<u64>
-    ensures { result ≡ before_dash text.now }
-{
-    let (front, _rest) = text.split_at(dash_index(text));
-    number(front)
-}
-
-fn after_dash(text: &[u8]) -> Option<u64>
-    ensures { result ≡ after_dash text.now }
-{
-    number(rest_after(text, dash_index(text)))
-}
-
-/// What follows the byte at this index.
-fn rest_after(text: &[u8], index: usize) -> &[u8]
-    requires { index ≤ length text.now }
-    ensures { result.now ≡ drop (index + 1) text.now }
-{
-    if index < text.len() {
-        text.split_at(index + 1).1
-    } else {
-        &[]
-    }
-}
-
-/// Where the first dash stands, or how long the text is.
-fn dash_index(text: &[u8]) -> usize
-    ensures index { result ≡ position_or_len is_dash text.now }
-    ensures within { result ≤ length text.now }
-{
-    text.iter()
-        .position(|byte| *byte == b'-')
-        .unwrap_or(text.len())
-}
-
-/// Where the first comma stands, or how long the text is.
-fn comma_index(text: &[u8]) -> usize
-    ensures index { result ≡ position_or_len is_comma text.now }
-    ensures within { result ≤ length text.now }
-{
-    text.iter()
-        .position(|byte| *byte == b',')
-        .unwrap_or(text.len())
 }

@@ -1,16 +1,15 @@
 //! The first bad line of a schedule.
 
-ghost use Rattle.std.specs.Prelude.{◌≡◌, ◌+◌, ◌≤◌, drop, is_some, length, option_map};
-ghost use Rattle.std.specs.List.{position_or_len};
+ghost use Rattle.std.specs.Prelude.{◌≡◌, is_some, option_map};
 ghost use Rattle.std.specs.Str.Lines.{lines};
 ghost use Rattle.texts.specs.Words.{words_of};
 ghost use Rattle.schedule_texts.specs.LastSheet.{begins_sheet, last_sheet};
-ghost use Rattle.schedule_texts.specs.ScheduleText.{game_of_word, has_bad_line, is_dash};
+ghost use Rattle.schedule_texts.specs.ScheduleText.{game_of_word, has_bad_line};
 ghost use Rattle.line_advice.specs.Hints.{first_hint, hint_so_far};
 ghost use Rattle.line_advice.specs.Schedule.{first_no_game, games_cause, numbered_cause, round_cause, schedule_cause};
 
 use crate::cause::{Cause, LineHint, quote};
-use texts::{next_line, next_word, number};
+use texts::{next_line, next_word, number, numbers_at_dash};
 
 /// The first bad line of a schedule's text, of the last sheet in it, and what is wrong with it. A schedule without a bad line has no
 /// hint. Takes no memory.
@@ -115,32 +114,8 @@ fn first_no_game(words: &[u8]) -> Option<&[u8]>
 fn is_game(word: &[u8]) -> bool
     ensures { result ≡ is_some (game_of_word 0 word.now) }
 {
-    let dash = dash_index(word);
-    let (home, _rest) = word.split_at(dash);
-    match (number(home), number(rest_after(word, dash))) {
+    match numbers_at_dash(word) {
         (Some(_), Some(_)) => true,
         _ => false,
     }
-}
-
-/// What follows the byte at this index.
-fn rest_after(word: &[u8], index: usize) -> &[u8]
-    requires { index ≤ length word.now }
-    ensures { result.now ≡ drop (index + 1) word.now }
-{
-    if index < word.len() {
-        word.split_at(index + 1).1
-    } else {
-        &[]
-    }
-}
-
-/// Where the first dash stands, or how long the word is.
-fn dash_index(word: &[u8]) -> usize
-    ensures index { result ≡ position_or_len is_dash word.now }
-    ensures within { result ≤ length word.now }
-{
-    word.iter()
-        .position(|byte| *byte == b'-')
-        .unwrap_or(word.len())
 }

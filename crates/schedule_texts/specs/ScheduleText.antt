@@ -1,17 +1,13 @@
 -- The games that a text gives, in its lines whose first word is `round`. All other lines are passed over.
-use Rattle.std.specs.Prelude.{ℕ, ◌-◌, ◌+◌, ◌==◌, Bool, true, false, ◌&&◌, ◌||◌, List, [], ◌∷◌, ◌++◌, length, take, drop, codes, slice_index}
+use Rattle.std.specs.Prelude.{ℕ, ◌-◌, ◌==◌, Bool, true, false, ◌&&◌, ◌||◌, List, [], ◌∷◌, ◌++◌, length, take, codes, slice_index}
 use Rattle.std.specs.Prelude.{Option, Some, None, if◌then◌else◌}
-use Rattle.std.specs.List.{position_or_len}
 use Rattle.std.specs.Option.{is_some}
 use Rattle.std.specs.Str.{bytes_eq}
-use Rattle.texts.specs.Number.{number_of}
+use Rattle.texts.specs.Number.{after_dash, before_dash, number_of}
 use Rattle.texts.specs.Words.{words_of}
 use Rattle.schedule_texts.specs.declared.schedule_text.ScheduleLine.{ScheduleLine}
 use Rattle.schedule_texts.specs.declared.schedule_text.ScheduleLine.TheVariants.{Other, Bad, Round}
 use Rattle.schedule_texts.specs.declared.schedule_text.WrittenGame.{WrittenGame}
-
-abbrev pub is_dash : ℕ → Bool
-is_dash b = b == 45
 
 abbrev pub game_of_numbers : ℕ → Option ℕ → Option ℕ → Option WrittenGame
 game_of_numbers round (Some home) (Some away) = Some (record { round = round; home = home; away = away })
@@ -20,8 +16,7 @@ game_of_numbers round None away = None
 
 -- the game `H-A` of the round: the numbers before and after the first dash
 abbrev pub game_of_word : ℕ → List ℕ → Option WrittenGame
-game_of_word round word =
-    game_of_numbers round (number_of (take (position_or_len is_dash word) word)) (number_of (drop (position_or_len is_dash word + 1) word))
+game_of_word round word = game_of_numbers round (before_dash word) (after_dash word)
 
 -- the number `R` of the word `R:`
 abbrev pub round_of_word : List ℕ → Option ℕ

@@ -1,16 +1,15 @@
 //! The games that a text gives, in its lines whose first word is `round`.
 
-ghost use Rattle.std.specs.Prelude.{◌≡◌, ◌+◌, ◌++◌, ◌≤◌, drop, length, map, IfOk, OnOk};
-ghost use Rattle.std.specs.List.{position_or_len};
+ghost use Rattle.std.specs.Prelude.{◌≡◌, ◌++◌, map, IfOk, OnOk};
 ghost use Rattle.std.specs.Str.Lines.{lines};
 ghost use Rattle.texts.specs.Words.{words_of};
 ghost use Rattle.schedule_texts.specs.Given.{placed};
-ghost use Rattle.schedule_texts.specs.ScheduleText.{are_games, game_of_numbers, game_of_word, games_of_words, has_bad_line, is_dash};
+ghost use Rattle.schedule_texts.specs.ScheduleText.{are_games, game_of_numbers, game_of_word, games_of_words, has_bad_line};
 ghost use Rattle.schedule_texts.specs.ScheduleText.{line_of, round_line, round_of_word, written_games, games_of_line, numbered_line};
 
 use fixtures::Game;
 use std::alloc::{AllocError, Global};
-use texts::{index, next_line, next_word, number};
+use texts::{index, next_line, next_word, number, numbers_at_dash};
 
 /// A game as it is written: teams and rounds are numbered from 1, and may be any numbers.
 #[derive(Clone, Copy, Debug, PartialEq, Eq)]
@@ -112,9 +111,8 @@ fn are_games(round: u64, words: &[u8]) -> bool
 fn game(round: u64, word: &[u8]) -> Option<WrittenGame>
     ensures { result ≡ game_of_word round word.now }
 {
-    let dash = dash_index(word);
-    let (home, _rest) = word.split_at(dash);
-    game_of_numbers(round, number(home), number(rest_after(word, dash)))
+    let (home, away) = numbers_at_dash(word);
+    game_of_numbers(round, home, away)
 }
 
 fn game_of_numbers(round: u64, home: Option<u64>, away: Option<u64>) -> Option<WrittenGame>
@@ -124,28 +122,6 @@ fn game_of_numbers(round: u64, home: Option<u64>, away: Option<u64>) -> Option<W
         (Some(home), Some(away)) => Some(WrittenGame { round, home, away }),
         _ => None,
     }
-}
-
-/// What follows the byte at this index.
-fn rest_after(word: &[u8], index: usize) -> &[u8]
-    requires { index ≤ length word.now }
-    ensures { result.now ≡ drop (index + 1) word.now }
-{
-    if index < word.len() {
-        word.split_at(index + 1).1
-    } else {
-        &[]
-    }
-}
-
-/// Where the first dash stands, or how long the word is.
-fn dash_index(word: &[u8]) -> usize
-    ensures index { result ≡ position_or_len is_dash word.now }
-    ensures within { result ≤ length word.now }
-{
-    word.iter()
-        .position(|byte| *byte == b'-')
-        .unwrap_or(word.len())
 }
 
 /// The games that the lines of the text give, in their order. A bad line gives none.

@@ -1,5 +1,6 @@
 -- The numbers of a script.
-use Rattle.std.specs.Prelude.{ℕ, ◌-◌, ◌^◌, ◌==◌, ◌||◌, nat_lt, not, List, length, Option, Some, None, if◌then◌else◌}
+use Rattle.std.specs.Prelude.{ℕ, ◌+◌, ◌-◌, ◌^◌, ◌==◌, ◌||◌, nat_lt, not, List, drop, length, take, Option, Some, None, if◌then◌else◌}
+use Rattle.std.specs.List.{position_or_len}
 use Rattle.std.specs.Str.{all_ascii_digits}
 use Rattle.std.specs.Str.Parse.{digits_value}
 
@@ -11,6 +12,13 @@ fitting n = if nat_lt n (2 ^ 64) then Some n else None
 abbrev pub number_of : List ℕ → Option ℕ
 number_of word = if (length word == 0) || nat_lt 20 (length word) || not (all_ascii_digits word) then None else fitting
     (digits_value 10 word)
+
+-- the number before the first dash, and the one after it
+abbrev pub before_dash : List ℕ → Option ℕ
+before_dash text = number_of (take (position_or_len (λ b. b == 45) text) text)
+
+abbrev pub after_dash : List ℕ → Option ℕ
+after_dash text = number_of (drop (position_or_len (λ b. b == 45) text + 1) text)
 
 -- a team or round as it is handed on: from 0, or 255 if it can't be one
 abbrev pub index_of : ℕ → ℕ

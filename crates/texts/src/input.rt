@@ -1,9 +1,10 @@
 //! The two parts of an input, a league and a script, and the lines of the script.
 
-ghost use Rattle.std.specs.Prelude.{◌≡◌, [], IfNone, IfSome, drop, ℕ, ◌<◌, ◌≤◌, length, option_map};
-ghost use Rattle.std.specs.List.{position_or_len};
+ghost use Rattle.std.specs.Prelude.{◌≡◌, [], IfNone, IfSome, drop, ◌<◌, ◌≤◌, length, option_map};
 ghost use Rattle.std.specs.Str.Lines.{lines, strip_carriage_return};
-ghost use Rattle.texts.specs.Input.{TakesLine, first_ending, is_line_end, league_text, lines_after, script_lines, text_before};
+ghost use Rattle.texts.specs.Input.{TakesLine, first_ending, league_text, lines_after, script_lines, text_before};
+
+use crate::splits::byte_index;
 
 /// Cuts an input at the first line that is the word: the text before that line, and the text after it. If there is no
 /// such line, all of the input is the text before it.
@@ -61,22 +62,13 @@ pub fn next_line<'a>(text: &mut &'a [u8]) -> Option<&'a [u8]>
     if whole.is_empty() {
         return None;
     }
-    let length = line_length(whole);
+    let length = byte_index(whole, b'\n');
     if length == whole.len() {
         *text = rest_from(whole, length);
         return Some(whole);
     }
     *text = rest_from(whole, length + 1);
     Some(without_carriage_return(&whole[..length]))
-}
-
-/// How many bytes stand before the first line end, or in the whole text.
-fn line_length(text: &[u8]) -> usize
-    ensures { result ≡ position_or_len is_line_end text.now }
-{
-    text.iter()
-        .position(|byte| *byte == b'\n')
-        .unwrap_or(text.len())
 }
 
 fn without_carriage_return(line: &[u8]) -> &[u8]

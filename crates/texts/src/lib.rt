@@ -16,6 +16,7 @@ mod progress_text;
 mod script_line;
 mod search_text;
 mod sheets;
+mod splits;
 mod words;
 
 pub use classes::class_name;
@@ -28,4 +29,5 @@ pub use progress_text::{Advance, write_clear, write_progress};
 pub use script_line::{ScriptLine, parse_line};
 pub use search_text::{write_best_sheet, write_found, write_improved, write_plan, write_worker};
 pub use sheets::{sheet, write_sheet};
+pub use splits::{byte_index, numbers_at_dash, rest_after};
 pub use words::next_word;

@@ -8,7 +8,7 @@ use Rattle.command_line.proofs.beginning.rounds_of_text.Goals as goal
 pub loop-comma-init : goal.loop-comma-init
 loop-comma-init c = (
   ap (λ set. with_items set (slice_split is_comma c.args.text.now)) (sym c.empty-rounds.ensures.value),
-  c.comma_index-comma.ensures.index,
+  c.byte_index-comma.ensures.index,
 )
 
 pub returns-in_err-rounds : goal.returns-in_err-rounds
@@ -35,7 +35,7 @@ loop-comma-preserved c =
           ∙ more_items c.loop-comma.rounds comma rest c.loop-comma.invariant.1 c.loop-comma-test.true
           ∙ ap (option_and_then (λ more. with_items more (slice_split is_comma (drop (comma + 1) rest)))) some
           ∙ ap (λ items. with_items c.in_ok-rounds.rounds (slice_split is_comma items)) (sym c.rest_after-rest.ensures),
-      c.comma_index-comma-in-loop-comma.ensures.index,
+      c.byte_index-comma-in-loop-comma.ensures.index,
     )
 
 pub returns : goal.returns

@@ -1,13 +1,13 @@
 use Rattle.std.proofs.Common.{◌∙◌, rules, tests}
+use Rattle.std.specs.Prelude.{◌==◌}
 use Rattle.std.proofs.lemmas.Iterator.{YieldsList-from_slice}
 use Rattle.std.proofs.lemmas.Iterator.Search.{position_from_yields_List}
 use Rattle.texts.proofs.Splitting.{index_or_length}
-use Rattle.command_line.specs.Beginnings.{is_dash}
-use Rattle.command_line.proofs.beginning.dash_index.Goals as goal
+use Rattle.texts.proofs.splits.byte_index.Goals as goal
 
 pub returns-clause-index : goal.returns-clause-index
 returns-clause-index c =
     let xs = c.args.text.now in
-    c.unwrap_or.ensures ∙
-    index_or_length is_dash xs _
-    (position_from_yields_List is_dash _ _ _ c.position.ensures.ran (YieldsList-from_slice xs cc) (λ x b q k. search (rules, tests)))
+    c.unwrap_or.ensures ∙ index_or_length (λ b. b == c.args.byte) xs _
+    (position_from_yields_List (λ b. b == c.args.byte) _ _ _ c.position.ensures.ran (YieldsList-from_slice xs cc)
+    (λ x b q k. search (rules, tests)))
