@@ -4,8 +4,8 @@ use Rattle.std.specs.List.{concat}
 use Rattle.std.specs.Str.{is_utf8}
 use Rattle.json_forms.specs.declared.form.Quote.{Quote}
 use Rattle.json_forms.specs.Forms.{quote_of, quote_words}
-use Rattle.line_advice.specs.declared.cause.Arguments.{Arguments}
-use Rattle.line_advice.specs.declared.cause.Arguments.TheVariants as arguments
+use Rattle.texts.specs.declared.script_line.Keyword.{Keyword}
+use Rattle.texts.specs.declared.script_line.Keyword.TheVariants as key
 use Rattle.line_advice.specs.declared.cause.Cause.{Cause}
 use Rattle.line_advice.specs.declared.cause.Cause.TheVariants as cause
 use Rattle.line_advice.specs.declared.cause.LineHint.{LineHint}
@@ -14,21 +14,24 @@ use Rattle.line_advice.specs.declared.cause.LineHint.{LineHint}
 abbrev pub quote_of_bytes : List ℕ → Quote
 quote_of_bytes bytes = quote_of (if is_utf8 bytes then bytes else codes "?")
 
-abbrev pub arguments_words : Arguments → List ℕ
-arguments_words arguments.Teams = codes "two teams are"
-arguments_words arguments.Rounds = codes "two rounds are"
-arguments_words arguments.TeamAndRounds = codes "a team and two rounds are"
-arguments_words arguments.TeamsAndRound = codes "two teams and a round are"
-arguments_words arguments.Game = codes "a round and two teams are"
-arguments_words arguments.Nothing = codes "nothing more is"
-arguments_words arguments.Slack = codes "one number is"
+-- what is wanted behind the keyword
+abbrev pub arguments_words : Keyword → List ℕ
+arguments_words key.Homes = codes "two teams are"
+arguments_words key.Rounds = codes "two rounds are"
+arguments_words key.Teams = codes "two teams are"
+arguments_words key.PartRounds = codes "a team and two rounds are"
+arguments_words key.PartTeams = codes "two teams and a round are"
+arguments_words key.Pin = codes "a round and two teams are"
+arguments_words key.Unpin = codes "a round and two teams are"
+arguments_words key.Undo = codes "nothing more is"
+arguments_words key.Slack = codes "one number is"
 
 abbrev pub cause_words : Cause → List ℕ
 cause_words (cause.NoLine word) =
     quote_words word ++ codes " is none of homes, rounds, teams, part-rounds, part-teams, pin, unpin, undo, slack and try"
 cause_words cause.NoMove = codes "a move is wanted behind try"
 cause_words (cause.NoNumber word) = quote_words word ++ codes " is no whole number of 64 bits"
-cause_words (cause.Arguments arguments) = arguments_words arguments ++ codes " wanted"
+cause_words (cause.Arguments keyword) = arguments_words keyword ++ codes " wanted"
 cause_words cause.NoRound = codes "a number and a colon are wanted behind round"
 cause_words (cause.NoColon word) = quote_words word ++ codes " has no colon behind it"
 cause_words (cause.NoGame word) = quote_words word ++ codes " is no game H-A"

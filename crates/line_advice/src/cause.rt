@@ -1,30 +1,12 @@
 //! What is wrong with a line, and what is said of it.
 
-ghost use Rattle.std.specs.Prelude.{◌≡◌, Some, option_map};
+ghost use Rattle.std.specs.Prelude.{◌≡◌, Some};
 ghost use Rattle.line_advice.specs.Cause.{arguments_words, cause_words, line_words, quote_of_bytes};
 ghost use Rattle.line_advice.specs.Hints.{hint_at};
 
 use json_forms::Quote;
 use std::{fmt, str};
-
-/// What stands behind the first word of a command.
-#[derive(Clone, Copy, Debug, PartialEq, Eq)]
-pub enum Arguments {
-    /// Two teams.
-    Teams,
-    /// Two rounds.
-    Rounds,
-    /// A team and two rounds.
-    TeamAndRounds,
-    /// Two teams and a round.
-    TeamsAndRound,
-    /// A round and two teams.
-    Game,
-    /// No number.
-    Nothing,
-    /// One number.
-    Slack,
-}
+use texts::Keyword;
 
 /// What is wrong with a line.
 #[derive(Clone, Copy, Debug, PartialEq, Eq)]
@@ -35,8 +17,8 @@ pub enum Cause {
     NoMove,
     /// This word is no number.
     NoNumber(Quote),
-    /// There aren't as many numbers as these.
-    Arguments(Arguments),
+    /// There aren't as many numbers as are wanted behind this word.
+    Arguments(Keyword),
     /// Nothing stands behind `round`.
     NoRound,
     /// This word stands behind `round`, and doesn't end with a colon.
@@ -104,7 +86,7 @@ impl fmt::Display for Cause {
             ),
             Cause::NoMove => f.write_str("a move is wanted behind try"),
             Cause::NoNumber(word) => write!(f, "{word} is no whole number of 64 bits"),
-            Cause::Arguments(arguments) => write!(f, "{arguments} wanted"),
+            Cause::Arguments(keyword) => write!(f, "{} wanted", arguments(keyword)),
             Cause::NoRound => f.write_str("a number and a colon are wanted behind round"),
             Cause::NoColon(word) => write!(f, "{word} has no colon behind it"),
             Cause::NoGame(word) => write!(f, "{word} is no game H-A"),
@@ -112,19 +94,17 @@ impl fmt::Display for Cause {
     }
 }
 
-/// Writes them as `two teams are`.
-impl fmt::Display for Arguments {
-    ghost output = { λ arguments. Some (arguments_words arguments) };
-
-    fn fmt<W: fmt::Write>(&self, f: &mut fmt::Formatter<W>) -> fmt::Result {
-        f.write_str(match self {
-            Arguments::Teams => "two teams are",
-            Arguments::Rounds => "two rounds are",
-            Arguments::TeamAndRounds => "a team and two rounds are",
-            Arguments::TeamsAndRound => "two teams and a round are",
-            Arguments::Game => "a round and two teams are",
-            Arguments::Nothing => "nothing more is",
-            Arguments::Slack => "one number is",
-        })
+/// What is wanted behind the keyword, as `two teams are`.
+fn arguments(keyword: Keyword) -> &'static str
+    ensures { result.now ≡ arguments_words keyword }
+{
+    match keyword {
+        Keyword::Homes | Keyword::Teams => "two teams are",
+        Keyword::Rounds => "two rounds are",
+        Keyword::PartRounds => "a team and two rounds are",
+        Keyword::PartTeams => "two teams and a round are",
+        Keyword::Pin | Keyword::Unpin => "a round and two teams are",
+        Keyword::Undo => "nothing more is",
+        Keyword::Slack => "one number is",
     }
 }

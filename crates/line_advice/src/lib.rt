@@ -5,6 +5,6 @@ mod cause;
 mod schedule;
 mod script;
 
-pub use cause::{Arguments, Cause, LineHint};
+pub use cause::{Cause, LineHint};
 pub use schedule::schedule_hint;
 pub use script::script_hint;

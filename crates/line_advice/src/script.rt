@@ -4,11 +4,11 @@ ghost use Rattle.std.specs.Prelude.{◌≡◌, ◌==◌, is_some, length, option
 ghost use Rattle.std.specs.Str.Lines.{lines};
 ghost use Rattle.texts.specs.Words.{words_of};
 ghost use Rattle.line_advice.specs.Hints.{first_hint, has_bad_line};
-ghost use Rattle.line_advice.specs.Script.{are_of_move, argument_count, arguments_cause, arguments_of, command_cause, first_no_number, is_move};
-ghost use Rattle.line_advice.specs.Script.{named_cause, script_cause, try_cause};
+ghost use Rattle.line_advice.specs.Script.{argument_count, arguments_cause, begins_move, command_cause, first_no_number, is_move};
+ghost use Rattle.line_advice.specs.Script.{script_cause, try_cause};
 
-use crate::cause::{Arguments, Cause, LineHint, quote};
-use texts::{next_line, next_word, number};
+use crate::cause::{Cause, LineHint, quote};
+use texts::{Keyword, next_line, next_word, number};
 
 /// The first bad line of a script, and what is wrong with it. A script without a bad line has no hint. Takes no memory.
 pub fn script_hint(script: &[u8]) -> Option<LineHint>
@@ -61,8 +61,8 @@ fn is_move(words: &[u8]) -> bool
     ensures { result ≡ is_move (words_of words.now) }
 {
     let mut rest = words;
-    match next_word(&mut rest).and_then(Arguments::behind) {
-        Some(arguments) => arguments.are_of_move(),
+    match next_word(&mut rest).and_then(Keyword::of_word) {
+        Some(keyword) => begins_move(keyword),
         None => false,
     }
 }
@@ -74,20 +74,20 @@ fn command_cause(words: &[u8]) -> Option<Cause>
     let Some(word) = next_word(&mut rest) else {
         return Some(Cause::NoMove);
     };
-    match Arguments::behind(word) {
-        Some(arguments) => arguments_cause(arguments, rest),
+    match Keyword::of_word(word) {
+        Some(keyword) => arguments_cause(keyword, rest),
         None => Some(Cause::NoLine(quote(word))),
     }
 }
 
-fn arguments_cause(arguments: Arguments, words: &[u8]) -> Option<Cause>
-    ensures { result ≡ arguments_cause arguments (words_of words.now) }
+fn arguments_cause(keyword: Keyword, words: &[u8]) -> Option<Cause>
+    ensures { result ≡ arguments_cause keyword (words_of words.now) }
 {
     match first_no_number(words) {
         Some(word) => Some(Cause::NoNumber(quote(word))),
         None => {
-            let fits = are_words(words, arguments.count());
-            (!fits).then_some(Cause::Arguments(arguments))
+            let fits = are_words(words, argument_count(keyword));
+            (!fits).then_some(Cause::Arguments(keyword))
         }
     }
 }
@@ -120,53 +120,24 @@ fn are_words(words: &[u8], count: u8) -> bool
     left == 0
 }
 
-impl Arguments {
-    /// What stands behind a word that begins a command.
-    fn behind(word: &[u8]) -> Option<Arguments>
-        ensures { result ≡ arguments_of word.now }
-    {
-        if word == b"homes".as_slice() {
-            Some(Arguments::Teams)
-        } else if word == b"rounds".as_slice() {
-            Some(Arguments::Rounds)
-        } else if word == b"teams".as_slice() {
-            Some(Arguments::Teams)
-        } else if word == b"part-rounds".as_slice() {
-            Some(Arguments::TeamAndRounds)
-        } else if word == b"part-teams".as_slice() {
-            Some(Arguments::TeamsAndRound)
-        } else if word == b"pin".as_slice() {
-            Some(Arguments::Game)
-        } else if word == b"unpin".as_slice() {
-            Some(Arguments::Game)
-        } else if word == b"undo".as_slice() {
-            Some(Arguments::Nothing)
-        } else if word == b"slack".as_slice() {
-            Some(Arguments::Slack)
-        } else {
-            None
-        }
+/// How many numbers stand behind the keyword.
+fn argument_count(keyword: Keyword) -> u8
+    ensures { result ≡ argument_count keyword }
+{
+    match keyword {
+        Keyword::Undo => 0,
+        Keyword::Slack => 1,
+        Keyword::Homes | Keyword::Rounds | Keyword::Teams => 2,
+        Keyword::PartRounds | Keyword::PartTeams | Keyword::Pin | Keyword::Unpin => 3,
     }
+}
 
-    /// How many numbers they are.
-    fn count(self) -> u8
-        ensures { result ≡ argument_count self }
-    {
-        match self {
-            Arguments::Nothing => 0,
-            Arguments::Slack => 1,
-            Arguments::Teams | Arguments::Rounds => 2,
-            Arguments::TeamAndRounds | Arguments::TeamsAndRound | Arguments::Game => 3,
-        }
-    }
-
-    /// Whether they are those of a move.
-    fn are_of_move(self) -> bool
-        ensures { result ≡ are_of_move self }
-    {
-        match self {
-            Arguments::Game | Arguments::Nothing | Arguments::Slack => false,
-            _ => true,
-        }
+/// Whether the keyword begins a move.
+fn begins_move(keyword: Keyword) -> bool
+    ensures { result ≡ begins_move keyword }
+{
+    match keyword {
+        Keyword::Pin | Keyword::Unpin | Keyword::Undo | Keyword::Slack => false,
+        _ => true,
     }
 }

@@ -26,7 +26,7 @@ pub use numerals::{index, number};
 pub use pieces::{Piece, write_pieces};
 pub use play_text::play_script;
 pub use progress_text::{Advance, write_clear, write_progress};
-pub use script_line::{ScriptLine, parse_line};
+pub use script_line::{Keyword, ScriptLine, parse_line};
 pub use search_text::{write_best_sheet, write_found, write_improved, write_plan, write_worker};
 pub use sheets::{sheet, write_sheet};
 pub use splits::{byte_index, numbers_at_dash, rest_after};

@@ -29,7 +29,7 @@ pub enum ScriptLine {
 
 /// The first word of a command.
 #[derive(Clone, Copy, Debug, PartialEq, Eq)]
-enum Keyword {
+pub enum Keyword {
     Homes,
     Rounds,
     Teams,
@@ -42,7 +42,8 @@ enum Keyword {
 }
 
 impl Keyword {
-    fn of_word(word: &[u8]) -> Option<Keyword>
+    /// The keyword that the word is, if it is one.
+    pub fn of_word(word: &[u8]) -> Option<Keyword>
         ensures { result ≡ keyword_of word.now }
     {
         if word == b"homes".as_slice() {
