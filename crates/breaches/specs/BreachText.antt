@@ -53,31 +53,25 @@ abbrev pub game_of : Games → ℕ → ℕ → List ℕ
 game_of g team round =
     if (cell g team round).home then pairing_of team (cell g team round).opponent else pairing_of (cell g team round).opponent team
 
--- the game with its round, if it is named
-abbrev pub named_game : Games → RuleBody → Place → ℕ → ℕ → List ℕ
-named_game g body place team round =
-    if names_cell g body place team round then game_of g team round ++ at_round round else []
-
--- a team's games that are named, in the order of the rounds
-abbrev pub games_named : Games → RuleBody → Place → ℕ → List ℕ
-games_named g body place team = pieces_below (named_game g body place team) (round_count g.teams)
-
 abbrev pub next_round : ℕ → List ℕ
 next_round round = codes " " ++ decimal (round + 1)
 
-abbrev pub named_round : Games → RuleBody → Place → ℕ → ℕ → List ℕ
-named_round g body place team round = if names_cell g body place team round then next_round round else []
+-- what is told of a team's game: of a break its round, of a round the game, else both
+abbrev pub cell_text : Games → Place → ℕ → ℕ → List ℕ
+cell_text g (BreaksOf t) team round = next_round round
+cell_text g (Round r) team round = game_of g team round
+cell_text g place team round = game_of g team round ++ at_round round
 
--- the rounds of a team's games that are named
-abbrev pub rounds_named : Games → RuleBody → Place → ℕ → List ℕ
-rounds_named g body place team = pieces_below (named_round g body place team) (round_count g.teams)
+abbrev pub named_cell : Games → RuleBody → Place → ℕ → ℕ → List ℕ
+named_cell g body place team round = if names_cell g body place team round then cell_text g place team round else []
 
-abbrev pub named_team : Games → RuleBody → Place → ℕ → ℕ → List ℕ
-named_team g body place round team = if names_cell g body place team round then game_of g team round else []
+-- of a team's games that are named, in the order of the rounds
+abbrev pub row_named : Games → RuleBody → Place → ℕ → List ℕ
+row_named g body place team = pieces_below (named_cell g body place team) (round_count g.teams)
 
--- the games of a round that are named, each once for each of its teams for which it is, in the order of the teams
-abbrev pub teams_named : Games → RuleBody → Place → ℕ → List ℕ
-teams_named g body place round = pieces_below (named_team g body place round) g.teams
+-- of the games of a round that are named, each once for each of its teams for which it is, in the order of the teams
+abbrev pub column_named : Games → RuleBody → Place → ℕ → List ℕ
+column_named g body place round = pieces_below (λ team. named_cell g body place team round) g.teams
 
 -- a listed game with its round, if the whole list is told or the game is in the slots
 abbrev pub listed_game : Games → Bool → (ℕ → Bool) → Pairing → List ℕ
@@ -105,10 +99,10 @@ meetings_text g low high =
 
 -- which games or rounds make the breach
 abbrev pub made_of : Games → RuleBody → Place → List ℕ
-made_of g body (GamesOf team) = games_named g body (GamesOf team) team
-made_of g body (BreaksOf team) = rounds_named g body (BreaksOf team) team
-made_of g body (Window team first last) = games_named g body (Window team first last) team
-made_of g body (Round round) = teams_named g body (Round round) round
+made_of g body (GamesOf team) = row_named g body (GamesOf team) team
+made_of g body (BreaksOf team) = row_named g body (BreaksOf team) team
+made_of g body (Window team first last) = row_named g body (Window team first last) team
+made_of g body (Round round) = column_named g body (Round round) round
 made_of g body Together = []
 made_of g body GamesOver = listed_text g false body
 made_of g body GamesUnder = listed_text g true body

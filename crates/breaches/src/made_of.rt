@@ -9,9 +9,8 @@ ghost use Rattle.league.specs.Sets.{has};
 ghost use Rattle.fixtures.specs.Games.{round_count, IsPair};
 ghost use Rattle.streams.specs.Pieces.{pieces_below};
 ghost use Rattle.streams.specs.Writing.{Writes};
-ghost use Rattle.texts.specs.Sheet.{pairing_of};
-ghost use Rattle.breaches.specs.BreachText.{at_round, game_of, listed_at, listed_game, listed_text, made_of, meetings_text};
-ghost use Rattle.breaches.specs.BreachText.{named_game, named_round, named_team, next_round};
+ghost use Rattle.breaches.specs.BreachText.{at_round, column_named, game_of, listed_at, listed_game, listed_text};
+ghost use Rattle.breaches.specs.BreachText.{made_of, meetings_text, named_cell, next_round, row_named};
 ghost use Rattle.breaches.specs.Terms.{IsPlaceFor};
 
 use crate::breach::Place;
@@ -19,7 +18,7 @@ use crate::cells::names_cell;
 use fixtures::Schedule;
 use league::{GameList, Pairing, RuleBody, SlotSet};
 use streams::{BufferedSink, Sink, WriteFault};
-use texts::{Piece, write_pieces};
+use texts::{Piece, write_pairing, write_pieces};
 
 /// Writes the games or rounds that make a breach of the rule at the place, if they are told.
 pub(crate) fn write_made_of<W: Sink>(
@@ -33,11 +32,10 @@ pub(crate) fn write_made_of<W: Sink>(
     ensures { Writes W.held W.tally out.old out.new result (made_of schedule.now body.now place) }
 {
     match place {
-        Place::GamesOf { team } | Place::Window { team, .. } => {
-            write_games(out, schedule, body, place, team)
+        Place::GamesOf { team } | Place::BreaksOf { team } | Place::Window { team, .. } => {
+            write_row(out, schedule, body, place, team)
         }
-        Place::BreaksOf { team } => write_rounds(out, schedule, body, place, team),
-        Place::Round { round } => write_round(out, schedule, body, place, round),
+        Place::Round { round } => write_column(out, schedule, body, place, round),
         Place::GamesOver => write_listed(out, schedule, body, false),
         Place::GamesUnder => write_listed(out, schedule, body, true),
         Place::Pair { low, high } => write_meetings(out, schedule, low, high),
@@ -45,8 +43,8 @@ pub(crate) fn write_made_of<W: Sink>(
     }
 }
 
-/// Writes the team's games that are named, in the order of the rounds.
-fn write_games<W: Sink>(
+/// Writes what is told of the team's games that are named, in the order of the rounds.
+fn write_row<W: Sink>(
     out: &mut BufferedSink<'_, W>,
     schedule: &Schedule,
     body: &RuleBody,
@@ -55,77 +53,16 @@ fn write_games<W: Sink>(
 ) -> Result<(), WriteFault>
     requires body { IsBodyFor schedule.now.teams body.now }
     requires team { team < schedule.now.teams }
-    ensures { Writes W.held W.tally out.old out.new result
-        (pieces_below (named_game schedule.now body.now place team) (round_count schedule.now.teams)) }
+    ensures { Writes W.held W.tally out.old out.new result (row_named schedule.now body.now place team) }
 {
     for round in 0..schedule.rounds() {
-        write_named_game(out, schedule, body, place, (team, round))?;
+        write_cell(out, schedule, body, place, (team, round))?;
     }
     Ok(())
-}
-
-/// Writes the team's game with its round, if it is named.
-fn write_named_game<W: Sink>(
-    out: &mut BufferedSink<'_, W>,
-    schedule: &Schedule,
-    body: &RuleBody,
-    place: Place,
-    at: (u8, u8),
-) -> Result<(), WriteFault>
-    requires body { IsBodyFor schedule.now.teams body.now }
-    requires team { at.0 < schedule.now.teams }
-    requires round { at.1 < round_count schedule.now.teams }
-    ensures { Writes W.held W.tally out.old out.new result (named_game schedule.now body.now place at.0 at.1) }
-{
-    let (team, round) = at;
-    if !names_cell(schedule, body, place, team, round) {
-        return Ok(());
-    }
-    write_game_of(out, schedule, team, round)?;
-    write_at(out, round)
-}
-
-/// Writes the rounds of the team's games that are named.
-fn write_rounds<W: Sink>(
-    out: &mut BufferedSink<'_, W>,
-    schedule: &Schedule,
-    body: &RuleBody,
-    place: Place,
-    team: u8,
-) -> Result<(), WriteFault>
-    requires body { IsBodyFor schedule.now.teams body.now }
-    requires team { team < schedule.now.teams }
-    ensures { Writes W.held W.tally out.old out.new result
-        (pieces_below (named_round schedule.now body.now place team) (round_count schedule.now.teams)) }
-{
-    for round in 0..schedule.rounds() {
-        write_named_round(out, schedule, body, place, (team, round))?;
-    }
-    Ok(())
-}
-
-/// Writes the round of the team's game, if that is named.
-fn write_named_round<W: Sink>(
-    out: &mut BufferedSink<'_, W>,
-    schedule: &Schedule,
-    body: &RuleBody,
-    place: Place,
-    at: (u8, u8),
-) -> Result<(), WriteFault>
-    requires body { IsBodyFor schedule.now.teams body.now }
-    requires team { at.0 < schedule.now.teams }
-    requires round { at.1 < round_count schedule.now.teams }
-    ensures { Writes W.held W.tally out.old out.new result (named_round schedule.now body.now place at.0 at.1) }
-{
-    let (team, round) = at;
-    if !names_cell(schedule, body, place, team, round) {
-        return Ok(());
-    }
-    write_next_round(out, round)
 }
 
 /// Writes the games of the round that are named, for each team for which one is.
-fn write_round<W: Sink>(
+fn write_column<W: Sink>(
     out: &mut BufferedSink<'_, W>,
     schedule: &Schedule,
     body: &RuleBody,
@@ -134,17 +71,16 @@ fn write_round<W: Sink>(
 ) -> Result<(), WriteFault>
     requires body { IsBodyFor schedule.now.teams body.now }
     requires round { round < round_count schedule.now.teams }
-    ensures { Writes W.held W.tally out.old out.new result
-        (pieces_below (named_team schedule.now body.now place round) schedule.now.teams) }
+    ensures { Writes W.held W.tally out.old out.new result (column_named schedule.now body.now place round) }
 {
     for team in 0..schedule.teams() {
-        write_named_team(out, schedule, body, place, (team, round))?;
+        write_cell(out, schedule, body, place, (team, round))?;
     }
     Ok(())
 }
 
-/// Writes the team's game in the round, if it is named.
-fn write_named_team<W: Sink>(
+/// Writes what is told of the team's game in the round, if it is named.
+fn write_cell<W: Sink>(
     out: &mut BufferedSink<'_, W>,
     schedule: &Schedule,
     body: &RuleBody,
@@ -154,13 +90,31 @@ fn write_named_team<W: Sink>(
     requires body { IsBodyFor schedule.now.teams body.now }
     requires team { at.0 < schedule.now.teams }
     requires round { at.1 < round_count schedule.now.teams }
-    ensures { Writes W.held W.tally out.old out.new result (named_team schedule.now body.now place at.1 at.0) }
+    ensures { Writes W.held W.tally out.old out.new result (named_cell schedule.now body.now place at.0 at.1) }
 {
     let (team, round) = at;
     if !names_cell(schedule, body, place, team, round) {
         return Ok(());
     }
-    write_game_of(out, schedule, team, round)
+    match place {
+        Place::BreaksOf { .. } => write_next_round(out, round),
+        Place::Round { .. } => write_game_of(out, schedule, team, round),
+        _ => write_game_at(out, schedule, team, round),
+    }
+}
+
+fn write_game_at<W: Sink>(
+    out: &mut BufferedSink<'_, W>,
+    schedule: &Schedule,
+    team: u8,
+    round: u8,
+) -> Result<(), WriteFault>
+    requires team { team < schedule.now.teams }
+    requires round { round < round_count schedule.now.teams }
+    ensures { Writes W.held W.tally out.old out.new result (game_of schedule.now team round ++ at_round round) }
+{
+    write_game_of(out, schedule, team, round)?;
+    write_at(out, round)
 }
 
 fn write_game_of<W: Sink>(
@@ -179,24 +133,6 @@ fn write_game_of<W: Sink>(
     } else {
         write_pairing(out, game.opponent, team)
     }
-}
-
-fn write_pairing<W: Sink>(
-    out: &mut BufferedSink<'_, W>,
-    home: u8,
-    away: u8,
-) -> Result<(), WriteFault>
-    ensures { Writes W.held W.tally out.old out.new result (pairing_of home away) }
-{
-    write_pieces(
-        out,
-        &[
-            Piece::Text(b" "),
-            Piece::Number(home as u64 + 1),
-            Piece::Text(b"-"),
-            Piece::Number(away as u64 + 1),
-        ],
-    )
 }
 
 fn write_at<W: Sink>(out: &mut BufferedSink<'_, W>, round: u8) -> Result<(), WriteFault>

@@ -28,6 +28,6 @@ pub use play_text::play_script;
 pub use progress_text::{Advance, write_clear, write_progress};
 pub use script_line::{Keyword, ScriptLine, parse_line};
 pub use search_text::{write_best_sheet, write_found, write_improved, write_plan, write_worker};
-pub use sheets::{sheet, write_sheet};
+pub use sheets::{sheet, write_pairing, write_sheet};
 pub use splits::{byte_index, numbers_at_dash, rest_after};
 pub use words::next_word;

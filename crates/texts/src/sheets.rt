@@ -207,7 +207,8 @@ fn write_game<W: Sink>(
     }
 }
 
-fn write_pairing<W: Sink>(
+/// Writes a blank and the game `H-A`.
+pub fn write_pairing<W: Sink>(
     out: &mut BufferedSink<'_, W>,
     home: u8,
     away: u8,
