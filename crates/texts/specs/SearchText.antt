@@ -39,9 +39,13 @@ moved_line league g = if is_given league.origin.start then numbered (codes "move
 unfoldable pub moved_at_best : LeagueData → List Entry → List ℕ
 moved_at_best league h = moved_line league (games_at_best league h (best_prefix league h))
 
--- a board after its history: the history, the sheet of its best schedule, what was moved in it and the best version
+-- a board after its history: the history, the sheet of its best schedule and what was moved in it
+abbrev pub board_text : LeagueData → List Entry → List ℕ
+board_text league h = history_text h ++ best_sheet league h ++ moved_at_best league h
+
+-- and behind them the best version
 unfoldable pub found_text : LeagueData → List Entry → List ℕ
-found_text league h = history_text h ++ best_sheet league h ++ moved_at_best league h ++ best_line (best_of league h)
+found_text league h = board_text league h ++ best_line (best_of league h)
 
 -- what is broken in the games after all of a history, if no prefix is feasible
 abbrev pub least_hard_after : LeagueData → List Entry → Option (List Entry) → List ℕ
@@ -54,8 +58,7 @@ least_hard_text league h = least_hard_after league h (best_prefix league h)
 
 -- a board that an improvement ends with: as after a search, but what is broken stands before the best version if there is none
 unfoldable pub improved_text : LeagueData → List Entry → List ℕ
-improved_text league h =
-    history_text h ++ best_sheet league h ++ moved_at_best league h ++ least_hard_text league h ++ best_line (best_of league h)
+improved_text league h = board_text league h ++ least_hard_text league h ++ best_line (best_of league h)
 
 -- a history, written and given as a script, leads to the same changes of caller 0, to the same games and the same best
 pub record PlaysBack (league : LeagueData) (room : ℕ) (h : List Entry) : Type 0 where

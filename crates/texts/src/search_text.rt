@@ -5,8 +5,8 @@ ghost use Rattle.std.specs.Prelude.{◌≡◌};
 ghost use Rattle.league.specs.League.{teams};
 ghost use Rattle.streams.specs.Writing.{Writes};
 ghost use Rattle.fixture_board.specs.History.{best_prefix};
-ghost use Rattle.texts.specs.SearchText.{best_sheet, found_text, games_at_best, moved_at_best, plan_line, worker_line};
-ghost use Rattle.texts.specs.SearchText.{improved_text, least_hard_text};
+ghost use Rattle.texts.specs.SearchText.{best_sheet, board_text, found_text, games_at_best, moved_at_best, plan_line};
+ghost use Rattle.texts.specs.SearchText.{improved_text, least_hard_text, worker_line};
 
 use crate::history::write_history;
 use crate::least_hard::write_least_hard;
@@ -74,9 +74,7 @@ pub fn write_found<W: Sink>(out: &mut BufferedSink<'_, W>, board: &Board) -> Res
     ensures { Writes W.held W.tally out.old out.new result
         (found_text board.now.league board.now.history) }
 {
-    write_history(out, board)?;
-    write_best_sheet(out, board)?;
-    write_moved(out, board)?;
+    write_board(out, board)?;
     write_best(out, board)
 }
 
@@ -89,11 +87,18 @@ pub fn write_improved<W: Sink>(
     ensures { Writes W.held W.tally out.old out.new result
         (improved_text board.now.league board.now.history) }
 {
-    write_history(out, board)?;
-    write_best_sheet(out, board)?;
-    write_moved(out, board)?;
+    write_board(out, board)?;
     write_broken(out, board)?;
     write_best(out, board)
+}
+
+/// Writes the board's history, the sheet of its best schedule, and how many games that moves.
+fn write_board<W: Sink>(out: &mut BufferedSink<'_, W>, board: &Board) -> Result<(), WriteFault>
+    ensures { Writes W.held W.tally out.old out.new result (board_text board.now.league board.now.history) }
+{
+    write_history(out, board)?;
+    write_best_sheet(out, board)?;
+    write_moved(out, board)
 }
 
 /// Writes what is broken in the present schedule, if none was feasible.
