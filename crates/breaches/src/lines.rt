@@ -4,8 +4,7 @@ ghost use Rattle.std.specs.Prelude.{◌≡◌, ◌<◌, ◌≤◌};
 ghost use Rattle.league.specs.Limits.{max_teams};
 ghost use Rattle.league.specs.RuleLimits.{IsBodyFor};
 ghost use Rattle.streams.specs.Writing.{Writes};
-ghost use Rattle.breaches.specs.BreachText.{breach_head, breach_line, breaches_text, by_text, colon_text, lines_of, place_text, round_text, side_word};
-ghost use Rattle.breaches.specs.BreachText.{team_text, teams_text, window_text};
+ghost use Rattle.breaches.specs.BreachText.{breach_head, breach_line, breaches_text, by_text, colon_text, lines_of, place_text, side_word};
 ghost use Rattle.breaches.specs.Terms.{breach_in, breaches_in_row, column_count, row_count, IsPlaceFor};
 
 use crate::breach::{Breach, Place};
@@ -153,67 +152,45 @@ fn write_place<W: Sink>(out: &mut BufferedSink<'_, W>, place: Place) -> Result<(
     ensures { Writes W.held W.tally out.old out.new result (place_text place) }
 {
     match place {
-        Place::GamesOf { team } | Place::BreaksOf { team } => write_team(out, team),
-        Place::Window { team, first, last } => {
-            write_team(out, team)?;
-            write_window(out, first, last)
-        }
-        Place::Round { round } => write_round(out, round),
+        Place::GamesOf { team } | Place::BreaksOf { team } => write_pieces(
+            out,
+            &[Piece::Text(b" team "), Piece::Number(team as u64 + 1)],
+        ),
+        Place::Window { team, first, last } => write_pieces(
+            out,
+            &[
+                Piece::Text(b" team "),
+                Piece::Number(team as u64 + 1),
+                Piece::Text(b" rounds "),
+                Piece::Number(first as u64 + 1),
+                Piece::Text(b"-"),
+                Piece::Number(last as u64 + 1),
+            ],
+        ),
+        Place::Round { round } => write_pieces(
+            out,
+            &[Piece::Text(b" round "), Piece::Number(round as u64 + 1)],
+        ),
         Place::Together | Place::GamesOver | Place::GamesUnder => Ok(()),
-        Place::Pair { low, high } => write_teams(out, low, high),
-        Place::PairIn { low, high, round } => {
-            write_teams(out, low, high)?;
-            write_round(out, round)
-        }
+        Place::Pair { low, high } => write_pieces(
+            out,
+            &[
+                Piece::Text(b" teams "),
+                Piece::Number(low as u64 + 1),
+                Piece::Text(b"-"),
+                Piece::Number(high as u64 + 1),
+            ],
+        ),
+        Place::PairIn { low, high, round } => write_pieces(
+            out,
+            &[
+                Piece::Text(b" teams "),
+                Piece::Number(low as u64 + 1),
+                Piece::Text(b"-"),
+                Piece::Number(high as u64 + 1),
+                Piece::Text(b" round "),
+                Piece::Number(round as u64 + 1),
+            ],
+        ),
     }
-}
-
-fn write_team<W: Sink>(out: &mut BufferedSink<'_, W>, team: u8) -> Result<(), WriteFault>
-    ensures { Writes W.held W.tally out.old out.new result (team_text team) }
-{
-    write_pieces(
-        out,
-        &[Piece::Text(b" team "), Piece::Number(team as u64 + 1)],
-    )
-}
-
-fn write_teams<W: Sink>(out: &mut BufferedSink<'_, W>, low: u8, high: u8) -> Result<(), WriteFault>
-    ensures { Writes W.held W.tally out.old out.new result (teams_text low high) }
-{
-    write_pieces(
-        out,
-        &[
-            Piece::Text(b" teams "),
-            Piece::Number(low as u64 + 1),
-            Piece::Text(b"-"),
-            Piece::Number(high as u64 + 1),
-        ],
-    )
-}
-
-fn write_round<W: Sink>(out: &mut BufferedSink<'_, W>, round: u8) -> Result<(), WriteFault>
-    ensures { Writes W.held W.tally out.old out.new result (round_text round) }
-{
-    write_pieces(
-        out,
-        &[Piece::Text(b" round "), Piece::Number(round as u64 + 1)],
-    )
-}
-
-fn write_window<W: Sink>(
-    out: &mut BufferedSink<'_, W>,
-    first: u8,
-    last: u8,
-) -> Result<(), WriteFault>
-    ensures { Writes W.held W.tally out.old out.new result (window_text first last) }
-{
-    write_pieces(
-        out,
-        &[
-            Piece::Text(b" rounds "),
-            Piece::Number(first as u64 + 1),
-            Piece::Text(b"-"),
-            Piece::Number(last as u64 + 1),
-        ],
-    )
 }
