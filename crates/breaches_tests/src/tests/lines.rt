@@ -1,7 +1,8 @@
-//! The lines of breaches.
+//! The lines of breaches, and the games that they name.
 
 use super::cases::{CASES, Case, league_with};
 use super::checks::check_same;
+use super::marks::marks_of;
 use breaches::write_breaches;
 use fixtures::{Schedule, berger};
 use league::League;
@@ -32,24 +33,26 @@ fn lines_of(alloc: Global, schedule: &Schedule, league: &League) -> Result<Vec<u
     Ok(Vec::from_slice(alloc, sink.held())?)
 }
 
-fn check_lines(
+fn check_case(
     rt: &impl Abort,
     alloc: Global,
     schedule: &Schedule,
-    (rule, lines, _): Case,
+    (rule, lines, marks): Case,
 ) -> Result<(), Fail> {
     let league = league_with(alloc, rule)?;
     let found = lines_of(alloc, schedule, &league)?;
     check_same(rt, &(rule, str::from_utf8(&found)), &(rule, Ok(lines)));
+    let found = marks_of(alloc, schedule, &league)?;
+    check_same(rt, &(rule, found.as_str()), &(rule, marks));
     Ok(())
 }
 
 #[test]
-fn names_each_breach(rt: HostRuntime) -> Result<(), Fail> {
+fn names_and_marks_each_breach(rt: HostRuntime) -> Result<(), Fail> {
     let alloc = rt.alloc();
     let schedule = berger(alloc, 4)?;
     for &case in CASES {
-        check_lines(&rt, alloc, &schedule, case)?;
+        check_case(&rt, alloc, &schedule, case)?;
     }
     Ok(())
 }
