@@ -4,7 +4,8 @@ ghost use Rattle.std.specs.Prelude.{◌≡◌, OnErr, OnOk};
 ghost use Rattle.std.specs.Io.KnownBytes.{Appends};
 ghost use Rattle.streams.specs.Sending.{AppendsPrefix};
 ghost use Rattle.streams.specs.Writing.{Writes};
-ghost use Rattle.program.specs.LegLog.{figure_members, leg_line, new_line, number_or_null, seconds_member, total_members};
+ghost use Rattle.texts.specs.Pieces.{text_of_piece};
+ghost use Rattle.program.specs.LegLog.{leg_line, new_line, number_or_null};
 
 use commands::LegEnded;
 use std::io::{ErrorKind, Write};
@@ -70,30 +71,10 @@ fn write_line<W: Sink>(
 ) -> Result<(), WriteFault>
     ensures { Writes W.held W.tally out.old out.new result (leg_line torn thousandths leg) }
 {
-    out.write(new_line(torn))?;
-    write_seconds(out, thousandths, leg)?;
-    write_figures(out, leg)?;
-    write_totals(out, leg)
-}
-
-/// What ends a line that was torn off.
-fn new_line(torn: bool) -> &'static [u8]
-    ensures { result.now ≡ new_line torn }
-{
-    if torn { b"\n" } else { b"" }
-}
-
-/// Writes which leg it was, of which chain, and when it ended.
-fn write_seconds<W: Sink>(
-    out: &mut BufferedSink<'_, W>,
-    thousandths: u64,
-    leg: LegEnded,
-) -> Result<(), WriteFault>
-    ensures { Writes W.held W.tally out.old out.new result (seconds_member thousandths leg) }
-{
     write_pieces(
         out,
         &[
+            Piece::Text(new_line(torn)),
             Piece::Text(b"{\"leg\":"),
             Piece::Number(leg.number),
             Piece::Text(b",\"chain\":"),
@@ -104,44 +85,33 @@ fn write_seconds<W: Sink>(
             Piece::Number(thousandths / 100 % 10),
             Piece::Number(thousandths / 10 % 10),
             Piece::Number(thousandths % 10),
-        ],
-    )
-}
-
-fn write_figures<W: Sink>(out: &mut BufferedSink<'_, W>, leg: LegEnded) -> Result<(), WriteFault>
-    ensures { Writes W.held W.tally out.old out.new result (figure_members leg) }
-{
-    write_pieces(
-        out,
-        &[
             Piece::Text(b",\"steps\":"),
             Piece::Number(leg.steps),
             Piece::Text(b",\"accepted\":"),
             Piece::Number(leg.accepted),
             Piece::Text(b",\"hard\":"),
             Piece::Number(leg.hard),
+            Piece::Text(b",\"best\":"),
+            number_or_null(leg.best),
+            Piece::Text(b",\"least\":"),
+            number_or_null(leg.least),
+            Piece::Text(b"}\n"),
         ],
     )
 }
 
-fn write_totals<W: Sink>(out: &mut BufferedSink<'_, W>, leg: LegEnded) -> Result<(), WriteFault>
-    ensures { Writes W.held W.tally out.old out.new result (total_members leg) }
+/// What ends a line that was torn off.
+fn new_line(torn: bool) -> &'static [u8]
+    ensures { result.now ≡ new_line torn }
 {
-    out.write(b",\"best\":")?;
-    write_number_or_null(out, leg.best)?;
-    out.write(b",\"least\":")?;
-    write_number_or_null(out, leg.least)?;
-    out.write(b"}\n")
+    if torn { b"\n" } else { b"" }
 }
 
-fn write_number_or_null<W: Sink>(
-    out: &mut BufferedSink<'_, W>,
-    number: Option<u64>,
-) -> Result<(), WriteFault>
-    ensures { Writes W.held W.tally out.old out.new result (number_or_null number) }
+fn number_or_null(number: Option<u64>) -> Piece<'static>
+    ensures { text_of_piece result ≡ number_or_null number }
 {
     match number {
-        Some(number) => out.write_number(number),
-        None => out.write(b"null"),
+        Some(number) => Piece::Number(number),
+        None => Piece::Text(b"null"),
     }
 }
