@@ -31,43 +31,34 @@ kinds_words [] = []
 kinds_words (kind ∷ []) = kind_word kind
 kinds_words (kind ∷ kinds) = kind_word kind ++ codes "," ++ kinds_words kinds
 
--- which leg it was, of which chain, and what it drew from
-abbrev pub beginning_words : LegTold → List ℕ
-beginning_words told =
-    concat (codes "leg " ∷ decimal told.number ∷ codes " chain " ∷ decimal told.chain ∷ codes " moves " ∷
-    kinds_words (kinds_of told.leg.moves) ∷ [])
-
 -- a temperature in thousandths of a distance, from one in thousandths of the unit
 abbrev pub in_thousandths : Measure → ℕ → ℕ
 in_thousandths unit heat = min (heat * unit.numerator / unit.denominator) (2 ^ 64 - 1)
 
--- thousandths behind a word, as a number with three decimals
-abbrev pub temperature_words : List ℕ → ℕ → List ℕ
-temperature_words word n =
-    concat (word ∷ decimal (n / 1000) ∷ codes "." ∷ decimal (n / 100 % 10) ∷ decimal (n / 10 % 10) ∷ decimal (n % 10) ∷ [])
+abbrev pub first_heat : Course → ℕ
+first_heat (Cools from to) = from
+first_heat (Heats from to) = from
 
-abbrev pub temperatures_words : Measure → ℕ → ℕ → List ℕ
-temperatures_words unit from to =
-    temperature_words (codes " from ") (in_thousandths unit from) ++ temperature_words (codes " to ") (in_thousandths unit to)
+-- of a leg that heats the highest one that it had
+abbrev pub last_heat : Course → LegEnd → ℕ
+last_heat (Cools from to) end = to
+last_heat (Heats from to) end = end.hottest
 
--- the first temperature and the last: that of a leg that heats is the highest one that it had
-abbrev pub course_words : Measure → Course → LegEnd → List ℕ
-course_words unit (Cools from to) end = temperatures_words unit from to
-course_words unit (Heats from to) end = temperatures_words unit from end.hottest
+abbrev pub number_or_none : Option ℕ → List ℕ
+number_or_none None = codes "none"
+number_or_none (Some number) = decimal number
 
--- the steps, how many of them made a move, and the breaches in the end
-abbrev pub figure_words : LegEnd → List ℕ
-figure_words end =
-    concat (codes " steps " ∷ decimal end.steps ∷ codes " accepted " ∷ decimal end.accepted ∷ codes " hard " ∷ decimal end.hard ∷ [])
-
--- how a leg's line ends
-abbrev pub least_words : Option ℕ → List ℕ
-least_words None = codes " best none\n"
-least_words (Some total) = concat (codes " best " ∷ decimal total ∷ codes "\n" ∷ [])
-
+-- which leg it was, of which chain, and what it drew from, the first temperature and the last, with three decimals, the steps, how many of
+-- them made a move, the breaches in the end, and the least total
 abbrev pub leg_line : Measure → LegTold → List ℕ
 leg_line unit told =
-    beginning_words told ++ course_words unit told.leg.course told.end ++ figure_words told.end ++ least_words told.end.best
+    let from = in_thousandths unit (first_heat told.leg.course) in
+    let to = in_thousandths unit (last_heat told.leg.course told.end) in
+    concat (codes "leg " ∷ decimal told.number ∷ codes " chain " ∷ decimal told.chain ∷ codes " moves " ∷
+    kinds_words (kinds_of told.leg.moves) ∷ codes " from " ∷ decimal (from / 1000) ∷ codes "." ∷ decimal (from / 100 % 10) ∷
+    decimal (from / 10 % 10) ∷ decimal (from % 10) ∷ codes " to " ∷ decimal (to / 1000) ∷ codes "." ∷ decimal (to / 100 % 10) ∷
+    decimal (to / 10 % 10) ∷ decimal (to % 10) ∷ codes " steps " ∷ decimal told.end.steps ∷ codes " accepted " ∷
+    decimal told.end.accepted ∷ codes " hard " ∷ decimal told.end.hard ∷ codes " best " ∷ number_or_none told.end.best ∷ codes "\n" ∷ [])
 
 -- the sheet of a solution, its total and a line that ends it
 abbrev pub solution_lines : LeagueData → Solution → List ℕ

@@ -3,8 +3,9 @@
 ghost use Rattle.std.specs.Prelude.{◌≡◌, [], OnOk};
 ghost use Rattle.streams.specs.Writing.{Writes, waiting_in};
 ghost use Rattle.policy.specs.Legs.{kinds_of};
-ghost use Rattle.improvement.specs.LegText.{beginning_words, course_words, figure_words, in_thousandths, kinds_words};
-ghost use Rattle.improvement.specs.LegText.{least_words, leg_line, leg_text, solution_lines, solution_text, temperature_words, temperatures_words};
+ghost use Rattle.texts.specs.Pieces.{text_of_piece};
+ghost use Rattle.improvement.specs.LegText.{first_heat, in_thousandths, kinds_words, last_heat, leg_line, leg_text, number_or_none};
+ghost use Rattle.improvement.specs.LegText.{solution_lines, solution_text};
 ghost use Rattle.improvement.specs.Solutions.{best_with, is_below};
 
 use annealing::Unit;
@@ -47,25 +48,44 @@ fn write_line<W: Sink>(
 ) -> Result<(), WriteFault>
     ensures { Writes W.held W.tally out.old out.new result (leg_line unit told) }
 {
-    write_beginning(out, told)?;
-    write_course(out, unit, told.leg.course, told.end)?;
-    write_figures(out, told.end)?;
-    write_least(out, told.end.best)
-}
-
-/// Writes which leg it was, of which chain, and what it drew from.
-fn write_beginning<W: Sink>(out: &mut BufferedSink<'_, W>, told: LegTold) -> Result<(), WriteFault>
-    ensures { Writes W.held W.tally out.old out.new result (beginning_words told) }
-{
+    let LegTold {
+        number,
+        chain,
+        leg,
+        end,
+    } = told;
+    let from = in_thousandths(unit, first_heat(leg.course));
+    let to = in_thousandths(unit, last_heat(leg.course, end));
     write_pieces(
         out,
         &[
             Piece::Text(b"leg "),
-            Piece::Number(told.number),
+            Piece::Number(number),
             Piece::Text(b" chain "),
-            Piece::Number(told.chain),
+            Piece::Number(chain),
             Piece::Text(b" moves "),
-            Piece::Text(words_of(told.leg.moves)),
+            Piece::Text(words_of(leg.moves)),
+            Piece::Text(b" from "),
+            Piece::Number(from / 1000),
+            Piece::Text(b"."),
+            Piece::Number(from / 100 % 10),
+            Piece::Number(from / 10 % 10),
+            Piece::Number(from % 10),
+            Piece::Text(b" to "),
+            Piece::Number(to / 1000),
+            Piece::Text(b"."),
+            Piece::Number(to / 100 % 10),
+            Piece::Number(to / 10 % 10),
+            Piece::Number(to % 10),
+            Piece::Text(b" steps "),
+            Piece::Number(end.steps),
+            Piece::Text(b" accepted "),
+            Piece::Number(end.accepted),
+            Piece::Text(b" hard "),
+            Piece::Number(end.hard),
+            Piece::Text(b" best "),
+            number_or_none(end.best),
+            Piece::Text(b"\n"),
         ],
     )
 }
@@ -83,54 +103,22 @@ fn words_of(moves: MoveSet) -> &'static [u8]
     }
 }
 
-/// Writes the first temperature and the last. Of a leg that heats that is the highest one that it had.
-fn write_course<W: Sink>(
-    out: &mut BufferedSink<'_, W>,
-    unit: Unit,
-    course: Course,
-    end: LegEnd,
-) -> Result<(), WriteFault>
-    ensures { Writes W.held W.tally out.old out.new result (course_words unit course end) }
+fn first_heat(course: Course) -> u32
+    ensures { result ≡ first_heat course }
 {
     match course {
-        Course::Cools { from, to } => write_temperatures(out, unit, from, to),
-        Course::Heats { from, .. } => write_temperatures(out, unit, from, end.hottest),
+        Course::Cools { from, .. } | Course::Heats { from, .. } => from,
     }
 }
 
-fn write_temperatures<W: Sink>(
-    out: &mut BufferedSink<'_, W>,
-    unit: Unit,
-    from: u32,
-    to: u32,
-) -> Result<(), WriteFault>
-    ensures { Writes W.held W.tally out.old out.new result (temperatures_words unit from to) }
+/// The last temperature or, of a leg that heats, the highest one that it had.
+fn last_heat(course: Course, end: LegEnd) -> u32
+    ensures { result ≡ last_heat course end }
 {
-    write_temperature(out, b" from ", unit, from)?;
-    write_temperature(out, b" to ", unit, to)
-}
-
-/// Writes a temperature in distances, with three decimals.
-fn write_temperature<W: Sink>(
-    out: &mut BufferedSink<'_, W>,
-    word: &[u8],
-    unit: Unit,
-    heat: u32,
-) -> Result<(), WriteFault>
-    ensures { Writes W.held W.tally out.old out.new result (temperature_words word.now (in_thousandths unit heat)) }
-{
-    let thousandths = in_thousandths(unit, heat);
-    write_pieces(
-        out,
-        &[
-            Piece::Text(word),
-            Piece::Number(thousandths / 1000),
-            Piece::Text(b"."),
-            Piece::Number(thousandths / 100 % 10),
-            Piece::Number(thousandths / 10 % 10),
-            Piece::Number(thousandths % 10),
-        ],
-    )
+    match course {
+        Course::Cools { to, .. } => to,
+        Course::Heats { .. } => end.hottest,
+    }
 }
 
 /// A temperature in thousandths of a distance.
@@ -141,37 +129,12 @@ fn in_thousandths(unit: Unit, heat: u32) -> u64
     (parts / u128::from(unit.denominator)).min(u128::from(u64::MAX)) as u64
 }
 
-/// Writes the steps, how many of them made a move, and the breaches in the end.
-fn write_figures<W: Sink>(out: &mut BufferedSink<'_, W>, end: LegEnd) -> Result<(), WriteFault>
-    ensures { Writes W.held W.tally out.old out.new result (figure_words end) }
+fn number_or_none(number: Option<u64>) -> Piece<'static>
+    ensures { text_of_piece result ≡ number_or_none number }
 {
-    write_pieces(
-        out,
-        &[
-            Piece::Text(b" steps "),
-            Piece::Number(end.steps),
-            Piece::Text(b" accepted "),
-            Piece::Number(end.accepted),
-            Piece::Text(b" hard "),
-            Piece::Number(end.hard),
-        ],
-    )
-}
-
-/// Writes the end of a leg's line: the least total of its chain's history.
-fn write_least<W: Sink>(out: &mut BufferedSink<'_, W>, least: Option<u64>) -> Result<(), WriteFault>
-    ensures { Writes W.held W.tally out.old out.new result (least_words least) }
-{
-    match least {
-        None => out.write(b" best none\n"),
-        Some(total) => write_pieces(
-            out,
-            &[
-                Piece::Text(b" best "),
-                Piece::Number(total),
-                Piece::Text(b"\n"),
-            ],
-        ),
+    match number {
+        Some(number) => Piece::Number(number),
+        None => Piece::Text(b"none"),
     }
 }
 
