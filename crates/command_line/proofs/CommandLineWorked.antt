@@ -73,14 +73,14 @@ no_command_is_no_job : job_of_words (ttp []) ≡ None
 unfolding clap_on_literals
 no_command_is_no_job = refl
 
-improve_has_its_defaults : job_of_words (ttp (codes "improve" ∷ [])) ≡ Some (Improve 2 1 10000000 0)
+improve_has_its_defaults : job_of_words (ttp (codes "improve" ∷ [])) ≡ Some (Improve 2 1 10000000 None)
 unfolding clap_on_literals
 improve_has_its_defaults = refl
 
 improve_has_its_numbers : job_of_words
     (ttp (codes "improve" ∷ codes "--workers" ∷ codes "4" ∷ codes "--seed=7" ∷ codes "--effort" ∷ codes "1000000" ∷
     codes "--seconds=28800" ∷ []))
-    ≡ Some (Improve 4 7 1000000000000 28800)
+    ≡ Some (Improve 4 7 1000000000000 (Some 28800))
 unfolding clap_on_literals
 improve_has_its_numbers = refl
 
@@ -91,6 +91,10 @@ some_effort_is_needed = refl
 effort_has_a_limit : fault_of program (ttp (codes "improve" ∷ codes "--effort=1000001" ∷ [])) ≡ ValueValidation ∷ []
 unfolding clap_on_literals
 effort_has_a_limit = refl
+
+some_second_is_needed : fault_of program (ttp (codes "improve" ∷ codes "--seconds=0" ∷ [])) ≡ ValueValidation ∷ []
+unfolding clap_on_literals
+some_second_is_needed = refl
 
 improve_takes_no_slack : fault_of program (ttp (codes "improve" ∷ codes "--slack" ∷ codes "1" ∷ [])) ≡ UnknownArgument ∷ []
 unfolding clap_on_literals

@@ -1,9 +1,13 @@
--- `get_one` reads the number that the rows have of an option.
-use Rattle.std.proofs.Common.{◌≡◌, ◌∙◌, ◌≤◌, ap, ℕ, false, Option, Some, None, Result, sym}
+-- `get_one` reads the number that the rows have of an option, if any.
+use Rattle.std.proofs.Common.{◌≡◌, ◌∙◌, ◌≤◌, ap, ℕ, true, false, true≢false, Option, Some, None, IfSome, List, Result, is_some, refl, sym}
+use Rattle.std.specs.Prelude.{not}
+use Rattle.std.specs.Option.{option_map_or}
 use Rattle.std.specs.Str.Parse.{ExplainsUnsignedError, HasUnsignedDigitsIfOk, ParsesUnsigned}
 use Rattle.std.specs.declared.num.ParseIntError.{ParseIntError}
-use Rattle.clap.specs.Words.{Accepts, ReadsOne, Text, one_text, rows_of}
+use Rattle.clap.specs.Words.{ReadsOne, Row, Text, one_of, one_text, rows_of}
 use Rattle.clap.specs.declared.parser.matches.Found.{Found}
+use Rattle.clap.specs.ValueTests.{accepts}
+use Rattle.clap.specs.declared.builder.value_parser.ValueParser.{ValueParser}
 use Rattle.clap.specs.declared.builder.value_parser.ValueParser.TheVariants.{Unsigned}
 use Rattle.clap.proofs.ValueTestLemmas.{accepts-Accepts}
 use Rattle.clap.proofs.WalkLemmas.{one_text-rows}
@@ -14,30 +18,32 @@ use Rattle.command_line.specs.declared.number_args.NumberArg.{NumberArg}
 abbrev Reads : Text → Result ℕ ParseIntError → Type 0
 Reads t r = ParsesUnsigned 64 10 t r × ExplainsUnsignedError 10 t r × HasUnsignedDigitsIfOk t r
 
-module _ (o : NumberArg) (f : Found) (r : Option ℕ) (has : HasValue (rows_of f) (form_of o))
-    (value : (t : Text) → one_text f o.name.now ≡ Some t → ReadsOne Reads t r) where
-  read : ReadsOne Reads has.0 r
-  read = value has.0 (one_text-rows f o.name.now ∙ has.1)
+-- what `number_if_any` answers
+pub record IsNumberOf (o : NumberArg) (rows : List Row) (r : Option ℕ) : Type 0 where
+  pub number : number_in o.name.now rows ≡ r
+  pub some : is_some (form_of o).default ≡ true → is_some r ≡ true
+  pub range : IfSome r (λ n. (o.least ≤ n) × (n ≤ o.most))
 
-  accepted : Accepts false (Unsigned o.least o.most) has.0
-  accepted = accepts-Accepts false (Unsigned o.least o.most) has.0 has.2
+module _ (o : NumberArg) (f : Found) where
+  abbrev parser : ValueParser
+  parser = Unsigned o.least o.most
 
-  pub number_is_read : r ≡ None → ⊥
-  number_is_read none =
-      let g = rw none at read in
-      g.1.0 (accepted.0, accepted.1)
+  same : one_text f o.name.now ≡ one_of o.name.now (rows_of f)
+  same = one_text-rows f o.name.now
 
-  pub number_in_rows : (n : ℕ) → r ≡ Some n → number_in o.name.now (rows_of f) ≡ Some n
-  number_in_rows n is =
-      let g = rw is at read in
-      rw has.1 (ap Some (sym g.0.1))
-
-  pub number_in_range : (n : ℕ) → r ≡ Some n → n ≤ o.most
-  number_in_range n is =
-      let g = rw is at read in
-      rw g.0.1 accepted.3
-
-  pub number_from_range : (n : ℕ) → r ≡ Some n → o.least ≤ n
-  number_from_range n is =
-      let g = rw is at read in
-      rw g.0.1 accepted.2
+  pub number_read : (r : Option ℕ) → HasValue (rows_of f) (form_of o) → (one_text f o.name.now ≡ None → r ≡ None) →
+      ((t : Text) → one_text f o.name.now ≡ Some t → ReadsOne Reads t r) → IsNumberOf o (rows_of f) r
+  number_read r has none value = go (one_of o.name.now (rows_of f)) refl r has none value
+    where
+      go : (text : Option Text) → one_of o.name.now (rows_of f) ≡ text → (r : Option ℕ)
+          → option_map_or (accepts false parser) text (not (is_some (form_of o).default)) ≡ true → (one_text f o.name.now ≡ None → r ≡ None)
+          → ((t : Text) → one_text f o.name.now ≡ Some t → ReadsOne Reads t r) → IsNumberOf o (rows_of f) r
+      go None is r has none value =
+          rw (none (same ∙ is)) (record { number = rw is refl; some = λ d. absurd (true≢false (sym (rw d at has))); range = tt })
+      go (Some t) is None has none value =
+          let accepted = accepts-Accepts false parser t has in
+          absurd ((value t (same ∙ is)).1.0 (accepted.0, accepted.1))
+      go (Some t) is (Some n) has none value =
+          let accepted = accepts-Accepts false parser t has in
+          let read = (value t (same ∙ is)).0.1 in
+          record { number = rw is (ap Some (sym read)); some = λ d. refl; range = rw read (accepted.2, accepted.3) }

@@ -1,7 +1,8 @@
 -- Options and words as clap's arguments, and what the rows of an option are.
 use Rattle.std.proofs.Common.{◌≡◌, ◌||◌, cond, Bool, true, false, List, [], ◌∷◌, ◌++◌, Option, Some, None, refl, sym}
 use Rattle.std.proofs.Common.{subst, ap, true≢false, map, append-nil, ◌∙◌, option_and_then, inl, inr, ◌⊎◌}
-use Rattle.std.specs.Prelude.{find, fold, ◌&&◌}
+use Rattle.std.specs.Prelude.{find, fold, ◌&&◌, is_some, not}
+use Rattle.std.specs.Option.{option_map_or}
 use Rattle.std.specs.Str.{bytes_eq}
 use Rattle.std.proofs.lemmas.Slice.Eq.{bytes_eq-Decides}
 use Rattle.clap.specs.ValueTests.{accepts}
@@ -42,7 +43,7 @@ option_of os name = find (λ o. bytes_eq o.name name) os
 pub record IsSound (options : List OptionForm) (o : OptionForm) : Type 0 where
   pub first : option_of options o.name ≡ Some o
   pub as_written : reading_of o.parser ≡ AsWritten
-  pub default_fits : accepts false o.parser o.default ≡ true
+  pub default_fits : option_map_or (accepts false o.parser) o.default true ≡ true
 
 abbrev pub AreSound : List OptionForm → List OptionForm → Type 0
 AreSound options [] = Unit {0}
@@ -119,7 +120,7 @@ same_either_way false x = refl
 
 abbrev HasRows : List Row → List OptionForm → Type 0
 HasRows rows [] = Unit {0}
-HasRows rows (o ∷ os) = (has_row o.name rows ≡ true) × HasRows rows os
+HasRows rows (o ∷ os) = (is_some o.default ≡ true → has_row o.name rows ≡ true) × HasRows rows os
 
 abbrev row_of : OptionForm → ValueSource → List Text → Row
 row_of o s values = record { id = o.name; values = values; count = None; source = Some s; reading = reading_by (option_rule o) }
@@ -148,22 +149,27 @@ module _ (options : List OptionForm) where
 
   -- ---- the defaults
 
-  default_fine : (o : OptionForm) (rows : List Row) → IsSound options o → IsFine rows → IsFine (with_default rows (option_rule o))
-  default_fine o rows sound fine = go (has_row o.name rows) refl
-    where
-      go : (b : Bool) → has_row o.name rows ≡ b →
-          IsFine (cond b rows (with_values o.name (reading_by (option_rule o)) DefaultValue (o.default ∷ []) rows))
-      go true is = fine
-      go false is = row_added o DefaultValue o.default [] rows sound is sound.default_fits fine
+  abbrev defaulted : OptionForm → Bool → Option Text → List Row → List Row
+  defaulted o b d rows =
+      cond b rows (default_rows o.name (reading_by (option_rule o)) (option_rule (record o { default = d })).defaults rows)
 
-  default_given : (o : OptionForm) (rows : List Row) → has_row o.name (with_default rows (option_rule o)) ≡ true
-  default_given o rows = go (has_row o.name rows) refl
+  default_fine : (o : OptionForm) (rows : List Row) → IsSound options o → IsFine rows → IsFine (with_default rows (option_rule o))
+  default_fine o rows sound fine = go (has_row o.name rows) refl o.default sound.default_fits
     where
-      go : (b : Bool) → has_row o.name rows ≡ b →
-          has_row o.name (cond b rows (with_values o.name (reading_by (option_rule o)) DefaultValue (o.default ∷ []) rows)) ≡ true
-      go true is = is
-      go false is = subst (λ rs. has_row o.name rs ≡ true) (sym (row_at_end o DefaultValue o.default [] rows is))
-          (has_row-last o.name rows (row_of o DefaultValue (o.default ∷ [])) ((bytes_eq-Decides o.name o.name).1 refl))
+      go : (b : Bool) → has_row o.name rows ≡ b → (d : Option Text) → option_map_or (accepts false o.parser) d true ≡ true →
+          IsFine (defaulted o b d rows)
+      go true is d fits = fine
+      go false is None fits = fine
+      go false is (Some text) fits = row_added o DefaultValue text [] rows sound is fits fine
+
+  default_given : (o : OptionForm) (rows : List Row) → is_some o.default ≡ true → has_row o.name (with_default rows (option_rule o)) ≡ true
+  default_given o rows some = go (has_row o.name rows) refl o.default some
+    where
+      go : (b : Bool) → has_row o.name rows ≡ b → (d : Option Text) → is_some d ≡ true → has_row o.name (defaulted o b d rows) ≡ true
+      go true is d some = is
+      go false is None some = absurd (true≢false (sym some))
+      go false is (Some text) some = subst (λ rs. has_row o.name rs ≡ true) (sym (row_at_end o DefaultValue text [] rows is))
+          (has_row-last o.name rows (row_of o DefaultValue (text ∷ [])) ((bytes_eq-Decides o.name o.name).1 refl))
 
   -- what an argument adds that is none of the options
   IsFine-append : (rows more : List Row) → IsFine rows → IsFine more → IsFine (rows ++ more)
@@ -253,30 +259,37 @@ module _ (options : List OptionForm) where
   rows_given [] back rows = tt
   rows_given (o ∷ os) back rows =
       let next = with_default rows (option_rule o) in
-      (defaults_kept o.name (map option_rule os ++ back) next (default_given o rows), rows_given os back next)
+      ((λ some. defaults_kept o.name (map option_rule os ++ back) next (default_given o rows some)), rows_given os back next)
 
   all_rows_given : (front back : List Rule) (rows : List Row) →
       HasRows (fold with_default rows (front ++ (map option_rule options ++ back))) options
   all_rows_given [] back rows = rows_given options back rows
   all_rows_given (a ∷ front) back rows = all_rows_given front back (with_default rows a)
 
-  value_found : (o : OptionForm) (rows : List Row) → IsSound options o → IsFine rows → has_row o.name rows ≡ true → HasValue rows o
-  value_found o [] sound fine e = absurd (true≢false (sym e))
+  value_found : (o : OptionForm) (rows : List Row) → IsSound options o → IsFine rows →
+      (is_some o.default ≡ true → has_row o.name rows ≡ true) → HasValue rows o
+  value_found o [] sound fine e = go (is_some o.default) e
+    where
+      go : (b : Bool) → (b ≡ true → false ≡ true) → not b ≡ true
+      go true e = e refl
+      go false e = refl
   value_found o (r ∷ rs) sound fine e = go (bytes_eq r.id o.name) refl e (value_found o rs sound fine.1)
     where
-      go : (b : Bool) → bytes_eq r.id o.name ≡ b → (b || has_row o.name rs) ≡ true → (has_row o.name rs ≡ true → HasValue rs o)
-          → (t : Text) × (option_and_then row_text (cond b (Some r) (find (λ x. bytes_eq x.id o.name) rs)) ≡ Some t)
-          × (accepts false o.parser t ≡ true)
+      go : (b : Bool) → bytes_eq r.id o.name ≡ b → (is_some o.default ≡ true → (b || has_row o.name rs) ≡ true)
+          → ((is_some o.default ≡ true → has_row o.name rs ≡ true) → HasValue rs o)
+          → option_map_or (accepts false o.parser) (option_and_then row_text (cond b (Some r) (find (λ x. bytes_eq x.id o.name) rs)))
+          (not (is_some o.default)) ≡ true
       go true is e rest =
           let same = (bytes_eq-Decides r.id o.name).0 is in
-          subst (λ p. FitsOption p r) (subst (λ n. option_of options n ≡ Some o) (sym same) sound.first) fine.0
+          let fits = subst (λ p. FitsOption p r) (subst (λ n. option_of options n ≡ Some o) (sym same) sound.first) fine.0 in
+          rw fits.1 fits.2
       go false is e rest = rest e
 
   values_found : (os : List OptionForm) (rows : List Row) → AreSound options os → IsFine rows → HasRows rows os → HasValues rows os
   values_found [] rows sound fine has = tt
   values_found (o ∷ os) rows sound fine has = (value_found o rows sound.0 fine has.0, values_found os rows sound.1 fine has.1)
 
-  -- after the defaults each option has a value
+  -- after the defaults each option has a value that has a default, and clap takes it
   pub all_given : (front back : List Rule) (rows : List Row) → AreSound options options
       → AreSoundRules options (front ++ (map option_rule options ++ back))
       → IsFine rows → HasValues (fold with_default rows (front ++ (map option_rule options ++ back))) options

@@ -1,6 +1,6 @@
 -- The program's command line, as clap reads it: commands, each with words and options.
 use Rattle.std.specs.Prelude.{◌≡◌, ◌≤◌, ◌^◌, ◌-◌, ◌*◌, ℕ, Some, None, Option, List, [], ◌∷◌, ◌++◌, ◌&&◌, ◌||◌, Bool, codes, true, false, map, fold}
-use Rattle.std.specs.Prelude.{◌⊎◌, if◌then◌else◌, is_some, option_and_then, option_map}
+use Rattle.std.specs.Prelude.{◌⊎◌, IfSome, if◌then◌else◌, is_some, not, option_and_then, option_map}
 use Rattle.std.specs.Option.{option_map_or}
 use Rattle.std.specs.Str.{bytes_eq}
 use Rattle.std.specs.Str.Parse.{digits_value, without_leading_plus}
@@ -25,11 +25,11 @@ use Rattle.report_formats.specs.declared.format.Format.{Format}
 use Rattle.report_formats.specs.declared.format.Format.TheVariants as formats
 use Rattle.search.specs.declared.runs.SearchPlan.{SearchPlan}
 
--- an option `--name VALUE`: what clap asks of the value, and what stands for it if it isn't given
+-- an option `--name VALUE`: what clap asks of the value, and what stands for it if it isn't given, if anything does
 pub record OptionForm : Type 0 where
   pub name : Text
   pub parser : ValueParser
-  pub default : Text
+  pub default : Option Text
 
 -- a command: the words that may stand after it, its options, and those that may be left out and then have no value
 pub record CommandForm : Type 0 where
@@ -39,40 +39,40 @@ pub record CommandForm : Type 0 where
   pub free : List Rule
 
 -- an option `--name N` with the range of N
-abbrev pub number_option : Text → ℕ → ℕ → Text → OptionForm
+abbrev pub number_option : Text → ℕ → ℕ → Option Text → OptionForm
 number_option name least most default = record { name = name; parser = parsers.Unsigned least most; default = default }
 
 -- how many changes a board has room for
 abbrev pub room_option : OptionForm
-room_option = number_option (codes "room") 0 max_room (codes "1024")
+room_option = number_option (codes "room") 0 max_room (Some (codes "1024"))
 
 -- how many workers search at once
 abbrev pub workers_option : OptionForm
-workers_option = number_option (codes "workers") 1 16 (codes "2")
+workers_option = number_option (codes "workers") 1 16 (Some (codes "2"))
 
 -- what the workers' draws begin with
 abbrev pub seed_option : OptionForm
-seed_option = number_option (codes "seed") 0 (2 ^ 64 - 1) (codes "1")
+seed_option = number_option (codes "seed") 0 (2 ^ 64 - 1) (Some (codes "1"))
 
 -- how many million moves the workers draw together
 abbrev pub effort_option : OptionForm
-effort_option = number_option (codes "effort") 1 1000000 (codes "10")
+effort_option = number_option (codes "effort") 1 1000000 (Some (codes "10"))
 
--- for how many seconds improvements follow each other; 0 if there is one alone
+-- for how many seconds improvements follow each other; without it there is one alone
 abbrev pub seconds_option : OptionForm
-seconds_option = number_option (codes "seconds") 0 1000000 (codes "0")
+seconds_option = number_option (codes "seconds") 1 1000000 None
 
 -- how many moves each worker draws
 abbrev pub steps_option : OptionForm
-steps_option = number_option (codes "steps") 0 1000000 (codes "1000")
+steps_option = number_option (codes "steps") 0 1000000 (Some (codes "1000"))
 
 -- by how much a score may rise at the first step
 abbrev pub slack_option : OptionForm
-slack_option = number_option (codes "slack") 0 (2 ^ 64 - 1) (codes "0")
+slack_option = number_option (codes "slack") 0 (2 ^ 64 - 1) (Some (codes "0"))
 
 -- in which form a report is written; the names that a format has are asked for apart
 abbrev pub format_option : OptionForm
-format_option = record { name = codes "format"; parser = parsers.String; default = codes "text" }
+format_option = record { name = codes "format"; parser = parsers.String; default = Some (codes "text") }
 
 -- a word, and an option with a text, that may be left out
 abbrev pub word : Text → Rule
@@ -130,7 +130,7 @@ start_rules = from_option ∷ text_option (codes "keep") ∷ repeated (text_opti
 
 -- an option as the program has it
 abbrev pub form_of : NumberArg → OptionForm
-form_of o = number_option o.name.now o.least o.most o.default.now
+form_of o = number_option o.name.now o.least o.most (option_map (λ text. text.now) o.default)
 
 abbrev pub start_command : CommandForm
 start_command = record { name = codes "start"; words = league_word ∷ []; options = []; free = from_option ∷ [] }
@@ -180,7 +180,12 @@ commands = start_command ∷ play_command ∷ improve_command ∷ search_command
 
 -- an option and a command, as clap has them
 abbrev pub rule_of : OptionForm → Rule
-rule_of o = record (new_rule o.name) { long = Some o.name; value_names = 1; parser = Some o.parser; defaults = o.default ∷ [] }
+rule_of o = record (new_rule o.name) {
+  long = Some o.name;
+  value_names = 1;
+  parser = Some o.parser;
+  defaults = option_map_or (λ text. text ∷ []) o.default [];
+}
 
 abbrev pub app_of_command : CommandForm → App
 app_of_command c = fold with_rule (new_app c.name) (c.words ++ map rule_of c.options ++ c.free)
@@ -200,13 +205,13 @@ program_of cs = fold (λ app c. with_subcommand app (app_of_command c).top) (tel
 abbrev pub program : App
 program = program_of commands
 
--- the number that stands after an option, or its default
+-- the number that stands after an option, or its default, if there is one
 abbrev pub number_in : Text → List Row → Option ℕ
 number_in name rows = option_map (λ text. digits_value 10 (without_leading_plus text)) (one_of name rows)
 
--- the improvement by these workers, with this seed, so many million steps and so many seconds
+-- the improvement by these workers, with this seed, so many million steps and, if they are given, so many seconds
 abbrev pub improve_from : Option ℕ → Option ℕ → Option ℕ → Option ℕ → Option Job
-improve_from (Some workers) (Some seed) (Some millions) (Some seconds) = Some (Improve workers seed (millions * 1000000) seconds)
+improve_from (Some workers) (Some seed) (Some millions) seconds = Some (Improve workers seed (millions * 1000000) seconds)
 improve_from _ _ _ _ = None
 
 -- the improvement that stands after the options
@@ -302,31 +307,31 @@ pub record IsPlanInRange (plan : SearchPlan) : Type 0 where
   pub few : plan.workers ≤ 16
   pub steps : plan.steps ≤ 1000000
 
--- 1 to 16 workers, and a million steps to a million million
-pub record IsImproveInRange (workers effort : ℕ) : Type 0 where
+-- 1 to 16 workers, a million steps to a million million and, if they are given, 1 to a million seconds
+pub record IsImproveInRange (workers effort : ℕ) (seconds : Option ℕ) : Type 0 where
   pub some : 1 ≤ workers
   pub few : workers ≤ 16
   pub least : 1000000 ≤ effort
   pub most : effort ≤ 1000000000000
+  pub time : IfSome seconds (λ s. (1 ≤ s) × (s ≤ 1000000))
 
 -- each number of the job is in its range
 abbrev pub IsInRange : Job → Type 0
 IsInRange Start = Unit {0}
 IsInRange (Play room) = room ≤ max_room
-IsInRange (Improve workers seed effort seconds) = IsImproveInRange workers effort
+IsInRange (Improve workers seed effort seconds) = IsImproveInRange workers effort seconds
 IsInRange (Find room plan) = (room ≤ max_room) × IsPlanInRange plan
 IsInRange (Report format) = Unit {0}
 
--- the option has a text, which clap takes for it
+-- clap takes the option's text, which is there if it has a default
 abbrev pub HasValue : List Row → OptionForm → Type 0
-HasValue rows o = (text : Text) × (one_of o.name rows ≡ Some text)
-    × (accepts false o.parser text ≡ true)
+HasValue rows o = option_map_or (accepts false o.parser) (one_of o.name rows) (not (is_some o.default)) ≡ true
 
 abbrev pub HasValues : List Row → List OptionForm → Type 0
 HasValues rows [] = Unit {0}
 HasValues rows (o ∷ os) = HasValue rows o × HasValues rows os
 
--- what a parse that succeeds gives: a command of the program, with a value for each of its options
+-- what a parse that succeeds gives: a command of the program, with a value for each of its options that has a default
 abbrev pub NamesOneOf : List CommandForm → Text × List Row → Type 0
 NamesOneOf [] found = ⊥
 NamesOneOf (c ∷ cs) found =

@@ -92,7 +92,7 @@ pub(crate) const EFFORT_HELP: &str =
     "How many million moves the workers draw together, 1 to 1000000";
 
 pub(crate) const SECONDS_HELP: &str =
-    "For how many seconds improvements follow each other, each with twice the effort of the one before and the next seed; 0 has one alone";
+    "For how many seconds improvements follow each other, 1 to 1000000, each with twice the effort of the one before and the next seed";
 
 pub(crate) const STEPS_HELP: &str = "How many moves each worker draws, 0 to 1000000";
 

@@ -1,6 +1,6 @@
 //! The program's command line.
 
-ghost use Rattle.std.specs.Prelude.{◌≡◌, [], ◌∷◌, Some, IfOk, IfSome, fold, map, option_and_then, string_bytes};
+ghost use Rattle.std.specs.Prelude.{◌≡◌, ◌≤◌, [], ◌∷◌, Some, IfOk, IfSome, fold, map, option_and_then, string_bytes};
 ghost use Rattle.clap.specs.Words.{app_of, found_of, rows_of, FailsBy, subcommand_rows_of, with_rule};
 ghost use Rattle.command_line.specs.CommandLine.{app_of_command, improve_command, improve_in, job_of_command, job_of_words, play_command};
 ghost use Rattle.command_line.specs.Beginnings.{beginning_of};
@@ -8,7 +8,7 @@ ghost use Rattle.command_line.specs.CommandLine.{beginning_of_words, files_of_wo
 ghost use Rattle.command_line.specs.CommandLine.{improve_options, plan_options, rule_of};
 ghost use Rattle.command_line.specs.CommandLine.{plan_in, program, program_of, search_command, start_command, words_fault};
 ghost use Rattle.command_line.specs.Files.{files_of};
-ghost use Rattle.command_line.specs.CommandLine.{HasValues, IsInRange, IsPlanInRange, NamesACommand};
+ghost use Rattle.command_line.specs.CommandLine.{number_in, seconds_option, HasValue, HasValues, IsInRange, IsPlanInRange, NamesACommand};
 
 use crate::help::{
     IMPROVE_ABOUT, IMPROVE_EXAMPLE, PLAY_ABOUT, PLAY_LINES, PROGRAM_ABOUT, PROGRAM_EXAMPLE,
@@ -42,7 +42,7 @@ pub enum Job {
         workers: u32,
         seed: u64,
         effort: u64,
-        seconds: u32,
+        seconds: Option<u32>,
     },
     /// Search for a cheaper schedule of the league, on a board with room for so many changes.
     Find {
@@ -109,7 +109,19 @@ fn improve_of(values: &ArgMatches) -> Job
         workers: WORKERS.number(values) as u32,
         seed: SEED.number(values),
         effort: EFFORT.number(values) * STEPS_OF_EFFORT,
-        seconds: SECONDS.number(values) as u32,
+        seconds: seconds_of(values),
+    }
+}
+
+/// For how many seconds improvements follow each other, if that is asked for.
+fn seconds_of(values: &ArgMatches) -> Option<u32>
+    requires { HasValue (rows_of (found_of values.now)) seconds_option }
+    ensures number { number_in seconds_option.name (rows_of (found_of values.now)) ≡ result }
+    ensures range { IfSome result (λ seconds. (1 ≤ seconds) × (seconds ≤ 1000000)) }
+{
+    match SECONDS.number_if_any(values) {
+        Some(seconds) => Some(seconds as u32),
+        None => None,
     }
 }
 

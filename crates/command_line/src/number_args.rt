@@ -1,6 +1,6 @@
 //! The options of the commands: `--name N`. N is a whole number.
 
-ghost use Rattle.std.specs.Prelude.{◌≡◌, ◌≤◌, Some, false};
+ghost use Rattle.std.specs.Prelude.{◌≡◌, ◌≤◌, IfSome, Some, false, is_some, true};
 ghost use Rattle.clap.specs.Words.{found_of, rows_of, rule_of as rule_of_arg};
 ghost use Rattle.command_line.specs.CommandLine.{HasValue, form_of, number_in, rule_of};
 
@@ -22,14 +22,14 @@ const MAX_EFFORT: u64 = 1_000_000;
 /// The most seconds of an improvement: eleven days and a half.
 const MAX_SECONDS: u64 = 1_000_000;
 
-/// An option: the range of its number, and what stands for it if it isn't given.
+/// An option: the range of its number, and what stands for it if it isn't given, if anything does.
 #[derive(Clone, Copy)]
 pub(crate) struct NumberArg {
     name: &'static str,
     value_name: &'static str,
     least: u64,
     most: u64,
-    default: &'static str,
+    default: Option<&'static str>,
     help: &'static str,
 }
 
@@ -38,7 +38,7 @@ pub(crate) const ROOM: NumberArg = NumberArg {
     value_name: "N",
     least: 0,
     most: MAX_ROOM as u64,
-    default: "1024",
+    default: Some("1024"),
     help: ROOM_HELP,
 };
 
@@ -47,7 +47,7 @@ pub(crate) const WORKERS: NumberArg = NumberArg {
     value_name: "W",
     least: 1,
     most: MAX_WORKERS as u64,
-    default: "2",
+    default: Some("2"),
     help: WORKERS_HELP,
 };
 
@@ -56,7 +56,7 @@ pub(crate) const SEED: NumberArg = NumberArg {
     value_name: "S",
     least: 0,
     most: u64::MAX,
-    default: "1",
+    default: Some("1"),
     help: SEED_HELP,
 };
 
@@ -65,16 +65,16 @@ pub(crate) const EFFORT: NumberArg = NumberArg {
     value_name: "E",
     least: 1,
     most: MAX_EFFORT,
-    default: "10",
+    default: Some("10"),
     help: EFFORT_HELP,
 };
 
 pub(crate) const SECONDS: NumberArg = NumberArg {
     name: "seconds",
     value_name: "S",
-    least: 0,
+    least: 1,
     most: MAX_SECONDS,
-    default: "0",
+    default: None,
     help: SECONDS_HELP,
 };
 
@@ -83,7 +83,7 @@ pub(crate) const STEPS: NumberArg = NumberArg {
     value_name: "T",
     least: 0,
     most: MAX_STEPS,
-    default: "1000",
+    default: Some("1000"),
     help: STEPS_HELP,
 };
 
@@ -92,7 +92,7 @@ pub(crate) const SLACK: NumberArg = NumberArg {
     value_name: "X",
     least: 0,
     most: u64::MAX,
-    default: "0",
+    default: Some("0"),
     help: SLACK_HELP,
 };
 
@@ -102,25 +102,38 @@ impl NumberArg {
         ensures rule { rule_of_arg result ≡ rule_of (form_of self.now) }
         ensures local { result.global ≡ false }
     {
-        Arg::new(alloc, self.name)
+        let arg = Arg::new(alloc, self.name)
             .long(self.name)
             .value_name(self.value_name)
             .value_parser(ValueParser::unsigned(self.least, self.most))
-            .default_value(self.default)
-            .help(self.help)
+            .help(self.help);
+        match self.default {
+            Some(default) => arg.default_value(default),
+            None => arg,
+        }
     }
 
     /// The number that was given, or that stands for it.
     pub(crate) fn number(&self, values: &ArgMatches) -> u64
-        requires { HasValue (rows_of (found_of values.now)) (form_of self.now) }
+        requires has_default { is_some (form_of self.now).default ≡ true }
+        requires value { HasValue (rows_of (found_of values.now)) (form_of self.now) }
         ensures number { number_in (form_of self.now).name (rows_of (found_of values.now)) ≡ Some result }
         ensures least { self.now.least ≤ result }
         ensures most { result ≤ self.now.most }
     {
-        match values.get_one::<u64>(self.name) {
+        match self.number_if_any(values) {
             Some(number) => number,
-            // an option has a default, and a value out of its range is an error
             None => unreachable!(),
         }
+    }
+
+    /// The number that was given, or that stands for it, if any.
+    pub(crate) fn number_if_any(&self, values: &ArgMatches) -> Option<u64>
+        requires { HasValue (rows_of (found_of values.now)) (form_of self.now) }
+        ensures number { number_in (form_of self.now).name (rows_of (found_of values.now)) ≡ result }
+        ensures has_default { is_some (form_of self.now).default ≡ true → is_some result ≡ true }
+        ensures range { IfSome result (λ number. (self.now.least ≤ number) × (number ≤ self.now.most)) }
+    {
+        values.get_one::<u64>(self.name)
     }
 }

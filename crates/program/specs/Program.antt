@@ -1,6 +1,6 @@
 -- What the program does for a job, and its exit status.
 use Rattle.std.specs.Prelude.{◌≡◌, ◌≢◌, ◌≤◌, ◌⊎◌, ◌==◌, ◌&&◌, ◌||◌, ℕ, Bool, true, false, not, is_some, List, [], length, codes, unwrap_or}
-use Rattle.std.specs.Prelude.{if◌then◌else◌, Option, Some, None, option_map, Result, Ok, Err, IfOk}
+use Rattle.std.specs.Prelude.{Option, Some, None, option_map, Result, Ok, Err, IfOk}
 use Rattle.std.specs.Str.Lines.{lines}
 use Rattle.clap.specs.declared.error.kind.ErrorKind.{ErrorKind as Kind}
 use Rattle.clap.specs.declared.error.kind.ErrorKind.TheVariants.{OutOfMemory, DisplayHelp, DisplayVersion}
@@ -58,10 +58,9 @@ abbrev pub HasSearchEnd : Job → Result Ending ProgramFault → Type 0
 HasSearchEnd job outcome = IfOk outcome (λ ending. is_some (search_end_in (Some ending)) ≡ is_search job)
 
 -- the plan of one improvement or, if there are seconds for them, of improvements that follow each other, of which the first has this effort
-abbrev pub plan_of : ℕ → ℕ → ℕ → ℕ → ImprovePlan
-plan_of workers seed effort seconds =
-    if seconds == 0 then record { workers = workers; seed = seed; effort = effort; first = None }
-    else record { workers = workers; seed = seed; effort = most_effort; first = Some effort }
+abbrev pub plan_of : ℕ → ℕ → ℕ → Option ℕ → ImprovePlan
+plan_of workers seed effort None = record { workers = workers; seed = seed; effort = effort; first = None }
+plan_of workers seed effort (Some seconds) = record { workers = workers; seed = seed; effort = most_effort; first = Some effort }
 
 -- the league's text and the lines beside it: all of an input and of the second text if that was read by itself, otherwise what
 -- stands before and after the word

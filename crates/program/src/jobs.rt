@@ -94,10 +94,12 @@ fn extent_of(job: Job) -> Extent {
     match job {
         Job::Improve {
             effort,
-            seconds: 0,
+            seconds,
             ..
-        } => Extent::Steps(effort),
-        Job::Improve { seconds, .. } => Extent::Seconds(seconds),
+        } => match seconds {
+            Some(seconds) => Extent::Seconds(seconds),
+            None => Extent::Steps(effort),
+        },
         Job::Find { plan, .. } => Extent::Steps(u64::from(plan.workers) * u64::from(plan.steps)),
         _ => Extent::Steps(0),
     }
@@ -137,7 +139,7 @@ fn perform_at<T: Threads + Wait + Clock + Sync, G: Gate + Sync, W: Sink, V: Watc
             seconds,
         } => {
             let plan = plan_of(workers, seed, effort, seconds);
-            let timed = Timed::new(workplace.rt, seconds, watcher);
+            let timed = Timed::new(workplace.rt, seconds.unwrap_or(0), watcher);
             with_verdict(improve_on(workplace, input, beginning, sink, plan, timed))
         }
         Job::Find { room, plan } => {
@@ -151,22 +153,18 @@ fn perform_at<T: Threads + Wait + Clock + Sync, G: Gate + Sync, W: Sink, V: Watc
 }
 
 /// One improvement, or improvements that follow each other if there are seconds for them.
-fn plan_of(workers: u32, seed: u64, effort: u64, seconds: u32) -> ImprovePlan
+fn plan_of(workers: u32, seed: u64, effort: u64, seconds: Option<u32>) -> ImprovePlan
     ensures { result ≡ plan_of workers seed effort seconds }
 {
-    let alone = ImprovePlan {
+    let (effort, first) = match seconds {
+        None => (effort, None),
+        Some(_) => (MOST_EFFORT, Some(effort)),
+    };
+    ImprovePlan {
         workers,
         seed,
         effort,
-        first: None,
-    };
-    if seconds == 0 {
-        return alone;
-    }
-    ImprovePlan {
-        effort: MOST_EFFORT,
-        first: Some(effort),
-        ..alone
+        first,
     }
 }
 

@@ -79,6 +79,8 @@ const HELP: &[(&[&str], &[&str])] = &[
             "--effort <E>",
             "How many million moves the workers draw together, 1 to 1000000",
             "[default: 10]",
+            "--seconds <S>",
+            "For how many seconds improvements follow each other, 1 to 1000000, each with twice the effort of the one before and the next seed\n",
             "docs/improve.md",
             "ttp improve --workers 4 --effort 100 < leagues/circular-10.json\n",
             "ttp improve season.json --from last.txt --keep 1-8 --near 50\n",
@@ -172,6 +174,12 @@ const TEXTS: &[(&[&str], &str)] = &[
         &["ttp", "report", "--bom"],
         "error: --separator and --bom want --format csv\n\n\
         Usage: ttp report [OPTIONS] [LEAGUE] [SCHEDULE]\n\nFor more information, try '--help'.\n",
+    ),
+    // a number outside its range in clap's words
+    (
+        &["ttp", "improve", "--seconds", "0"],
+        "error: invalid value '0' for '--seconds <S>': 0 is not in 1..=1000000\n\n\
+        For more information, try '--help'.\n",
     ),
     // and a wrong value of a start what is wanted
     (

@@ -7,7 +7,7 @@ use crate::tests::checks::{check_holds, check_same, check_same_of};
 use crate::tests::circle::CIRCLE;
 use crate::tests::closings::{closing, script};
 use crate::tests::progress_lines::{Ticks, last_line};
-use clap::error::ErrorKind;
+use clap::error::ErrorKind::{self, DisplayHelp, UnknownArgument, ValueValidation};
 use command_line::{Job, args};
 use commands::{
     Extent, ImprovePlan, NoGate, ProgramFault, ProgressLine, Verdict, Workplace, improve,
@@ -24,12 +24,15 @@ use std::time::Clock;
 use streams::{MemorySink, MemorySource, Sink};
 
 /// Words, and the workers, the seed, the effort and the seconds of the improvement that they ask for.
-const PLANS: &[(&[&str], (u32, u64, u64, u32))] = &[
-    (&["ttp", "improve"], (2, 1, 10_000_000, 0)),
-    (&["ttp", "improve", "--effort", "1"], (2, 1, 1_000_000, 0)),
+const PLANS: &[(&[&str], (u32, u64, u64, Option<u32>))] = &[
+    (&["ttp", "improve"], (2, 1, 10_000_000, None)),
+    (
+        &["ttp", "improve", "--effort", "1"],
+        (2, 1, 1_000_000, None),
+    ),
     (
         &["ttp", "improve", "--seconds", "1000000"],
-        (2, 1, 10_000_000, 1_000_000),
+        (2, 1, 10_000_000, Some(1_000_000)),
     ),
     (
         &[
@@ -39,37 +42,20 @@ const PLANS: &[(&[&str], (u32, u64, u64, u32))] = &[
             "--seed=18446744073709551615",
             "--workers=16",
         ],
-        (16, u64::MAX, 1_000_000_000_000, 0),
+        (16, u64::MAX, 1_000_000_000_000, None),
     ),
 ];
 
 /// Words, and what is told in place of a job.
 const MISTAKES: &[(&[&str], ErrorKind)] = &[
-    (
-        &["ttp", "improve", "--effort", "0"],
-        ErrorKind::ValueValidation,
-    ),
-    (
-        &["ttp", "improve", "--effort", "1000001"],
-        ErrorKind::ValueValidation,
-    ),
-    (
-        &["ttp", "improve", "--workers", "17"],
-        ErrorKind::ValueValidation,
-    ),
-    (
-        &["ttp", "improve", "--seconds", "1000001"],
-        ErrorKind::ValueValidation,
-    ),
-    (
-        &["ttp", "improve", "--slack", "1"],
-        ErrorKind::UnknownArgument,
-    ),
-    (
-        &["ttp", "improve", "--room", "8"],
-        ErrorKind::UnknownArgument,
-    ),
-    (&["ttp", "improve", "--help"], ErrorKind::DisplayHelp),
+    (&["ttp", "improve", "--effort", "0"], ValueValidation),
+    (&["ttp", "improve", "--effort", "1000001"], ValueValidation),
+    (&["ttp", "improve", "--workers", "17"], ValueValidation),
+    (&["ttp", "improve", "--seconds", "0"], ValueValidation),
+    (&["ttp", "improve", "--seconds", "1000001"], ValueValidation),
+    (&["ttp", "improve", "--slack", "1"], UnknownArgument),
+    (&["ttp", "improve", "--room", "8"], UnknownArgument),
+    (&["ttp", "improve", "--help"], DisplayHelp),
 ];
 
 fn answer(alloc: Global, given: &[&str]) -> Result<Result<Job, ErrorKind>, AllocError> {

@@ -10,8 +10,8 @@ improve_of-requires c =
     values_of_met (codes "improve") improve_command.options improve_values (out-ArgMatches c.args.matches.now).subcommand _ _ c.requires
     (c.in-Some-improve-default.ensures).name (c.in-Some-improve-default.ensures).rows is
 
-pub number-requires-in-Some-search-default : goal.number-requires-in-Some-search-default
-number-requires-in-Some-search-default c =
+pub number-requires-in-Some-search-default-clause-value : goal.number-requires-in-Some-search-default-clause-value
+number-requires-in-Some-search-default-clause-value c =
     let is : c.in-Some-search-default.field-0-0.now ≡ codes "search" = search rules in
     (values_of_met (codes "search") search_command.options search_values (out-ArgMatches c.args.matches.now).subcommand _ _ c.requires
     (c.in-Some-search-default.ensures).name (c.in-Some-search-default.ensures).rows is).0
