@@ -3,7 +3,7 @@
 ghost use Rattle.std.specs.Prelude.{◌≡◌, ◌≤◌, codes, is_some};
 ghost use Rattle.serde_json.specs.Find.{get};
 ghost use Rattle.serde_json.specs.View.{view};
-ghost use Rattle.league.specs.Limits.{max_teams, max_count};
+ghost use Rattle.league.specs.Limits.{max_teams};
 ghost use Rattle.league.specs.RuleMembers.{text_member, teams_member, set_or_all, count_member, one_side_member};
 ghost use Rattle.league.specs.RuleMembers.{any_side_member, each_member, games_member, weight_of};
 ghost use Rattle.advice.specs.Needs.{member_of, wanted_of, is_kind, number_member, are_in_order, is_met};

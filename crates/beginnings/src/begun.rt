@@ -2,7 +2,7 @@
 
 ghost use Rattle.std.specs.Prelude.{◌≡◌, ◌≢◌, ◌≤◌, Ok, Err, IfOk, IfErr, option_map};
 ghost use Rattle.std.specs.Str.Lines.{lines};
-ghost use Rattle.league.specs.League.{teams, IsLeague};
+ghost use Rattle.league.specs.League.{IsLeague};
 ghost use Rattle.league.specs.Limits.{max_weight};
 ghost use Rattle.beginnings.specs.Begun.{begun, kept_from, priced, started, started_at, started_at_text, Gives};
 

@@ -1,6 +1,6 @@
 //! The line of legs: those that run, and behind them those that wait.
 
-ghost use Rattle.std.specs.Prelude.{◌≡◌, ◌+◌, ◌<◌, ◌≤◌, ℕ, List, [], ◌∷◌, ◌++◌, length, IfOk, OnOk, IfNone, IfSome, true, false};
+ghost use Rattle.std.specs.Prelude.{◌≡◌, ◌+◌, ◌<◌, ◌≤◌, List, [], ◌∷◌, ◌++◌, length, IfOk, OnOk, IfNone, IfSome, true, false};
 ghost use Rattle.league.specs.League.{teams};
 ghost use Rattle.policy.specs.Limits.{most_effort};
 ghost use Rattle.search.specs.Draws.{AreRoundsOf};

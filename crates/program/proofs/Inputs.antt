@@ -12,7 +12,7 @@ use Rattle.command_line.specs.declared.job.Job.TheVariants.{Start, Play, Improve
 use Rattle.commands.specs.declared.fault.ProgramFault.{ProgramFault}
 use Rattle.commands.specs.declared.fault.ProgramFault.TheVariants.{Read, TooLong, League, LeagueAt, Begin, Row, NoSheet, Room, Workers, Spawn, Receipts, Write, Memory}
 use Rattle.commands.specs.Fault.{of_reading}
-use Rattle.commands.specs.Outcome.{EndsBy, EndsRead}
+use Rattle.commands.specs.Outcome.{EndsBy}
 use Rattle.program.specs.declared.jobs.Ending.{Ending}
 use Rattle.program.specs.Program.{EndsJob, EndsJobOn}
 

@@ -2,7 +2,7 @@
 
 ghost use Rattle.std.specs.Prelude.{◌≡◌};
 ghost use Rattle.schedule_tables.specs.Cells.{cells};
-ghost use Rattle.schedule_tables.specs.Head.{column_of, head_by, head_of, head_of_columns, head_of_line, without_order_mark};
+ghost use Rattle.schedule_tables.specs.Head.{column_of, head_by, head_of, without_order_mark};
 
 use crate::cells::{next_cell, unmarked};
 

@@ -1,4 +1,4 @@
-use Rattle.std.proofs.Common.{Err, ◌∙◌, ap}
+use Rattle.std.proofs.Common.{Err}
 use Rattle.commands.specs.Fault.{of_reading}
 use Rattle.program.proofs.Inputs.{unread}
 use Rattle.program.proofs.words.respond_on_input.Goals as goal
