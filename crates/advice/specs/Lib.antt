@@ -8,3 +8,4 @@ pub mod Rules
 pub mod Members
 pub mod Hints
 pub mod Remarks
+pub mod within

@@ -1,9 +1,7 @@
 -- What the classes of rules ask of a rule's members, as tests by the words that read them.
-use Rattle.std.specs.Prelude.{ℕ, ◌||◌, List, codes, Bool, true, false, nat_le, Option, Some, None, is_some, option_and_then}
+use Rattle.std.specs.Prelude.{ℕ, ◌||◌, List, codes, Bool, true, false, nat_le, Option, Some, None, is_some}
 use Rattle.std.specs.Str.{bytes_eq}
 use Rattle.serde_json.specs.Data.{Data}
-use Rattle.serde_json.specs.Find.{get}
-use Rattle.league.specs.Json.{number_within}
 use Rattle.league.specs.Limits.{round_count, max_weight, max_count}
 use Rattle.league.specs.RuleMembers.{text_member, teams_member, opponents_member, slots_member, count_member, window_member}
 use Rattle.league.specs.RuleMembers.{one_side_member, any_side_member, each_member, games_member, weight_of}
@@ -48,9 +46,6 @@ wanted_of n need.MaxFromMin = wanted.FromMin
 abbrev pub is_kind : Option (List ℕ) → Bool
 is_kind None = false
 is_kind (Some kind) = bytes_eq kind (codes "hard") || bytes_eq kind (codes "soft")
-
-abbrev pub number_member : List ℕ → ℕ → ℕ → Data → Option ℕ
-number_member name low high d = option_and_then (number_within low high) (get name d)
 
 -- a least and a most number, if both are there, are in order
 abbrev pub are_in_order : Option ℕ → Option ℕ → Bool

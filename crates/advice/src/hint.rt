@@ -1,7 +1,8 @@
 //! Where the first fault of a league's text lies, what is seen there, and what is wanted.
 
 ghost use Rattle.std.specs.Prelude.{◌≡◌, Some};
-ghost use Rattle.advice.specs.Lines.{hint_line, place_words, rule_member_name, seen_words, wanted_words};
+ghost use Rattle.advice.specs.Lines.{place_words, rule_member_name, seen_words, wanted_words};
+ghost use Rattle.advice.specs.within.Lines.{hint_line};
 
 use json_forms::{Form, Quote};
 use league::Field;

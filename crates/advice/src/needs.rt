@@ -6,7 +6,8 @@ ghost use Rattle.serde_json.specs.View.{view};
 ghost use Rattle.league.specs.Limits.{max_teams};
 ghost use Rattle.league.specs.RuleMembers.{text_member, teams_member, set_or_all, count_member, one_side_member};
 ghost use Rattle.league.specs.RuleMembers.{any_side_member, each_member, games_member, weight_of};
-ghost use Rattle.advice.specs.Needs.{member_of, wanted_of, is_kind, number_member, are_in_order, is_met};
+ghost use Rattle.advice.specs.Needs.{member_of, wanted_of, is_kind, are_in_order, is_met};
+ghost use Rattle.advice.specs.within.Needs.{number_member};
 
 use crate::forms::{is_game_array, is_number_set, number_within, text_member};
 use crate::hint::{RuleMember, Wanted};

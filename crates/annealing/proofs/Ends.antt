@@ -16,10 +16,11 @@ use Rattle.annealing.specs.declared.boards.Boards.{Boards}
 use Rattle.annealing.specs.declared.chain.Annealed.{Annealed}
 use Rattle.annealing.specs.declared.chain.Chain.{Chain}
 use Rattle.annealing.specs.declared.legs.Going.{Going}
-use Rattle.annealing.specs.Boards.{better, least_in, with_room, AreUnderWay}
-use Rattle.annealing.specs.Heats.{block_count, hottest_of}
+use Rattle.annealing.specs.within.Boards.{better, least_in, with_room, AreUnderWay}
+use Rattle.annealing.specs.Heats.{hottest_of}
+use Rattle.annealing.specs.within.Heats.{block_count}
 use Rattle.annealing.specs.Legs.{total_in, IsAnnealed, IsFrom, MayEnd}
-use Rattle.annealing.specs.Progress.{HasHeated, IsEndOf, IsGoing, IsWithin}
+use Rattle.annealing.specs.within.Progress.{HasHeated, IsEndOf, IsGoing, IsWithin}
 use Rattle.annealing.proofs.Rooms.{least_of_better, AreUnderWay-more, AreUnderWay-with_room, IsFrom-better, IsFrom-same}
 
 -- before the first block

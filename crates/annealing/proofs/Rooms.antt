@@ -7,7 +7,7 @@ use Rattle.fixture_board.specs.Laws.{as_number, least_of}
 use Rattle.fixture_board.specs.Record.{Book, book}
 use Rattle.fixture_board.proofs.Rewinding.{same_best_rewound}
 use Rattle.annealing.specs.declared.boards.Boards.{Boards}
-use Rattle.annealing.specs.Boards.{at_best, begun_anew, better, has_room_for, least_in, least_of_both, with_room, AreUnderWay}
+use Rattle.annealing.specs.within.Boards.{at_best, begun_anew, better, has_room_for, least_in, least_of_both, with_room, AreUnderWay}
 use Rattle.annealing.specs.Legs.{IsFrom}
 use Rattle.annealing.proofs.Histories.{GoesOn-rewound, GoesOn-same, GoesOn-take, GoesOn-then, GoesOn-wider}
 

@@ -17,9 +17,9 @@ use Rattle.fixture_board.proofs.ForCallers.{tells_of_trial, least_of_falls}
 use Rattle.annealing.specs.declared.blocks.Block.{Block}
 use Rattle.annealing.specs.declared.blocks.Tally.{Tally}
 use Rattle.annealing.specs.declared.thresholds.TheConstants.{QUANTILES}
-use Rattle.annealing.specs.Blocks.{Walked, start_at, trial_drawn, trial_from, walked, with_trial, IsTallied}
-use Rattle.annealing.specs.Boards.{least_in}
-use Rattle.annealing.specs.Heats.{threshold_of}
+use Rattle.annealing.specs.within.Blocks.{Walked, start_at, trial_drawn, trial_from, walked, with_trial, IsTallied}
+use Rattle.annealing.specs.within.Boards.{least_in}
+use Rattle.annealing.specs.within.Heats.{threshold_of}
 use Rattle.annealing.specs.Legs.{GoesOn, IsFrom}
 use Rattle.annealing.proofs.Histories.{GoesOn-more}
 use Rattle.annealing.proofs.Rooms.{IsFrom-same}

@@ -1,24 +1,12 @@
 -- The temperatures of a leg's blocks, and the thresholds that are drawn at them.
-use Rattle.std.specs.Prelude.{ℕ, ◌+◌, ◌-◌, ◌*◌, ◌/◌, ◌^◌, min, List, slice_index}
+use Rattle.std.specs.Prelude.{ℕ, ◌+◌, ◌-◌, ◌*◌, ◌/◌, min}
 use Rattle.policy.specs.declared.legs.Course.{Course}
 use Rattle.policy.specs.declared.legs.Course.TheVariants.{Cools, Heats}
 use Rattle.policy.specs.declared.legs.Leg.{Leg}
 
--- a leg's blocks are of a thousand steps each, but for the last one
-abbrev pub block_count : Leg → ℕ
-block_count leg = (leg.steps + 999) / 1000
-
 -- in thousandths of the unit: it rises in a line until half of the steps are taken, and then stays
 abbrev pub rising : ℕ → ℕ → ℕ → ℕ → ℕ
 rising steps from to block = from + min ((to - from) * 2 * 1000 * block / steps) (to - from)
-
--- of a block of a course with so many steps, in millionths of the unit
-abbrev pub heat_of : Course → ℕ → ℕ → ℕ → ℕ
-heat_of (Cools from to) steps blocks block = 1000 * from - 1000 * (from - to) * block / blocks
-heat_of (Heats from to) steps blocks block = 1000 * rising steps from to block
-
-abbrev pub heat_at : Leg → ℕ → ℕ
-heat_at leg block = heat_of leg.course leg.steps (block_count leg) block
 
 -- the highest of the blocks up to one, in thousandths of the unit
 abbrev pub highest_of : Course → ℕ → ℕ → ℕ
@@ -27,7 +15,3 @@ highest_of (Heats from to) steps block = rising steps from to block
 
 abbrev pub hottest_of : Leg → ℕ → ℕ
 hottest_of leg block = highest_of leg.course leg.steps block
-
--- the temperature times one of the 256 quantiles, the one that the word's first byte names
-abbrev pub threshold_of : List ℕ → ℕ → ℕ → ℕ
-threshold_of quantiles temperature word = temperature * slice_index quantiles (word / 2 ^ 24) / 2 ^ 26

@@ -4,8 +4,8 @@ ghost use Rattle.std.specs.Prelude.{◌≡◌, ◌^◌, ◌<◌, ◌≤◌, Cont
 ghost use Rattle.league.specs.League.{IsLeague};
 ghost use Rattle.moves.specs.Moves.{kind_of};
 ghost use Rattle.search.specs.Draws.{CanDraw, stream_of_generator};
-ghost use Rattle.annealing.specs.Blocks.{start_at, trial_drawn, walked, IsTallied};
-ghost use Rattle.annealing.specs.Boards.{least_in};
+ghost use Rattle.annealing.specs.within.Blocks.{start_at, trial_drawn, walked, IsTallied};
+ghost use Rattle.annealing.specs.within.Boards.{least_in};
 ghost use Rattle.annealing.specs.Legs.{IsFrom};
 
 use crate::thresholds::threshold;

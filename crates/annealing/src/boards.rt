@@ -1,7 +1,7 @@
 //! The boards of a leg: the one that it goes on with, and one that was set aside when its room was used up.
 
 ghost use Rattle.std.specs.Prelude.{◌≡◌, ◌^◌, ◌<◌, OnOk};
-ghost use Rattle.annealing.specs.Boards.{better, has_room_for, least_in, least_of_both, with_room};
+ghost use Rattle.annealing.specs.within.Boards.{better, has_room_for, least_in, least_of_both, with_room};
 
 use crate::blocks::BLOCK;
 use fixture_board::Board;

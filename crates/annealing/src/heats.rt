@@ -2,7 +2,8 @@
 
 ghost use Rattle.std.specs.Prelude.{◌≡◌, ◌^◌, ◌<◌, ◌≤◌};
 ghost use Rattle.policy.specs.Legs.{IsLeg};
-ghost use Rattle.annealing.specs.Heats.{block_count, heat_at, rising, hottest_of};
+ghost use Rattle.annealing.specs.Heats.{rising, hottest_of};
+ghost use Rattle.annealing.specs.within.Heats.{block_count, heat_at};
 
 use crate::blocks::BLOCK;
 use policy::{Course, Leg};

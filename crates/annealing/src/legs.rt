@@ -6,9 +6,9 @@ ghost use Rattle.fixture_board.specs.History.{best_of};
 ghost use Rattle.fixture_board.specs.Record.{Book};
 ghost use Rattle.policy.specs.Legs.{IsLeg, IsWeightCourse};
 ghost use Rattle.search.specs.Draws.{AreRoundsOf};
-ghost use Rattle.annealing.specs.Heats.{block_count};
+ghost use Rattle.annealing.specs.within.Heats.{block_count};
 ghost use Rattle.annealing.specs.Legs.{IsAnnealed, total_in};
-ghost use Rattle.annealing.specs.Progress.{HasHeated, IsEndOf, IsGoing, IsWithin};
+ghost use Rattle.annealing.specs.within.Progress.{HasHeated, IsEndOf, IsGoing, IsWithin};
 
 use crate::blocks::{BLOCK, Block, Tally, take_steps};
 use crate::boards::Boards;

@@ -2,7 +2,7 @@
 //! temperature times -ln(u), for a number u that is drawn from 0 to 1.
 
 ghost use Rattle.std.specs.Prelude.{◌≡◌, ◌^◌, ◌<◌};
-ghost use Rattle.annealing.specs.Heats.{threshold_of};
+ghost use Rattle.annealing.specs.within.Heats.{threshold_of};
 
 /// What -ln takes in 65536ths in the middle of each 256th from 0 to 1: round(65536 * -ln((i + 1/2) / 256)).
 static QUANTILES: [u32; 256] = [

@@ -12,7 +12,7 @@ pub struct Unit {
 
 impl Unit {
     ghost use Rattle.std.specs.Prelude.{◌≡◌, ◌^◌, ◌<◌, ◌≤◌};
-    ghost use Rattle.annealing.specs.Units.{temperature_in, weight_in};
+    ghost use Rattle.annealing.specs.within.Units.{temperature_in, weight_in};
 
     /// In 1024ths of a distance a temperature that is given in millionths of the unit.
     pub(crate) fn temperature(self, heat: u64) -> u64

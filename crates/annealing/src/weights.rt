@@ -2,7 +2,7 @@
 
 ghost use Rattle.std.specs.Prelude.{◌≡◌, ◌≤◌};
 ghost use Rattle.policy.specs.Legs.{IsWeightCourse};
-ghost use Rattle.annealing.specs.Weights.{weight_after};
+ghost use Rattle.annealing.specs.within.Weights.{weight_after};
 
 use crate::blocks::Tally;
 use policy::WeightCourse;

@@ -1,5 +1,5 @@
 -- The league that begins at a schedule of one's own, and keeps what is asked for.
-use Rattle.std.specs.Prelude.{◌≡◌, ◌≢◌, ℕ, zero, suc, ◌==◌, ◌&&◌, Bool, true, not, nat_lt, List, [], ◌∷◌, if◌then◌else◌}
+use Rattle.std.specs.Prelude.{ℕ, zero, suc, ◌==◌, ◌&&◌, Bool, true, not, nat_lt, List, [], ◌∷◌, if◌then◌else◌}
 use Rattle.std.specs.Prelude.{Option, Some, None, option_map, Result, Ok, Err}
 use Rattle.std.specs.Str.Lines.{lines}
 use Rattle.sets.specs.Limits.{max_rounds, round_count}
@@ -105,11 +105,6 @@ begun l b = kept_if b (started l (option_map (λ text. lines text.now) b.from))
 abbrev pub of_table : TableFault → BeginFault
 of_table (table.Row fault) = Row fault
 of_table table.Memory = Memory
-
--- what a call gives, if memory is there
-abbrev pub Gives : Result LeagueData BeginFault → Result LeagueData BeginFault → Type 0
-Gives (Ok l) wanted = wanted ≡ Ok l
-Gives (Err fault) wanted = fault ≢ Memory → wanted ≡ Err fault
 
 -- ---- what is wrong with a text
 

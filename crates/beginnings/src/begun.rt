@@ -4,7 +4,8 @@ ghost use Rattle.std.specs.Prelude.{◌≡◌, ◌≢◌, ◌≤◌, Ok, Err, If
 ghost use Rattle.std.specs.Str.Lines.{lines};
 ghost use Rattle.league.specs.League.{IsLeague};
 ghost use Rattle.league.specs.Limits.{max_weight};
-ghost use Rattle.beginnings.specs.Begun.{begun, kept_from, priced, started, started_at, started_at_text, Gives};
+ghost use Rattle.beginnings.specs.Begun.{begun, kept_from, priced, started, started_at, started_at_text};
+ghost use Rattle.beginnings.specs.within.Begun.{Gives};
 
 use crate::fault::BeginFault;
 use crate::kept::{are_pairs, keep_games, keep_rounds, lacks_round};

@@ -5,7 +5,7 @@ ghost use Rattle.std.specs.Prelude.{◌≡◌, ◌≤◌};
 ghost use Rattle.costs.specs.Evaluators.{IsEvaluatorAt};
 ghost use Rattle.league.specs.League.{teams};
 ghost use Rattle.league.specs.Limits.{max_teams};
-ghost use Rattle.search.specs.Steps.{IsKnown};
+ghost use Rattle.search.specs.within.Steps.{IsKnown};
 
 use crate::kind::Kind;
 use crate::plan::Plan;

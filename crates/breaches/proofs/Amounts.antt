@@ -14,7 +14,7 @@ use Rattle.robinx.specs.Deviations.{over, is_break, games_of_team, games_in_wind
 use Rattle.breaches.specs.declared.breach.Place.TheVariants.{GamesOf, Round, Together}
 use Rattle.breaches.specs.Breaches.{window_at}
 use Rattle.breaches.specs.Cells.{names_cell}
-use Rattle.breaches.specs.Terms.{amount, is_of_rule, named_at, place_at}
+use Rattle.breaches.specs.within.Terms.{amount, is_of_rule, named_at, place_at}
 
 same_team : (team : ℕ) → (team == team) ≡ true
 same_team team = eq-eqb team team refl

@@ -13,7 +13,10 @@ use Rattle.fixtures.specs.Games.{Games}
 use Rattle.breaches.specs.declared.breach.Breach.{Breach}
 use Rattle.breaches.specs.Breaches.{breaches_below, breaches_of}
 use Rattle.breaches.specs.BreachText.{breach_line, lines_of}
-use Rattle.breaches.specs.Terms.{breaches_in_rows}
+use Rattle.breaches.specs.within.Terms.{row_count, breaches_in_row}
+
+abbrev pub breaches_in_rows : Games → RuleBody → List Breach
+breaches_in_rows g body = breaches_below (row_count g body) (breaches_in_row g body)
 
 pub in_rows : (g : Games) (body : RuleBody) → breaches_of g body ≡ breaches_in_rows g body
 unfolding breaches_of

@@ -1,4 +1,4 @@
 pub mod Breaches
 pub mod Cells
 pub mod BreachText
-pub mod Terms
+pub mod within

@@ -9,7 +9,7 @@ ghost use Rattle.league.specs.Sets.{has};
 ghost use Rattle.league.specs.Sums.{sum_below};
 ghost use Rattle.fixtures.specs.Games.{round_count};
 ghost use Rattle.robinx.specs.Deviations.{over, listed_games_in};
-ghost use Rattle.breaches.specs.Terms.{named_at, named_in_round, named_of_team, IsPlaceFor};
+ghost use Rattle.breaches.specs.within.Terms.{named_at, named_in_round, named_of_team, IsPlaceFor};
 
 use crate::breach::Place;
 use crate::cells::names_cell;

@@ -5,7 +5,7 @@ ghost use Rattle.league.specs.Limits.{max_teams};
 ghost use Rattle.league.specs.RuleLimits.{IsBodyFor};
 ghost use Rattle.streams.specs.Writing.{Writes};
 ghost use Rattle.breaches.specs.BreachText.{breach_head, breach_line, breaches_text, by_text, colon_text, lines_of, place_text, side_word};
-ghost use Rattle.breaches.specs.Terms.{breach_in, breaches_in_row, column_count, row_count, IsPlaceFor};
+ghost use Rattle.breaches.specs.within.Terms.{breach_in, breaches_in_row, column_count, row_count, IsPlaceFor};
 
 use crate::breach::{Breach, Place};
 use crate::made_of::write_made_of;

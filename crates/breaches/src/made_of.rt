@@ -11,7 +11,7 @@ ghost use Rattle.streams.specs.Pieces.{pieces_below};
 ghost use Rattle.streams.specs.Writing.{Writes};
 ghost use Rattle.breaches.specs.BreachText.{at_round, column_named, game_of, listed_at, listed_game, listed_text};
 ghost use Rattle.breaches.specs.BreachText.{made_of, meetings_text, named_cell, next_round, row_named};
-ghost use Rattle.breaches.specs.Terms.{IsPlaceFor};
+ghost use Rattle.breaches.specs.within.Terms.{IsPlaceFor};
 
 use crate::breach::Place;
 use crate::cells::names_cell;

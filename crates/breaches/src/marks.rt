@@ -6,7 +6,7 @@ ghost use Rattle.league.specs.Limits.{max_teams};
 ghost use Rattle.league.specs.RuleLimits.{IsBodyFor};
 ghost use Rattle.fixtures.specs.Games.{round_count};
 ghost use Rattle.breaches.specs.Cells.{is_marked, names};
-ghost use Rattle.breaches.specs.Terms.{breach_in, breaches_in_row, column_count, row_count};
+ghost use Rattle.breaches.specs.within.Terms.{breach_in, breaches_in_row, column_count, row_count};
 
 use crate::cells::names_cell;
 use crate::places::{column_count, place_at, row_count};

@@ -4,7 +4,7 @@ ghost use Rattle.std.specs.Prelude.{◌≡◌, ℕ, ◌+◌, ◌-◌, ◌<◌, �
 ghost use Rattle.league.specs.Limits.{max_teams};
 ghost use Rattle.league.specs.RuleLimits.{IsBodyFor};
 ghost use Rattle.fixtures.specs.Games.{round_count};
-ghost use Rattle.breaches.specs.Terms.{column_count, place_at, row_count, IsPlaceFor};
+ghost use Rattle.breaches.specs.within.Terms.{column_count, place_at, row_count, IsPlaceFor};
 ghost use Rattle.breaches.specs.declared.breach.Place.TheVariants.{GamesOver, GamesUnder};
 
 use crate::breach::Place;

@@ -4,7 +4,7 @@ ghost use Rattle.std.specs.Prelude.{◌≡◌, ◌<◌, ◌≤◌, true};
 ghost use Rattle.league.specs.Limits.{max_teams};
 ghost use Rattle.league.specs.RuleLimits.{IsBodyFor};
 ghost use Rattle.robinx.specs.Deviations.{over};
-ghost use Rattle.breaches.specs.Terms.{amount, column_count, is_of_rule, named_at, place_at, row_count, term};
+ghost use Rattle.breaches.specs.within.Terms.{amount, column_count, is_of_rule, named_at, place_at, row_count, term};
 
 use crate::counts::{count_at, count_listed, over};
 use crate::fairness::{rounds_between, worst_gap};

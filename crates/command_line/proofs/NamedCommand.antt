@@ -21,7 +21,8 @@ use Rattle.clap.specs.Walk.{walked_from, word_met}
 use Rattle.clap.specs.Walk.{done, waits, plain, refused, idle, option, positional, next, trailing, subcommand, value}
 use Rattle.clap.specs.declared.error.kind.ErrorKind.TheVariants.{DisplayHelp, InvalidSubcommand}
 use Rattle.clap.proofs.OnLiterals.{clap_on_literals}
-use Rattle.command_line.specs.CommandLine.{CommandForm, HasValues, NamesACommand, NamesOneOf, OptionForm}
+use Rattle.command_line.specs.CommandLine.{CommandForm, OptionForm}
+use Rattle.command_line.specs.within.CommandLine.{HasValues, NamesACommand, NamesOneOf}
 use Rattle.command_line.specs.CommandLine.{app_of_command, commands, improve_command, league_word, play_command, program}
 use Rattle.command_line.specs.CommandLine.{report_command, search_command, second_word, start_command, start_rules}
 use Rattle.command_line.proofs.Options.{AreSound, AreSoundRules, IsFree, both_pass, both_sound, help, no_kind, option_rule, options_sound}

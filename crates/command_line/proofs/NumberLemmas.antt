@@ -11,7 +11,8 @@ use Rattle.clap.specs.declared.builder.value_parser.ValueParser.{ValueParser}
 use Rattle.clap.specs.declared.builder.value_parser.ValueParser.TheVariants.{Unsigned}
 use Rattle.clap.proofs.ValueTestLemmas.{accepts-Accepts}
 use Rattle.clap.proofs.WalkLemmas.{one_text-rows}
-use Rattle.command_line.specs.CommandLine.{HasValue, form_of, number_in}
+use Rattle.command_line.specs.CommandLine.{number_in}
+use Rattle.command_line.specs.within.CommandLine.{HasValue, form_of}
 use Rattle.command_line.specs.declared.number_args.NumberArg.{NumberArg}
 
 -- how `u64` reads a text

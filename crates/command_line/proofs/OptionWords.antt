@@ -21,7 +21,8 @@ use Rattle.clap.specs.Walk.{flag_met, is_pending, reacted, takes_several, takes_
 use Rattle.clap.specs.Walk.{done, waits, plain, refused, idle, option, positional, next, trailing, subcommand, value}
 use Rattle.clap.specs.declared.error.kind.ErrorKind.TheVariants.{InvalidSubcommand, TooManyValues, UnknownArgument}
 use Rattle.clap.specs.declared.parser.matches.ValueSource.TheVariants.{CommandLine}
-use Rattle.command_line.specs.CommandLine.{HasValues, OptionForm}
+use Rattle.command_line.specs.CommandLine.{OptionForm}
+use Rattle.command_line.specs.within.CommandLine.{HasValues}
 use Rattle.command_line.proofs.Options.{AreSound, AreSoundRules, IsFine as IsFineFor, IsSound, IsSoundRule, all_given, both_pass, free_fine}
 use Rattle.command_line.proofs.Options.{help, no_kind, none_yet, option_rule, row_added, without-none}
 

@@ -19,7 +19,8 @@ use Rattle.clap.specs.declared.error.kind.ErrorKind.{ErrorKind}
 use Rattle.clap.specs.declared.error.kind.ErrorKind.TheVariants.{ArgumentConflict}
 use Rattle.clap.specs.declared.parser.matches.ValueSource.{ValueSource}
 use Rattle.clap.specs.declared.parser.matches.ValueSource.TheVariants.{CommandLine, DefaultValue}
-use Rattle.command_line.specs.CommandLine.{HasValue, HasValues, OptionForm, rule_of}
+use Rattle.command_line.specs.CommandLine.{OptionForm, rule_of}
+use Rattle.command_line.specs.within.CommandLine.{HasValue, HasValues}
 
 pub no_kind : (k : ErrorKind) (ks : Kinds) → k ∷ ks ≡ [] → ⊥
 no_kind k ks e = cc

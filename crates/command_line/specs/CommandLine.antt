@@ -1,6 +1,7 @@
 -- The program's command line, as clap reads it: commands, each with words and options.
-use Rattle.std.specs.Prelude.{◌≡◌, ◌≤◌, ◌^◌, ◌-◌, ◌*◌, ℕ, Some, None, Option, List, [], ◌∷◌, ◌++◌, ◌&&◌, ◌||◌, Bool, codes, true, false, map, fold}
-use Rattle.std.specs.Prelude.{◌⊎◌, IfSome, if◌then◌else◌, is_some, not, option_and_then, option_map}
+use Rattle.std.specs.Prelude.{◌≤◌, ◌^◌, ◌-◌, ◌*◌, ℕ, Some, None, Option, List, [], ◌∷◌, ◌++◌, ◌&&◌, ◌||◌, Bool, codes, true, false, map}
+use Rattle.std.specs.Prelude.{fold}
+use Rattle.std.specs.Prelude.{IfSome, if◌then◌else◌, is_some, option_and_then, option_map}
 use Rattle.std.specs.Option.{option_map_or}
 use Rattle.std.specs.Str.{bytes_eq}
 use Rattle.std.specs.Str.Parse.{digits_value, without_leading_plus}
@@ -8,7 +9,6 @@ use Rattle.clap.specs.Words.{App, Rule, Row, Text, new_app, new_rule, with_rule,
 use Rattle.clap.specs.Words.{Kinds, fault_of, first_of, one_of, subcommand_of}
 use Rattle.clap.specs.Kinds.{or_else}
 use Rattle.clap.specs.Simple.{on_top}
-use Rattle.clap.specs.ValueTests.{accepts}
 use Rattle.clap.specs.declared.builder.value_parser.ValueParser.{ValueParser}
 use Rattle.clap.specs.declared.builder.value_parser.ValueParser.TheVariants as parsers
 use Rattle.clap.specs.declared.error.kind.ErrorKind.TheVariants.{InvalidValue}
@@ -17,7 +17,6 @@ use Rattle.command_line.specs.Beginnings.{Beginning, beginning_in}
 use Rattle.command_line.specs.Files.{Files, files_of_command}
 use Rattle.command_line.specs.declared.job.Job.{Job}
 use Rattle.command_line.specs.declared.job.Job.TheVariants.{Start, Play, Improve, Find, Report}
-use Rattle.command_line.specs.declared.number_args.NumberArg.{NumberArg}
 use Rattle.fixture_board.specs.History.{max_room}
 use Rattle.report_formats.specs.declared.csv_form.Separator.{Separator}
 use Rattle.report_formats.specs.declared.csv_form.Separator.TheVariants.{Comma, Semicolon, Tab}
@@ -127,10 +126,6 @@ report_rules = from_option ∷ near_option ∷ text_option (codes "separator") �
 -- the options of a start
 abbrev pub start_rules : List Rule
 start_rules = from_option ∷ text_option (codes "keep") ∷ repeated (text_option (codes "keep-game")) ∷ near_option ∷ []
-
--- an option as the program has it
-abbrev pub form_of : NumberArg → OptionForm
-form_of o = number_option o.name.now o.least o.most (option_map (λ text. text.now) o.default)
 
 abbrev pub start_command : CommandForm
 start_command = record { name = codes "start"; words = league_word ∷ []; options = []; free = from_option ∷ [] }
@@ -322,21 +317,3 @@ IsInRange (Play room) = room ≤ max_room
 IsInRange (Improve workers seed effort seconds) = IsImproveInRange workers effort seconds
 IsInRange (Find room plan) = (room ≤ max_room) × IsPlanInRange plan
 IsInRange (Report format) = Unit {0}
-
--- clap takes the option's text, which is there if it has a default
-abbrev pub HasValue : List Row → OptionForm → Type 0
-HasValue rows o = option_map_or (accepts false o.parser) (one_of o.name rows) (not (is_some o.default)) ≡ true
-
-abbrev pub HasValues : List Row → List OptionForm → Type 0
-HasValues rows [] = Unit {0}
-HasValues rows (o ∷ os) = HasValue rows o × HasValues rows os
-
--- what a parse that succeeds gives: a command of the program, with a value for each of its options that has a default
-abbrev pub NamesOneOf : List CommandForm → Text × List Row → Type 0
-NamesOneOf [] found = ⊥
-NamesOneOf (c ∷ cs) found =
-    ((found.0 ≡ c.name) × HasValues found.1 c.options) ⊎ NamesOneOf cs found
-
-abbrev pub NamesACommand : Option (Text × List Row) → Type 0
-NamesACommand None = ⊥
-NamesACommand (Some found) = NamesOneOf commands found

@@ -1,6 +1,5 @@
 -- The files that the words of a command name. A word `-` stands for standard input.
 use Rattle.std.specs.Prelude.{Bool, false, ◌&&◌, ◌||◌, not, List, Option, Some, None, codes, if◌then◌else◌, is_some, option_map, string_bytes}
-use Rattle.std.specs.Borrow.{Bor}
 use Rattle.std.specs.Option.{option_map_or}
 use Rattle.std.specs.Str.{bytes_eq}
 use Rattle.clap.specs.Words.{Row, Text, first_of}
@@ -23,10 +22,6 @@ files_of f = record {
   output = option_map string_bytes f.output;
   log = option_map string_bytes f.log;
 }
-
--- the text of a word that was given
-abbrev pub written : Option (Bor Text) → Option Text
-written = option_map (λ word. word.now)
 
 -- the files that were given
 abbrev pub files_in : List Row → Files

@@ -1,3 +1,4 @@
 pub mod Files
 pub mod Beginnings
 pub mod CommandLine
+pub mod within

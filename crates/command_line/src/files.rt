@@ -2,7 +2,8 @@
 
 ghost use Rattle.std.specs.Prelude.{◌≡◌, IfOk, None, option_map, string_bytes};
 ghost use Rattle.clap.specs.Words.{found_of, rows_of};
-ghost use Rattle.command_line.specs.Files.{files_in, files_of, has_second, is_input, is_same, miswrites, reads_input, reads_twice, written};
+ghost use Rattle.command_line.specs.Files.{files_in, files_of, has_second, is_input, is_same, miswrites, reads_input, reads_twice};
+ghost use Rattle.command_line.specs.within.Files.{written};
 
 use clap::ArgMatches;
 use std::alloc::{AllocError, Global};

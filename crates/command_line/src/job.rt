@@ -8,7 +8,8 @@ ghost use Rattle.command_line.specs.CommandLine.{beginning_of_words, files_of_wo
 ghost use Rattle.command_line.specs.CommandLine.{improve_options, plan_options, rule_of};
 ghost use Rattle.command_line.specs.CommandLine.{plan_in, program, program_of, search_command, start_command, words_fault};
 ghost use Rattle.command_line.specs.Files.{files_of};
-ghost use Rattle.command_line.specs.CommandLine.{number_in, seconds_option, HasValue, HasValues, IsInRange, IsPlanInRange, NamesACommand};
+ghost use Rattle.command_line.specs.CommandLine.{number_in, seconds_option, IsInRange, IsPlanInRange};
+ghost use Rattle.command_line.specs.within.CommandLine.{HasValue, HasValues, NamesACommand};
 
 use crate::help::{
     IMPROVE_ABOUT, IMPROVE_EXAMPLE, PLAY_ABOUT, PLAY_LINES, PROGRAM_ABOUT, PROGRAM_EXAMPLE,

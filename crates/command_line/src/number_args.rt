@@ -2,7 +2,8 @@
 
 ghost use Rattle.std.specs.Prelude.{◌≡◌, ◌≤◌, IfSome, Some, false, is_some, true};
 ghost use Rattle.clap.specs.Words.{found_of, rows_of, rule_of as rule_of_arg};
-ghost use Rattle.command_line.specs.CommandLine.{HasValue, form_of, number_in, rule_of};
+ghost use Rattle.command_line.specs.CommandLine.{number_in, rule_of};
+ghost use Rattle.command_line.specs.within.CommandLine.{HasValue, form_of};
 
 use crate::help::{
     EFFORT_HELP, ROOM_HELP, SECONDS_HELP, SEED_HELP, SLACK_HELP, STEPS_HELP, WORKERS_HELP,

@@ -5,7 +5,7 @@ ghost use Rattle.std.specs.Prelude.{◌≡◌, IfOk, codes, false, fold};
 ghost use Rattle.clap.specs.Words.{app_of, found_of, rows_of, rule_of as rule_of_arg, with_rule};
 ghost use Rattle.command_line.specs.CommandLine.{app_of_command, flag, format_in, format_named, format_option, is_flagged, report_command, report_rules, rule_of};
 ghost use Rattle.command_line.specs.CommandLine.{separator_named, separator_of};
-ghost use Rattle.command_line.specs.Files.{written};
+ghost use Rattle.command_line.specs.within.Files.{written};
 
 use crate::help::{BOM_HELP, FORMAT_HELP, REPORT_ABOUT, REPORT_LINES};
 use crate::text_args::{FROM, LEAGUE, NEAR, SCHEDULE, SEPARATOR};

@@ -3,7 +3,8 @@
 ghost use Rattle.std.specs.Prelude.{◌≡◌, ◌⊎◌, ◌&&◌, None, Some, IfErr, IfOk, false, is_some, option_and_then};
 ghost use Rattle.clap.specs.Words.{found_of, rows_of, subcommand_rows_of};
 ghost use Rattle.command_line.specs.Beginnings.{beginning_in, beginning_of};
-ghost use Rattle.command_line.specs.CommandLine.{IsInRange, NamesACommand, asks_for_all, beginning_of_command, job_of_command};
+ghost use Rattle.command_line.specs.CommandLine.{IsInRange, asks_for_all, beginning_of_command, job_of_command};
+ghost use Rattle.command_line.specs.within.CommandLine.{NamesACommand};
 ghost use Rattle.command_line.specs.Files.{files_of, files_of_command};
 
 use crate::beginning::{BeginningWords, games_in, near_in, rounds_in};

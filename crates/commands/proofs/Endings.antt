@@ -20,7 +20,8 @@ use Rattle.texts.proofs.ForCallers.{played_again, plays_back}
 use Rattle.commands.specs.declared.search_end.SearchEnd.{SearchEnd}
 use Rattle.commands.specs.Begun.{Begins}
 use Rattle.commands.specs.Outcome.{value_of, without_value, Answer, EndsOn}
-use Rattle.commands.specs.Fault.{of_run, of_writing}
+use Rattle.commands.specs.Fault.{of_run}
+use Rattle.commands.specs.within.Fault.{of_writing}
 use Rattle.commands.specs.Find.{AnswersFindOn, search_text}
 use Rattle.commands.specs.Play.{AnswersPlayOn}
 use Rattle.commands.specs.SearchEnd.{end_of}

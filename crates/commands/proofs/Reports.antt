@@ -17,7 +17,8 @@ use Rattle.schedule_texts.specs.Given.{IsVerdict}
 use Rattle.report_formats.specs.declared.format.Format.{Format}
 use Rattle.report_formats.specs.Format.{report_in}
 use Rattle.commands.specs.declared.verdict.Verdict.{Verdict}
-use Rattle.commands.specs.Fault.{of_table, of_writing}
+use Rattle.commands.specs.Fault.{of_table}
+use Rattle.commands.specs.within.Fault.{of_writing}
 use Rattle.commands.specs.Outcome.{value_of, without_value, EndsOn}
 use Rattle.commands.specs.Report.{AnswersReportOn, IsToldOf}
 use Rattle.commands.specs.Begun.{Begins}

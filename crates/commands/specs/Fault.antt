@@ -1,8 +1,4 @@
 -- The faults of the layers below, as faults of the program.
-use Rattle.std.specs.Prelude.{Result, Ok, Err}
-use Rattle.streams.specs.declared.reading.ReadFault.{ReadFault}
-use Rattle.streams.specs.declared.reading.ReadFault.TheVariants as read
-use Rattle.streams.specs.declared.writing.WriteFault.{WriteFault}
 use Rattle.league.specs.declared.fault.LeagueFault.{LeagueFault}
 use Rattle.league.specs.declared.fault.LeagueFault.TheVariants as league
 use Rattle.beginnings.specs.declared.fault.BeginFault.{BeginFault}
@@ -16,12 +12,7 @@ use Rattle.search.specs.declared.runs.RunFault.TheVariants as run
 use Rattle.improvement.specs.declared.plan.ImproveFault.{ImproveFault}
 use Rattle.improvement.specs.declared.plan.ImproveFault.TheVariants as improve
 use Rattle.commands.specs.declared.fault.ProgramFault.{ProgramFault}
-use Rattle.commands.specs.declared.fault.ProgramFault.TheVariants.{Read, TooLong, League, Begin, Row, Room, Workers, Spawn, Receipts, Write, Memory}
-
-abbrev pub of_reading : ReadFault → ProgramFault
-of_reading read.Read = Read
-of_reading read.TooLong = TooLong
-of_reading read.Memory = Memory
+use Rattle.commands.specs.declared.fault.ProgramFault.TheVariants.{League, Begin, Row, Room, Workers, Spawn, Receipts, Write, Memory}
 
 -- want of memory is the program's, and every other fault the league's
 abbrev pub of_league : LeagueFault → ProgramFault
@@ -50,8 +41,3 @@ abbrev pub of_improve : ImproveFault → ProgramFault
 of_improve improve.Workers = Workers
 of_improve improve.Memory = Memory
 of_improve improve.Write = Write
-
--- the value of a command whose text was to be written, unless a write failed
-abbrev pub of_writing : {T : Type 0} → Result Unit WriteFault → T → Result T ProgramFault
-of_writing (Ok done) value = Ok value
-of_writing (Err fault) value = Err Write

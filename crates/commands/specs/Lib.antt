@@ -8,5 +8,5 @@ pub mod Start
 pub mod Play
 pub mod Find
 pub mod Improve
-pub mod Progress
 pub mod Report
+pub mod within

@@ -2,7 +2,8 @@
 
 ghost use Rattle.std.specs.Prelude.{◌≡◌};
 ghost use Rattle.commands.specs.declared.fault.ProgramFault.TheVariants.{Write, Memory};
-ghost use Rattle.commands.specs.Fault.{of_beginning, of_board, of_improve, of_league, of_reading, of_run, of_table, of_writing};
+ghost use Rattle.commands.specs.Fault.{of_beginning, of_board, of_improve, of_league, of_run, of_table};
+ghost use Rattle.commands.specs.within.Fault.{of_reading, of_writing};
 
 use advice::Hint;
 use beginnings::BeginFault;

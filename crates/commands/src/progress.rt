@@ -4,8 +4,8 @@ ghost use Rattle.std.specs.Prelude.{◌≡◌, OnOk, OnErr, Some, true, false};
 ghost use Rattle.std.specs.Io.KnownBytes.{Appends};
 ghost use Rattle.streams.specs.Sending.{AppendsPrefix};
 ghost use Rattle.texts.specs.ProgressText.{clear_line, progress_line};
-ghost use Rattle.commands.specs.Progress.{advance_of, first, is_due, last_after, pause_after, reached_with, seconds_left, seconds_of};
-ghost use Rattle.commands.specs.Progress.{steps_within};
+ghost use Rattle.commands.specs.within.Progress.{advance_of, first, is_due, last_after, pause_after, reached_with, seconds_left};
+ghost use Rattle.commands.specs.within.Progress.{seconds_of, steps_within};
 
 use search::{Gate, Progress, SearchPlan};
 use std::sync::atomic::{AtomicU32, Ordering};

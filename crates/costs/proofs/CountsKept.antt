@@ -10,7 +10,8 @@ use Rattle.std.proofs.lemmas.Option.{get_or_from_slice_get}
 use Rattle.league.specs.League.{LeagueData, teams, IsLeague}
 use Rattle.league.specs.Limits.{max_rules}
 use Rattle.league.specs.RuleLimits.{IsBodyFor}
-use Rattle.league.specs.Sets.{has, IsWithoutLowest}
+use Rattle.league.specs.Sets.{has}
+use Rattle.league.specs.within.Sets.{IsWithoutLowest}
 use Rattle.league.specs.declared.rule.Rule.{Rule}
 use Rattle.league.proofs.ForCallers.{has_empty, lowest_gone, others_kept}
 use Rattle.fixtures.specs.Exchanges.{exchanged_by}
@@ -18,8 +19,8 @@ use Rattle.fixtures.specs.Games.{Games}
 use Rattle.robinx.specs.Deviations.{deviation}
 use Rattle.robinx.specs.Parts.{deviation_part}
 use Rattle.rule_index.proofs.ForCallers.{nothing_else_altered}
-use Rattle.costs.specs.CostParts.{IsScope, KnowsRules}
-use Rattle.costs.specs.CountsKept.{AreCounts, AreRests, IsKeptOf}
+use Rattle.costs.specs.within.CostParts.{IsScope, KnowsRules}
+use Rattle.costs.specs.within.CountsKept.{AreCounts, AreRests, IsKeptOf}
 use Rattle.costs.specs.Evaluators.{if_known, AreDeviations}
 use Rattle.costs.specs.declared.counts.Counts.{Counts}
 use Rattle.costs.specs.declared.scope.Scope.{Scope}

@@ -22,7 +22,7 @@ use Rattle.robinx.specs.declared.fairness_rules.Fairness.{Fairness}
 use Rattle.rule_index.specs.Alterable.{passes_at}
 use Rattle.costs.specs.Costs.{cost_of, hard_penalty, soft_penalty, score_by}
 use Rattle.costs.specs.Evaluators.{is_fairness, last_fairness}
-use Rattle.costs.specs.CostParts.{fairness_part, rule_part, rules_part, score_part, scored_part, score_weight, IsRest, KnowsRules}
+use Rattle.costs.specs.within.CostParts.{fairness_part, rule_part, rules_part, score_part, scored_part, score_weight, IsRest, KnowsRules}
 use Rattle.costs.specs.declared.cost.Cost.{Cost}
 use Rattle.costs.specs.declared.scope.Scope.{Scope}
 

@@ -2,19 +2,20 @@
 use Rattle.std.proofs.Common.{◌≡◌, ℕ, ◌+◌, ◌*◌, ◌^◌, ◌<◌, ◌≤◌, length, slice_get, Some, sym, ap, ◌∙◌, arith}
 use Rattle.std.proofs.Math.Nat.{mul-le-mul_left}
 use Rattle.league.specs.League.{LeagueData, teams, IsLeague}
-use Rattle.league.specs.Sets.{has, IsBelow, IsWithoutLowest}
+use Rattle.league.specs.Sets.{has, IsBelow}
+use Rattle.league.specs.within.Sets.{IsWithoutLowest}
 use Rattle.league.specs.Sums.{sum_where}
 use Rattle.league.specs.declared.rule.Rule.{Rule}
 use Rattle.league.proofs.ForCallers.{has_empty, lowest_below, sum_where_none, sum_where_without}
 use Rattle.fixtures.specs.Games.{Games, IsDoubleRoundRobin}
 use Rattle.tours.specs.Phased.{unphased_part}
 use Rattle.costs.specs.Costs.{cost_of, hard_penalty, soft_penalty, where_phased, score_by, score_limit}
-use Rattle.costs.specs.CostParts.{rule_part, penalties_part, with_penalties, IsRest, IsSmall, KnowsRules}
+use Rattle.costs.specs.within.CostParts.{rule_part, penalties_part, with_penalties, IsRest, KnowsRules}
+use Rattle.costs.proofs.Scores.{IsSmall, cost_small, score_fits}
 use Rattle.costs.specs.declared.cost.Cost.{Cost}
 use Rattle.costs.specs.declared.scope.Scope.{Scope}
 use Rattle.costs.proofs.PartLimits.{hard_nothing, soft_nothing}
 use Rattle.costs.proofs.Parts.{same_cost}
-use Rattle.costs.proofs.Scores.{cost_small, score_fits}
 use Rattle.costs.proofs.Walked.{walked}
 
 -- the rest with the halves and the rules of the walk but for those that are left

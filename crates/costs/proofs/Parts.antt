@@ -30,8 +30,7 @@ use Rattle.robinx.specs.Parts.{deviation_part}
 use Rattle.robinx.proofs.ForCallers.{deviation_balance}
 use Rattle.costs.specs.Costs.{hard_penalty, soft_penalty, penalty_of, sum_over_rules, where_phased, cost_of, score_by, score_of}
 use Rattle.costs.specs.Costs.{near_cost, score_limit, IsCostWithin}
-use Rattle.costs.specs.CostParts.{games_cost, rule_part, rules_part, penalties_part}
-use Rattle.costs.specs.CostParts.{with_penalties, IsRest, IsScope, IsTold}
+use Rattle.costs.specs.within.CostParts.{games_cost, rule_part, rules_part, penalties_part, with_penalties, IsRest, IsScope, IsTold}
 use Rattle.costs.specs.declared.scope.Scope.{Scope}
 use Rattle.costs.specs.declared.cost.Cost.{Cost}
 use Rattle.costs.specs.declared.penalties.Penalties.{Penalties}

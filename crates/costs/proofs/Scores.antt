@@ -24,9 +24,15 @@ use Rattle.robinx.specs.Deviations.{deviation}
 use Rattle.costs.specs.Costs.{hard_penalty, soft_penalty, penalty_of, sum_over_rules, where_phased, cost_of, score_by, score_of}
 use Rattle.costs.specs.Costs.{near_cost, score_limit}
 use Rattle.tours.specs.Moved.{is_moved, moved_from}
-use Rattle.costs.specs.CostParts.{IsSmall}
+use Rattle.costs.specs.declared.cost.Cost.{Cost}
 use Rattle.league.specs.Starts.{start_round}
 use Rattle.robinx.proofs.ForCallers.{deviation_below}
+
+-- each of the costs is below the limit of scores
+pub record IsSmall (cost : Cost) : Type 0 where
+  pub travel : cost.travel < score_limit
+  pub hard : cost.hard < score_limit
+  pub soft : cost.soft < score_limit
 
 pub exchanged-teams : (g : Games) (exchange : Exchange) → (exchanged_by g exchange).teams ≡ g.teams
 exchanged-teams g (edit.Rounds k l among) = refl

@@ -12,7 +12,7 @@ use Rattle.fixtures.specs.declared.exchanges.Exchange.{Exchange}
 use Rattle.fixtures.specs.declared.exchanges.Exchange.TheVariants as edit
 use Rattle.fixtures.specs.Exchanges.{main_cells, turning_team}
 use Rattle.rule_index.proofs.ForCallers.{nothing_else_altered}
-use Rattle.costs.specs.CostParts.{rule_part, rules_part, KnowsRules}
+use Rattle.costs.specs.within.CostParts.{rule_part, rules_part, KnowsRules}
 use Rattle.costs.specs.declared.scope.Scope.{Scope}
 use Rattle.costs.proofs.Parts.{rule_for}
 

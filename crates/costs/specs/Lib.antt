@@ -1,4 +1,3 @@
 pub mod Costs
 pub mod Evaluators
-pub mod CostParts
-pub mod CountsKept
+pub mod within

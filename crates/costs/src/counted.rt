@@ -8,8 +8,8 @@ ghost use Rattle.league.specs.Sets.{has};
 ghost use Rattle.tours.specs.Phased.{unphased_part};
 ghost use Rattle.fixtures.specs.Exchanges.{exchanged_by};
 ghost use Rattle.costs.specs.Costs.{cost_of, score_by, where_phased, IsCostWithin};
-ghost use Rattle.costs.specs.CostParts.{IsRest, IsScope, IsTold, KnowsRules};
-ghost use Rattle.costs.specs.CountsKept.{AreCounts, AreRests, IsKeptOf};
+ghost use Rattle.costs.specs.within.CostParts.{IsRest, IsScope, IsTold, KnowsRules};
+ghost use Rattle.costs.specs.within.CountsKept.{AreCounts, AreRests, IsKeptOf};
 
 use crate::cost::Cost;
 use crate::counts::Counts;

@@ -30,7 +30,7 @@ impl Counts {
     ghost use Rattle.league.specs.Sets.{has, IsBelow};
     ghost use Rattle.robinx.specs.Deviations.{deviation};
     ghost use Rattle.robinx.specs.Parts.{deviation_part};
-    ghost use Rattle.costs.specs.CountsKept.{AreCounts, IsKeptOf};
+    ghost use Rattle.costs.specs.within.CountsKept.{AreCounts, IsKeptOf};
 
     /// Nothing counted yet.
     pub(crate) fn new() -> Counts

@@ -3,7 +3,7 @@
 ghost use Rattle.std.specs.Prelude.{◌≡◌, ◌≤◌, nat_le};
 ghost use Rattle.league.specs.League.{teams};
 ghost use Rattle.fixtures.specs.Exchanges.{exchanged_by};
-ghost use Rattle.costs.specs.CostParts.{fairness_part, score_weight, IsScope, KnowsRules};
+ghost use Rattle.costs.specs.within.CostParts.{fairness_part, score_weight, IsScope, KnowsRules};
 
 use crate::scope::Scope;
 use fixtures::Schedule;

@@ -4,8 +4,8 @@ ghost use Rattle.std.specs.Prelude.{◌≡◌, ◌*◌, ◌≤◌, true};
 ghost use Rattle.league.specs.League.{teams};
 ghost use Rattle.league.specs.Limits.{deviation_limit, max_rules, max_weight};
 ghost use Rattle.costs.specs.Costs.{hard_penalty, soft_penalty, sum_over_rules};
-ghost use Rattle.costs.specs.CostParts.{rules_part, KnowsRules};
-ghost use Rattle.costs.specs.CountsKept.{AreCounts, AreRests, IsKeptOf};
+ghost use Rattle.costs.specs.within.CostParts.{rules_part, KnowsRules};
+ghost use Rattle.costs.specs.within.CountsKept.{AreCounts, AreRests, IsKeptOf};
 
 use crate::counts::Counts;
 use crate::penalties::Penalties;

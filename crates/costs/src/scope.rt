@@ -3,7 +3,7 @@
 ghost use Rattle.std.specs.Prelude.{◌≡◌};
 ghost use Rattle.league.specs.League.{LeagueData};
 ghost use Rattle.fixtures.specs.Exchanges.{IsExchange};
-ghost use Rattle.costs.specs.CostParts.{IsScope, KnowsRules};
+ghost use Rattle.costs.specs.within.CostParts.{IsScope, KnowsRules};
 ghost use Rattle.costs.specs.Evaluators.{IsEvaluatorOf};
 
 use crate::attempt::Attempt;

@@ -7,7 +7,7 @@ ghost use Rattle.tours.specs.Repeats.{repeats};
 ghost use Rattle.tours.specs.Tours.{travel};
 ghost use Rattle.fixtures.specs.Exchanges.{exchanged_by, IsExchange};
 ghost use Rattle.costs.specs.Costs.{cost_of, near_cost, score_by};
-ghost use Rattle.costs.specs.CostParts.{IsTold};
+ghost use Rattle.costs.specs.within.CostParts.{IsTold};
 
 use crate::attempt::Attempt;
 use crate::cost::Cost;

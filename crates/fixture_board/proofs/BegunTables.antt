@@ -10,7 +10,7 @@ use Rattle.league.specs.Starts.{start_round, keeps, kept_games}
 use Rattle.league.proofs.ForCallers.{round_of_start}
 use Rattle.fixtures.specs.Games.{IsPair}
 use Rattle.fixture_board.specs.History.{is_pinned}
-use Rattle.fixture_board.specs.PinTable.{free, pin_at, pin_index, pin_entries, AreBegun, IsFirstTable}
+use Rattle.fixture_board.specs.within.PinTable.{free, pin_at, pin_index, pin_entries, AreBegun, IsFirstTable}
 use Rattle.fixture_board.proofs.KeptGames.{pinned_if_kept}
 use Rattle.fixture_board.proofs.PinTable.{pin_at-same, pin_at-other}
 

@@ -11,7 +11,7 @@ use Rattle.fixture_board.specs.declared.ask.Proposal.{Proposal}
 use Rattle.fixture_board.specs.declared.reply.Why.{Why}
 use Rattle.fixture_board.specs.declared.reply.Reply.TheVariants.{Done, No}
 use Rattle.fixture_board.specs.History.{cost_at}
-use Rattle.fixture_board.specs.Kept.{Kept, FollowsHistory, IsForetold}
+use Rattle.fixture_board.specs.within.Kept.{Kept, FollowsHistory, IsForetold}
 use Rattle.fixture_board.specs.Record.{Book, book}
 use Rattle.fixture_board.specs.Replies.{entry, refusal, reply_of}
 use Rattle.fixture_board.proofs.OneMore.{games_of-more, replies_no, replies_done}

@@ -22,8 +22,8 @@ use Rattle.fixtures.specs.Draft.{is_game_in_range}
 use Rattle.fixture_board.specs.History.{effect, effective, shifted, games_after, games_of, pinned, pins_after, pins_of}
 use Rattle.fixture_board.specs.History.{is_there, AllStand, Fits, May, IsLegal, max_room, cost_at, better}
 use Rattle.fixture_board.specs.History.{best_prefix, best_at, as_best, best_of}
-use Rattle.fixture_board.specs.PinTable.{free, pin_entries, taken_back, ArePinsAt, IsFirstTable}
-use Rattle.fixture_board.specs.Kept.{IsLeader, Kept, FollowsHistory, IsGranted, entered, CanTakeBack, leads, led_by}
+use Rattle.fixture_board.specs.within.PinTable.{free, pin_entries, taken_back, ArePinsAt, IsFirstTable}
+use Rattle.fixture_board.specs.within.Kept.{IsLeader, Kept, FollowsHistory, IsGranted, entered, CanTakeBack, leads, led_by}
 use Rattle.fixture_board.specs.Laws.{IsSound}
 use Rattle.fixture_board.specs.Replies.{change_of, refusal, entry}
 use Rattle.fixture_board.proofs.OneMore.{effective-none, effective-more, games_of-none, pins_of-none, games_of-by}

@@ -13,7 +13,7 @@ use Rattle.fixtures.specs.Draft.{is_game_in_range}
 use Rattle.fixtures.specs.Games.{Games, round_of, IsPair, IsDoubleRoundRobin}
 use Rattle.fixtures.proofs.ForCallers.{game_passed}
 use Rattle.fixture_board.specs.History.{is_game, has_game, is_pinned, is_there, moves_pin, AllStand}
-use Rattle.fixture_board.specs.PinTable.{free, pin_at, pin_entries, ArePinsAt, ArePinnedPairs}
+use Rattle.fixture_board.specs.within.PinTable.{free, pin_at, pin_entries, ArePinsAt, ArePinnedPairs}
 
 -- what is read after a write
 

@@ -9,7 +9,7 @@ use Rattle.fixtures.specs.Exchanges.{exchanged_by, IsExchange}
 use Rattle.fixtures.specs.Kept.{moves_one_of}
 use Rattle.fixtures.proofs.ForCallers.{moves_one_of_kept, moves_one_of_yes}
 use Rattle.fixture_board.specs.History.{is_pinned, moves_pin, AllStand}
-use Rattle.fixture_board.specs.PinTable.{free, pin_at, ArePinsAt, ArePinnedPairs}
+use Rattle.fixture_board.specs.within.PinTable.{free, pin_at, ArePinsAt, ArePinnedPairs}
 use Rattle.fixture_board.proofs.PinTable.{entry-pinned, moves_pin-none, moves_pin-some}
 
 module _ (g : Games) (exchange : Exchange) (can : IsExchange g exchange) (table pairs : List ℕ)

@@ -21,8 +21,8 @@ use Rattle.fixture_board.specs.declared.reply.Why.TheVariants as why
 use Rattle.fixture_board.specs.declared.reply.Reply.TheVariants.{Done, No}
 use Rattle.fixture_board.specs.History.{games_of, pins_of, has_game, is_there, moves_pin, AllStand}
 use Rattle.fixture_board.specs.History.{cost_at}
-use Rattle.fixture_board.specs.PinTable.{free, pin_at, ArePinsAt}
-use Rattle.fixture_board.specs.Kept.{Kept, FollowsHistory, IsRefused, IsGranted, IsStep, entered}
+use Rattle.fixture_board.specs.within.PinTable.{free, pin_at, ArePinsAt}
+use Rattle.fixture_board.specs.within.Kept.{Kept, FollowsHistory, IsRefused, IsGranted, IsStep, entered}
 use Rattle.fixture_board.specs.Replies.{first_of, version_rows, game_rows, move_rows, score_rows, refusal, entry}
 use Rattle.fixture_board.specs.Replies.{next_of, reply_of}
 use Rattle.fixture_board.specs.Record.{Book, book}

@@ -18,9 +18,9 @@ use Rattle.fixture_board.specs.History.{effect, effective, effective_after, shif
 use Rattle.fixture_board.specs.History.{pins_after, pins_of, AllStand}
 use Rattle.fixture_board.specs.History.{Fits, legal_after, IsLegal, cost_at, best_prefix, best_at, as_best, best_of}
 use Rattle.fixture_board.specs.History.{IsBestPrefix, IsBestOf}
-use Rattle.fixture_board.specs.Kept.{IsLeader, Kept, FollowsHistory}
-use Rattle.fixture_board.specs.PinTable.{free, pin_entries, ArePinsAt}
-use Rattle.fixture_board.specs.Retraced.{HasPlace, written, written_after, IsRetraced}
+use Rattle.fixture_board.specs.within.Kept.{IsLeader, Kept, FollowsHistory}
+use Rattle.fixture_board.specs.within.PinTable.{free, pin_entries, ArePinsAt}
+use Rattle.fixture_board.specs.within.Retraced.{HasPlace, written, written_after, IsRetraced}
 use Rattle.fixture_board.specs.Rewound.{rewound, IsSameBestRewound}
 use Rattle.fixture_board.proofs.Keeps.{effect-length}
 use Rattle.fixture_board.proofs.KeptGames.{AllStand-kept}

@@ -12,7 +12,7 @@ use Rattle.fixture_board.specs.declared.change.Entry.{Entry}
 use Rattle.costs.specs.declared.cost.Cost.{Cost}
 use Rattle.fixture_board.specs.declared.trial.Trial.{Trial}
 use Rattle.fixture_board.specs.History.{games_of, pins_of, moves_pin, May, IsLegal, cost_at}
-use Rattle.fixture_board.specs.Kept.{Kept, FollowsHistory, IsLeft, IsMade}
+use Rattle.fixture_board.specs.within.Kept.{Kept, FollowsHistory, IsLeft, IsMade}
 use Rattle.fixture_board.specs.Record.{Book, book}
 use Rattle.fixture_board.specs.Trials.{passes, passes_at, trial_cost, trial_entry, trial_history, TellsOfTrial}
 use Rattle.fixture_board.proofs.Keeps.{IsGranted-shift, known_cost}

@@ -4,8 +4,6 @@ pub mod Trials
 pub mod Record
 pub mod Rewound
 pub mod Replay
-pub mod PinTable
-pub mod Retraced
-pub mod Kept
 pub mod Looks
 pub mod Laws
+pub mod within

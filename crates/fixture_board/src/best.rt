@@ -2,7 +2,7 @@
 
 ghost use Rattle.std.specs.Prelude.{◌≡◌, ◌^◌, ◌<◌, if◌then◌else◌};
 ghost use Rattle.costs.specs.Costs.{total_of};
-ghost use Rattle.fixture_board.specs.Kept.{leads, led_by};
+ghost use Rattle.fixture_board.specs.within.Kept.{leads, led_by};
 
 use costs::Cost;
 use fixtures::Schedule;

@@ -59,7 +59,7 @@ pub struct Board {
 impl Model for Board {
     ghost use Rattle.fixture_board.specs.Record.{Book, book};
     ghost use Rattle.costs.specs.Evaluators.{IsEvaluatorAt};
-    ghost use Rattle.fixture_board.specs.Kept.{kept_of, HasMemory, FollowsHistory};
+    ghost use Rattle.fixture_board.specs.within.Kept.{kept_of, HasMemory, FollowsHistory};
 
     ghost Value = { Book };
 

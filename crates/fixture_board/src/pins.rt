@@ -8,8 +8,8 @@ ghost use Rattle.fixtures.specs.declared.game.Game.{Game};
 ghost use Rattle.fixtures.specs.Exchanges.{exchanged_by, IsExchange};
 ghost use Rattle.fixture_board.specs.History.{moves_pin, AllStand};
 ghost use Rattle.fixture_board.specs.declared.change.Change.{Change};
-ghost use Rattle.fixture_board.specs.Retraced.{HasPlace, written, IsRetraced};
-ghost use Rattle.fixture_board.specs.PinTable.{free, pin_at, pin_index, pin_entries, AreBegun, ArePinsAt, IsFirstTable};
+ghost use Rattle.fixture_board.specs.within.Retraced.{HasPlace, written, IsRetraced};
+ghost use Rattle.fixture_board.specs.within.PinTable.{free, pin_at, pin_index, pin_entries, AreBegun, ArePinsAt, IsFirstTable};
 
 use crate::change::Change;
 use fixtures::{Exchange, Game, Schedule};
@@ -33,7 +33,7 @@ pub(crate) struct Pins {
 
 impl Model for Pins {
     ghost use Rattle.std.specs.Prelude.{ℕ, List};
-    ghost use Rattle.fixture_board.specs.PinTable.{ArePinnedPairs};
+    ghost use Rattle.fixture_board.specs.within.PinTable.{ArePinnedPairs};
 
     ghost Value = { List ℕ };
 

@@ -17,7 +17,8 @@ use Rattle.fixture_board.proofs.ForCallers.{games_of_teams}
 use Rattle.fixture_board.proofs.Rewinding.{same_best_rewound}
 use Rattle.fixture_board.proofs.Sound.{IsSound-legal}
 use Rattle.improvement.specs.Broken.{broken_in, is_broken}
-use Rattle.improvement.specs.Chains.{IsInLeague, better, chains_of, is_of, meeting, reached}
+use Rattle.improvement.specs.Chains.{better, chains_of, is_of, meeting, reached}
+use Rattle.improvement.specs.within.Chains.{IsInLeague}
 use Rattle.improvement.specs.declared.chains.ChainBest.{ChainBest}
 use Rattle.improvement.specs.declared.broken.Part.{Part}
 use Rattle.improvement.specs.Laws.{CannotBeKept}

@@ -20,11 +20,11 @@ use Rattle.improvement.specs.declared.plan.ImproveFault.{ImproveFault}
 use Rattle.improvement.specs.declared.plan.ImproveFault.TheVariants.{Workers, Memory, Write}
 use Rattle.improvement.specs.declared.plan.ImprovePlan.{ImprovePlan}
 use Rattle.improvement.specs.Broken.{broken_if, broken_text}
-use Rattle.improvement.specs.Chains.{IsInLeague}
+use Rattle.improvement.specs.within.Chains.{IsInLeague}
 use Rattle.improvement.specs.Legs.{AreLegs, IsWorkers, LegRun, lead_of, room_of}
 use Rattle.improvement.specs.LegText.{improve_text, legs_text}
 use Rattle.improvement.specs.Outcome.{Improves}
-use Rattle.improvement.specs.UnderWay.{EndsBy, HasRunAll, HasStopped, HasWritten, Sends}
+use Rattle.improvement.specs.within.UnderWay.{EndsBy, HasRunAll, HasStopped, HasWritten, Sends}
 use Rattle.improvement.proofs.Bests.{chains_in}
 use Rattle.improvement.proofs.Leads.{lead_legal}
 

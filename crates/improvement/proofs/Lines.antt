@@ -20,11 +20,11 @@ use Rattle.improvement.specs.declared.legs.Turn.{Turn}
 use Rattle.improvement.specs.declared.legs.WaitingLeg.{WaitingLeg}
 use Rattle.improvement.specs.declared.line.Line.{Line}
 use Rattle.improvement.specs.declared.stage.Beginning.{Beginning}
-use Rattle.improvement.specs.Fields.{StageData, after_bout, at_best, begun_one, beginning_of, chain_for, entering, is_before, passing, passing_by}
-use Rattle.improvement.specs.Fields.{ranked}
+use Rattle.improvement.specs.within.Fields.{StageData, after_bout, at_best, begun_one, beginning_of, chain_for, entering, is_before}
+use Rattle.improvement.specs.within.Fields.{passing, passing_by, ranked}
 use Rattle.improvement.specs.Legs.{CanBegin, LegRun}
-use Rattle.improvement.specs.Lines.{CanEnd, IsAtBeginning, IsEntrant, IsLine, IsRunning, IsStage, IsState, IsWaiting, MayBegin, anew}
-use Rattle.improvement.specs.Lines.{left_in, steps_left, turn_of_running, turn_of_waiting, turn_steps, turns_of, waiting_for}
+use Rattle.improvement.specs.within.Lines.{CanEnd, IsAtBeginning, IsEntrant, IsLine, IsRunning, IsStage, IsState, IsWaiting, MayBegin, anew}
+use Rattle.improvement.specs.within.Lines.{left_in, steps_left, turn_of_running, turn_of_waiting, turn_steps, turns_of, waiting_for}
 use Rattle.policy.specs.declared.legs.Leg.{Leg}
 use Rattle.policy.specs.declared.waves.Source.{Source}
 use Rattle.policy.specs.declared.waves.Source.TheVariants.{Start, Own, Copies}

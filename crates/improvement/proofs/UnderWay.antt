@@ -26,12 +26,13 @@ use Rattle.improvement.specs.declared.plan.ImproveFault.TheVariants.{Workers, Me
 use Rattle.improvement.specs.declared.plan.ImprovePlan.{ImprovePlan}
 use Rattle.improvement.specs.declared.told.Told.{Told}
 use Rattle.improvement.specs.Chains.{chains_of, meeting, reached}
-use Rattle.improvement.specs.Fields.{StageData}
-use Rattle.improvement.specs.Legs.{AreLegs, IsLegAfter, LegRun, lead_after, lead_of, least_in, least_told, lesser, steps_in, steps_of}
+use Rattle.improvement.specs.within.Fields.{StageData}
+use Rattle.improvement.specs.Legs.{AreLegs, IsLegAfter, LegRun, lead_of, least_in, least_told, lesser, steps_in, steps_of}
+use Rattle.improvement.specs.within.Legs.{lead_after}
 use Rattle.improvement.specs.LegText.{ending, improve_text, leg_text, legs_text, told_as}
-use Rattle.improvement.specs.Lines.{CanEnd, IsAtBeginning, IsEntrant, IsLine, IsRunning, IsStage, IsWaiting, MayBegin, anew, left_in}
-use Rattle.improvement.specs.Lines.{running_steps, turn_steps}
-use Rattle.improvement.specs.UnderWay.{EndsBy, HasRunAll, HasSent, HasStopped, HasTold, IsUnderWay, Sends}
+use Rattle.improvement.specs.within.Lines.{CanEnd, IsAtBeginning, IsEntrant, IsLine, IsRunning, IsStage, IsWaiting, MayBegin, anew, left_in}
+use Rattle.improvement.specs.within.Lines.{running_steps, turn_steps}
+use Rattle.improvement.specs.within.UnderWay.{EndsBy, HasRunAll, HasSent, HasStopped, HasTold, IsUnderWay, Sends}
 use Rattle.improvement.proofs.Lines.{state_weaker}
 
 -- ---- what may go on after some legs may do so after one more

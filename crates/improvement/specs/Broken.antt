@@ -1,5 +1,5 @@
 -- What is broken in the best schedules of chains.
-use Rattle.std.specs.Prelude.{ℕ, ◌==◌, ◌<◌, nat_lt, Bool, List, [], ◌∷◌, ◌++◌, length, slice_get, Option, Some, None, if◌then◌else◌}
+use Rattle.std.specs.Prelude.{ℕ, ◌==◌, nat_lt, Bool, List, [], ◌∷◌, ◌++◌, length, slice_get, Option, Some, None, if◌then◌else◌}
 use Rattle.std.specs.Prelude.{codes, decimal}
 use Rattle.std.specs.List.{concat, count_by}
 use Rattle.streams.specs.Pieces.{pieces_below}
@@ -16,11 +16,6 @@ use Rattle.improvement.specs.declared.broken.Part.TheVariants.{Runs, Repeats, Ha
 use Rattle.improvement.specs.declared.chains.ChainBest.{ChainBest}
 use Rattle.improvement.specs.Chains.{chains_of}
 use Rattle.improvement.specs.Legs.{LegRun, least_told}
-
--- the league has such a part
-abbrev pub IsPartOf : LeagueData → Part → Type 0
-IsPartOf league (RuleAt i) = i < length league.rules
-IsPartOf league _ = Unit {0}
 
 -- how many breaches of a part a schedule has
 abbrev pub breaches : LeagueData → Part → Games → ℕ

@@ -1,6 +1,6 @@
 -- The best schedule of each chain.
-use Rattle.std.specs.Prelude.{◌≡◌, ℕ, ◌==◌, Bool, List, [], ◌∷◌, if◌then◌else◌}
-use Rattle.league.specs.League.{LeagueData, teams}
+use Rattle.std.specs.Prelude.{ℕ, ◌==◌, Bool, List, [], ◌∷◌, if◌then◌else◌}
+use Rattle.league.specs.League.{LeagueData}
 use Rattle.fixture_board.specs.declared.change.Entry.{Entry}
 use Rattle.fixture_board.specs.History.{best_prefix}
 use Rattle.texts.specs.SearchText.{games_at_best}
@@ -28,7 +28,3 @@ meeting later (best ∷ bests) = if is_of later.chain best then better later bes
 unfoldable pub chains_of : LeagueData → List LegRun → List ChainBest
 chains_of league [] = []
 chains_of league (run ∷ before) = meeting (reached run.chain league run.history) (chains_of league before)
-
--- it is a schedule of the league's teams
-abbrev pub IsInLeague : LeagueData → ChainBest → Type 0
-IsInLeague league best = best.schedule.teams ≡ teams league

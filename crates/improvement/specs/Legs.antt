@@ -1,5 +1,5 @@
 -- What the legs of an improvement come to, one after another. In a list of legs the newest is first.
-use Rattle.std.specs.Prelude.{◌≡◌, ◌⊎◌, ℕ, ◌≤◌, ◌==◌, nat_lt, min, if◌then◌else◌, Bool, true, false, List, [], ◌∷◌, sum_by}
+use Rattle.std.specs.Prelude.{◌≡◌, ◌⊎◌, ℕ, ◌≤◌, nat_lt, min, if◌then◌else◌, Bool, true, false, List, [], ◌∷◌, sum_by}
 use Rattle.std.specs.Prelude.{Option, Some, None}
 use Rattle.league.specs.League.{LeagueData}
 use Rattle.fixture_board.specs.declared.change.Entry.{Entry}
@@ -92,7 +92,3 @@ unfoldable pub lead_of : LeagueData → List LegRun → List Entry
 lead_of league [] = []
 lead_of league (run ∷ []) = rewound league run.history
 lead_of league (run ∷ r ∷ before) = ahead league (lead_of league (r ∷ before)) run.history
-
--- the history that leads after one more leg than so many
-abbrev pub lead_after : LeagueData → ℕ → List Entry → List Entry → List Entry
-lead_after league told leading h = if told == 0 then rewound league h else ahead league leading h

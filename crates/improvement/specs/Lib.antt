@@ -5,8 +5,4 @@ pub mod Broken
 pub mod LegText
 pub mod Outcome
 pub mod Laws
-pub mod Fields
-pub mod Lines
-pub mod UnderWay
-pub mod Watched
-pub mod Settings
+pub mod within

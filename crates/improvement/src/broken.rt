@@ -4,8 +4,9 @@ ghost use Rattle.std.specs.Prelude.{◌≡◌, ◌<◌, length, slice_get, All};
 ghost use Rattle.league.specs.League.{teams};
 ghost use Rattle.streams.specs.Writing.{Writes};
 ghost use Rattle.costs.specs.Costs.{hard_penalty, penalty_of};
-ghost use Rattle.improvement.specs.Broken.{IsPartOf, breaches, broken_if, broken_in, broken_line, broken_lines, part_name, rule_lines};
-ghost use Rattle.improvement.specs.Chains.{IsInLeague};
+ghost use Rattle.improvement.specs.Broken.{breaches, broken_if, broken_in, broken_line, broken_lines, part_name, rule_lines};
+ghost use Rattle.improvement.specs.within.Broken.{IsPartOf};
+ghost use Rattle.improvement.specs.within.Chains.{IsInLeague};
 
 use crate::chains::Chains;
 use crate::told::Told;

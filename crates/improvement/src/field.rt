@@ -2,7 +2,7 @@
 
 ghost use Rattle.std.specs.Prelude.{◌≡◌, [], take, slice_get, IfOk, OnOk};
 ghost use Rattle.std.specs.List.{position_or_len};
-ghost use Rattle.improvement.specs.Fields.{is_before, ranked};
+ghost use Rattle.improvement.specs.within.Fields.{is_before, ranked};
 
 use crate::standing::Standing;
 use annealing::Chain;

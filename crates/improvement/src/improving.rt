@@ -7,10 +7,10 @@ ghost use Rattle.streams.specs.Writing.{waiting_in};
 ghost use Rattle.league.specs.League.{teams};
 ghost use Rattle.search.specs.Draws.{AreRoundsOf};
 ghost use Rattle.improvement.specs.Legs.{LegRun};
-ghost use Rattle.improvement.specs.Lines.{IsLine, IsRunning, left_in, turn_steps};
+ghost use Rattle.improvement.specs.within.Lines.{IsLine, IsRunning, left_in, turn_steps};
 ghost use Rattle.improvement.specs.Outcome.{Improves};
-ghost use Rattle.improvement.specs.Settings.{IsSetting};
-ghost use Rattle.improvement.specs.UnderWay.{EndsBy, HasRunAll, HasWritten, IsUnderWay};
+ghost use Rattle.improvement.specs.within.Settings.{IsSetting};
+ghost use Rattle.improvement.specs.within.UnderWay.{EndsBy, HasRunAll, HasWritten, IsUnderWay};
 
 use crate::broken::write_broken;
 use crate::chains::Chains;

@@ -8,7 +8,7 @@ ghost use Rattle.search.specs.Draws.{AreRoundsOf};
 ghost use Rattle.annealing.specs.Legs.{IsAnnealed};
 ghost use Rattle.improvement.specs.declared.legs.Turn.{Turn};
 ghost use Rattle.improvement.specs.Legs.{LegRun};
-ghost use Rattle.improvement.specs.Lines.{CanEnd, IsRunning, IsState, IsWaiting};
+ghost use Rattle.improvement.specs.within.Lines.{CanEnd, IsRunning, IsState, IsWaiting};
 
 use crate::setting::Setting;
 use annealing::{Annealed, Chain, Conditions, LegPlan, anneal};

@@ -6,7 +6,7 @@ ghost use Rattle.policy.specs.Limits.{most_effort};
 ghost use Rattle.search.specs.Draws.{AreRoundsOf};
 ghost use Rattle.improvement.specs.declared.legs.Turn.{Turn};
 ghost use Rattle.improvement.specs.Legs.{LegRun};
-ghost use Rattle.improvement.specs.Lines.{IsEntrant, IsLine, IsRunning, left_in, steps_left, turn_steps, turns_of, waiting_for};
+ghost use Rattle.improvement.specs.within.Lines.{IsEntrant, IsLine, IsRunning, left_in, steps_left, turn_steps, turns_of, waiting_for};
 ghost use Rattle.fixture_board.specs.Record.{Book};
 
 use crate::field::Entrant;

@@ -3,7 +3,7 @@
 ghost use Rattle.std.specs.Prelude.{◌≡◌, [], IfOk, unwrap_or};
 ghost use Rattle.fixture_board.specs.Record.{book};
 ghost use Rattle.improvement.specs.Legs.{room_of};
-ghost use Rattle.improvement.specs.Lines.{anew};
+ghost use Rattle.improvement.specs.within.Lines.{anew};
 
 use crate::plan::ImprovePlan;
 use annealing::Unit;

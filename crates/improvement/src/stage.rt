@@ -1,7 +1,7 @@
 //! The present wave: its bouts, and the chains that come out of it.
 
 ghost use Rattle.std.specs.Prelude.{◌≡◌, ◌<◌, nat_lt, if◌then◌else◌, [], Some, None, IfOk, OnOk};
-ghost use Rattle.improvement.specs.Fields.{after_bout, at_best, beginning_of, chain_for, entering, passing, stage_data};
+ghost use Rattle.improvement.specs.within.Fields.{after_bout, at_best, beginning_of, chain_for, entering, passing, stage_data};
 
 use crate::field::{Entrant, Field};
 use annealing::Chain;
@@ -26,7 +26,7 @@ pub(crate) struct Stage {
 }
 
 impl Model for Stage {
-    ghost use Rattle.improvement.specs.Fields.{StageData, stage_data};
+    ghost use Rattle.improvement.specs.within.Fields.{StageData, stage_data};
 
     ghost Value = { StageData };
 

@@ -3,8 +3,9 @@
 ghost use Rattle.std.specs.Prelude.{◌≡◌, ◌+◌, ◌^◌, ◌<◌, IfOk, OnOk};
 ghost use Rattle.fixture_board.specs.Record.{book};
 ghost use Rattle.improvement.specs.Chains.{meeting, reached};
-ghost use Rattle.improvement.specs.Legs.{lead_after, least_in, lesser};
-ghost use Rattle.improvement.specs.Watched.{takes_lead};
+ghost use Rattle.improvement.specs.Legs.{least_in, lesser};
+ghost use Rattle.improvement.specs.within.Legs.{lead_after};
+ghost use Rattle.improvement.specs.within.Watched.{takes_lead};
 
 use crate::chains::Chains;
 use crate::standing::Standing;

@@ -1,7 +1,7 @@
 //! Who looks on at an improvement.
 
 ghost use Rattle.std.specs.Prelude.{◌≡◌};
-ghost use Rattle.improvement.specs.Watched.{ended_as};
+ghost use Rattle.improvement.specs.within.Watched.{ended_as};
 
 use crate::leg_text::LegTold;
 use fixture_board::Board;

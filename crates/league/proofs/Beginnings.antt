@@ -10,7 +10,8 @@ use Rattle.sets.specs.Sets.{with_number}
 use Rattle.sets.proofs.ForCallers.{has_no_pairs, has_with_pair}
 use Rattle.league.specs.declared.origins.Start.{Start}
 use Rattle.league.specs.declared.origins.Start.TheVariants.{Berger, Fide, Given}
-use Rattle.league.specs.League.{LeagueData, teams, with_origin, IsLeague}
+use Rattle.league.specs.League.{LeagueData, teams, IsLeague}
+use Rattle.league.specs.within.League.{with_origin}
 use Rattle.league.specs.Limits.{max_weight}
 use Rattle.league.specs.Origins.{OriginData, origin_data, origin_at, round_at_start, IsStartFor, IsOriginFor}
 use Rattle.league.specs.Starts.{start_round, start_of, keeps}

@@ -23,10 +23,12 @@ use Rattle.league.specs.declared.rule.Weight.{Weight}
 use Rattle.league.specs.declared.rule.Weight.TheVariants.{Hard, Soft}
 use Rattle.league.specs.Checks.{IsDistanceTable}
 use Rattle.league.specs.Games.{is_same_game, is_same_game_equiv}
-use Rattle.league.specs.League.{LeagueData, league_data, with_origin}
+use Rattle.league.specs.League.{LeagueData, league_data}
+use Rattle.league.specs.within.League.{with_origin}
 use Rattle.league.specs.declared.origins.Start.TheVariants.{Berger}
 use Rattle.league.specs.Origins.{OriginData, origin_at}
-use Rattle.league.specs.Rows.{joined, table_of}
+use Rattle.league.specs.Rows.{table_of}
+use Rattle.league.specs.within.Rows.{joined}
 use Rattle.league.specs.Views.{texts}
 use Rattle.league.proofs.Rows.{table_of-joined}
 

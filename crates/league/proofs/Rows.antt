@@ -6,8 +6,10 @@ use Rattle.std.proofs.lemmas.List.{get_or_default, drop_all, append-nil}
 use Rattle.std.proofs.lemmas.Nat.{mul-add-lt}
 use Rattle.std.proofs.Math.Seq.{take-add}
 use Rattle.league.specs.Checks.{distance_of, IsDistanceTable}
-use Rattle.league.specs.Rows.{cut, joined, table_of}
-use Rattle.league.specs.Views.{texts, rows, row_items}
+use Rattle.league.specs.Rows.{cut, table_of}
+use Rattle.league.specs.within.Rows.{joined}
+use Rattle.league.specs.Views.{texts}
+use Rattle.league.specs.within.Views.{rows, row_items}
 use Rattle.league.proofs.Tables.{HasColumns}
 
 pub get_or-rows : (table : List (Vec ℕ Global)) (a : ℕ) (row : Vec ℕ Global) → a < length table

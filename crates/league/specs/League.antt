@@ -1,12 +1,11 @@
 -- A league, without where it lies in memory, and the league that a text stands for.
-use Rattle.std.specs.Prelude.{ℕ, ◌≤◌, ◌+◌, Bool, List, [], ◌∷◌, length, slice_index_or, IsTrue, false, Result, Ok}
+use Rattle.std.specs.Prelude.{ℕ, ◌≤◌, ◌+◌, Bool, List, [], ◌∷◌, length, slice_index_or, IsTrue, Result, Ok}
 use Rattle.std.specs.List.{list_all, AllByRecursion}
 use Rattle.serde_json.specs.Data.{Data, Items, no_items, item}
 use Rattle.serde_json.specs.Events.{items_len}
 use Rattle.league.specs.declared.fault.Field.TheVariants.{Whole}
 use Rattle.league.specs.declared.fault.LeagueFault.{LeagueFault}
 use Rattle.league.specs.declared.fault.LeagueFault.TheVariants.{NotJson, WrongKind, RuleClass, RuleValue}
-use Rattle.league.specs.declared.origins.Start.TheVariants.{Berger}
 use Rattle.league.specs.declared.rule.Rule.{Rule}
 use Rattle.league.specs.Json.{json_of, is_object}
 use Rattle.league.specs.Reading.{◌>>=◌, or_fault, unless}
@@ -40,18 +39,10 @@ league_data names distances at_most hard_weight rules origin phased = record {
   phased = phased;
 }
 
--- a league of nobody, where none is asked for
-abbrev pub no_league : LeagueData
-no_league = league_data [] [] 0 0 [] (origin_at Berger) false
-
 -- the same of a table kept as its numbers, row by row
 abbrev pub league_of_numbers : List (List ℕ) → List ℕ → ℕ → ℕ → List Rule → OriginData → Bool → LeagueData
 league_of_numbers names numbers at_most hard_weight rules origin phased =
     league_data names (table_of (length names) numbers) at_most hard_weight rules origin phased
-
--- the same league with another origin
-abbrev pub with_origin : OriginData → LeagueData → LeagueData
-with_origin origin l = record l { origin = origin }
 
 -- how many teams there are
 abbrev pub teams : LeagueData → ℕ

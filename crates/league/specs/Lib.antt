@@ -17,3 +17,4 @@ pub mod Origins
 pub mod League
 pub mod Starts
 pub mod Made
+pub mod within

@@ -30,11 +30,6 @@ abbrev pub optional : {A : Type 0} → Field → (Data → Option A) → A → O
 optional field form default None = Ok default
 optional field form default (Some d) = or_fault (WrongKind field) (form d)
 
--- what a function returned, seen by view
-abbrev pub seen : {X Y : Type 0} → (X → Y) → Result X LeagueFault → Result Y LeagueFault
-seen view (Ok x) = Ok (view x)
-seen view (Err fault) = Err fault
-
 -- What a function returned, seen by view, is what the reading gives, unless memory ran out.
 abbrev pub Gives : {X Y : Type 0} → (X → Y) → Result X LeagueFault → Result Y LeagueFault → Type 0
 Gives view (Ok x) reading = reading ≡ Ok (view x)

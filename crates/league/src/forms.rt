@@ -6,7 +6,8 @@ ghost use Rattle.serde_json.specs.Events.{items_len};
 ghost use Rattle.serde_json.specs.View.{view, items_view};
 ghost use Rattle.league.specs.Json.{number_within, objects, all_objects};
 ghost use Rattle.league.specs.LeagueMembers.{is_name_byte, is_team_name, team_name, team_names, distance_row, distance_rows};
-ghost use Rattle.league.specs.Views.{texts, rows};
+ghost use Rattle.league.specs.Views.{texts};
+ghost use Rattle.league.specs.within.Views.{rows};
 
 use crate::limits::MAX_NAME;
 use serde_json::Value;

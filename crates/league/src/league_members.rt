@@ -5,11 +5,13 @@ ghost use Rattle.std.specs.Prelude.{◌≡◌, ℕ, ◌≤◌, IsTrue, IfOk};
 ghost use Rattle.std.specs.List.{list_all};
 ghost use Rattle.serde_json.specs.View.{view, items_view};
 ghost use Rattle.league.specs.Limits.{max_rounds, max_weight};
-ghost use Rattle.league.specs.Reading.{Gives, seen};
+ghost use Rattle.league.specs.Reading.{Gives};
+ghost use Rattle.league.specs.within.Reading.{seen};
 ghost use Rattle.league.specs.LeagueMembers.{is_team_name, format_of, teams_of, distances_of, at_most_of};
 ghost use Rattle.league.specs.LeagueMembers.{hard_weight_of, rules_of, order_named, start_order, order_of, phased_of};
 ghost use Rattle.league.specs.Origins.{IsStartFor};
-ghost use Rattle.league.specs.Views.{texts, rows};
+ghost use Rattle.league.specs.Views.{texts};
+ghost use Rattle.league.specs.within.Views.{rows};
 
 use crate::fault::{Field, LeagueFault};
 use crate::forms::{distance_rows, number_within, objects, team_names};

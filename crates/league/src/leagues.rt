@@ -3,8 +3,10 @@
 ghost use Rattle.std.specs.Prelude.{◌≡◌, ◌↔◌, ℕ, ◌<◌, ◌≤◌, ◌%◌, ◌++◌, Some, length, slice_get, slice_index, IfOk, IsTrue, OnOk};
 ghost use Rattle.league.specs.Checks.{IsDistanceTable};
 ghost use Rattle.league.specs.Limits.{min_teams, max_teams, max_rounds, max_distance, max_weight, max_rules};
-ghost use Rattle.league.specs.Rows.{joined, table_of};
-ghost use Rattle.league.specs.Views.{texts, rows};
+ghost use Rattle.league.specs.Rows.{table_of};
+ghost use Rattle.league.specs.within.Rows.{joined};
+ghost use Rattle.league.specs.Views.{texts};
+ghost use Rattle.league.specs.within.Views.{rows};
 
 mod beginnings;
 
@@ -46,7 +48,8 @@ impl Model for League {
 }
 
 impl League {
-    ghost use Rattle.league.specs.League.{league_data, teams, name_of, distance, with_origin, IsLeague};
+    ghost use Rattle.league.specs.League.{league_data, teams, name_of, distance, IsLeague};
+    ghost use Rattle.league.specs.within.League.{with_origin};
     ghost use Rattle.league.specs.Origins.{origin_at};
     ghost use Rattle.league.specs.RuleLimits.{IsRuleFor};
 

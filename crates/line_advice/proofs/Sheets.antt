@@ -4,7 +4,8 @@ use Rattle.texts.specs.Words.{words_of}
 use Rattle.schedule_texts.specs.LastSheet.{begins_sheet, has_sheet_line, last_sheet}
 use Rattle.json_forms.specs.Forms.{or_else}
 use Rattle.line_advice.specs.declared.cause.LineHint.{LineHint}
-use Rattle.line_advice.specs.Hints.{first_hint, hint_at, hint_so_far}
+use Rattle.line_advice.specs.Hints.{first_hint, hint_at}
+use Rattle.line_advice.specs.within.Hints.{hint_so_far}
 use Rattle.line_advice.specs.Schedule.{schedule_cause}
 
 -- the hint after these lines, the first of which has this number

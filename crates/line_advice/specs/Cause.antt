@@ -1,6 +1,5 @@
 -- What is said of a bad line.
-use Rattle.std.specs.Prelude.{ℕ, List, [], ◌∷◌, ◌++◌, codes, decimal, if◌then◌else◌}
-use Rattle.std.specs.List.{concat}
+use Rattle.std.specs.Prelude.{ℕ, List, ◌++◌, codes, if◌then◌else◌}
 use Rattle.std.specs.Str.{is_utf8}
 use Rattle.json_forms.specs.declared.form.Quote.{Quote}
 use Rattle.json_forms.specs.Forms.{quote_of, quote_words}
@@ -8,7 +7,6 @@ use Rattle.texts.specs.declared.script_line.Keyword.{Keyword}
 use Rattle.texts.specs.declared.script_line.Keyword.TheVariants as key
 use Rattle.line_advice.specs.declared.cause.Cause.{Cause}
 use Rattle.line_advice.specs.declared.cause.Cause.TheVariants as cause
-use Rattle.line_advice.specs.declared.cause.LineHint.{LineHint}
 
 -- the beginning of the bytes, or a question mark if they are no UTF-8
 abbrev pub quote_of_bytes : List ℕ → Quote
@@ -35,6 +33,3 @@ cause_words (cause.Arguments keyword) = arguments_words keyword ++ codes " wante
 cause_words cause.NoRound = codes "a number and a colon are wanted behind round"
 cause_words (cause.NoColon word) = quote_words word ++ codes " has no colon behind it"
 cause_words (cause.NoGame word) = quote_words word ++ codes " is no game H-A"
-
-abbrev pub line_words : LineHint → List ℕ
-line_words hint = concat (codes "see line " ∷ decimal hint.number ∷ codes ": " ∷ quote_words hint.line ∷ codes ": " ∷ cause_words hint.cause ∷ [])

@@ -1,13 +1,10 @@
 -- The first bad line of a text.
-use Rattle.std.specs.Prelude.{ℕ, ◌+◌, ◌||◌, Bool, false, List, [], ◌∷◌, Option, None, option_map, if◌then◌else◌}
+use Rattle.std.specs.Prelude.{ℕ, ◌+◌, ◌||◌, Bool, false, List, [], ◌∷◌, Option, None, option_map}
 use Rattle.texts.specs.Command.{line_of}
-use Rattle.texts.specs.Words.{words_of}
-use Rattle.schedule_texts.specs.LastSheet.{begins_sheet}
 use Rattle.json_forms.specs.Forms.{or_else}
 use Rattle.line_advice.specs.declared.cause.Cause.{Cause}
 use Rattle.line_advice.specs.declared.cause.LineHint.{LineHint}
 use Rattle.line_advice.specs.Cause.{quote_of_bytes}
-use Rattle.line_advice.specs.Schedule.{schedule_cause}
 use Rattle.line_advice.specs.Script.{is_bad}
 
 -- the line of this number has a cause
@@ -18,11 +15,6 @@ hint_at number line cause = option_map (λ why. record { number = number; line =
 abbrev pub first_hint : (List ℕ → Option Cause) → ℕ → List (List ℕ) → Option LineHint
 first_hint cause number [] = None
 first_hint cause number (line ∷ lines) = or_else (hint_at number line (cause line)) (first_hint cause (number + 1) lines)
-
--- the first hint of the last sheet so far, after a line of this number
-abbrev pub hint_so_far : Option LineHint → ℕ → List ℕ → Option LineHint
-hint_so_far hint number line =
-    if begins_sheet (words_of line) then None else or_else hint (hint_at number line (schedule_cause line))
 
 -- a line of the script is bad
 abbrev pub has_bad_line : List (List ℕ) → Bool

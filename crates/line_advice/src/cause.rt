@@ -1,7 +1,8 @@
 //! What is wrong with a line, and what is said of it.
 
 ghost use Rattle.std.specs.Prelude.{◌≡◌, Some};
-ghost use Rattle.line_advice.specs.Cause.{arguments_words, cause_words, line_words, quote_of_bytes};
+ghost use Rattle.line_advice.specs.Cause.{arguments_words, cause_words, quote_of_bytes};
+ghost use Rattle.line_advice.specs.within.Cause.{line_words};
 ghost use Rattle.line_advice.specs.Hints.{hint_at};
 
 use json_forms::Quote;

@@ -5,7 +5,8 @@ ghost use Rattle.std.specs.Str.Lines.{lines};
 ghost use Rattle.texts.specs.Words.{words_of};
 ghost use Rattle.schedule_texts.specs.LastSheet.{begins_sheet, last_sheet};
 ghost use Rattle.schedule_texts.specs.ScheduleText.{game_of_word, has_bad_line};
-ghost use Rattle.line_advice.specs.Hints.{first_hint, hint_so_far};
+ghost use Rattle.line_advice.specs.Hints.{first_hint};
+ghost use Rattle.line_advice.specs.within.Hints.{hint_so_far};
 ghost use Rattle.line_advice.specs.Schedule.{first_no_game, games_cause, numbered_cause, round_cause, schedule_cause};
 
 use crate::cause::{Cause, LineHint, quote};

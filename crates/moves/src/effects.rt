@@ -5,7 +5,8 @@ ghost use Rattle.league.specs.Sets.{has};
 ghost use Rattle.fixtures.specs.Games.{round_of, round_count, IsPair, IsDoubleRoundRobin};
 ghost use Rattle.fixtures.specs.Changes.{DiffersOnlyIn};
 ghost use Rattle.moves.specs.Moves.{fault_of, moved, touched_team, touched_round};
-ghost use Rattle.fixtures.specs.Exchanges.{IsExchange, main_cells, touched_by};
+ghost use Rattle.fixtures.specs.Exchanges.{IsExchange, main_cells};
+ghost use Rattle.fixtures.specs.within.Exchanges.{touched_by};
 
 use crate::{Move, exchange};
 use fixtures::{Exchange, Schedule, Touched};

@@ -1,3 +1,4 @@
 pub mod Limits
 pub mod Legs
 pub mod Policy
+pub mod within

@@ -1,6 +1,5 @@
 -- The policy: what is left of the effort, and which wave may come next.
 use Rattle.std.specs.Prelude.{◌≡◌, ℕ, ◌+◌, ◌/◌, ◌≤◌, Option, Some, None}
-use Rattle.policy.specs.Limits.{most_effort}
 use Rattle.policy.specs.declared.waves.Source.{Source}
 use Rattle.policy.specs.declared.waves.Source.TheVariants.{Start, Own, Copies}
 use Rattle.policy.specs.declared.waves.Wave.{Wave}
@@ -13,11 +12,6 @@ pub record PolicyData : Type 0 where
 
 abbrev pub policy_data : ℕ → ℕ → PolicyData
 policy_data left field = record { left = left; field = field }
-
--- what is true of every policy
-pub record IsPolicy (p : PolicyData) : Type 0 where
-  pub left_most : p.left ≤ most_effort
-  pub field_most : p.field ≤ 4
 
 abbrev pub new_policy : ℕ → PolicyData
 new_policy effort = policy_data effort 0

@@ -57,7 +57,8 @@ pub struct Policy {
 }
 
 impl Model for Policy {
-    ghost use Rattle.policy.specs.Policy.{PolicyData, policy_data, IsPolicy};
+    ghost use Rattle.policy.specs.Policy.{PolicyData, policy_data};
+    ghost use Rattle.policy.specs.within.Policy.{IsPolicy};
 
     ghost Value = { PolicyData };
 

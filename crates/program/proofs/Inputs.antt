@@ -11,7 +11,7 @@ use Rattle.command_line.specs.declared.job.Job.{Job}
 use Rattle.command_line.specs.declared.job.Job.TheVariants.{Start, Play, Improve, Find, Report}
 use Rattle.commands.specs.declared.fault.ProgramFault.{ProgramFault}
 use Rattle.commands.specs.declared.fault.ProgramFault.TheVariants.{Read, TooLong, League, LeagueAt, Begin, Row, NoSheet, Room, Workers, Spawn, Receipts, Write, Memory}
-use Rattle.commands.specs.Fault.{of_reading}
+use Rattle.commands.specs.within.Fault.{of_reading}
 use Rattle.commands.specs.Outcome.{EndsBy}
 use Rattle.program.specs.declared.jobs.Ending.{Ending}
 use Rattle.program.specs.Program.{EndsJob, EndsJobOn}

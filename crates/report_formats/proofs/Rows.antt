@@ -5,7 +5,7 @@ use Rattle.csv.specs.Writing.{writer_setup}
 use Rattle.csv.specs.declared.writer.Writer.{Writer}
 use Rattle.csv.specs.declared.writer.WriterBuilder.{WriterBuilder}
 use Rattle.streams.specs.Pieces.{pieces_below}
-use Rattle.report_formats.specs.Table.{AddsRows, IsBetweenRows}
+use Rattle.report_formats.specs.within.Table.{AddsRows, IsBetweenRows}
 
 none_appended : (a : Option (List ℕ)) → Appends a a []
 none_appended None = tt

@@ -6,3 +6,4 @@ pub mod Grid
 pub mod MovedGames
 pub mod Page
 pub mod Format
+pub mod within

@@ -1,8 +1,6 @@
 -- Pieces of a page.
-use Rattle.std.specs.Prelude.{ℕ, zero, suc, ◌==◌, ◌||◌, List, [], ◌∷◌, ◌++◌, Bool, not, codes, decimal, nat_eq, if◌then◌else◌}
+use Rattle.std.specs.Prelude.{ℕ, zero, suc, ◌==◌, ◌||◌, List, [], ◌∷◌, ◌++◌, Bool, not, codes, nat_eq, if◌then◌else◌}
 use Rattle.std.specs.List.{starts_with}
-use Rattle.report_formats.specs.declared.pieces.Piece.{Piece}
-use Rattle.report_formats.specs.declared.pieces.Piece.TheVariants.{Raw, Name, Number}
 
 -- a byte of a name in which the marks of HTML stand for themselves
 abbrev pub escape_of : ℕ → List ℕ
@@ -13,16 +11,6 @@ escape_of b =
 abbrev pub escaped : List ℕ → List ℕ
 escaped [] = []
 escaped (b ∷ bs) = escape_of b ++ escaped bs
-
-abbrev pub text_of_piece : Piece → List ℕ
-text_of_piece (Raw text) = text.now
-text_of_piece (Name text) = escaped text.now
-text_of_piece (Number number) = decimal number
-
--- the pieces, one after another
-abbrev pub text_of_pieces : List Piece → List ℕ
-text_of_pieces [] = []
-text_of_pieces (piece ∷ pieces) = text_of_piece piece ++ text_of_pieces pieces
 
 -- whether the byte is no mark that begins or ends markup: `<`, `>`, `"` or `'`
 abbrev pub is_plain : ℕ → Bool

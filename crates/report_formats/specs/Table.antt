@@ -1,10 +1,6 @@
 -- The games of a schedule as CSV. Teams and rounds are numbered from 0 in calls, and from 1 in the text.
-use Rattle.std.specs.Prelude.{◌≡◌, ℕ, ◌+◌, ◌==◌, ◌||◌, List, [], ◌∷◌, ◌++◌, Bool, false, Option, codes, decimal, map, if◌then◌else◌}
-use Rattle.std.specs.Borrow.{Bor}
-use Rattle.std.specs.Io.KnownBytes.{Appends}
-use Rattle.csv.specs.Writing.{default_writer, fields_written, has_written, row_text, text_written, with_delimiter, writer_setup}
-use Rattle.csv.specs.declared.writer.QuoteStyle.TheVariants.{Necessary}
-use Rattle.csv.specs.declared.writer.Writer.{Writer}
+use Rattle.std.specs.Prelude.{ℕ, ◌+◌, ◌==◌, ◌||◌, List, [], ◌∷◌, ◌++◌, Bool, false, codes, decimal, if◌then◌else◌}
+use Rattle.csv.specs.Writing.{default_writer, row_text, with_delimiter}
 use Rattle.csv.specs.declared.writer.WriterBuilder.{WriterBuilder}
 use Rattle.fixtures.specs.Games.{Games, cell, round_count}
 use Rattle.league.specs.League.{LeagueData, name_of}
@@ -34,10 +30,6 @@ is_formula (b ∷ bs) = b == 61 || (b == 43 || (b == 45 || (b == 64 || (b == 9 |
 abbrev pub guarded : List ℕ → List ℕ
 guarded cell = word_if (is_formula cell) (codes "'") ++ cell
 
--- the text of a record with these fields
-abbrev pub row_of : WriterBuilder → List (Bor (List ℕ)) → List ℕ
-row_of writer fields = row_text writer (map (λ f. f.now) fields)
-
 abbrev pub head_row : WriterBuilder → List ℕ
 head_row writer = row_text writer (codes "round" ∷ codes "home" ∷ codes "home name" ∷ codes "away" ∷ codes "away name" ∷ [])
 
@@ -59,15 +51,3 @@ rows_text writer l g = head_row writer ++ pieces_below (games_of_round writer l 
 -- the mark if it is asked for, a head line, and the games of each round
 unfoldable pub table_text : CsvForm → LeagueData → Games → List ℕ
 table_text form l g = word_if form.has_mark byte_order_mark ++ rows_text (writer_of form.separator) l g
-
--- the writer has ended the records that it wrote, and quotes where it is needed
-pub record IsBetweenRows {W : Type 0} (w : Writer W) : Type 0 where
-  pub style : (writer_setup w).style ≡ Necessary
-  pub fields : fields_written w ≡ 0
-  pub wrote : has_written w ≡ false
-
--- whole records with this text were added
-pub record AddsRows {W : Type 0} (contents : W → Option (List ℕ)) (old new : Writer W) (text : List ℕ) : Type 0 where
-  pub between : IsBetweenRows new
-  pub setup : writer_setup new ≡ writer_setup old
-  pub bytes : Appends (text_written contents old) (text_written contents new) text

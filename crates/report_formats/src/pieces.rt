@@ -1,7 +1,8 @@
 //! Pieces of a page: markup, names and numbers.
 
 ghost use Rattle.std.specs.Prelude.{◌≡◌, ◌++◌, decimal, OnOk};
-ghost use Rattle.report_formats.specs.Pieces.{escape_of, escaped, text_of_piece, text_of_pieces};
+ghost use Rattle.report_formats.specs.Pieces.{escape_of, escaped};
+ghost use Rattle.report_formats.specs.within.Pieces.{text_of_piece, text_of_pieces};
 
 use std::alloc::AllocError;
 

@@ -5,7 +5,8 @@ ghost use Rattle.csv.specs.Writing.{writer_pending, writer_setup, writer_under};
 ghost use Rattle.fixtures.specs.Games.{round_count};
 ghost use Rattle.league.specs.League.{name_of, teams};
 ghost use Rattle.streams.specs.Pieces.{pieces_below};
-ghost use Rattle.report_formats.specs.Table.{game_at, game_row, games_of_round, guarded, is_formula, row_of, table_text, writer_of, AddsRows, IsBetweenRows};
+ghost use Rattle.report_formats.specs.Table.{game_at, game_row, games_of_round, guarded, is_formula, table_text, writer_of};
+ghost use Rattle.report_formats.specs.within.Table.{row_of, AddsRows, IsBetweenRows};
 
 use crate::csv_form::CsvForm;
 use crate::style::word_if;

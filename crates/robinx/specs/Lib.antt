@@ -1,7 +1,6 @@
 pub mod Deviations
-pub mod Gaps
 pub mod Laws
 pub mod LooksPast
 pub mod Parts
 pub mod Touches
-pub mod Walked
+pub mod within

@@ -10,7 +10,7 @@ ghost use Rattle.league.specs.declared.rule.Side.TheVariants.{Any};
 ghost use Rattle.fixtures.specs.Games.{round_count, IsDoubleRoundRobin};
 ghost use Rattle.robinx.specs.Deviations.{breaks, deviation};
 ghost use Rattle.robinx.specs.Touches.{has_touched_team};
-ghost use Rattle.robinx.specs.Walked.{breaks_together};
+ghost use Rattle.robinx.specs.within.Walked.{breaks_together};
 
 use crate::counts::over;
 use crate::guests::Around;

@@ -8,7 +8,7 @@ ghost use Rattle.league.specs.declared.rule.RuleBody.TheVariants as RuleBody;
 ghost use Rattle.fixtures.specs.Games.{round_count, IsDoubleRoundRobin};
 ghost use Rattle.robinx.specs.Deviations.{over, games_in_round, deviation};
 ghost use Rattle.robinx.specs.Parts.{over_in_met_windows, changing_terms};
-ghost use Rattle.robinx.specs.Walked.{over_from_starts};
+ghost use Rattle.robinx.specs.within.Walked.{over_from_starts};
 
 use crate::counted_rows::rows_near;
 use crate::counts::{

@@ -5,7 +5,7 @@ ghost use Rattle.league.specs.Limits.{max_rounds};
 ghost use Rattle.league.specs.Sets.{has};
 ghost use Rattle.fixtures.specs.Games.{round_count, cell, IsDoubleRoundRobin};
 ghost use Rattle.robinx.specs.Deviations.{is_on_side, is_counted};
-ghost use Rattle.robinx.specs.Walked.{HaveCounted};
+ghost use Rattle.robinx.specs.within.Walked.{HaveCounted};
 
 use crate::counts::{CountedGames, is_on_side};
 use fixtures::Schedule;

@@ -7,7 +7,7 @@ ghost use Rattle.league.specs.Sets.{has, IsBelow};
 ghost use Rattle.league.specs.Sums.{count_where};
 ghost use Rattle.fixtures.specs.Games.{round_count, cell, is_home, IsDoubleRoundRobin};
 ghost use Rattle.robinx.specs.Deviations.{over, is_on_side, is_counted, games_of_team, games_in_round};
-ghost use Rattle.robinx.specs.Walked.{season_games, counted_of};
+ghost use Rattle.robinx.specs.within.Walked.{season_games, counted_of};
 
 use crate::guests::meets_one_of;
 use fixtures::Schedule;

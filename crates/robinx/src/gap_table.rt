@@ -7,7 +7,7 @@ ghost use Rattle.fixtures.specs.Changes.{IsTurned};
 ghost use Rattle.fixtures.specs.Games.{Games, round_count, is_home, IsDoubleRoundRobin};
 ghost use Rattle.league.specs.declared.rule.RuleBody.TheVariants as RuleBody;
 ghost use Rattle.robinx.specs.Deviations.{deviation};
-ghost use Rattle.robinx.specs.Gaps.{IsGapTable, IsTableFor, IsTableOf, turned_home};
+ghost use Rattle.robinx.specs.within.Gaps.{IsGapTable, IsTableFor, IsTableOf, turned_home};
 
 use crate::fairness_rules::Fairness;
 use crate::gaps::Gaps;

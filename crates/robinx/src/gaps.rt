@@ -5,8 +5,8 @@ ghost use Rattle.league.specs.Limits.{max_teams};
 ghost use Rattle.league.specs.Sets.{has, IsBelow};
 ghost use Rattle.league.specs.Sums.{sum_below};
 ghost use Rattle.robinx.specs.Deviations.{over};
-ghost use Rattle.robinx.specs.Gaps.{AreGaps, gap_at, sum_of_gaps};
-ghost use Rattle.robinx.specs.Walked.{row_length, row_of, worst_apart};
+ghost use Rattle.robinx.specs.within.Gaps.{AreGaps, gap_at, sum_of_gaps};
+ghost use Rattle.robinx.specs.within.Walked.{row_length, row_of, worst_apart};
 
 use crate::home_rows::{ROW, Row, TEAMS, worst_apart};
 use league::TeamSet;

@@ -4,8 +4,8 @@ ghost use Rattle.std.specs.Prelude.{◌≡◌, ℕ, ◌+◌, ◌*◌, ◌<◌, �
 ghost use Rattle.league.specs.Limits.{max_rounds};
 ghost use Rattle.league.specs.Sets.{has, IsBelow};
 ghost use Rattle.robinx.specs.Deviations.{largest_below};
-ghost use Rattle.robinx.specs.Gaps.{IsHomeRow, is_home_with};
-ghost use Rattle.robinx.specs.Walked.{IsStep, apart_in, chunk_count, from_on, lane_count, one_in, row_length, worst_apart};
+ghost use Rattle.robinx.specs.within.Gaps.{IsHomeRow, is_home_with};
+ghost use Rattle.robinx.specs.within.Walked.{IsStep, apart_in, chunk_count, from_on, lane_count, one_in, row_length, worst_apart};
 
 use league::SlotSet;
 use league::limits::MAX_TEAMS;

@@ -21,7 +21,7 @@ pub struct KeptGaps {
 
 impl Model for KeptGaps {
     ghost use Rattle.std.specs.Prelude.{◌≡◌, ◌≤◌, All, length};
-    ghost use Rattle.robinx.specs.Gaps.{pair_count, IsTablePair};
+    ghost use Rattle.robinx.specs.within.Gaps.{pair_count, IsTablePair};
 
     ghost Value = { Unit };
 

@@ -7,7 +7,7 @@ ghost use Rattle.league.specs.Sets.{has, IsBelow};
 ghost use Rattle.fixtures.specs.Games.{IsDoubleRoundRobin};
 ghost use Rattle.robinx.specs.Deviations.{deviation};
 ghost use Rattle.robinx.specs.Parts.{counts_otherwise, changing_terms, deviation_part};
-ghost use Rattle.robinx.specs.Walked.{counted_of};
+ghost use Rattle.robinx.specs.within.Walked.{counted_of};
 
 use crate::break_rules::{br1, br2_part};
 use crate::capacity_rules::{WindowRule, ca2, ca4_part, met_windows};

@@ -5,7 +5,7 @@ ghost use Rattle.league.specs.Limits.{max_rounds};
 ghost use Rattle.league.specs.Sets.{has};
 ghost use Rattle.league.specs.Sums.{sum_below};
 ghost use Rattle.robinx.specs.Deviations.{over};
-ghost use Rattle.robinx.specs.Walked.{one_in, number_at};
+ghost use Rattle.robinx.specs.within.Walked.{one_in, number_at};
 
 use league::SlotSet;
 

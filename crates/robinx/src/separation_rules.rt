@@ -8,7 +8,7 @@ ghost use Rattle.league.specs.declared.rule.RuleBody.TheVariants as RuleBody;
 ghost use Rattle.fixtures.specs.Games.{IsPair, IsDoubleRoundRobin};
 ghost use Rattle.robinx.specs.Deviations.{over, rounds_between, deviation};
 ghost use Rattle.robinx.specs.Parts.{changing_terms};
-ghost use Rattle.robinx.specs.Walked.{counts_pair};
+ghost use Rattle.robinx.specs.within.Walked.{counts_pair};
 
 use crate::counts::over;
 use crate::guests::{Around, opponents_in};

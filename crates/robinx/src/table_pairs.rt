@@ -6,7 +6,7 @@ ghost use Rattle.fixtures.specs.Changes.{IsTurned};
 ghost use Rattle.fixtures.specs.Games.{Games, round_count, IsDoubleRoundRobin};
 ghost use Rattle.league.specs.declared.rule.RuleBody.TheVariants as RuleBody;
 ghost use Rattle.robinx.specs.Deviations.{deviation};
-ghost use Rattle.robinx.specs.Gaps.{pair_count, is_pair_of, IsGapTable, IsTablePair};
+ghost use Rattle.robinx.specs.within.Gaps.{pair_count, is_pair_of, IsGapTable, IsTablePair};
 ghost use Rattle.robinx.specs.declared.table_pairs.TablePair.{TablePair};
 
 use crate::fairness_rules::Fairness;

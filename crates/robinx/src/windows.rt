@@ -5,7 +5,7 @@ ghost use Rattle.league.specs.Limits.{max_rounds};
 ghost use Rattle.league.specs.Sets.{has, IsBelow};
 ghost use Rattle.league.specs.Sums.{sum_below, sum_where, count_where};
 ghost use Rattle.robinx.specs.Deviations.{over};
-ghost use Rattle.robinx.specs.Walked.{lacks};
+ghost use Rattle.robinx.specs.within.Walked.{lacks};
 
 use crate::counts::over;
 use league::SlotSet;

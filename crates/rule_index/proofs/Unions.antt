@@ -2,7 +2,8 @@
 use Rattle.std.proofs.Common.{◌≡◌, ℕ, ◌&&◌, ◌||◌, Bool, true, false, List, refl, sym, ◌∙◌, ap}
 use Rattle.std.proofs.Math.Bool.{or-false}
 use Rattle.league.specs.Limits.{max_teams}
-use Rattle.league.specs.Sets.{has, IsBelow, IsWithoutLowest}
+use Rattle.league.specs.Sets.{has, IsBelow}
+use Rattle.league.specs.within.Sets.{IsWithoutLowest}
 use Rattle.league.specs.Sums.{any_below}
 use Rattle.league.proofs.ForCallers.{any_below_from_none, lowest_below, has_empty}
 use Rattle.league.specs.declared.rule.Rule.{Rule}

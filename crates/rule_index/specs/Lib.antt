@@ -1,4 +1,4 @@
 pub mod Alterable
 pub mod Index
-pub mod Unions
 pub mod Laws
+pub mod within

@@ -6,7 +6,7 @@ ghost use Rattle.league.specs.Sets.{has, IsBelow};
 ghost use Rattle.league.specs.declared.rule.Rule.{Rule as LeagueRule};
 ghost use Rattle.rule_index.specs.Alterable.{is_alterable_at};
 ghost use Rattle.rule_index.specs.Index.{IsIndexOf};
-ghost use Rattle.rule_index.specs.Unions.{AreRulesAround, AreRulesWithin};
+ghost use Rattle.rule_index.specs.within.Unions.{AreRulesAround, AreRulesWithin};
 
 use crate::rows::{ROUNDS, TEAMS, TeamRules, round_rows, team_rows};
 use fixtures::Touched;

@@ -2,7 +2,8 @@
 use Rattle.std.proofs.Common.{◌≡◌, ◌≤◌, ◌<◌, ℕ, suc, ◌+◌, ◌-◌, ◌==◌, ◌&&◌, Bool, false, not, List, [], ◌∷◌, map, length, take, drop, refl, ap, inl, inr, arith, add-one}
 use Rattle.std.proofs.Math.Seq.{take-length}
 use Rattle.std.proofs.lemmas.Bool.{cases_Bool}
-use Rattle.schedule_tables.specs.Cells.{cell_at, cell_length, cells, inside_after, parts, trimmed, with_byte}
+use Rattle.schedule_tables.specs.Cells.{cell_at, cells, inside_after, parts, trimmed, with_byte}
+use Rattle.schedule_tables.specs.within.Cells.{cell_length}
 
 -- before a separator
 pub parted : (separator : ℕ) (inside : Bool) (line : List ℕ) → cell_length separator inside line < length line

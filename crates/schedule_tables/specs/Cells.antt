@@ -1,6 +1,5 @@
 -- The cells of a line of a table.
 use Rattle.std.specs.Prelude.{ℕ, zero, suc, ◌-◌, ◌==◌, ◌&&◌, ◌||◌, Bool, false, not, List, [], ◌∷◌, map, length, take, slice_index, Option, Some, None, if◌then◌else◌}
-use Rattle.std.specs.Borrow.{Bor}
 use Rattle.std.specs.List.{list_all}
 use Rattle.texts.specs.Words.{is_blank}
 
@@ -24,12 +23,6 @@ parts separator inside (b ∷ bs) =
     if not inside && (b == separator) then [] ∷ parts separator false bs
     else with_byte b (parts separator (inside_after b inside) bs)
 
--- how long the first of them is
-abbrev pub cell_length : ℕ → Bool → List ℕ → ℕ
-cell_length separator inside [] = 0
-cell_length separator inside (b ∷ bs) =
-    if not inside && (b == separator) then 0 else suc (cell_length separator (inside_after b inside) bs)
-
 -- ---- without blanks at the ends
 
 abbrev pub without_front : List ℕ → List ℕ
@@ -47,11 +40,6 @@ trimmed bytes = without_end (length (without_front bytes)) (without_front bytes)
 -- the cells of a line
 abbrev pub cells : ℕ → List ℕ → List (List ℕ)
 cells separator line = map trimmed (parts separator false line)
-
--- the cells of what is left of a line, if anything is
-abbrev pub cells_left : ℕ → Option (Bor (List ℕ)) → List (List ℕ)
-cells_left separator None = []
-cells_left separator (Some rest) = cells separator rest.now
 
 -- the cell of this index, if the line has so many
 abbrev pub cell_at : List (List ℕ) → ℕ → Option (List ℕ)

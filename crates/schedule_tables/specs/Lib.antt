@@ -3,3 +3,4 @@ pub mod Head
 pub mod Names
 pub mod Games
 pub mod Table
+pub mod within

@@ -1,7 +1,6 @@
 -- The sheet that a table stands for, a line for each of its games.
-use Rattle.std.specs.Prelude.{◌≡◌, ℕ, ◌+◌, Bool, false, Vec, List, [], ◌∷◌, ◌++◌, is_some, Option, Some, None, Result, Ok, Err, if◌then◌else◌}
+use Rattle.std.specs.Prelude.{◌≡◌, ℕ, ◌+◌, Bool, false, List, [], ◌∷◌, ◌++◌, is_some, Option, Some, None, Result, Ok, Err, if◌then◌else◌}
 use Rattle.std.specs.Str.Lines.{lines}
-use Rattle.std.specs.declared.alloc.Global.{Global}
 use Rattle.league.specs.League.{LeagueData}
 use Rattle.schedule_tables.specs.declared.fault.RowFault.{RowFault}
 use Rattle.schedule_tables.specs.declared.fault.TableFault.{TableFault}
@@ -53,12 +52,6 @@ schedule_lines l (first ∷ rows) = lines_by_head l (head_of first) (first ∷ r
 abbrev pub text_of : ScheduleText → List ℕ
 text_of (Given text) = text.now
 text_of (Made text) = text.items
-
--- what a call gives for a text that is wanted, if memory is there
-abbrev pub GivesText : Result (List ℕ) RowFault → Result (Vec ℕ Global) TableFault → Type 0
-GivesText wanted (Ok text) = wanted ≡ Ok text.items
-GivesText wanted (Err (Row fault)) = wanted ≡ Err fault
-GivesText wanted (Err Memory) = Unit {0}
 
 -- what a call gives for the lines of a schedule, if memory is there
 abbrev pub GivesLines : LeagueData → List (List ℕ) → Result ScheduleText TableFault → Type 0

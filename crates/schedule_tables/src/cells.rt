@@ -2,8 +2,9 @@
 
 ghost use Rattle.std.specs.Prelude.{◌≡◌, [], ◌∷◌, IfNone, IfSome, ◌≤◌, false, length, option_map};
 ghost use Rattle.texts.specs.Words.{is_blank};
-ghost use Rattle.schedule_tables.specs.Cells.{cell_at, cells, cells_left, is_empty_row, trimmed, unmarked};
-ghost use Rattle.schedule_tables.specs.Cells.{cell_length, without_end, without_front};
+ghost use Rattle.schedule_tables.specs.Cells.{cell_at, cells, is_empty_row, trimmed, unmarked};
+ghost use Rattle.schedule_tables.specs.within.Cells.{cells_left, cell_length};
+ghost use Rattle.schedule_tables.specs.Cells.{without_end, without_front};
 
 /// The byte that stands around a cell in which a separator may stand.
 pub(crate) const MARK: u8 = b'"';

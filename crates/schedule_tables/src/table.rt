@@ -2,7 +2,8 @@
 
 ghost use Rattle.std.specs.Prelude.{◌≡◌};
 ghost use Rattle.std.specs.Str.Lines.{lines};
-ghost use Rattle.schedule_tables.specs.Table.{is_table, rows_text, text_of, GivesLines, GivesText};
+ghost use Rattle.schedule_tables.specs.Table.{is_table, rows_text, text_of, GivesLines};
+ghost use Rattle.schedule_tables.specs.within.Table.{GivesText};
 
 use crate::cells::is_empty_row;
 use crate::fault::TableFault;

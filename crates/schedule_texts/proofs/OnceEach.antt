@@ -8,7 +8,8 @@ use Rattle.fixtures.specs.declared.game.Cell.{Cell}
 use Rattle.fixtures.specs.declared.game.Game.{Game}
 use Rattle.fixtures.specs.Games.{Games, round_count, IsCell, IsPair}
 use Rattle.fixtures.specs.GameList.{AreGamesOf, SamePair}
-use Rattle.fixtures.specs.Draft.{game_of, IsGame}
+use Rattle.fixtures.specs.Draft.{IsGame}
+use Rattle.fixtures.specs.within.Draft.{game_of}
 use Rattle.fixtures.proofs.ForCallers.{pair_swapped}
 use Rattle.schedule_texts.specs.Faults.{games_in, games_of_pair, is_of_pair, is_of_team}
 use Rattle.schedule_texts.proofs.Lone.{counted_lone}

@@ -6,7 +6,8 @@ use Rattle.std.proofs.lemmas.Bool.{or_parts}
 use Rattle.texts.specs.Words.{words_of}
 use Rattle.schedule_texts.specs.declared.last_sheet.LastSheet.{LastSheet}
 use Rattle.schedule_texts.specs.Faults.{bad_lines}
-use Rattle.schedule_texts.specs.LastSheet.{begins_sheet, has_round_line, has_sheet_line, last_sheet, IsLastSheet}
+use Rattle.schedule_texts.specs.LastSheet.{begins_sheet, has_round_line, has_sheet_line, last_sheet}
+use Rattle.schedule_texts.specs.within.LastSheet.{IsLastSheet}
 use Rattle.schedule_texts.specs.ScheduleText.{has_bad_line, written_games}
 
 -- n blank lines, and then others

@@ -6,11 +6,13 @@ use Rattle.league.specs.Limits.{max_rounds, max_teams}
 use Rattle.fixtures.specs.declared.game.Cell.{Cell}
 use Rattle.fixtures.specs.declared.game.Game.{Game}
 use Rattle.fixtures.specs.Games.{Games, round_of, IsCell, IsPair}
-use Rattle.fixtures.specs.Draft.{game_of, IsGame}
+use Rattle.fixtures.specs.Draft.{IsGame}
+use Rattle.fixtures.specs.within.Draft.{game_of}
 use Rattle.fixtures.proofs.ForCallers.{game_passes, pair_swapped}
 use Rattle.schedule_texts.specs.declared.counts.Counted.{Counted}
 use Rattle.schedule_texts.specs.declared.counts.Counted.TheVariants.{Rounds, Guests}
-use Rattle.schedule_texts.specs.Faults.{count_in, games_in, games_of_pair, is_of_pair, is_of_team, number_of, numbers, takes}
+use Rattle.schedule_texts.specs.Faults.{games_in, games_of_pair, is_of_pair, is_of_team}
+use Rattle.schedule_texts.specs.within.Faults.{count_in, number_of, numbers, takes}
 
 pub pair_passes : (n home away : ℕ) (x : Game) → IsGame n x → x.home ≡ home → x.away ≡ away → is_of_pair n home away x ≡ true
 pair_passes n home away x is e f = grind (arith, nat_tests, game_passes n x is)

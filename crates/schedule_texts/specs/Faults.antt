@@ -6,8 +6,6 @@ use Rattle.streams.specs.Pieces.{pieces_below}
 use Rattle.fixtures.specs.declared.game.Game.{Game}
 use Rattle.fixtures.specs.Draft.{is_game_in_range}
 use Rattle.fixtures.specs.Games.{round_count}
-use Rattle.schedule_texts.specs.declared.counts.Counted.{Counted}
-use Rattle.schedule_texts.specs.declared.counts.Counted.TheVariants.{Rounds, Guests}
 use Rattle.schedule_texts.specs.declared.schedule_text.ScheduleLine.{ScheduleLine}
 use Rattle.schedule_texts.specs.declared.schedule_text.ScheduleLine.TheVariants.{Other, Bad, Round}
 use Rattle.schedule_texts.specs.declared.schedule_text.WrittenGame.{WrittenGame}
@@ -93,29 +91,3 @@ faults n lines =
 -- the faults of lines that give no double round robin
 unfoldable pub faults_text : ℕ → List (List ℕ) → List ℕ
 faults_text n lines = faults n lines ++ codes "no double round robin\n"
-
--- ---- what the games of a team are counted by: all of them by round, or those at home by guest
-
-abbrev pub numbers : Counted → ℕ → ℕ
-numbers Rounds n = round_count n
-numbers Guests n = n
-
-abbrev pub takes : Counted → ℕ → ℕ → Game → Bool
-takes Rounds = plays
-takes Guests = receives
-
-abbrev pub number_of : Counted → Game → ℕ
-number_of Rounds x = x.round
-number_of Guests x = x.away
-
-abbrev pub count_in : Counted → ℕ → List Game → ℕ → ℕ → ℕ
-count_in Rounds = games_in
-count_in Guests = games_of_pair
-
-abbrev pub count_line : Counted → ℕ → ℕ → ℕ → List ℕ
-count_line Rounds = team_line
-count_line Guests = pair_line
-
-abbrev pub count_lines : Counted → ℕ → List Game → ℕ → List ℕ
-count_lines counted n games team =
-    pieces_below (λ number. count_line counted team number (count_in counted n games team number)) (numbers counted n)

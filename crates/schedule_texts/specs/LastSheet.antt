@@ -1,9 +1,8 @@
 -- The last sheet of a text.
-use Rattle.std.specs.Prelude.{◌≡◌, ℕ, ◌+◌, ◌≤◌, Bool, true, false, ◌||◌, List, [], ◌∷◌, ◌++◌, codes, length, replicate, if◌then◌else◌}
+use Rattle.std.specs.Prelude.{ℕ, Bool, true, false, ◌||◌, List, [], ◌∷◌, codes, if◌then◌else◌}
 use Rattle.std.specs.Str.{bytes_eq}
 use Rattle.std.specs.Str.Lines.{lines}
 use Rattle.texts.specs.Words.{words_of}
-use Rattle.schedule_texts.specs.declared.last_sheet.LastSheet.{LastSheet}
 use Rattle.schedule_texts.specs.declared.schedule_text.ScheduleLine.{ScheduleLine}
 use Rattle.schedule_texts.specs.declared.schedule_text.ScheduleLine.TheVariants.{Other, Bad, Round}
 use Rattle.schedule_texts.specs.ScheduleText.{line_of}
@@ -21,11 +20,6 @@ has_sheet_line (line ∷ lines) = begins_sheet (words_of line) || has_sheet_line
 abbrev pub last_sheet : List (List ℕ) → List (List ℕ)
 last_sheet [] = []
 last_sheet (line ∷ lines) = (if has_sheet_line (line ∷ lines) then [] else line) ∷ last_sheet lines
-
--- a sheet is the last one of a text: so many lines stand before it
-pub record IsLastSheet (text : List ℕ) (sheet : LastSheet) : Type 0 where
-  pub lines_are : last_sheet (lines text) ≡ replicate sheet.before [] ++ lines sheet.text.now
-  pub few : sheet.before + length sheet.text.now ≤ length text
 
 -- whether the line's first word is `round`
 abbrev pub is_of_round : ScheduleLine → Bool

@@ -4,3 +4,4 @@ pub mod Given
 pub mod Judged
 pub mod Faults
 pub mod Faultless
+pub mod within

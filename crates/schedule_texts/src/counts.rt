@@ -2,7 +2,8 @@
 
 ghost use Rattle.std.specs.Prelude.{◌≡◌, ℕ, ◌<◌, ◌≤◌, slice_index};
 ghost use Rattle.league.specs.Limits.{max_rounds, max_teams};
-ghost use Rattle.schedule_texts.specs.Faults.{count_in, number_of, numbers, plays, receives, takes};
+ghost use Rattle.schedule_texts.specs.Faults.{plays, receives};
+ghost use Rattle.schedule_texts.specs.within.Faults.{count_in, number_of, numbers, takes};
 
 use fixtures::Game;
 use league::limits::{MAX_ROUNDS, round_count};

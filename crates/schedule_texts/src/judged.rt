@@ -7,7 +7,7 @@ ghost use Rattle.streams.specs.Writing.{Writes};
 ghost use Rattle.schedule_texts.specs.Faults.{faults_text};
 ghost use Rattle.schedule_texts.specs.Given.{given_games, IsVerdict};
 ghost use Rattle.schedule_texts.specs.Judged.{IsJudgedBy};
-ghost use Rattle.schedule_texts.specs.LastSheet.{IsLastSheet};
+ghost use Rattle.schedule_texts.specs.within.LastSheet.{IsLastSheet};
 
 use crate::faults::write_faults;
 use crate::last_sheet::LastSheet;

@@ -3,7 +3,8 @@
 ghost use Rattle.std.specs.Prelude.{◌≡◌};
 ghost use Rattle.texts.specs.Words.{words_of};
 ghost use Rattle.std.specs.Str.Lines.{lines};
-ghost use Rattle.schedule_texts.specs.LastSheet.{begins_sheet, has_round_line, is_of_round, last_sheet, IsLastSheet};
+ghost use Rattle.schedule_texts.specs.LastSheet.{begins_sheet, has_round_line, is_of_round, last_sheet};
+ghost use Rattle.schedule_texts.specs.within.LastSheet.{IsLastSheet};
 
 use crate::schedule_text::ScheduleLine;
 use texts::{next_line, next_word};

@@ -11,7 +11,7 @@ use native.Mathlib.Decide.{ℕ_discrete}
 use Rattle.shared_board.specs.Seats.{BoardId, SeatValue, IsNew, given_at}
 use Rattle.shared_board.specs.Setting.{Setting}
 use Rattle.search.specs.declared.runs.threads.Job.{Job}
-use Rattle.search.specs.Crews.{IsFresh, IsJob, JobIn, job_number}
+use Rattle.search.specs.within.Crews.{IsFresh, IsJob, JobIn, job_number}
 
 -- The seats of the jobs are fresh, and their numbers rise up to that of the run's own, which is fresh too. All have one
 -- setting

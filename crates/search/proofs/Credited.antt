@@ -18,9 +18,9 @@ use Rattle.search.specs.declared.runs.threads.Ended.{Ended}
 use Rattle.search.specs.declared.runs.threads.Given.{Given}
 use Rattle.search.specs.declared.runs.threads.Job.{Job}
 use Rattle.search.specs.declared.workers.Report.{Report}
-use Rattle.search.specs.Crews.{AreStarted, IsBack, IsHandle, handle_number, job_number}
+use Rattle.search.specs.within.Crews.{AreStarted, IsBack, IsHandle, handle_number, job_number}
 use Rattle.search.specs.Outcomes.{AreCredited, Credits, accepted_of, made_by}
-use Rattle.search.specs.Heard.{IsOfWorker}
+use Rattle.search.specs.within.Heard.{IsOfWorker}
 use Rattle.search.proofs.SeatLaws.{under_known}
 
 -- What was taken in of the threads: their numbers, and their reports, each with as many accepted proposals as there are

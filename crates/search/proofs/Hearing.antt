@@ -6,8 +6,8 @@ use Rattle.search.specs.declared.workers.Report.{Report}
 use Rattle.search.specs.Doors.{done_count}
 use Rattle.search.specs.declared.workers.steps.StepResult.{StepResult}
 use Rattle.search.specs.declared.workers.steps.StepResult.TheVariants.{Nothing, Accepted, Refused, Full}
-use Rattle.search.specs.Heard.{AreHeard, IsHeard}
-use Rattle.search.specs.Steps.{IsProposed, accepted_count, report_with}
+use Rattle.search.specs.within.Heard.{AreHeard, IsHeard}
+use Rattle.search.specs.within.Steps.{IsProposed, accepted_count, report_with}
 
 heard_last : (heard : ℕ → Reply → Type 0) (made at : ℕ) (rs : List Reply) (r : Reply) → AreHeard heard made rs →
     at ≡ made + length rs → heard at r → AreHeard heard made (rs ++ r ∷ [])

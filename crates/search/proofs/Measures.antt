@@ -11,7 +11,7 @@ use Rattle.fixture_board.specs.History.{cost_at, games_of}
 use Rattle.fixture_board.specs.Looks.{copied}
 use Rattle.fixture_board.proofs.ForCallers.{games_of_teams, is_scored_league}
 use Rattle.search.specs.Doors.{Shows}
-use Rattle.search.specs.Steps.{IsMeasured}
+use Rattle.search.specs.within.Steps.{IsMeasured}
 
 -- no call changes which boards may be had
 pub measured_still : (of_boards : Bool) (league : LeagueData) (before after : LeagueData → ℕ → Type 0)

@@ -1,7 +1,5 @@
 pub mod Draws
 pub mod Doors
 pub mod Reports
-pub mod Heard
-pub mod Steps
 pub mod Outcomes
-pub mod Crews
+pub mod within

@@ -3,9 +3,9 @@
 ghost use Rattle.std.specs.Prelude.{◌≡◌, ◌<◌, [], Some, length, slice_index_or, All, IfOk, IfErr, IsTrue};
 ghost use Rattle.shared_board.specs.Setting.{board_at};
 ghost use Rattle.search.specs.Outcomes.{Credits, IsAlike, IsOutcome, IsRefusal, IsWorkers};
-ghost use Rattle.search.specs.Heard.{IsOfWorker};
+ghost use Rattle.search.specs.within.Heard.{IsOfWorker};
 ghost use Rattle.search.specs.declared.runs.RunFault.TheVariants.{Receipts};
-ghost use Rattle.search.specs.Crews.{HasRoom, IsFresh};
+ghost use Rattle.search.specs.within.Crews.{HasRoom, IsFresh};
 ghost use Rattle.search.specs.Reports.{IsReport};
 ghost use Rattle.search.specs.declared.workers.Report.{Report};
 

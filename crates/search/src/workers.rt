@@ -2,9 +2,9 @@
 
 ghost use Rattle.std.specs.Prelude.{◌≡◌, ◌+◌, ◌^◌, ◌<◌};
 ghost use Rattle.league.specs.League.{teams};
-ghost use Rattle.search.specs.Heard.{IsHeard};
+ghost use Rattle.search.specs.within.Heard.{IsHeard};
 ghost use Rattle.search.specs.Reports.{IsReport};
-ghost use Rattle.search.specs.Steps.{IsMeasured, report_with, slack_of};
+ghost use Rattle.search.specs.within.Steps.{IsMeasured, report_with, slack_of};
 
 mod steps;
 

@@ -8,7 +8,8 @@ use Rattle.std.proofs.lemmas.Nat.{pow_pos}
 use Rattle.std.proofs.lemmas.Nat.Bits.{bit_at-zero, bit_at_cat_low, bit_at_cat_high}
 use Rattle.std.specs.Int.{Width, trailing_zeros}
 use mir.Val.{bits}
-use Rattle.sets.specs.Sets.{has, IsWithoutLowest}
+use Rattle.sets.specs.Sets.{has}
+use Rattle.sets.specs.within.Sets.{IsWithoutLowest}
 use Rattle.sets.proofs.LowestBits.{lowest_taken}
 use Rattle.sets.proofs.WalkedSums.{lowest_below}
 

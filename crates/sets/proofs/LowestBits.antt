@@ -9,7 +9,8 @@ use Rattle.std.proofs.lemmas.Nat.Bits.{bit_at_cat_low, bit_at_cat_high, same_fro
 use Rattle.std.proofs.lemmas.Nat.Bits.{bit_at-trailing_zeros}
 use Rattle.std.specs.Int.{bit_at, Width, trailing_zeros}
 use mir.Val.{bits}
-use Rattle.sets.specs.Sets.{has, IsWithoutLowest}
+use Rattle.sets.specs.Sets.{has}
+use Rattle.sets.specs.within.Sets.{IsWithoutLowest}
 
 -- k is the place of the lowest bit of a number
 record IsLowest (set k : ℕ) : Type 0 where

@@ -8,7 +8,8 @@ use Rattle.std.proofs.lemmas.Nat.Bits.{same_from_bits, bit_at-lt}
 use Rattle.std.specs.Int.{bit_at}
 use Rattle.sets.specs.Limits.{max_teams}
 use Rattle.sets.specs.Sets.{has, with_number}
-use Rattle.sets.specs.Pairs.{seconds_of, has_pair, no_pairs, with_pair, AreFirsts}
+use Rattle.sets.specs.Pairs.{seconds_of, has_pair, no_pairs, with_pair}
+use Rattle.sets.specs.within.Pairs.{AreFirsts}
 use Rattle.sets.proofs.Bits.{has_with_number}
 use Rattle.sets.proofs.WalkedSums.{has_empty}
 

@@ -6,7 +6,8 @@ use Rattle.std.proofs.Math.Nat.{mul-le-mul_left, zero-add}
 use Rattle.std.proofs.lemmas.Bool.{cases_lt, eq-eqb, ne_eqb, and_right, cond-true, cond-false, true≢false}
 use Rattle.std.proofs.lemmas.Nat.Bits.{bit_at-zero}
 use Rattle.sets.specs.Sums.{sum_where, count_where}
-use Rattle.sets.specs.Sets.{has, IsBelow, IsWithoutLowest}
+use Rattle.sets.specs.Sets.{has, IsBelow}
+use Rattle.sets.specs.within.Sets.{IsWithoutLowest}
 use Rattle.sets.proofs.Bits.{has_beyond}
 use Rattle.sets.proofs.Sums.{sum_below_one, sum_where_none, sum_where_same, count_where_le}
 

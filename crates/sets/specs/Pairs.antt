@@ -1,5 +1,5 @@
 -- Sets of ordered pairs of teams: for each first team the set of the second ones.
-use Rattle.std.specs.Prelude.{◌≡◌, ℕ, ◌==◌, not, Bool, List, length, replicate, slice_index, slice_set}
+use Rattle.std.specs.Prelude.{ℕ, Bool, List, replicate, slice_index, slice_set}
 use Rattle.sets.specs.Limits.{max_teams}
 use Rattle.sets.specs.Sets.{has, with_number}
 
@@ -15,8 +15,3 @@ no_pairs = replicate max_teams 0
 
 abbrev pub with_pair : List ℕ → ℕ → ℕ → List ℕ
 with_pair pairs first second = slice_set pairs first (with_number (seconds_of pairs first) second)
-
--- the set of those teams that are first in some pair
-pub record AreFirsts (pairs : List ℕ) (firsts : ℕ) : Type 0 where
-  pub rows : length pairs ≡ max_teams
-  pub members : (t : ℕ) → has firsts t ≡ not (seconds_of pairs t == 0)

@@ -1,5 +1,5 @@
 -- A set of numbers is a number: its bit k tells whether k is in the set.
-use Rattle.std.specs.Prelude.{◌≡◌, ℕ, ◌+◌, ◌-◌, ◌^◌, ◌<◌, ◌==◌, ◌&&◌, ◌||◌, not, Bool, true, false, Option, MatchOption}
+use Rattle.std.specs.Prelude.{ℕ, ◌+◌, ◌-◌, ◌^◌, ◌<◌, ◌==◌, ◌&&◌, ◌||◌, not, Bool}
 use Rattle.std.specs.Prelude.{bit_or}
 use Rattle.std.specs.Bool.{beq}
 use Rattle.std.specs.Int.{bit_at}
@@ -29,14 +29,3 @@ both i j = with_number (with_number 0 j) i
 -- all numbers below m
 unfoldable pub all_numbers : ℕ → ℕ
 all_numbers m = 2 ^ m - 1
-
--- the set is another with its lowest number taken out
-pub record IsWithoutLowest (set lowest rest : ℕ) : Type 0 where
-  pub in_set : has set lowest ≡ true
-  pub is_lowest : (k : ℕ) → k < lowest → has set k ≡ false
-  pub others : (k : ℕ) → has rest k ≡ (has set k && not (k == lowest))
-  pub fewer : rest < set
-
--- takes the lowest number out of a set, if there is one
-abbrev pub TakesLowest : ℕ → Option ℕ → ℕ → Type 0
-TakesLowest set taken rest = MatchOption taken ((set ≡ 0) × (rest ≡ 0)) (λ lowest. IsWithoutLowest set lowest rest)

@@ -21,7 +21,7 @@ pub struct PairSet {
 
 impl Model for PairSet {
     ghost use Rattle.std.specs.Prelude.{List, ℕ};
-    ghost use Rattle.sets.specs.Pairs.{AreFirsts};
+    ghost use Rattle.sets.specs.within.Pairs.{AreFirsts};
 
     ghost Value = { List ℕ };
 

@@ -4,7 +4,8 @@ ghost use Rattle.std.specs.Prelude.{◌≡◌, ℕ, ◌+◌, ◌-◌, ◌*◌, �
 ghost use Rattle.std.specs.Iterator.{at_most};
 ghost use Rattle.std.proofs.lemmas.Nat.{div-mul-add, mod-mul-add};
 ghost use Rattle.sets.specs.Limits.{max_rules};
-ghost use Rattle.sets.specs.Sets.{has, IsBelow, with_number, TakesLowest};
+ghost use Rattle.sets.specs.Sets.{has, IsBelow, with_number};
+ghost use Rattle.sets.specs.within.Sets.{TakesLowest};
 
 use std::marker::Model;
 

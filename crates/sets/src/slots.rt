@@ -4,7 +4,8 @@ ghost use Rattle.std.specs.Prelude.{◌≡◌, ℕ, ◌+◌, ◌-◌, ◌*◌, �
 ghost use Rattle.std.specs.Iterator.{at_most};
 ghost use Rattle.sets.specs.Limits.{max_rounds};
 ghost use Rattle.sets.specs.Sums.{count_where, all_below, any_below};
-ghost use Rattle.sets.specs.Sets.{has, has_or_follows, is_like_next, IsBelow, with_number, both, all_numbers, TakesLowest};
+ghost use Rattle.sets.specs.Sets.{has, has_or_follows, is_like_next, IsBelow, with_number, both, all_numbers};
+ghost use Rattle.sets.specs.within.Sets.{TakesLowest};
 
 use std::marker::Model;
 

@@ -4,7 +4,8 @@ ghost use Rattle.std.specs.Prelude.{◌≡◌, ℕ, ◌-◌, ◌<◌, ◌≤◌,
 ghost use Rattle.std.specs.Iterator.{at_most};
 ghost use Rattle.sets.specs.Limits.{max_teams};
 ghost use Rattle.sets.specs.Sums.{count_where, any_below};
-ghost use Rattle.sets.specs.Sets.{has, IsBelow, with_number, both, all_numbers, TakesLowest};
+ghost use Rattle.sets.specs.Sets.{has, IsBelow, with_number, both, all_numbers};
+ghost use Rattle.sets.specs.within.Sets.{TakesLowest};
 
 use std::marker::Model;
 

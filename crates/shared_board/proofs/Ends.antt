@@ -17,14 +17,16 @@ use Rattle.fixture_board.specs.Replies.{entry, next_of}
 use Rattle.shared_board.specs.declared.view.View.{View}
 use Rattle.shared_board.specs.declared.shared.Judged.{Judged}
 use Rattle.shared_board.specs.Setting.{Setting, board_at}
-use Rattle.shared_board.specs.Stage.{away, holds, kept}
+use Rattle.shared_board.specs.Stage.{away, holds}
+use Rattle.shared_board.specs.within.Stage.{kept}
 use Rattle.shared_board.specs.Held.{times, once_below, under, HoldsEach, callers_below}
 use Rattle.shared_board.specs.Rule.{Knows}
-use Rattle.shared_board.specs.Plays.{Token, Meets, Took, Counted, Agreed, counting, drawing, newcomer, joined, longer}
-use Rattle.shared_board.specs.Plays.{saw, at_stage, on_board}
-use Rattle.shared_board.specs.Seats.{BoardId, SeatValue, seat_value, HasBoard, IsIdle, IsSeat, IsConsistent, Met, Answered, IsNew, Absorbed}
-use Rattle.shared_board.specs.Ending.{IsSeatAfter, IsOfBoth, BroughtOut, HoldsBelow}
-use Rattle.shared_board.specs.Judging.{IsJudged}
+use Rattle.shared_board.specs.within.Plays.{Token, Meets, Took, Counted, Agreed, counting, drawing, newcomer, joined, longer, saw, at_stage}
+use Rattle.shared_board.specs.within.Plays.{on_board}
+use Rattle.shared_board.specs.Seats.{BoardId, SeatValue, seat_value, IsConsistent, Met, Answered, IsNew, Absorbed}
+use Rattle.shared_board.specs.within.Seats.{HasBoard, IsIdle, IsSeat}
+use Rattle.shared_board.specs.within.Ending.{IsSeatAfter, IsOfBoth, BroughtOut, HoldsBelow}
+use Rattle.shared_board.specs.within.Judging.{IsJudged}
 use Rattle.shared_board.proofs.BoardLaws.{reply_tells}
 use Rattle.shared_board.proofs.Counts.{times_append, times_own, times_one, times_self, once_within, all_alike}
 use Rattle.shared_board.proofs.Counts.{under_append, under_both, under_most, under_none, under_all, callers_prefix}

@@ -16,8 +16,9 @@ use Rattle.shared_board.specs.declared.view.View.{View}
 use Rattle.shared_board.specs.Setting.{Setting}
 use Rattle.shared_board.specs.Stage.{away}
 use Rattle.shared_board.specs.Held.{times, under}
-use Rattle.shared_board.specs.Rule.{Knows, Lowest, Fits, upto, Ruled, spent_view}
-use Rattle.shared_board.specs.Plays.{Token, glanced, lowered, agreed, last_drawn, drawn_before, drawer, newcomer, joined, longer}
+use Rattle.shared_board.specs.Rule.{Knows, Lowest, Fits, upto, Ruled}
+use Rattle.shared_board.specs.within.Rule.{spent_view}
+use Rattle.shared_board.specs.within.Plays.{Token, glanced, lowered, agreed, last_drawn, drawn_before, drawer, newcomer, joined, longer}
 use Rattle.shared_board.specs.Between.{Table}
 use Rattle.shared_board.proofs.BoardLaws.{least_falls_on}
 use Rattle.shared_board.proofs.Counts.{times_append, under_append, under_both, once_more, total_set}

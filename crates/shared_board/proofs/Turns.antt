@@ -18,13 +18,15 @@ use Rattle.fixture_board.specs.Record.{Book, book}
 use Rattle.league.specs.League.{IsLeague}
 use Rattle.shared_board.specs.declared.view.View.{View}
 use Rattle.shared_board.specs.Setting.{Setting, board_at}
-use Rattle.shared_board.specs.Stage.{Stage, away, holds, counts, owes, kept, owed, IsSettled}
+use Rattle.shared_board.specs.Stage.{Stage, away, holds, counts, owes}
+use Rattle.shared_board.specs.within.Stage.{kept, owed, IsSettled}
 use Rattle.shared_board.specs.Held.{times, once_below, callers_below}
-use Rattle.shared_board.specs.Rule.{Knows, Lowest, Fits, upto, Added, IsHolder, IsDrawn, Ruled, first_view}
-use Rattle.shared_board.specs.Plays.{Token, Meets, took, committed, posted, left, quit, counted, drawn, drawing}
-use Rattle.shared_board.specs.Plays.{counting, at_stage, saw, on_board}
+use Rattle.shared_board.specs.Rule.{Knows, Lowest, Fits, upto, Added, IsHolder, IsDrawn, Ruled}
+use Rattle.shared_board.specs.within.Rule.{first_view}
+use Rattle.shared_board.specs.within.Plays.{Token, Meets, took, committed, posted, left, quit, counted, drawn, drawing, counting, at_stage}
+use Rattle.shared_board.specs.within.Plays.{saw, on_board}
 use Rattle.shared_board.specs.Between.{Table}
-use Rattle.shared_board.specs.Seats.{HasBoard}
+use Rattle.shared_board.specs.within.Seats.{HasBoard}
 use Rattle.shared_board.proofs.BoardLaws.{legal_start, least_falls}
 use Rattle.shared_board.proofs.Counts.{under_both, under_none, callers_append, callers_after, callers_more}
 use Rattle.shared_board.proofs.Counts.{once_most, once_next, times_own, held_below, total_two}

@@ -13,10 +13,11 @@ use Rattle.fixture_board.specs.Record.{Book}
 use Rattle.fixture_board.specs.Laws.{least_of}
 use Rattle.shared_board.specs.declared.view.View.{View}
 use Rattle.shared_board.specs.Setting.{Setting}
-use Rattle.shared_board.specs.Stage.{Stage, Former, away, holds, counts, owes, kept, IsSettled}
+use Rattle.shared_board.specs.Stage.{Stage, Former, away, holds, counts, owes}
+use Rattle.shared_board.specs.within.Stage.{kept, IsSettled}
 use Rattle.shared_board.specs.Held.{times, once_below, total}
 use Rattle.shared_board.specs.Rule.{Knows, Lowest, EachFormer, Fits, upto, IsHolder, IsFree, IsHeld, AllRead}
-use Rattle.shared_board.specs.Plays.{at_stage, saw}
+use Rattle.shared_board.specs.within.Plays.{at_stage, saw}
 use Rattle.shared_board.proofs.Counts.{under_append, under_fewer, total_set}
 
 -- the whole history is known

@@ -4,7 +4,6 @@ pub mod Held
 pub mod Rule
 pub mod Plays
 pub mod Seats
-pub mod Judging
-pub mod Ending
 pub mod Between
 pub mod Fixtures
+pub mod within

@@ -1,10 +1,10 @@
 -- The rule that holds between any two steps.
-use Rattle.std.specs.Prelude.{Option, Some, ◌≡◌, ◌≢◌, ◌⊎◌, ℕ, ◌<◌, ◌≤◌, List, [], ◌∷◌, ◌++◌, length, true, false}
+use Rattle.std.specs.Prelude.{Option, Some, ◌≡◌, ◌≢◌, ◌⊎◌, ℕ, ◌<◌, ◌≤◌, List, [], ◌∷◌, ◌++◌, length, true}
 use mathlib.Core.Option.{none, some}
 use mathlib.Core.Option as maybe
 use lib.ListN.{get_elem?}
 use Rattle.atomic_table.specs.Table.{State}
-use Rattle.league.specs.League.{no_league, IsLeague}
+use Rattle.league.specs.League.{IsLeague}
 use Rattle.fixture_board.specs.declared.change.Entry.{Entry}
 use Rattle.fixture_board.specs.History.{IsLegal}
 use Rattle.fixture_board.specs.Laws.{least_of}
@@ -13,34 +13,6 @@ use Rattle.shared_board.specs.declared.view.View.{View}
 use Rattle.shared_board.specs.Setting.{Setting, board_at}
 use Rattle.shared_board.specs.Stage.{Stage, Former, away, holds, counts, owes}
 use Rattle.shared_board.specs.Held.{times, once_below, total, under, callers_below}
-
--- the first seat of a board without an entry
-abbrev pub first_view : Book → View
-first_view b = record {
-  setting = record { league = b.league; room = b.room };
-  live = true;
-  held = 0 ∷ [];
-  seen = [];
-  glanced = 0;
-  lowest = least_of b.league [];
-  given = 1;
-  formers = [];
-  stage = away;
-}
-
--- a view that another seat has taken in
-abbrev pub spent_view : View
-spent_view = record {
-  setting = record { league = no_league; room = 0 };
-  live = false;
-  held = [];
-  seen = [];
-  glanced = 0;
-  lowest = 0;
-  given = 0;
-  formers = [];
-  stage = away;
-}
 
 -- the history begins with what was seen, and has after it no entry under a number that is held
 pub record Knows (held : List ℕ) (seen history : List Entry) : Type 0 where

@@ -14,10 +14,9 @@ use Rattle.fixture_board.specs.Replies.{next_of, reply_of}
 use Rattle.shared_board.specs.declared.view.View.{View}
 use Rattle.shared_board.specs.declared.shared.Closed.{Closed}
 use Rattle.shared_board.specs.Setting.{Setting, board_at}
-use Rattle.shared_board.specs.Stage.{away}
 use Rattle.shared_board.specs.Held.{times, under}
 use Rattle.shared_board.specs.Rule.{Knows}
-use Rattle.shared_board.specs.Plays.{Token, IsMet}
+use Rattle.shared_board.specs.Plays.{IsMet}
 
 -- which board it is
 abbrev pub BoardId : Type 0
@@ -45,24 +44,6 @@ seat_value table number v = record {
   given = v.given;
 }
 
--- between calls a seat holds neither the turn nor the board
-pub record IsIdle (me : Token) : Type 0 where
-  pub live : me.0.live ≡ true
-  pub away_is : me.0.stage ≡ away
-  pub no_slot : me.1 ≡ []
-
--- the fields of a seat stand to what it knows: its number, how many it holds, how long the history was, and its
--- entries in it
-pub record IsSeat (me : Token) (number held seen accepted : ℕ) : Type 0 where
-  pub idle : IsIdle me
-  pub own : 0 < times number me.0.held
-  pub single : (x : ℕ) → times x me.0.held ≤ 1
-  pub count : held ≡ length me.0.held
-  pub long : seen ≡ length me.0.seen
-  pub entries : accepted ≡ under me.0.held me.0.seen
-  pub below : (x : ℕ) → me.0.given ≤ x → times x me.0.held ≡ 0
-  pub ahead : length me.0.seen ≤ me.0.glanced
-
 -- What holds of every seat: it holds its own number, none twice, and none that it doesn't know to be given out, and it
 -- has glanced no less than it has seen
 pub record IsConsistent (a : SeatValue) : Type 0 where
@@ -70,10 +51,6 @@ pub record IsConsistent (a : SeatValue) : Type 0 where
   pub single : (x : ℕ) → times x a.held ≤ 1
   pub below : (x : ℕ) → a.given ≤ x → times x a.held ≡ 0
   pub ahead : length a.seen ≤ a.glanced
-
--- the seat has the board, with this history
-abbrev pub HasBoard : Token → List Entry → Type 0
-HasBoard me h = me.1 ≡ (0, Some (board_at me.0.setting h)) ∷ []
 
 -- the seat, once it has seen this history
 abbrev pub now_seen : SeatValue → List Entry → SeatValue

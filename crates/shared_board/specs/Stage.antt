@@ -1,5 +1,5 @@
 -- Where a seat is in its turn.
-use Rattle.std.specs.Prelude.{ℕ, List, []}
+use Rattle.std.specs.Prelude.{ℕ, List}
 use Rattle.fixture_board.specs.declared.change.Entry.{Entry}
 
 -- A seat that holds the turn knows the history. With `counts` it has also read how many numbers are given out.
@@ -14,24 +14,3 @@ pub data Stage : Type 0 where
 pub record Former : Type 0 where
   pub held : List ℕ
   pub seen : List Entry
-
--- the history
-abbrev pub kept : Stage → List Entry
-kept away = []
-kept (holds h) = h
-kept (counts h) = h
-kept (owes before h) = h
-
--- the history before the one whose best total is owed
-abbrev pub owed : Stage → List Entry
-owed away = []
-owed (holds h) = []
-owed (counts h) = []
-owed (owes before h) = before
-
--- it holds the turn and owes nothing
-abbrev pub IsSettled : Stage → Type 0
-IsSettled away = ⊥
-IsSettled (holds h) = Unit {0}
-IsSettled (counts h) = Unit {0}
-IsSettled (owes before h) = ⊥

@@ -1,7 +1,7 @@
 //! The names of the steps, and what each tells.
 
-ghost use Rattle.shared_board.specs.Plays.{took, committed, posted, left, quit, counted, drawn, glanced, lowered};
-ghost use Rattle.shared_board.specs.Plays.{drawer, newcomer, joined, agreed};
+ghost use Rattle.shared_board.specs.within.Plays.{took, committed, posted, left, quit, counted, drawn, glanced, lowered, drawer, newcomer};
+ghost use Rattle.shared_board.specs.within.Plays.{joined, agreed};
 
 use crate::view::View;
 use atomic_table::{Join, Play, Split};
@@ -90,7 +90,7 @@ impl Split<View> for Newcomer {
 pub struct Both;
 
 impl Join<View> for Both {
-    ghost use Rattle.shared_board.specs.Rule.{spent_view};
+    ghost use Rattle.shared_board.specs.within.Rule.{spent_view};
 
     ghost both = { joined };
 

@@ -72,7 +72,8 @@ pub struct Seat {
 }
 
 impl Model for Seat {
-    ghost use Rattle.shared_board.specs.Seats.{SeatValue, seat_value, IsSeat};
+    ghost use Rattle.shared_board.specs.Seats.{SeatValue, seat_value};
+    ghost use Rattle.shared_board.specs.within.Seats.{IsSeat};
 
     ghost Value = { SeatValue };
 

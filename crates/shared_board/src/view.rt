@@ -42,7 +42,8 @@ impl Model for View {
 pub struct Order;
 
 impl TableRule<Option<Board>, View, Snapshot<Board>> for Order {
-    ghost use Rattle.shared_board.specs.Rule.{Ruled, first_view};
+    ghost use Rattle.shared_board.specs.Rule.{Ruled};
+    ghost use Rattle.shared_board.specs.within.Rule.{first_view};
 
     ghost holds = { λ _. Ruled };
 

@@ -1,10 +1,6 @@
 -- What one call does to the bytes that a source has left and that a sink holds, if those are known.
-use Rattle.std.specs.Prelude.{◌≡◌, ◌≤◌, ℕ, List, Option, Result, Ok, Err, length, take}
-use Rattle.std.specs.IoError.{error_kind}
-use Rattle.std.specs.declared.io.Error.{Error}
+use Rattle.std.specs.Prelude.{◌≡◌, ◌≤◌, ℕ, List, Option, length, take}
 use Rattle.std.specs.Io.KnownBytes.{Consumes, Appends, Keeps, IsAtEnd}
-use Rattle.std.specs.declared.io.ErrorKind.{ErrorKind}
-use Rattle.std.specs.declared.io.ErrorKind.TheVariants.{Interrupted}
 use Rattle.streams.specs.declared.ends.Step.{Step}
 use Rattle.streams.specs.declared.ends.Step.TheVariants.{Moved, Again, Failed}
 
@@ -19,13 +15,3 @@ abbrev pub StepGives : Option (List ℕ) → Option (List ℕ) → Step → List
 StepGives old new (Moved n) piece = (n ≤ length piece) × Appends old new (take n piece)
 StepGives old new Again piece = Keeps old new
 StepGives old new Failed piece = Keeps old new
-
--- what a call of an end answers if std's reader or writer fails with an error of this kind
-abbrev pub step_of_kind : ErrorKind → Step
-step_of_kind Interrupted = Again
-step_of_kind _ = Failed
-
--- what it answers if they answer this
-abbrev pub step_of_answer : Result ℕ Error → Step
-step_of_answer (Ok n) = Moved n
-step_of_answer (Err error) = step_of_kind (error_kind error)

@@ -7,3 +7,4 @@ pub mod Sending
 pub mod Writing
 pub mod Memory
 pub mod Limits
+pub mod within

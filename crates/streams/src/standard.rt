@@ -1,6 +1,6 @@
 //! What a read or a write of std comes to.
 ghost use Rattle.std.specs.Prelude.{◌≡◌};
-ghost use Rattle.streams.specs.Ends.{step_of_answer};
+ghost use Rattle.streams.specs.within.Ends.{step_of_answer};
 
 use super::ends::Step;
 use std::io;

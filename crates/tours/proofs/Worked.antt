@@ -3,7 +3,8 @@
 use Rattle.std.proofs.Common.{◌≡◌, ℕ, true, false, List, [], ◌∷◌, map, refl, ◌||◌, Bool}
 use Rattle.std.specs.Prelude.{◌==◌}
 use Rattle.std.specs.List.{range_with_len}
-use Rattle.league.specs.League.{LeagueData, league_data, with_origin}
+use Rattle.league.specs.League.{LeagueData, league_data}
+use Rattle.league.specs.within.League.{with_origin}
 use Rattle.league.specs.Origins.{origin_at}
 use Rattle.league.specs.declared.origins.Start.TheVariants.{Berger, Fide, Given}
 use Rattle.league.specs.Sums.{sum_below, all_below, any_below}

@@ -3,7 +3,5 @@ pub mod Runs
 pub mod Repeats
 pub mod Parts
 pub mod Phased
-pub mod Walked
 pub mod Moved
-pub mod Told
-pub mod Exchanges
+pub mod within

@@ -1,10 +1,9 @@
 -- Games that have another round than at the start.
-use Rattle.std.specs.Prelude.{ℕ, ◌&&◌, ◌==◌, not, Bool, if◌then◌else◌}
+use Rattle.std.specs.Prelude.{ℕ, ◌&&◌, ◌==◌, not, Bool}
 use Rattle.league.specs.League.{LeagueData}
 use Rattle.league.specs.Starts.{start_round}
 use Rattle.league.specs.Sums.{sum_below, count_where}
-use Rattle.fixtures.specs.Games.{Games, round_of, cell_round}
-use Rattle.fixtures.specs.declared.game.Cell.{Cell}
+use Rattle.fixtures.specs.Games.{Games, round_of}
 
 -- whether the game in which `home` receives `away` has another round than this start gives it
 abbrev pub is_moved : (ℕ → ℕ → ℕ) → Games → ℕ → ℕ → Bool
@@ -17,11 +16,3 @@ moved_from start g = sum_below g.teams (λ home. count_where g.teams (is_moved s
 -- how many games have another round than at the start of the league
 abbrev pub moved_games : LeagueData → Games → ℕ
 moved_games l g = moved_from (start_round l) g
-
--- 1 if the start has the game of a team with this opponent, at home or away, in another round than this
-abbrev pub cell_moved : (ℕ → ℕ → ℕ) → ℕ → Cell → ℕ → ℕ
-cell_moved start t c r = if not (r == cell_round start t c) then 1 else 0
-
--- the same of a game at home, and 0 of one away
-abbrev pub home_moved : (ℕ → ℕ → ℕ) → ℕ → Cell → ℕ → ℕ
-home_moved start t c r = if c.home then cell_moved start t c r else 0

@@ -8,7 +8,8 @@ ghost use Rattle.league.specs.Starts.{start_round};
 ghost use Rattle.fixtures.specs.Games.{cell, round_count, round_of, IsPair};
 ghost use Rattle.fixtures.specs.Edits.{rounds_exchanged, teams_exchanged};
 ghost use Rattle.fixtures.specs.Closed.{IsClosed, plays_in, shares_opponent};
-ghost use Rattle.tours.specs.Moved.{cell_moved, home_moved, moved_games};
+ghost use Rattle.tours.specs.Moved.{moved_games};
+ghost use Rattle.tours.specs.within.Moved.{cell_moved, home_moved};
 
 use crate::season::{rounds_in, teams_in};
 use crate::told::Moved;

@@ -7,7 +7,7 @@ ghost use Rattle.fixtures.specs.Games.{round_count, round_of, IsDoubleRoundRobin
 ghost use Rattle.fixtures.specs.Edits.{exchanged, rounds_exchanged, teams_exchanged};
 ghost use Rattle.fixtures.specs.Closed.{IsClosed, plays_in, shares_opponent};
 ghost use Rattle.tours.specs.Repeats.{repeats};
-ghost use Rattle.tours.specs.Told.{AreSums, met, meets_next, same_lower, repeats_around};
+ghost use Rattle.tours.specs.within.Told.{AreSums, met, meets_next, same_lower, repeats_around};
 
 use crate::season::teams_in;
 use crate::told::Breaches;

@@ -8,8 +8,8 @@ ghost use Rattle.fixtures.specs.Games.{round_count, IsDoubleRoundRobin};
 ghost use Rattle.fixtures.specs.Edits.{rounds_exchanged};
 ghost use Rattle.fixtures.specs.Closed.{IsClosed, plays_in};
 ghost use Rattle.tours.specs.Tours.{leg, travel};
-ghost use Rattle.tours.specs.Walked.{leg_exchanged};
-ghost use Rattle.tours.specs.Told.{AreSums, legs_around, legs_changed};
+ghost use Rattle.tours.specs.within.Walked.{leg_exchanged};
+ghost use Rattle.tours.specs.within.Told.{AreSums, legs_around, legs_changed};
 
 use crate::season::teams_in;
 use crate::told::Legs;

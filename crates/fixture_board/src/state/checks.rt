@@ -5,7 +5,7 @@ ghost use Rattle.std.specs.Result.{result_err};
 ghost use Rattle.league.specs.Limits.{max_teams};
 ghost use Rattle.fixtures.specs.declared.game.Game.{Game};
 ghost use Rattle.fixture_board.specs.History.{has_game, AllStand};
-ghost use Rattle.fixture_board.specs.PinTable.{ArePinsAt};
+ghost use Rattle.fixture_board.specs.within.PinTable.{ArePinsAt};
 ghost use Rattle.fixture_board.specs.Replies.{first_of, is_wrong, version_rows, game_rows, move_rows, score_rows};
 
 use crate::ask::Proposal;

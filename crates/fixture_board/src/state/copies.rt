@@ -7,7 +7,7 @@ use std::alloc::{AllocError, Global};
 
 impl State {
     ghost use Rattle.std.specs.Prelude.{◌≡◌, ◌≤◌, length, None, IfOk};
-    ghost use Rattle.fixture_board.specs.Kept.{kept_of, HasMemory};
+    ghost use Rattle.fixture_board.specs.within.Kept.{kept_of, HasMemory};
 
     /// The same with memory of its own, and room for as many entries.
     pub(crate) fn duplicate(&self, alloc: Global) -> Result<State, AllocError>

@@ -10,7 +10,7 @@ use league::League;
 
 impl State {
     ghost use Rattle.std.specs.Prelude.{◌≡◌};
-    ghost use Rattle.fixture_board.specs.Kept.{kept_of, HasMemory, FollowsHistory};
+    ghost use Rattle.fixture_board.specs.within.Kept.{kept_of, HasMemory, FollowsHistory};
     ghost use Rattle.fixture_board.specs.Rewound.{rewound};
     ghost use Rattle.costs.specs.Evaluators.{IsEvaluatorAt};
 

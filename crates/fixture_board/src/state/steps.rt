@@ -17,8 +17,8 @@ impl State {
     ghost use Rattle.costs.specs.Costs.{cost_of};
     ghost use Rattle.costs.specs.Evaluators.{IsEvaluatorAt};
     ghost use Rattle.fixture_board.specs.History.{shifted};
-    ghost use Rattle.fixture_board.specs.PinTable.{taken_back};
-    ghost use Rattle.fixture_board.specs.Kept.{kept_of, HasMemory, FollowsHistory, IsForetold, IsStep, IsTried, CanTakeBack};
+    ghost use Rattle.fixture_board.specs.within.PinTable.{taken_back};
+    ghost use Rattle.fixture_board.specs.within.Kept.{kept_of, HasMemory, FollowsHistory, IsForetold, IsStep, IsTried, CanTakeBack};
 
     /// Judges what is asked, and makes it if no reason speaks against it.
     pub(crate) fn step(&mut self, league: &League, ask: Ask) -> Result<(), Why>

@@ -2,7 +2,8 @@
 use Rattle.std.proofs.Common.{◌≡◌, ◌≢◌, ℕ, ◌<◌, inl, inr, Bool, true, false, not, ◌&&◌, ◌||◌, eqb, ltb, refl, sym, ◌∙◌, ap, ap₂}
 use Rattle.std.proofs.lemmas.Bool.{cases_eq, and_parts, and_from, and_right, or_parts, or_left, or_right, eq-eqb}
 use Rattle.std.proofs.lemmas.Bool.{ne_eqb, eqb-false, lt-ltb, ltb-true}
-use Rattle.league.specs.Sets.{has, IsWithoutLowest}
+use Rattle.league.specs.Sets.{has}
+use Rattle.league.specs.within.Sets.{IsWithoutLowest}
 use Rattle.league.proofs.ForCallers.{has_empty}
 use Rattle.fixtures.specs.Games.{Games, round_of, IsPair, IsDoubleRoundRobin}
 use Rattle.fixtures.proofs.ForCallers.{Meets, same_opponent, and_agree, or_agree}

@@ -12,7 +12,8 @@ use Rattle.fixtures.specs.declared.exchanges.Exchange.{Exchange}
 use Rattle.moves.specs.declared.moves.Move.{Move}
 use Rattle.moves.specs.declared.moves.Move.TheVariants.{Homes, Rounds, Teams, PartRounds, PartTeams}
 use Rattle.moves.specs.Moves.{fault_of, moved, touched_team, touched_round}
-use Rattle.fixtures.specs.Exchanges.{exchanged_by, main_cells, touched_of, touched_by}
+use Rattle.fixtures.specs.Exchanges.{exchanged_by, main_cells}
+use Rattle.fixtures.specs.within.Exchanges.{touched_of, touched_by}
 use Rattle.moves.specs.ExchangeOf.{exchange_of}
 use Rattle.fixtures.specs.Laws.{DiffersInEach}
 use Rattle.moves.specs.Laws.{OfEachMove, IsItsOwnInverse, StaysDoubleRoundRobin, DiffersWhereTouched, DiffersInEachTouched}

@@ -12,7 +12,8 @@ use Rattle.fixtures.proofs.ForCallers.{moved_rounds_of_teams_exchanged, are_apar
 use Rattle.fixtures.proofs.ForCallers.{are_apart_step, shares_in_range}
 use Rattle.moves.specs.declared.moves.Move.TheVariants.{PartRounds, PartTeams}
 use Rattle.moves.specs.Moves.{fault_of, moved, touched_team}
-use Rattle.fixtures.specs.Exchanges.{IsOfRounds, IsOfTeams, touched_of}
+use Rattle.fixtures.specs.Exchanges.{IsOfRounds, IsOfTeams}
+use Rattle.fixtures.specs.within.Exchanges.{touched_of}
 use Rattle.moves.specs.ExchangeOf.{set_where}
 use Rattle.moves.specs.Laws.{IsItsOwnInverse}
 use Rattle.moves.proofs.move_laws.Checked.{IsPartTeams, with_same_meeting}

@@ -14,7 +14,7 @@ use Rattle.fixtures.specs.Games.{Games, round_count, cell, is_home}
 use Rattle.robinx.specs.Deviations.{over, is_on_side, is_counted, games_of_team, games_in_window, games_in_round, over_in_windows, is_break}
 use Rattle.robinx.specs.Deviations.{breaks}
 use Rattle.robinx.specs.Parts.{meets_window, over_in_met_windows}
-use Rattle.robinx.specs.Walked.{over_from_starts}
+use Rattle.robinx.specs.within.Walked.{over_from_starts}
 use Rattle.robinx.proofs.walks.Sets.{sum_of_counts_swap, count_after_first}
 
 -- a game on the side in a slot, against one of the opponents

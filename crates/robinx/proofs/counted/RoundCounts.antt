@@ -2,14 +2,15 @@
 use Rattle.std.proofs.Common.{◌≡◌, ℕ, ◌+◌, ◌-◌, ◌<◌, ◌≤◌, ◌&&◌, nat_lt, Bool, true, false, if◌then◌else◌, refl, sym, ◌∙◌, ap, subst, arith}
 use Rattle.std.proofs.lemmas.Bool.{lt-ltb}
 use Rattle.league.specs.Limits.{max_rounds, max_teams}
-use Rattle.league.specs.Sets.{has, IsBelow, IsWithoutLowest}
+use Rattle.league.specs.Sets.{has, IsBelow}
+use Rattle.league.specs.within.Sets.{IsWithoutLowest}
 use Rattle.league.specs.Sums.{sum_below, sum_where}
 use Rattle.league.specs.declared.rule.Side.{Side}
 use Rattle.league.proofs.ForCallers.{IsSumWithout, sum_without_none, sum_without_more, sum_without_all, has_beyond}
 use Rattle.league.proofs.ForCallers.{sum_below_zero, sum_below_same, sum_below_past, count_where_same, count_where_le}
 use Rattle.fixtures.specs.Games.{Games, round_count}
 use Rattle.robinx.specs.Deviations.{over, is_counted, games_in_round}
-use Rattle.robinx.specs.Walked.{one_in, number_at}
+use Rattle.robinx.specs.within.Walked.{one_in, number_at}
 use Rattle.robinx.specs.declared.round_numbers.RoundNumbers.{RoundNumbers}
 use Rattle.robinx.proofs.walks.Sets.{count_of_both}
 use Rattle.robinx.proofs.counted.RoundNumbers.{one_le}

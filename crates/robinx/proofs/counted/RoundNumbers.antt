@@ -4,7 +4,7 @@ use Rattle.std.proofs.Common.{ap, arith}
 use Rattle.league.specs.Sets.{has}
 use Rattle.league.specs.Sums.{sum_below}
 use Rattle.robinx.specs.Deviations.{over}
-use Rattle.robinx.specs.Walked.{one_in, number_at}
+use Rattle.robinx.specs.within.Walked.{one_in, number_at}
 use Rattle.robinx.specs.declared.round_numbers.RoundNumbers.{RoundNumbers}
 
 -- 1 where both hold

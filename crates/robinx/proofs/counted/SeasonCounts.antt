@@ -9,7 +9,7 @@ use Rattle.league.proofs.ForCallers.{sum_below_same, sum_below_add, sum_below_on
 use Rattle.fixtures.specs.Games.{Games, round_count, round_of, cell, is_home, IsPair, IsDoubleRoundRobin}
 use Rattle.fixtures.proofs.ForCallers.{is_cell}
 use Rattle.robinx.specs.Deviations.{is_on_side, is_counted}
-use Rattle.robinx.specs.Walked.{season_games}
+use Rattle.robinx.specs.within.Walked.{season_games}
 use Rattle.robinx.proofs.counted.OpponentRounds.{meets_on, none_with_itself, met_home, met_away}
 use Rattle.robinx.proofs.walks.Sets.{sum_of_counts_swap}
 

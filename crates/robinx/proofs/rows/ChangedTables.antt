@@ -12,8 +12,8 @@ use Rattle.league.specs.Sums.{sum_below}
 use Rattle.league.proofs.ForCallers.{has_empty, count_where_none, sum_below_le}
 use Rattle.fixtures.specs.Games.{round_count}
 use Rattle.robinx.specs.Deviations.{over}
-use Rattle.robinx.specs.Walked.{row_of, one_in, worst_apart, row_length}
-use Rattle.robinx.specs.Gaps.{AreGaps, IsHomeRow, IsGapTable, gap_at, is_home_with, sum_of_gaps}
+use Rattle.robinx.specs.within.Walked.{row_of, one_in, worst_apart, row_length}
+use Rattle.robinx.specs.within.Gaps.{AreGaps, IsHomeRow, IsGapTable, gap_at, is_home_with, sum_of_gaps}
 use Rattle.robinx.specs.declared.gap_table.GapTable.{GapTable}
 use Rattle.robinx.specs.declared.gaps.Gaps.{Gaps}
 use Rattle.robinx.proofs.rows.GapSums.{gaps_few, gaps_without, no_gaps, row_le}

@@ -4,13 +4,14 @@ use Rattle.std.proofs.Common.{List, length, get_or}
 use Rattle.std.proofs.Common.{refl, sym, ◌∙◌, ap, inl, inr, arith}
 use Rattle.std.proofs.lemmas.Grind.{get_or_default_zero}
 use Rattle.std.proofs.lemmas.Bool.{cases_eq, cases_lt, eq-eqb, ne_eqb, eqb-true, eqb-false, lt-ltb, false≢true, and_parts, not-true}
-use Rattle.league.specs.Sets.{has, IsBelow, IsWithoutLowest}
+use Rattle.league.specs.Sets.{has, IsBelow}
+use Rattle.league.specs.within.Sets.{IsWithoutLowest}
 use Rattle.league.specs.declared.rule.RuleBody.TheVariants.{Fa2}
 use Rattle.league.proofs.ForCallers.{has_beyond, has_empty, others_kept, lowest_gone}
 use Rattle.fixtures.specs.Changes.{IsTurned}
 use Rattle.fixtures.specs.Games.{Games, round_count, is_home, IsDoubleRoundRobin}
 use Rattle.robinx.specs.Deviations.{over, deviation}
-use Rattle.robinx.specs.Gaps.{IsGapTable, IsTableFor, IsTableOf, sum_of_gaps, turned_home}
+use Rattle.robinx.specs.within.Gaps.{IsGapTable, IsTableFor, IsTableOf, sum_of_gaps, turned_home}
 use Rattle.robinx.specs.declared.gap_table.GapTable.{GapTable}
 use Rattle.robinx.proofs.rows.GapWrites.{and_false}
 use Rattle.robinx.proofs.rows.GapTables.{rule_told, fewer_teams}

@@ -10,7 +10,7 @@ use Rattle.league.specs.Sums.{sum_where, count_where}
 use Rattle.league.proofs.ForCallers.{sum_below_none, sum_below_more, sum_below_same, sum_below_zero, sum_below_add, sum_where_split}
 use Rattle.league.proofs.ForCallers.{has_beyond}
 use Rattle.robinx.specs.Deviations.{over}
-use Rattle.robinx.specs.Walked.{lacks}
+use Rattle.robinx.specs.within.Walked.{lacks}
 use Rattle.robinx.proofs.walks.Sets.{ones}
 
 -- no round yet

@@ -3,12 +3,13 @@ use Rattle.std.proofs.Common.{◌≡◌, ◌≢◌, ℕ, ◌+◌, ◌≤◌, ◌
 use Rattle.std.proofs.Common.{List, refl, sym, ◌∙◌, ap, inl, inr, arith}
 use Rattle.std.proofs.lemmas.Bool.{cases_eq, eq-eqb, ne_eqb, false≢true, and_parts, or_parts}
 use Rattle.league.specs.Limits.{max_teams}
-use Rattle.league.specs.Sets.{has, IsBelow, IsWithoutLowest}
+use Rattle.league.specs.Sets.{has, IsBelow}
+use Rattle.league.specs.within.Sets.{IsWithoutLowest}
 use Rattle.league.specs.Sums.{sum_below}
 use Rattle.league.proofs.ForCallers.{has_empty, others_kept, lowest_below, sum_below_le}
 use Rattle.robinx.specs.Deviations.{over}
-use Rattle.robinx.specs.Gaps.{AreGaps, gap_at, sum_of_gaps}
-use Rattle.robinx.specs.Walked.{row_of, worst_apart, row_length}
+use Rattle.robinx.specs.within.Gaps.{AreGaps, gap_at, sum_of_gaps}
+use Rattle.robinx.specs.within.Walked.{row_of, worst_apart, row_length}
 use Rattle.robinx.specs.declared.gaps.Gaps.{Gaps}
 use Rattle.robinx.proofs.rows.GapSums.{gaps_few, gaps_without, no_gaps}
 use Rattle.robinx.proofs.rows.GapWrites.{and_false}

@@ -7,9 +7,9 @@ use Rattle.league.specs.Sets.{has}
 use Rattle.league.specs.Sums.{sum_below}
 use Rattle.league.proofs.ForCallers.{sum_below_zero, sum_below_same, sum_below_balance, sum_below_only, sum_of_pairs_le}
 use Rattle.robinx.specs.Deviations.{over}
-use Rattle.robinx.specs.Gaps.{AreGaps, gap_at, sum_of_gaps}
+use Rattle.robinx.specs.within.Gaps.{AreGaps, gap_at, sum_of_gaps}
 use Rattle.robinx.specs.declared.gaps.Gaps.{Gaps}
-use Rattle.robinx.specs.Walked.{row_length}
+use Rattle.robinx.specs.within.Walked.{row_length}
 
 -- sums that differ in one term
 pub sum_but_one : (n k : ℕ) (new old : ℕ → ℕ) → k < n → ((i : ℕ) → i < n → i ≢ k → new i ≡ old i) →

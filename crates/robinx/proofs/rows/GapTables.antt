@@ -9,8 +9,8 @@ use Rattle.league.specs.declared.rule.RuleBody.TheVariants.{Fa2}
 use Rattle.league.proofs.ForCallers.{count_where_le, has_beyond, if_le, sum_below_past, sum_below_same, sum_below_zero, sum_below_le_each}
 use Rattle.fixtures.specs.Games.{Games, round_count, is_home, IsDoubleRoundRobin}
 use Rattle.robinx.specs.Deviations.{over, worst_gap, worst_gaps, deviation}
-use Rattle.robinx.specs.Walked.{row_of, apart_in, one_in, worst_apart, row_length}
-use Rattle.robinx.specs.Gaps.{IsHomeRow, IsGapTable, IsTableOf, gap_at, sum_of_gaps}
+use Rattle.robinx.specs.within.Walked.{row_of, apart_in, one_in, worst_apart, row_length}
+use Rattle.robinx.specs.within.Gaps.{IsHomeRow, IsGapTable, IsTableOf, gap_at, sum_of_gaps}
 use Rattle.robinx.specs.declared.gap_table.GapTable.{GapTable}
 use Rattle.robinx.proofs.limits.Largest.{largest_below_le, largest_below_same}
 use Rattle.robinx.proofs.rows.GapWrites.{and_false}

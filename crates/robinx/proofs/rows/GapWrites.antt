@@ -7,8 +7,8 @@ use Rattle.std.proofs.lemmas.List.{get_or-replicate, length-set}
 use Rattle.std.proofs.lemmas.Bool.{cases_eq, cases_lt, eq-eqb, ne_eqb, eqb-true, eqb-false, false≢true, and_parts, or_parts}
 use Rattle.league.specs.Limits.{max_teams}
 use Rattle.league.specs.Sets.{has, IsBelow}
-use Rattle.robinx.specs.Gaps.{AreGaps, gap_at}
-use Rattle.robinx.specs.Walked.{row_of, row_length}
+use Rattle.robinx.specs.within.Gaps.{AreGaps, gap_at}
+use Rattle.robinx.specs.within.Walked.{row_of, row_length}
 use Rattle.robinx.specs.declared.gaps.Gaps.{Gaps}
 
 pub and_false : (b : Bool) → (b && false) ≡ false

@@ -5,14 +5,15 @@ use Rattle.std.proofs.Math.ListN.{get_or-eq_default}
 use Rattle.std.proofs.Math.Nat.{mul-le-mul_right}
 use Rattle.std.proofs.lemmas.Bool.{cases_eq, cases_lt, cond-true, cond-false, eq-eqb, ne_eqb, lt-ltb, le-ltb}
 use Rattle.league.specs.Limits.{max_rounds}
-use Rattle.league.specs.Sets.{has, IsBelow, IsWithoutLowest}
+use Rattle.league.specs.Sets.{has, IsBelow}
+use Rattle.league.specs.within.Sets.{IsWithoutLowest}
 use Rattle.league.specs.Sums.{count_where}
 use Rattle.league.proofs.ForCallers.{count_where_le, count_where_same, has_beyond, has_empty, others_kept, lowest_gone}
 use Rattle.league.proofs.ForCallers.{sum_below_add, sum_below_only, sum_below_same}
 use Rattle.fixtures.specs.Games.{Games, round_count, is_home}
 use Rattle.robinx.specs.Deviations.{over, home_games, largest_below, gap, worst_gap}
-use Rattle.robinx.specs.Gaps.{IsHomeRow, is_home_with}
-use Rattle.robinx.specs.Walked.{apart_in, from_on, one_in, worst_apart, row_length}
+use Rattle.robinx.specs.within.Gaps.{IsHomeRow, is_home_with}
+use Rattle.robinx.specs.within.Walked.{apart_in, from_on, one_in, worst_apart, row_length}
 use Rattle.robinx.proofs.limits.Largest.{largest_below_same, largest_below_past}
 
 -- how much the largest is over the most is the largest of what each is over it

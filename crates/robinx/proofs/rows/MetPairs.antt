@@ -5,7 +5,8 @@ use Rattle.std.proofs.Math.Bool.{or_assoc, or_comm, and-true, and-false, or-fals
 use Rattle.std.proofs.Math.Nat.{add-zero, max_comm, min_comm}
 use Rattle.std.proofs.lemmas.Bool.{cases_Bool, cases_eq, eq-eqb, ne_eqb, lt-ltb, le-ltb, and_cases, and_right, or_from, or_parts}
 use Rattle.std.proofs.lemmas.Bool.{cond-false, false≢true}
-use Rattle.league.specs.Sets.{has, IsBelow, IsWithoutLowest}
+use Rattle.league.specs.Sets.{has, IsBelow}
+use Rattle.league.specs.within.Sets.{IsWithoutLowest}
 use Rattle.league.specs.Sums.{sum_below, sum_where, sum_of_pairs}
 use Rattle.league.proofs.ForCallers.{sum_below_add, sum_below_same, sum_below_zero, sum_of_pairs_same, sum_of_pairs_balance}
 use Rattle.league.proofs.ForCallers.{sum_where_same, others_kept, has_empty, IsSumWithout, sum_without_more}
@@ -14,7 +15,7 @@ use Rattle.fixtures.specs.Changes.{DiffersOnlyAround}
 use Rattle.fixtures.proofs.ForCallers.{pair_swapped, round_of_kept, round_of_kept_around}
 use Rattle.robinx.specs.Deviations.{over, rounds_between, short_pairs}
 use Rattle.robinx.specs.Parts.{is_pair_with, meet_in}
-use Rattle.robinx.specs.Walked.{counts_pair}
+use Rattle.robinx.specs.within.Walked.{counts_pair}
 use Rattle.robinx.proofs.counted.OpponentRounds.{met_any}
 use Rattle.robinx.proofs.balances.PartSums.{whole_balance}
 

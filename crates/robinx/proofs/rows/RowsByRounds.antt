@@ -7,7 +7,8 @@ use Rattle.std.proofs.lemmas.List.{length-set, get_or-replicate}
 use Rattle.std.proofs.Math.Bool.{or-true}
 use Rattle.std.proofs.lemmas.Bool.{cases_eq, eq-eqb, ne_eqb, lt-ltb, and_parts, and_from, false≢true}
 use Rattle.league.specs.Limits.{max_rounds}
-use Rattle.league.specs.Sets.{has, IsBelow, IsWithoutLowest}
+use Rattle.league.specs.Sets.{has, IsBelow}
+use Rattle.league.specs.within.Sets.{IsWithoutLowest}
 use Rattle.league.specs.Sums.{sum_where, count_where, any_below}
 use Rattle.league.specs.declared.rule.Side.{Side}
 use Rattle.league.proofs.ForCallers.{others_kept, sum_where_same, count_where_same}
@@ -15,7 +16,7 @@ use Rattle.fixtures.specs.declared.game.Cell.{Cell}
 use Rattle.fixtures.specs.Games.{Games, round_count, cell, IsCell, IsDoubleRoundRobin}
 use Rattle.fixtures.proofs.ForCallers.{cell_is, is_cell, pair_swapped}
 use Rattle.robinx.specs.Deviations.{over, is_on_side, is_counted, games_in_window}
-use Rattle.robinx.specs.Walked.{HaveCounted}
+use Rattle.robinx.specs.within.Walked.{HaveCounted}
 
 pub same_when : (a b : Bool) → (a ≡ true → b ≡ true) → (b ≡ true → a ≡ true) → a ≡ b
 same_when true b there back = sym (there refl)

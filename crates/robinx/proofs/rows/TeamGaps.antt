@@ -10,10 +10,10 @@ use Rattle.league.specs.declared.rule.RuleBody.TheVariants.{Fa2}
 use Rattle.league.proofs.ForCallers.{sum_below_le, sum_below_same}
 use Rattle.fixtures.specs.Games.{Games}
 use Rattle.robinx.specs.Deviations.{over, deviation, worst_gaps}
-use Rattle.robinx.specs.Gaps.{AreGaps, gap_at}
+use Rattle.robinx.specs.within.Gaps.{AreGaps, gap_at}
 use Rattle.robinx.specs.declared.gaps.Gaps.{Gaps}
 use Rattle.robinx.proofs.limits.Limits.{worst_gaps_le}
-use Rattle.robinx.specs.Walked.{row_length}
+use Rattle.robinx.specs.within.Walked.{row_length}
 
 -- no gap is over the length of a row
 pub row_over : (gaps : Gaps) (team most least : ℕ) → AreGaps gaps → least ≡ min most row_length →

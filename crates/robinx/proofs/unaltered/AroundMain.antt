@@ -1,7 +1,8 @@
 -- The teams around main teams, found by the games of these.
 use Rattle.std.proofs.Common.{◌≡◌, ℕ, ◌<◌, ◌&&◌, ◌||◌, ◌==◌, ◌⊎◌, not, nat_lt, Bool, true, false, refl, sym, ◌∙◌, ap, inl, inr, arith}
 use Rattle.std.proofs.lemmas.Bool.{cases_eq, cases_lt, lt-ltb, and_parts, and_from, or_cases, or_left, or_right, false≢true}
-use Rattle.league.specs.Sets.{has, IsBelow, IsWithoutLowest}
+use Rattle.league.specs.Sets.{has, IsBelow}
+use Rattle.league.specs.within.Sets.{IsWithoutLowest}
 use Rattle.league.proofs.ForCallers.{others_kept, has_empty, has_beyond, any_below_found}
 use Rattle.fixtures.specs.declared.game.Cell.{Cell}
 use Rattle.fixtures.specs.Games.{Games, round_count, round_of, cell, IsPair, IsCell, IsDoubleRoundRobin}

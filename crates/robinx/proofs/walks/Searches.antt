@@ -6,7 +6,8 @@ use Rattle.std.proofs.lemmas.Bool.{or_from, cases_lt, lt-ltb, le-ltb, and_right}
 use Rattle.std.proofs.lemmas.List.Folds.{list_any_more, list_any_at}
 use Rattle.std.proofs.lemmas.Option.{slice_get_within, get_or_from_slice_get}
 use Rattle.league.specs.Limits.{max_rounds}
-use Rattle.league.specs.Sets.{has, IsWithoutLowest}
+use Rattle.league.specs.Sets.{has}
+use Rattle.league.specs.within.Sets.{IsWithoutLowest}
 use Rattle.league.specs.Sums.{any_below}
 use Rattle.league.proofs.ForCallers.{any_below_found, any_below_from_none, any_below_same, has_empty}
 use Rattle.robinx.specs.Touches.{has_touched_round, has_touched_until, or_before}

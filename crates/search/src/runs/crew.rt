@@ -1,7 +1,7 @@
 //! The memory of a run.
 
 ghost use Rattle.std.specs.Prelude.{IfOk};
-ghost use Rattle.search.specs.Crews.{HasRoom};
+ghost use Rattle.search.specs.within.Crews.{HasRoom};
 
 use super::threads::Job;
 use crate::workers::Report;

@@ -2,10 +2,10 @@
 
 ghost use Rattle.std.specs.Prelude.{◌≡◌, ◌+◌, ◌≤◌, [], length, map, All, IfOk, IfSome, vec_len, vec_capacity};
 ghost use Rattle.std.specs.List.Sorted.{IsStrictlyIncreasing};
-ghost use Rattle.search.specs.Crews.{AreStarted, CanStart, IsBack, IsFresh, IsHandle, IsJob};
-ghost use Rattle.search.specs.Crews.{JobIn, JobMeasured, handle_number, job_number};
+ghost use Rattle.search.specs.within.Crews.{AreStarted, CanStart, IsBack, IsFresh, IsHandle, IsJob, JobIn, JobMeasured, handle_number};
+ghost use Rattle.search.specs.within.Crews.{job_number};
 ghost use Rattle.search.specs.Outcomes.{AreCredited, accepted_in};
-ghost use Rattle.search.specs.Heard.{IsOfWorker};
+ghost use Rattle.search.specs.within.Heard.{IsOfWorker};
 
 use super::SearchPlan;
 use crate::SeatDoor;
@@ -50,7 +50,7 @@ pub(crate) struct Given<G> {
 }
 
 impl<G: HearingGate> Promise<Ended> for Given<G> {
-    ghost use Rattle.search.specs.Crews.{IsBack};
+    ghost use Rattle.search.specs.within.Crews.{IsBack};
 
     ghost kept_by = { λ p e. IsBack (G.heard p.gate.value) p.steps p.seat.value e.report e.seat };
 }

@@ -6,7 +6,7 @@ ghost use Rattle.costs.specs.Evaluators.{IsEvaluatorAt};
 ghost use Rattle.fixtures.specs.Exchanges.{exchanged_by, IsExchange};
 ghost use Rattle.fixture_board.specs.declared.reply.Reply.{Reply};
 ghost use Rattle.search.specs.Doors.{done_count};
-ghost use Rattle.search.specs.Steps.{IsCandidate, IsKnown, IsLeftOut, IsMeasured, IsProposed, accepted_count, least_with};
+ghost use Rattle.search.specs.within.Steps.{IsCandidate, IsKnown, IsLeftOut, IsMeasured, IsProposed, accepted_count, least_with};
 
 use crate::Door;
 use crate::gates::HearingGate;
@@ -112,7 +112,7 @@ impl Kept {
     ghost use Rattle.std.specs.Prelude.{◌≡◌};
     ghost use Rattle.league.specs.League.{teams};
     ghost use Rattle.costs.specs.Evaluators.{IsEvaluatorAt, IsEvaluatorOf};
-    ghost use Rattle.search.specs.Steps.{IsKnown, IsMeasured};
+    ghost use Rattle.search.specs.within.Steps.{IsKnown, IsMeasured};
 
     /// Looks. What was counted of the copy before serves no more.
     fn refresh<R: Wait, D: Door>(

@@ -8,7 +8,7 @@ use Rattle.league.specs.League.{LeagueData, distance}
 use Rattle.fixtures.specs.Games.{Games, round_count}
 use Rattle.fixtures.specs.Edits.{exchanged}
 use Rattle.tours.specs.Tours.{tour, leg}
-use Rattle.tours.specs.Told.{in_rounds, leg_told}
+use Rattle.tours.specs.within.Told.{in_rounds, leg_told}
 use Rattle.tours.proofs.exchanged_legs.TeamsTold.{at_round, told_out, told_first, told_second}
 
 -- two teams have a round

@@ -10,7 +10,7 @@ use Rattle.fixtures.specs.Closed.{IsClosed, plays_in}
 use Rattle.fixtures.proofs.ForCallers.{exchanged_first, exchanged_second, exchanged_other, exchanged_lt, cell_rounds_exchanged}
 use Rattle.tours.specs.Tours.{tour, leg_count, leg}
 use Rattle.tours.specs.Parts.{touches_leg, travel_part_of, travel_part}
-use Rattle.tours.specs.Walked.{leg_exchanged}
+use Rattle.tours.specs.within.Walked.{leg_exchanged}
 use Rattle.tours.proofs.stops.Stops.{tour_at_round, tour_at_end}
 
 -- the legs, with the places of rounds k and m exchanged, of the teams of the first set that touch a round of the second

@@ -12,13 +12,14 @@ use Rattle.league.specs.Sets.{has}
 use Rattle.league.specs.Sums.{sum_below, sum_where, all_below}
 use Rattle.league.proofs.ForCallers.{sum_below_more, sum_below_same, sum_below_add, sum_below_balance}
 use Rattle.fixtures.specs.Games.{Games, round_of, round_count, cell, place, is_home, IsPair, IsDoubleRoundRobin}
-use Rattle.fixtures.specs.Edits.{exchanged, is_either}
+use Rattle.fixtures.specs.Edits.{exchanged}
+use Rattle.fixtures.specs.within.Edits.{is_either}
 use Rattle.fixtures.specs.Changes.{turns}
 use Rattle.fixtures.proofs.ForCallers.{exchanged_first, exchanged_second}
 use Rattle.tours.specs.Tours.{leg_count, leg}
 use Rattle.tours.specs.Parts.{touches_leg}
-use Rattle.tours.specs.Walked.{part_of}
-use Rattle.tours.specs.Told.{stop_told, leg_told, leg_turned, AreTurns}
+use Rattle.tours.specs.within.Walked.{part_of}
+use Rattle.tours.specs.within.Told.{stop_told, leg_told, leg_turned, AreTurns}
 use Rattle.tours.proofs.stops.Stops.{tour_at_round}
 use Rattle.tours.proofs.meetings.Opponents.{opponent_in}
 use Rattle.tours.proofs.exchanged_legs.TeamsTold.{at_round, unmoved, meets_neither, of_first, of_second}

@@ -14,8 +14,8 @@ use Rattle.fixtures.proofs.ForCallers.{exchanged_first, exchanged_second, exchan
 use Rattle.fixtures.proofs.ForCallers.{differs_only_in_games, kept_rounds_exchanged, round_robin_rounds_exchanged}
 use Rattle.tours.specs.Tours.{tour, leg_count, leg, travel}
 use Rattle.tours.specs.Parts.{touches_leg, travel_part_of, travel_part}
-use Rattle.tours.specs.Walked.{leg_exchanged}
-use Rattle.tours.specs.Told.{legs_around, legs_changed}
+use Rattle.tours.specs.within.Walked.{leg_exchanged}
+use Rattle.tours.specs.within.Told.{legs_around, legs_changed}
 use Rattle.tours.proofs.balances.TravelBalance.{travel_balance}
 use Rattle.tours.proofs.exchanged_legs.ExchangedTours.{legs_exchanged, legs_after}
 

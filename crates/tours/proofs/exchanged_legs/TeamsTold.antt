@@ -10,15 +10,16 @@ use Rattle.league.specs.Sums.{sum_where}
 use Rattle.league.proofs.ForCallers.{sum_below_same, sum_below_only, sum_where_same}
 use Rattle.fixtures.specs.declared.game.Cell.{Cell}
 use Rattle.fixtures.specs.Games.{Games, round_of, round_count, cell, place, is_home, IsPair, IsDoubleRoundRobin}
-use Rattle.fixtures.specs.Edits.{exchanged, teams_exchanged, is_either}
+use Rattle.fixtures.specs.Edits.{exchanged, teams_exchanged}
+use Rattle.fixtures.specs.within.Edits.{is_either}
 use Rattle.fixtures.specs.Changes.{DiffersOnlyAt}
 use Rattle.fixtures.proofs.ForCallers.{exchanged_first, exchanged_second, exchanged_other, exchanged_exchanged}
 use Rattle.fixtures.proofs.ForCallers.{exchanged_lt, games_ext, cell_teams_exchanged, other_cell, StaysAmong}
 use Rattle.fixtures.proofs.ForCallers.{meets_cell, is_cell}
 use Rattle.tours.specs.Tours.{tour, leg_count, leg, travel}
 use Rattle.tours.specs.Parts.{touches_leg, travel_part_of}
-use Rattle.tours.specs.Walked.{with_guests, part_of, guest_terms}
-use Rattle.tours.specs.Told.{in_rounds, stop_told, leg_told}
+use Rattle.tours.specs.within.Walked.{with_guests, part_of, guest_terms}
+use Rattle.tours.specs.within.Told.{in_rounds, stop_told, leg_told}
 use Rattle.tours.proofs.stops.Stops.{tour_at_round, tour_at_end}
 use Rattle.tours.proofs.balances.TravelBalance.{travel_at, travel_balance_at}
 use Rattle.tours.proofs.legs.GuestLegs.{around, around_walked}

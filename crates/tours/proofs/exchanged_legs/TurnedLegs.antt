@@ -7,10 +7,11 @@ use Rattle.league.specs.League.{LeagueData, distance}
 use Rattle.league.specs.Sets.{has, IsBelow}
 use Rattle.league.proofs.ForCallers.{has_beyond}
 use Rattle.fixtures.specs.Games.{Games, round_of, round_count, cell, place, is_home, IsDoubleRoundRobin}
-use Rattle.fixtures.specs.Edits.{exchanged, is_either}
+use Rattle.fixtures.specs.Edits.{exchanged}
+use Rattle.fixtures.specs.within.Edits.{is_either}
 use Rattle.fixtures.specs.Changes.{turns}
 use Rattle.tours.specs.Tours.{tour, leg}
-use Rattle.tours.specs.Told.{leg_turned, AreTurns, IsTurn}
+use Rattle.tours.specs.within.Told.{leg_turned, AreTurns, IsTurn}
 use Rattle.tours.proofs.stops.Stops.{tour_at_round}
 use Rattle.tours.proofs.meetings.Opponents.{opponent_in, IsPairing-opponents}
 use Rattle.tours.proofs.exchanged_legs.TeamsTold.{unmoved, meets_neither}

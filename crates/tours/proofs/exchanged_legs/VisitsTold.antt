@@ -7,12 +7,13 @@ use Rattle.std.proofs.lemmas.Bool.Decides.{nat_tests}
 use Rattle.league.specs.League.{LeagueData, distance}
 use Rattle.league.specs.Sets.{has}
 use Rattle.fixtures.specs.Games.{Games, round_of, round_count, cell, place, is_home, IsCell, IsDoubleRoundRobin}
-use Rattle.fixtures.specs.Edits.{exchanged, is_either}
+use Rattle.fixtures.specs.Edits.{exchanged}
+use Rattle.fixtures.specs.within.Edits.{is_either}
 use Rattle.fixtures.proofs.ForCallers.{exchanged_first, exchanged_second, exchanged_exchanged, is_cell}
 use Rattle.tours.specs.Tours.{tour, leg}
-use Rattle.tours.specs.Walked.{with_guests, guest_terms}
-use Rattle.tours.specs.Told.{in_rounds, stop_told, leg_told}
-use Rattle.tours.specs.Exchanges.{leg_before, leg_after, around_visit}
+use Rattle.tours.specs.within.Walked.{with_guests, guest_terms}
+use Rattle.tours.specs.within.Told.{in_rounds, stop_told, leg_told}
+use Rattle.tours.specs.within.Exchanges.{leg_before, leg_after, around_visit}
 use Rattle.tours.specs.declared.teams_told.exchange.TeamExchange.{TeamExchange}
 use Rattle.tours.proofs.stops.Stops.{tour_at_round, tour_at_end}
 use Rattle.tours.proofs.meetings.Opponents.{side_of_opponent, IsPairing-opponents}

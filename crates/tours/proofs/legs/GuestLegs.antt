@@ -9,7 +9,7 @@ use Rattle.league.specs.Sets.{has}
 use Rattle.fixtures.specs.Games.{Games, round_count, cell, is_home, place, IsDoubleRoundRobin}
 use Rattle.tours.specs.Tours.{leg_count}
 use Rattle.tours.specs.Parts.{touches_leg}
-use Rattle.tours.specs.Walked.{with_guests, part_of, there_and_on, guest_terms}
+use Rattle.tours.specs.within.Walked.{with_guests, part_of, there_and_on, guest_terms}
 use Rattle.tours.proofs.legs.TravelWalk.{inside, outside, sum_where_swap}
 use Rattle.tours.proofs.meetings.Turned.{sum_below_turned}
 use Rattle.tours.proofs.meetings.Opponents.{opponent_in, side_of_opponent, IsPairing-opponents}

@@ -4,7 +4,7 @@ use Rattle.std.specs.Prelude.{nat_lt}
 use Rattle.std.proofs.lemmas.Bool.Decides.{nat_tests}
 use Rattle.fixtures.specs.Games.{Games, round_count, place}
 use Rattle.tours.specs.Tours.{tour}
-use Rattle.tours.specs.Walked.{with_guests}
+use Rattle.tours.specs.within.Walked.{with_guests}
 use Rattle.tours.proofs.stops.Stops.{tour_at_round}
 
 visited : (in_season hosted stays followed : Bool) (same : in_season ≡ true → followed ≡ hosted) →

@@ -1,8 +1,9 @@
 -- Loops over the numbers of a set that sum up two terms of each: one as it is, and one after an exchange.
 use Rattle.std.proofs.Common.{◌≡◌, ℕ, ◌+◌, ◌<◌, ◌≤◌, ◌==◌, not, true, refl, sym, ◌∙◌, ap, arith}
 use Rattle.std.proofs.lemmas.Bool.{and_parts}
-use Rattle.league.specs.Sets.{has, IsBelow, IsWithoutLowest}
-use Rattle.tours.specs.Told.{AreSums}
+use Rattle.league.specs.Sets.{has, IsBelow}
+use Rattle.league.specs.within.Sets.{IsWithoutLowest}
+use Rattle.tours.specs.within.Told.{AreSums}
 use Rattle.league.proofs.ForCallers.{IsSumWithout, sum_without_none, sum_without_more, sum_without_all, lowest_below}
 
 -- the totals are those of the numbers that aren't left

@@ -8,11 +8,13 @@ use Rattle.league.specs.Sums.{sum_below, sum_where, count_where}
 use Rattle.league.proofs.ForCallers.{sum_below_same, sum_below_zero, sum_below_add, sum_below_balance}
 use Rattle.fixtures.specs.declared.game.Cell.{Cell}
 use Rattle.fixtures.specs.Games.{Games, round_of, round_count, cell, IsPair, IsDoubleRoundRobin}
-use Rattle.fixtures.specs.Edits.{exchanged, rounds_exchanged, teams_exchanged, is_either}
+use Rattle.fixtures.specs.Edits.{exchanged, rounds_exchanged, teams_exchanged}
+use Rattle.fixtures.specs.within.Edits.{is_either}
 use Rattle.fixtures.proofs.ForCallers.{is_cell, round_of_games, meets_cell, Meets, cell_teams_exchanged, round_robin_teams_exchanged}
 use Rattle.fixtures.proofs.ForCallers.{round_of_teams_exchanged, other_cell, StaysAmong}
 use Rattle.fixtures.proofs.ForCallers.{exchanged_first, exchanged_second, exchanged_other, cases_exchanged}
-use Rattle.tours.specs.Moved.{is_moved, moved_from, cell_moved, home_moved}
+use Rattle.tours.specs.Moved.{is_moved, moved_from}
+use Rattle.tours.specs.within.Moved.{cell_moved, home_moved}
 use Rattle.tours.proofs.moved_counts.ByRounds.{side, by_opponent, by_rounds}
 use Rattle.tours.proofs.moved_counts.TwoTeams.{around, two_teams}
 use Rattle.tours.proofs.balances.Balances.{one, where_balance}

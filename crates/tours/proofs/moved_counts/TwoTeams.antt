@@ -6,7 +6,7 @@ use Rattle.std.proofs.lemmas.Bool.Decides.{nat_tests}
 use Rattle.league.specs.Sums.{sum_below, sum_where}
 use Rattle.league.proofs.ForCallers.{sum_below_add, sum_below_balance}
 use Rattle.fixtures.specs.Games.{IsPair}
-use Rattle.fixtures.specs.Edits.{is_either}
+use Rattle.fixtures.specs.within.Edits.{is_either}
 use Rattle.tours.proofs.balances.Balances.{where_balance}
 use Rattle.tours.proofs.exchanged_legs.TeamsTold.{of_either}
 

@@ -7,11 +7,12 @@ use Rattle.league.specs.Sums.{sum_where}
 use Rattle.league.proofs.ForCallers.{sum_below_balance}
 use Rattle.fixtures.specs.declared.game.Cell.{Cell}
 use Rattle.fixtures.specs.Games.{Games, round_of, round_count, cell, meets, IsPair, IsDoubleRoundRobin}
-use Rattle.fixtures.specs.Edits.{exchanged, teams_exchanged, is_either}
+use Rattle.fixtures.specs.Edits.{exchanged, teams_exchanged}
+use Rattle.fixtures.specs.within.Edits.{is_either}
 use Rattle.fixtures.proofs.ForCallers.{exchanged_first, exchanged_second, exchanged_exchanged, cell_teams_exchanged, other_cell}
 use Rattle.fixtures.proofs.ForCallers.{round_robin_teams_exchanged, StaysAmong}
 use Rattle.tours.specs.Repeats.{repeats}
-use Rattle.tours.specs.Told.{meets_next}
+use Rattle.tours.specs.within.Told.{meets_next}
 use Rattle.tours.proofs.balances.Balances.{one}
 use Rattle.tours.proofs.balances.RepeatsBalance.{MeetingsDifferOnlyIn, repeats_with_after, repeats_with, repeats_balance_with}
 use Rattle.tours.proofs.meetings.Members.{repeat_at, repeats_with_after_members}

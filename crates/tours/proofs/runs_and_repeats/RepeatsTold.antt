@@ -14,7 +14,7 @@ use Rattle.fixtures.proofs.ForCallers.{exchanged_other, exchanged_lt, cell_round
 use Rattle.tours.specs.Repeats.{repeats, repeats_after}
 use Rattle.tours.specs.Parts.{touches_leg}
 use Rattle.tours.specs.Tours.{leg_count}
-use Rattle.tours.specs.Told.{legs_around, met, same_lower, repeats_around}
+use Rattle.tours.specs.within.Told.{legs_around, met, same_lower, repeats_around}
 use Rattle.tours.proofs.balances.Balances.{where_balance}
 use Rattle.tours.proofs.exchanged_legs.ExchangedTours.{exchanged_next}
 use Rattle.tours.proofs.meetings.Opponents.{opponent_in}

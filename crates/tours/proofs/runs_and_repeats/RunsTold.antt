@@ -10,13 +10,14 @@ use Rattle.league.specs.Sums.{sum_where}
 use Rattle.league.proofs.ForCallers.{sum_below_balance, sum_below_le_each, sum_where_same}
 use Rattle.fixtures.specs.declared.game.Cell.{Cell}
 use Rattle.fixtures.specs.Games.{Games, round_of, round_count, games, cell, is_home, IsPair, IsDoubleRoundRobin}
-use Rattle.fixtures.specs.Edits.{exchanged, rounds_exchanged, teams_exchanged, is_either}
+use Rattle.fixtures.specs.Edits.{exchanged, rounds_exchanged, teams_exchanged}
+use Rattle.fixtures.specs.within.Edits.{is_either}
 use Rattle.fixtures.specs.Closed.{IsClosed, plays_in}
 use Rattle.fixtures.specs.Changes.{turns}
 use Rattle.fixtures.proofs.ForCallers.{exchanged_first, exchanged_second, exchanged_other, cases_exchanged}
 use Rattle.fixtures.proofs.ForCallers.{cell_rounds_exchanged, cell_teams_exchanged, other_cell, StaysAmong}
 use Rattle.tours.specs.Runs.{runs_of, runs_over}
-use Rattle.tours.specs.Told.{HasHomes}
+use Rattle.tours.specs.within.Told.{HasHomes}
 use Rattle.tours.proofs.exchanged_legs.OwnLegs.{same_side}
 use Rattle.tours.proofs.balances.RunsBalance.{runs_of_balance, part_of_box}
 use Rattle.tours.proofs.runs_and_repeats.RunStarts.{home_at}

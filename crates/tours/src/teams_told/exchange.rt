@@ -6,7 +6,7 @@ ghost use Rattle.league.specs.Limits.{max_rounds};
 ghost use Rattle.league.specs.Sets.{has, IsBelow};
 ghost use Rattle.fixtures.specs.Games.{round_count, round_of};
 ghost use Rattle.fixtures.specs.Edits.{exchanged};
-ghost use Rattle.tours.specs.Told.{in_rounds};
+ghost use Rattle.tours.specs.within.Told.{in_rounds};
 
 use fixtures::Schedule;
 use league::{League, SlotSet};

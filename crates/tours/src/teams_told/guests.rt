@@ -5,8 +5,8 @@ ghost use Rattle.league.specs.Limits.{max_rounds, max_distance};
 ghost use Rattle.league.specs.Sets.{has, IsBelow};
 ghost use Rattle.league.specs.Sums.{sum_where};
 ghost use Rattle.fixtures.specs.Games.{round_count, is_home};
-ghost use Rattle.fixtures.specs.Edits.{is_either};
-ghost use Rattle.tours.specs.Told.{AreSums, in_rounds};
+ghost use Rattle.fixtures.specs.within.Edits.{is_either};
+ghost use Rattle.tours.specs.within.Told.{AreSums, in_rounds};
 
 use super::exchange::TeamExchange;
 use crate::told::Legs;
@@ -14,7 +14,7 @@ use crate::whole_travel::{stop, way};
 use league::SlotSet;
 
 impl TeamExchange<'_> {
-    ghost use Rattle.tours.specs.Exchanges.{leg_before, leg_after, around_visit};
+    ghost use Rattle.tours.specs.within.Exchanges.{leg_before, leg_after, around_visit};
 
     /// The legs around the home games of the host, `i` or `j`, in the rounds of the set, as they are and after the two are
     /// exchanged there.

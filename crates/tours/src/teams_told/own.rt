@@ -5,8 +5,8 @@ ghost use Rattle.league.specs.Limits.{max_rounds, max_distance};
 ghost use Rattle.league.specs.Sets.{has, IsBelow};
 ghost use Rattle.fixtures.specs.Games.{round_count};
 ghost use Rattle.fixtures.specs.Edits.{exchanged};
-ghost use Rattle.tours.specs.Walked.{part_of};
-ghost use Rattle.tours.specs.Told.{AreSums, AreTurns, IsTurn};
+ghost use Rattle.tours.specs.within.Walked.{part_of};
+ghost use Rattle.tours.specs.within.Told.{AreSums, AreTurns, IsTurn};
 
 use super::exchange::TeamExchange;
 use crate::told::Legs;
@@ -15,7 +15,7 @@ use fixtures::Schedule;
 use league::SlotSet;
 
 impl TeamExchange<'_> {
-    ghost use Rattle.tours.specs.Exchanges.{leg_before, leg_after, turned_after, stop_of, way_across};
+    ghost use Rattle.tours.specs.within.Exchanges.{leg_before, leg_after, turned_after, stop_of, way_across};
 
     /// The own legs of `i` and `j` that change, of those that touch a round of the set.
     pub(super) fn own_legs(&self) -> Legs

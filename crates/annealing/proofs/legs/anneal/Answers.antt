@@ -1,8 +1,8 @@
 use Rattle.std.proofs.Common.{◌≡◌, refl, sym, subst, arith}
 use Rattle.league.specs.League.{teams}
 use Rattle.search.specs.Draws.{AreRoundsOf}
-use Rattle.annealing.specs.Heats.{block_count}
-use Rattle.annealing.specs.Progress.{IsGoing}
+use Rattle.annealing.specs.within.Heats.{block_count}
+use Rattle.annealing.specs.within.Progress.{IsGoing}
 use Rattle.annealing.proofs.Ends.{IsAnnealed-all, IsAnnealed-heated, IsGoing-none}
 use Rattle.annealing.proofs.legs.anneal.Goals as goal
 

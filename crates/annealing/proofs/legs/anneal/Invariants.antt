@@ -1,5 +1,5 @@
 use Rattle.std.proofs.Common.{◌≤◌}
-use Rattle.annealing.specs.Progress.{IsGoing, IsWithin}
+use Rattle.annealing.specs.within.Progress.{IsGoing, IsWithin}
 use Rattle.annealing.proofs.legs.anneal.Given as goal
 
 abbrev pub invariant-loop-number : goal.invariant-loop-number

@@ -1,7 +1,7 @@
 use Rattle.std.proofs.Common.{◌≡◌, ◌+◌, ◌≤◌}
 use Rattle.league.specs.League.{teams}
 use Rattle.costs.specs.Evaluators.{IsEvaluatorAt}
-use Rattle.search.specs.Steps.{IsKnown}
+use Rattle.search.specs.within.Steps.{IsKnown}
 use Rattle.benchmarks.proofs.tries.try_moves.Given as goal
 
 abbrev pub invariant-loop-index : goal.invariant-loop-index

@@ -1,5 +1,5 @@
 use Rattle.std.proofs.Common.{◌≡◌, ◌≤◌}
-use Rattle.breaches.specs.Terms.{named_of_team}
+use Rattle.breaches.specs.within.Terms.{named_of_team}
 use Rattle.breaches.proofs.counts.count_of_team.Given as goal
 
 abbrev pub invariant-loop-round : goal.invariant-loop-round

@@ -1,6 +1,6 @@
 use Rattle.std.proofs.Common.{◌≡◌, ◌≤◌, ◌*◌}
 use Rattle.league.specs.Sums.{sum_below}
-use Rattle.breaches.specs.Terms.{named_in_round}
+use Rattle.breaches.specs.within.Terms.{named_in_round}
 use Rattle.breaches.proofs.counts.count_together.Given as goal
 
 abbrev pub invariant-loop-round : goal.invariant-loop-round

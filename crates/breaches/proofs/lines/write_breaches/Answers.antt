@@ -1,7 +1,7 @@
 use Rattle.std.proofs.Common.{◌≡◌, arith}
 use Rattle.streams.proofs.Pieces.{Adds-piece, Stops-in_pieces, Stops-writes}
 use Rattle.breaches.specs.BreachText.{breaches_text, lines_of}
-use Rattle.breaches.specs.Terms.{breaches_in_row, row_count}
+use Rattle.breaches.specs.within.Terms.{breaches_in_row, row_count}
 use Rattle.breaches.proofs.Rows.{in_rows, lines_below}
 use Rattle.breaches.proofs.lines.write_breaches.Goals as goal
 

@@ -1,7 +1,7 @@
 use Rattle.streams.specs.Pieces.{pieces_below}
 use Rattle.streams.specs.Writing.{Adds}
 use Rattle.breaches.specs.BreachText.{lines_of}
-use Rattle.breaches.specs.Terms.{breaches_in_row}
+use Rattle.breaches.specs.within.Terms.{breaches_in_row}
 use Rattle.breaches.proofs.lines.write_breaches.Given as goal
 
 abbrev pub invariant-loop-row : goal.invariant-loop-row

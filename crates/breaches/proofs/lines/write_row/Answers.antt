@@ -1,7 +1,7 @@
 use Rattle.std.proofs.Common.{◌≡◌, arith}
 use Rattle.streams.proofs.Pieces.{Adds-piece, Stops-in_pieces, Stops-writes}
 use Rattle.breaches.specs.BreachText.{lines_of}
-use Rattle.breaches.specs.Terms.{breach_in, column_count}
+use Rattle.breaches.specs.within.Terms.{breach_in, column_count}
 use Rattle.breaches.proofs.Rows.{lines_below}
 use Rattle.breaches.proofs.lines.write_row.Goals as goal
 

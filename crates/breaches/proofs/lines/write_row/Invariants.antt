@@ -1,7 +1,7 @@
 use Rattle.streams.specs.Pieces.{pieces_below}
 use Rattle.streams.specs.Writing.{Adds}
 use Rattle.breaches.specs.BreachText.{lines_of}
-use Rattle.breaches.specs.Terms.{breach_in}
+use Rattle.breaches.specs.within.Terms.{breach_in}
 use Rattle.breaches.proofs.lines.write_row.Given as goal
 
 abbrev pub invariant-loop-column : goal.invariant-loop-column

@@ -2,7 +2,7 @@ use Rattle.std.proofs.Common.{◌≡◌, false}
 use Rattle.std.specs.List.{list_any}
 use Rattle.league.specs.Sums.{any_below}
 use Rattle.breaches.specs.Cells.{names}
-use Rattle.breaches.specs.Terms.{breaches_in_row}
+use Rattle.breaches.specs.within.Terms.{breaches_in_row}
 use Rattle.breaches.proofs.marks.is_marked.Given as goal
 
 abbrev pub invariant-loop-row : goal.invariant-loop-row

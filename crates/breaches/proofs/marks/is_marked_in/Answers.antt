@@ -3,7 +3,7 @@ use Rattle.std.specs.List.{list_any}
 use Rattle.league.specs.Sums.{any_below}
 use Rattle.league.proofs.ForCallers.{any_below_found}
 use Rattle.breaches.specs.Cells.{names}
-use Rattle.breaches.specs.Terms.{breach_in, column_count}
+use Rattle.breaches.specs.within.Terms.{breach_in, column_count}
 use Rattle.breaches.proofs.Rows.{any_not_yet, any_of_below}
 use Rattle.breaches.proofs.marks.is_marked_in.Goals as goal
 

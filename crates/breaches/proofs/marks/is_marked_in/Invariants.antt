@@ -2,7 +2,7 @@ use Rattle.std.proofs.Common.{◌≡◌, false}
 use Rattle.std.specs.List.{list_any}
 use Rattle.league.specs.Sums.{any_below}
 use Rattle.breaches.specs.Cells.{names}
-use Rattle.breaches.specs.Terms.{breach_in}
+use Rattle.breaches.specs.within.Terms.{breach_in}
 use Rattle.breaches.proofs.marks.is_marked_in.Given as goal
 
 abbrev pub invariant-loop-column : goal.invariant-loop-column

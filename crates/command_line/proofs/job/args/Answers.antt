@@ -1,7 +1,8 @@
 use Rattle.std.proofs.Common.{◌≡◌, ◌⊎◌, ◌∙◌, [], ap, false, map, option_and_then, string_bytes, subst, sym}
 use Rattle.clap.specs.Words.{App, fault_of, is_simple, is_simple_and_free, subcommand_of, subcommand_rows_of}
 use Rattle.clap.specs.Kinds.{HasKind}
-use Rattle.command_line.specs.CommandLine.{NamesACommand, asks_for_all, beginning_of_command, job_of_command, program}
+use Rattle.command_line.specs.CommandLine.{asks_for_all, beginning_of_command, job_of_command, program}
+use Rattle.command_line.specs.within.CommandLine.{NamesACommand}
 use Rattle.command_line.specs.Beginnings.{beginning_of}
 use Rattle.command_line.specs.Files.{files_of, files_of_command}
 use Rattle.command_line.specs.declared.refusals.Refusal.TheVariants.{Memory}

@@ -1,7 +1,7 @@
 use Rattle.std.proofs.Common.{◌≡◌, ℕ, true, length}
 use Rattle.league.specs.Limits.{max_rules}
 use Rattle.league.specs.Sets.{has}
-use Rattle.costs.specs.CountsKept.{AreRests, IsKeptOf}
+use Rattle.costs.specs.within.CountsKept.{AreRests, IsKeptOf}
 use Rattle.costs.proofs.Partial.{IsCountedWithout, IsNoMore}
 use Rattle.costs.proofs.counted.whole_within.Given as goal
 

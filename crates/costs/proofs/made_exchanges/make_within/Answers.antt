@@ -1,9 +1,9 @@
 use Rattle.std.proofs.Common.{◌≡◌, not, length, sym, ◌∙◌, ap, subst, arith}
 use Rattle.costs.specs.declared.attempt.Attempt.{Attempt}
-use Rattle.costs.specs.CostParts.{IsTold}
+use Rattle.costs.specs.within.CostParts.{IsTold}
 use Rattle.fixtures.specs.Exchanges.{exchanged_by}
 use Rattle.fixtures.specs.Games.{Games}
-use Rattle.costs.specs.CountsKept.{AreRests}
+use Rattle.costs.specs.within.CountsKept.{AreRests}
 use Rattle.costs.specs.Evaluators.{AreDeviations, IsEvaluatorOf}
 use Rattle.costs.proofs.CountsKept.{from_some, kept_after, known_at, rests_after, still_counts}
 use Rattle.costs.proofs.Parts.{score_after, told_alone, within_is_small}

@@ -5,7 +5,7 @@ use Rattle.league.specs.Sets.{has, IsBelow}
 use Rattle.league.proofs.ForCallers.{lowest_below, sum_without_none, sum_without_more, sum_without_all}
 use Rattle.robinx.proofs.ForCallers.{part_le}
 use Rattle.costs.specs.Costs.{hard_penalty, soft_penalty}
-use Rattle.costs.specs.CostParts.{rule_part}
+use Rattle.costs.specs.within.CostParts.{rule_part}
 use Rattle.costs.proofs.CountsKept.{rest_more}
 use Rattle.costs.proofs.PartLimits.{hard_nothing, soft_nothing}
 use Rattle.costs.proofs.Walked.{walked}

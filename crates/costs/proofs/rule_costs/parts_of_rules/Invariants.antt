@@ -3,8 +3,8 @@ use Rattle.std.specs.Prelude.{slice_get}
 use Rattle.league.specs.Limits.{deviation_limit, max_rules, max_weight}
 use Rattle.league.proofs.ForCallers.{IsSumWithout}
 use Rattle.costs.specs.Costs.{hard_penalty, soft_penalty}
-use Rattle.costs.specs.CostParts.{rule_part}
-use Rattle.costs.specs.CountsKept.{IsKeptOf}
+use Rattle.costs.specs.within.CostParts.{rule_part}
+use Rattle.costs.specs.within.CountsKept.{IsKeptOf}
 use Rattle.costs.proofs.CountsKept.{RestsWithout}
 use Rattle.costs.proofs.rule_costs.parts_of_rules.Given as goal
 

@@ -1,6 +1,6 @@
 use Rattle.std.proofs.Common.{refl, []}
 use Rattle.std.proofs.lemmas.Result.{err_from_is_err_and}
-use Rattle.improvement.specs.UnderWay.{HasRunAll, IsUnderWay}
+use Rattle.improvement.specs.within.UnderWay.{HasRunAll, IsUnderWay}
 use Rattle.improvement.proofs.UnderWay.{ends_early, none_left, run_all_is, sent_none, under_way_next, under_way_none}
 use Rattle.improvement.proofs.improving.run_all.Goals as goal
 

@@ -1,6 +1,6 @@
 use Rattle.std.proofs.Common.{[]}
-use Rattle.improvement.specs.Lines.{left_in}
-use Rattle.improvement.specs.UnderWay.{IsUnderWay}
+use Rattle.improvement.specs.within.Lines.{left_in}
+use Rattle.improvement.specs.within.UnderWay.{IsUnderWay}
 use Rattle.improvement.proofs.improving.run_all.Given as goal
 
 abbrev pub invariant-loop-told : goal.invariant-loop-told

@@ -2,7 +2,7 @@ use Rattle.std.proofs.Common.{[], sym, ◌∙◌, ap, arith}
 use Rattle.std.proofs.lemmas.List.Elements.{All-head}
 use Rattle.std.proofs.lemmas.Result.{err_from_is_err_and}
 use Rattle.fixture_board.specs.Record.{Book}
-use Rattle.improvement.specs.Lines.{IsRunning}
+use Rattle.improvement.specs.within.Lines.{IsRunning}
 use Rattle.improvement.proofs.UnderWay.{few_told, league_is, room_is, sent_more, stopped_more, under_way_more}
 use Rattle.improvement.proofs.improving.tell.Goals as goal
 

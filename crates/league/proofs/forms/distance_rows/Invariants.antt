@@ -3,7 +3,7 @@ use Rattle.std.proofs.Common.{◌≡◌, drop}
 use Rattle.serde_json.specs.View.{items_view}
 use Rattle.league.specs.Json.{all_items}
 use Rattle.league.specs.LeagueMembers.{distance_row}
-use Rattle.league.specs.Views.{rows}
+use Rattle.league.specs.within.Views.{rows}
 use Rattle.league.proofs.Items.{with_front}
 use Rattle.league.proofs.forms.distance_rows.Given as goal
 

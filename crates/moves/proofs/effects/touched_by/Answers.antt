@@ -1,7 +1,8 @@
 use Rattle.std.proofs.Common.{sym, ◌∙◌, ap, subst}
 use Rattle.league.specs.Sets.{has}
 use Rattle.fixtures.specs.declared.exchanges.Exchange.{Exchange}
-use Rattle.fixtures.specs.Exchanges.{Fits, IsOfTeams, touched_by}
+use Rattle.fixtures.specs.Exchanges.{Fits, IsOfTeams}
+use Rattle.fixtures.specs.within.Exchanges.{touched_by}
 use Rattle.fixtures.proofs.ForCallers.{stays_fitting}
 use Rattle.fixtures.proofs.ForCallers.{touched_by_first}
 use Rattle.moves.proofs.effects.touched_by.Goals as goal

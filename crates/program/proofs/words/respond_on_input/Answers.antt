@@ -1,5 +1,5 @@
 use Rattle.std.proofs.Common.{Err}
-use Rattle.commands.specs.Fault.{of_reading}
+use Rattle.commands.specs.within.Fault.{of_reading}
 use Rattle.program.proofs.Inputs.{unread}
 use Rattle.program.proofs.words.respond_on_input.Goals as goal
 

@@ -1,5 +1,5 @@
 use Rattle.std.proofs.Common.{◌≡◌, ◌++◌, length}
-use Rattle.report_formats.specs.Pieces.{text_of_pieces}
+use Rattle.report_formats.specs.within.Pieces.{text_of_pieces}
 use Rattle.report_formats.proofs.pieces.push_pieces.Given as goal
 
 abbrev pub invariant-loop-rest : goal.invariant-loop-rest

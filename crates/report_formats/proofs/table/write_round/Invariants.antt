@@ -1,6 +1,7 @@
 use Rattle.csv.specs.Writing.{writer_setup}
 use Rattle.streams.specs.Pieces.{pieces_below}
-use Rattle.report_formats.specs.Table.{game_at, AddsRows}
+use Rattle.report_formats.specs.Table.{game_at}
+use Rattle.report_formats.specs.within.Table.{AddsRows}
 use Rattle.report_formats.proofs.table.write_round.Given as goal
 
 abbrev pub invariant-loop-team : goal.invariant-loop-team

@@ -1,6 +1,7 @@
 use Rattle.csv.specs.Writing.{writer_setup}
 use Rattle.streams.specs.Pieces.{pieces_below}
-use Rattle.report_formats.specs.Table.{games_of_round, AddsRows}
+use Rattle.report_formats.specs.Table.{games_of_round}
+use Rattle.report_formats.specs.within.Table.{AddsRows}
 use Rattle.report_formats.proofs.table.write_rounds.Given as goal
 
 abbrev pub invariant-loop-round : goal.invariant-loop-round

@@ -2,7 +2,7 @@ use Rattle.std.proofs.Common.{◌+◌, ◌-◌, refl, ◌∙◌, ap}
 use Rattle.league.specs.Sets.{has}
 use Rattle.league.proofs.ForCallers.{sum_where_same}
 use Rattle.robinx.specs.Deviations.{deviation, over_in_windows}
-use Rattle.robinx.specs.Walked.{over_from_starts}
+use Rattle.robinx.specs.within.Walked.{over_from_starts}
 use Rattle.robinx.proofs.counted.CountedRounds.{all_windows}
 use Rattle.robinx.proofs.capacity_rules.ca3.Goals as goal
 

@@ -4,7 +4,7 @@ use Rattle.league.specs.Sums.{count_where}
 use Rattle.league.proofs.ForCallers.{count_where_le}
 use Rattle.fixtures.specs.Games.{round_count}
 use Rattle.robinx.specs.Deviations.{is_counted, games_of_team}
-use Rattle.robinx.specs.Walked.{season_games}
+use Rattle.robinx.specs.within.Walked.{season_games}
 use Rattle.robinx.proofs.counted.CountedRounds.{counted_among, counted_in_and_out}
 use Rattle.robinx.proofs.counted.SeasonCounts.{games_of_season}
 use Rattle.robinx.proofs.counts.games_of_team.Goals as goal

@@ -3,7 +3,7 @@ use Rattle.league.specs.Sets.{all_numbers}
 use Rattle.league.specs.declared.rule.RuleBody.TheVariants.{Ca1, Ca2}
 use Rattle.league.proofs.ForCallers.{has_all_numbers}
 use Rattle.robinx.specs.Deviations.{deviation}
-use Rattle.robinx.specs.Walked.{counted_of}
+use Rattle.robinx.specs.within.Walked.{counted_of}
 use Rattle.robinx.proofs.rows.AllTeams.{Ca2-all}
 use Rattle.robinx.proofs.limits.Limits.{deviation_below}
 use Rattle.robinx.proofs.deviations.deviation.Goals as goal

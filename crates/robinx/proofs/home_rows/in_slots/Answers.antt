@@ -4,7 +4,7 @@ use Rattle.std.proofs.lemmas.List.{get_or-replicate}
 use Rattle.std.proofs.Math.ListN.{replicate, get_or-eq_default}
 use Rattle.league.proofs.ForCallers.{has_beyond}
 use Rattle.robinx.proofs.home_rows.in_slots.Goals as goal
-use Rattle.robinx.specs.Walked.{row_length}
+use Rattle.robinx.specs.within.Walked.{row_length}
 
 pub loop-round-init : goal.loop-round-init
 loop-round-init c = record {

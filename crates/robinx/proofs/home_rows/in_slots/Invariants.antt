@@ -1,5 +1,5 @@
 use Rattle.std.proofs.Common.{◌≡◌, ℕ, ◌<◌, ◌≤◌, length, get_or}
-use Rattle.robinx.specs.Walked.{one_in, row_length}
+use Rattle.robinx.specs.within.Walked.{one_in, row_length}
 use Rattle.robinx.proofs.home_rows.in_slots.Given as goal
 
 abbrev pub invariant-loop-round : goal.invariant-loop-round

@@ -1,6 +1,6 @@
 use Rattle.std.proofs.Common.{◌≡◌, ℕ, ◌<◌, ◌≤◌, length, get_or}
 use Rattle.robinx.proofs.home_rows.step.Given as goal
-use Rattle.robinx.specs.Walked.{row_length}
+use Rattle.robinx.specs.within.Walked.{row_length}
 
 abbrev pub invariant-loop-place : goal.invariant-loop-place
 invariant-loop-place l = record {

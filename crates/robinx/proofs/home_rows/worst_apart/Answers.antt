@@ -1,6 +1,6 @@
 use Rattle.std.proofs.Common.{◌≡◌, ◌+◌, ◌*◌, sym, ◌∙◌, ap, arith}
 use Rattle.robinx.specs.Deviations.{largest_below}
-use Rattle.robinx.specs.Walked.{apart_in, worst_apart}
+use Rattle.robinx.specs.within.Walked.{apart_in, worst_apart}
 use Rattle.robinx.proofs.limits.Largest.{largest_below_none, largest_below_more, largest_by_lanes, ord_max_is}
 use Rattle.robinx.proofs.home_rows.worst_apart.Goals as goal
 

@@ -1,6 +1,6 @@
 use Rattle.std.proofs.Common.{◌≡◌, ◌+◌, ◌-◌, ◌*◌, rules, sym, ◌∙◌, ap, arith}
 use Rattle.robinx.specs.Deviations.{largest_below}
-use Rattle.robinx.specs.Walked.{apart_in}
+use Rattle.robinx.specs.within.Walked.{apart_in}
 use Rattle.robinx.proofs.limits.Largest.{largest_below_none, largest_below_more, ord_max_is}
 use Rattle.robinx.proofs.home_rows.worst_in_lane.Goals as goal
 

@@ -1,6 +1,6 @@
 use Rattle.std.proofs.Common.{◌≡◌, ◌+◌, ◌*◌}
 use Rattle.robinx.specs.Deviations.{largest_below}
-use Rattle.robinx.specs.Walked.{apart_in}
+use Rattle.robinx.specs.within.Walked.{apart_in}
 use Rattle.robinx.proofs.home_rows.worst_in_lane.Given as goal
 
 abbrev pub invariant-loop-chunk : goal.invariant-loop-chunk

@@ -1,7 +1,7 @@
 use Rattle.std.proofs.Common.{◌∙◌}
 use Rattle.std.proofs.lemmas.List.{length-set}
 use Rattle.std.proofs.lemmas.List.Elements.{All-set}
-use Rattle.robinx.specs.Gaps.{IsTablePair}
+use Rattle.robinx.specs.within.Gaps.{IsTablePair}
 use Rattle.robinx.proofs.kept_gaps.turned_within.Goals as goal
 
 pub invariant_of-gaps : goal.invariant_of-gaps

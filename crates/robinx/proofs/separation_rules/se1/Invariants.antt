@@ -3,7 +3,7 @@ use Rattle.league.specs.Sets.{has}
 use Rattle.league.specs.Sums.{sum_where}
 use Rattle.league.proofs.ForCallers.{IsSumWithout}
 use Rattle.robinx.specs.Deviations.{over, rounds_between}
-use Rattle.robinx.specs.Walked.{counts_pair}
+use Rattle.robinx.specs.within.Walked.{counts_pair}
 use Rattle.robinx.proofs.separation_rules.se1.Given as goal
 
 abbrev pub invariant-loop-team : goal.invariant-loop-team

@@ -4,7 +4,7 @@ use Rattle.league.specs.Sums.{sum_where}
 use Rattle.league.proofs.ForCallers.{IsSumWithout}
 use Rattle.robinx.specs.Deviations.{over, rounds_between}
 use Rattle.robinx.specs.Parts.{meet_in}
-use Rattle.robinx.specs.Walked.{counts_pair}
+use Rattle.robinx.specs.within.Walked.{counts_pair}
 use Rattle.robinx.proofs.separation_rules.se1_part.Given as goal
 
 abbrev pub invariant-loop-team : goal.invariant-loop-team

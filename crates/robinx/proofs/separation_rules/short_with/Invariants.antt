@@ -1,7 +1,7 @@
 use Rattle.std.proofs.Common.{if◌then◌else◌}
 use Rattle.league.proofs.ForCallers.{IsSumWithout}
 use Rattle.robinx.specs.Deviations.{over, rounds_between}
-use Rattle.robinx.specs.Walked.{counts_pair}
+use Rattle.robinx.specs.within.Walked.{counts_pair}
 use Rattle.robinx.proofs.separation_rules.short_with.Given as goal
 
 abbrev pub invariant-loop-other : goal.invariant-loop-other

@@ -4,7 +4,7 @@ use Rattle.league.specs.Sums.{sum_where, count_where}
 use Rattle.league.proofs.ForCallers.{IsSumWithout}
 use Rattle.robinx.specs.Deviations.{over}
 use Rattle.robinx.proofs.team_windows.over_in_rows.Given as goal
-use Rattle.robinx.specs.Walked.{row_length}
+use Rattle.robinx.specs.within.Walked.{row_length}
 
 abbrev pub invariant-loop-first : goal.invariant-loop-first
 invariant-loop-first l =

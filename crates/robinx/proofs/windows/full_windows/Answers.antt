@@ -1,6 +1,6 @@
 use Rattle.std.proofs.Common.{◌≡◌, ◌&&◌, ◌==◌, nat_lt, ◌∙◌, ap, arith}
 use Rattle.league.specs.Sets.{has}
-use Rattle.robinx.specs.Walked.{lacks}
+use Rattle.robinx.specs.within.Walked.{lacks}
 use Rattle.robinx.proofs.rows.FullWindows.{full_none, full_more}
 use Rattle.robinx.proofs.windows.full_windows.Goals as goal
 

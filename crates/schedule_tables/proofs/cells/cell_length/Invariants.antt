@@ -1,5 +1,5 @@
 use Rattle.std.proofs.Common.{◌≡◌, ◌+◌, false, length}
-use Rattle.schedule_tables.specs.Cells.{cell_length}
+use Rattle.schedule_tables.specs.within.Cells.{cell_length}
 use Rattle.schedule_tables.proofs.cells.cell_length.Given as goal
 
 abbrev pub invariant-loop-rest : goal.invariant-loop-rest

@@ -1,7 +1,7 @@
 use Rattle.std.proofs.Common.{arith, sym, ◌∙◌}
 use Rattle.std.proofs.lemmas.List.{take_all}
 use Rattle.league.specs.Limits.{max_rounds}
-use Rattle.schedule_texts.specs.Faults.{number_of, takes}
+use Rattle.schedule_texts.specs.within.Faults.{number_of, takes}
 use Rattle.schedule_texts.proofs.Tallies.{tallies_more, tallies_none, tallies_same, tally_small}
 use Rattle.schedule_texts.proofs.Tests.{count_is, number_below}
 use Rattle.schedule_texts.proofs.counts.counts_of.Goals as goal

@@ -1,6 +1,6 @@
 use Rattle.std.proofs.Common.{take}
 use Rattle.league.specs.Limits.{max_rounds}
-use Rattle.schedule_texts.specs.Faults.{number_of, takes}
+use Rattle.schedule_texts.specs.within.Faults.{number_of, takes}
 use Rattle.schedule_texts.proofs.Tallies.{Tallies}
 use Rattle.schedule_texts.proofs.counts.counts_of.Given as goal
 

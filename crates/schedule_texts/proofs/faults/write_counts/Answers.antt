@@ -1,5 +1,5 @@
 use Rattle.streams.proofs.Pieces.{Adds-piece, Stops-in_pieces, Stops-writes}
-use Rattle.schedule_texts.specs.Faults.{count_lines}
+use Rattle.schedule_texts.specs.within.Faults.{count_lines}
 use Rattle.schedule_texts.proofs.faults.write_counts.Goals as goal
 
 pub loop-team-preserved : goal.loop-team-preserved

@@ -1,6 +1,6 @@
 use Rattle.streams.specs.Pieces.{pieces_below}
 use Rattle.streams.specs.Writing.{Adds}
-use Rattle.schedule_texts.specs.Faults.{count_lines}
+use Rattle.schedule_texts.specs.within.Faults.{count_lines}
 use Rattle.schedule_texts.proofs.faults.write_counts.Given as goal
 
 abbrev pub invariant-loop-team : goal.invariant-loop-team

@@ -2,7 +2,7 @@ use Rattle.std.proofs.Common.{length, ap, ◌∙◌, arith, rules}
 use Rattle.std.proofs.lemmas.List.{length-map}
 use Rattle.std.proofs.lemmas.List.Elements.{All-weaker}
 use Rattle.shared_board.specs.Setting.{Setting}
-use Rattle.search.specs.Crews.{JobIn, JobMeasured, handle_number, job_number}
+use Rattle.search.specs.within.Crews.{JobIn, JobMeasured, handle_number, job_number}
 use Rattle.search.proofs.Credited.{credits_of}
 use Rattle.search.proofs.runs.search.Goals as goal
 

@@ -1,8 +1,8 @@
 use Rattle.std.proofs.Common.{◌≡◌, ◌+◌, ◌≤◌}
 use Rattle.league.specs.League.{teams}
 use Rattle.costs.specs.Evaluators.{IsEvaluatorAt}
-use Rattle.search.specs.Heard.{IsHeard}
-use Rattle.search.specs.Steps.{IsKnown}
+use Rattle.search.specs.within.Heard.{IsHeard}
+use Rattle.search.specs.within.Steps.{IsKnown}
 use Rattle.search.proofs.workers.take_steps.Given as goal
 
 abbrev pub invariant-loop-s : goal.invariant-loop-s

@@ -1,7 +1,7 @@
 use Rattle.std.proofs.Common.{◌+◌}
 use Rattle.league.specs.Starts.{start_round}
 use Rattle.fixtures.specs.Games.{cell, round_count}
-use Rattle.tours.specs.Moved.{cell_moved}
+use Rattle.tours.specs.within.Moved.{cell_moved}
 use Rattle.tours.proofs.legs.TwoTotals.{AreTotals}
 use Rattle.tours.proofs.moved_told.moved_of_teams.Given as goal
 

@@ -1,6 +1,6 @@
 use Rattle.std.proofs.Common.{◌+◌, ◌-◌}
 use Rattle.fixtures.specs.Games.{round_count}
-use Rattle.tours.specs.Told.{meets_next}
+use Rattle.tours.specs.within.Told.{meets_next}
 use Rattle.tours.proofs.legs.TwoTotals.{AreTotals}
 use Rattle.tours.proofs.repeats_told.repeats_at_edges.Given as goal
 

@@ -1,6 +1,6 @@
 use Rattle.std.proofs.Common.{◌+◌}
 use Rattle.fixtures.specs.Edits.{exchanged}
-use Rattle.tours.specs.Told.{met, repeats_around}
+use Rattle.tours.specs.within.Told.{met, repeats_around}
 use Rattle.tours.proofs.legs.TwoTotals.{AreTotals}
 use Rattle.tours.proofs.repeats_told.repeats_of_ordered.Given as goal
 

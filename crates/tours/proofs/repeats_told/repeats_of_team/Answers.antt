@@ -1,6 +1,6 @@
 use Rattle.std.proofs.Common.{sym, ◌∙◌, arith}
 use Rattle.std.proofs.lemmas.Bool.{cond-true, eq-eqb}
-use Rattle.tours.specs.Told.{met}
+use Rattle.tours.specs.within.Told.{met}
 use Rattle.tours.proofs.runs_and_repeats.RepeatsTold.{met_cell, beside_before, beside_after, next_before, next_after}
 use Rattle.tours.proofs.repeats_told.repeats_of_team.Goals as goal
 

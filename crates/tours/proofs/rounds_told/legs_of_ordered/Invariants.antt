@@ -1,8 +1,8 @@
 use Rattle.std.proofs.Common.{◌*◌}
 use Rattle.league.specs.Limits.{max_distance}
 use Rattle.tours.specs.Tours.{leg}
-use Rattle.tours.specs.Walked.{leg_exchanged}
-use Rattle.tours.specs.Told.{legs_changed}
+use Rattle.tours.specs.within.Walked.{leg_exchanged}
+use Rattle.tours.specs.within.Told.{legs_changed}
 use Rattle.tours.proofs.legs.TwoTotals.{AreTotals}
 use Rattle.tours.proofs.rounds_told.legs_of_ordered.Given as goal
 

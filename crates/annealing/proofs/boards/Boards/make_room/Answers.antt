@@ -1,5 +1,5 @@
 use Rattle.std.proofs.Common.{refl, sym, ◌∙◌, ap}
-use Rattle.annealing.specs.Boards.{better}
+use Rattle.annealing.specs.within.Boards.{better}
 use Rattle.annealing.proofs.Rooms.{with_room-as_is, with_room-back, with_room-anew}
 use Rattle.annealing.proofs.boards.Boards.make_room.Goals as goal
 

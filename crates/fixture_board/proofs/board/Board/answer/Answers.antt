@@ -1,6 +1,6 @@
 use Rattle.std.proofs.Common.{ℕ, length, ◌∙◌, ap, arith}
 use Rattle.fixture_board.specs.declared.reply.Reply.TheVariants.{Done, No}
-use Rattle.fixture_board.specs.Kept.{Kept}
+use Rattle.fixture_board.specs.within.Kept.{Kept}
 use Rattle.fixture_board.specs.Record.{book}
 use Rattle.fixture_board.proofs.Reasons.{refused_call, granted_call}
 use Rattle.fixture_board.proofs.board.Board.answer.Goals as goal

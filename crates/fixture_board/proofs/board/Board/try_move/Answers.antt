@@ -1,5 +1,5 @@
 use Rattle.std.proofs.Common.{Some, ◌∙◌, ap, arith}
-use Rattle.fixture_board.specs.Kept.{Kept}
+use Rattle.fixture_board.specs.within.Kept.{Kept}
 use Rattle.fixture_board.specs.Record.{book}
 use Rattle.fixture_board.proofs.Trials.{left_call, made_call}
 use Rattle.fixture_board.proofs.board.Board.try_move.Goals as goal

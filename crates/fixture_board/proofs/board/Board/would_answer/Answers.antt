@@ -1,6 +1,6 @@
 use Rattle.std.proofs.Common.{ℕ, ◌+◌, ◌∙◌, ap}
 use Rattle.fixture_board.specs.declared.reply.Reply.TheVariants.{Done, No}
-use Rattle.fixture_board.specs.Kept.{kept_of}
+use Rattle.fixture_board.specs.within.Kept.{kept_of}
 use Rattle.fixture_board.proofs.Foretold.{foretold_done, foretold_no}
 use Rattle.fixture_board.proofs.board.Board.would_answer.Goals as goal
 

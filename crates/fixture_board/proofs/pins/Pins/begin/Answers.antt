@@ -1,7 +1,7 @@
 use Rattle.std.proofs.Common.{◌≡◌, ◌+◌, ℕ, ◌||◌, ◌==◌, nat_lt, false, arith, subst, sym}
 use Rattle.std.proofs.lemmas.Bool.{lt-ltb}
 use Rattle.std.proofs.lemmas.Bool.Decides.{nat_tests}
-use Rattle.fixture_board.specs.PinTable.{AreBegun}
+use Rattle.fixture_board.specs.within.PinTable.{AreBegun}
 use Rattle.fixture_board.proofs.BegunTables.{begun_all, begun_like, begun_none}
 use Rattle.fixture_board.proofs.pins.Pins.begin.Goals as goal
 

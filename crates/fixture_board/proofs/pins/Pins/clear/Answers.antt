@@ -1,5 +1,5 @@
 use Rattle.std.proofs.Common.{◌≡◌, ℕ, vec_len, ◌∙◌, ap, replicate, arith}
-use Rattle.fixture_board.specs.PinTable.{free, pin_entries}
+use Rattle.fixture_board.specs.within.PinTable.{free, pin_entries}
 use Rattle.fixture_board.proofs.pins.Pins.clear.Goals as goal
 
 pub returns : goal.returns

@@ -1,5 +1,5 @@
 use Rattle.std.proofs.Common.{◌≡◌, ℕ, List, sym, subst, replicate, rules}
-use Rattle.fixture_board.specs.PinTable.{free, pin_entries, ArePinnedPairs}
+use Rattle.fixture_board.specs.within.PinTable.{free, pin_entries, ArePinnedPairs}
 use Rattle.fixture_board.proofs.PinTable.{ArePinnedPairs-none}
 use Rattle.fixture_board.proofs.pins.Pins.none.Goals as goal
 

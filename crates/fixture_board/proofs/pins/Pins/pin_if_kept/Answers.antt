@@ -1,5 +1,5 @@
 use Rattle.std.proofs.Common.{sym, ◌∙◌, subst}
-use Rattle.fixture_board.specs.PinTable.{AreBegun}
+use Rattle.fixture_board.specs.within.PinTable.{AreBegun}
 use Rattle.fixture_board.proofs.BegunTables.{begun_written}
 use Rattle.fixture_board.proofs.pins.Pins.pin_if_kept.Goals as goal
 

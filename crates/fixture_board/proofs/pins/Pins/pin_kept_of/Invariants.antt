@@ -1,5 +1,5 @@
 use Rattle.std.proofs.Common.{ℕ, Bool, ◌&&◌, ◌||◌, ◌==◌, nat_lt}
-use Rattle.fixture_board.specs.PinTable.{AreBegun}
+use Rattle.fixture_board.specs.within.PinTable.{AreBegun}
 use Rattle.fixture_board.proofs.pins.Pins.pin_kept_of.Given as goal
 
 abbrev pub invariant-loop-away : goal.invariant-loop-away

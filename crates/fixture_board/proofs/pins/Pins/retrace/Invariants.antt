@@ -1,5 +1,5 @@
 use Rattle.std.proofs.Common.{take}
-use Rattle.fixture_board.specs.Retraced.{IsRetraced}
+use Rattle.fixture_board.specs.within.Retraced.{IsRetraced}
 use Rattle.fixture_board.proofs.pins.Pins.retrace.Given as goal
 
 abbrev pub invariant-loop-change : goal.invariant-loop-change

@@ -2,7 +2,7 @@ use Rattle.std.proofs.Common.{sym, ◌∙◌, ap, subst}
 use Rattle.fixtures.specs.Games.{Games}
 use Rattle.costs.specs.Costs.{cost_of}
 use Rattle.fixture_board.specs.History.{effective}
-use Rattle.fixture_board.specs.Retraced.{IsRetraced}
+use Rattle.fixture_board.specs.within.Retraced.{IsRetraced}
 use Rattle.fixture_board.proofs.Rewinding.{HavePlaces-kept, best_size, FollowsHistory-rewound}
 use Rattle.fixture_board.proofs.state.State.rewind.Goals as goal
 

@@ -4,7 +4,7 @@ use Rattle.fixtures.specs.Games.{Games}
 use Rattle.fixtures.specs.Exchanges.{exchanged_by}
 use Rattle.costs.specs.Costs.{cost_of}
 use Rattle.fixture_board.specs.History.{moves_pin, pins_of}
-use Rattle.fixture_board.specs.Kept.{kept_of}
+use Rattle.fixture_board.specs.within.Kept.{kept_of}
 use Rattle.fixture_board.proofs.Keeps.{IsGranted-shift, IsSound-kept, known_cost}
 use Rattle.fixture_board.proofs.Reasons.{IsStep-stopped, shift_stopped, shift_told, shift_judged}
 use Rattle.costs.proofs.ForCallers.{score_after}

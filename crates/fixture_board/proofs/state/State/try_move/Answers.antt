@@ -3,7 +3,7 @@ use Rattle.fixtures.specs.Games.{Games}
 use Rattle.fixtures.specs.Exchanges.{exchanged_by}
 use Rattle.costs.specs.Costs.{cost_of, score_by}
 use Rattle.fixture_board.specs.History.{moves_pin, pins_of}
-use Rattle.fixture_board.specs.Kept.{kept_of, IsTried}
+use Rattle.fixture_board.specs.within.Kept.{kept_of, IsTried}
 use Rattle.fixture_board.proofs.Keeps.{IsSound-kept, known_cost}
 use Rattle.costs.proofs.ForCallers.{score_fits_after}
 use Rattle.fixture_board.proofs.Trials.{all_pass, fails_by_score, fits_before, left_bad, left_full, left_pinned, made}

@@ -1,7 +1,7 @@
 use Rattle.std.proofs.Common.{◌≡◌, List, length, sym, ◌∙◌, ap, append-nil, arith}
 use Rattle.std.proofs.lemmas.Bool.{eq-eqb}
 use Rattle.fixture_board.specs.declared.change.Change.{Change}
-use Rattle.fixture_board.specs.Kept.{kept_of}
+use Rattle.fixture_board.specs.within.Kept.{kept_of}
 use Rattle.fixture_board.proofs.Keeps.{known_cost, CanTakeBack-last, IsGranted-undo}
 use Rattle.fixture_board.proofs.Reasons.{IsStep-stopped, undo_stopped, undo_told, some_last}
 use Rattle.fixture_board.proofs.state.State.undo.Goals as goal

@@ -2,7 +2,7 @@ use Rattle.std.proofs.Common.{refl, ◌∙◌, ap, sym}
 use Rattle.std.specs.Result.{result_err}
 use Rattle.fixtures.specs.Games.{Games}
 use Rattle.fixture_board.specs.History.{moves_pin, pins_of}
-use Rattle.fixture_board.specs.Kept.{kept_of}
+use Rattle.fixture_board.specs.within.Kept.{kept_of}
 use Rattle.fixture_board.proofs.Foretold.{IsForetold-stopped, cost_after_move}
 use Rattle.fixture_board.proofs.Keeps.{IsSound-kept, known_cost}
 use Rattle.fixture_board.proofs.Reasons.{shift_stopped, shift_told, shift_judged}

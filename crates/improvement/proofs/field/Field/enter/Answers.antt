@@ -1,6 +1,6 @@
 use Rattle.std.proofs.Common.{not, arith}
 use Rattle.std.proofs.lemmas.List.Sums.{prefix_len-le-length}
-use Rattle.improvement.specs.Fields.{is_before}
+use Rattle.improvement.specs.within.Fields.{is_before}
 use Rattle.improvement.proofs.field.Field.enter.Goals as goal
 
 pub insert-requires : goal.insert-requires

@@ -1,7 +1,7 @@
 use Rattle.std.proofs.Common.{◌∙◌, rules, tests}
 use Rattle.std.proofs.lemmas.Iterator.Consumers.{YieldsList-from_deque}
 use Rattle.std.proofs.lemmas.Iterator.Search.{position_from_yields_List}
-use Rattle.improvement.specs.Fields.{is_before}
+use Rattle.improvement.specs.within.Fields.{is_before}
 use Rattle.improvement.proofs.Bests.{index_or}
 use Rattle.improvement.proofs.field.Field.rank_of.Goals as goal
 

@@ -1,6 +1,6 @@
 use Rattle.std.proofs.Common.{sym, subst}
 use Rattle.std.proofs.lemmas.List.Elements.{All-nil}
-use Rattle.improvement.specs.Lines.{IsEntrant, IsStage}
+use Rattle.improvement.specs.within.Lines.{IsEntrant, IsStage}
 use Rattle.improvement.proofs.line.Line.fill.Goals as goal
 
 pub returns-in_default-clause-line : goal.returns-in_default-clause-line

@@ -1,5 +1,5 @@
 use Rattle.std.proofs.Common.{sym, subst}
-use Rattle.improvement.specs.Lines.{IsStage, MayBegin}
+use Rattle.improvement.specs.within.Lines.{IsStage, MayBegin}
 use Rattle.improvement.specs.declared.stage.Beginning.{Beginning}
 use Rattle.improvement.proofs.Lines.{best_begins, line_with, on_ok, stage_entering}
 use Rattle.improvement.proofs.line.Line.go_on.Goals as goal

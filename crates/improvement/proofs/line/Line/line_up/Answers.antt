@@ -1,6 +1,6 @@
 use Rattle.std.proofs.Common.{◌++◌, ◌∙◌, ap, append_assoc, List}
 use Rattle.improvement.specs.declared.legs.Turn.{Turn}
-use Rattle.improvement.specs.Lines.{turns_of}
+use Rattle.improvement.specs.within.Lines.{turns_of}
 use Rattle.improvement.proofs.line.Line.line_up.Goals as goal
 
 pub loop-bout-preserved : goal.loop-bout-preserved

@@ -2,7 +2,7 @@ use Rattle.std.proofs.Common.{◌≡◌, ◌++◌, ◌-◌, List}
 use Rattle.fixture_board.specs.Record.{Book}
 use Rattle.improvement.specs.declared.legs.Turn.{Turn}
 use Rattle.improvement.specs.Legs.{LegRun}
-use Rattle.improvement.specs.Lines.{IsLine, left_in, turns_of}
+use Rattle.improvement.specs.within.Lines.{IsLine, left_in, turns_of}
 use Rattle.improvement.proofs.line.Line.line_up.Given as goal
 
 abbrev pub invariant-loop-bout : goal.invariant-loop-bout

@@ -1,5 +1,5 @@
 use Rattle.std.proofs.Common.{◌∙◌}
-use Rattle.improvement.specs.Lines.{waiting_for}
+use Rattle.improvement.specs.within.Lines.{waiting_for}
 use Rattle.improvement.proofs.Lines.{bout_lined, on_ok, turns_more}
 use Rattle.improvement.proofs.line.Line.line_up_bout.Goals as goal
 

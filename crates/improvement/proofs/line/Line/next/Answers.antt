@@ -1,4 +1,4 @@
-use Rattle.improvement.specs.Lines.{IsRunning}
+use Rattle.improvement.specs.within.Lines.{IsRunning}
 use Rattle.improvement.proofs.Lines.{all_front, front_left, front_more}
 use Rattle.improvement.proofs.line.Line.next.Goals as goal
 

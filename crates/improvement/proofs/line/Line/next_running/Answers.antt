@@ -1,5 +1,5 @@
 use Rattle.std.proofs.Common.{refl}
-use Rattle.improvement.specs.Lines.{IsRunning}
+use Rattle.improvement.specs.within.Lines.{IsRunning}
 use Rattle.improvement.proofs.Lines.{all_front, front_left}
 use Rattle.improvement.proofs.line.Line.next_running.Goals as goal
 

@@ -1,5 +1,5 @@
 use Rattle.std.proofs.Common.{refl, ◌∙◌}
-use Rattle.improvement.specs.Lines.{IsWaiting}
+use Rattle.improvement.specs.within.Lines.{IsWaiting}
 use Rattle.improvement.proofs.Lines.{all_front, line_run, turns_run}
 use Rattle.improvement.proofs.line.Line.run_first.Goals as goal
 

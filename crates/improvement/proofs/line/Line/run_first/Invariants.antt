@@ -1,7 +1,7 @@
 use Rattle.std.proofs.Common.{◌≡◌, List}
 use Rattle.std.specs.VecDeque.{deque_len}
 use Rattle.improvement.specs.Legs.{LegRun}
-use Rattle.improvement.specs.Lines.{IsLine, turns_of}
+use Rattle.improvement.specs.within.Lines.{IsLine, turns_of}
 use Rattle.improvement.proofs.line.Line.run_first.Given as goal
 
 abbrev pub invariant-loop-self : goal.invariant-loop-self

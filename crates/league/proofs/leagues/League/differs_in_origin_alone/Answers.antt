@@ -2,8 +2,8 @@ use Rattle.std.proofs.Common.{◌≡◌, ◌&&◌, Bool, refl, ap, ◌∙◌, na
 use Rattle.std.specs.Bool.{Decides}
 use Rattle.std.specs.Cmp.Lexicographic.{pointwise}
 use Rattle.league.specs.contracts.rule.RulePartialEq.TheImpl as rule_eq
-use Rattle.league.specs.Rows.{joined}
-use Rattle.league.specs.League.{with_origin}
+use Rattle.league.specs.within.Rows.{joined}
+use Rattle.league.specs.within.League.{with_origin}
 use Rattle.league.proofs.Equality.{are_same_texts, berger, chain_decides, else_and, then_and}
 use Rattle.league.proofs.leagues.League.differs_in_origin_alone.Goals as goal
 use Rattle.league.proofs.leagues.League.differs_in_origin_alone.Goals.{Joined-eq-2, else-eq, else-eq-2, then-eq, then-eq-2}

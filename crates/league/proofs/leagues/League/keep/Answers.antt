@@ -1,6 +1,7 @@
 use Rattle.std.proofs.Common.{length, arith, sym, ◌∙◌, ap, subst}
 use Rattle.fixtures.specs.Games.{IsPair}
-use Rattle.league.specs.League.{LeagueData, league_of_numbers, teams, with_origin}
+use Rattle.league.specs.League.{LeagueData, league_of_numbers, teams}
+use Rattle.league.specs.within.League.{with_origin}
 use Rattle.league.specs.Origins.{IsOriginFor}
 use Rattle.league.specs.Starts.{keeping, KeepsMore}
 use Rattle.league.specs.Views.{texts}

@@ -1,4 +1,4 @@
-use Rattle.robinx.specs.Gaps.{IsGapTable}
+use Rattle.robinx.specs.within.Gaps.{IsGapTable}
 use Rattle.robinx.proofs.rows.ChangedTables.{other_most}
 use Rattle.robinx.proofs.gap_table.GapTable.begin.Goals as goal
 use Rattle.robinx.proofs.gap_table.GapTable.begin.Goals.{then-is_for, else-is_for}

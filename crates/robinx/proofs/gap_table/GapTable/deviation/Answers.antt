@@ -1,6 +1,6 @@
 use Rattle.std.proofs.Common.{◌∙◌, ap}
 use Rattle.robinx.specs.Deviations.{over}
-use Rattle.robinx.specs.Gaps.{sum_of_gaps}
+use Rattle.robinx.specs.within.Gaps.{sum_of_gaps}
 use Rattle.robinx.proofs.rows.GapTables.{rule_told}
 use Rattle.robinx.proofs.gap_table.GapTable.deviation.Goals as goal
 

@@ -2,7 +2,7 @@ use Rattle.std.proofs.Common.{◌+◌, ◌*◌, sym, ◌∙◌, ap, arith}
 use Rattle.league.specs.Sums.{sum_below}
 use Rattle.league.proofs.ForCallers.{sum_below_none, sum_below_more}
 use Rattle.robinx.specs.Deviations.{over}
-use Rattle.robinx.specs.Gaps.{gap_at}
+use Rattle.robinx.specs.within.Gaps.{gap_at}
 use Rattle.robinx.proofs.rows.TeamGaps.{lanes_few, row_over, sum_by_lanes}
 use Rattle.robinx.proofs.gaps.Gaps.over_of.Goals as goal
 

@@ -2,7 +2,7 @@ use Rattle.std.proofs.Common.{◌<◌, ap, ◌∙◌, arith}
 use Rattle.league.specs.Limits.{max_teams}
 use Rattle.league.proofs.ForCallers.{has_empty, lowest_below}
 use Rattle.league.specs.Sets.{has}
-use Rattle.robinx.specs.Walked.{row_of, worst_apart}
+use Rattle.robinx.specs.within.Walked.{row_of, worst_apart}
 use Rattle.robinx.proofs.rows.GapLoops.{put_none, put_more, not_there}
 use Rattle.robinx.proofs.gaps.Gaps.put_in.Goals as goal
 

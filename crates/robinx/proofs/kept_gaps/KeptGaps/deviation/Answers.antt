@@ -1,7 +1,7 @@
 use Rattle.std.proofs.Common.{◌∙◌}
 use Rattle.std.proofs.lemmas.List.{length-set}
 use Rattle.std.proofs.lemmas.List.Elements.{All-set}
-use Rattle.robinx.specs.Gaps.{IsTablePair}
+use Rattle.robinx.specs.within.Gaps.{IsTablePair}
 use Rattle.robinx.proofs.kept_gaps.KeptGaps.deviation.Goals as goal
 
 pub invariant_of-self : goal.invariant_of-self

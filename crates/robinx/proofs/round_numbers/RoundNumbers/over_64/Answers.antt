@@ -1,6 +1,6 @@
 use Rattle.std.proofs.Common.{◌-◌, arith}
 use Rattle.league.specs.Limits.{max_rounds}
-use Rattle.robinx.specs.Walked.{one_in, number_at}
+use Rattle.robinx.specs.within.Walked.{one_in, number_at}
 use Rattle.robinx.proofs.counted.RoundNumbers.{sum_by_bits, over_by_bits}
 use Rattle.robinx.proofs.round_numbers.RoundNumbers.over_64.Goals as goal
 

@@ -1,5 +1,5 @@
 use Rattle.std.proofs.Common.{◌≡◌, ℕ, ◌<◌, false, slice_index_or}
-use Rattle.robinx.specs.Gaps.{is_pair_of}
+use Rattle.robinx.specs.within.Gaps.{is_pair_of}
 use Rattle.robinx.specs.declared.table_pairs.TablePair.{TablePair}
 use Rattle.robinx.proofs.table_pairs.TablePairs.find.Given as goal
 

@@ -1,6 +1,6 @@
 use Rattle.std.proofs.Common.{arith}
 use Rattle.std.proofs.lemmas.List.Elements.{All-get_or, All-set}
-use Rattle.robinx.specs.Gaps.{IsTablePair}
+use Rattle.robinx.specs.within.Gaps.{IsTablePair}
 use Rattle.robinx.proofs.table_pairs.TablePairs.place_of.Goals as goal
 
 pub returns-clause-tables : goal.returns-clause-tables

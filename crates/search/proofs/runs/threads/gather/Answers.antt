@@ -1,7 +1,7 @@
 use Rattle.std.proofs.Common.{◌≡◌, ◌∷◌, [], length, sym, ap, ◌∙◌, append_assoc, arith}
 use Rattle.std.proofs.lemmas.List.Elements.{All-head, All-rest, All-same}
 use Rattle.std.specs.Vec.Iter.{into_iter_items}
-use Rattle.search.specs.Crews.{IsHandle}
+use Rattle.search.specs.within.Crews.{IsHandle}
 use Rattle.search.proofs.Credited.{gathered_more}
 use Rattle.search.proofs.runs.threads.gather.Goals as goal
 

@@ -1,7 +1,7 @@
 use Rattle.std.proofs.Common.{◌≡◌, ◌+◌, ◌≤◌, ◌++◌, length, vec_len, vec_capacity}
 use Rattle.std.specs.List.{All}
 use Rattle.std.specs.Vec.Iter.{into_iter_items, into_iter_len}
-use Rattle.search.specs.Crews.{IsHandle}
+use Rattle.search.specs.within.Crews.{IsHandle}
 use Rattle.search.proofs.Credited.{IsGathered}
 use Rattle.search.proofs.runs.threads.gather.Given as goal
 

@@ -2,7 +2,7 @@ use Rattle.std.proofs.Common.{◌≡◌, ◌∷◌, [], ◌++◌, length, map, a
 use Rattle.std.proofs.lemmas.List.{map-append}
 use Rattle.std.proofs.lemmas.List.Elements.{All-push, All-rest, All-same}
 use Rattle.std.specs.Vec.Iter.{into_iter_items}
-use Rattle.search.specs.Crews.{IsHandle, IsJob, JobMeasured, handle_number, job_number}
+use Rattle.search.specs.within.Crews.{IsHandle, IsJob, JobMeasured, handle_number, job_number}
 use Rattle.search.proofs.Chains.{numbers_more}
 use Rattle.search.proofs.runs.threads.start_all.Goals as goal
 

@@ -1,7 +1,7 @@
 use Rattle.std.proofs.Common.{◌≡◌, ◌+◌, ◌≤◌, ◌++◌, length, map, vec_len, vec_capacity}
 use Rattle.std.specs.List.{All}
 use Rattle.std.specs.Vec.Iter.{into_iter_items, into_iter_len}
-use Rattle.search.specs.Crews.{IsHandle, IsJob, JobMeasured, handle_number, job_number}
+use Rattle.search.specs.within.Crews.{IsHandle, IsJob, JobMeasured, handle_number, job_number}
 use Rattle.search.proofs.runs.threads.start_all.Given as goal
 
 abbrev pub invariant-loop-job : goal.invariant-loop-job

@@ -1,6 +1,7 @@
 use Rattle.std.proofs.Common.{◌≡◌, ℕ, false, replicate, sym, subst}
 use Rattle.sets.specs.Limits.{max_teams}
-use Rattle.sets.specs.Pairs.{has_pair, AreFirsts}
+use Rattle.sets.specs.Pairs.{has_pair}
+use Rattle.sets.specs.within.Pairs.{AreFirsts}
 use Rattle.sets.proofs.PairSets.{has_no_pairs, AreFirsts-none}
 use Rattle.sets.proofs.pairs.PairSet.empty.Goals as goal
 

@@ -3,8 +3,9 @@ use Rattle.fixture_board.specs.declared.change.Entry.{Entry}
 use Rattle.fixture_board.specs.History.{IsLegal}
 use Rattle.fixture_board.specs.Replies.{entry}
 use Rattle.shared_board.specs.Setting.{board_at}
-use Rattle.shared_board.specs.Stage.{away, kept}
-use Rattle.shared_board.specs.Plays.{saw, on_board}
+use Rattle.shared_board.specs.Stage.{away}
+use Rattle.shared_board.specs.within.Stage.{kept}
+use Rattle.shared_board.specs.within.Plays.{saw, on_board}
 use Rattle.shared_board.proofs.BoardLaws.{legal_next}
 use Rattle.shared_board.proofs.Ends.{done_adds, no_stays}
 use Rattle.shared_board.proofs.shared.Shared.conclude.Goals as goal

@@ -1,5 +1,5 @@
 use Rattle.std.proofs.Common.{rules, ap, sym, ◌∙◌, subst}
-use Rattle.shared_board.specs.Plays.{Token, Agreed}
+use Rattle.shared_board.specs.within.Plays.{Token, Agreed}
 use Rattle.shared_board.proofs.Seating.{join_keeps, tell_keeps}
 use Rattle.shared_board.proofs.Ends.{absorbed, of_both}
 use Rattle.shared_board.proofs.shared.Shared.merge.Goals as goal

@@ -2,7 +2,8 @@ use Rattle.std.proofs.Common.{◌≡◌, List, [], ◌∷◌, ◌++◌, Option, 
 use Rattle.atomic_table.specs.Table.{opening}
 use Rattle.fixture_board.specs.Laws.{least_of, as_number}
 use Rattle.fixture_board.specs.Record.{Book}
-use Rattle.shared_board.specs.Rule.{Ruled, first_view}
+use Rattle.shared_board.specs.Rule.{Ruled}
+use Rattle.shared_board.specs.within.Rule.{first_view}
 use Rattle.shared_board.proofs.BoardLaws.{number_of_best}
 use Rattle.shared_board.proofs.Turns.{opens}
 use Rattle.shared_board.proofs.shared.Shared.new.Goals as goal

@@ -1,7 +1,7 @@
 use Rattle.std.proofs.Common.{◌+◌, [], rules, ap, subst, ◌∙◌}
 use Rattle.shared_board.specs.declared.view.View.{View}
 use Rattle.shared_board.specs.Stage.{away}
-use Rattle.shared_board.specs.Plays.{Token, at_stage, drawer}
+use Rattle.shared_board.specs.within.Plays.{Token, at_stage, drawer}
 use Rattle.shared_board.specs.Seats.{BoardId, SeatValue, seat_value, given_at, IsNew}
 use Rattle.shared_board.proofs.Seating.{split_keeps}
 use Rattle.shared_board.proofs.Ends.{Read, read_own, drawn_away, new_seat, is_new}

@@ -1,5 +1,5 @@
 use Rattle.std.proofs.Common.{rules, ap, ◌∙◌}
-use Rattle.shared_board.specs.Plays.{Token}
+use Rattle.shared_board.specs.within.Plays.{Token}
 use Rattle.shared_board.proofs.Turns.{take_keeps}
 use Rattle.shared_board.proofs.shared.Shared.try_take.Goals as goal
 

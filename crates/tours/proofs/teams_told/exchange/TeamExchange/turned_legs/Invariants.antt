@@ -1,7 +1,7 @@
 use Rattle.std.proofs.Common.{◌+◌}
 use Rattle.league.specs.Limits.{max_distance}
 use Rattle.fixtures.specs.Games.{round_count}
-use Rattle.tours.specs.Exchanges.{leg_before, turned_after}
+use Rattle.tours.specs.within.Exchanges.{leg_before, turned_after}
 use Rattle.tours.proofs.legs.TwoTotals.{AreTotals}
 use Rattle.tours.proofs.teams_told.exchange.TeamExchange.turned_legs.Given as goal
 

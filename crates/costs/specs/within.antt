@@ -1,0 +1,2 @@
+pub mod CostParts
+pub mod CountsKept

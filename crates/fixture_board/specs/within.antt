@@ -1,0 +1,3 @@
+pub mod PinTable
+pub mod Retraced
+pub mod Kept

@@ -1,0 +1,79 @@
+-- An improvement under way, and how its parts end.
+use Rattle.std.specs.Prelude.{◌≡◌, ℕ, ◌+◌, Bool, true, List, [], length, sum_by, All, Option, Result, Ok, Err}
+use Rattle.fixture_board.specs.declared.best.Best.{Best}
+use Rattle.fixture_board.specs.History.{best_of}
+use Rattle.fixture_board.specs.Record.{Book, book}
+use Rattle.streams.specs.declared.buffered.BufferedSink.{BufferedSink}
+use Rattle.streams.specs.declared.tally.Tally.{Tally}
+use Rattle.streams.specs.Writing.{Adds, Stops, waiting_in}
+use Rattle.annealing.specs.declared.unit.Unit.{Unit as Measure}
+use Rattle.improvement.specs.declared.legs.RunningLeg.{RunningLeg}
+use Rattle.improvement.specs.declared.line.Line.{Line}
+use Rattle.improvement.specs.declared.plan.ImproveFault.{ImproveFault}
+use Rattle.improvement.specs.declared.plan.ImproveFault.TheVariants.{Workers, Memory, Write}
+use Rattle.improvement.specs.declared.plan.ImprovePlan.{ImprovePlan}
+use Rattle.improvement.specs.declared.told.Told.{Told}
+use Rattle.improvement.specs.Chains.{chains_of}
+use Rattle.improvement.specs.Legs.{AreLegs, LegRun, lead_of, least_told, steps_in}
+use Rattle.improvement.specs.LegText.{improve_text, legs_text}
+use Rattle.improvement.specs.Outcome.{AreAll}
+use Rattle.improvement.specs.within.Lines.{IsLine, IsRunning, left_in, running_steps}
+
+-- what is known of these legs
+pub record HasTold (start : Book) (legs : List LegRun) (told : Told) : Type 0 where
+  pub lead_is : told.lead ≡ book start.league start.room (lead_of start.league legs)
+  pub least_is : told.least ≡ least_told start.league legs
+  pub count : told.legs ≡ length legs
+  pub chains_is : told.chains.bests.items ≡ chains_of start.league legs
+
+-- For boards that begin so, a unit and a plan, and a buffer over a sink with these bytes held and these calls
+module _ {W : Type 0} (held : W → Option (List ℕ)) (tally : W → Tally) (start : Book) (unit : Measure) (plan : ImprovePlan)
+    (old new : BufferedSink W) where
+  -- the text was added, and nothing waits
+  pub record Sends (text : List ℕ) : Type 0 where
+    pub adds : Adds held tally old new text
+    pub sent : waiting_in new ≡ []
+
+  -- the texts of some legs were sent
+  pub record HasSent : Type 0 where
+    pub legs : List LegRun
+    pub are : AreLegs start.league start.room legs
+    pub sends : Sends (legs_text start.league unit legs)
+
+  -- some legs were told, these are out of line, and the others stand in it
+  pub record IsUnderWay (out_of_line : List RunningLeg) (line : Line) (told : Told) : Type 0 where
+    pub sent : HasSent
+    pub steps : sum_by running_steps out_of_line + left_in line + steps_in sent.legs ≡ plan.effort
+    pub running : All (IsRunning start sent.legs) out_of_line
+    pub line_is : IsLine start sent.legs line
+    pub told_is : HasTold start sent.legs told
+
+  -- all legs were told, and their texts were sent
+  pub record HasRunAll (told : Told) : Type 0 where
+    pub sent : HasSent
+    pub all : AreAll plan sent.legs
+    pub told_is : HasTold start sent.legs told
+
+  -- the whole text was written and sent, and this is the best version of the history in it
+  pub record HasWritten (best : Option Best) : Type 0 where
+    pub legs : List LegRun
+    pub are : AreLegs start.league start.room legs
+    pub all : AreAll plan legs
+    pub best_is : best ≡ best_of start.league (lead_of start.league legs)
+    pub sends : Sends (improve_text start.league unit true legs)
+
+  -- a write failed in the text of some legs
+  pub record HasStopped : Type 0 where
+    pub legs : List LegRun
+    pub are : AreLegs start.league start.room legs
+    pub ended : Bool
+    pub all : ended ≡ true → AreAll plan legs
+    pub stops : Stops held tally old new (improve_text start.league unit ended legs)
+
+  -- a part that ends well by doing something. Otherwise a write failed, or memory ran out once the texts of the legs that were told had
+  -- been sent
+  abbrev pub EndsBy : {T : Type 0} → (T → Type 0) → Result T ImproveFault → Type 0
+  EndsBy done (Ok value) = done value
+  EndsBy done (Err Workers) = ⊥
+  EndsBy done (Err Memory) = HasSent
+  EndsBy done (Err Write) = HasStopped

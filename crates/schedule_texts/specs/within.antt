@@ -1,0 +1,2 @@
+pub mod LastSheet
+pub mod Faults

@@ -1,0 +1,4 @@
+pub mod Walked
+pub mod Moved
+pub mod Told
+pub mod Exchanges
