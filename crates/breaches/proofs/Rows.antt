@@ -1,5 +1,5 @@
 -- The breaches of a rule stand in rows.
-use Rattle.std.proofs.Common.{◌≡◌, ℕ, zero, suc, ◌+◌, Bool, true, false, refl, ◌∙◌, ap, List, ◌++◌}
+use Rattle.std.proofs.Common.{◌≡◌, ℕ, zero, suc, ◌+◌, add-one, append_assoc, Bool, true, false, refl, ◌∙◌, ap, List, ◌++◌}
 use Rattle.std.specs.Prelude.{◌||◌, map}
 use Rattle.std.specs.List.{list_any}
 use Rattle.std.proofs.Math.Numerals.{suc-eq-add-one}
@@ -30,6 +30,11 @@ in_rows g (Br1 teams side slots most) = refl
 in_rows g (Br2 teams slots most) = refl
 in_rows g (Se1 teams least) = refl
 in_rows g (Fa2 teams slots most) = refl
+
+-- the breaches of one number more are added
+pub breaches_added : (a b c : List Breach) (breaches : ℕ → List Breach) (n : ℕ) → b ≡ a ++ breaches_below n breaches → c ≡ b ++ breaches n →
+    c ≡ a ++ breaches_below (n + 1) breaches
+breaches_added a b c breaches n so_far next = rw (add-one, next, so_far) (append_assoc a (breaches_below n breaches) (breaches n))
 
 -- the lines of breaches below a number, one after another
 pub lines_below : (g : Games) (rule : ℕ) (body : RuleBody) (n : ℕ) (breaches : ℕ → List Breach) →

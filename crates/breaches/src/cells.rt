@@ -16,13 +16,7 @@ use league::{GameList, Pairing, RuleBody, Side, TeamSet};
 
 /// Whether a breach of the rule at the place names the team's game in the round.
 #[tactic(auto, unfolding(crate::specs::Cells::names_cell, robinx::specs::Deviations::is_counted))]
-pub(crate) fn names_cell(
-    schedule: &Schedule,
-    body: &RuleBody,
-    place: Place,
-    team: u8,
-    round: u8,
-) -> bool
+pub fn names_cell(schedule: &Schedule, body: &RuleBody, place: Place, team: u8, round: u8) -> bool
     requires body { IsBodyFor schedule.now.teams body.now }
     requires team { team < schedule.now.teams }
     requires round { round < round_count schedule.now.teams }

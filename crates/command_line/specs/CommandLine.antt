@@ -252,7 +252,8 @@ format_named name separator has_mark =
     else (if is_some separator || has_mark then None
     else (if bytes_eq name (codes "text") then Some formats.Text
     else (if bytes_eq name (codes "html") then Some formats.Html
-    else (if bytes_eq name (codes "names") then Some formats.Names else None))))
+    else (if bytes_eq name (codes "names") then Some formats.Names
+    else (if bytes_eq name (codes "json") then Some formats.Json else None)))))
 
 -- whether the option without a value is there
 abbrev pub is_flagged : Text → List Row → Bool

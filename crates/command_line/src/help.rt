@@ -77,7 +77,7 @@ Example:
   ttp improve season.json | ttp report season.json";
 
 pub(crate) const FORMAT_HELP: &str =
-    "How the report is written: text, csv (the games), html (a page for a browser) or names (the games in words)";
+    "How the report is written: text, csv (the games), html (a page for a browser), names (the games in words) or json";
 
 pub(crate) const SEPARATOR_HELP: &str = "What parts the cells of CSV: `,`, `;` or tab [default: ,]";
 

@@ -99,7 +99,7 @@ fn format_message(alloc: Global, values: &ArgMatches) -> Result<String, AllocErr
             String::from_str(alloc, "--separator and --bom want --format csv")
         }
         _ => format!(in alloc;
-            "invalid value '{name}' for '--format <FORMAT>'\n  [possible values: text, csv, html, names]"
+            "invalid value '{name}' for '--format <FORMAT>'\n  [possible values: text, csv, html, names, json]"
         ),
     }
 }

@@ -99,6 +99,7 @@ fn format_named(name: &str, separator: Option<&str>, has_mark: bool) -> Option<F
         "text" => Some(Format::Text),
         "html" => Some(Format::Html),
         "names" => Some(Format::Names),
+        "json" => Some(Format::Json),
         _ => None,
     }
 }

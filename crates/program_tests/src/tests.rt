@@ -20,6 +20,7 @@ mod moved;
 mod moved_reports;
 mod plays;
 mod progress_lines;
+mod read_back;
 mod samples;
 mod script_lines;
 mod searches;

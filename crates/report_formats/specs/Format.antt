@@ -4,9 +4,10 @@ use Rattle.std.specs.Option.{unwrap_or}
 use Rattle.fixtures.specs.Games.{Games}
 use Rattle.league.specs.League.{LeagueData}
 use Rattle.reports.specs.Report.{report_text}
+use Rattle.json_reports.specs.JsonReport.{json_text}
 use Rattle.report_formats.specs.declared.format.Format.{Format}
 use Rattle.report_formats.specs.declared.format.Prepared.{Prepared}
-use Rattle.report_formats.specs.declared.format.Format.TheVariants.{Text, Csv, Html, Names}
+use Rattle.report_formats.specs.declared.format.Format.TheVariants.{Text, Csv, Html, Names, Json}
 use Rattle.report_formats.specs.Page.{page_text}
 use Rattle.report_formats.specs.Pairings.{pairings_text}
 use Rattle.report_formats.specs.Table.{table_text}
@@ -17,6 +18,7 @@ prepared_of Text l g = None
 prepared_of (Csv form) l g = Some (table_text form l g)
 prepared_of Html l g = Some (page_text l g)
 prepared_of Names l g = Some (pairings_text l g)
+prepared_of Json l g = Some (json_text l g)
 
 -- the report of the double round robin that the lines give, in the format, or else the text of their faults; behind a text
 -- stand the remarks

@@ -16,6 +16,7 @@ use crate::page::page;
 use crate::pairings::pairings;
 use crate::table::table;
 use fixtures::Schedule;
+use json_reports::json_report;
 use league::League;
 use reports::write_report;
 use schedule_texts::Judged;
@@ -33,6 +34,8 @@ pub enum Format {
     Html,
     /// The games in words, by round.
     Names,
+    /// A line of JSON: the league, the games, the cost, and what it is made of.
+    Json,
 }
 
 /// What a report takes memory for.
@@ -77,6 +80,7 @@ fn prepare_schedule(
         Format::Csv(form) => Ok(Some(table(alloc, form, league, schedule)?)),
         Format::Html => Ok(Some(page(alloc, league, schedule)?)),
         Format::Names => Ok(Some(pairings(alloc, league, schedule)?)),
+        Format::Json => Ok(Some(json_report(alloc, league, schedule)?)),
     }
 }
 

@@ -1,5 +1,5 @@
 //! The report of a judged schedule in the format that is asked for: a text, a table of its games as CSV, a page for a
-//! browser, or its games in words. Games that are no double round robin are answered by the text's faults in each format.
+//! browser, its games in words, or JSON. Games that are no double round robin are answered by the text's faults in each format.
 //!
 //! Teams and rounds are numbered from 0 in calls, and from 1 in texts. [`prepare`] alone takes memory.
 #![tactic(auto)]

@@ -113,6 +113,10 @@ const JOBS: &[Row<'_>] = &[
         &["ttp", "report", "--format=names"],
         Ok(Job::Report(Format::Names)),
     ),
+    (
+        &["ttp", "report", "--format=json"],
+        Ok(Job::Report(Format::Json)),
+    ),
 ];
 
 #[test]

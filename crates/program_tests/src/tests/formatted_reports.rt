@@ -38,6 +38,12 @@ const CASES: &[Case<'_>] = &[
         Ok(Some(Verdict::Infeasible)),
         FAULTS_ALONE,
     ),
+    (
+        Command::Report(Format::Json),
+        DAMAGE,
+        Ok(Some(Verdict::Infeasible)),
+        FAULTS_ALONE,
+    ),
 ];
 
 #[test]

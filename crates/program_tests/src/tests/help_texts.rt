@@ -161,7 +161,7 @@ const TEXTS: &[(&[&str], &str)] = &[
     (
         &["ttp", "report", "--format", "pdf"],
         "error: invalid value 'pdf' for '--format <FORMAT>'\n  \
-        [possible values: text, csv, html, names]\n\nUsage: ttp report [OPTIONS] [LEAGUE] [SCHEDULE]\n\n\
+        [possible values: text, csv, html, names, json]\n\nUsage: ttp report [OPTIONS] [LEAGUE] [SCHEDULE]\n\n\
         For more information, try '--help'.\n",
     ),
     (

@@ -33,11 +33,12 @@ pub(crate) const PARTS_OF_REPEATING: &str = "tour 1 travel 6\n\
     repeat 1-4 rounds 3 4\n";
 
 /// A phased league with one round in a row.
-const PHASED: &str = r#"{"format":2,"teams":["T1","T2","T3","T4"],"phased":true,"at_most":1,
+pub(crate) const PHASED: &str =
+    r#"{"format":2,"teams":["T1","T2","T3","T4"],"phased":true,"at_most":1,
     "distances":[[0,1,2,1],[1,0,1,2],[2,1,0,1],[1,2,1,0]]}"#;
 
 /// Rounds 3 and 4 of the start exchanged.
-const HALVED: &str = "league 4 teams 6 rounds\n\
+pub(crate) const HALVED: &str = "league 4 teams 6 rounds\n\
     team 1 HHAAAH T1\nteam 2 HAAHHA T2\nteam 3 AAHHHA T3\nteam 4 AHHAAH T4\n\
     round 1: 1-4 2-3\nround 2: 1-2 4-3\nround 3: 3-2 4-1\n\
     round 4: 2-4 3-1\nround 5: 2-1 3-4\nround 6: 1-3 4-2\n";

@@ -1,0 +1,5 @@
+pub mod Parts
+pub mod Rounds
+pub mod Sides
+pub mod Rules
+pub mod JsonReport

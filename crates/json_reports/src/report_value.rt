@@ -1,0 +1,100 @@
+//! The whole report.
+
+ghost use Rattle.std.specs.Prelude.{◌≡◌, ◌<◌, ◌^◌, IfOk};
+ghost use Rattle.costs.specs.Costs.{cost_of, total_of};
+ghost use Rattle.league.specs.League.{teams};
+ghost use Rattle.serde_json.specs.View.{view};
+ghost use Rattle.json_reports.specs.JsonReport.{cost_data, json_text, league_data, report_data, total_data};
+
+use crate::game_values::rounds_value;
+use crate::meeting_values::{halves_value, repeats_value};
+use crate::rule_values::rules_value;
+use crate::run_values::runs_value;
+use crate::team_values::{names_value, tours_value};
+use costs::{Cost, cost_of};
+use fixtures::Schedule;
+use league::League;
+use serde_json::{Value, json};
+use std::alloc::{AllocError, Global};
+use tours::moved_games;
+
+/// The report as a line of JSON.
+#[tactic(auto, using(crate::proofs::NoFloats::report_free), unfolding(crate::specs::JsonReport::json_text))]
+pub fn json_report(
+    alloc: Global,
+    league: &League,
+    schedule: &Schedule,
+) -> Result<Vec<u8>, AllocError>
+    requires { schedule.now.teams ≡ teams league.now }
+    ensures { IfOk result (λ text. text.items ≡ json_text league.now schedule.now) }
+{
+    let report = report_value(alloc, league, schedule)?;
+    let mut text = report.to_vec(alloc)?;
+    text.extend_from_slice(b"\n")?;
+    Ok(text)
+}
+
+#[tactic(auto, unfolding(crate::specs::JsonReport::report_data))]
+fn report_value(alloc: Global, league: &League, schedule: &Schedule) -> Result<Value, AllocError>
+    requires { schedule.now.teams ≡ teams league.now }
+    ensures { IfOk result (λ value. view value ≡ report_data league.now schedule.now) }
+{
+    let cost = cost_value(alloc, league, schedule)?;
+    let halves = halves_value(alloc, league, schedule)?;
+    let terms = league_value(alloc, league)?;
+    let repeats = repeats_value(alloc, schedule)?;
+    let rounds = rounds_value(alloc, league, schedule)?;
+    let rules = rules_value(alloc, league, schedule)?;
+    let runs = runs_value(alloc, schedule, league.at_most())?;
+    let tours = tours_value(alloc, league, schedule)?;
+    json!(in alloc; {
+        "cost": cost,
+        "halves": halves,
+        "league": terms,
+        "repeats": repeats,
+        "rounds": rounds,
+        "rules": rules,
+        "runs": runs,
+        "tours": tours,
+    })
+}
+
+fn cost_value(alloc: Global, league: &League, schedule: &Schedule) -> Result<Value, AllocError>
+    requires { schedule.now.teams ≡ teams league.now }
+    ensures { IfOk result (λ value. view value ≡ cost_data league.now schedule.now (cost_of league.now schedule.now)) }
+{
+    let cost = cost_of(schedule, league);
+    let moved = moved_games(schedule, league);
+    json!(in alloc; {
+        "feasible": cost.is_feasible(),
+        "hard": cost.hard,
+        "moved": moved,
+        "near": league.near() as u64,
+        "soft": cost.soft,
+        "total": total_value(cost),
+        "travel": cost.travel,
+    })
+}
+
+/// The total, if no hard limit is broken.
+fn total_value(cost: Cost) -> Value
+    requires { total_of cost < 2 ^ 64 }
+    ensures { view result ≡ total_data cost }
+{
+    if cost.is_feasible() {
+        Value::from(cost.total())
+    } else {
+        Value::Null
+    }
+}
+
+fn league_value(alloc: Global, league: &League) -> Result<Value, AllocError>
+    ensures { IfOk result (λ value. view value ≡ league_data league.now) }
+{
+    let teams = names_value(alloc, league)?;
+    json!(in alloc; {
+        "at_most": league.at_most() as u64,
+        "phased": league.phased(),
+        "teams": teams,
+    })
+}

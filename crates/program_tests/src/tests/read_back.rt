@@ -1,0 +1,131 @@
+//! Reports as JSON, read back by a reader of JSON: parts of known schedules, worked by hand from the games and the lines of text.
+
+use crate::tests::checks::check_holds;
+use crate::tests::circle::{CIRCLE, FIRST, FOUR, SHEET};
+use crate::tests::formatted_reports::MARKED;
+use crate::tests::judged_schedules::{HALVED, PHASED, REPEATING, RULES};
+use crate::tests::samples::JUDGED;
+use crate::tests::told::{Command, tell};
+use commands::Format;
+use serde_json::Value;
+use std::alloc::Global;
+use std::process::Abort;
+use std::str;
+use std::sync::Wait;
+use std::test::Fail;
+use std::thread::Threads;
+
+/// The parts of an input, and where the report on it has which value.
+type Case<'a> = (&'a [&'a str], &'a [(&'a str, &'a str)]);
+
+const READ_BACK: &[Case<'_>] = &[
+    (
+        &[MARKED, JUDGED, SHEET],
+        &[
+            (
+                "/league",
+                r#"{"at_most": 3, "phased": false, "teams": ["a, b", "say \"c\"", "<script>d</script>", "\"' onload='&lt;"]}"#,
+            ),
+            (
+                "/rounds/0",
+                r#"[{"home": 1, "home_name": "a, b", "away": 4, "away_name": "\"' onload='&lt;", "start": 1},
+                {"home": 2, "home_name": "say \"c\"", "away": 3, "away_name": "<script>d</script>", "start": 1}]"#,
+            ),
+            ("/runs", "[]"),
+            ("/repeats", "[]"),
+            ("/halves", "[]"),
+            ("/rules", "[]"),
+        ],
+    ),
+    (
+        &[FIRST, FOUR, RULES, JUDGED, SHEET],
+        &[
+            (
+                "/cost",
+                r#"{"travel": 30, "hard": 2, "soft": 10, "near": 0, "moved": 0, "total": null, "feasible": false}"#,
+            ),
+            (
+                "/rules/0",
+                r#"{"rule": 1, "class": "CA3", "kind": "soft", "weight": 10, "deviation": 1, "breaches": [
+                {"side": "over", "by": 1, "place": {"team": 3, "rounds": [3, 5]}, "games": [
+                {"round": 3, "home": 3, "away": 1}, {"round": 4, "home": 3, "away": 2}, {"round": 5, "home": 3, "away": 4}]}]}"#,
+            ),
+            (
+                "/rules/1",
+                r#"{"rule": 2, "class": "BR1", "kind": "hard", "weight": null, "deviation": 2, "breaches": [
+                {"side": "over", "by": 2, "place": {"team": 1}, "games": [
+                {"round": 4, "home": 4, "away": 1}, {"round": 5, "home": 2, "away": 1}]}]}"#,
+            ),
+        ],
+    ),
+    (
+        &[CIRCLE, JUDGED, REPEATING],
+        &[
+            (
+                "/cost",
+                r#"{"travel": 28, "hard": 2, "soft": 0, "near": 0, "moved": 6, "total": null, "feasible": false}"#,
+            ),
+            (
+                "/repeats",
+                r#"[{"teams": [2, 3], "rounds": [3, 4]}, {"teams": [1, 4], "rounds": [3, 4]}]"#,
+            ),
+            (
+                "/tours/0",
+                r#"{"team": 1, "travel": 6, "places": [3, 2, 1, 4, 1, 1]}"#,
+            ),
+            (
+                "/rounds/0/1",
+                r#"{"home": 3, "home_name": "T3", "away": 1, "away_name": "T1", "start": 3}"#,
+            ),
+        ],
+    ),
+    (
+        &[PHASED, JUDGED, HALVED],
+        &[
+            (
+                "/league",
+                r#"{"at_most": 1, "phased": true, "teams": ["T1", "T2", "T3", "T4"]}"#,
+            ),
+            (
+                "/runs/1",
+                r#"{"team": 1, "side": "away", "first": 3, "last": 5, "windows": 2}"#,
+            ),
+            ("/runs/7/first", "4"),
+            (
+                "/halves",
+                r#"[{"teams": [1, 3], "rounds": [6, 4]}, {"teams": [2, 3], "rounds": [1, 3]},
+                {"teams": [1, 4], "rounds": [1, 3]}, {"teams": [2, 4], "rounds": [4, 6]}]"#,
+            ),
+        ],
+    ),
+];
+
+/// The report is a line of JSON with these values.
+fn check_values<T: Threads + Wait + Sync + Abort>(
+    rt: &T,
+    alloc: Global,
+    case: Case<'_>,
+) -> Result<(), Fail> {
+    let (parts, values) = case;
+    let input = parts.concat(alloc)?;
+    let told = tell(rt, alloc, Command::Report(Format::Json), input.as_bytes())?;
+    check_holds(rt, &"a line end", told.text.ends_with(b"}\n"));
+    let report = Value::from_str(alloc, str::from_utf8(&told.text)?)?;
+    for (path, value) in values {
+        let wanted = Value::from_str(alloc, *value)?;
+        let is_there = match report.pointer(*path) {
+            Some(found) => *found == wanted,
+            None => false,
+        };
+        check_holds(rt, path, is_there);
+    }
+    Ok(())
+}
+
+#[test]
+fn json_is_read_back(rt: HostRuntime) -> Result<(), Fail> {
+    for case in READ_BACK {
+        check_values(&rt, rt.alloc(), *case)?;
+    }
+    Ok(())
+}
