@@ -4,7 +4,8 @@ use Rattle.std.proofs.lemmas.List.{map-append}
 use Rattle.serde_json.specs.Data.{Data}
 use Rattle.serde_json.specs.View.{view}
 use Rattle.serde_json.specs.declared.value.Value.{Value}
-use Rattle.json_reports.specs.Parts.{parts_below, seen}
+use Rattle.json_reports.specs.Parts.{parts_below}
+use Rattle.json_reports.specs.within.Parts.{seen}
 
 pub part_added : (a b c : List Data) (part : ℕ → List Data) (n : ℕ) → b ≡ a ++ parts_below part n → c ≡ b ++ part n →
     c ≡ a ++ parts_below part (n + 1)

@@ -3,3 +3,4 @@ pub mod Rounds
 pub mod Sides
 pub mod Rules
 pub mod JsonReport
+pub mod within

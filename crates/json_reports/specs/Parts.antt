@@ -1,13 +1,8 @@
 -- JSON made of parts. Teams, rounds and rules are numbered from 0 in calls, and from 1 in JSON.
-use Rattle.std.specs.Prelude.{ℕ, zero, suc, ◌+◌, List, [], ◌∷◌, ◌++◌, map}
+use Rattle.std.specs.Prelude.{ℕ, zero, suc, ◌+◌, List, [], ◌∷◌, ◌++◌}
 use Rattle.serde_json.specs.Data.{Data, number, unsigned, array, object, member, no_members}
-use Rattle.serde_json.specs.View.{items_of, view}
-use Rattle.serde_json.specs.declared.value.Value.{Value}
+use Rattle.serde_json.specs.View.{items_of}
 use Rattle.std.specs.Prelude.{codes}
-
--- what values stand for
-abbrev pub seen : List Value → List Data
-seen values = map view values
 
 -- those of the numbers below n, one after another
 abbrev pub parts_below : (ℕ → List Data) → ℕ → List Data

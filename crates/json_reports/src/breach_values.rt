@@ -5,7 +5,7 @@ ghost use Rattle.fixtures.specs.Games.{round_count};
 ghost use Rattle.league.specs.RuleLimits.{IsBodyFor};
 ghost use Rattle.serde_json.specs.View.{view};
 ghost use Rattle.breaches.specs.BreachText.{side_word};
-ghost use Rattle.json_reports.specs.Parts.{seen};
+ghost use Rattle.json_reports.specs.within.Parts.{seen};
 ghost use Rattle.json_reports.specs.Rules.{breach_data, breaches_data, games_named, named_at, named_data, named_in, place_data, team_place};
 
 use crate::meeting_values::both_value;

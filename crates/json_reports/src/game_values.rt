@@ -4,7 +4,7 @@ ghost use Rattle.std.specs.Prelude.{◌≡◌, ◌++◌, ◌<◌, IfOk, OnOk};
 ghost use Rattle.fixtures.specs.Games.{round_count, IsPair};
 ghost use Rattle.league.specs.League.{teams};
 ghost use Rattle.serde_json.specs.View.{view};
-ghost use Rattle.json_reports.specs.Parts.{seen};
+ghost use Rattle.json_reports.specs.within.Parts.{seen};
 ghost use Rattle.json_reports.specs.Rounds.{game_at, game_data, round_data, rounds_data};
 
 use crate::parts::push_value;

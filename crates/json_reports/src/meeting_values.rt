@@ -3,7 +3,8 @@
 ghost use Rattle.std.specs.Prelude.{◌≡◌, ◌+◌, ◌-◌, ◌++◌, ◌<◌, IfOk, OnOk};
 ghost use Rattle.fixtures.specs.Games.{round_count};
 ghost use Rattle.serde_json.specs.View.{view};
-ghost use Rattle.json_reports.specs.Parts.{both, meetings, parts_below, seen};
+ghost use Rattle.json_reports.specs.Parts.{both, meetings, parts_below};
+ghost use Rattle.json_reports.specs.within.Parts.{seen};
 ghost use Rattle.json_reports.specs.Sides.{half_at, halves_data, halves_of, repeat_at, repeats_after, repeats_data};
 
 use crate::parts::push_value;

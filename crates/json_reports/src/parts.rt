@@ -2,7 +2,7 @@
 
 ghost use Rattle.std.specs.Prelude.{◌≡◌, [], ◌∷◌, ◌++◌, OnOk};
 ghost use Rattle.serde_json.specs.View.{view};
-ghost use Rattle.json_reports.specs.Parts.{seen};
+ghost use Rattle.json_reports.specs.within.Parts.{seen};
 
 use serde_json::Value;
 use std::alloc::AllocError;

@@ -4,7 +4,7 @@ ghost use Rattle.std.specs.Prelude.{◌≡◌, ◌+◌, ◌++◌, ◌<◌, ◌�
 ghost use Rattle.fixtures.specs.Games.{round_count};
 ghost use Rattle.league.specs.Limits.{max_rounds};
 ghost use Rattle.serde_json.specs.View.{view};
-ghost use Rattle.json_reports.specs.Parts.{seen};
+ghost use Rattle.json_reports.specs.within.Parts.{seen};
 ghost use Rattle.json_reports.specs.Sides.{run_at, run_data, runs_data, runs_of, side_name};
 
 use crate::parts::push_value;

@@ -1,6 +1,6 @@
 use Rattle.std.proofs.Common.{◌≡◌, ◌++◌, length}
 use Rattle.std.specs.Prelude.{map}
-use Rattle.json_reports.specs.Parts.{seen}
+use Rattle.json_reports.specs.within.Parts.{seen}
 use Rattle.json_reports.specs.Rules.{breach_data}
 use Rattle.json_reports.proofs.breach_values.push_breaches.Given as goal
 

@@ -1,5 +1,6 @@
 use Rattle.std.proofs.Common.{◌≡◌}
-use Rattle.json_reports.specs.Parts.{parts_below, seen}
+use Rattle.json_reports.specs.Parts.{parts_below}
+use Rattle.json_reports.specs.within.Parts.{seen}
 use Rattle.json_reports.specs.Rounds.{game_at}
 use Rattle.json_reports.proofs.game_values.round_value.Given as goal
 

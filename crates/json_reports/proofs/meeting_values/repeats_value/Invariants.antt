@@ -1,5 +1,6 @@
 use Rattle.std.proofs.Common.{◌≡◌}
-use Rattle.json_reports.specs.Parts.{parts_below, seen}
+use Rattle.json_reports.specs.Parts.{parts_below}
+use Rattle.json_reports.specs.within.Parts.{seen}
 use Rattle.json_reports.specs.Sides.{repeats_after}
 use Rattle.json_reports.proofs.meeting_values.repeats_value.Given as goal
 

@@ -1,5 +1,6 @@
 use Rattle.std.proofs.Common.{◌≡◌}
-use Rattle.json_reports.specs.Parts.{parts_below, seen}
+use Rattle.json_reports.specs.Parts.{parts_below}
+use Rattle.json_reports.specs.within.Parts.{seen}
 use Rattle.json_reports.specs.Rules.{rule_at}
 use Rattle.std.specs.Prelude.{slice_get}
 use Rattle.json_reports.proofs.rule_values.rules_value.Given as goal

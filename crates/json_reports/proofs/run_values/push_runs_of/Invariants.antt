@@ -1,6 +1,7 @@
 use Rattle.std.proofs.Common.{◌≡◌, ◌++◌}
 use Rattle.reports.specs.Runs.{ended_streak, is_over, streak}
-use Rattle.json_reports.specs.Parts.{parts_below, seen}
+use Rattle.json_reports.specs.Parts.{parts_below}
+use Rattle.json_reports.specs.within.Parts.{seen}
 use Rattle.json_reports.specs.Sides.{run_at}
 use Rattle.json_reports.proofs.run_values.push_runs_of.Given as goal
 

@@ -1,5 +1,6 @@
 use Rattle.std.proofs.Common.{◌≡◌, [], ◌∷◌}
-use Rattle.json_reports.specs.Parts.{counted, parts_below, seen}
+use Rattle.json_reports.specs.Parts.{counted, parts_below}
+use Rattle.json_reports.specs.within.Parts.{seen}
 use Rattle.json_reports.specs.Rounds.{place_of}
 use Rattle.json_reports.proofs.team_values.places_value.Given as goal
 
