@@ -83,7 +83,7 @@ const STUCK_TEN: Setting = (10, 10_000_000, Kind::Stuck);
 
 const STUCK_FOUR: Setting = (4, 50, Kind::Stuck);
 
-/// A setting, and what `scripts/policy-twin.py` has for it: the numbers of waves and legs, and the sums of both.
+/// A setting, and what `scripts/oracle policy` has for it: the numbers of waves and legs, and the sums of both.
 type Row = (Setting, [u64; 4]);
 
 const ROWS: [Row; 17] = [

@@ -1,4 +1,4 @@
-//! Leagues and schedules that a linear congruence draws, as `scripts/starts-apart` does.
+//! Leagues and schedules that a linear congruence draws, as `scripts/oracle starts` does.
 
 ghost use Rattle.std.specs.Prelude.{◌≡◌, IfOk};
 ghost use Rattle.league.specs.League.{teams};

@@ -1,5 +1,5 @@
 //! Reports: what known schedules cost, a line for each kind of fault, and inputs that have no report. The expected lines are those of
-//! scripts/apart.py, which shares no code with the crates.
+//! scripts/parts/reports.py, which shares no code with the crates.
 
 use crate::tests::checks::check_same;
 use crate::tests::circle::{CIRCLE, FIRST, FOUR, SHEET};

@@ -1,5 +1,5 @@
 //! The largest league that can be read: 40 teams, the greatest distances and names, and 256 rules of the greatest
-//! deviation and weight. The numbers are those that `scripts/play-apart` prints, which shares no code with the crates.
+//! deviation and weight. The numbers are those that `scripts/oracle play` prints, which shares no code with the crates.
 
 use crate::tests::checks::{check_holds, check_same};
 use crate::tests::closings::{closing, script};

@@ -269,7 +269,7 @@ fn found<T: Threads + Wait + Sync>(rt: &T, alloc: Global) -> Result<Vec<u8>, All
     Ok(tell(rt, alloc, command, CIRCLE.as_bytes())?.text)
 }
 
-/// The totals are those of `PAUSE=1 scripts/worker-steps asks 1 0 4 4 4 100000`.
+/// The totals are those of `PAUSE=1 scripts/oracle worker-steps asks 1 0 4 4 4 100000`.
 const SHOWN: &[u8] = b"\r\x1b[K25 % steps 1 of 4 best 30 left 0:00:03\
     \r\x1b[K50 % steps 2 of 4 best 30 left 0:00:02\
     \r\x1b[K75 % steps 3 of 4 best 26 left 0:00:01\

@@ -57,7 +57,7 @@ pub(crate) const FIND: Case<'_> = (
     ]),
 );
 
-/// The start's cost. The figures are those of scripts/apart.py, which shares no code with the crates.
+/// The start's cost. The figures are those of scripts/parts/model.py, which shares no code with the crates.
 pub(crate) const COST: &str = "travel 30 hard 0 soft 0\n\
     tour 1 travel 6\n\
     tour 2 travel 8\n\

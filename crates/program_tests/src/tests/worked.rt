@@ -1,5 +1,5 @@
 //! Scripts whose answers are known from elsewhere, and their histories played again. The costs of six and ten teams are those
-//! of `scripts/play-apart`.
+//! of `scripts/oracle play`.
 
 use crate::tests::checks::check_same_of;
 use crate::tests::circle::{CIRCLE, FIRST, FOUR, SHEET};

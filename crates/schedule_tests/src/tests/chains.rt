@@ -75,7 +75,7 @@ fn least_sets_of_ten_and_six(rt: HostRuntime) -> Result<(), Fail> {
 }
 
 // Two rounds d apart of the first 39 fall into as many chains as 39 and d have for their greatest common divisor. The rounds of
-// teams 0 and 39 are those of `closed` in `scripts/apart.py`.
+// teams 0 and 39 are those of `closed` in `scripts/parts/model.py`.
 
 const TEAMS_OF_FORTY: &[Case] = &[
     (

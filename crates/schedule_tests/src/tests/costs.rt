@@ -1,5 +1,5 @@
 //! Travel, runs and repeats of whole schedules. The expected numbers were worked by hand from the Berger table of four
-//! teams, and by `scripts/apart.py`.
+//! teams, and by `scripts/parts/model.py`.
 
 use crate::tests::checks::check_same;
 use crate::tests::small_leagues::{HOMES_EXCHANGED, Plan, league_of, schedule};

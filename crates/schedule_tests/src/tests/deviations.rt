@@ -1,4 +1,4 @@
-//! Deviations from rules. The expected ones were counted by hand, and by `deviation` of `scripts/apart.py`, which shares no
+//! Deviations from rules. The expected ones were counted by hand, and by `deviation` of `scripts/parts/model.py`, which shares no
 //! code with the crates.
 
 use crate::tests::checks::check_same;

@@ -1,5 +1,5 @@
 //! Home games in step. The expected deviations were counted by hand or, of 10 and 40 teams, by `deviation` of
-//! `scripts/apart.py`.
+//! `scripts/parts/model.py`.
 
 use crate::tests::rule_leagues::{Expected, check_deviations};
 use crate::tests::small_leagues::{self, Plan};

@@ -10,7 +10,7 @@ use std::process::Abort;
 use std::test::Fail;
 
 /// On the start of six teams 1 and 2 meet in rounds 2 and 7. Of the first rule of each line an exchange of their homes
-/// can alter what the second says, whose deviation is the number, as `deviation` of `scripts/apart.py` counts it.
+/// can alter what the second says, whose deviation is the number, as `deviation` of `scripts/parts/model.py` counts it.
 const OF_HOMES: &[(&str, &str, u64)] = &[
     (
         r#""class":"CA1","teams":[1,2,3,4,5,6],"mode":"H","slots":[1,2,3],"max":0"#,

@@ -28,7 +28,7 @@ const OF_FIRST: &[Move] = &[
     Move::Homes { i: 1, j: 0 },
 ];
 
-/// The expected moves are those of `scripts/worker-steps`, a program written apart from the definitions of PCG-XSH-RR 64/32
+/// The expected moves are those of `scripts/oracle worker-steps`, a program written apart from the definitions of PCG-XSH-RR 64/32
 /// (O'Neill 2014) and of Canon's method.
 #[test]
 fn first_moves_of_the_first_worker(rt: HostRuntime) {

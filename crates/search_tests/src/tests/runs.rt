@@ -199,7 +199,7 @@ const SIXTH: Entry = Entry {
     change: Change::Shift(Move::Rounds { k: 4, l: 3 }),
 };
 
-/// Six proposals, each granted, are those of `asks 8 0 6 24 30 1024` of `scripts/worker-steps`, a program written apart. With
+/// Six proposals, each granted, are those of `asks 8 0 6 24 30 1024` of `scripts/oracle worker-steps`, a program written apart. With
 /// another seed, slack, number of steps or number of the worker it prints others.
 #[test]
 fn a_worker_has_the_numbers_of_the_plan(rt: HostRuntime) -> Result<(), Fail> {

@@ -1,4 +1,4 @@
-//! What a worker asks of its board, step by step. The expected lines are those of `scripts/worker-steps`.
+//! What a worker asks of its board, step by step. The expected lines are those of `scripts/oracle worker-steps`.
 
 use crate::tests::boards::{Beginning, begun, circle};
 use crate::tests::checks::check_same;
@@ -14,7 +14,7 @@ use std::process::Abort;
 use std::sync::{Mutex, Wait};
 use std::test::Fail;
 
-/// What a worker asks of its board, as `scripts/worker-steps` prints it.
+/// What a worker asks of its board, as `scripts/oracle worker-steps` prints it.
 enum Asked {
     /// To see the board at this version.
     Look(u64),

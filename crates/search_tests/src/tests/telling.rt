@@ -65,7 +65,7 @@ fn check_told<R: Threads + Wait + Sync + Abort>(
     Ok(())
 }
 
-/// The totals are those of `scripts/worker-steps asks 4 0 8 12300 10 20000`.
+/// The totals are those of `scripts/oracle worker-steps asks 4 0 8 12300 10 20000`.
 const TOLD_FOUR_TIMES: &str = "told 0 4096 Some(178)\n\
     told 0 4096 Some(170)\n\
     told 0 4096 Some(152)\n\
@@ -77,7 +77,7 @@ fn gate_is_told_after_each_4096_steps_and_at_the_end(rt: HostRuntime) -> Result<
     check_told(&rt, rt.alloc(), (12_300, 20_000), TOLD_FOUR_TIMES)
 }
 
-/// A number of steps, the board's room, and what the gate is told, by `scripts/worker-steps asks 4 0 8 STEPS 10 ROOM`.
+/// A number of steps, the board's room, and what the gate is told, by `scripts/oracle worker-steps asks 4 0 8 STEPS 10 ROOM`.
 const SHORT_RUNS: [((u32, u32), &str); 4] = [
     ((0, 20_000), "ended\n"),
     ((4095, 20_000), "told 0 4095 Some(172)\nended\n"),

@@ -1,0 +1,229 @@
+"""takes the legs of improvements again, step by step
+
+usage: scripts/oracle improve [RUNS [SEED [PROGRAM]]]     20 improvements with an effort of 1, of ten leagues in turn, the first one with
+                                                          the seed 1 and each with the next one
+       scripts/oracle improve text LEAGUE SEED < TEXT     one text of such an improvement
+
+Each leg of `ttp improve` has to be the one that the policy asks for next, by what the lines before it came to. If it has at most LIMIT
+steps, and each leg before it of its chain had, its steps are taken again: then its whole line has to come, and the schedule behind it. So
+has the history in the end, if it is of such a chain. If no schedule is feasible the status is 3, and what is broken in the last one has to
+come, and how often that is in the best schedules of the chains, if all are such chains. LIMIT is a variable, 60000 if it isn't set. The
+last line is 'N improvements agree', or says which one doesn't, and in which line; the status is 1 then."""
+import copy
+import itertools
+import json
+import os
+import pathlib
+import random
+import re
+import sys
+from collections import Counter, deque
+
+from .. import annealing, case, leagues, model, programs, texts, waves
+
+LIMIT = int(os.environ.get("LIMIT", "60000"))
+EFFORT = 1_000_000
+# so many legs stand in line at most
+PLACES = 16
+FIGURES = r"accepted \d+ hard (?P<hard>\d+) best (?P<best>\d+|none)"
+# a drawn league, by the seed, beside those of a kind of distances
+DRAWN = ("drawn",)
+LEAGUES = (
+    ("circle", 4),
+    ("circle", 6, "phased"),
+    ("constant", 8),
+    ("plane", 6),
+    ("coasts", 8, "rules"),
+    ("circle", 10),
+    ("constant", 10, "phased"),
+    ("coasts", 12),
+    ("plane", 12, "rules"),
+    DRAWN,
+)
+
+
+class Entrant:
+    """A chain: its number, itself if it is known, and its standing once it was told, of which a lesser one is better."""
+
+    def __init__(self, number, chain):
+        self.number, self.chain, self.standing, self.steps, self.best = number, chain, None, 0, "none"
+
+    def tell(self, steps, hard, best):
+        """What its last leg came to."""
+        self.steps, self.best = steps, best
+        before, self.standing = self.standing, (True, int(hard)) if best == "none" else (False, int(best))
+        if before and not before[0] and before < self.standing:
+            raise ValueError(f"the least total of chain {self.number} rises")
+
+    def at_best(self):
+        """Another one, with a copy of the chain that is cut back."""
+        other = copy.copy(self)
+        if self.chain:
+            other.chain = copy.copy(self.chain)
+            other.chain.cut_back()
+        return other
+
+
+def in_line(counts):
+    """Each leg in the order of the line, with its entrant, its stream and the wave's weights. The entrant has to be told before the next
+    leg is asked for."""
+    streams, numbers, field, policy, came_to = itertools.count(), itertools.count(1), [], waves.search(counts.teams, EFFORT), None
+    while True:
+        try:
+            source, keep, bouts, weights = policy.send(came_to)
+        except StopIteration:
+            return
+        ended, line, places, came_to = [], deque(), enumerate(bouts), [None] * len(bouts)
+        while True:
+            for place, legs in itertools.islice(places, PLACES - len(line)):
+                if source == "Start":
+                    entrant = Entrant(next(numbers), annealing.Chain(counts, weights))
+                else:
+                    entrant = field[0 if source == "Copies" else place].at_best()
+                line.append((entrant, place, legs, next(streams)))
+            if not line:
+                break
+            entrant, place, (leg, *legs), stream = line.popleft()
+            yield entrant, leg, stream, weights
+            if not entrant.standing[0] and came_to[place] is None:
+                came_to[place] = waves.hottest(leg, entrant.steps) if waves.heats(leg) else True
+            if waves.heats(leg):
+                legs = waves.cooled(leg, entrant.steps)
+            if legs:
+                line.append((entrant.at_best(), place, legs, next(streams)))
+            else:
+                ended.append(entrant)
+        field = sorted(ended, key=lambda entrant: entrant.standing)[:keep]
+
+
+class Text:
+    """The lines of an improvement, from the first one on."""
+
+    def __init__(self, lines):
+        self.lines, self.read = lines, 0
+
+    def next(self, is_wanted, wanted):
+        line = self.lines[self.read] if self.read < len(self.lines) else ""
+        self.read += 1
+        if not is_wanted(line):
+            raise ValueError(f"line {self.read} is\n{line}\nand not\n{wanted}")
+        return line
+
+    def expect(self, lines):
+        for wanted in lines:
+            self.next(lambda line: line == wanted, wanted)
+
+    def expect_leg(self, words, figures):
+        """A leg's line of these words and figures: the steps, the hard limits that are broken, and the least total."""
+        wanted = re.compile(re.escape(words) + figures)
+        line = self.next(wanted.fullmatch, words + figures)
+        steps, hard, best = wanted.fullmatch(line).group("steps", "hard", "best")
+        return int(steps), hard, best
+
+    def expect_schedule(self, total):
+        """Some schedule with this total."""
+        while self.next(bool, "a schedule") != f"best {total}":
+            pass
+        self.expect(["-" * 10])
+
+
+def distances(unit, heat):
+    whole, part = divmod(heat * unit[0] // unit[1], 1000)
+    return f"{whole}.{part:03}"
+
+
+def figures_of(unit, leg, steps, rest=FIGURES):
+    """A leg's line from its last temperature on. One that heats has taken this many steps, or any."""
+    if not waves.heats(leg):
+        return rf"{distances(unit, leg[2])} steps (?P<steps>{leg[3]}) {rest}"
+    return rf"{distances(unit, waves.hottest(leg, steps)) if steps else '[0-9.]+'} steps (?P<steps>{steps or '[0-9]+'}) {rest}"
+
+
+def again(chain, unit, leg, seed, stream, weights):
+    """What the leg comes to."""
+    steps, made = chain.anneal(unit, leg, seed, stream, weights)
+    if model.cost(annealing.games_of(chain.rows), chain.counts.league) != (chain.travel, chain.hard(), chain.rules[1]):
+        raise ValueError("parts/annealing.py and parts/model.py have other costs")
+    best = chain.best[0] if chain.best else "none"
+    return figures_of(unit, leg, steps, rf"accepted {made} hard (?P<hard>{chain.hard()}) best (?P<best>{best})")
+
+
+def sheet(chain):
+    return texts.sheet(annealing.games_of(chain.rows), chain.counts.league)
+
+
+def broken(chain):
+    return model.least_hard(annealing.games_of(chain.rows), chain.counts.league)
+
+
+def often_broken(bests, league):
+    """The lines that tell in how many of the chains' best schedules each hard limit is broken."""
+    counts = Counter(name for games in bests for name in model.broken(games, league))
+    kinds = ["runs", "repeats", "halves"]
+    place = lambda name: kinds.index(name) if name in kinds else len(kinds) + int(name.split()[1])
+    return [f"{name} broken in {counts[name]} of {len(bests)}" for name in sorted(counts, key=place)]
+
+
+def agree(league, lines, seed):
+    """How many legs were taken again, and of how many. A difference is an error."""
+    text, counts, taken = Text(lines), annealing.Counts(league), 0
+    unit, lead, least = annealing.unit_of(counts), Entrant(0, annealing.Chain(counts)), None
+    lead.tell(0, lead.chain.hard(), lead.chain.best[0] if lead.chain.best else "none")
+    bests = {}
+    for number, (entrant, leg, stream, weights) in enumerate(in_line(counts), 1):
+        moves, hot, _, steps = leg
+        words = f"leg {number} chain {entrant.number} moves {','.join(waves.KINDS[moves])} from {distances(unit, hot)} to "
+        figures = figures_of(unit, leg, None)
+        if steps > LIMIT:
+            entrant.chain = None
+        if entrant.chain:
+            figures = again(entrant.chain, unit, leg, seed, stream, weights)
+            taken += 1
+        entrant.tell(*text.expect_leg(words, figures))
+        if entrant.number not in bests or entrant.standing < bests[entrant.number][0]:
+            bests[entrant.number] = entrant.standing, entrant.chain and annealing.games_of(entrant.chain.rows)
+        best = entrant.best
+        if best != "none" and (least is None or int(best) < least):
+            least = int(best)
+            if entrant.chain:
+                text.expect([*sheet(entrant.at_best().chain), f"best {best}", "-" * 10])
+            else:
+                text.expect_schedule(best)
+        if entrant.standing < lead.standing:
+            lead = entrant.at_best()
+    if least is None:
+        games = [games for _, games in bests.values()]
+        if None not in games:
+            text.expect(often_broken(games, league))
+        else:
+            text.read += sum(" broken in " in line for line in lines)
+    if lead.chain:
+        entries = [*lead.chain.entries()]
+        end = [f"best {lead.chain.best[0]} at {len(entries)}"] if lead.chain.best else [broken(lead.chain), "best none"]
+        text.expect([f"history {len(entries)}", *entries, "end", *sheet(lead.chain), *end, ""])
+    return taken, number
+
+
+def improvements(runs=20, seed=1, *words):
+    """The name of a league, the seed, the league and the lines of each improvement."""
+    if runs == "text":
+        yield seed, int(words[0]), pathlib.Path(seed).read_text(encoding="utf-8"), sys.stdin.read().splitlines()
+        return
+    program = programs.program(words)
+    for number in range(int(runs)):
+        name, own = LEAGUES[number % len(LEAGUES)], int(seed) + number
+        if name == DRAWN:
+            text = json.dumps(leagues.any_league(random.Random(own), [4, 6, 8], 3))
+        else:
+            text = leagues.text(*name[:2], extras=name[2:])
+        lines = programs.run(program, "improve", "--workers", 1, "--effort", 1, "--seed", own, given=text, lawful=(0, 3))
+        yield " ".join(map(str, name)), own, text, lines
+
+
+def main(*words):
+    count = 0
+    for count, (name, seed, text, lines) in enumerate(improvements(*words), 1):
+        with case(f"{name}, seed {seed}"):
+            taken, legs = agree(json.loads(text), lines, seed)
+        print(f"{name}, seed {seed}: {taken} of {legs} legs taken again", flush=True)
+    print(f"{count} improvements agree")
