@@ -4,7 +4,7 @@ ghost use Rattle.std.specs.Prelude.{◌≡◌, ◌++◌, ◌<◌, ◌≤◌, IfO
 ghost use Rattle.league.specs.Limits.{max_teams};
 ghost use Rattle.league.specs.RuleLimits.{IsBodyFor};
 ghost use Rattle.breaches.specs.Breaches.{breaches_of};
-ghost use Rattle.breaches.specs.Terms.{breach_in, breaches_in_row, column_count, row_count};
+ghost use Rattle.breaches.specs.within.Terms.{breach_in, breaches_in_row, column_count, row_count};
 
 use crate::breach::Breach;
 use crate::places::{column_count, place_at, row_count};

@@ -1,5 +1,5 @@
 use Rattle.std.proofs.Common.{◌≡◌, [], arith}
-use Rattle.breaches.specs.Terms.{breaches_in_row, row_count}
+use Rattle.breaches.specs.within.Terms.{breaches_in_row, row_count}
 use Rattle.breaches.proofs.Rows.{breaches_added, in_rows}
 use Rattle.breaches.proofs.list.breaches_of.Goals as goal
 

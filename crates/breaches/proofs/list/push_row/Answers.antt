@@ -1,4 +1,4 @@
-use Rattle.breaches.specs.Terms.{breach_in}
+use Rattle.breaches.specs.within.Terms.{breach_in}
 use Rattle.breaches.proofs.Rows.{breaches_added}
 use Rattle.breaches.proofs.list.push_row.Goals as goal
 

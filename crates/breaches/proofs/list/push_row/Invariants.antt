@@ -1,6 +1,6 @@
 use Rattle.std.proofs.Common.{◌≡◌, ◌++◌}
 use Rattle.breaches.specs.Breaches.{breaches_below}
-use Rattle.breaches.specs.Terms.{breach_in}
+use Rattle.breaches.specs.within.Terms.{breach_in}
 use Rattle.breaches.proofs.list.push_row.Given as goal
 
 abbrev pub invariant-loop-column : goal.invariant-loop-column
