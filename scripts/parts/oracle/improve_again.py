@@ -168,8 +168,11 @@ def main(runs=100, *words):
             lines, totals, counts = holds(program, (TOP / name).read_text(encoding="utf-8"), seed, (1, 2, 4, 16))
             if totals:
                 check_files(program, TOP / name, seed, lines, totals[-1])
-            elif sum(counts.values()) != max(int(line.split()[3]) for line in lines if line.startswith("leg ")):
-                raise ValueError(f"a chain that breaks more than one rule: {counts}")
+            # each schedule of these leagues breaks one rule
+            elif sum(counts[part] for part in counts if part.startswith("rule ")) != max(
+                int(line.split()[3]) for line in lines if line.startswith("leg ")
+            ):
+                raise ValueError(f"chains that don't break one rule each: {counts}")
     for number in range(1, int(runs) + 1):
         draw = random.Random(number)
         with case(f"run {number}"):
