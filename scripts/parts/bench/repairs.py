@@ -44,7 +44,7 @@ def season(program, folder, draw):
     before = write(folder, "before.json", json.dumps(plain))
     seed = draw.randrange(2**32)
     planted = write(folder, "planted.txt", run(program, "improve", league, "--effort", 1, "--seed", seed))
-    if planted.endswith("best none\n"):
+    if planted.read_text(encoding="utf-8").endswith("best none\n"):
         return None
     words = ("--from", planted, "--keep", f"1-{kept}", "--effort", 1, "--seed", seed)
     last = write(folder, "last.txt", run(program, "improve", before, *words))
