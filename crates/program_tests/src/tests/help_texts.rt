@@ -106,7 +106,7 @@ const HELP: &[(&[&str], &[&str])] = &[
             "What parts the cells of CSV: `,`, `;` or tab [default: ,]",
             "--bom",
             "A byte order mark stands before CSV, for a spreadsheet that wants one",
-            "How the report is written: text, csv (the games), html (a page for a browser) or names (the games in words)",
+            "How the report is written: text, csv (the games), html (a page for a browser), names (the games in words) or json",
             "[default: text]",
         ],
     ),
