@@ -1,6 +1,7 @@
-"""The commands of scripts/oracle and of scripts/bench, a module each, and what they share."""
+"""The commands of scripts/check, scripts/oracle and scripts/bench, a file each, and what they share."""
 import contextlib
 import importlib
+import itertools
 import os
 import pathlib
 import subprocess
@@ -10,16 +11,15 @@ TOP = pathlib.Path(__file__).resolve().parent.parent.parent
 
 
 def run(program, about):
-    """Does the command that the first word names, a module in the folder of this name, with the words behind it."""
+    """Does the command that the first word names, a file in the folder of this name, with the words behind it."""
     name, *words = sys.argv[1:] or [""]
-    modules = {file.stem.replace("_", "-"): file for file in sorted((TOP / "scripts/parts" / program).glob("*.py"))}
+    files = {file.stem.replace("_", "-"): file for file in sorted((TOP / "scripts/parts" / program).glob("*.*"))}
     try:
-        if name not in modules:
-            print(about, *(f"  {each:21} {purpose(file)}" for each, file in modules.items()), sep="\n")
+        if name not in files:
+            print(about, *(f"  {each:21} {head(file).splitlines()[0]}" for each, file in files.items()), sep="\n")
             status = 0 if name == "--help" else 2
         else:
-            command = importlib.import_module(f"parts.{program}.{modules[name].stem}")
-            status = print(command.__doc__) if "--help" in words else command.main(*words)
+            status = print(head(files[name])) if "--help" in words else command(files[name])(*words)
         sys.stdout.flush()
     except BrokenPipeError:
         # the reader ended before, as `head` does
@@ -30,9 +30,20 @@ def run(program, about):
     sys.exit(status)
 
 
-def purpose(file):
-    """The first line of a module, which says what its command does."""
-    return file.read_text(encoding="utf-8").split('"""')[1].split("\n")[0]
+def command(file):
+    """What a command's file does: a module's main, or a script of bash."""
+    if file.suffix == ".sh":
+        return lambda *words: subprocess.run([file, *words], check=False).returncode
+    return importlib.import_module(f"parts.{file.parent.name}.{file.stem}").main
+
+
+def head(file):
+    """What the first lines of a command's file say. The first of them says what the command does."""
+    text = file.read_text(encoding="utf-8")
+    if file.suffix == ".py":
+        return text.split('"""')[1]
+    lines = itertools.takewhile(lambda line: line.startswith("#"), text.splitlines()[1:])
+    return "\n".join(line[2:] for line in lines)
 
 
 @contextlib.contextmanager

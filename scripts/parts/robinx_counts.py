@@ -1,5 +1,5 @@
 """How far a schedule is from keeping a constraint of RobinX, counted in the constraint's own words. The league that scripts/robinx makes
-of it is nowhere looked at, so scripts/check-robinx can hold one to the other."""
+of it is nowhere looked at, so `scripts/check robinx` can hold one to the other."""
 from itertools import combinations
 
 from . import model

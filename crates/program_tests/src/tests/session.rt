@@ -1,4 +1,4 @@
-//! The README's worked session: `scripts/check-readme` holds the README to these two texts.
+//! The README's worked session: `scripts/check readme` holds the README to these two texts.
 
 use crate::tests::told::Text::Whole;
 use crate::tests::told::{Case, PLAY_OF_1024, WRITTEN, check_case};

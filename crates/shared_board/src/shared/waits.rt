@@ -92,7 +92,7 @@ fn a_turn_that_is_left_is_taken_within_a_second(rt: HostRuntime) -> Result<(), F
     Ok(())
 }
 
-/// `scripts/check-wait` runs this, and tells by the processor time whether the seat that waits sleeps or spins.
+/// `scripts/check wait` runs this, and tells by the processor time whether the seat that waits sleeps or spins.
 #[test]
 fn a_seat_waits_a_second(rt: HostRuntime) -> Result<(), Fail> {
     let waited = waited_on_a_new_board(&rt, rt.alloc(), 1_200)?;

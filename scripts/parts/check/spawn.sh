@@ -1,15 +1,15 @@
 #!/usr/bin/env bash
-# Runs `ttp search` under limits of address space that let the program start and not all of its workers, for 2 and for 16
-# workers: it has to answer that a worker can't be started, and write nothing. Then `ttp improve` with 16 workers, under such limits: it has
-# to write what it does without one, or whole lines of that and that it is out of memory.
+# runs `ttp search` and `ttp improve` under limits of address space that let the program start and not all of its workers
 #
-#   scripts/check-spawn [PROGRAM]     crates/ttp/out/ttp, which ./build makes, if none is named
+# usage: scripts/check spawn [PROGRAM]     crates/ttp/out/ttp, which ./build makes, if none is named
 #
-# The last line is 'N passed, M failed': one case a limit.
+# A search by 2 and by 16 workers has to answer that a worker can't be started, and write nothing. An improvement by 16 has to write what it
+# does without a limit, or whole lines of that and that it is out of memory. The last line is 'N passed, M failed': one case a limit.
 set -uo pipefail
-top=$(dirname "$(dirname "$(realpath "${BASH_SOURCE[0]}")")")
+top=$(realpath "${BASH_SOURCE[0]}")
+top=${top%/scripts/*}
 program=$(realpath -m -- "${1:-$top/crates/ttp/out/ttp}")
-[ -x "$program" ] || { echo "check-spawn: no program $program (./build makes it)" >&2; exit 1; }
+[ -x "$program" ] || { echo "check spawn: no program $program (./build makes it)" >&2; exit 1; }
 cd "$top" || exit 1
 made=$(mktemp -d)
 trap 'rm -rf "$made"' EXIT
@@ -66,7 +66,7 @@ judge() { # COMMAND WORKERS IS_LAWFUL
     local most one step limit
     most=$(least "$1" "$2")
     one=$(least "$1" 1)
-    ((most > one)) || { echo "check-spawn: $1 with $2 workers needs no more than with 1"; exit 1; }
+    ((most > one)) || { echo "check spawn: $1 with $2 workers needs no more than with 1"; exit 1; }
     for ((step = 0; step < 8; step++)); do
         limit=$((most - 64 - (most - one - 64) * step / 8))
         "$1" "$2" "$limit"
@@ -74,7 +74,7 @@ judge() { # COMMAND WORKERS IS_LAWFUL
             passed=$((passed + 1))
         else
             failed=$((failed + 1))
-            echo "check-spawn: $1 with $2 workers within $limit KiB: status $status"
+            echo "check spawn: $1 with $2 workers within $limit KiB: status $status"
             head -c 1000 "$made/output" "$made/error"
         fi
     done

@@ -1,8 +1,13 @@
 #!/usr/bin/env bash
-# The README's worked session is that of a test of crates/program_tests: its first `sh` block feeds `./ttp play` the test's input, and
-# the block after it is what the test wants to be printed. Examples in Rust stand in the sources that they name.
+# holds the README's worked session to that of a test of crates/program_tests, and the examples in Rust to their sources
+#
+# usage: scripts/check readme
+#
+# Its first `sh` block feeds `./ttp play` the test's input, and the block after it is what the test wants to be printed.
 set -euo pipefail
-cd "$(dirname "${BASH_SOURCE[0]}")/.."
+top=$(realpath "${BASH_SOURCE[0]}")
+top=${top%/scripts/*}
+cd "$top"
 
 # the Nth fenced block of the section
 block() {
@@ -26,8 +31,8 @@ constant() {
 feeding=$(block 1)
 case $feeding in
     *'} | ./ttp play'*) ;;
-    *) echo "check-readme: the session doesn't feed ./ttp play" >&2; exit 1 ;;
+    *) echo "check readme: the session doesn't feed ./ttp play" >&2; exit 1 ;;
 esac
 diff <(bash -c "${feeding/.\/ttp play/cat}") <(constant INPUT)
 diff <(block 2) <(constant OUTPUT)
-scripts/check-examples
+scripts/check examples

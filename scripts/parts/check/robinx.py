@@ -1,25 +1,22 @@
-#!/usr/bin/env python3
-"""Holds scripts/robinx to what docs/robinx.md says: the instances of leagues/robinx to the leagues and solutions that were written for them
-by hand, each refusal to its line, and drawn constraints to what scripts/parts/model.py counts of their rules.
+"""holds scripts/robinx to what docs/robinx.md says
 
-usage: scripts/check-robinx
+usage: scripts/check robinx
 
-It needs no proved program. The last line is 'N passed, M failed', which counts cases."""
+That is the instances of leagues/robinx to the leagues and solutions that were written for them by hand, each refusal to its line, and drawn
+constraints to what scripts/parts/model.py counts of their rules. It needs no proved program. The last line is 'N passed, M failed', which counts cases."""
 import contextlib
 import importlib.machinery
 import importlib.util
 import io
 import json
-import pathlib
 import random
 import subprocess
 import sys
 import tempfile
 
-from parts import leagues, model, robinx_counts
-from parts.robinx_instance import instance_of
+from .. import TOP, leagues, model, robinx_counts
+from ..robinx_instance import instance_of
 
-TOP = pathlib.Path(__file__).resolve().parent.parent
 SCRIPT, READY = TOP / "scripts" / "robinx", TOP / "leagues" / "robinx"
 REPEATS = "remark: in the league no two teams may meet in consecutive rounds, which the instance doesn't ask of all teams\n"
 SUM = "remark: the objective TR has soft constraints beside it: their penalties are added to the travel\n"
@@ -58,7 +55,7 @@ def judge(name, ended, wanted):
         passed += 1
         return
     failed += 1
-    print(f"check-robinx: {name}: there is\n{ended}\nin place of\n{wanted}")
+    print(f"check robinx: {name}: there is\n{ended}\nin place of\n{wanted}")
 
 
 def refused(*lines):
@@ -458,8 +455,4 @@ def main():
     check_drawn()
     check_many()
     print(f"{passed} passed, {failed} failed")
-    return 1 if failed else 0
-
-
-if __name__ == "__main__":
-    sys.exit(main())
+    return bool(failed)

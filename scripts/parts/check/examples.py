@@ -1,14 +1,14 @@
-#!/usr/bin/env python3
-"""Each example in Rust of README.md and of the READMEs of the crates stands in the sources: the last link before the block
-leads to a file, and the block's lines stand there one after another, at whatever indentation. So what is shown was proved.
+"""holds each example in Rust of README.md and of the READMEs of the crates to its source, so that what is shown was proved
 
-usage: scripts/check-examples"""
+usage: scripts/check examples
+
+The last link before the block leads to a file, and the block's lines stand there one after another, at whatever indentation."""
 import re
 import sys
 import textwrap
-from pathlib import Path
 
-TOP = Path(__file__).resolve().parent.parent
+from .. import TOP
+
 BLOCK = re.compile(r"^```rust\n(.*?)^```$", re.M | re.S)
 LINK = re.compile(r"\]\(([^)#]+\.rt)\)")
 
@@ -32,8 +32,9 @@ def faults_of(page):
             yield f"{page.relative_to(TOP)}:{line}: these lines don't stand in {links[-1]}"
 
 
-pages = [TOP / "README.md", *sorted(TOP.glob("crates/*/README.md"))]
-faults = [fault for page in pages for fault in faults_of(page)]
-for fault in faults:
-    print(f"check-examples: {fault}", file=sys.stderr)
-sys.exit(bool(faults))
+def main():
+    pages = [TOP / "README.md", *sorted(TOP.glob("crates/*/README.md"))]
+    faults = [fault for page in pages for fault in faults_of(page)]
+    for fault in faults:
+        print(f"check examples: {fault}", file=sys.stderr)
+    return bool(faults)

@@ -1,14 +1,10 @@
-#!/usr/bin/env python3
-"""Fails where a crate has more lines or more must-fail edits than budget.txt allows it, so that the gate's time grows by decision.
+"""holds each crate to its lines and edits in budget.txt, so that the gate's time grows by decision
 
-usage: scripts/check-budget
+usage: scripts/check budget
 
 A proof costs the gate by its lines and by its edits (docs/gate.md). A crate has one line in budget.txt: its name, the most lines
 of src/, specs/ and proofs/ together, and the most edits. The last line is 'N passed, M failed', which counts crates."""
-import pathlib
-import sys
-
-TOP = pathlib.Path(__file__).resolve().parent.parent
+from .. import TOP
 
 
 def budgets():
@@ -37,9 +33,6 @@ def main():
             problem = "it has " + " and ".join(over) if over else ""
         if problem:
             failed += 1
-            print(f"check-budget: {name}: {problem}")
+            print(f"check budget: {name}: {problem}")
     print(f"{len(allowed.keys() | crates.keys()) - failed} passed, {failed} failed")
-    return 1 if failed else 0
-
-
-sys.exit(main())
+    return bool(failed)

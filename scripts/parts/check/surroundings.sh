@@ -1,16 +1,17 @@
 #!/usr/bin/env bash
-# Holds the program to what no file of cases/ can say: slow, closed and endless inputs, full devices, closed pipes, a terminal, a small
-# stack, the files of `improve` and what happens to them, the installed program, and ./ttp, ./build, ./test and ./test-memory.
+# holds the program to what no file of cases/ can say, as full devices, closed pipes, a terminal, a small stack, a kill
 #
-#   scripts/check-surroundings [PROGRAM]     crates/ttp/out/ttp, which ./build makes, if none is named
+# usage: scripts/check surroundings [PROGRAM]     crates/ttp/out/ttp, which ./build makes, if none is named
 #
-# The last four are run from a copy of the repository in a path with spaces, and where there is a Rattle kit (its command rt) the program
-# unproved, which takes a minute or two. The last line is 'N passed, M failed'; the status is 1 where a case failed.
+# There are slow, closed and endless inputs too, the files of `improve` and what happens to them, the installed program, and ./ttp, ./build,
+# ./test and ./test-memory. These four are run from a copy of the repository in a path with spaces, and where there is a Rattle kit (its
+# command rt) the program unproved, which takes a minute or two. The last line is 'N passed, M failed'; the status is 1 where a case failed.
 set -uo pipefail
-top=$(dirname "$(dirname "$(realpath "${BASH_SOURCE[0]}")")")
-. "$top/scripts/common.sh"
+top=$(realpath "${BASH_SOURCE[0]}")
+top=${top%/scripts/*}
+. "$top/scripts/parts/common.sh"
 program=$(realpath -m -- "${1:-$built/ttp}")
-[ -x "$program" ] || { echo "check-surroundings: no program $program (./build makes it)" >&2; exit 1; }
+[ -x "$program" ] || { echo "check surroundings: no program $program (./build makes it)" >&2; exit 1; }
 cd "$top" || exit 1
 made=$(mktemp -d)
 trap 'rm -rf "$made"' EXIT
@@ -31,7 +32,7 @@ judge() { # TEST..
         passed=$((passed + 1))
     else
         failed=$((failed + 1))
-        echo "check-surroundings: $name: status $status"
+        echo "check surroundings: $name: status $status"
         head -c 2000 "$made/output" "$made/error"
     fi
 }
@@ -149,7 +150,7 @@ if script -qec true /dev/null </dev/null >"$made/error" 2>&1; then
     judge grep -q '^remark: standard input is read, which is the terminal' "$made/text"
     judge test "$status" = 1
 else
-    echo 'check-surroundings: no pseudo-terminal is to be had here, so what is written on a terminal is not looked at'
+    echo 'check surroundings: no pseudo-terminal is to be had here, so what is written on a terminal is not looked at'
 fi
 
 # the files that follow an improvement
@@ -290,7 +291,7 @@ run 'help on a small stack' low --help </dev/null
 judge is_output <("$program" --help)
 
 # the program in a folder with its manual page and completions
-scripts/install "$program" "$made/installed"
+scripts/parts/install "$program" "$made/installed"
 completed() { # WORD..: what bash makes of the last of these words
     (
         # shellcheck disable=SC1091
@@ -365,7 +366,7 @@ if command -v rt >/dev/null; then
     judge cmp -s <("$program" search --workers 2 --steps 0 --seed 7 <"$league") "$made/output"
     judge test "$status $(wc -l <"$made/error")" = '0 1'
 else
-    echo 'check-surroundings: there is no Rattle kit here (its command rt), so the program is not run unproved'
+    echo 'check surroundings: there is no Rattle kit here (its command rt), so the program is not run unproved'
 fi
 
 echo "$passed passed, $failed failed"

@@ -1,7 +1,6 @@
-#!/usr/bin/env python3
-"""Runs the program on each folder of cases/ and on the sessions of README and docs, and compares what comes with what they say.
+"""runs the program on each folder of cases/ and on the sessions of README and docs, and compares what comes with what they say
 
-usage: scripts/check-program [PROGRAM [CASE..]]     crates/ttp/out/ttp, which ./build makes, and all cases and sessions, if none is named
+usage: scripts/check program [PROGRAM [CASE..]]     crates/ttp/out/ttp, which ./build makes, and all cases and sessions, if none is named
 
 The files of a case, of which all but the first may be missing:
 
@@ -21,10 +20,9 @@ import re
 import shlex
 import shutil
 import subprocess
-import sys
 import tempfile
 
-from parts import TOP, programs
+from .. import TOP, programs
 
 LINES = r"((?:(?!```).*\n)*)"
 SESSION = re.compile(f"^```sh\n{LINES}```\n{LINES}```\n{LINES}```$", re.M)
@@ -52,7 +50,7 @@ def ended(name, command, given, wanted):
     if ran.returncode == wanted[0] and re.fullmatch(wanted[1], ran.stdout) and re.fullmatch(wanted[2], ran.stderr):
         return True
     said = (stream[:2000].decode(errors="replace") for stream in (ran.stdout, ran.stderr))
-    print(f"check-program: {name}: {command[1:]}: status {ran.returncode}", *said, sep="\n")
+    print(f"check program: {name}: {command[1:]}: status {ran.returncode}", *said, sep="\n")
     return False
 
 
@@ -69,7 +67,7 @@ def session_runs(page, program):
             yield page.name, command, b"", (0, re.escape(printed.encode()), b"")
 
 
-def main(words):
+def main(*words):
     program, names = programs.program(words), words[1:]
     with tempfile.TemporaryDirectory() as folder, concurrent.futures.ThreadPoolExecutor(os.cpu_count()) as pool:
         copy = f"{folder}/copy"
@@ -82,7 +80,3 @@ def main(words):
         passed = sum(pool.map(lambda run: ended(*run), runs))
     print(f"{passed} passed, {len(runs) - passed} failed")
     return passed < len(runs) or not runs
-
-
-if __name__ == "__main__":
-    sys.exit(main(sys.argv[1:]))

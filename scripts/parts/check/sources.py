@@ -1,7 +1,6 @@
-#!/usr/bin/env python3
-"""Finds in seconds what `rt ci` refuses before it proves anything, or only hours later.
+"""finds in seconds what `rt ci` refuses before it proves anything, or only hours later
 
-usage: scripts/check-sources
+usage: scripts/check sources
 
 Each crate's files are laid out as `rt fmt` does it, no module has the name of a library below its crate, and each edit that has to be
 refused can be made: its file is there, and each text that it replaces stands in it exactly once. Nothing is changed: the layout is tried
@@ -10,10 +9,10 @@ import pathlib
 import re
 import shutil
 import subprocess
-import sys
 import tempfile
 
-TOP = pathlib.Path(__file__).resolve().parent.parent
+from .. import TOP
+
 PARTS = ("src", "specs", "proofs")
 
 
@@ -87,9 +86,6 @@ def main():
             problems += named_as_libraries(crate, below(crate.name, used)) + laid_out_otherwise(crate, room)
             failed += bool(problems)
             for problem in problems:
-                print(f"check-sources: {crate.name}: {problem}")
+                print(f"check sources: {crate.name}: {problem}")
     print(f"{len(crates) - failed} passed, {failed} failed")
-    return 1 if failed else 0
-
-
-sys.exit(main())
+    return bool(failed)
