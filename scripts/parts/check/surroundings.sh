@@ -344,6 +344,14 @@ run './ttp from a path with spaces' "${without[@]}" "$top/ttp" start <"$league"
 judge is_output "$sheet"
 run './ttp through a symbolic link' "${without[@]}" "$made/linked" start <"$league"
 judge is_output "$sheet"
+source=$top/crates/ttp/src/main.rt
+cp "$source" "$made/source"
+printf '\n' >>"$source"
+run './ttp with another source than was proved' "${without[@]}" "$top/ttp" start <"$league"
+judge is_kit_missed ttp
+cp "$made/source" "$source"
+run './ttp with a source that is again as it was' "${without[@]}" "$top/ttp" start <"$league"
+judge is_output "$sheet"
 printf '\n' >>"$built/ttp"
 run './ttp with another program than was proved' "${without[@]}" "$top/ttp" start <"$league"
 judge is_kit_missed ttp
