@@ -3,7 +3,8 @@
 
 # What ./build takes where nothing was proved before, in minutes of processor time.
 build_minutes=40
-# The program's folder. The file proved-sum in it says which program was proved, and of which sources, and proved-stamps when these changed last.
+# The program's folder. The file proved-sum in it says which program was proved, and of which sources, and proved-stamps when these changed
+# last.
 built=$top/crates/ttp/out
 
 # need_kit WHO: ends here where there is no Rattle kit.
