@@ -1,2 +1,4 @@
 pub mod Streaks
+pub mod Parts
+pub mod CostLines
 pub mod Figures

@@ -1,36 +1,34 @@
 -- The figures of a report, added up.
-use Rattle.std.specs.Prelude.{◌≡◌, ℕ, ◌+◌, ◌-◌}
+use Rattle.std.specs.Prelude.{◌≡◌, ℕ, ◌*◌, List, sum_by}
 use Rattle.league.specs.League.{LeagueData}
-use Rattle.league.specs.Sums.{sum_below, count_where}
-use Rattle.fixtures.specs.Games.{Games, round_count}
-use Rattle.tours.specs.Tours.{travel_of}
-use Rattle.tours.specs.Phased.{is_unphased}
+use Rattle.fixtures.specs.Games.{Games}
 use Rattle.costs.specs.declared.cost.Cost.{Cost}
-use Rattle.costs.specs.Costs.{cost_of, hard_penalty, near_cost, soft_penalty, sum_over_rules, where_phased}
-use Rattle.reports.specs.CostText.{repeats_lower}
-use Rattle.reports.specs.Runs.{is_over, ended_streak}
+use Rattle.costs.specs.Costs.{cost_of, hard_penalty, soft_penalty}
+use Rattle.reports.specs.CostText.{CostLine, cost_lines, tour, run, repeat, half, of_rule, near}
 
--- the windows of a team's run lines
-abbrev pub windows_told : Games → ℕ → ℕ → ℕ
-windows_told g at_most team = sum_below (round_count g.teams) (ended_streak (is_over g at_most team))
+-- what a line tells of travel
+abbrev pub travel_in : CostLine → ℕ
+travel_in (tour team travel) = travel
+travel_in line = 0
 
--- how many repeat lines there are
-abbrev pub repeats_told : Games → ℕ
-repeats_told g = sum_below (round_count g.teams - 1) (λ round. count_where g.teams (repeats_lower g round))
+-- of what is hard: the windows of a stretch, a repeat, a pair in one half, and the deviation of a hard rule
+abbrev pub hard_in : CostLine → ℕ
+hard_in (run team home first last windows) = windows
+hard_in (repeat low high first second) = 1
+hard_in (half low high first second) = 1
+hard_in (of_rule rule i deviation) = hard_penalty rule.weight deviation
+hard_in line = 0
 
--- how many half lines there are, in a phased league
-abbrev pub halves_told : Games → ℕ
-halves_told g = sum_below g.teams (λ high. count_where high (λ low. is_unphased g low high))
+-- of what is soft: the weighted deviation of a soft rule, and the price of the moved games
+abbrev pub soft_in : CostLine → ℕ
+soft_in (of_rule rule i deviation) = soft_penalty rule.weight deviation
+soft_in (near price moved) = price * moved
+soft_in line = 0
 
--- the lines of a report, added up; where leaving the start has no price, no line tells it, and it costs nothing
-unfoldable pub told_cost : LeagueData → Games → Cost
-told_cost l g = record {
-  travel = sum_below g.teams (travel_of l g);
-  hard = sum_below g.teams (windows_told g l.at_most) + repeats_told g + sum_over_rules hard_penalty l.rules g +
-      where_phased l (halves_told g);
-  soft = sum_over_rules soft_penalty l.rules g + near_cost l g;
-}
+-- lines, added up
+abbrev pub told_cost : List CostLine → Cost
+told_cost lines = record { travel = sum_by travel_in lines; hard = sum_by hard_in lines; soft = sum_by soft_in lines }
 
--- they are the first line
+-- the lines of a report add up to the cost, which its first line tells
 abbrev pub AddsUp : LeagueData → Games → Type 0
-AddsUp l g = told_cost l g ≡ cost_of l g
+AddsUp l g = told_cost (cost_lines l g) ≡ cost_of l g

@@ -1,5 +1,5 @@
 pub mod Runs
-pub mod Leaving
 pub mod CostText
 pub mod Report
 pub mod Figures
+pub mod within

@@ -7,8 +7,9 @@ ghost use Rattle.fixtures.specs.Games.{round_count};
 ghost use Rattle.costs.specs.Costs.{total_of};
 ghost use Rattle.streams.specs.Pieces.{pieces_below};
 ghost use Rattle.streams.specs.Writing.{Writes};
-ghost use Rattle.reports.specs.CostText.{cost_text, costs_line, half_line, half_lines, halves_text, meetings_line};
-ghost use Rattle.reports.specs.CostText.{repeat_line, repeat_lines, rule_line, rule_lines, rule_text, total_line, tour_line};
+ghost use Rattle.reports.specs.CostText.{costs_line, meetings_line, total_line};
+ghost use Rattle.reports.specs.within.CostText.{half_line, half_lines, halves_text, parts_text, repeat_line, repeat_lines};
+ghost use Rattle.reports.specs.within.CostText.{rule_line, rule_lines, rule_text, tour_line};
 
 use crate::leaving::write_leaving;
 use crate::runs::write_runs;
@@ -28,7 +29,7 @@ pub(crate) fn write_costs<W: Sink>(
     schedule: &Schedule,
 ) -> Result<(), WriteFault>
     requires { schedule.now.teams ≡ teams league.now }
-    ensures { Writes W.held W.tally out.old out.new result (cost_text league.now schedule.now) }
+    ensures { Writes W.held W.tally out.old out.new result (parts_text league.now schedule.now) }
 {
     let cost = cost_of(schedule, league);
     write_cost(out, cost)?;

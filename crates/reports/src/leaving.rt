@@ -4,7 +4,7 @@ ghost use Rattle.std.specs.Prelude.{◌≡◌, ◌<◌};
 ghost use Rattle.league.specs.League.{teams};
 ghost use Rattle.streams.specs.Pieces.{pieces_below};
 ghost use Rattle.streams.specs.Writing.{Writes};
-ghost use Rattle.reports.specs.Leaving.{leaving_text, moved_line, moved_lines, moved_text, near_line, was_line};
+ghost use Rattle.reports.specs.within.CostText.{leaving_text, moved_line, moved_lines, moved_text, near_line, was_line};
 
 use fixtures::Schedule;
 use league::League;

@@ -5,7 +5,8 @@ ghost use Rattle.league.specs.Limits.{max_rounds};
 ghost use Rattle.fixtures.specs.Games.{round_count};
 ghost use Rattle.streams.specs.Pieces.{pieces_below};
 ghost use Rattle.streams.specs.Writing.{Writes};
-ghost use Rattle.reports.specs.CostText.{run_line, run_lines, side_word};
+ghost use Rattle.reports.specs.CostText.{side_word};
+ghost use Rattle.reports.specs.within.CostText.{run_line, run_lines};
 
 use fixtures::Schedule;
 use streams::{BufferedSink, Sink, WriteFault};

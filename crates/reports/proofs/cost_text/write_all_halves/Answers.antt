@@ -1,5 +1,5 @@
 use Rattle.streams.proofs.Pieces.{Adds-piece, Stops-in_pieces, Stops-writes}
-use Rattle.reports.specs.CostText.{half_lines}
+use Rattle.reports.specs.within.CostText.{half_lines}
 use Rattle.reports.proofs.cost_text.write_all_halves.Goals as goal
 
 pub loop-high-preserved : goal.loop-high-preserved

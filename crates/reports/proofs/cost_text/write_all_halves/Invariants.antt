@@ -1,6 +1,6 @@
 use Rattle.streams.specs.Pieces.{pieces_below}
 use Rattle.streams.specs.Writing.{Adds}
-use Rattle.reports.specs.CostText.{half_lines}
+use Rattle.reports.specs.within.CostText.{half_lines}
 use Rattle.reports.proofs.cost_text.write_all_halves.Given as goal
 
 abbrev pub invariant-loop-high : goal.invariant-loop-high

@@ -3,12 +3,13 @@ use Rattle.std.proofs.Common.{◌-◌}
 use Rattle.streams.specs.Pieces.{pieces_below}
 use Rattle.fixtures.specs.Games.{round_count}
 use Rattle.costs.specs.Costs.{cost_of}
-use Rattle.reports.specs.Leaving.{leaving_text}
-use Rattle.reports.specs.CostText.{cost_text, halves_text, repeat_lines, rule_lines, run_lines, total_line, tour_line}
+use Rattle.reports.specs.within.CostText.{leaving_text}
+use Rattle.reports.specs.CostText.{total_line}
+use Rattle.reports.specs.within.CostText.{halves_text, parts_text, repeat_lines, rule_lines, run_lines, tour_line}
 use Rattle.reports.proofs.cost_text.write_costs.Goals as goal
 
 pub returns-in_err-write_cost : goal.returns-in_err-write_cost
-unfolding cost_text
+unfolding parts_text
 returns-in_err-write_cost g c =
     Stops-writes c.from_residual.ensures.0
     (Stops-more (total_line (cost_of c.args.league.now c.args.schedule.now))
@@ -21,7 +22,7 @@ returns-in_err-write_cost g c =
     (rw c.cost_of-cost.ensures.value at c.in_err-write_cost.ensures.err))))))))
 
 pub returns-in_err-write_tours : goal.returns-in_err-write_tours
-unfolding cost_text
+unfolding parts_text
 returns-in_err-write_tours g c =
     Stops-writes c.from_residual-in_err-write_tours.ensures.0
     (Stops-more (total_line (cost_of c.args.league.now c.args.schedule.now))
@@ -33,7 +34,7 @@ returns-in_err-write_tours g c =
     (Adds-stops (rw c.cost_of-cost.ensures.value at c.in_ok-write_cost.ensures.ok) c.in_err-write_tours.ensures.err)))))))
 
 pub returns-in_err-write_runs : goal.returns-in_err-write_runs
-unfolding cost_text
+unfolding parts_text
 returns-in_err-write_runs g c =
     Stops-writes c.from_residual-in_err-write_runs.ensures.0
     (Stops-more (total_line (cost_of c.args.league.now c.args.schedule.now))
@@ -45,7 +46,7 @@ returns-in_err-write_runs g c =
     (rw c.at_most.ensures.value at c.in_err-write_runs.ensures.err)))))))
 
 pub returns-in_err-write_repeats : goal.returns-in_err-write_repeats
-unfolding cost_text
+unfolding parts_text
 returns-in_err-write_repeats g c =
     Stops-writes c.from_residual-in_err-write_repeats.ensures.0
     (Stops-more (total_line (cost_of c.args.league.now c.args.schedule.now))
@@ -56,7 +57,7 @@ returns-in_err-write_repeats g c =
     (rw c.at_most.ensures.value at c.in_ok-write_runs.ensures.ok)) c.in_err-write_repeats.ensures.err)))))
 
 pub returns-in_err-write_halves : goal.returns-in_err-write_halves
-unfolding cost_text
+unfolding parts_text
 returns-in_err-write_halves g c =
     Stops-writes c.from_residual-in_err-write_halves.ensures.0
     (Stops-more (total_line (cost_of c.args.league.now c.args.schedule.now))
@@ -68,7 +69,7 @@ returns-in_err-write_halves g c =
     c.in_err-write_halves.ensures.err))))
 
 pub returns-in_err-write_rules : goal.returns-in_err-write_rules
-unfolding cost_text
+unfolding parts_text
 returns-in_err-write_rules g c =
     Stops-writes c.from_residual-in_err-write_rules.ensures.0
     (Stops-more (total_line (cost_of c.args.league.now c.args.schedule.now))
@@ -80,7 +81,7 @@ returns-in_err-write_rules g c =
     c.in_err-write_rules.ensures.err)))
 
 pub returns-in_err-write_leaving : goal.returns-in_err-write_leaving
-unfolding cost_text
+unfolding parts_text
 returns-in_err-write_leaving g c =
     Stops-writes c.from_residual-in_err-write_leaving.ensures.0
     (Stops-more (total_line (cost_of c.args.league.now c.args.schedule.now))
@@ -93,7 +94,7 @@ returns-in_err-write_leaving g c =
     c.in_err-write_leaving.ensures.err))
 
 pub returns : goal.returns
-unfolding cost_text
+unfolding parts_text
 returns g c =
     Adds-writes
     (Adds-then

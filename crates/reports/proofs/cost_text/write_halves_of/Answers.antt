@@ -1,5 +1,5 @@
 use Rattle.streams.proofs.Pieces.{Adds-piece, Stops-in_pieces, Stops-writes}
-use Rattle.reports.specs.CostText.{half_line}
+use Rattle.reports.specs.within.CostText.{half_line}
 use Rattle.reports.proofs.cost_text.write_halves_of.Goals as goal
 
 pub loop-low-preserved : goal.loop-low-preserved

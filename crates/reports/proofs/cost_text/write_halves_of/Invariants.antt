@@ -1,6 +1,6 @@
 use Rattle.streams.specs.Pieces.{pieces_below}
 use Rattle.streams.specs.Writing.{Adds}
-use Rattle.reports.specs.CostText.{half_line}
+use Rattle.reports.specs.within.CostText.{half_line}
 use Rattle.reports.proofs.cost_text.write_halves_of.Given as goal
 
 abbrev pub invariant-loop-low : goal.invariant-loop-low

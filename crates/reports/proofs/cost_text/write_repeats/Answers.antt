@@ -1,5 +1,5 @@
 use Rattle.streams.proofs.Pieces.{Adds-piece, Stops-in_pieces, Stops-writes}
-use Rattle.reports.specs.CostText.{repeat_lines}
+use Rattle.reports.specs.within.CostText.{repeat_lines}
 use Rattle.reports.proofs.cost_text.write_repeats.Goals as goal
 
 pub loop-round-preserved : goal.loop-round-preserved

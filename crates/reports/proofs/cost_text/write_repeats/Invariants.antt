@@ -1,6 +1,6 @@
 use Rattle.streams.specs.Pieces.{pieces_below}
 use Rattle.streams.specs.Writing.{Adds}
-use Rattle.reports.specs.CostText.{repeat_lines}
+use Rattle.reports.specs.within.CostText.{repeat_lines}
 use Rattle.reports.proofs.cost_text.write_repeats.Given as goal
 
 abbrev pub invariant-loop-round : goal.invariant-loop-round

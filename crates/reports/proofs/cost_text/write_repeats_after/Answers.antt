@@ -1,5 +1,5 @@
 use Rattle.streams.proofs.Pieces.{Adds-piece, Stops-in_pieces, Stops-writes}
-use Rattle.reports.specs.CostText.{repeat_line}
+use Rattle.reports.specs.within.CostText.{repeat_line}
 use Rattle.reports.proofs.cost_text.write_repeats_after.Goals as goal
 
 pub loop-team-preserved : goal.loop-team-preserved

@@ -1,6 +1,6 @@
 use Rattle.streams.proofs.Pieces.{Adds-piece, Stops-in_pieces, Stops-writes}
 use Rattle.std.specs.Prelude.{slice_get}
-use Rattle.reports.specs.CostText.{rule_at}
+use Rattle.reports.specs.within.CostText.{rule_at}
 use Rattle.reports.proofs.cost_text.write_rules.Goals as goal
 
 pub loop-i-preserved : goal.loop-i-preserved

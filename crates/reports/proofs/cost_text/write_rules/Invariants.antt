@@ -1,7 +1,7 @@
 use Rattle.streams.specs.Pieces.{pieces_below}
 use Rattle.streams.specs.Writing.{Adds}
 use Rattle.std.specs.Prelude.{slice_get}
-use Rattle.reports.specs.CostText.{rule_at}
+use Rattle.reports.specs.within.CostText.{rule_at}
 use Rattle.reports.proofs.cost_text.write_rules.Given as goal
 
 abbrev pub invariant-loop-i : goal.invariant-loop-i

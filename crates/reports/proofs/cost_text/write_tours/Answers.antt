@@ -1,5 +1,5 @@
 use Rattle.streams.proofs.Pieces.{Adds-piece, Stops-in_pieces, Stops-writes}
-use Rattle.reports.specs.CostText.{tour_line}
+use Rattle.reports.specs.within.CostText.{tour_line}
 use Rattle.reports.proofs.cost_text.write_tours.Goals as goal
 
 pub loop-team-preserved : goal.loop-team-preserved

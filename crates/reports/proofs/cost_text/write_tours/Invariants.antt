@@ -1,6 +1,6 @@
 use Rattle.streams.specs.Pieces.{pieces_below}
 use Rattle.streams.specs.Writing.{Adds}
-use Rattle.reports.specs.CostText.{tour_line}
+use Rattle.reports.specs.within.CostText.{tour_line}
 use Rattle.reports.proofs.cost_text.write_tours.Given as goal
 
 abbrev pub invariant-loop-team : goal.invariant-loop-team

@@ -1,5 +1,5 @@
 use Rattle.streams.proofs.Pieces.{Adds-piece, Stops-in_pieces, Stops-writes}
-use Rattle.reports.specs.Leaving.{moved_lines}
+use Rattle.reports.specs.within.CostText.{moved_lines}
 use Rattle.reports.proofs.leaving.write_all_moved.Goals as goal
 
 pub loop-home-preserved : goal.loop-home-preserved

@@ -1,6 +1,6 @@
 use Rattle.streams.specs.Pieces.{pieces_below}
 use Rattle.streams.specs.Writing.{Adds}
-use Rattle.reports.specs.Leaving.{moved_lines}
+use Rattle.reports.specs.within.CostText.{moved_lines}
 use Rattle.reports.proofs.leaving.write_all_moved.Given as goal
 
 abbrev pub invariant-loop-home : goal.invariant-loop-home

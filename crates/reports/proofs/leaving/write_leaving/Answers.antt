@@ -1,5 +1,5 @@
 use Rattle.streams.proofs.Pieces.{Adds-writes, Stops-more, Stops-writes}
-use Rattle.reports.specs.Leaving.{moved_text}
+use Rattle.reports.specs.within.CostText.{moved_text}
 use Rattle.reports.proofs.leaving.write_leaving.Goals as goal
 
 pub returns-in_err-write_near : goal.returns-in_err-write_near

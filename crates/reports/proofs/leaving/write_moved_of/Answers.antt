@@ -1,5 +1,5 @@
 use Rattle.streams.proofs.Pieces.{Adds-piece, Stops-in_pieces, Stops-writes}
-use Rattle.reports.specs.Leaving.{moved_line}
+use Rattle.reports.specs.within.CostText.{moved_line}
 use Rattle.reports.proofs.leaving.write_moved_of.Goals as goal
 
 pub loop-away-preserved : goal.loop-away-preserved

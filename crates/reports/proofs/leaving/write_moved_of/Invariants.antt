@@ -1,6 +1,6 @@
 use Rattle.streams.specs.Pieces.{pieces_below}
 use Rattle.streams.specs.Writing.{Adds}
-use Rattle.reports.specs.Leaving.{moved_line}
+use Rattle.reports.specs.within.CostText.{moved_line}
 use Rattle.reports.proofs.leaving.write_moved_of.Given as goal
 
 abbrev pub invariant-loop-away : goal.invariant-loop-away

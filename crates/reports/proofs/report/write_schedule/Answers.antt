@@ -1,5 +1,6 @@
 use Rattle.streams.proofs.Pieces.{Adds-writes, Stops-more, Stops-writes}
 use Rattle.reports.specs.CostText.{cost_text}
+use Rattle.reports.proofs.CostLines.{in_parts}
 use Rattle.reports.proofs.report.write_schedule.Goals as goal
 
 pub returns-in_err-write_sheet : goal.returns-in_err-write_sheet
@@ -8,4 +9,4 @@ returns-in_err-write_sheet g c =
     (Stops-more (cost_text c.args.league.now c.args.schedule.now) c.in_err-write_sheet.ensures.err)
 
 pub returns : goal.returns
-returns g c = Adds-writes c.in_ok-write_sheet.ensures.ok c.write_costs.ensures
+returns g c = rw (in_parts c.args.league.now c.args.schedule.now) (Adds-writes c.in_ok-write_sheet.ensures.ok c.write_costs.ensures)

@@ -1,5 +1,5 @@
 use Rattle.streams.proofs.Pieces.{Adds-piece, Stops-in_pieces, Stops-writes}
-use Rattle.reports.specs.CostText.{run_lines}
+use Rattle.reports.specs.within.CostText.{run_lines}
 use Rattle.reports.proofs.runs.write_runs.Goals as goal
 
 pub loop-team-preserved : goal.loop-team-preserved

@@ -1,6 +1,6 @@
 use Rattle.streams.specs.Pieces.{pieces_below}
 use Rattle.streams.specs.Writing.{Adds}
-use Rattle.reports.specs.CostText.{run_lines}
+use Rattle.reports.specs.within.CostText.{run_lines}
 use Rattle.reports.proofs.runs.write_runs.Given as goal
 
 abbrev pub invariant-loop-team : goal.invariant-loop-team

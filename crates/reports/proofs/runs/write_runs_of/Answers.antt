@@ -1,6 +1,6 @@
 use Rattle.std.proofs.Common.{◌∙◌}
 use Rattle.streams.proofs.Pieces.{Adds-piece, Stops-in_pieces, Stops-writes}
-use Rattle.reports.specs.CostText.{run_line}
+use Rattle.reports.specs.within.CostText.{run_line}
 use Rattle.reports.specs.Runs.{ended_streak, is_over}
 use Rattle.reports.proofs.Streaks.{streak_more}
 use Rattle.reports.proofs.runs.write_runs_of.Goals as goal

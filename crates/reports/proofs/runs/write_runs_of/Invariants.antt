@@ -1,7 +1,7 @@
 use Rattle.std.proofs.Common.{◌≡◌}
 use Rattle.streams.specs.Pieces.{pieces_below}
 use Rattle.streams.specs.Writing.{Adds}
-use Rattle.reports.specs.CostText.{run_line}
+use Rattle.reports.specs.within.CostText.{run_line}
 use Rattle.reports.specs.Runs.{ended_streak, is_over, streak}
 use Rattle.reports.proofs.runs.write_runs_of.Given as goal
 
