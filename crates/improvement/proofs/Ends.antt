@@ -1,10 +1,11 @@
 -- The end of an improvement: what is written when all legs were told, and what the sink has got.
-use Rattle.std.proofs.Common.{◌≡◌, ℕ, true, List, [], ◌++◌, All, Option, Result, Ok, Err, refl, sym, ◌∙◌, ap, subst, inr}
+use Rattle.std.proofs.Common.{◌≡◌, ℕ, ◌≤◌, true, List, [], ◌++◌, length, All, Option, Result, Ok, Err, refl, sym, ◌∙◌, ap, subst, inr, arith}
 use Rattle.std.specs.Borrow.{MutBor}
 use Rattle.std.specs.Io.KnownBytes.{Appends}
 use Rattle.league.specs.League.{IsLeague, LeagueData}
 use Rattle.fixture_board.specs.declared.best.Best.{Best}
-use Rattle.fixture_board.specs.History.{best_of}
+use Rattle.fixture_board.specs.History.{best_of, max_room}
+use Rattle.fixture_board.proofs.Next.{IsLegal-within}
 use Rattle.fixture_board.specs.Record.{Book}
 use Rattle.streams.specs.declared.buffered.BufferedSink.{BufferedSink}
 use Rattle.streams.specs.declared.tally.Tally.{Tally}
@@ -27,6 +28,7 @@ use Rattle.improvement.specs.Outcome.{Improves}
 use Rattle.improvement.specs.within.UnderWay.{EndsBy, HasRunAll, HasStopped, HasWritten, Sends}
 use Rattle.improvement.proofs.Bests.{chains_in}
 use Rattle.improvement.proofs.Leads.{lead_legal}
+use Rattle.improvement.proofs.Rooms.{IsLegal-fits}
 
 ending_is : (league : LeagueData) (unit : Measure) (legs : List LegRun) → improve_text league unit true legs ≡
     legs_text league unit legs ++ (broken_text league legs ++ improved_text league (lead_of league legs))
@@ -84,10 +86,19 @@ module _ {W : Type 0} (held : W → Option (List ℕ)) (tally : W → Tally) (st
   in_room : (legs : List LegRun) → AreLegs start.league start.room legs → AreLegs start.league (room_of plan.effort) legs
   in_room legs are = subst (λ (room : ℕ). AreLegs start.league room legs) room_is are
 
-  again : (legs : List LegRun) → AreLegs start.league start.room legs →
-      PlaysBack start.league (room_of plan.effort) (lead_of start.league legs)
-  again legs are =
-      plays_back start.league (room_of plan.effort) _ limits (lead_legal start.league (room_of plan.effort) legs (in_room legs are))
+  fits : (legs : List LegRun) → AreLegs start.league start.room legs → length (lead_of start.league legs) ≤ max_room
+  fits legs are =
+      omega (
+        arith,
+        IsLegal-within start.league (room_of plan.effort) (lead_of start.league legs)
+            (lead_legal start.league (room_of plan.effort) legs (in_room legs are)),
+      )
+
+  again : (legs : List LegRun) → AreLegs start.league start.room legs → (room : ℕ) → length (lead_of start.league legs) ≤ room →
+      PlaysBack start.league room (lead_of start.league legs)
+  again legs are room within =
+      plays_back start.league room _ limits
+      (IsLegal-fits start.league start.room room _ (lead_legal start.league start.room legs are) within)
 
   ends_at : (a b : BufferedSink W) (r : Result (Option Best) ImproveFault) → IsFreshOver sink a →
       EndsBy held tally start unit plan a b (HasWritten held tally start unit plan a b) r →
@@ -103,6 +114,7 @@ module _ {W : Type 0} (held : W → Option (List ℕ)) (tally : W → Tally) (st
       all = ends.all;
       text_is = refl;
       best_is = ends.best_is;
+      fits = fits ends.legs ends.are;
       again = again ends.legs ends.are;
     },
     sent a b _ fresh ends.sends,

@@ -4,3 +4,4 @@ pub mod Solutions
 pub mod Lines
 pub mod UnderWay
 pub mod Ends
+pub mod Rooms

@@ -1,5 +1,5 @@
 -- How an improvement ends.
-use Rattle.std.specs.Prelude.{◌≡◌, ◌≤◌, ◌⊎◌, ℕ, Bool, true, List, Option, None, Result, Ok, Err}
+use Rattle.std.specs.Prelude.{◌≡◌, ◌≤◌, ◌⊎◌, ℕ, Bool, true, List, length, Option, None, Result, Ok, Err}
 use Rattle.std.specs.Io.KnownBytes.{Appends}
 use Rattle.league.specs.League.{LeagueData}
 use Rattle.streams.specs.Limits.{write_limit}
@@ -7,7 +7,7 @@ use Rattle.streams.specs.Sending.{AppendsPrefix}
 use Rattle.streams.specs.Tally.{FailsWriting}
 use Rattle.streams.specs.declared.tally.Tally.{Tally}
 use Rattle.fixture_board.specs.declared.best.Best.{Best}
-use Rattle.fixture_board.specs.History.{best_of}
+use Rattle.fixture_board.specs.History.{best_of, max_room}
 use Rattle.texts.specs.SearchText.{PlaysBack}
 use Rattle.annealing.specs.declared.unit.Unit.{Unit as Measure}
 use Rattle.annealing.specs.Walks.{IsUnitOf}
@@ -23,7 +23,7 @@ pub record AreAll (plan : ImprovePlan) (legs : List LegRun) : Type 0 where
   pub all : plan.first ≡ None → steps_in legs ≡ plan.effort
 
 -- The text of an improvement, of all its legs, and the best version of the history in it. Temperatures are told by the league's unit. The
--- history, given as a script, leads to the same games and the same best
+-- history fits the greatest room of a board and, given as a script in any room that it fits, leads to the same games and the same best
 pub record IsImproveText (league : LeagueData) (plan : ImprovePlan) (best : Option Best) (text : List ℕ) : Type 0 where
   pub unit : Measure
   pub unit_is : IsUnitOf league unit
@@ -32,7 +32,8 @@ pub record IsImproveText (league : LeagueData) (plan : ImprovePlan) (best : Opti
   pub all : AreAll plan legs
   pub text_is : text ≡ improve_text league unit true legs
   pub best_is : best ≡ best_of league (lead_of league legs)
-  pub again : PlaysBack league (room_of plan.effort) (lead_of league legs)
+  pub fits : length (lead_of league legs) ≤ max_room
+  pub again : (room : ℕ) → length (lead_of league legs) ≤ room → PlaysBack league room (lead_of league legs)
 
 -- what there is to write after some legs, whether or not these are all
 pub record IsTextSoFar (league : LeagueData) (plan : ImprovePlan) (text : List ℕ) : Type 0 where

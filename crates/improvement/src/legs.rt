@@ -29,6 +29,16 @@ pub(crate) struct Turn {
     pub(crate) leg: Leg,
 }
 
+impl Turn {
+    /// What is asked of the leg.
+    fn plan(self, seed: u64, stream: u64) -> LegPlan
+        ensures { result ≡ record { leg = self.leg; seed = seed; stream = stream } }
+    {
+        let leg = self.leg;
+        LegPlan { leg, seed, stream }
+    }
+}
+
 /// A leg that can begin.
 #[derive(Drop)]
 pub(crate) struct WaitingLeg {
@@ -96,11 +106,7 @@ impl WaitingLeg {
             board,
         } = self;
         let board = setting.board_or_new(board)?;
-        let plan = LegPlan {
-            leg: turn.leg,
-            seed,
-            stream,
-        };
+        let plan = turn.plan(seed, stream);
         let state = run(scope, setting, weights, Chain { board, weight }, plan);
         Ok(RunningLeg { turn, state })
     }

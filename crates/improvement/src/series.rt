@@ -1,6 +1,6 @@
 //! Improvements that follow each other.
 
-ghost use Rattle.std.specs.Prelude.{◌≡◌, ◌+◌, ◌≤◌, IfNone, IfSome};
+ghost use Rattle.std.specs.Prelude.{◌≡◌, ◌+◌, ◌-◌, ◌*◌, ◌%◌, ◌^◌, ◌≤◌, min, max, IfNone, IfSome};
 ghost use Rattle.policy.specs.Limits.{most_effort};
 
 use crate::plan::ImprovePlan;
@@ -28,7 +28,9 @@ impl Series {
     pub(crate) fn new(facts: Facts, plan: ImprovePlan) -> Self
         requires teams { 4 ≤ facts.teams }
         requires effort { plan.effort ≤ most_effort }
-        ensures { result.policy.left + result.later ≡ plan.effort }
+        ensures left { result.policy.left + result.later ≡ plan.effort }
+        ensures seed { result.seed ≡ plan.seed }
+        ensures lined { result.lined ≡ 0 }
     {
         let effort = plan.first.unwrap_or(plan.effort).min(plan.effort);
         let facts = Facts { effort, ..facts };
@@ -61,6 +63,9 @@ impl Series {
         requires { self.old.policy.left ≡ 0 }
         ensures left { self.new.policy.left + self.new.later ≡ self.old.policy.left + self.old.later }
         ensures some { 1 ≤ self.old.later → 1 ≤ self.new.policy.left }
+        ensures effort { self.new.facts.effort ≡ min (max (min (2 * self.old.facts.effort) (2 ^ 64 - 1)) 1) self.old.later }
+        ensures seed { self.new.seed ≡ (self.old.seed + 1) % 2 ^ 64 }
+        ensures lined { self.new.lined ≡ 0 }
     {
         let effort = self.facts.effort.saturating_mul(2).max(1).min(self.later);
         self.facts = Facts {

@@ -3,6 +3,7 @@
 mod ends;
 mod legs;
 mod series;
+mod workers;
 
 ghost use Rattle.std.specs.Prelude.{◌≤◌};
 
