@@ -1,7 +1,7 @@
 -- Names on a page: no mark is left, and a browser reads them back.
 use Rattle.std.proofs.Common.{◌≡◌, ◌∙◌, ◌&&◌, ◌||◌, not, cond, ℕ, List, [], ◌∷◌, ◌++◌, Bool, true, false, inl, inr, ap, refl, subst, sym}
 use Rattle.std.specs.List.{list_all}
-use Rattle.std.specs.Prelude.{◌==◌}
+use Rattle.std.specs.Prelude.{◌==◌, Option, Some, option_map}
 use Rattle.std.proofs.lemmas.Bool.Decides.{eqb_tells}
 use Rattle.std.proofs.lemmas.List.Folds.{list_all-append}
 use Rattle.report_formats.specs.Pieces.{escape_of, escaped, is_plain, unescaped}
@@ -40,16 +40,18 @@ pub escaped_plain : (name : List ℕ) → list_all is_plain (escaped name) ≡ t
 escaped_plain [] = refl
 escaped_plain (b ∷ bs) = list_all-append is_plain (escape_of b) (escaped bs) ∙ rw (escape_plain b, escaped_plain bs) refl
 
-first_read : (is_mark : Bool) (first other : List ℕ) → is_mark ≡ false → cond (not is_mark) first other ≡ first
+first_read : (is_mark : Bool) (first other : Option (List ℕ)) → is_mark ≡ false → cond (not is_mark) first other ≡ first
 first_read is_mark first other is = rw is refl
 
-itself_read : (b : ℕ) (rest : List ℕ) → (b == 38) ≡ false → unescaped 0 (b ∷ rest) ≡ b ∷ unescaped 0 rest
-itself_read b rest other = first_read (b == 38) (b ∷ unescaped 0 rest) _ other
+itself_read : (b : ℕ) (rest : List ℕ) → (b == 38) ≡ false → unescaped 0 (b ∷ rest) ≡ option_map (λ name. b ∷ name) (unescaped 0 rest)
+itself_read b rest other = first_read (b == 38) (option_map (λ name. b ∷ name) (unescaped 0 rest)) _ other
 
-escape_read : (rest : List ℕ) (b : ℕ) → unescaped 0 (escape_of b ++ rest) ≡ b ∷ unescaped 0 rest
-escape_read rest = by_mark (λ b. unescaped 0 (escape_of b ++ rest) ≡ b ∷ unescaped 0 rest) refl refl refl refl refl
-    (λ b a l m q p. subst (λ text. unescaped 0 (text ++ rest) ≡ b ∷ unescaped 0 rest) (sym (as_it_is b a l m q p)) (itself_read b rest a))
+escape_read : (rest : List ℕ) (b : ℕ) → unescaped 0 (escape_of b ++ rest) ≡ option_map (λ name. b ∷ name) (unescaped 0 rest)
+escape_read rest = by_mark (λ b. unescaped 0 (escape_of b ++ rest) ≡ option_map (λ name. b ∷ name) (unescaped 0 rest)) refl refl refl refl refl
+    (λ b a l m q p.
+    subst (λ text. unescaped 0 (text ++ rest) ≡ option_map (λ name. b ∷ name) (unescaped 0 rest)) (sym (as_it_is b a l m q p))
+    (itself_read b rest a))
 
-pub escaped_read : (name : List ℕ) → unescaped 0 (escaped name) ≡ name
+pub escaped_read : (name : List ℕ) → unescaped 0 (escaped name) ≡ Some name
 escaped_read [] = refl
-escaped_read (b ∷ bs) = escape_read (escaped bs) b ∙ ap (λ read. b ∷ read) (escaped_read bs)
+escaped_read (b ∷ bs) = escape_read (escaped bs) b ∙ ap (option_map (λ read. b ∷ read)) (escaped_read bs)

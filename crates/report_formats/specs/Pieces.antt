@@ -1,5 +1,6 @@
 -- Pieces of a page.
 use Rattle.std.specs.Prelude.{ℕ, zero, suc, ◌==◌, ◌||◌, List, [], ◌∷◌, ◌++◌, Bool, not, codes, nat_eq, if◌then◌else◌}
+use Rattle.std.specs.Prelude.{Option, Some, None, option_map}
 use Rattle.std.specs.List.{starts_with}
 
 -- a byte of a name in which the marks of HTML stand for themselves
@@ -16,13 +17,14 @@ escaped (b ∷ bs) = escape_of b ++ escaped bs
 abbrev pub is_plain : ℕ → Bool
 is_plain b = not (b == 60 || (b == 62 || (b == 34 || b == 39)))
 
--- what a browser reads from a text, behind so many bytes that it has read: `&amp;` and its like are the marks that they stand for
-abbrev pub unescaped : ℕ → List ℕ → List ℕ
-unescaped read [] = []
+-- what a browser reads from a text, behind so many bytes that it has read: `&amp;` and its like are the marks that they stand for. It reads
+-- none from a text in which an `&` begins something else
+abbrev pub unescaped : ℕ → List ℕ → Option (List ℕ)
+unescaped read [] = Some []
 unescaped (suc read) (b ∷ bs) = unescaped read bs
-unescaped zero (b ∷ bs) = if not (b == 38) then b ∷ unescaped 0 bs
-    else (if starts_with nat_eq bs (codes "amp;") then 38 ∷ unescaped 4 bs
-    else (if starts_with nat_eq bs (codes "lt;") then 60 ∷ unescaped 3 bs
-    else (if starts_with nat_eq bs (codes "gt;") then 62 ∷ unescaped 3 bs
-    else (if starts_with nat_eq bs (codes "quot;") then 34 ∷ unescaped 5 bs
-    else (if starts_with nat_eq bs (codes "#39;") then 39 ∷ unescaped 4 bs else 38 ∷ unescaped 0 bs)))))
+unescaped zero (b ∷ bs) = if not (b == 38) then option_map (λ name. b ∷ name) (unescaped 0 bs)
+    else (if starts_with nat_eq bs (codes "amp;") then option_map (λ name. 38 ∷ name) (unescaped 4 bs)
+    else (if starts_with nat_eq bs (codes "lt;") then option_map (λ name. 60 ∷ name) (unescaped 3 bs)
+    else (if starts_with nat_eq bs (codes "gt;") then option_map (λ name. 62 ∷ name) (unescaped 3 bs)
+    else (if starts_with nat_eq bs (codes "quot;") then option_map (λ name. 34 ∷ name) (unescaped 5 bs)
+    else (if starts_with nat_eq bs (codes "#39;") then option_map (λ name. 39 ∷ name) (unescaped 4 bs) else None)))))
