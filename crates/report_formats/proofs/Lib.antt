@@ -1,3 +1,4 @@
+pub mod BrokenGames
 pub mod Escapes
 pub mod Pushes
 pub mod Rows

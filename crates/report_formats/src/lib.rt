@@ -4,6 +4,7 @@
 //! Teams and rounds are numbered from 0 in calls, and from 1 in texts. [`prepare`] alone takes memory.
 #![tactic(auto)]
 
+mod broken_games;
 mod csv_form;
 mod format;
 mod grid;

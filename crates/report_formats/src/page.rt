@@ -8,7 +8,9 @@ ghost use Rattle.streams.specs.Pieces.{pieces_below};
 ghost use Rattle.report_formats.specs.Page.{costs_text, counts_text, figures_text, measures_text, page_text, row_head, rule_row, rule_rows};
 ghost use Rattle.report_formats.specs.Page.{rule_table, rules_text, sections_text, sorted_rules, top_text, total_text, tour_row};
 ghost use Rattle.report_formats.specs.Page.{travel_row, travel_text, weight_text};
+ghost use Rattle.report_formats.specs.within.BrokenGames.{AreBroken};
 
+use crate::broken_games::{BrokenGames, broken_games};
 use crate::grid::{push_grid, push_team_head};
 use crate::moved_games::{push_moved, push_near};
 use crate::pieces::{Piece, push_pieces};
@@ -34,7 +36,8 @@ pub(crate) fn page(
 {
     let mut page = Vec::new(alloc);
     push_top(&mut page, league, schedule)?;
-    push_sections(&mut page, league, schedule)?;
+    let broken = broken_games(alloc, league, schedule)?;
+    push_sections(&mut page, league, schedule, &broken)?;
     push_pieces(&mut page, &[Piece::Raw(b"</body></html>\n")])?;
     Ok(page)
 }
@@ -65,11 +68,17 @@ fn push_costs(
 
 /// Adds the games, the travel, the rules and the moved games.
 #[tactic(auto, unfolding(crate::specs::Page::sections_text))]
-fn push_sections(page: &mut Vec<u8>, league: &League, schedule: &Schedule) -> Result<(), AllocError>
-    requires { schedule.now.teams ≡ teams league.now }
+fn push_sections(
+    page: &mut Vec<u8>,
+    league: &League,
+    schedule: &Schedule,
+    broken: &BrokenGames,
+) -> Result<(), AllocError>
+    requires same { schedule.now.teams ≡ teams league.now }
+    requires broken { AreBroken league.now schedule.now broken.now }
     ensures { OnOk result (page.new.items ≡ page.old.items ++ sections_text league.now schedule.now) }
 {
-    push_grid(page, league, schedule)?;
+    push_grid(page, league, schedule, broken)?;
     push_travel(page, league, schedule)?;
     push_rules(page, league, schedule)?;
     push_moved(page, league, schedule)

@@ -67,6 +67,7 @@ pub(crate) fn push_style(page: &mut Vec<u8>, league: &League) -> Result<(), Allo
                 b".h { background: var(--home) } .o { box-shadow: inset 0 0 0 .12em var(--bad) }\n",
             ),
             Piece::Raw(b".r { outline: .12em dashed var(--bad); outline-offset: -.25em }\n"),
+            Piece::Raw(b".b { border-bottom: 3px double var(--bad) }\n"),
             Piece::Raw(
                 b".bad { color: var(--bad); font-weight: bold } .travel { width: 100% } .bar { width: 100%; padding: 0 }\n",
             ),
