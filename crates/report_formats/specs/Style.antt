@@ -30,6 +30,7 @@ style_text given = concat (
     codes ".h { background: var(--home) } .o { box-shadow: inset 0 0 0 .12em var(--bad) }\n" ∷
     codes ".r { outline: .12em dashed var(--bad); outline-offset: -.25em }\n" ∷
     codes ".b { border-bottom: 3px double var(--bad) }\n" ∷
+    codes ".rules td:last-child { text-align: left; font-weight: normal }\n" ∷
     codes ".bad { color: var(--bad); font-weight: bold } .travel { width: 100% } .bar { width: 100%; padding: 0 }\n" ∷
     codes ".bar { background: linear-gradient(var(--line), var(--line)) 50% / 1px 100% no-repeat }\n" ∷
     codes ".bar div { width: calc(100% * var(--tour) * var(--teams) / (2 * var(--travel))) }\n" ∷

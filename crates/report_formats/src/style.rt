@@ -68,6 +68,7 @@ pub(crate) fn push_style(page: &mut Vec<u8>, league: &League) -> Result<(), Allo
             ),
             Piece::Raw(b".r { outline: .12em dashed var(--bad); outline-offset: -.25em }\n"),
             Piece::Raw(b".b { border-bottom: 3px double var(--bad) }\n"),
+            Piece::Raw(b".rules td:last-child { text-align: left; font-weight: normal }\n"),
             Piece::Raw(
                 b".bad { color: var(--bad); font-weight: bold } .travel { width: 100% } .bar { width: 100%; padding: 0 }\n",
             ),
