@@ -99,7 +99,9 @@ const KEPT: Case<'_> = (
     ),
 );
 
+const CASES: &[Case<'_>] = &[MARKED, CLASSES, KEPT];
+
 #[test]
 fn pages_mark_and_say_what_is_broken(rt: HostRuntime) -> Result<(), Fail> {
-    check_cases(&rt, rt.alloc(), &[MARKED, CLASSES, KEPT])
+    check_cases(&rt, rt.alloc(), CASES)
 }
