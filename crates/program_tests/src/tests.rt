@@ -21,6 +21,7 @@ mod moved_reports;
 mod plays;
 mod progress_lines;
 mod read_back;
+mod ruled_pages;
 mod samples;
 mod script_lines;
 mod searches;

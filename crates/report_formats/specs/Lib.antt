@@ -2,6 +2,8 @@ pub mod Table
 pub mod Pairings
 pub mod Pieces
 pub mod Style
+pub mod Lists
+pub mod RuleWords
 pub mod Grid
 pub mod MovedGames
 pub mod Page

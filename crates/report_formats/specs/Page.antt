@@ -17,6 +17,7 @@ use Rattle.texts.specs.Classes.{class_name}
 use Rattle.tours.specs.Tours.{travel_of}
 use Rattle.report_formats.specs.Grid.{grid_text, team_head}
 use Rattle.report_formats.specs.MovedGames.{moved_section, near_figure}
+use Rattle.report_formats.specs.RuleWords.{rule_words}
 use Rattle.report_formats.specs.Style.{style_text}
 
 -- the numbers that the style takes from the page
@@ -59,19 +60,24 @@ weight_text (Soft weight) = codes "soft " ++ decimal weight
 abbrev pub row_head : Bool → List ℕ
 row_head broken = if broken then codes "<tr class='bad'><td>" else codes "<tr><td>"
 
--- the rule, if it is broken or not as is asked
-abbrev pub rule_row : Games → Bool → ℕ → Rule → List ℕ
-rule_row g broken i rule = if beq (nat_lt 0 (deviation g rule.body)) broken then
+-- a row up to the rule in words, by its deviation
+abbrev pub rule_figures : Bool → ℕ → Rule → ℕ → List ℕ
+rule_figures broken i rule by =
     concat (row_head broken ∷ decimal (i + 1) ∷ codes "</td><td>" ∷ class_name rule.body ∷ codes "</td><td>" ∷
-    weight_text rule.weight ∷ codes "</td><td>" ∷ decimal (deviation g rule.body) ∷ codes "</td></tr>" ∷ []) else []
+    weight_text rule.weight ∷ codes "</td><td>" ∷ decimal by ∷ codes "</td><td>" ∷ [])
+
+-- the rule, if it is broken or not as is asked
+abbrev pub rule_row : LeagueData → Games → Bool → ℕ → Rule → List ℕ
+rule_row l g broken i rule = if beq (nat_lt 0 (deviation g rule.body)) broken then
+    rule_figures broken i rule (deviation g rule.body) ++ rule_words l g rule.body ++ codes "</td></tr>" else []
 
 -- if there is one
-abbrev pub rule_row_at : Games → Bool → ℕ → Option Rule → List ℕ
-rule_row_at g broken i None = []
-rule_row_at g broken i (Some rule) = rule_row g broken i rule
+abbrev pub rule_row_at : LeagueData → Games → Bool → ℕ → Option Rule → List ℕ
+rule_row_at l g broken i None = []
+rule_row_at l g broken i (Some rule) = rule_row l g broken i rule
 
 abbrev pub rule_rows : LeagueData → Games → Bool → List ℕ
-rule_rows l g broken = pieces_below (λ i. rule_row_at g broken i (slice_get l.rules i)) (length l.rules)
+rule_rows l g broken = pieces_below (λ i. rule_row_at l g broken i (slice_get l.rules i)) (length l.rules)
 
 -- the broken ones before the others
 unfoldable pub sorted_rules : LeagueData → Games → List ℕ
@@ -79,7 +85,7 @@ sorted_rules l g = rule_rows l g true ++ rule_rows l g false
 
 abbrev pub rules_head : List ℕ
 rules_head = concat (codes "<h2>Rules</h2><p>Broken ones first.</p><table class='rules'>" ∷
-    codes "<tr><th>Rule</th><th>Class</th><th>Kind</th><th>Deviation</th></tr>" ∷ [])
+    codes "<tr><th>Rule</th><th>Class</th><th>Kind</th><th>Deviation</th><th>Words</th></tr>" ∷ [])
 
 abbrev pub rule_table : LeagueData → Games → List ℕ
 rule_table l g = rules_head ++ sorted_rules l g ++ codes "</table>"

@@ -5,7 +5,8 @@ use Rattle.std.specs.List.{concat}
 abbrev pub word_if : Bool → List ℕ → List ℕ
 word_if wanted word = if wanted then word else []
 
--- with moved games, if boards begin at a given schedule
+-- with moved games, if boards begin at a given schedule. A cell's widest text, as `@20`, takes up to 2.3em, with its padding and border
+-- 2.7em, and the column of names 12.5em. So 38 rounds take 115.1em: at .66rem they fit 76rem, which are 1216 of 1280 pixels
 abbrev pub style_text : Bool → List ℕ
 style_text given = concat (
     codes "<!DOCTYPE html>\n" ∷
@@ -24,11 +25,15 @@ style_text given = concat (
     codes "th, td { border: 1px solid var(--line); padding: .15rem .45rem; text-align: right }\n" ∷
     codes "th:first-child { text-align: left } .wide { overflow-x: auto } p span { padding: .1rem .4rem }\n" ∷
     codes ".wide th:first-child { position: sticky; left: 0; z-index: 1; background: var(--back) }\n" ∷
-    codes ".wide th:first-child { max-width: min(12rem, 30vw); overflow: hidden; white-space: nowrap }\n" ∷
+    codes ".wide th:first-child { max-width: min(12em, 30vw); overflow: hidden; white-space: nowrap }\n" ∷
     codes ".wide th:first-child { text-overflow: ellipsis }\n" ∷
+    codes ".grid { font-size: clamp(.65rem, 76rem / (var(--rounds) * 2.7 + 12.5), 1rem) }\n" ∷
+    codes ".grid th, .grid td { padding: .15em clamp(.15em, (62em / var(--rounds) - 2.4em) / 2, .45em) }\n" ∷
     codes ".travel th { min-width: min(12rem, 30vw); overflow-wrap: anywhere }\n" ∷
     codes ".h { background: var(--home) } .o { box-shadow: inset 0 0 0 .12em var(--bad) }\n" ∷
     codes ".r { outline: .12em dashed var(--bad); outline-offset: -.25em }\n" ∷
+    codes ".b { border-bottom: 3px double var(--bad) }\n" ∷
+    codes ".rules td:last-child { text-align: left; font-weight: normal }\n" ∷
     codes ".bad { color: var(--bad); font-weight: bold } .travel { width: 100% } .bar { width: 100%; padding: 0 }\n" ∷
     codes ".bar { background: linear-gradient(var(--line), var(--line)) 50% / 1px 100% no-repeat }\n" ∷
     codes ".bar div { width: calc(100% * var(--tour) * var(--teams) / (2 * var(--travel))) }\n" ∷

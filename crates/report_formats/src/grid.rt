@@ -1,15 +1,17 @@
 //! The grid of teams and rounds.
 
-ghost use Rattle.std.specs.Prelude.{◌≡◌, ◌++◌, ◌-◌, ◌<◌, ◌&&◌, nat_le, OnOk};
+ghost use Rattle.std.specs.Prelude.{◌≡◌, ◌++◌, ◌-◌, ◌<◌, ◌&&◌, nat_le, nat_lt, length, OnOk};
 ghost use Rattle.fixtures.specs.Games.{cell, cell_round, round_count, IsPair};
 ghost use Rattle.league.specs.League.{teams};
 ghost use Rattle.league.specs.Starts.{is_given, start_round};
 ghost use Rattle.league.specs.Sets.{has};
 ghost use Rattle.league.specs.Limits.{max_rounds};
 ghost use Rattle.streams.specs.Pieces.{pieces_below};
-ghost use Rattle.report_formats.specs.Grid.{cell_of, cell_text, grid_lines, grid_row, grid_text, is_marked, legend_text, meets_again};
+ghost use Rattle.report_formats.specs.Grid.{cell_of, cell_text, grid_lines, grid_row, grid_text, is_moved, legend_text, meets_again};
 ghost use Rattle.report_formats.specs.Grid.{round_head, team_head};
+ghost use Rattle.report_formats.specs.within.BrokenGames.{AreBroken};
 
+use crate::broken_games::BrokenGames;
 use crate::pieces::{Piece, push_pieces};
 use crate::style::word_if;
 use fixtures::{Cell, Schedule};
@@ -23,18 +25,20 @@ pub(crate) fn push_grid(
     page: &mut Vec<u8>,
     league: &League,
     schedule: &Schedule,
+    broken: &BrokenGames,
 ) -> Result<(), AllocError>
-    requires { schedule.now.teams ≡ teams league.now }
+    requires same { schedule.now.teams ≡ teams league.now }
+    requires broken { AreBroken league.now schedule.now broken.now }
     ensures { OnOk result (page.new.items ≡ page.old.items ++ grid_text league.now schedule.now) }
 {
     push_legend(page, league)?;
-    push_lines(page, league, schedule)?;
+    push_lines(page, league, schedule, broken)?;
     push_pieces(page, &[Piece::Raw(b"</tr></table></div>")])
 }
 
 /// Adds what the marks in the grid mean.
 fn push_legend(page: &mut Vec<u8>, league: &League) -> Result<(), AllocError>
-    ensures { OnOk result (page.new.items ≡ page.old.items ++ legend_text league.now.at_most (is_given league.now.origin.start)) }
+    ensures { OnOk result (page.new.items ≡ page.old.items ++ legend_text league.now.at_most (nat_lt 0 (length league.now.rules)) (is_given league.now.origin.start)) }
 {
     push_pieces(
         page,
@@ -45,6 +49,10 @@ fn push_legend(page: &mut Vec<u8>, league: &League) -> Result<(), AllocError>
             Piece::Raw(b" in a row at home or away. "),
             Piece::Raw(b"<span class='r'>Dashed</span>: the opponent of the round before.</p>"),
             Piece::Raw(word_if(
+                league.rule_count() > 0,
+                b"<p><span class='b'>Double line</span>: what a broken rule counts.</p>",
+            )),
+            Piece::Raw(word_if(
                 league.given(),
                 b"<p><span class='m'>Underlined</span>: in another round than at the start.</p>",
             )),
@@ -53,12 +61,18 @@ fn push_legend(page: &mut Vec<u8>, league: &League) -> Result<(), AllocError>
     )
 }
 
-fn push_lines(page: &mut Vec<u8>, league: &League, schedule: &Schedule) -> Result<(), AllocError>
-    requires { schedule.now.teams ≡ teams league.now }
+fn push_lines(
+    page: &mut Vec<u8>,
+    league: &League,
+    schedule: &Schedule,
+    broken: &BrokenGames,
+) -> Result<(), AllocError>
+    requires same { schedule.now.teams ≡ teams league.now }
+    requires broken { AreBroken league.now schedule.now broken.now }
     ensures { OnOk result (page.new.items ≡ page.old.items ++ grid_lines league.now schedule.now) }
 {
     push_round_heads(page, schedule)?;
-    push_rows(page, league, schedule)
+    push_rows(page, league, schedule, broken)
 }
 
 fn push_round_heads(page: &mut Vec<u8>, schedule: &Schedule) -> Result<(), AllocError>
@@ -77,12 +91,18 @@ fn push_round_heads(page: &mut Vec<u8>, schedule: &Schedule) -> Result<(), Alloc
     Ok(())
 }
 
-fn push_rows(page: &mut Vec<u8>, league: &League, schedule: &Schedule) -> Result<(), AllocError>
-    requires { schedule.now.teams ≡ teams league.now }
+fn push_rows(
+    page: &mut Vec<u8>,
+    league: &League,
+    schedule: &Schedule,
+    broken: &BrokenGames,
+) -> Result<(), AllocError>
+    requires same { schedule.now.teams ≡ teams league.now }
+    requires broken { AreBroken league.now schedule.now broken.now }
     ensures { OnOk result (page.new.items ≡ page.old.items ++ pieces_below (grid_row league.now schedule.now) schedule.now.teams) }
 {
     for team in 0..schedule.teams() {
-        push_row(page, league, schedule, team)?;
+        push_row(page, league, schedule, broken, team)?;
     }
     Ok(())
 }
@@ -91,15 +111,17 @@ fn push_row(
     page: &mut Vec<u8>,
     league: &League,
     schedule: &Schedule,
+    broken: &BrokenGames,
     team: u8,
 ) -> Result<(), AllocError>
     requires same { schedule.now.teams ≡ teams league.now }
+    requires broken { AreBroken league.now schedule.now broken.now }
     requires team { team < schedule.now.teams }
     ensures { OnOk result (page.new.items ≡ page.old.items ++ grid_row league.now schedule.now team) }
 {
     push_pieces(page, &[Piece::Raw(b"</tr>")])?;
     push_team_head(page, league, team)?;
-    push_cells(page, league, schedule, team)
+    push_cells(page, league, schedule, broken, team)
 }
 
 /// Begins a row of the team, by its number and its name.
@@ -127,9 +149,11 @@ fn push_cells(
     page: &mut Vec<u8>,
     league: &League,
     schedule: &Schedule,
+    broken: &BrokenGames,
     team: u8,
 ) -> Result<(), AllocError>
     requires same { schedule.now.teams ≡ teams league.now }
+    requires broken { AreBroken league.now schedule.now broken.now }
     requires team { team < schedule.now.teams }
     ensures { OnOk result (page.new.items ≡ page.old.items
         ++ pieces_below (cell_text league.now schedule.now team) (round_count schedule.now.teams)) }
@@ -137,22 +161,24 @@ fn push_cells(
     let at_most = league.at_most();
     let windows = windows_spent(schedule, at_most + 1, team);
     for round in 0..schedule.rounds() {
+        let game = schedule.game_at(team, round);
         let marks = Marks {
             over: goes_over(windows, at_most, round),
             again: meets_again(schedule, team, round),
-            moved: is_marked(league, schedule, team, round),
+            broken: broken.has(team, round),
+            moved: is_moved(league, schedule, team, round),
         };
-        push_cell(page, schedule.game_at(team, round), marks)?;
+        push_cell(page, game, marks)?;
     }
     Ok(())
 }
 
 /// Whether boards begin at a given schedule that has the team's game of the round in another one.
-fn is_marked(league: &League, schedule: &Schedule, team: u8, round: u8) -> bool
+fn is_moved(league: &League, schedule: &Schedule, team: u8, round: u8) -> bool
     requires same { schedule.now.teams ≡ teams league.now }
     requires team { team < schedule.now.teams }
     requires round { round < round_count schedule.now.teams }
-    ensures { result ≡ is_marked league.now schedule.now team round }
+    ensures { result ≡ is_moved league.now schedule.now team round }
 {
     let game = schedule.game_at(team, round);
     league.given() && round_at_start(league, team, game) != round
@@ -178,17 +204,19 @@ fn goes_over(windows: SlotSet, at_most: u8, round: u8) -> bool
     at_most <= round && windows.has(round - at_most)
 }
 
-/// What is marked of a game: that it makes a run longer than allowed, has the opponent of the round before, or is moved.
+/// What is marked of a game: that it makes a run longer than allowed, has the opponent of the round before, is in a breach of
+/// a rule, or is moved.
 #[derive(Clone, Copy)]
 struct Marks {
     over: bool,
     again: bool,
+    broken: bool,
     moved: bool,
 }
 
 fn push_cell(page: &mut Vec<u8>, game: Cell, marks: Marks) -> Result<(), AllocError>
     ensures { OnOk result (page.new.items ≡ page.old.items
-        ++ cell_of game.opponent game.home marks.over marks.again marks.moved) }
+        ++ cell_of game.opponent game.home marks.over marks.again marks.broken marks.moved) }
 {
     push_pieces(
         page,
@@ -197,6 +225,7 @@ fn push_cell(page: &mut Vec<u8>, game: Cell, marks: Marks) -> Result<(), AllocEr
             Piece::Raw(word_if(game.home, b"h")),
             Piece::Raw(word_if(marks.over, b" o")),
             Piece::Raw(word_if(marks.again, b" r")),
+            Piece::Raw(word_if(marks.broken, b" b")),
             Piece::Raw(word_if(marks.moved, b" m")),
             Piece::Raw(b"'>"),
             Piece::Raw(word_if(!game.home, b"@")),

@@ -4,16 +4,21 @@
 //! Teams and rounds are numbered from 0 in calls, and from 1 in texts. [`prepare`] alone takes memory.
 #![tactic(auto)]
 
+mod broken_games;
 mod csv_form;
 mod format;
 mod grid;
 mod laws;
+mod listed_games;
+mod lists;
 mod moved_games;
 mod page;
 mod pairings;
 mod pieces;
+mod rule_words;
 mod style;
 mod table;
+mod verdicts;
 
 pub use csv_form::{CsvForm, Separator};
 pub use format::{Format, Prepared, prepare, write_prepared};

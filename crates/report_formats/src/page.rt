@@ -1,17 +1,19 @@
 //! The page of a schedule: the league's figures, the grid of its games, the travel of each team, the rules, and the moved games.
 
-ghost use Rattle.std.specs.Prelude.{◌≡◌, ◌++◌, ◌<◌, ◌^◌, IfOk, OnOk};
+ghost use Rattle.std.specs.Prelude.{◌≡◌, ◌++◌, ◌<◌, ◌^◌, length, slice_get, IfOk, OnOk};
 ghost use Rattle.costs.specs.Costs.{total_of};
 ghost use Rattle.league.specs.League.{teams};
-ghost use Rattle.league.specs.RuleLimits.{IsBodyFor};
 ghost use Rattle.streams.specs.Pieces.{pieces_below};
-ghost use Rattle.report_formats.specs.Page.{costs_text, counts_text, figures_text, measures_text, page_text, row_head, rule_row, rule_rows};
+ghost use Rattle.report_formats.specs.Page.{costs_text, counts_text, figures_text, measures_text, page_text, row_head, rule_figures, rule_row_at, rule_rows};
 ghost use Rattle.report_formats.specs.Page.{rule_table, rules_text, sections_text, sorted_rules, top_text, total_text, tour_row};
 ghost use Rattle.report_formats.specs.Page.{travel_row, travel_text, weight_text};
+ghost use Rattle.report_formats.specs.within.BrokenGames.{AreBroken};
 
+use crate::broken_games::{BrokenGames, broken_games};
 use crate::grid::{push_grid, push_team_head};
 use crate::moved_games::{push_moved, push_near};
 use crate::pieces::{Piece, push_pieces};
+use crate::rule_words::push_rule_words;
 use crate::style::push_style;
 use costs::{Cost, cost_of};
 use fixtures::Schedule;
@@ -34,7 +36,8 @@ pub(crate) fn page(
 {
     let mut page = Vec::new(alloc);
     push_top(&mut page, league, schedule)?;
-    push_sections(&mut page, league, schedule)?;
+    let broken = broken_games(alloc, league, schedule)?;
+    push_sections(&mut page, alloc, league, schedule, &broken)?;
     push_pieces(&mut page, &[Piece::Raw(b"</body></html>\n")])?;
     Ok(page)
 }
@@ -65,13 +68,20 @@ fn push_costs(
 
 /// Adds the games, the travel, the rules and the moved games.
 #[tactic(auto, unfolding(crate::specs::Page::sections_text))]
-fn push_sections(page: &mut Vec<u8>, league: &League, schedule: &Schedule) -> Result<(), AllocError>
-    requires { schedule.now.teams ≡ teams league.now }
+fn push_sections(
+    page: &mut Vec<u8>,
+    alloc: Global,
+    league: &League,
+    schedule: &Schedule,
+    broken: &BrokenGames,
+) -> Result<(), AllocError>
+    requires same { schedule.now.teams ≡ teams league.now }
+    requires broken { AreBroken league.now schedule.now broken.now }
     ensures { OnOk result (page.new.items ≡ page.old.items ++ sections_text league.now schedule.now) }
 {
-    push_grid(page, league, schedule)?;
+    push_grid(page, league, schedule, broken)?;
     push_travel(page, league, schedule)?;
-    push_rules(page, league, schedule)?;
+    push_rules(page, alloc, league, schedule)?;
     push_moved(page, league, schedule)
 }
 
@@ -193,20 +203,26 @@ fn push_tour(page: &mut Vec<u8>, league: &League, team: u8, travel: u64) -> Resu
 }
 
 /// Adds the rules, if there are any.
-fn push_rules(page: &mut Vec<u8>, league: &League, schedule: &Schedule) -> Result<(), AllocError>
+fn push_rules(
+    page: &mut Vec<u8>,
+    alloc: Global,
+    league: &League,
+    schedule: &Schedule,
+) -> Result<(), AllocError>
     requires { schedule.now.teams ≡ teams league.now }
     ensures { OnOk result (page.new.items ≡ page.old.items ++ rules_text league.now schedule.now) }
 {
     if league.rule_count() == 0 {
         Ok(())
     } else {
-        push_rule_table(page, league, schedule)
+        push_rule_table(page, alloc, league, schedule)
     }
 }
 
 /// Adds the rules with a head.
 fn push_rule_table(
     page: &mut Vec<u8>,
+    alloc: Global,
     league: &League,
     schedule: &Schedule,
 ) -> Result<(), AllocError>
@@ -217,10 +233,12 @@ fn push_rule_table(
         page,
         &[
             Piece::Raw(b"<h2>Rules</h2><p>Broken ones first.</p><table class='rules'>"),
-            Piece::Raw(b"<tr><th>Rule</th><th>Class</th><th>Kind</th><th>Deviation</th></tr>"),
+            Piece::Raw(
+                b"<tr><th>Rule</th><th>Class</th><th>Kind</th><th>Deviation</th><th>Words</th></tr>",
+            ),
         ],
     )?;
-    push_sorted_rules(page, league, schedule)?;
+    push_sorted_rules(page, alloc, league, schedule)?;
     push_pieces(page, &[Piece::Raw(b"</table>")])
 }
 
@@ -228,19 +246,21 @@ fn push_rule_table(
 #[tactic(auto, unfolding(crate::specs::Page::sorted_rules))]
 fn push_sorted_rules(
     page: &mut Vec<u8>,
+    alloc: Global,
     league: &League,
     schedule: &Schedule,
 ) -> Result<(), AllocError>
     requires { schedule.now.teams ≡ teams league.now }
     ensures { OnOk result (page.new.items ≡ page.old.items ++ sorted_rules league.now schedule.now) }
 {
-    push_rule_rows(page, league, schedule, true)?;
-    push_rule_rows(page, league, schedule, false)
+    push_rule_rows(page, alloc, league, schedule, true)?;
+    push_rule_rows(page, alloc, league, schedule, false)
 }
 
 /// Adds the rules that are broken, or those that are not.
 fn push_rule_rows(
     page: &mut Vec<u8>,
+    alloc: Global,
     league: &League,
     schedule: &Schedule,
     broken: bool,
@@ -249,7 +269,7 @@ fn push_rule_rows(
     ensures { OnOk result (page.new.items ≡ page.old.items ++ rule_rows league.now schedule.now broken) }
 {
     for i in 0..league.rule_count() {
-        push_rule(page, schedule, broken, i as u64, league.rule(i))?;
+        push_rule(page, alloc, league, schedule, broken, i)?;
     }
     Ok(())
 }
@@ -257,19 +277,39 @@ fn push_rule_rows(
 /// Adds the rule, if it is broken or not as is asked.
 fn push_rule(
     page: &mut Vec<u8>,
+    alloc: Global,
+    league: &League,
     schedule: &Schedule,
     broken: bool,
-    i: u64,
-    rule: &Rule,
+    i: usize,
 ) -> Result<(), AllocError>
+    requires same { schedule.now.teams ≡ teams league.now }
+    requires rule { i < length league.now.rules }
     requires few { i < 256 }
-    requires body { IsBodyFor schedule.now.teams rule.now.body }
-    ensures { OnOk result (page.new.items ≡ page.old.items ++ rule_row schedule.now broken i rule.now) }
+    ensures { OnOk result (page.new.items ≡ page.old.items
+        ++ rule_row_at league.now schedule.now broken i (slice_get league.now.rules i)) }
 {
+    let rule = league.rule(i);
     let deviation = deviation(schedule, rule);
     if (deviation > 0) != broken {
         return Ok(());
     }
+    push_rule_figures(page, broken, i as u64, rule, deviation)?;
+    push_rule_words(page, alloc, league, schedule, rule, deviation)?;
+    push_pieces(page, &[Piece::Raw(b"</td></tr>")])
+}
+
+/// Adds a row up to the rule in words.
+fn push_rule_figures(
+    page: &mut Vec<u8>,
+    broken: bool,
+    i: u64,
+    rule: &Rule,
+    deviation: u64,
+) -> Result<(), AllocError>
+    requires { i < 256 }
+    ensures { OnOk result (page.new.items ≡ page.old.items ++ rule_figures broken i rule.now deviation) }
+{
     push_pieces(
         page,
         &[
@@ -286,7 +326,7 @@ fn push_rule(
         &[
             Piece::Raw(b"</td><td>"),
             Piece::Number(deviation),
-            Piece::Raw(b"</td></tr>"),
+            Piece::Raw(b"</td><td>"),
         ],
     )
 }

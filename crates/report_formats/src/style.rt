@@ -59,14 +59,22 @@ pub(crate) fn push_style(page: &mut Vec<u8>, league: &League) -> Result<(), Allo
                 b".wide th:first-child { position: sticky; left: 0; z-index: 1; background: var(--back) }\n",
             ),
             Piece::Raw(
-                b".wide th:first-child { max-width: min(12rem, 30vw); overflow: hidden; white-space: nowrap }\n",
+                b".wide th:first-child { max-width: min(12em, 30vw); overflow: hidden; white-space: nowrap }\n",
             ),
             Piece::Raw(b".wide th:first-child { text-overflow: ellipsis }\n"),
+            Piece::Raw(
+                b".grid { font-size: clamp(.65rem, 76rem / (var(--rounds) * 2.7 + 12.5), 1rem) }\n",
+            ),
+            Piece::Raw(
+                b".grid th, .grid td { padding: .15em clamp(.15em, (62em / var(--rounds) - 2.4em) / 2, .45em) }\n",
+            ),
             Piece::Raw(b".travel th { min-width: min(12rem, 30vw); overflow-wrap: anywhere }\n"),
             Piece::Raw(
                 b".h { background: var(--home) } .o { box-shadow: inset 0 0 0 .12em var(--bad) }\n",
             ),
             Piece::Raw(b".r { outline: .12em dashed var(--bad); outline-offset: -.25em }\n"),
+            Piece::Raw(b".b { border-bottom: 3px double var(--bad) }\n"),
+            Piece::Raw(b".rules td:last-child { text-align: left; font-weight: normal }\n"),
             Piece::Raw(
                 b".bad { color: var(--bad); font-weight: bold } .travel { width: 100% } .bar { width: 100%; padding: 0 }\n",
             ),

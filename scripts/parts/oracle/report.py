@@ -7,7 +7,7 @@ import json
 import random
 import subprocess
 
-from .. import TOP, json_reports, leagues, model, programs, reports, texts
+from .. import TOP, json_reports, leagues, model, pages, programs, reports, texts
 
 DAMAGE = ["round", "round 1 1-2", "round 2: 1-2-3", "round 3: x", "rounds 1: 1-2", "round 1:", " round\t2:", "team 1"]
 DAMAGE.insert(7, "round 18446744073709551616: 1-2")
@@ -81,4 +81,8 @@ def main(count=1000, seed=1, *words):
         wanted = json_reports.as_json(json.loads(text), lines)
         if ran.returncode != status or (json.loads(ran.stdout) if wanted else ran.stdout.decode().splitlines()) != (wanted or said):
             raise ValueError(f"schedule {number} of seed {seed}: ttp report --format json answers otherwise to\n{given}")
+        ran = subprocess.run([program, "report", "--format", "html"], input=given.encode(), stdout=subprocess.PIPE)
+        wanted = pages.of_rules(json.loads(text), lines)
+        if ran.returncode != status or (pages.read(ran.stdout.decode()) if wanted else ran.stdout.decode().splitlines()) != (wanted or said):
+            raise ValueError(f"schedule {number} of seed {seed}: ttp report --format html tells the rules otherwise of\n{given}")
     print(f"{count} reports, {feasible} of them on feasible schedules: the same")

@@ -8,4 +8,5 @@ returns c =
       c.word_if-3.ensures,
       c.word_if-4.ensures,
       c.word_if-5.ensures,
+      c.word_if-6.ensures,
     ) at c.push_pieces.ensures

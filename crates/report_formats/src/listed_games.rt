@@ -1,0 +1,100 @@
+//! How many of which games a rule wants, in words.
+
+ghost use Rattle.std.specs.Prelude.{◌≡◌, ◌++◌, min, length, slice_get, OnOk};
+ghost use Rattle.std.specs.List.{AllByRecursion};
+ghost use Rattle.league.specs.Games.{IsGameFor};
+ghost use Rattle.league.specs.League.{teams};
+ghost use Rattle.streams.specs.Pieces.{pieces_below};
+ghost use Rattle.report_formats.specs.RuleWords.{game_at, game_text, games_range, games_text, more_text, range_text};
+
+use crate::pieces::{Piece, push_pieces};
+use crate::style::word_if;
+use league::{GameList, League, Pairing};
+use std::alloc::AllocError;
+
+/// How many games of a list are told.
+const SHOWN: usize = 6;
+
+/// Adds from how many to how many of the games are wanted.
+pub(crate) fn push_games_range(
+    page: &mut Vec<u8>,
+    league: &League,
+    games: &GameList,
+    range: (u32, u32),
+) -> Result<(), AllocError>
+    requires { AllByRecursion (IsGameFor (teams league.now)) games.now }
+    ensures { OnOk result (page.new.items ≡ page.old.items ++ games_range league.now games.now range.0 range.1) }
+{
+    push_range(page, range.0, range.1)?;
+    push_games(page, league, games)
+}
+
+fn push_range(page: &mut Vec<u8>, min: u32, max: u32) -> Result<(), AllocError>
+    ensures { OnOk result (page.new.items ≡ page.old.items ++ range_text min max) }
+{
+    let least = Piece::Number(u64::from(min));
+    let most = Piece::Number(u64::from(max));
+    if min == max {
+        push_pieces(page, &[Piece::Raw(b"exactly "), most])
+    } else if min == 0 {
+        push_pieces(page, &[Piece::Raw(b"at most "), most])
+    } else {
+        push_pieces(
+            page,
+            &[Piece::Raw(b"from "), least, Piece::Raw(b" to "), most],
+        )
+    }
+}
+
+/// Adds the first of the games, and how many more there are.
+#[tactic(auto, unfolding(crate::specs::RuleWords::games_text))]
+fn push_games(page: &mut Vec<u8>, league: &League, games: &GameList) -> Result<(), AllocError>
+    requires { AllByRecursion (IsGameFor (teams league.now)) games.now }
+    ensures { OnOk result (page.new.items ≡ page.old.items ++ games_text league.now games.now) }
+{
+    push_pieces(page, &[Piece::Raw(b" of the games ")])?;
+    push_first_games(page, league, games)?;
+    push_more(page, games.len())
+}
+
+fn push_first_games(page: &mut Vec<u8>, league: &League, games: &GameList) -> Result<(), AllocError>
+    requires { AllByRecursion (IsGameFor (teams league.now)) games.now }
+    ensures { OnOk result (page.new.items ≡ page.old.items
+        ++ pieces_below (λ i. game_at league.now i (slice_get games.now i)) (min 6 (length games.now))) }
+{
+    for i in 0..SHOWN.min(games.len()) {
+        push_game(page, league, i, games.at(i))?;
+    }
+    Ok(())
+}
+
+fn push_game(page: &mut Vec<u8>, league: &League, i: usize, game: Pairing) -> Result<(), AllocError>
+    requires { IsGameFor (teams league.now) game }
+    ensures { OnOk result (page.new.items ≡ page.old.items ++ game_text league.now i game) }
+{
+    push_pieces(
+        page,
+        &[
+            Piece::Raw(word_if(i != 0, b", ")),
+            Piece::Name(league.name(game.home).as_bytes()),
+            Piece::Raw(b" - "),
+            Piece::Name(league.name(game.away).as_bytes()),
+        ],
+    )
+}
+
+fn push_more(page: &mut Vec<u8>, count: usize) -> Result<(), AllocError>
+    ensures { OnOk result (page.new.items ≡ page.old.items ++ more_text count) }
+{
+    if count <= SHOWN {
+        return Ok(());
+    }
+    push_pieces(
+        page,
+        &[
+            Piece::Raw(b" and "),
+            Piece::Number((count - SHOWN) as u64),
+            Piece::Raw(b" more"),
+        ],
+    )
+}
