@@ -1,0 +1,5 @@
+pub mod FirstPair
+pub mod Naming
+pub mod Behind
+pub mod Counts
+pub mod Agreeing
