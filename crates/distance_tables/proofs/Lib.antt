@@ -5,3 +5,6 @@ pub mod Counts
 pub mod Agreeing
 pub mod Lexed
 pub mod Tokens
+pub mod ReadBack
+pub mod Values
+pub mod Leagues
