@@ -8,3 +8,5 @@ pub mod Tokens
 pub mod ReadBack
 pub mod Values
 pub mod Leagues
+pub mod Facts
+pub mod Sound
