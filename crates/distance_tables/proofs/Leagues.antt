@@ -25,7 +25,7 @@ abbrev with_term : List ℕ → Option ℕ → Members → Members
 with_term name None found = found
 with_term name (Some n) found = put name (number (unsigned n)) found
 
-abbrev league_value : List (List ℕ) → List (List ℕ) → Option ℕ → Option ℕ → Data
+abbrev pub league_value : List (List ℕ) → List (List ℕ) → Option ℕ → Option ℕ → Data
 league_value names distances at_most hard_weight =
     object (with_term (codes "hard_weight") hard_weight (with_term (codes "at_most") at_most
     (put (codes "distances") (array (row_data distances)) (put (codes "teams") (array (name_data names))
@@ -36,7 +36,7 @@ unfolding digits
 two_is = number_of-decimal 2 (omega arith)
 
 module _ (names distances : List (List ℕ)) where
-  value_is : (at_most hard_weight : Option ℕ) → RowsAreSmall distances → IfSome at_most (λ n. n < 2 ^ 64) → IfSome hard_weight (λ n. n < 2 ^ 64)
+  pub value_is : (at_most hard_weight : Option ℕ) → RowsAreSmall distances → IfSome at_most (λ n. n < 2 ^ 64) → IfSome hard_weight (λ n. n < 2 ^ 64)
       → of_json (whole names distances (record { at_most = at_most; hard_weight = hard_weight })) ≡ Some (league_value names distances at_most hard_weight)
   value_is None None small a h = rw (two_is, names_are names, rows_are distances small) refl
   value_is (Some n) None small a h = rw (two_is, names_are names, rows_are distances small, number_of-decimal n a) refl
@@ -47,7 +47,7 @@ module _ (names distances : List (List ℕ)) where
   within : (n most : ℕ) → 1 ≤ n → n ≤ most → (nat_le 1 n && nat_le n most) ≡ true
   within n most least limit = and_from (nat_le 1 n) (nat_le n most) (le-leb 1 n least) (le-leb n most limit)
 
-  league_is : (at_most hard_weight : Option ℕ) → AreTerms (record { at_most = at_most; hard_weight = hard_weight })
+  pub league_is : (at_most hard_weight : Option ℕ) → AreTerms (record { at_most = at_most; hard_weight = hard_weight })
       → list_all is_team_name names ≡ true → checked (length names) distances 0 ≡ Ok tt
       → league_of_data (league_value names distances at_most hard_weight)
       ≡ Ok (league_data names distances (unwrap_or at_most default_at_most) (unwrap_or hard_weight default_hard_weight) [] (origin_at Berger) false)

@@ -78,11 +78,17 @@ pub lex_numbers : (later : Bool) (ns rest : List ℕ) → AreSmall ns
 unfolding lex
 lex_numbers later [] rest small = refl
 lex_numbers true (n ∷ ns) rest small =
-    rw (append_assoc (decimal n) (numbers_text true ns) (93 ∷ rest), lex_decimal n (numbers_text true ns ++ 93 ∷ rest) small.0 (numbers_end ns rest),
-      lex_numbers true ns rest small.1) refl
+    rw (
+      append_assoc (decimal n) (numbers_text true ns) (93 ∷ rest),
+      lex_decimal n (numbers_text true ns ++ 93 ∷ rest) small.0 (numbers_end ns rest),
+      lex_numbers true ns rest small.1,
+    ) refl
 lex_numbers false (n ∷ ns) rest small =
-    rw (append_assoc (decimal n) (numbers_text true ns) (93 ∷ rest), lex_decimal n (numbers_text true ns ++ 93 ∷ rest) small.0 (numbers_end ns rest),
-      lex_numbers true ns rest small.1) refl
+    rw (
+      append_assoc (decimal n) (numbers_text true ns) (93 ∷ rest),
+      lex_decimal n (numbers_text true ns ++ 93 ∷ rest) small.0 (numbers_end ns rest),
+      lex_numbers true ns rest small.1,
+    ) refl
 
 lex_row : (row rest : List ℕ) → AreSmall row
     → lex between (row_text row ++ rest) ≡ token json.begin_array ∷ (numbers_lexemes false row ++ token json.end_array ∷ lex between rest)

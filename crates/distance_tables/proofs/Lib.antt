@@ -10,3 +10,5 @@ pub mod Values
 pub mod Leagues
 pub mod Facts
 pub mod Sound
+pub mod Utf8
+pub mod Law

@@ -93,7 +93,7 @@ module _ (names distances : List (List ℕ)) (terms : Terms) where
   all_tokens small small_terms =
       let rows = all_rows distances last_lexemes ∙ ap (λ ts. items_tokens (row_items distances) ++ ts) last_tokens in
       let teams = all_names names (comma ∷ name_lexeme (codes "distances") ∷ colon ∷ token json.begin_array ∷ (rows_lexemes false distances ++ token json.end_array ∷ last_lexemes))
-          ∙ ap (λ ts. items_tokens (name_items names) ++ json.key (codes "distances") ∷ json.begin_array ∷ ts) rows in
+      ∙ ap (λ ts. items_tokens (name_items names) ++ json.key (codes "distances") ∷ json.begin_array ∷ ts) rows in
       ap (punctuate fresh) (lex_text small small_terms)
       ∙ ap (λ ts. json.begin_object ∷ json.key (codes "format") ∷ json.number (codes "2") ∷ json.key (codes "teams") ∷ json.begin_array ∷ ts) teams
 

@@ -56,6 +56,7 @@ league_for choice terms table =
 -- the text of a table's league, which is read as it, and how many distances were rounded
 pub record IsLeagueOf (choice : Option Symmetry) (terms : Terms) (table : TableData) (text : List ℕ) (rounded : ℕ) : Type 0 where
   pub text_is : text ≡ league_text table.names (distances_for choice table) terms
+  pub reads : league_of text ≡ Ok (league_for choice terms table)
   pub rounded_is : rounded ≡ rounded_in table.rows
 
 -- what a call gives for a text, if memory is there
