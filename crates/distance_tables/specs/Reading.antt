@@ -1,8 +1,8 @@
 -- Answers with the first fault, and what a function of the code owes to a definition that gives one.
-use Rattle.std.specs.Prelude.{◌≡◌, ◌≢◌, ℕ, ◌+◌, List, ◌++◌, Bool, true, false, Result, Ok, Err, ⊤}
+use Rattle.std.specs.Prelude.{ℕ, ◌+◌, List, ◌++◌, Bool, true, false, Result, Ok, Err, ⊤}
 use Rattle.distance_tables.specs.declared.fault.CellFault.{CellFault}
 use Rattle.distance_tables.specs.declared.fault.DistanceFault.{DistanceFault}
-use Rattle.distance_tables.specs.declared.fault.DistanceFault.TheVariants.{Cell, Memory}
+use Rattle.distance_tables.specs.declared.fault.DistanceFault.TheVariants.{Cell}
 
 infixl 10 ◌>>=◌
 abbrev pub ◌>>=◌ : {A B : Type 0} → Result A DistanceFault → (A → Result B DistanceFault) → Result B DistanceFault
@@ -27,8 +27,3 @@ placed line column (Err why) = Err (cell_fault line column why)
 abbrev pub behind : {A : Type 0} → List A → Result (List A) DistanceFault → Result (List A) DistanceFault
 behind front (Ok more) = Ok (front ++ more)
 behind front (Err fault) = Err fault
-
--- What a function returned, seen by view, is what the reading gives, unless memory ran out.
-abbrev pub Gives : {X Y : Type 0} → (X → Y) → Result X DistanceFault → Result Y DistanceFault → Type 0
-Gives view (Ok x) reading = reading ≡ Ok (view x)
-Gives view (Err fault) reading = fault ≢ Memory → reading ≡ Err fault

@@ -1,2 +1,3 @@
 pub mod Views
 pub mod Table
+pub mod Reading

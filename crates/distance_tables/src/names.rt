@@ -6,7 +6,8 @@ ghost use Rattle.league.specs.LeagueMembers.{is_name_byte, is_team_name};
 ghost use Rattle.league.specs.Views.{texts};
 ghost use Rattle.schedule_tables.specs.Cells.{cells, cells_left};
 ghost use Rattle.distance_tables.specs.Names.{league_name, name_in, names_from, names_of};
-ghost use Rattle.distance_tables.specs.Reading.{Gives, cell_fault, placed};
+ghost use Rattle.distance_tables.specs.Reading.{cell_fault, placed};
+ghost use Rattle.distance_tables.specs.within.Reading.{Gives};
 
 use crate::fault::{CellFault, DistanceFault, PlaceFault};
 use league::limits::MAX_NAME;

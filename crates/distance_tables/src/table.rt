@@ -6,7 +6,7 @@ ghost use Rattle.league.specs.Checks.{is_team_count};
 ghost use Rattle.league.specs.Views.{texts};
 ghost use Rattle.schedule_tables.specs.Cells.{cells};
 ghost use Rattle.distance_tables.specs.League.{agreed, AreTerms, GivesLeague, rounded_in, rounded_in_row};
-ghost use Rattle.distance_tables.specs.Reading.{Gives};
+ghost use Rattle.distance_tables.specs.within.Reading.{Gives};
 ghost use Rattle.distance_tables.specs.Table.{begins_with_name, has_names, parts_cells, separator_of, table_below, table_of};
 ghost use Rattle.distance_tables.specs.within.Table.{table_view};
 ghost use Rattle.distance_tables.specs.within.Views.{rows};
