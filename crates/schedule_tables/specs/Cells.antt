@@ -1,6 +1,7 @@
 -- The cells of a line of a table.
 use Rattle.std.specs.Prelude.{ℕ, zero, suc, ◌-◌, ◌==◌, ◌&&◌, ◌||◌, Bool, false, not, List, [], ◌∷◌, map, length, take, slice_index, Option, Some, None, if◌then◌else◌}
 use Rattle.std.specs.List.{list_all}
+use Rattle.std.specs.Borrow.{Bor}
 use Rattle.texts.specs.Words.{is_blank}
 
 -- a quotation mark
@@ -40,6 +41,11 @@ trimmed bytes = without_end (length (without_front bytes)) (without_front bytes)
 -- the cells of a line
 abbrev pub cells : ℕ → List ℕ → List (List ℕ)
 cells separator line = map trimmed (parts separator false line)
+
+-- the cells of what is left of a line, if anything is
+abbrev pub cells_left : ℕ → Option (Bor (List ℕ)) → List (List ℕ)
+cells_left separator None = []
+cells_left separator (Some rest) = cells separator rest.now
 
 -- the cell of this index, if the line has so many
 abbrev pub cell_at : List (List ℕ) → ℕ → Option (List ℕ)

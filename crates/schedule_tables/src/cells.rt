@@ -2,15 +2,15 @@
 
 ghost use Rattle.std.specs.Prelude.{◌≡◌, [], ◌∷◌, IfNone, IfSome, ◌≤◌, false, length, option_map};
 ghost use Rattle.texts.specs.Words.{is_blank};
-ghost use Rattle.schedule_tables.specs.Cells.{cell_at, cells, is_empty_row, trimmed, unmarked};
-ghost use Rattle.schedule_tables.specs.within.Cells.{cells_left, cell_length};
+ghost use Rattle.schedule_tables.specs.Cells.{cell_at, cells, cells_left, is_empty_row, trimmed, unmarked};
+ghost use Rattle.schedule_tables.specs.within.Cells.{cell_length};
 ghost use Rattle.schedule_tables.specs.Cells.{without_end, without_front};
 
 /// The byte that stands around a cell in which a separator may stand.
-pub(crate) const MARK: u8 = b'"';
+pub const MARK: u8 = b'"';
 
 /// Takes the first cell off what is left of a line, without the blanks at its ends.
-pub(crate) fn next_cell<'a>(rest: &mut Option<&'a [u8]>, separator: u8) -> Option<&'a [u8]>
+pub fn next_cell<'a>(rest: &mut Option<&'a [u8]>, separator: u8) -> Option<&'a [u8]>
     ensures none { IfNone result (cells_left separator rest.old ≡ []) }
     ensures some { IfSome result (λ cell. cells_left separator rest.old ≡ cell.now ∷ cells_left separator rest.new) }
 {
@@ -85,7 +85,7 @@ fn is_blank(byte: u8) -> bool
 }
 
 /// The cell of this index, if the line has so many.
-pub(crate) fn cell_at(line: &[u8], separator: u8, index: usize) -> Option<&[u8]>
+pub fn cell_at(line: &[u8], separator: u8, index: usize) -> Option<&[u8]>
     ensures { option_map (λ cell. cell.now) result ≡ cell_at (cells separator line.now) index }
 {
     let mut rest = Some(line);
@@ -96,7 +96,7 @@ pub(crate) fn cell_at(line: &[u8], separator: u8, index: usize) -> Option<&[u8]>
 }
 
 /// What stands between the quotation marks at both ends of a cell, if they are there.
-pub(crate) fn unmarked(cell: &[u8]) -> &[u8]
+pub fn unmarked(cell: &[u8]) -> &[u8]
     ensures { result.now ≡ unmarked cell.now }
 {
     match cell {
@@ -106,7 +106,7 @@ pub(crate) fn unmarked(cell: &[u8]) -> &[u8]
 }
 
 /// Whether the row has nothing in its cells.
-pub(crate) fn is_empty_row(line: &[u8], separator: u8) -> bool
+pub fn is_empty_row(line: &[u8], separator: u8) -> bool
     ensures { result ≡ is_empty_row separator line.now }
 {
     line.iter().all(|byte| *byte == separator || is_blank(*byte) || *byte == MARK)

@@ -41,7 +41,8 @@ impl Head {
     }
 }
 
-fn without_order_mark(line: &[u8]) -> &[u8]
+/// A text without a byte order mark at its front.
+pub fn without_order_mark(line: &[u8]) -> &[u8]
     ensures { result.now ≡ without_order_mark line.now }
 {
     match line {

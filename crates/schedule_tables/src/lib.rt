@@ -11,5 +11,7 @@ mod head;
 mod names;
 mod table;
 
+pub use cells::{MARK, cell_at, is_empty_row, next_cell, unmarked};
 pub use fault::{CellFault, Column, RowFault, TableFault};
+pub use head::without_order_mark;
 pub use table::{ScheduleText, is_table, schedule_text};

@@ -1,6 +1,5 @@
 use Rattle.std.proofs.Common.{◌≡◌, ◌≤◌, ◌-◌}
-use Rattle.schedule_tables.specs.Cells.{cell_at, cells}
-use Rattle.schedule_tables.specs.within.Cells.{cells_left}
+use Rattle.schedule_tables.specs.Cells.{cell_at, cells, cells_left}
 use Rattle.schedule_tables.proofs.cells.cell_at.Given as goal
 
 abbrev pub invariant-loop : goal.invariant-loop

@@ -1,6 +1,5 @@
 use Rattle.std.proofs.Common.{◌≡◌, ◌≤◌, ◌+◌, length}
-use Rattle.schedule_tables.specs.Cells.{cells}
-use Rattle.schedule_tables.specs.within.Cells.{cells_left}
+use Rattle.schedule_tables.specs.Cells.{cells, cells_left}
 use Rattle.schedule_tables.specs.Head.{column_from, column_of}
 use Rattle.schedule_tables.proofs.head.column_of.Given as goal
 

@@ -1,0 +1,14 @@
+pub mod FirstPair
+pub mod Naming
+pub mod Behind
+pub mod Counts
+pub mod Agreeing
+pub mod Lexed
+pub mod Tokens
+pub mod ReadBack
+pub mod Values
+pub mod Leagues
+pub mod Facts
+pub mod Sound
+pub mod Utf8
+pub mod Law

@@ -1,0 +1,67 @@
+-- The league that a table gives.
+use Rattle.std.specs.Prelude.{◌≡◌, ℕ, ◌+◌, ◌≤◌, List, [], ◌∷◌, length, false, unwrap_or, Option, Some, None, IfSome, Result, Ok, Err, if◌then◌else◌, ⊤}
+use Rattle.league.specs.League.{LeagueData, league_data, league_of}
+use Rattle.league.specs.Limits.{default_at_most, default_hard_weight, max_rounds, max_weight}
+use Rattle.league.specs.declared.origins.Start.TheVariants.{Berger}
+use Rattle.league.specs.Origins.{origin_at}
+use Rattle.distance_tables.specs.declared.fault.Asymmetry.{Asymmetry}
+use Rattle.distance_tables.specs.declared.fault.DistanceFault.{DistanceFault}
+use Rattle.distance_tables.specs.declared.fault.DistanceFault.TheVariants.{Asymmetric, Memory}
+use Rattle.distance_tables.specs.declared.league_text.Terms.{Terms}
+use Rattle.distance_tables.specs.declared.measures.Measure.{Measure}
+use Rattle.distance_tables.specs.declared.sides.Symmetry.{Symmetry}
+use Rattle.distance_tables.specs.declared.table.MadeLeague.{MadeLeague}
+use Rattle.distance_tables.specs.LeagueText.{league_text}
+use Rattle.distance_tables.specs.Reading.{◌>>=◌}
+use Rattle.distance_tables.specs.Sides.{first_asymmetry, leveled}
+use Rattle.distance_tables.specs.Table.{TableData, table_of}
+
+-- what a league may say
+abbrev pub AreTerms : Terms → Type 0
+AreTerms terms = IfSome terms.at_most (λ n. (1 ≤ n) × (n ≤ max_rounds)) × IfSome terms.hard_weight (λ w. (1 ≤ w) × (w ≤ max_weight))
+
+-- how many distances were rounded
+abbrev pub rounded_in_row : List Measure → ℕ
+rounded_in_row [] = 0
+rounded_in_row (m ∷ ms) = (if m.is_rounded then 1 else 0) + rounded_in_row ms
+
+abbrev pub rounded_in : List (List Measure) → ℕ
+rounded_in [] = 0
+rounded_in (row ∷ rows) = rounded_in_row row + rounded_in rows
+
+abbrev pub unless_pair : Option Asymmetry → Result ⊤ DistanceFault
+unless_pair None = Ok tt
+unless_pair (Some pair) = Err (Asymmetric pair)
+
+-- a fault if a pair is further apart one way, and it isn't chosen what to take for it
+abbrev pub agreed : Option Symmetry → ℕ → List (List Measure) → Result ⊤ DistanceFault
+agreed (Some choice) n rows = Ok tt
+agreed None n rows = unless_pair (first_asymmetry n rows)
+
+-- the table of a text that a league is made of, or the first fault
+unfoldable pub table_for : Option Symmetry → List ℕ → Result TableData DistanceFault
+table_for choice text = do
+  table ← table_of text
+  both ← agreed choice (length table.names) table.rows
+  Ok table
+
+abbrev pub distances_for : Option Symmetry → TableData → List (List ℕ)
+distances_for choice table = leveled choice (length table.names) table.rows
+
+abbrev pub league_for : Option Symmetry → Terms → TableData → LeagueData
+league_for choice terms table =
+    league_data table.names (distances_for choice table) (unwrap_or terms.at_most default_at_most)
+    (unwrap_or terms.hard_weight default_hard_weight) [] (origin_at Berger) false
+
+-- the text of a table's league, which is read as it, and how many distances were rounded
+pub record IsLeagueOf (choice : Option Symmetry) (terms : Terms) (table : TableData) (text : List ℕ) (rounded : ℕ) : Type 0 where
+  pub text_is : text ≡ league_text table.names (distances_for choice table) terms
+  pub reads : league_of text ≡ Ok (league_for choice terms table)
+  pub rounded_is : rounded ≡ rounded_in table.rows
+
+-- what a call gives for a text, if memory is there
+abbrev pub GivesLeague : Option Symmetry → Terms → List ℕ → Result MadeLeague DistanceFault → Type 0
+GivesLeague choice terms text (Ok made) =
+    (table : TableData) × (table_for choice text ≡ Ok table) × IsLeagueOf choice terms table made.text.items made.rounded
+GivesLeague choice terms text (Err Memory) = Unit {0}
+GivesLeague choice terms text (Err fault) = table_for choice text ≡ Err fault

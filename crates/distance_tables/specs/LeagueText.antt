@@ -1,0 +1,34 @@
+-- The text of a league that is made of a table: a row of distances a line.
+use Rattle.std.specs.Prelude.{ℕ, List, [], ◌∷◌, ◌++◌, map, codes, decimal, Bool, true, false, Option, Some, None, if◌then◌else◌}
+use Rattle.std.specs.List.{concat}
+use Rattle.json.specs.Print.{quoted}
+use Rattle.distance_tables.specs.declared.league_text.Terms.{Terms}
+
+-- texts, with another between each and the next, and before the first if something stands before it
+abbrev pub listed : List ℕ → Bool → List (List ℕ) → List ℕ
+listed between later [] = []
+listed between later (text ∷ texts) = (if later then between else []) ++ (text ++ listed between true texts)
+
+abbrev pub names_text : Bool → List (List ℕ) → List ℕ
+names_text later names = listed (codes ", ") later (map quoted names)
+
+abbrev pub numbers_text : Bool → List ℕ → List ℕ
+numbers_text later numbers = listed (codes ", ") later (map decimal numbers)
+
+abbrev pub row_text : List ℕ → List ℕ
+row_text row = codes "\n    [" ++ (numbers_text false row ++ codes "]")
+
+abbrev pub rows_text : Bool → List (List ℕ) → List ℕ
+rows_text later rows = listed (codes ",") later (map row_text rows)
+
+-- a member that may be absent
+abbrev pub term_text : List ℕ → Option ℕ → List ℕ
+term_text name None = []
+term_text name (Some number) = name ++ decimal number
+
+unfoldable pub league_text : List (List ℕ) → List (List ℕ) → Terms → List ℕ
+league_text names distances terms = concat (
+    codes "{\n  \"format\": 2,\n  \"teams\": [" ∷ names_text false names ∷
+    codes "],\n  \"distances\": [" ∷ rows_text false distances ∷ codes "\n  ]" ∷
+    term_text (codes ",\n  \"at_most\": ") terms.at_most ∷
+    term_text (codes ",\n  \"hard_weight\": ") terms.hard_weight ∷ codes "\n}\n" ∷ [])

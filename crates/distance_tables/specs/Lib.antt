@@ -1,0 +1,9 @@
+pub mod Reading
+pub mod Measures
+pub mod Names
+pub mod Rows
+pub mod Table
+pub mod Sides
+pub mod LeagueText
+pub mod League
+pub mod within

@@ -1,0 +1,3 @@
+pub mod Views
+pub mod Table
+pub mod Reading
