@@ -24,7 +24,7 @@ use Rattle.clap.proofs.OnLiterals.{clap_on_literals}
 use Rattle.command_line.specs.CommandLine.{CommandForm, OptionForm}
 use Rattle.command_line.specs.within.CommandLine.{HasValues, NamesACommand, NamesOneOf}
 use Rattle.command_line.specs.CommandLine.{app_of_command, commands, improve_command, league_word, play_command, program}
-use Rattle.command_line.specs.CommandLine.{report_command, search_command, second_word, start_command, start_rules}
+use Rattle.command_line.specs.CommandLine.{league_command, report_command, search_command, second_word, start_command, start_rules}
 use Rattle.command_line.proofs.Options.{AreSound, AreSoundRules, IsFree, both_pass, both_sound, help, no_kind, option_rule, options_sound}
 use Rattle.command_line.proofs.OptionWords.{has_values}
 
@@ -204,6 +204,13 @@ report_sound : AreSound report_command.options report_command.options
 unfolding clap_on_literals
 report_sound = (record { first = refl; as_written = refl; default_fits = refl }, tt)
 
+league_sound : AreSound league_command.options league_command.options
+unfolding clap_on_literals
+league_sound = (
+  record { first = refl; as_written = refl; default_fits = refl },
+  (record { first = refl; as_written = refl; default_fits = refl }, tt),
+)
+
 commands_are_read : AreRead commands
 unfolding clap_on_literals
 commands_are_read = (
@@ -231,7 +238,13 @@ commands_are_read = (
             named = refl;
             has = has_values report_command.options both_words (with_help report_command.free) report_sound (all_sound report_command.options both_words report_command.free report_sound (record { other = refl; adds = inl refl }, (record { other = refl; adds = inl refl }, tt)) (record { other = refl; adds = inl refl }, (record { other = refl; adds = inl refl }, (record { other = refl; adds = inl refl }, (record { other = refl; adds = inr (inr refl) }, tt))))) (built_command report_command);
           },
-          tt,
+          (
+            record {
+              named = refl;
+              has = has_values league_command.options first_word (with_help league_command.free) league_sound (all_sound league_command.options first_word league_command.free league_sound (record { other = refl; adds = inl refl }, tt) (record { other = refl; adds = inl refl }, tt)) (built_command league_command);
+            },
+            tt,
+          ),
         ),
       ),
     ),
@@ -308,7 +321,9 @@ improve_values found (inr (inr (inl of_improve))) is = of_improve.1
 improve_values found (inr (inr (inr (inl of_search)))) is = absurd (true≢false (ap (λ t. bytes_eq t (codes "search")) (sym of_search.0 ∙ is)))
 improve_values found (inr (inr (inr (inr (inl of_report))))) is =
     absurd (true≢false (ap (λ t. bytes_eq t (codes "report")) (sym of_report.0 ∙ is)))
-improve_values found (inr (inr (inr (inr (inr none))))) is = absurd none
+improve_values found (inr (inr (inr (inr (inr (inl of_league)))))) is =
+    absurd (true≢false (ap (λ t. bytes_eq t (codes "league")) (sym of_league.0 ∙ is)))
+improve_values found (inr (inr (inr (inr (inr (inr none)))))) is = absurd none
 
 pub search_values : (found : Text × List Row) → NamesOneOf commands found → found.0 ≡ codes "search" →
     HasValues found.1 search_command.options
@@ -318,7 +333,20 @@ search_values found (inr (inr (inl of_improve))) is = absurd (true≢false (ap (
 search_values found (inr (inr (inr (inl of_search)))) is = of_search.1
 search_values found (inr (inr (inr (inr (inl of_report))))) is =
     absurd (true≢false (ap (λ t. bytes_eq t (codes "report")) (sym of_report.0 ∙ is)))
-search_values found (inr (inr (inr (inr (inr none))))) is = absurd none
+search_values found (inr (inr (inr (inr (inr (inl of_league)))))) is =
+    absurd (true≢false (ap (λ t. bytes_eq t (codes "league")) (sym of_league.0 ∙ is)))
+search_values found (inr (inr (inr (inr (inr (inr none)))))) is = absurd none
+
+pub league_values : (found : Text × List Row) → NamesOneOf commands found → found.0 ≡ codes "league" →
+    HasValues found.1 league_command.options
+league_values found (inl of_start) is = absurd (true≢false (ap (λ t. bytes_eq t (codes "start")) (sym of_start.0 ∙ is)))
+league_values found (inr (inl of_play)) is = absurd (true≢false (ap (λ t. bytes_eq t (codes "play")) (sym of_play.0 ∙ is)))
+league_values found (inr (inr (inl of_improve))) is = absurd (true≢false (ap (λ t. bytes_eq t (codes "improve")) (sym of_improve.0 ∙ is)))
+league_values found (inr (inr (inr (inl of_search)))) is = absurd (true≢false (ap (λ t. bytes_eq t (codes "search")) (sym of_search.0 ∙ is)))
+league_values found (inr (inr (inr (inr (inl of_report))))) is =
+    absurd (true≢false (ap (λ t. bytes_eq t (codes "report")) (sym of_report.0 ∙ is)))
+league_values found (inr (inr (inr (inr (inr (inl of_league)))))) is = of_league.1
+league_values found (inr (inr (inr (inr (inr (inr none)))))) is = absurd none
 
 -- so the rows of the subcommand that a parse met, where it has this name, have the values of its options
 pub values_of_met : {Z : Type 0} (word : Text) (options : List OptionForm) →

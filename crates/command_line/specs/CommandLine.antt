@@ -16,7 +16,11 @@ use Rattle.clap.specs.declared.builder.action.ArgAction.TheVariants.{Append, Set
 use Rattle.command_line.specs.Beginnings.{Beginning, beginning_in}
 use Rattle.command_line.specs.Files.{Files, files_of_command}
 use Rattle.command_line.specs.declared.job.Job.{Job}
-use Rattle.command_line.specs.declared.job.Job.TheVariants.{Start, Play, Improve, Find, Report}
+use Rattle.command_line.specs.declared.job.Job.TheVariants.{Start, Play, Improve, Find, Report, League}
+use Rattle.distance_tables.specs.declared.league_text.Terms.{Terms}
+use Rattle.distance_tables.specs.declared.sides.Symmetry.{Symmetry}
+use Rattle.distance_tables.specs.declared.sides.Symmetry.TheVariants.{Mean, Max}
+use Rattle.distance_tables.specs.League.{AreTerms}
 use Rattle.fixture_board.specs.History.{max_room}
 use Rattle.report_formats.specs.declared.csv_form.Separator.{Separator}
 use Rattle.report_formats.specs.declared.csv_form.Separator.TheVariants.{Comma, Semicolon, Tab}
@@ -69,6 +73,14 @@ steps_option = number_option (codes "steps") 0 1000000 (Some (codes "1000"))
 abbrev pub slack_option : OptionForm
 slack_option = number_option (codes "slack") 0 (2 ^ 64 - 1) (Some (codes "0"))
 
+-- how many games in a row a league allows at home, or away; without it the league doesn't say
+abbrev pub at_most_option : OptionForm
+at_most_option = number_option (codes "at-most") 1 78 None
+
+-- what each breach of a hard limit of a league costs; without it the league doesn't say
+abbrev pub hard_weight_option : OptionForm
+hard_weight_option = number_option (codes "hard-weight") 1 1000000 None
+
 -- in which form a report is written; the names that a format has are asked for apart
 abbrev pub format_option : OptionForm
 format_option = record { name = codes "format"; parser = parsers.String; default = Some (codes "text") }
@@ -94,6 +106,10 @@ repeated r = record r { action = Some Append }
 
 abbrev pub league_word : Rule
 league_word = word (codes "league")
+
+-- what is taken for two distances that differ; the names are asked for apart
+abbrev pub symmetric_option : Rule
+symmetric_option = text_option (codes "symmetric")
 
 -- the script or the schedule beside the league
 abbrev pub second_word : Rule
@@ -170,8 +186,15 @@ report_command = record {
   free = report_rules;
 }
 
+-- the numbers of a league that is made of a table
+abbrev pub terms_options : List OptionForm
+terms_options = at_most_option ∷ hard_weight_option ∷ []
+
+abbrev pub league_command : CommandForm
+league_command = record { name = codes "league"; words = league_word ∷ []; options = terms_options; free = symmetric_option ∷ [] }
+
 abbrev pub commands : List CommandForm
-commands = start_command ∷ play_command ∷ improve_command ∷ search_command ∷ report_command ∷ []
+commands = start_command ∷ play_command ∷ improve_command ∷ search_command ∷ report_command ∷ league_command ∷ []
 
 -- an option and a command, as clap has them
 abbrev pub rule_of : OptionForm → Rule
@@ -264,13 +287,30 @@ abbrev pub format_in : List Row → Option Format
 format_in rows = option_and_then
     (λ name. format_named name (first_of (codes "separator") rows) (is_flagged (codes "bom") rows)) (first_of (codes "format") rows)
 
+abbrev pub symmetry_named : Text → Option Symmetry
+symmetry_named name = if bytes_eq name (codes "mean") then Some Mean else (if bytes_eq name (codes "max") then Some Max else None)
+
+-- nothing, if no name is given
+abbrev pub choice_of : Option Text → Option (Option Symmetry)
+choice_of None = Some None
+choice_of (Some name) = option_map Some (symmetry_named name)
+
+-- what a league says that is made of a table
+abbrev pub terms_in : List Row → Terms
+terms_in rows = record { at_most = number_in (codes "at-most") rows; hard_weight = number_in (codes "hard-weight") rows }
+
+-- the league of a table with what stands after the options
+abbrev pub league_in : List Row → Option Job
+league_in rows = option_map (λ choice. League choice (terms_in rows)) (choice_of (first_of (codes "symmetric") rows))
+
 -- the job of a command and its values
 abbrev pub job_of_command : Text × List Row → Option Job
 job_of_command found = if bytes_eq found.0 (codes "start") then Some Start
     else (if bytes_eq found.0 (codes "play") then option_map Play (number_in (codes "room") found.1)
     else (if bytes_eq found.0 (codes "improve") then improve_in found.1
     else (if bytes_eq found.0 (codes "search") then find_from (number_in (codes "room") found.1) (plan_in found.1)
-    else (if bytes_eq found.0 (codes "report") then option_map Report (format_in found.1) else None))))
+    else (if bytes_eq found.0 (codes "report") then option_map Report (format_in found.1)
+    else (if bytes_eq found.0 (codes "league") then league_in found.1 else None)))))
 
 -- the job that the words name
 abbrev pub job_of_words : List Text → Option Job
@@ -318,3 +358,4 @@ IsInRange (Play room) = room ≤ max_room
 IsInRange (Improve workers seed effort seconds) = IsImproveInRange workers effort seconds
 IsInRange (Find room plan) = (room ≤ max_room) × IsPlanInRange plan
 IsInRange (Report format) = Unit {0}
+IsInRange (League choice terms) = AreTerms terms

@@ -76,6 +76,28 @@ Example:
   .. | ttp report --format html > season.html
   ttp improve season.json | ttp report season.json";
 
+pub(crate) const LEAGUE_ABOUT: &str =
+    "Reads a table of distances as CSV from standard input, and writes a league of its teams";
+
+pub(crate) const LEAGUE_EXAMPLE: &str =
+    "The teams' names stand in the table's first row, and in its first column or not
+(docs/spreadsheets.md). Decimals are rounded to whole numbers.
+
+Example:
+  ttp league leagues/valley-4-distances.csv > valley.json";
+
+pub(crate) const DISTANCES_HELP: &str =
+    "The file of the table, or `-` for standard input, which is read without it";
+
+pub(crate) const SYMMETRIC_HELP: &str =
+    "What is taken for two teams that are further apart one way: their mean or max";
+
+pub(crate) const AT_MOST_HELP: &str =
+    "How many games in a row a team may have at home, or away, 1 to 78";
+
+pub(crate) const HARD_WEIGHT_HELP: &str =
+    "What each breach of a hard limit adds to a score, 1 to 1000000";
+
 pub(crate) const FORMAT_HELP: &str =
     "How the report is written: text, csv (the games), html (a page for a browser), names (the games in words) or json";
 

@@ -6,7 +6,7 @@ ghost use Rattle.command_line.specs.CommandLine.{app_of_command, improve_command
 ghost use Rattle.command_line.specs.Beginnings.{beginning_of};
 ghost use Rattle.command_line.specs.CommandLine.{beginning_of_words, files_of_words};
 ghost use Rattle.command_line.specs.CommandLine.{improve_options, plan_options, rule_of};
-ghost use Rattle.command_line.specs.CommandLine.{plan_in, program, program_of, search_command, start_command, words_fault};
+ghost use Rattle.command_line.specs.CommandLine.{plan_in, program, program_of, report_command, search_command, start_command, words_fault};
 ghost use Rattle.command_line.specs.Files.{files_of};
 ghost use Rattle.command_line.specs.CommandLine.{number_in, seconds_option, IsInRange, IsPlanInRange};
 ghost use Rattle.command_line.specs.within.CommandLine.{HasValue, HasValues, NamesACommand};
@@ -15,12 +15,14 @@ use crate::help::{
     IMPROVE_ABOUT, IMPROVE_EXAMPLE, PLAY_ABOUT, PLAY_LINES, PROGRAM_ABOUT, PROGRAM_EXAMPLE,
     SEARCH_ABOUT, SEARCH_EXAMPLE, START_ABOUT, START_EXAMPLE, VERSION,
 };
+use crate::league_args::{league_command, league_of};
 use crate::number_args::{EFFORT, ROOM, SECONDS, SEED, SLACK, STEPS, WORKERS};
 use crate::refusals::refused;
 use crate::report_args::{format_of, report_command};
 use crate::request::{Request, request_of};
 use crate::text_args::{FROM, LEAGUE, SCRIPT, with_file_options, with_start_options};
 use clap::{ArgMatches, Command, Error};
+use distance_tables::{Symmetry, Terms};
 use report_formats::Format;
 use search::SearchPlan;
 use std::alloc::{AllocError, Global};
@@ -52,6 +54,11 @@ pub enum Job {
     },
     /// Report, in the format, on a schedule of the league.
     Report(Format),
+    /// Make a league of a table of distances, which stands where other jobs have their league.
+    League {
+        choice: Option<Symmetry>,
+        terms: Terms,
+    },
 }
 
 /// Reads the program's words, the first of which is its name. The error is clap's, or in clap's form if clap takes a word that
@@ -96,6 +103,7 @@ pub(crate) fn job_of(matches: &ArgMatches) -> Option<Job>
             Some(format) => Some(Job::Report(format)),
             None => None,
         },
+        Some(("league", values)) => league_of(values),
         // a command is required, and `help` is answered as an error
         _ => unreachable!(),
     }
@@ -142,13 +150,23 @@ fn plan_of(values: &ArgMatches) -> SearchPlan
 fn command<'a>(alloc: Global) -> Result<Command<'a>, AllocError>
     ensures { IfOk result (λ c. app_of c ≡ program) }
 {
-    let report = report_command(alloc)?;
-    let with_search = with_search(alloc)?;
-    let program = with_search.subcommand(report)?;
+    let league = league_command(alloc)?;
+    let with_report = with_report(alloc)?;
+    let program = with_report.subcommand(league)?;
     program.bin_name("ttp")
 }
 
-/// The program's command line without `report`.
+/// The program's command line without `league`.
+fn with_report<'a>(alloc: Global) -> Result<Command<'a>, AllocError>
+    ensures { IfOk result (λ c. app_of c
+        ≡ program_of (start_command ∷ play_command ∷ improve_command ∷ search_command ∷ report_command ∷ [])) }
+{
+    let report = report_command(alloc)?;
+    let with_search = with_search(alloc)?;
+    with_search.subcommand(report)
+}
+
+/// The program's command line with `start`, `play`, `improve` and `search`.
 fn with_search<'a>(alloc: Global) -> Result<Command<'a>, AllocError>
     ensures { IfOk result (λ c. app_of c ≡ program_of (start_command ∷ play_command ∷ improve_command ∷ search_command ∷ [])) }
 {
@@ -195,6 +213,7 @@ pub(crate) fn command_named<'a>(alloc: Global, name: &str) -> Result<Command<'a>
         "improve" => improve_command(alloc),
         "search" => search_command(alloc),
         "report" => report_command(alloc),
+        "league" => league_command(alloc),
         _ => start_command(alloc),
     }
 }

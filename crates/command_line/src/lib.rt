@@ -5,6 +5,7 @@ mod beginning;
 mod files;
 mod help;
 mod job;
+mod league_args;
 mod number_args;
 mod refusals;
 mod report_args;
@@ -12,6 +13,7 @@ mod request;
 mod text_args;
 
 pub use beginning::BeginningWords;
+pub use distance_tables::{Symmetry, Terms};
 pub use files::FileWords;
 pub use job::{Job, args};
 pub use report_formats::{CsvForm, Format, Separator};

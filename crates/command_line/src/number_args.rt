@@ -6,7 +6,8 @@ ghost use Rattle.command_line.specs.CommandLine.{number_in, rule_of};
 ghost use Rattle.command_line.specs.within.CommandLine.{HasValue, form_of};
 
 use crate::help::{
-    EFFORT_HELP, ROOM_HELP, SECONDS_HELP, SEED_HELP, SLACK_HELP, STEPS_HELP, WORKERS_HELP,
+    AT_MOST_HELP, EFFORT_HELP, HARD_WEIGHT_HELP, ROOM_HELP, SECONDS_HELP, SEED_HELP, SLACK_HELP,
+    STEPS_HELP, WORKERS_HELP,
 };
 use clap::builder::ValueParser;
 use clap::{Arg, ArgMatches};
@@ -22,6 +23,12 @@ const MAX_EFFORT: u64 = 1_000_000;
 
 /// The most seconds of an improvement: eleven days and a half.
 const MAX_SECONDS: u64 = 1_000_000;
+
+/// The most games in a row at home, or away.
+const MAX_AT_MOST: u64 = 78;
+
+/// The largest weight of hard limits.
+const MAX_HARD_WEIGHT: u64 = 1_000_000;
 
 /// An option: the range of its number, and what stands for it if it isn't given, if anything does.
 #[derive(Clone, Copy)]
@@ -95,6 +102,24 @@ pub(crate) const SLACK: NumberArg = NumberArg {
     most: u64::MAX,
     default: Some("0"),
     help: SLACK_HELP,
+};
+
+pub(crate) const AT_MOST: NumberArg = NumberArg {
+    name: "at-most",
+    value_name: "N",
+    least: 1,
+    most: MAX_AT_MOST,
+    default: None,
+    help: AT_MOST_HELP,
+};
+
+pub(crate) const HARD_WEIGHT: NumberArg = NumberArg {
+    name: "hard-weight",
+    value_name: "N",
+    least: 1,
+    most: MAX_HARD_WEIGHT,
+    default: None,
+    help: HARD_WEIGHT_HELP,
 };
 
 impl NumberArg {

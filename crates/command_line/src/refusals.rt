@@ -13,7 +13,7 @@ use std::alloc::{AllocError, Global};
 /// Why words are refused that clap takes, or that memory ran out.
 #[derive(Clone, Copy, Debug, PartialEq, Eq)]
 pub(crate) enum Refusal {
-    /// No format has the name, no separator has it, or what is CSV's is asked for another format.
+    /// No way to make distances symmetric has the name, no format has it, no separator has it, or what is CSV's is asked for another format.
     Format,
     /// Standard input would be read twice.
     Input,
@@ -58,7 +58,12 @@ fn told(
 
 fn message(alloc: Global, values: &ArgMatches, refusal: Refusal) -> Result<String, AllocError> {
     match refusal {
-        Refusal::Format => format_message(alloc, values),
+        Refusal::Format => match values.get_str("symmetric") {
+            Some(name) => format!(in alloc;
+                "invalid value '{name}' for '--symmetric <BY>'\n  [possible values: mean, max]"
+            ),
+            None => format_message(alloc, values),
+        },
         Refusal::Keep => {
             let text = values.get_str("keep").unwrap_or("");
             format!(in alloc;

@@ -5,8 +5,8 @@ ghost use Rattle.clap.specs.Words.{app_of, rule_of as rule_of_arg, with_rule};
 ghost use Rattle.command_line.specs.CommandLine.{file_rules, lettered, repeated, start_rules, text_option, word};
 
 use crate::help::{
-    FROM_HELP, KEEP_GAME_HELP, KEEP_HELP, LEAGUE_HELP, LOG_HELP, NEAR_HELP, OUTPUT_HELP,
-    SCHEDULE_HELP, SCRIPT_HELP, SEPARATOR_HELP,
+    DISTANCES_HELP, FROM_HELP, KEEP_GAME_HELP, KEEP_HELP, LEAGUE_HELP, LOG_HELP, NEAR_HELP,
+    OUTPUT_HELP, SCHEDULE_HELP, SCRIPT_HELP, SEPARATOR_HELP, SYMMETRIC_HELP,
 };
 use clap::builder::ValueParser;
 use clap::{Arg, ArgAction, Command};
@@ -24,6 +24,19 @@ pub(crate) const LEAGUE: TextArg = TextArg {
     name: "league",
     value_name: "LEAGUE",
     help: LEAGUE_HELP,
+};
+
+/// The table of distances, which stands where other commands have their league.
+pub(crate) const DISTANCES: TextArg = TextArg {
+    name: "league",
+    value_name: "DISTANCES",
+    help: DISTANCES_HELP,
+};
+
+pub(crate) const SYMMETRIC: TextArg = TextArg {
+    name: "symmetric",
+    value_name: "BY",
+    help: SYMMETRIC_HELP,
 };
 
 pub(crate) const SCRIPT: TextArg = TextArg {

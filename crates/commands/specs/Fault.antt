@@ -5,6 +5,8 @@ use Rattle.beginnings.specs.declared.fault.BeginFault.{BeginFault}
 use Rattle.beginnings.specs.declared.fault.BeginFault.TheVariants as begin
 use Rattle.schedule_tables.specs.declared.fault.TableFault.{TableFault}
 use Rattle.schedule_tables.specs.declared.fault.TableFault.TheVariants as table
+use Rattle.distance_tables.specs.declared.fault.DistanceFault.{DistanceFault}
+use Rattle.distance_tables.specs.declared.fault.DistanceFault.TheVariants as distances
 use Rattle.fixture_board.specs.declared.board.BoardFault.{BoardFault}
 use Rattle.fixture_board.specs.declared.board.BoardFault.TheVariants as board
 use Rattle.search.specs.declared.runs.RunFault.{RunFault}
@@ -12,7 +14,7 @@ use Rattle.search.specs.declared.runs.RunFault.TheVariants as run
 use Rattle.improvement.specs.declared.plan.ImproveFault.{ImproveFault}
 use Rattle.improvement.specs.declared.plan.ImproveFault.TheVariants as improve
 use Rattle.commands.specs.declared.fault.ProgramFault.{ProgramFault}
-use Rattle.commands.specs.declared.fault.ProgramFault.TheVariants.{League, Begin, Row, Room, Workers, Spawn, Receipts, Write, Memory}
+use Rattle.commands.specs.declared.fault.ProgramFault.TheVariants.{League, Begin, Row, Distances, Room, Workers, Spawn, Receipts, Write, Memory}
 
 -- want of memory is the program's, and every other fault the league's
 abbrev pub of_league : LeagueFault → ProgramFault
@@ -26,6 +28,10 @@ of_beginning fault = Begin fault
 abbrev pub of_table : TableFault → ProgramFault
 of_table (table.Row fault) = Row fault
 of_table table.Memory = Memory
+
+abbrev pub of_distances : DistanceFault → ProgramFault
+of_distances distances.Memory = Memory
+of_distances fault = Distances fault
 
 abbrev pub of_board : BoardFault → ProgramFault
 of_board board.RoomRange = Room

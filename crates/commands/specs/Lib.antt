@@ -9,4 +9,5 @@ pub mod Play
 pub mod Find
 pub mod Improve
 pub mod Report
+pub mod MadeLeague
 pub mod within

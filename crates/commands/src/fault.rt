@@ -2,11 +2,12 @@
 
 ghost use Rattle.std.specs.Prelude.{◌≡◌};
 ghost use Rattle.commands.specs.declared.fault.ProgramFault.TheVariants.{Write, Memory};
-ghost use Rattle.commands.specs.Fault.{of_beginning, of_board, of_improve, of_league, of_run, of_table};
+ghost use Rattle.commands.specs.Fault.{of_beginning, of_board, of_distances, of_improve, of_league, of_run, of_table};
 ghost use Rattle.commands.specs.within.Fault.{of_reading, of_writing};
 
 use advice::Hint;
 use beginnings::BeginFault;
+use distance_tables::DistanceFault;
 use fixture_board::BoardFault;
 use improvement::ImproveFault;
 use league::LeagueFault;
@@ -37,6 +38,9 @@ pub enum ProgramFault {
     /// A row of the table that a report reads gives no game.
     #[error("{0}")]
     Row(RowFault),
+    /// The table of distances gives no league.
+    #[error("{0}")]
+    Distances(DistanceFault),
     /// The input of a report has no line `sheet`.
     #[error("input has no sheet")]
     NoSheet,
@@ -101,6 +105,17 @@ impl From<TableFault> for ProgramFault {
         match fault {
             TableFault::Row(row) => ProgramFault::Row(row),
             TableFault::Memory => ProgramFault::Memory,
+        }
+    }
+}
+
+impl From<DistanceFault> for ProgramFault {
+    ghost from_gives = { λ fault gives. gives ≡ of_distances fault };
+
+    fn from(fault: DistanceFault) -> ProgramFault {
+        match fault {
+            DistanceFault::Memory => ProgramFault::Memory,
+            fault => ProgramFault::Distances(fault),
         }
     }
 }

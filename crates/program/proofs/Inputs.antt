@@ -8,9 +8,9 @@ use Rattle.streams.specs.declared.reading.ReadFault.{ReadFault}
 use Rattle.streams.specs.declared.reading.ReadFault.TheVariants as reading
 use Rattle.streams.specs.declared.tally.Tally.{Tally}
 use Rattle.command_line.specs.declared.job.Job.{Job}
-use Rattle.command_line.specs.declared.job.Job.TheVariants.{Start, Play, Improve, Find, Report}
+use Rattle.command_line.specs.declared.job.Job.TheVariants.{Start, Play, Improve, Find, Report, League as Make}
 use Rattle.commands.specs.declared.fault.ProgramFault.{ProgramFault}
-use Rattle.commands.specs.declared.fault.ProgramFault.TheVariants.{Read, TooLong, League, LeagueAt, Begin, Row, NoSheet, Room, Workers, Spawn, Receipts, Write, Memory}
+use Rattle.commands.specs.declared.fault.ProgramFault.TheVariants.{Read, TooLong, League, LeagueAt, Begin, Row, Distances, NoSheet, Room, Workers, Spawn, Receipts, Write, Memory}
 use Rattle.commands.specs.within.Fault.{of_reading}
 use Rattle.commands.specs.Outcome.{EndsBy}
 use Rattle.program.specs.declared.jobs.Ending.{Ending}
@@ -24,6 +24,7 @@ module _ {W : Type 0} (held : W → Option (List ℕ)) (pushes : W → Tally) (b
   not_unread (Improve workers seed effort seconds) ends = ends.0
   not_unread (Find room plan) ends = ends.0
   not_unread (Report format) ends = ends.0
+  not_unread (Make choice terms) ends = ends.0
 
   not_long : (job : Job) → EndsJobOn held pushes bytes None None job told before after (Err TooLong) → ⊥
   not_long Start ends = ends.0
@@ -31,6 +32,7 @@ module _ {W : Type 0} (held : W → Option (List ℕ)) (pushes : W → Tally) (b
   not_long (Improve workers seed effort seconds) ends = ends.0
   not_long (Find room plan) ends = ends.0
   not_long (Report format) ends = ends.0
+  not_long (Make choice terms) ends = ends.0
 
 -- a read has one fault
 not_both : {A : Type 0} (result : Result A ReadFault) → result ≡ Err reading.TooLong → result ≡ Err reading.Read → ⊥
@@ -54,6 +56,7 @@ module _ {R W : Type 0} (left : R → Option (List ℕ)) (pulls : R → Tally) (
     by_result (Err (LeagueAt fault hint)) ends = record { bytes = bytes; taken = taken; ended = ended; within = within; ends_so = ends }
     by_result (Err (Begin fault)) ends = record { bytes = bytes; taken = taken; ended = ended; within = within; ends_so = ends }
     by_result (Err (Row fault)) ends = record { bytes = bytes; taken = taken; ended = ended; within = within; ends_so = ends }
+    by_result (Err (Distances fault)) ends = record { bytes = bytes; taken = taken; ended = ended; within = within; ends_so = ends }
     by_result (Err NoSheet) ends = record { bytes = bytes; taken = taken; ended = ended; within = within; ends_so = ends }
     by_result (Err Room) ends = record { bytes = bytes; taken = taken; ended = ended; within = within; ends_so = ends }
     by_result (Err Workers) ends = record { bytes = bytes; taken = taken; ended = ended; within = within; ends_so = ends }

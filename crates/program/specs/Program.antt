@@ -5,7 +5,7 @@ use Rattle.std.specs.Str.Lines.{lines}
 use Rattle.clap.specs.declared.error.kind.ErrorKind.{ErrorKind as Kind}
 use Rattle.clap.specs.declared.error.kind.ErrorKind.TheVariants.{OutOfMemory, DisplayHelp, DisplayVersion}
 use Rattle.command_line.specs.declared.job.Job.{Job}
-use Rattle.command_line.specs.declared.job.Job.TheVariants.{Start, Play, Improve, Find, Report}
+use Rattle.command_line.specs.declared.job.Job.TheVariants.{Start, Play, Improve, Find, Report, League as Make}
 use Rattle.command_line.specs.Beginnings.{Beginning as Kept}
 use Rattle.command_line.specs.Files.{Files}
 use Rattle.improvement.specs.declared.plan.ImprovePlan.{ImprovePlan}
@@ -26,8 +26,9 @@ use Rattle.commands.specs.Play.{AnswersPlayOn}
 use Rattle.commands.specs.Find.{AnswersFindOn}
 use Rattle.commands.specs.Improve.{EndsImproveOn}
 use Rattle.commands.specs.Report.{AnswersReportOn}
+use Rattle.commands.specs.MadeLeague.{AnswersLeague}
 use Rattle.program.specs.declared.jobs.Ending.{Ending}
-use Rattle.program.specs.declared.jobs.Ending.TheVariants.{Written, Judged, Searched}
+use Rattle.program.specs.declared.jobs.Ending.TheVariants.{Written, Judged, Searched, Made}
 
 -- the verdict in how a job ended well, if there is one
 abbrev pub verdict_in : Option Ending → Option Verdict
@@ -38,6 +39,11 @@ verdict_in told = None
 abbrev pub search_end_in : Option Ending → Option SearchEnd
 search_end_in (Some (Searched end)) = Some end
 search_end_in told = None
+
+-- how many distances of a table were rounded, if it is told
+abbrev pub rounded_in : Option Ending → Option ℕ
+rounded_in (Some (Made rounded)) = Some rounded
+rounded_in told = None
 
 -- whether the job ends with a verdict: a report or an improvement
 abbrev pub is_judged : Job → Bool
@@ -85,6 +91,7 @@ module _ {W : Type 0} (held : W → Option (List ℕ)) (pushes : W → Tally) (i
   EndsJobOn (Find room plan) told = EndsOn held pushes (AnswersFindOn room plan (search_end_in told) input beginning)
   EndsJobOn (Report format) told = EndsOn held pushes
       (AnswersReportOn format (verdict_in told) (league_part (codes "sheet") input second) (lines_part (codes "sheet") input second) beginning)
+  EndsJobOn (Make choice terms) told = EndsOn held pushes (AnswersLeague choice terms (rounded_in told) input)
 
   -- the command of the job ended with this outcome, which has a verdict or a search's end if the job is to have one
   pub record Performs (job : Job) (before after : W) (outcome : Result Ending ProgramFault) : Type 0 where
@@ -104,6 +111,7 @@ status_of (Ok Written) = 0
 status_of (Ok (Judged Feasible)) = 0
 status_of (Ok (Judged Infeasible)) = 3
 status_of (Ok (Searched end)) = 0
+status_of (Ok (Made rounded)) = 0
 status_of (Err fault) = 1
 
 -- the job's command ended between the source and the sink, and the exit status is that of how it ended

@@ -5,14 +5,14 @@ ghost use Rattle.std.specs.Str.Lines.{lines};
 ghost use Rattle.command_line.specs.CommandLine.{IsInRange};
 ghost use Rattle.league.specs.Limits.{max_weight};
 ghost use Rattle.commands.specs.Outcome.{value_of, without_value};
-ghost use Rattle.program.specs.Program.{league_part, lines_part, plan_of, search_end_in, verdict_in, Performs};
+ghost use Rattle.program.specs.Program.{league_part, lines_part, plan_of, rounded_in, search_end_in, verdict_in, Performs};
 
 use crate::timed::Timed;
 use command_line::Job;
 use commands::{
     Beginning, Extent, Gate, ImprovePlan, MOST_EFFORT, NoGate, ProgramFault, ProgressLine,
-    SearchEnd, Sink, Verdict, Watcher, Workplace, find_on, improve_on, play_on, report_on,
-    start_on,
+    SearchEnd, Sink, Verdict, Watcher, Workplace, find_on, improve_on, league_on, play_on,
+    report_on, start_on,
 };
 use std::alloc::Global;
 use std::io::Write;
@@ -51,6 +51,8 @@ pub(crate) enum Ending {
     Judged(Verdict),
     /// A search, as it ended.
     Searched(SearchEnd),
+    /// A league of a table, of which so many distances were rounded.
+    Made(u64),
 }
 
 /// Does what the job asks for on texts that were read, and shows how far a search is if there is a terminal. A report and an
@@ -149,6 +151,7 @@ fn perform_at<T: Threads + Wait + Clock + Sync, G: Gate + Sync, W: Sink, V: Watc
             let (league, sheet) = parts(input, *second, b"sheet");
             with_verdict(report_on(alloc, league, sheet, beginning, sink, format))
         }
+        Job::League { choice, terms } => with_rounded(league_on(alloc, input, sink, choice, terms)),
     }
 }
 
@@ -239,6 +242,18 @@ fn with_search_end(outcome: Result<SearchEnd, ProgramFault>) -> Result<Ending, P
 {
     match outcome {
         Ok(end) => Ok(Ending::Searched(end)),
+        Err(fault) => Err(fault),
+    }
+}
+
+fn with_rounded(outcome: Result<u64, ProgramFault>) -> Result<Ending, ProgramFault>
+    ensures outcome { without_value result ≡ without_value outcome }
+    ensures told { rounded_in (value_of result) ≡ value_of outcome }
+    ensures verdict { IfOk result (λ ending. is_some (verdict_in (Some ending)) ≡ false) }
+    ensures end { IfOk result (λ ending. is_some (search_end_in (Some ending)) ≡ false) }
+{
+    match outcome {
+        Ok(rounded) => Ok(Ending::Made(rounded)),
         Err(fault) => Err(fault),
     }
 }

@@ -164,10 +164,11 @@ pub(crate) fn tell_terminal(rt: &impl Eprint, is_terminal: bool, request: &Reque
     }
 }
 
-/// Writes a line for each member of the league's text that is not read. A report as a text has these lines itself. If there is no
+/// Writes a line for each member of the league's text that is not read. A report as a text has these lines itself, and a table
+/// of distances has no members. If there is no
 /// memory for them they are left out.
 pub(crate) fn tell_remarks<R: Runtime + AllocGlobal>(rt: &R, job: Job, texts: &Texts<'_>) {
-    if matches!(job, Job::Report(Format::Text)) {
+    if matches!(job, Job::Report(Format::Text) | Job::League { .. }) {
         return;
     }
     if let Ok(remarks) = remarks_on(rt.alloc(), league_text(job, texts)) {
@@ -188,6 +189,13 @@ pub(crate) fn tell_full(rt: &impl Eprint, job: Job) {
     let _ = eprintln!(rt;
         "remark: the history is full, which ends a search early: its room is {room}, and {more}"
     );
+}
+
+/// Says how many distances of a table were rounded, if any were.
+pub(crate) fn tell_rounded(rt: &impl Eprint, rounded: u64) {
+    if rounded > 0 {
+        let _ = eprintln!(rt; "remark: distances are whole numbers: {rounded} were rounded");
+    }
 }
 
 /// Standard error as a writer, of text.

@@ -18,8 +18,8 @@ use crate::follower::Follower;
 use crate::jobs::{Console, Ending, Texts, league_text, perform};
 use crate::texts_read::{TextsRead, read_texts};
 use crate::told::{
-    failure, not_begun, refused, tell_bad_line, tell_full, tell_remarks, tell_terminal, unread,
-    unwritten,
+    failure, not_begun, refused, tell_bad_line, tell_full, tell_remarks, tell_rounded,
+    tell_terminal, unread, unwritten,
 };
 use clap::error::ErrorKind;
 use command_line::{FileWords, Job, Request, args};
@@ -288,6 +288,10 @@ fn ended<R: Runtime + AllocGlobal>(
         Ok(Ending::Judged(Verdict::Infeasible)) => ExitCode::from(INFEASIBLE),
         Ok(Ending::Searched(SearchEnd::HistoryFull)) => {
             tell_full(rt, job);
+            ExitCode::SUCCESS
+        }
+        Ok(Ending::Made(rounded)) => {
+            tell_rounded(rt, rounded);
             ExitCode::SUCCESS
         }
         Ok(_) => ExitCode::SUCCESS,

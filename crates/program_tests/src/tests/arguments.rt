@@ -8,7 +8,7 @@ use clap::error::ErrorKind::{
     self, ArgumentConflict, DisplayHelp, DisplayVersion, InvalidSubcommand, InvalidValue,
     MissingSubcommand, OutOfMemory, UnknownArgument, ValueValidation,
 };
-use command_line::{CsvForm, Format, Job, SearchPlan, Separator, args};
+use command_line::{CsvForm, Format, Job, SearchPlan, Separator, Symmetry, Terms, args};
 use std::alloc::{AllocError, Global};
 use std::process::Abort;
 use std::test::Fail;
@@ -71,7 +71,49 @@ const MARKED_TABS: Job = Job::Report(Format::Csv(CsvForm {
     has_mark: true,
 }));
 
+const LEAGUE: Job = Job::League {
+    choice: None,
+    terms: Terms {
+        at_most: None,
+        hard_weight: None,
+    },
+};
+
+const MEAN_LEAGUE: Job = Job::League {
+    choice: Some(Symmetry::Mean),
+    terms: Terms {
+        at_most: Some(78),
+        hard_weight: None,
+    },
+};
+
+const LONGER_LEAGUE: Job = Job::League {
+    choice: Some(Symmetry::Max),
+    terms: Terms {
+        at_most: Some(2),
+        hard_weight: Some(7),
+    },
+};
+
 const JOBS: &[Row<'_>] = &[
+    (&["ttp", "league"], Ok(LEAGUE)),
+    (&["ttp", "league", "distances.csv"], Ok(LEAGUE)),
+    (
+        &["ttp", "league", "--symmetric", "mean", "--at-most=78"],
+        Ok(MEAN_LEAGUE),
+    ),
+    (
+        &[
+            "ttp",
+            "league",
+            "--hard-weight",
+            "7",
+            "--symmetric=max",
+            "--at-most",
+            "2",
+        ],
+        Ok(LONGER_LEAGUE),
+    ),
     (&["ttp", "start"], Ok(Job::Start)),
     (&["ttp", "play"], Ok(Job::Play { room: 1024 })),
     (&["ttp", "play", "--room", "0"], Ok(Job::Play { room: 0 })),
@@ -216,6 +258,18 @@ const ENDS: &[Row<'_>] = &[
         Err((ValueValidation, 2)),
     ),
     (&["ttp", "search", "--slack=-1"], Err((ValueValidation, 2))),
+    (
+        &["ttp", "league", "--symmetric", "min"],
+        Err((InvalidValue, 2)),
+    ),
+    (
+        &["ttp", "league", "--at-most=79"],
+        Err((ValueValidation, 2)),
+    ),
+    (
+        &["ttp", "league", "--hard-weight=0"],
+        Err((ValueValidation, 2)),
+    ),
     (
         &["ttp", "report", "--format", "pdf"],
         Err((InvalidValue, 2)),

@@ -7,8 +7,8 @@ use Rattle.command_line.proofs.job.command.Goals as goal
 
 pub returns : goal.returns
 returns c =
-    let is_report = c.in_ok-report.ensures in
-    let plain = plain_fields c.in_ok-report.report (ap (λ (a : App). a.top.is_plain) is_report) in
+    let is_league = c.in_ok-league.ensures in
+    let plain = plain_fields c.in_ok-league.league (ap (λ (a : App). a.top.is_plain) is_league) in
     let whole = c.in_ok-program.ensures.shape plain.globals
-    ∙ ap₂ with_subcommand c.in_ok-with_search.ensures (ap (λ (a : App). a.top) is_report) in
+    ∙ ap₂ with_subcommand c.in_ok-with_report.ensures (ap (λ (a : App). a.top) is_league) in
     IfOk-weaker c.bin_name.result _ _ (λ m named. ap app_of_fields named.0 ∙ whole) c.bin_name.ensures

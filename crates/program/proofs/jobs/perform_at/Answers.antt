@@ -53,3 +53,10 @@ returns-in-Report g c = record {
   verdict = rw c.in-Report.is c.with_verdict-in-Report.ensures.verdict;
   end = rw c.in-Report.is c.with_verdict-in-Report.ensures.end;
 }
+
+pub returns-in-League : goal.returns-in-League
+returns-in-League g c = record {
+  ends = rw (c.in-League.is, c.with_rounded.ensures.outcome, c.with_rounded.ensures.told) c.league_on.ensures;
+  verdict = rw c.in-League.is c.with_rounded.ensures.verdict;
+  end = rw c.in-League.is c.with_rounded.ensures.end;
+}

@@ -1,0 +1,64 @@
+//! The command `league` and its options. clap takes any text for what stands for two distances that differ, and a name that none has is
+//! refused here.
+
+ghost use Rattle.std.specs.Prelude.{◌≡◌, IfOk, IfSome};
+ghost use Rattle.clap.specs.Words.{app_of, found_of, rows_of};
+ghost use Rattle.command_line.specs.CommandLine.{app_of_command, choice_of, league_command, league_in, symmetry_named, IsInRange};
+ghost use Rattle.command_line.specs.within.CommandLine.{HasValues};
+ghost use Rattle.command_line.specs.within.Files.{written};
+
+use crate::help::{LEAGUE_ABOUT, LEAGUE_EXAMPLE};
+use crate::job::Job;
+use crate::number_args::{AT_MOST, HARD_WEIGHT};
+use crate::text_args::{DISTANCES, SYMMETRIC};
+use clap::{ArgMatches, Command};
+use distance_tables::{Symmetry, Terms};
+use std::alloc::{AllocError, Global};
+
+pub(crate) fn league_command<'a>(alloc: Global) -> Result<Command<'a>, AllocError>
+    ensures { IfOk result (λ c. app_of c ≡ app_of_command league_command) }
+{
+    Command::new(alloc, "league")
+        .about(LEAGUE_ABOUT)
+        .after_help(LEAGUE_EXAMPLE)
+        .arg(DISTANCES.word(alloc))?
+        .arg(AT_MOST.arg(alloc))?
+        .arg(HARD_WEIGHT.arg(alloc))?
+        .arg(SYMMETRIC.option(alloc))
+}
+
+/// The league of a table with what was asked for it, unless that names what nothing has.
+pub(crate) fn league_of(values: &ArgMatches) -> Option<Job>
+    requires { HasValues (rows_of (found_of values.now)) league_command.options }
+    ensures job { result ≡ league_in (rows_of (found_of values.now)) }
+    ensures in_range { IfSome result IsInRange }
+{
+    let terms = Terms {
+        at_most: AT_MOST.number_if_any(values),
+        hard_weight: HARD_WEIGHT.number_if_any(values),
+    };
+    match choice_of(values.get_str("symmetric")) {
+        Some(choice) => Some(Job::League { choice, terms }),
+        None => None,
+    }
+}
+
+/// Nothing, if no name is given.
+fn choice_of(name: Option<&str>) -> Option<Option<Symmetry>>
+    ensures { result ≡ choice_of (written name.entry) }
+{
+    match name {
+        Some(name) => symmetry_named(name).map(Some),
+        None => Some(None),
+    }
+}
+
+fn symmetry_named(name: &str) -> Option<Symmetry>
+    ensures { result ≡ symmetry_named name.now }
+{
+    match name {
+        "mean" => Some(Symmetry::Mean),
+        "max" => Some(Symmetry::Max),
+        _ => None,
+    }
+}
