@@ -1,10 +1,13 @@
 //! The command `league` and its options. clap takes any text for what stands for two distances that differ, and a name that none has is
 //! refused here.
 
-ghost use Rattle.std.specs.Prelude.{◌≡◌, IfOk, IfSome};
+ghost use Rattle.std.specs.Prelude.{◌≡◌, ◌≤◌, IfOk, IfSome};
 ghost use Rattle.clap.specs.Words.{app_of, found_of, rows_of};
-ghost use Rattle.command_line.specs.CommandLine.{app_of_command, choice_of, league_command, league_in, symmetry_named, IsInRange};
-ghost use Rattle.command_line.specs.within.CommandLine.{HasValues};
+ghost use Rattle.command_line.specs.CommandLine.{app_of_command, at_most_option, choice_of, hard_weight_option, league_command, league_in};
+ghost use Rattle.command_line.specs.CommandLine.{number_in, symmetry_named, terms_in, IsInRange};
+ghost use Rattle.command_line.specs.within.CommandLine.{HasValue, HasValues};
+ghost use Rattle.distance_tables.specs.League.{AreTerms};
+ghost use Rattle.sets.specs.Limits.{max_rounds};
 ghost use Rattle.command_line.specs.within.Files.{written};
 
 use crate::help::{LEAGUE_ABOUT, LEAGUE_EXAMPLE};
@@ -33,14 +36,41 @@ pub(crate) fn league_of(values: &ArgMatches) -> Option<Job>
     ensures job { result ≡ league_in (rows_of (found_of values.now)) }
     ensures in_range { IfSome result IsInRange }
 {
-    let terms = Terms {
-        at_most: AT_MOST.number_if_any(values),
-        hard_weight: HARD_WEIGHT.number_if_any(values),
-    };
     match choice_of(values.get_str("symmetric")) {
-        Some(choice) => Some(Job::League { choice, terms }),
+        Some(choice) => Some(Job::League {
+            choice,
+            terms: terms_of(values),
+        }),
         None => None,
     }
+}
+
+/// What the league is to say.
+fn terms_of(values: &ArgMatches) -> Terms
+    requires { HasValues (rows_of (found_of values.now)) league_command.options }
+    ensures terms { result ≡ terms_in (rows_of (found_of values.now)) }
+    ensures in_range { AreTerms result }
+{
+    Terms {
+        at_most: at_most_of(values),
+        hard_weight: hard_weight_of(values),
+    }
+}
+
+fn at_most_of(values: &ArgMatches) -> Option<u64>
+    requires { HasValue (rows_of (found_of values.now)) at_most_option }
+    ensures number { number_in at_most_option.name (rows_of (found_of values.now)) ≡ result }
+    ensures range { IfSome result (λ most. (1 ≤ most) × (most ≤ max_rounds)) }
+{
+    AT_MOST.number_if_any(values)
+}
+
+fn hard_weight_of(values: &ArgMatches) -> Option<u64>
+    requires { HasValue (rows_of (found_of values.now)) hard_weight_option }
+    ensures number { number_in hard_weight_option.name (rows_of (found_of values.now)) ≡ result }
+    ensures range { IfSome result (λ weight. (1 ≤ weight) × (weight ≤ 1000000)) }
+{
+    HARD_WEIGHT.number_if_any(values)
 }
 
 /// Nothing, if no name is given.
