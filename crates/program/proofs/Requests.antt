@@ -12,7 +12,7 @@ use Rattle.command_line.specs.CommandLine.{beginning_of_command}
 use Rattle.texts.specs.Number.{number_of}
 use Rattle.command_line.specs.Files.{Files, files_of}
 use Rattle.command_line.specs.declared.job.Job.{Job}
-use Rattle.command_line.specs.declared.job.Job.TheVariants.{Start, Play, Improve, Find, Report}
+use Rattle.command_line.specs.declared.job.Job.TheVariants.{Start, Play, Improve, Find, Report, League as Make}
 use Rattle.command_line.specs.declared.request.Request.{Request}
 use Rattle.streams.specs.declared.tally.Tally.{Tally}
 use Rattle.commands.specs.declared.fault.ProgramFault.TheVariants.{Memory}
@@ -43,6 +43,7 @@ module _ {R W : Type 0} (left : R → Option (List ℕ)) (pulls : R → Tally) (
       record { ending = inl refl; failed_read = λ h. absurd (omega (arith, h)); reads = omega arith }
   nothing_done (Find room plan) = record { ending = inl refl; failed_read = λ h. absurd (omega (arith, h)); reads = omega arith }
   nothing_done (Report format) = record { ending = inl refl; failed_read = λ h. absurd (omega (arith, h)); reads = omega arith }
+  nothing_done (Make choice terms) = record { ending = inl refl; failed_read = λ h. absurd (omega (arith, h)); reads = omega arith }
 
   module _ (kinds : Kinds) (named : Option Job) (named_files : Option Files) (named_kept : Option Kept) (after : W) (status : ℕ) where
     pub done : (request : Result Request Error) → FailsBy kinds request → IfOk request (λ r. named ≡ Some r.job)
