@@ -12,6 +12,7 @@ COMPARISONS = (
     ("rules", 120, 1),
     ("report", 500, 1),
     ("names",),
+    ("distances", 500, 1),
     ("search-again", 60),
     ("improve-again", 6),
     ("repair",),
