@@ -17,6 +17,7 @@ use commands::{
 use std::alloc::Global;
 use std::io::Write;
 use std::sync::Wait;
+use std::sync::atomic::AtomicBool;
 use std::thread::Threads;
 use std::time::Clock;
 use streams::WriterSink;
@@ -27,6 +28,8 @@ use texts::split_at_line;
 pub(crate) struct Console<'a, T, E> {
     pub(crate) rt: &'a T,
     pub(crate) alloc: Global,
+    /// Nobody reads standard output any more.
+    pub(crate) is_closed: &'a AtomicBool,
     /// Where a search shows how far it is.
     pub(crate) terminal: Option<E>,
 }
@@ -78,6 +81,7 @@ pub(crate) fn perform<
         rt,
         alloc,
         terminal,
+        ..
     } = console;
     match terminal {
         Some(terminal) => {

@@ -16,6 +16,7 @@ ghost use Rattle.program.specs.Program.{IsStatusBehind};
 
 use crate::follower::Follower;
 use crate::jobs::{Console, Ending, Texts, league_text, perform};
+use crate::piped::{Piped, is_broken_pipe};
 use crate::texts_read::{TextsRead, read_texts};
 use crate::told::{
     failure, not_begun, refused, tell_bad_line, tell_full, tell_remarks, tell_rounded,
@@ -29,6 +30,7 @@ use std::io::{IsTerminal, Write};
 use std::process::ExitCode;
 use std::rt::Runtime;
 use std::sync::Wait;
+use std::sync::atomic::{AtomicBool, Ordering};
 use std::thread::Threads;
 use std::{env, io};
 use streams::{ReaderSource, Sink, Source, WriterSink, read_all};
@@ -42,15 +44,18 @@ const INFEASIBLE: u8 = 3;
 
 /// Does what the program's words ask for, between standard input and output. The exit status is 0 on success, 1 after a
 /// fault, 2 if the words are wrong, and 3 after a report on a schedule that isn't feasible or an improvement that found none
-/// that is. A search shows how far it is if standard error is a terminal.
+/// that is. A search shows how far it is if standard error is a terminal. A fault has a line on standard error, unless it is that nobody
+/// reads standard output any more.
 pub fn run<R, I, E>(rt: &R, input: &I, error: E) -> ExitCode
 where
     R: Runtime + AllocGlobal + Threads + Wait + Sync,
     I: IsTerminal,
     E: Write + IsTerminal + Send + Drop,
 {
-    let terminals = Terminals {
+    let is_closed = AtomicBool::new(false);
+    let ends = Ends {
         input: input.is_terminal(),
+        is_closed: &is_closed,
         error: if error.is_terminal() {
             Some(error)
         } else {
@@ -60,18 +65,24 @@ where
     match words_of(rt) {
         Ok(words) => {
             let source = ReaderSource::new(rt.reader());
-            let mut sink = WriterSink::new(io::writer(rt));
-            answer(rt, terminals, &words, source, &mut sink)
+            let mut sink = WriterSink::new(Piped {
+                writer: io::writer(rt),
+                is_closed: &is_closed,
+            });
+            answer(rt, ends, &words, source, &mut sink)
         }
         Err(error) => words_not_had(rt, error),
     }
 }
 
-/// Which of the standard streams are terminals.
+/// What is at the other ends of the standard streams.
 #[derive(Drop)]
-struct Terminals<E> {
+struct Ends<'a, E> {
+    /// A terminal is at that of standard input.
     input: bool,
-    /// Standard error, if it is one.
+    /// Nobody is at that of standard output any more.
+    is_closed: &'a AtomicBool,
+    /// Standard error, if a terminal is at its end.
     error: Option<E>,
 }
 
@@ -86,7 +97,7 @@ fn answer<
     E: Write + Send + Drop,
     R: Source + Drop,
     W: Sink,
->(rt: &T, terminals: Terminals<E>, words: &[String], source: R, sink: &mut W) -> ExitCode
+>(rt: &T, ends: Ends<'_, E>, words: &[String], source: R, sink: &mut W) -> ExitCode
     ensures done { (job : Named) (files : Files) (kept : Kept) → words_fault (map string_bytes words.now) ≡ []
         → job_of_words (map string_bytes words.now) ≡ Some job → files_of_words (map string_bytes words.now) ≡ Some files
         → beginning_of_words (map string_bytes words.now) ≡ Some kept → is_plain files kept ≡ true
@@ -103,7 +114,7 @@ fn answer<
     ensures most { exit_status result ≤ 3 }
 {
     let request = args(rt.alloc(), words);
-    respond(rt, terminals, request, source, sink)
+    respond(rt, ends, request, source, sink)
 }
 
 /// Does what a request asks for, or says why there is none.
@@ -114,7 +125,7 @@ fn respond<
     W: Sink,
 >(
     rt: &T,
-    terminals: Terminals<E>,
+    ends: Ends<'_, E>,
     request: Result<Request, clap::Error>,
     source: R,
     sink: &mut W,
@@ -136,11 +147,12 @@ fn respond<
         Ok(request) => request,
         Err(error) => return words_not_taken(rt, error),
     };
-    tell_terminal(rt, terminals.input, &request);
+    tell_terminal(rt, ends.input, &request);
     let console = Console {
         rt,
         alloc: rt.alloc(),
-        terminal: terminals.error,
+        is_closed: ends.is_closed,
+        terminal: ends.error,
     };
     if is_plain(&request) {
         respond_on_input(console, request.job, source, sink)
@@ -183,7 +195,7 @@ fn respond_on_input<
     requires { IsInRange job }
     ensures { DoesJob R.left R.tally W.held W.tally job source sink.old sink.new (exit_status result) }
 {
-    let rt = console.rt;
+    let Console { rt, is_closed, .. } = console;
     let input = match read_all(console.alloc, &mut source) {
         Ok(input) => input,
         Err(fault) => return failure(rt, ProgramFault::from(fault)),
@@ -195,7 +207,7 @@ fn respond_on_input<
     };
     tell_remarks(rt, job, &texts);
     let outcome = perform(console, job, &texts, sink, &mut NoWatcher);
-    ended(rt, job, &texts, outcome)
+    ended(rt, is_closed, job, &texts, outcome)
 }
 
 /// Reads the files that are named, then does the job on them. An improvement is followed by those that are to be written.
@@ -253,7 +265,7 @@ fn respond_on<
         (option_map (λ text. text.items) texts.now.second) (option_map (λ text. text.items) texts.now.from) sink.old sink.new
         (exit_status result) }
 {
-    let rt = console.rt;
+    let Console { rt, is_closed, .. } = console;
     let given = Texts {
         input: &texts.input,
         second: texts.second.as_deref(),
@@ -269,12 +281,14 @@ fn respond_on<
     if let Err(ProgramFault::Begin(fault)) = outcome {
         return not_begun(rt, request, &given, fault);
     }
-    ended(rt, request.job, &given, outcome)
+    ended(rt, is_closed, request.job, &given, outcome)
 }
 
-/// The status of a job on these texts. What went wrong is said, the first bad line, and that a search ended with its history full.
+/// The status of a job on these texts. What went wrong is said, unless nobody reads the output any more, the first bad line, and that a
+/// search ended with its history full.
 fn ended<R: Runtime + AllocGlobal>(
     rt: &R,
+    is_closed: &AtomicBool,
     job: Job,
     texts: &Texts<'_>,
     outcome: Result<Ending, ProgramFault>,
@@ -296,6 +310,7 @@ fn ended<R: Runtime + AllocGlobal>(
         }
         Ok(_) => ExitCode::SUCCESS,
         Err(ProgramFault::League(fault)) => refused(rt, league_text(job, texts), fault),
+        Err(ProgramFault::Write) if is_closed.load(Ordering::SeqCst) => ExitCode::FAILURE,
         Err(fault) => failure(rt, fault),
     }
 }
@@ -319,6 +334,9 @@ fn shown<R: Runtime>(rt: &R, printed: io::Result<()>) -> ExitCode
     ensures written { OnOk printed (exit_status result ≡ 0) }
     ensures failed { OnErr printed (exit_status result ≡ 1) }
 {
+    if is_broken_pipe(&printed) {
+        return ExitCode::FAILURE;
+    }
     match printed {
         Ok(()) => ExitCode::SUCCESS,
         Err(_) => failure(rt, ProgramFault::Write),

@@ -8,6 +8,13 @@ use Rattle.texts.specs.PlayText.{counted}
 abbrev pub clear_line : List ℕ
 clear_line = 13 ∷ 27 ∷ codes "[K"
 
+-- what has a terminal cut a text at its width, and what has it go on in the next line again
+abbrev pub wrap_off : List ℕ
+wrap_off = 27 ∷ codes "[?7l"
+
+abbrev pub wrap_on : List ℕ
+wrap_on = 27 ∷ codes "[?7h"
+
 -- so many of all, in percent
 abbrev pub percent : ℕ → ℕ → ℕ
 percent steps all = min (steps * 100 / max all 1) 100
@@ -26,6 +33,7 @@ left_text (Some s) =
     concat (codes " left " ∷ decimal (s / 3600) ∷ codes ":" ∷ decimal (s / 600 % 6) ∷ decimal (s / 60 % 10) ∷ codes ":" ∷
     decimal (s / 10 % 6) ∷ decimal (s % 10) ∷ [])
 
--- the share of the steps that were taken, how many of all, the least total and the time that is left, written over a terminal's line
+-- the share of the steps that were taken, how many of all, the least total and the time that is left, written over a terminal's line and
+-- cut at its width
 abbrev pub progress_line : Advance → List ℕ
-progress_line a = clear_line ++ steps_text a ++ least_text a.least ++ left_text a.left
+progress_line a = clear_line ++ wrap_off ++ steps_text a ++ least_text a.least ++ left_text a.left ++ wrap_on

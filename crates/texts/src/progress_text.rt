@@ -2,7 +2,7 @@
 
 ghost use Rattle.std.specs.Prelude.{◌≡◌};
 ghost use Rattle.streams.specs.Writing.{Writes};
-ghost use Rattle.texts.specs.ProgressText.{clear_line, least_text, left_text, percent, progress_line, steps_text};
+ghost use Rattle.texts.specs.ProgressText.{clear_line, least_text, left_text, percent, progress_line, steps_text, wrap_off, wrap_on};
 
 use crate::lines::write_counted;
 use crate::pieces::{Piece, write_pieces};
@@ -21,6 +21,12 @@ pub struct Advance {
     pub left: Option<u64>,
 }
 
+/// Has the terminal cut what is too wide for its line.
+const WRAP_OFF: &[u8] = b"\x1b[?7l";
+
+/// Has it go on in the next line again.
+const WRAP_ON: &[u8] = b"\x1b[?7h";
+
 /// Takes away what stands on the terminal's line: back to its start, and erase to its end (ECMA-48).
 pub fn write_clear<W: Sink>(out: &mut BufferedSink<'_, W>) -> Result<(), WriteFault>
     ensures { Writes W.held W.tally out.old out.new result clear_line }
@@ -29,7 +35,8 @@ pub fn write_clear<W: Sink>(out: &mut BufferedSink<'_, W>) -> Result<(), WriteFa
 }
 
 /// Writes over the terminal's line how far a search is: the share of the steps, how many there were of all, the least total, and the time
-/// that is left if it can be told.
+/// that is left if it can be told. A terminal cuts it at its width, since it is told to wrap no text meanwhile (DECAWM, a private mode of
+/// DEC's VT100 that ECMA-48 leaves to terminals).
 pub fn write_progress<W: Sink>(
     out: &mut BufferedSink<'_, W>,
     advance: Advance,
@@ -37,9 +44,11 @@ pub fn write_progress<W: Sink>(
     ensures { Writes W.held W.tally out.old out.new result (progress_line advance) }
 {
     write_clear(out)?;
+    out.write(WRAP_OFF)?;
     write_steps(out, advance)?;
     write_least(out, advance.least)?;
-    write_left(out, advance.left)
+    write_left(out, advance.left)?;
+    out.write(WRAP_ON)
 }
 
 fn write_steps<W: Sink>(out: &mut BufferedSink<'_, W>, advance: Advance) -> Result<(), WriteFault>

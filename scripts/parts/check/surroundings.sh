@@ -117,23 +117,31 @@ for words in start 'search --workers 2' 'improve --effort 1' --help --version; d
 done
 run 'a closed output' shut start <"$league"
 judge ends 1 'ttp: output cannot be written'
-run 'an improvement whose output is closed' cropped 1000 improve --effort 1 --workers 1 <"$league"
-judge ends 1 'ttp: output cannot be written'
-run 'an output that is closed while it writes' cropped 100 play --room 20000 <"$made/long"
-judge ends 1 'ttp: output cannot be written'
+# whoever closes a pipe wants no more, so nothing is said
+run 'an improvement whose reader ends' cropped 1000 improve --effort 1 --workers 1 <"$league"
+judge ends 1
+run 'a reader that ends while a play is written' cropped 100 play --room 20000 <"$made/long"
+judge ends 1
+unread() { { sleep 0.2; "$program" "$@"; } > >(true); }
+for words in start --help; do
+    run "$words whose output nobody reads" unread $words <"$league"
+    judge ends 1
+done
 mute() { "$program" start </dev/null 2>&-; }
 run 'a closed standard error' mute
 judge ends 1
 
 # a terminal
 clear=$'\r\e[K'
+cut=$'\e[?7l'
+uncut=$'\e[?7h'
 # terminal INPUT WORD..: runs the program with standard error on a terminal, which is the output then
 terminal() {
     script -qec "$(printf '%q ' "$program" "${@:2}") <$(printf '%q' "$1") >$(printf '%q' "$made/text")" /dev/null </dev/null
 }
 is_progress() { # STEPS: lines of so many steps, and what takes each of them or the last one away
     local best='best ([0-9]+|none)( left [0-9]+(:[0-5][0-9]){2})?'
-    ends 0 && [[ $(<"$made/output") =~ ^(("$clear")+[0-9]+\ %\ steps\ [0-9]+\ of\ "$1"\ $best)+"$clear"$ ]]
+    ends 0 && [[ $(<"$made/output") =~ ^(("$clear")+"$cut"[0-9]+\ %\ steps\ [0-9]+\ of\ "$1"\ $best"$uncut")+"$clear"$ ]]
 }
 if script -qec true /dev/null </dev/null >"$made/error" 2>&1; then
     run 'a long search on a terminal' terminal leagues/circular-10.json search --workers 4 --steps 1000000 --slack 60 --room 1048576
@@ -144,6 +152,9 @@ if script -qec true /dev/null </dev/null >"$made/error" 2>&1; then
     run 'an improvement on a terminal' terminal leagues/circular-10.json improve --effort 10
     judge is_progress 10000000
     judge grep -q '100 % steps 10000000 of 10000000 best' "$made/output"
+    # the line is cut at the terminal's width, and without the sequences for that it would take two
+    judge test "$(python3 scripts/parts/terminal.py 40 <"$made/output")" = 1
+    judge test "$(sed 's/\x1b\[?7[lh]//g' "$made/output" | python3 scripts/parts/terminal.py 40)" -gt 1
     judge test "$(steps_of "$made/text")" = 10000000
     from_terminal() { printf '\004' | script -qec "$(printf '%q ' "$program") start 2>$(printf '%q' "$made/text")" /dev/null; }
     run 'a start with standard input on a terminal' from_terminal

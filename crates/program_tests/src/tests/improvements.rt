@@ -269,10 +269,10 @@ fn line_comes_again_in_the_next_run(rt: HostRuntime) {
     run(&rt, &line, 250);
     run(&rt, &line, 30);
     drop(line);
-    let expected = b"\r\x1b[K89 % steps 250 of 280 best 30 left 0:00:00\
-        \r\x1b[K89 % steps 250 of 280 best 30 left 0:00:00\r\x1b[K\
-        \r\x1b[K89 % steps 251 of 280 best 30 left 0:00:00\
-        \r\x1b[K100 % steps 280 of 280 best 30 left 0:00:00\r\x1b[K";
+    let expected = b"\r\x1b[K\x1b[?7l89 % steps 250 of 280 best 30 left 0:00:00\x1b[?7h\
+        \r\x1b[K\x1b[?7l89 % steps 250 of 280 best 30 left 0:00:00\x1b[?7h\r\x1b[K\
+        \r\x1b[K\x1b[?7l89 % steps 251 of 280 best 30 left 0:00:00\x1b[?7h\
+        \r\x1b[K\x1b[?7l100 % steps 280 of 280 best 30 left 0:00:00\x1b[?7h\r\x1b[K";
     check_same(&rt, &terminal.held(), &expected.as_slice());
 }
 
@@ -287,9 +287,9 @@ fn line_stays_away_while_a_text_is_written(rt: HostRuntime) {
     tell(&rt, &line, 249);
     tell(&rt, &line, 1);
     drop(line);
-    let expected = b"\r\x1b[K31 % steps 250 of 800 best 30 left 0:00:00\
-        \r\x1b[K31 % steps 250 of 800 best 30 left 0:00:00\r\x1b[K\
-        \r\x1b[K62 % steps 500 of 800 best 30 left 0:00:00";
+    let expected = b"\r\x1b[K\x1b[?7l31 % steps 250 of 800 best 30 left 0:00:00\x1b[?7h\
+        \r\x1b[K\x1b[?7l31 % steps 250 of 800 best 30 left 0:00:00\x1b[?7h\r\x1b[K\
+        \r\x1b[K\x1b[?7l62 % steps 500 of 800 best 30 left 0:00:00\x1b[?7h";
     check_same(&rt, &terminal.held(), &expected.as_slice());
 }
 

@@ -121,12 +121,12 @@ const SHOWINGS: &[Showing<'_>] = &[
         writes: &[],
         told: TOLD,
         ends: true,
-        shown: "\r\x1b[K10 % steps 4096 of 40000 best none left 0:00:02\
-            \r\x1b[K20 % steps 8192 of 40000 best 3000 left 0:00:01\
-            \r\x1b[K30 % steps 12288 of 40000 best 998 left 0:00:01\
-            \r\x1b[K40 % steps 16384 of 40000 best 998 left 0:00:01\
-            \r\x1b[K51 % steps 20480 of 40000 best 998 left 0:00:01\
-            \r\x1b[K51 % steps 20480 of 40000 best 998 left 0:00:01\
+        shown: "\r\x1b[K\x1b[?7l10 % steps 4096 of 40000 best none left 0:00:02\x1b[?7h\
+            \r\x1b[K\x1b[?7l20 % steps 8192 of 40000 best 3000 left 0:00:01\x1b[?7h\
+            \r\x1b[K\x1b[?7l30 % steps 12288 of 40000 best 998 left 0:00:01\x1b[?7h\
+            \r\x1b[K\x1b[?7l40 % steps 16384 of 40000 best 998 left 0:00:01\x1b[?7h\
+            \r\x1b[K\x1b[?7l51 % steps 20480 of 40000 best 998 left 0:00:01\x1b[?7h\
+            \r\x1b[K\x1b[?7l51 % steps 20480 of 40000 best 998 left 0:00:01\x1b[?7h\
             \r\x1b[K",
     },
     // of the tellings at 249, 498, 747, 996 and 1245 milliseconds the second and the fourth are late enough
@@ -135,9 +135,9 @@ const SHOWINGS: &[Showing<'_>] = &[
         writes: &[],
         told: TOLD,
         ends: true,
-        shown: "\r\x1b[K20 % steps 8192 of 40000 best 3000 left 0:00:01\
-            \r\x1b[K40 % steps 16384 of 40000 best 998 left 0:00:01\
-            \r\x1b[K51 % steps 20480 of 40000 best 998 left 0:00:01\
+        shown: "\r\x1b[K\x1b[?7l20 % steps 8192 of 40000 best 3000 left 0:00:01\x1b[?7h\
+            \r\x1b[K\x1b[?7l40 % steps 16384 of 40000 best 998 left 0:00:01\x1b[?7h\
+            \r\x1b[K\x1b[?7l51 % steps 20480 of 40000 best 998 left 0:00:01\x1b[?7h\
             \r\x1b[K",
     },
     // no total is known
@@ -146,8 +146,8 @@ const SHOWINGS: &[Showing<'_>] = &[
         writes: &[],
         told: &[(0, None), (0, None)],
         ends: false,
-        shown: "\r\x1b[K10 % steps 4096 of 40000 best none left 0:00:08\
-            \r\x1b[K20 % steps 8192 of 40000 best none left 0:00:07",
+        shown: "\r\x1b[K\x1b[?7l10 % steps 4096 of 40000 best none left 0:00:08\x1b[?7h\
+            \r\x1b[K\x1b[?7l20 % steps 8192 of 40000 best none left 0:00:07\x1b[?7h",
     },
     // steps take an hour
     Showing {
@@ -155,14 +155,14 @@ const SHOWINGS: &[Showing<'_>] = &[
         writes: &[],
         told: &[(0, None)],
         ends: false,
-        shown: "\r\x1b[K10 % steps 4096 of 40000 best none left 8:45:56",
+        shown: "\r\x1b[K\x1b[?7l10 % steps 4096 of 40000 best none left 8:45:56\x1b[?7h",
     },
     Showing {
         step: Some(24),
         writes: &[],
         told: TOO_MANY,
         ends: false,
-        shown: "\r\x1b[K100 % steps 45056 of 40000 best none left 0:00:00",
+        shown: "\r\x1b[K\x1b[?7l100 % steps 45056 of 40000 best none left 0:00:00\x1b[?7h",
     },
     // a failed write loses its line alone
     Showing {
@@ -170,11 +170,11 @@ const SHOWINGS: &[Showing<'_>] = &[
         writes: &[Step::Failed, Step::Moved(5), Step::Moved(0)],
         told: TOLD,
         ends: true,
-        shown: "\r\x1b[K2\
-            \r\x1b[K30 % steps 12288 of 40000 best 998 left 0:00:01\
-            \r\x1b[K40 % steps 16384 of 40000 best 998 left 0:00:01\
-            \r\x1b[K51 % steps 20480 of 40000 best 998 left 0:00:01\
-            \r\x1b[K51 % steps 20480 of 40000 best 998 left 0:00:01\
+        shown: "\r\x1b[K\x1b\
+            \r\x1b[K\x1b[?7l30 % steps 12288 of 40000 best 998 left 0:00:01\x1b[?7h\
+            \r\x1b[K\x1b[?7l40 % steps 16384 of 40000 best 998 left 0:00:01\x1b[?7h\
+            \r\x1b[K\x1b[?7l51 % steps 20480 of 40000 best 998 left 0:00:01\x1b[?7h\
+            \r\x1b[K\x1b[?7l51 % steps 20480 of 40000 best 998 left 0:00:01\x1b[?7h\
             \r\x1b[K",
     },
     // no line is due
@@ -270,11 +270,11 @@ fn found<T: Threads + Wait + Sync>(rt: &T, alloc: Global) -> Result<Vec<u8>, All
 }
 
 /// The totals are those of `PAUSE=1 scripts/oracle worker-steps asks 1 0 4 4 4 100000`.
-const SHOWN: &[u8] = b"\r\x1b[K25 % steps 1 of 4 best 30 left 0:00:03\
-    \r\x1b[K50 % steps 2 of 4 best 30 left 0:00:02\
-    \r\x1b[K75 % steps 3 of 4 best 26 left 0:00:01\
-    \r\x1b[K100 % steps 4 of 4 best 26 left 0:00:00\
-    \r\x1b[K100 % steps 4 of 4 best 26 left 0:00:00\
+const SHOWN: &[u8] = b"\r\x1b[K\x1b[?7l25 % steps 1 of 4 best 30 left 0:00:03\x1b[?7h\
+    \r\x1b[K\x1b[?7l50 % steps 2 of 4 best 30 left 0:00:02\x1b[?7h\
+    \r\x1b[K\x1b[?7l75 % steps 3 of 4 best 26 left 0:00:01\x1b[?7h\
+    \r\x1b[K\x1b[?7l100 % steps 4 of 4 best 26 left 0:00:00\x1b[?7h\
+    \r\x1b[K\x1b[?7l100 % steps 4 of 4 best 26 left 0:00:00\x1b[?7h\
     \r\x1b[K";
 
 #[test]
@@ -327,7 +327,7 @@ impl<C: Clock, W: Sink> Gate for ByHundreds<'_, C, W> {
 pub(crate) fn last_line(shown: &[u8]) -> Option<&str> {
     let shown = str::from_utf8(shown).ok()?;
     let (lines, _) = shown.rsplit_once("\r\x1b[K")?;
-    let (_, last) = lines.rsplit_once("\r\x1b[K")?;
+    let (_, last) = lines.rsplit_once("\r\x1b[K\x1b[?7l")?;
     Some(last)
 }
 
