@@ -9,7 +9,7 @@ ghost use Rattle.command_line.specs.CommandLine.{improve_options, plan_options, 
 ghost use Rattle.command_line.specs.CommandLine.{plan_in, program, program_of, report_command, search_command, start_command, words_fault};
 ghost use Rattle.command_line.specs.Files.{files_of};
 ghost use Rattle.command_line.specs.CommandLine.{number_in, seconds_option, IsInRange, IsPlanInRange};
-ghost use Rattle.command_line.specs.within.CommandLine.{HasValue, HasValues, NamesACommand};
+ghost use Rattle.command_line.specs.within.CommandLine.{HasValue, HasValues, NamesACommand, form_named};
 
 use crate::help::{
     IMPROVE_ABOUT, IMPROVE_EXAMPLE, PLAY_ABOUT, PLAY_LINES, PROGRAM_ABOUT, PROGRAM_EXAMPLE,
@@ -207,7 +207,9 @@ fn with_start<'a>(alloc: Global) -> Result<Command<'a>, AllocError>
 }
 
 /// The command of this name, and `start` for any other.
-pub(crate) fn command_named<'a>(alloc: Global, name: &str) -> Result<Command<'a>, AllocError> {
+pub(crate) fn command_named<'a>(alloc: Global, name: &str) -> Result<Command<'a>, AllocError>
+    ensures { IfOk result (λ c. app_of c ≡ app_of_command (form_named name.now)) }
+{
     match name {
         "play" => play_command(alloc),
         "improve" => improve_command(alloc),

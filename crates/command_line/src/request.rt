@@ -5,6 +5,7 @@ ghost use Rattle.clap.specs.Words.{found_of, rows_of, subcommand_rows_of};
 ghost use Rattle.command_line.specs.Beginnings.{beginning_in, beginning_of};
 ghost use Rattle.command_line.specs.CommandLine.{IsInRange, asks_for_all, beginning_of_command, job_of_command};
 ghost use Rattle.command_line.specs.within.CommandLine.{NamesACommand};
+ghost use Rattle.command_line.specs.within.Refusals.{beginning_refusal, refusal_of, values_refusal};
 ghost use Rattle.command_line.specs.Files.{files_of, files_of_command};
 
 use crate::beginning::{BeginningWords, games_in, near_in, rounds_in};
@@ -33,6 +34,8 @@ pub(crate) fn request_of(alloc: Global, matches: &ArgMatches) -> Result<Request,
     ensures in_range { IfOk result (λ request. IsInRange request.job) }
     ensures refused { IfErr result (λ refusal. (refusal ≡ Refusal.Memory)
         ⊎ (asks_for_all (subcommand_rows_of matches.now) ≡ false)) }
+    ensures why { IfErr result (λ refusal. (refusal ≡ Refusal.Memory)
+        ⊎ (option_and_then refusal_of (subcommand_rows_of matches.now) ≡ Some refusal)) }
 {
     let Some(job) = job_of(matches) else {
         return Err(Refusal::Format);
@@ -56,6 +59,8 @@ fn request_with(
     ensures refused { IfErr result (λ refusal. (refusal ≡ Refusal.Memory)
         ⊎ ((is_some (files_of_command (name.now, rows_of (found_of values.now)))
         && is_some (beginning_in (rows_of (found_of values.now)))) ≡ false)) }
+    ensures why { IfErr result (λ refusal. (refusal ≡ Refusal.Memory)
+        ⊎ (values_refusal (name.now, rows_of (found_of values.now)) ≡ Some refusal)) }
 {
     if reads_twice(name, values) {
         return Err(Refusal::Input);
@@ -79,6 +84,8 @@ fn request_with(
 fn beginning_in(alloc: Global, values: &ArgMatches) -> Result<BeginningWords, Refusal>
     ensures some { IfOk result (λ beginning. beginning_in (rows_of (found_of values.now)) ≡ Some (beginning_of beginning)) }
     ensures refused { IfErr result (λ refusal. (refusal ≡ Refusal.Memory) ⊎ (beginning_in (rows_of (found_of values.now)) ≡ None)) }
+    ensures why { IfErr result (λ refusal. (refusal ≡ Refusal.Memory)
+        ⊎ (beginning_refusal (rows_of (found_of values.now)) ≡ Some refusal)) }
 {
     let Some(rounds) = rounds_in(values) else {
         return Err(Refusal::Keep);

@@ -1,12 +1,14 @@
 -- What private functions alone need beside specs/CommandLine.antt.
 use Rattle.std.specs.Prelude.{◌≡◌, Some, None, Option, List, [], ◌∷◌, true, false}
-use Rattle.std.specs.Prelude.{◌⊎◌, is_some, not, option_map}
+use Rattle.std.specs.Prelude.{◌⊎◌, codes, if◌then◌else◌, is_some, not, option_map}
 use Rattle.std.specs.Option.{option_map_or}
+use Rattle.std.specs.Str.{bytes_eq}
 use Rattle.clap.specs.Words.{Row, Text}
 use Rattle.clap.specs.Words.{one_of}
 use Rattle.clap.specs.ValueTests.{accepts}
 use Rattle.command_line.specs.declared.number_args.NumberArg.{NumberArg}
 use Rattle.command_line.specs.CommandLine.{OptionForm, CommandForm, number_option, commands}
+use Rattle.command_line.specs.CommandLine.{improve_command, league_command, play_command, report_command, search_command, start_command}
 
 -- an option as the program has it
 abbrev pub form_of : NumberArg → OptionForm
@@ -29,3 +31,11 @@ NamesOneOf (c ∷ cs) found =
 abbrev pub NamesACommand : Option (Text × List Row) → Type 0
 NamesACommand None = ⊥
 NamesACommand (Some found) = NamesOneOf commands found
+
+-- the command of this name, and `start` for any other
+abbrev pub form_named : Text → CommandForm
+form_named name = if bytes_eq name (codes "play") then play_command
+    else (if bytes_eq name (codes "improve") then improve_command
+    else (if bytes_eq name (codes "search") then search_command
+    else (if bytes_eq name (codes "report") then report_command
+    else (if bytes_eq name (codes "league") then league_command else start_command))))

@@ -1,0 +1,22 @@
+-- Why words are refused that clap takes: the first of the reasons, in the order in which they are looked for.
+use Rattle.std.specs.Prelude.{List, Option, Some, None, if◌then◌else◌, is_some}
+use Rattle.clap.specs.Words.{Row, Text}
+use Rattle.command_line.specs.Beginnings.{games_in, near_in, rounds_in}
+use Rattle.command_line.specs.CommandLine.{job_of_command}
+use Rattle.command_line.specs.Files.{files_in, miswrites, reads_twice}
+use Rattle.command_line.specs.declared.refusals.Refusal.{Refusal}
+use Rattle.command_line.specs.declared.refusals.Refusal.TheVariants.{Format, Input, Output, Keep, KeepGame, Near}
+
+-- why the values keep nothing of a start
+abbrev pub beginning_refusal : List Row → Option Refusal
+beginning_refusal rows = if is_some (rounds_in rows)
+    then (if is_some (near_in rows) then (if is_some (games_in rows) then None else Some KeepGame) else Some Near)
+    else Some Keep
+
+-- why the values of a command that names a job are refused
+abbrev pub values_refusal : Text × List Row → Option Refusal
+values_refusal found = if reads_twice found.0 (files_in found.1) then Some Input
+    else (if miswrites (files_in found.1) then Some Output else beginning_refusal found.1)
+
+abbrev pub refusal_of : Text × List Row → Option Refusal
+refusal_of found = if is_some (job_of_command found) then values_refusal found else Some Format
