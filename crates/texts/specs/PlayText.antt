@@ -15,6 +15,7 @@ use Rattle.fixture_board.specs.declared.reply.Reply.TheVariants.{Done, No}
 use Rattle.fixture_board.specs.declared.reply.Why.{Why}
 use Rattle.fixture_board.specs.declared.reply.Why.TheVariants as why
 use Rattle.fixture_board.specs.History.{games_of, cost_at, best_of}
+use Rattle.fixture_board.specs.Record.{Book, book}
 use Rattle.fixture_board.specs.Replies.{ask_of, ask_with, greatest, next_of, reply_of}
 use Rattle.texts.specs.Command.{line_of}
 use Rattle.texts.specs.Sheet.{sheet_of}
@@ -151,3 +152,10 @@ closing_text league h = history_text h ++ sheet_of (games_of league h) league ++
 unfoldable pub play_text : LeagueData → ℕ → List (List ℕ) → List ℕ
 play_text league room script =
     start_line (cost_at league []) ++ answers league room script ++ closing_text league (played league room script)
+
+-- a board after the first lines of a script, which may be none or all
+pub record IsPlayedInPart (league : LeagueData) (room : ℕ) (script : List (List ℕ)) (board : Book) : Type 0 where
+  pub done : List (List ℕ)
+  pub left : List (List ℕ)
+  pub parts : script ≡ done ++ left
+  pub is : board ≡ book league room (played league room done)

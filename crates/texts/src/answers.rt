@@ -1,11 +1,11 @@
 //! What a board answers to the lines of a script.
 
-ghost use Rattle.std.specs.Prelude.{◌≡◌, ◌++◌, [], OnOk};
+ghost use Rattle.std.specs.Prelude.{◌≡◌, ◌++◌, [], OnErr, OnOk};
 ghost use Rattle.std.specs.Str.Lines.{lines};
 ghost use Rattle.streams.specs.Writing.{Writes};
 ghost use Rattle.fixture_board.specs.Record.{book};
 ghost use Rattle.fixture_board.specs.Replies.{ask_of};
-ghost use Rattle.texts.specs.PlayText.{answer_to, answers, costs_of, done_line, history_after, no_line};
+ghost use Rattle.texts.specs.PlayText.{IsPlayedInPart, answer_to, answers, costs_of, done_line, history_after, no_line};
 ghost use Rattle.texts.specs.PlayText.{played, reply_line, slack_after, tried_line, why_text, would_line};
 
 use crate::input::next_line;
@@ -28,6 +28,7 @@ pub(crate) fn write_answers<W: Sink>(
         (answers board.old.league board.old.room (lines script.now)) }
     ensures board { OnOk result (board.new ≡ book board.old.league board.old.room
         (played board.old.league board.old.room (lines script.now))) }
+    ensures stopped { OnErr result (IsPlayedInPart board.old.league board.old.room (lines script.now) board.new) }
 {
     let mut slack = u64::MAX;
     let mut number = 1;

@@ -9,7 +9,7 @@ ghost use Rattle.streams.specs.Tally.{FailsWriting};
 ghost use Rattle.streams.specs.Writing.{Writes};
 ghost use Rattle.fixture_board.specs.History.{best_of};
 ghost use Rattle.fixture_board.specs.Record.{book};
-ghost use Rattle.texts.specs.PlayText.{best_line, closing_text, play_text, played, start_line};
+ghost use Rattle.texts.specs.PlayText.{IsPlayedInPart, best_line, closing_text, play_text, played, start_line};
 
 use crate::answers::{write_answers, write_costs};
 use crate::history::write_history;
@@ -20,7 +20,7 @@ use fixture_board::{Best, Board};
 use streams::{BufferedSink, Sink, WriteFault};
 
 /// Plays a script on a new board, and writes the play text. Takes no memory. The board then has the script's history.
-/// After a fault a prefix of the text went out, and the board may have a prefix of the history.
+/// After a fault a prefix of the text went out, and the board has the history of the first lines of the script.
 pub fn play_script<W: Sink>(
     board: &mut Board,
     script: &[u8],
@@ -35,6 +35,7 @@ pub fn play_script<W: Sink>(
         (FailsWriting write_limit (W.tally sink.old) (W.tally sink.new)) }
     ensures board { OnOk result (board.new ≡ book board.old.league board.old.room
         (played board.old.league board.old.room (lines script.now))) }
+    ensures stopped { OnErr result (IsPlayedInPart board.old.league board.old.room (lines script.now) board.new) }
 {
     let mut out = BufferedSink::new(sink);
     write_start(&mut out, board.cost())?;

@@ -9,6 +9,7 @@ use crate::input::rest_from;
 /// Takes the first word off a line.
 pub fn next_word<'a>(line: &mut &'a [u8]) -> Option<&'a [u8]>
     ensures none { IfNone result (words_of line.old.now ≡ []) }
+    ensures same { IfNone result (line.new.now ≡ line.old.now) }
     ensures some { IfSome result (λ word. words_of line.old.now ≡ word.now ∷ words_of line.new.now) }
     ensures word { IfSome result (λ word. is_word word.now ≡ true) }
 {

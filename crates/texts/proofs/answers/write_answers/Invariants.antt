@@ -1,11 +1,12 @@
 use Rattle.std.proofs.Common.{◌≡◌, length}
-use Rattle.texts.proofs.Answering.{IsAnsweredTo}
+use Rattle.texts.proofs.Answering.{IsAnsweredTo, IsLedTo}
 use Rattle.texts.proofs.answers.write_answers.Given as goal
 
 abbrev pub invariant-loop-line : goal.invariant-loop-line
 invariant-loop-line g l = record {
   answered : IsAnsweredTo g.W.Sink.held g.W.Sink.tally l.initial.out l.out l.initial.board.league l.initial.board.room l.script l.rest
       l.board.history l.slack l.number;
+  led : IsLedTo l.initial.board.league l.initial.board.room l.script l.rest l.board.history l.slack;
   same_league : l.board.league ≡ l.initial.board.league;
   same_room : l.board.room ≡ l.initial.board.room;
 }

@@ -1,8 +1,10 @@
 use Rattle.std.proofs.lemmas.Grind.{common_steps}
-use Rattle.std.proofs.Common.{arith}
+use Rattle.std.proofs.Common.{arith, subst, sym}
 use Rattle.std.specs.Str.Lines.{lines}
 use Rattle.streams.proofs.Pieces.{Adds-delivers, Adds-stops, Adds-then, Stops-delivers, Stops-more}
-use Rattle.texts.specs.PlayText.{answers, closing_text, play_text, played}
+use Rattle.fixture_board.specs.Record.{book}
+use Rattle.texts.specs.PlayText.{IsPlayedInPart, answers, closing_text, play_text, played}
+use Rattle.texts.proofs.Answering.{at_err, played_all, played_none}
 use Rattle.texts.proofs.Parts.{prefix_at}
 use Rattle.texts.proofs.play_text.play_script.Goals as goal
 
@@ -13,6 +15,12 @@ returns-in_err-write_start-clause-prefix g c =
     let stopped = Stops-more (closing_text b.league (played b.league b.room script))
     (Stops-more (answers b.league b.room script) (rw (c.cost.ensures.value, c.requires) at c.in_err-write_start.ensures.err)) in
     prefix_at g.W.Sink.held _ _ _ _ _ (Stops-delivers c.new-out.ensures c.from_residual.ensures.0 stopped).prefix (grind arith)
+
+pub returns-in_err-write_start-clause-stopped : goal.returns-in_err-write_start-clause-stopped
+returns-in_err-write_start-clause-stopped g c =
+    let b = c.args.board.now in let script = lines c.args.script.now in
+    at_err c.from_residual.result (subst (λ h. IsPlayedInPart b.league b.room script (book b.league b.room h)) (sym c.requires)
+    (played_none b.league b.room script))
 
 pub returns-in_err-write_answers-clause-prefix : goal.returns-in_err-write_answers-clause-prefix
 unfolding play_text
@@ -32,6 +40,12 @@ returns-in_err-write_closing-clause-prefix g c =
     prefix_at g.W.Sink.held _ _ _ _ _
     (Stops-delivers c.new-out.ensures c.from_residual-in_err-write_closing.ensures.0 stopped).prefix (grind arith)
 
+pub returns-in_err-write_closing-clause-stopped : goal.returns-in_err-write_closing-clause-stopped
+returns-in_err-write_closing-clause-stopped g c =
+    let b = c.args.board.now in let script = lines c.args.script.now in
+    at_err c.from_residual-in_err-write_closing.result (subst (IsPlayedInPart b.league b.room script)
+    (sym c.in_ok-write_answers.ensures.board) (played_all b.league b.room script))
+
 pub returns : goal.returns
 unfolding play_text
 returns g c =
@@ -44,4 +58,6 @@ returns g c =
       prefix = prefix_at g.W.Sink.held _ _ _ _ _ delivered.prefix (grind arith);
       cause = grind (arith, common_steps, delivered.cause);
       board = grind (arith, common_steps);
+      stopped = at_err c.flush.result (subst (IsPlayedInPart c.args.board.now.league c.args.board.now.room (lines c.args.script.now))
+          (sym c.in_ok-write_answers.ensures.board) (played_all _ _ _));
     }
