@@ -1,8 +1,9 @@
 //! Words that clap takes and the program doesn't, and the errors that tell so in clap's form.
 
-ghost use Rattle.std.specs.Prelude.{◌≡◌, [], ◌∷◌, IfOk};
-ghost use Rattle.clap.specs.Words.{kind_of};
+ghost use Rattle.std.specs.Prelude.{◌≡◌, [], ◌∷◌, IfOk, map};
+ghost use Rattle.clap.specs.Words.{found_of, kind_of, rows_of};
 ghost use Rattle.clap.specs.Kinds.{HasKind};
+ghost use Rattle.command_line.specs.within.Refusals.{first_wrong, wrong_game};
 
 use crate::beginning::game_of_text;
 use crate::job::command_named;
@@ -110,12 +111,21 @@ fn format_message(alloc: Global, values: &ArgMatches) -> Result<String, AllocErr
 }
 
 /// The first text that is no game.
-fn wrong_game<'a>(values: &ArgMatches<'a>) -> &'a str {
-    if let Some(texts) = values.get_raw("keep-game") {
-        for text in texts {
-            if game_of_text(text).is_none() {
-                return text;
-            }
+fn wrong_game<'a>(values: &ArgMatches<'a>) -> &'a str
+    ensures { result.now ≡ wrong_game (rows_of (found_of values.now)) }
+{
+    match values.get_raw("keep-game") {
+        Some(texts) => first_wrong(texts),
+        None => "",
+    }
+}
+
+fn first_wrong<'a>(texts: &[&'a str]) -> &'a str
+    ensures { result.now ≡ first_wrong (map (λ text. text.now) texts.now) }
+{
+    for text in texts {
+        if game_of_text(text).is_none() {
+            return text;
         }
     }
     ""

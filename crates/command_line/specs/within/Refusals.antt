@@ -1,7 +1,8 @@
 -- Why words are refused that clap takes: the first of the reasons, in the order in which they are looked for.
-use Rattle.std.specs.Prelude.{List, Option, Some, None, if◌then◌else◌, is_some}
-use Rattle.clap.specs.Words.{Row, Text}
-use Rattle.command_line.specs.Beginnings.{games_in, near_in, rounds_in}
+use Rattle.std.specs.Prelude.{List, [], ◌∷◌, Option, Some, None, codes, if◌then◌else◌, is_some}
+use Rattle.std.specs.Option.{option_map_or}
+use Rattle.clap.specs.Words.{Row, Text, all_of}
+use Rattle.command_line.specs.Beginnings.{game_of_text, games_in, near_in, rounds_in}
 use Rattle.command_line.specs.CommandLine.{job_of_command}
 use Rattle.command_line.specs.Files.{files_in, miswrites, reads_twice}
 use Rattle.command_line.specs.declared.refusals.Refusal.{Refusal}
@@ -20,3 +21,11 @@ values_refusal found = if reads_twice found.0 (files_in found.1) then Some Input
 
 abbrev pub refusal_of : Text × List Row → Option Refusal
 refusal_of found = if is_some (job_of_command found) then values_refusal found else Some Format
+
+-- the first of the texts that is no game
+abbrev pub first_wrong : List Text → Text
+first_wrong [] = []
+first_wrong (text ∷ texts) = if is_some (game_of_text text) then first_wrong texts else text
+
+abbrev pub wrong_game : List Row → Text
+wrong_game rows = option_map_or first_wrong (all_of (codes "keep-game") rows) []
