@@ -1,7 +1,9 @@
 -- What a hint says.
-use Rattle.std.specs.Prelude.{ℕ, List, [], ◌∷◌, ◌++◌, codes, decimal}
+use Rattle.std.specs.Prelude.{ℕ, List, [], ◌∷◌, ◌++◌, codes, decimal, Float, Option, None}
 use Rattle.std.specs.List.{concat}
 use Rattle.league.specs.Messages.{member_name}
+use Rattle.advice.specs.declared.hint.Hint.{Hint}
+use Rattle.advice.specs.declared.hint.Hint.TheVariants as hint
 use Rattle.advice.specs.declared.hint.Place.{Place}
 use Rattle.advice.specs.declared.hint.Place.TheVariants as place
 use Rattle.advice.specs.declared.hint.RuleMember.{RuleMember}
@@ -10,7 +12,7 @@ use Rattle.advice.specs.declared.hint.Seen.{Seen}
 use Rattle.advice.specs.declared.hint.Seen.TheVariants as seen
 use Rattle.advice.specs.declared.hint.Wanted.{Wanted}
 use Rattle.advice.specs.declared.hint.Wanted.TheVariants as wanted
-use Rattle.json_forms.specs.Forms.{form_words, quote_words}
+use Rattle.json_forms.specs.Forms.{float_of, form_words, quote_words}
 
 abbrev pub rule_member_name : RuleMember → List ℕ
 rule_member_name member.Class = codes "class"
@@ -37,13 +39,20 @@ place_words (place.Distance row column) = codes "distances: row " ++ decimal row
 place_words (place.Member rule member) =
     concat (codes "rule " ∷ decimal rule ∷ codes ": member \"" ∷ rule_member_name member ∷ codes "\"" ∷ [])
 
-abbrev pub seen_words : Seen → List ℕ
-seen_words seen.Absent = codes "is absent"
-seen_words (seen.Value form) = codes "is " ++ form_words form
-seen_words (seen.Item form) = codes "has " ++ form_words form
-seen_words (seen.Length length) = codes "has length " ++ decimal length
-seen_words (seen.Bytes quote bytes) = quote_words quote ++ codes " has " ++ decimal bytes ++ codes " bytes"
-seen_words (seen.ControlByte quote) = quote_words quote ++ codes " has a control byte"
+-- a number that is seen and is no whole number of 64 bits
+abbrev pub float_seen : Seen → Option Float
+float_seen (seen.Value form) = float_of form
+float_seen (seen.Item form) = float_of form
+float_seen seen = None
+
+-- what is seen, by this numeral if it is such a number
+abbrev pub seen_words : List ℕ → Seen → List ℕ
+seen_words numeral seen.Absent = codes "is absent"
+seen_words numeral (seen.Value form) = codes "is " ++ form_words numeral form
+seen_words numeral (seen.Item form) = codes "has " ++ form_words numeral form
+seen_words numeral (seen.Length length) = codes "has length " ++ decimal length
+seen_words numeral (seen.Bytes quote bytes) = quote_words quote ++ codes " has " ++ decimal bytes ++ codes " bytes"
+seen_words numeral (seen.ControlByte quote) = quote_words quote ++ codes " has a control byte"
 
 abbrev pub wanted_words : Wanted → List ℕ
 wanted_words wanted.Object = codes "an object"
@@ -65,3 +74,34 @@ wanted_words wanted.SlotChoice = codes "\"EVERY\" or \"GLOBAL\""
 wanted_words (wanted.Teams teams) = codes "an array of team numbers from 1 to " ++ decimal teams
 wanted_words (wanted.Rounds rounds) = codes "an array of round numbers from 1 to " ++ decimal rounds
 wanted_words (wanted.Games teams) = codes "an array of pairs of distinct team numbers from 1 to " ++ decimal teams
+
+-- the whole line
+
+abbrev pub way_words : ℕ → ℕ → ℕ → List ℕ
+way_words from to distance = decimal from ++ codes " to " ++ decimal to ++ codes " is " ++ decimal distance
+
+-- what is seen at a place, and what is wanted there
+abbrev pub value_line : List ℕ → Place → Seen → Wanted → List ℕ
+value_line numeral place seen wanted =
+    concat (codes "see " ∷ place_words place ∷ codes " " ∷ seen_words numeral seen ∷ codes ", " ∷ wanted_words wanted ∷ codes " is wanted" ∷ [])
+
+-- a number that the hint shows and that is no whole number of 64 bits
+abbrev pub hint_float : Hint → Option Float
+hint_float (hint.Value place seen wanted) = float_seen seen
+hint_float hint = None
+
+-- the line without its end, with this numeral for such a number
+abbrev pub hint_line : List ℕ → Hint → List ℕ
+hint_line numeral (hint.Text line column) = codes "see line " ++ decimal line ++ codes ", column " ++ decimal column
+hint_line numeral hint.Blank = codes "see the text: it is empty"
+hint_line numeral (hint.NotUtf8 line) = codes "see line " ++ decimal line ++ codes ": it is no UTF-8"
+hint_line numeral hint.ByteOrderMark = codes "see line 1: it begins with a byte order mark"
+hint_line numeral (hint.ScriptBehind line) = codes "see line " ++ decimal line ++ codes ": \"script\" has to stand on a line of its own"
+hint_line numeral (hint.SheetBehind line) = codes "see line " ++ decimal line ++ codes ": \"sheet\" has to stand on a line of its own"
+hint_line numeral (hint.TeamCount teams) = codes "see teams: " ++ decimal teams ++ codes " of them, an even number from 4 to 40 is wanted"
+hint_line numeral (hint.Rows rows teams) = codes "see distances: " ++ decimal rows ++ codes " rows for " ++ decimal teams ++ codes " teams"
+hint_line numeral (hint.TwoDistances from to there back) =
+    codes "see distances: " ++ way_words from to there ++ codes ", " ++ way_words to from back
+hint_line numeral (hint.RuleCount rules) = codes "see rules: " ++ decimal rules ++ codes " of them, at most 256 are wanted"
+hint_line numeral (hint.SecondFormat rule) = codes "see rule " ++ decimal rule ++ codes ": class FA2 needs \"format\": 2"
+hint_line numeral (hint.Value place seen wanted) = value_line numeral place seen wanted

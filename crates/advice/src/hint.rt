@@ -1,15 +1,17 @@
 //! Where the first fault of a league's text lies, what is seen there, and what is wanted.
 
-ghost use Rattle.std.specs.Prelude.{◌≡◌, Some};
-ghost use Rattle.advice.specs.Lines.{place_words, rule_member_name, seen_words, wanted_words};
-ghost use Rattle.advice.specs.within.Lines.{hint_line};
+ghost use Rattle.std.specs.Prelude.{◌≡◌, [], Some};
+ghost use Rattle.std.specs.Fmt.{DisplaysOnOk};
+ghost use Rattle.json_forms.specs.Numerals.{stated, WritesWithNumeral};
+ghost use Rattle.advice.specs.Lines.{float_seen, hint_float, hint_line, place_words, rule_member_name, seen_words, value_line, wanted_words};
 
 use json_forms::{Form, Quote};
 use league::Field;
 use std::fmt;
+use std::fmt::Display;
 
 /// Where the first fault of a league's text lies. All is numbered from 1.
-#[derive(Clone, Copy, Debug, Drop, PartialEq, Eq)]
+#[derive(Clone, Copy, Debug, Drop, PartialEq)]
 pub enum Hint {
     /// The text stops being JSON at this line and column.
     Text {
@@ -86,7 +88,7 @@ pub enum RuleMember {
 }
 
 /// What is seen at a place, and isn't wanted there.
-#[derive(Clone, Copy, Debug, Drop, PartialEq, Eq)]
+#[derive(Clone, Copy, Debug, Drop, PartialEq)]
 pub enum Seen {
     /// Nothing.
     Absent,
@@ -170,9 +172,12 @@ impl RuleMember {
 
 /// Writes a line without its end, as `see distances: row 3, column 3 is 5, 0 is wanted`.
 impl fmt::Display for Hint {
-    ghost output = { λ hint. Some (hint_line hint) };
+    ghost output = { λ hint. stated (hint_float hint) (hint_line [] hint) };
 
-    fn fmt<W: fmt::Write>(&self, f: &mut fmt::Formatter<W>) -> fmt::Result {
+    fn fmt<W: fmt::Write>(&self, f: &mut fmt::Formatter<W>) -> fmt::Result
+        ensures writes { DisplaysOnOk W.write_str_gives f.old result (stated (hint_float self.now) (hint_line [] self.now)) f.new }
+        ensures numeral { WritesWithNumeral W.write_str_gives f.old result (hint_float self.now) (λ numeral. hint_line numeral self.now) f.new }
+    {
         match *self {
             Hint::Text { line, column } => write!(f, "see line {line}, column {column}"),
             Hint::Blank => f.write_str("see the text: it is empty"),
@@ -216,11 +221,23 @@ impl fmt::Display for Hint {
             Hint::SecondFormat(rule) => {
                 write!(f, "see rule {rule}: class FA2 needs \"format\": 2")
             }
-            Hint::Value(place, seen, wanted) => {
-                write!(f, "see {place} {seen}, {wanted} is wanted")
-            }
+            Hint::Value(place, seen, wanted) => write_value(f, place, seen, wanted),
         }
     }
+}
+
+/// Writes what is seen at a place, and what is wanted there.
+fn write_value<W: fmt::Write>(
+    f: &mut fmt::Formatter<W>,
+    place: Place,
+    seen: Seen,
+    wanted: Wanted,
+) -> fmt::Result
+    ensures { WritesWithNumeral W.write_str_gives f.old result (float_seen seen) (λ numeral. value_line numeral place seen wanted) f.new }
+{
+    write!(f, "see {place} ")?;
+    seen.fmt(f)?;
+    write!(f, ", {wanted} is wanted")
 }
 
 /// Writes what the line has for it, as `distances: row 3`.
@@ -245,13 +262,22 @@ impl fmt::Display for Place {
 
 /// Writes what the line has for it, as `is absent`.
 impl fmt::Display for Seen {
-    ghost output = { λ seen. Some (seen_words seen) };
+    ghost output = { λ seen. stated (float_seen seen) (seen_words [] seen) };
 
-    fn fmt<W: fmt::Write>(&self, f: &mut fmt::Formatter<W>) -> fmt::Result {
+    fn fmt<W: fmt::Write>(&self, f: &mut fmt::Formatter<W>) -> fmt::Result
+        ensures writes { DisplaysOnOk W.write_str_gives f.old result (stated (float_seen self.now) (seen_words [] self.now)) f.new }
+        ensures numeral { WritesWithNumeral W.write_str_gives f.old result (float_seen self.now) (λ numeral. seen_words numeral self.now) f.new }
+    {
         match *self {
             Seen::Absent => f.write_str("is absent"),
-            Seen::Value(form) => write!(f, "is {form}"),
-            Seen::Item(form) => write!(f, "has {form}"),
+            Seen::Value(form) => {
+                f.write_str("is ")?;
+                form.fmt(f)
+            }
+            Seen::Item(form) => {
+                f.write_str("has ")?;
+                form.fmt(f)
+            }
             Seen::Length(length) => write!(f, "has length {length}"),
             Seen::Bytes(quote, bytes) => write!(f, "{quote} has {bytes} bytes"),
             Seen::ControlByte(quote) => write!(f, "{quote} has a control byte"),

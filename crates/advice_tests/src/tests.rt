@@ -3,4 +3,5 @@
 mod hints;
 mod lines;
 mod memory;
+mod numbers;
 mod remarks;

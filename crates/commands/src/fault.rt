@@ -18,7 +18,7 @@ use streams::{ReadFault, WriteFault};
 use thiserror::Error;
 
 /// Why a command fails. Each text stands behind `ttp: ` on standard error.
-#[derive(Clone, Copy, Debug, PartialEq, Eq, Error)]
+#[derive(Clone, Copy, Debug, PartialEq, Error)]
 pub enum ProgramFault {
     /// A read failed, or the input took more reads than one input gets.
     #[error("input cannot be read")]

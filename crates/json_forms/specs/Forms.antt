@@ -1,14 +1,14 @@
 -- What a JSON value is, and how it is shown.
 use Rattle.std.specs.Prelude.{ℕ, ◌-◌, ◌==◌, List, [], ◌∷◌, ◌++◌, length, map, take, replicate, codes, decimal, Bool}
 use Rattle.std.specs.Char.{encode_utf8}
-use Rattle.std.specs.Prelude.{nat_lt, Option, Some, None, option_map, option_and_then, if◌then◌else◌}
+use Rattle.std.specs.Prelude.{nat_lt, Float, Option, Some, None, option_map, option_and_then, if◌then◌else◌}
 use Rattle.std.specs.Fmt.{signed_decimal}
 use Rattle.std.specs.List.{concat, flat_map}
 use Rattle.std.specs.Option.{unwrap_or}
 use Rattle.std.specs.Str.{chars}
 use Rattle.serde_json.specs.Data.{Data, Items, no_items, item}
 use Rattle.serde_json.specs.Events.{items_len}
-use Rattle.serde_json.specs.Find.{as_array, as_bool, as_i64, as_number, as_object, as_str}
+use Rattle.serde_json.specs.Find.{as_array, as_bool, as_i64, as_number, as_object, as_str, to_float}
 use Rattle.league.specs.Json.{whole_number}
 use Rattle.json_forms.specs.declared.form.Form.{Form}
 use Rattle.json_forms.specs.declared.form.Form.TheVariants as form
@@ -59,7 +59,7 @@ array_form items = unwrap_or (pair_form items) (form.Array (items_len items))
 
 abbrev pub number_form : Data → Option Form
 number_form d = or_else (option_map form.Whole (whole_number d))
-    (or_else (option_map form.Negative (option_and_then as_i64 (as_number d))) (option_map (λ n. form.Float) (as_number d)))
+    (or_else (option_map form.Negative (option_and_then as_i64 (as_number d))) (option_map (λ n. form.Float (to_float n)) (as_number d)))
 
 -- a value that is no number
 abbrev pub other_form : Data → Form
@@ -74,13 +74,19 @@ form_of d = unwrap_or (number_form d) (other_form d)
 abbrev pub truth_words : Bool → List ℕ
 truth_words is_true = if is_true then codes "true" else codes "false"
 
-abbrev pub form_words : Form → List ℕ
-form_words form.Null = codes "null"
-form_words (form.Boolean is_true) = truth_words is_true
-form_words (form.Whole number) = decimal number
-form_words (form.Negative number) = signed_decimal number
-form_words form.Float = codes "a floating-point number"
-form_words (form.Text quote) = quote_words quote
-form_words (form.Pair first second) = concat (codes "[" ∷ decimal first ∷ codes ", " ∷ decimal second ∷ codes "]" ∷ [])
-form_words (form.Array length) = codes "an array of length " ++ decimal length
-form_words form.Object = codes "an object"
+-- a number that is no whole number of 64 bits
+abbrev pub float_of : Form → Option Float
+float_of (form.Float number) = Some number
+float_of form = None
+
+-- how it is shown, by this numeral if it is such a number
+abbrev pub form_words : List ℕ → Form → List ℕ
+form_words numeral form.Null = codes "null"
+form_words numeral (form.Boolean is_true) = truth_words is_true
+form_words numeral (form.Whole number) = decimal number
+form_words numeral (form.Negative number) = signed_decimal number
+form_words numeral (form.Float number) = numeral
+form_words numeral (form.Text quote) = quote_words quote
+form_words numeral (form.Pair first second) = concat (codes "[" ∷ decimal first ∷ codes ", " ∷ decimal second ∷ codes "]" ∷ [])
+form_words numeral (form.Array length) = codes "an array of length " ++ decimal length
+form_words numeral form.Object = codes "an object"

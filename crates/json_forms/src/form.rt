@@ -1,12 +1,15 @@
 //! What a JSON value is, and how it is shown.
 
-ghost use Rattle.std.specs.Prelude.{◌≡◌, Some};
-ghost use Rattle.std.specs.Fmt.{WritesOnOk};
+ghost use Rattle.std.specs.Prelude.{◌≡◌, [], Some};
+ghost use Rattle.std.specs.Fmt.{DisplaysOnOk, WritesOnOk};
 ghost use Rattle.std.specs.List.{flat_map};
 ghost use Rattle.serde_json.specs.View.{view, items_view};
-ghost use Rattle.json_forms.specs.Forms.{array_form, character_text, form_of, form_words, number_form, other_form, pair_form, quote_of, quote_words};
+ghost use Rattle.json_forms.specs.Forms.{array_form, character_text, float_of, form_of, form_words, number_form, other_form, pair_form, quote_of};
+ghost use Rattle.json_forms.specs.Forms.{quote_words};
+ghost use Rattle.json_forms.specs.Numerals.{stated, WritesWithNumeral};
 
 use crate::shown::shown_character;
+use ryu::Buffer;
 use serde_json::Value;
 use std::fmt;
 
@@ -23,7 +26,7 @@ pub struct Quote {
 }
 
 /// What a JSON value is.
-#[derive(Clone, Copy, Debug, Drop, PartialEq, Eq)]
+#[derive(Clone, Copy, Debug, Drop, PartialEq)]
 pub enum Form {
     Null,
     Boolean(bool),
@@ -31,8 +34,8 @@ pub enum Form {
     Whole(u64),
     /// A whole number below 0.
     Negative(i64),
-    /// Another number.
-    Float,
+    /// Another number, or the nearest one that there is.
+    Float(f64),
     Text(Quote),
     /// An array of two whole numbers.
     Pair(u64, u64),
@@ -86,7 +89,7 @@ fn number_form(value: &Value) -> Option<Form>
     if let Some(number) = value.as_i64() {
         return Some(Form::Negative(number));
     }
-    value.as_number().map(|_| Form::Float)
+    value.as_f64().map(Form::Float)
 }
 
 /// What a value is that is no number.
@@ -129,24 +132,33 @@ fn pair_form(items: &[Value]) -> Option<Form>
     Some(Form::Pair(first.as_u64()?, second.as_u64()?))
 }
 
-/// Writes it as JSON has it, but for what is long.
+/// Writes it as JSON has it, but for what is long: another number with the fewest digits that read back as it.
 impl fmt::Display for Form {
-    ghost output = { λ form. Some (form_words form) };
+    ghost output = { λ form. stated (float_of form) (form_words [] form) };
 
-    fn fmt<W: fmt::Write>(&self, f: &mut fmt::Formatter<W>) -> fmt::Result {
+    fn fmt<W: fmt::Write>(&self, f: &mut fmt::Formatter<W>) -> fmt::Result
+        ensures writes { DisplaysOnOk W.write_str_gives f.old result (stated (float_of self.now) (form_words [] self.now)) f.new }
+        ensures numeral { WritesWithNumeral W.write_str_gives f.old result (float_of self.now) (λ numeral. form_words numeral self.now) f.new }
+    {
         match *self {
             Form::Null => f.write_str("null"),
             Form::Boolean(true) => f.write_str("true"),
             Form::Boolean(false) => f.write_str("false"),
             Form::Whole(number) => write!(f, "{number}"),
             Form::Negative(number) => write!(f, "{number}"),
-            Form::Float => f.write_str("a floating-point number"),
+            Form::Float(number) => write_float(f, number),
             Form::Text(quote) => write!(f, "{quote}"),
             Form::Pair(first, second) => write!(f, "[{first}, {second}]"),
             Form::Array(length) => write!(f, "an array of length {length}"),
             Form::Object => f.write_str("an object"),
         }
     }
+}
+
+fn write_float<W: fmt::Write>(f: &mut fmt::Formatter<W>, number: f64) -> fmt::Result
+    ensures { WritesWithNumeral W.write_str_gives f.old result (Some number) (λ numeral. numeral) f.new }
+{
+    f.write_str(Buffer::new().format(number))
 }
 
 /// Writes it between quotation marks.

@@ -10,9 +10,9 @@ use std::process::Abort;
 use std::test::Fail;
 
 /// The members of four teams up to their distances, and from these on.
-const TEAMS: &str = r#"{"format":2,"teams":["A","B","C","D"],"distances":"#;
+pub(super) const TEAMS: &str = r#"{"format":2,"teams":["A","B","C","D"],"distances":"#;
 
-const CIRCLE: &str = "[[0,1,2,1],[1,0,1,2],[2,1,0,1],[1,2,1,0]]";
+pub(super) const CIRCLE: &str = "[[0,1,2,1],[1,0,1,2],[2,1,0,1],[1,2,1,0]]";
 
 /// What stands behind the teams, and the line.
 type Case = (&'static str, &'static str);
@@ -21,14 +21,6 @@ const DISTANCES: &[Case] = &[
     (
         "[[0,1,2,1],[1,0,1,2],3,[1,2,1,0]]",
         "see distances: row 3 is 3, an array of numbers is wanted",
-    ),
-    (
-        "[[0,1],[1,0.5]]",
-        "see distances: row 2, column 2 is a floating-point number, a whole number from 0 to 1000000 is wanted",
-    ),
-    (
-        "[[0,-1],[1,0]]",
-        "see distances: row 1, column 2 is -1, a whole number from 0 to 1000000 is wanted",
     ),
     (
         r#"[[0,"1"],[1,0]]"#,
@@ -77,10 +69,6 @@ const RULES: &[Case] = &[
     (
         r#"{"class":"SE1","kind":"soft","weight":0}"#,
         r#"see rule 1: member "weight" is 0, a whole number from 1 to 1000000 is wanted"#,
-    ),
-    (
-        r#"{"class":"SE1","kind":"soft","weight":1.5}"#,
-        r#"see rule 1: member "weight" is a floating-point number, a whole number from 1 to 1000000 is wanted"#,
     ),
     (
         r#"{"class":"SE1","kind":"hard","teams":[1,5,6],"min":1}"#,
@@ -263,7 +251,12 @@ const FAULTS: &[Fault] = &[
     ),
 ];
 
-fn check_hint(rt: &impl Abort, alloc: Global, text: &str, line: &str) -> Result<(), Fail> {
+pub(super) fn check_hint(
+    rt: &impl Abort,
+    alloc: Global,
+    text: &str,
+    line: &str,
+) -> Result<(), Fail> {
     let fault = match read_league(alloc, text.as_bytes()) {
         Ok(_) => LeagueFault::Memory,
         Err(fault) => fault,
@@ -371,7 +364,7 @@ fn fault_and_hint_stand_on_two_lines(rt: HostRuntime) -> Result<(), Fail> {
     assert_eq!(&rt;
         said.as_str(),
         "league member distances is wrong\n\
-         ttp: see distances: row 2, column 2 is a floating-point number, a whole number from 0 to 1000000 is wanted"
+         ttp: see distances: row 2, column 2 is 0.5, a whole number from 0 to 1000000 is wanted"
     );
     Ok(())
 }
