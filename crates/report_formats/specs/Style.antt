@@ -33,13 +33,15 @@ style_text given = concat (
     codes ".h { background: var(--home) } .o { box-shadow: inset 0 0 0 .12em var(--bad) }\n" ∷
     codes ".r { outline: .12em dashed var(--bad); outline-offset: -.25em }\n" ∷
     codes ".b { border-bottom: 3px double var(--bad) }\n" ∷
-    codes ".rules td:last-child { text-align: left; font-weight: normal }\n" ∷
+    codes ".rules { display: block; overflow-x: auto } .rules td { white-space: nowrap }\n" ∷
+    codes ".rules tr > :last-child { min-width: min(20rem, 60vw); text-align: left; white-space: normal }\n" ∷
+    codes ".rules td:last-child { font-weight: normal }\n" ∷
     codes ".bad { color: var(--bad); font-weight: bold } .travel { width: 100% } .bar { width: 100%; padding: 0 }\n" ∷
     codes ".bar { background: linear-gradient(var(--line), var(--line)) 50% / 1px 100% no-repeat }\n" ∷
     codes ".bar div { width: calc(100% * var(--tour) * var(--teams) / (2 * var(--travel))) }\n" ∷
     codes ".bar div { height: .8em; max-width: 100%; background: var(--bar) }\n" ∷
     codes "@media print { @page { size: landscape; margin: 10mm } * { print-color-adjust: exact }\n" ∷
-    codes ".wide { overflow: visible } body { padding: 0; font-size: 10pt } tr { break-inside: avoid }\n" ∷
+    codes ".wide, .rules { overflow: visible } body { padding: 0; font-size: 10pt } tr { break-inside: avoid }\n" ∷
     codes ".grid { font-size: min(10pt, 270mm / (var(--rounds) * 2.4 + 12)) }\n" ∷
     codes ".grid th, .grid td { padding: .05em .1em; min-width: 2em } }\n" ∷
     word_if given (codes ".m { font-weight: bold; text-decoration: underline }\n") ∷

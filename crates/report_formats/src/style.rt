@@ -74,7 +74,13 @@ pub(crate) fn push_style(page: &mut Vec<u8>, league: &League) -> Result<(), Allo
             ),
             Piece::Raw(b".r { outline: .12em dashed var(--bad); outline-offset: -.25em }\n"),
             Piece::Raw(b".b { border-bottom: 3px double var(--bad) }\n"),
-            Piece::Raw(b".rules td:last-child { text-align: left; font-weight: normal }\n"),
+            Piece::Raw(
+                b".rules { display: block; overflow-x: auto } .rules td { white-space: nowrap }\n",
+            ),
+            Piece::Raw(
+                b".rules tr > :last-child { min-width: min(20rem, 60vw); text-align: left; white-space: normal }\n",
+            ),
+            Piece::Raw(b".rules td:last-child { font-weight: normal }\n"),
             Piece::Raw(
                 b".bad { color: var(--bad); font-weight: bold } .travel { width: 100% } .bar { width: 100%; padding: 0 }\n",
             ),
@@ -89,7 +95,7 @@ pub(crate) fn push_style(page: &mut Vec<u8>, league: &League) -> Result<(), Allo
                 b"@media print { @page { size: landscape; margin: 10mm } * { print-color-adjust: exact }\n",
             ),
             Piece::Raw(
-                b".wide { overflow: visible } body { padding: 0; font-size: 10pt } tr { break-inside: avoid }\n",
+                b".wide, .rules { overflow: visible } body { padding: 0; font-size: 10pt } tr { break-inside: avoid }\n",
             ),
             Piece::Raw(b".grid { font-size: min(10pt, 270mm / (var(--rounds) * 2.4 + 12)) }\n"),
             Piece::Raw(b".grid th, .grid td { padding: .05em .1em; min-width: 2em } }\n"),
