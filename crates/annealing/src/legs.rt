@@ -6,9 +6,10 @@ ghost use Rattle.fixture_board.specs.History.{best_of};
 ghost use Rattle.fixture_board.specs.Record.{Book};
 ghost use Rattle.policy.specs.Legs.{IsLeg, IsWeightCourse};
 ghost use Rattle.search.specs.Draws.{AreRoundsOf};
+ghost use Rattle.search.specs.Heard.{AreTold};
 ghost use Rattle.annealing.specs.within.Heats.{block_count};
 ghost use Rattle.annealing.specs.Legs.{IsAnnealed, total_in};
-ghost use Rattle.annealing.specs.within.Progress.{HasHeated, IsEndOf, IsGoing, IsWithin};
+ghost use Rattle.annealing.specs.within.Progress.{HasHeated, IsEndOf, IsGoing, IsWithin, progress_of};
 
 use crate::blocks::{BLOCK, Block, Tally, take_steps};
 use crate::boards::Boards;
@@ -34,7 +35,7 @@ struct Going {
     accepted: u64,
 }
 
-/// Takes a leg's steps on the chain, in blocks of a thousand, and tells the workplace's gate of each block. A step draws a word for its
+/// Takes a leg's steps on the chain, in blocks of a thousand, and tells the workplace's gate of each block, as worker 0. A step draws a word for its
 /// threshold and a move of the leg's kinds. The move is made, under caller 0, if it can be and the score doesn't rise above the threshold.
 ///
 /// If the board has too little room for a block, it is taken back to its best version. If that leaves too little too, the leg begins anew at
@@ -48,7 +49,8 @@ pub fn anneal<R: Wait, G: Gate>(
     requires leg { IsLeg plan.leg }
     requires weights { IsWeightCourse conditions.weights }
     requires rounds { AreRoundsOf (teams chain.board.league) conditions.rounds.now }
-    ensures { IfOk result (IsAnnealed conditions.entry.weights plan.leg chain) }
+    ensures annealed { IfOk result (IsAnnealed conditions.entry.weights plan.leg chain) }
+    ensures told { IfOk result (λ now. AreTold (G.was_told workplace.entry.gate.now 0) now.end.steps) }
 {
     let Workplace { rt, alloc, gate } = workplace;
     let Chain { board, weight } = chain;
@@ -90,6 +92,7 @@ impl Going {
         requires accepted { self.old.accepted ≤ self.old.steps }
         ensures goes_on { (old : Book) → IsGoing leg old number self.old → OnOk result (IsGoing leg old (number + 1) self.new) }
         ensures weight { OnOk result (IsWithin conditions.entry.weights self.new.weight) }
+        ensures steps { IfOk result (λ tally. self.new.steps ≡ self.old.steps + tally.steps) }
     {
         self.boards.make_room(alloc)?;
         let board = &mut self.boards.board;
@@ -111,7 +114,9 @@ impl Going {
     }
 
     /// What the gate is told after a block.
-    fn progress(&self, tally: Tally) -> Progress {
+    fn progress(&self, tally: Tally) -> Progress
+        ensures { result ≡ progress_of self.now tally }
+    {
         Progress {
             steps: tally.steps,
             least: total_in(&self.boards.board),

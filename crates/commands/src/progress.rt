@@ -7,6 +7,7 @@ ghost use Rattle.texts.specs.ProgressText.{clear_line, progress_line};
 ghost use Rattle.commands.specs.within.Progress.{advance_of, first, is_due, last_after, pause_after, reached_with, seconds_left};
 ghost use Rattle.commands.specs.within.Progress.{seconds_of, steps_within};
 
+use fixture_board::Reply;
 use search::{Gate, Progress, SearchPlan};
 use std::sync::atomic::{AtomicU32, Ordering};
 use std::sync::{Mutex, Wait};
@@ -83,9 +84,13 @@ impl<'a, C: Clock, W: Sink> ProgressLine<'a, C, W> {
 }
 
 impl<C: Clock, W: Sink> Gate for ProgressLine<'_, C, W> {
+    ghost heard = { λ _ _ _ _. Unit {0} };
+
+    ghost was_told = { λ _ _ _. Unit {0} };
+
     fn enter<R: Wait>(&self, _rt: &R, _worker: u32, _made: u32) {}
 
-    fn left<R: Wait>(&self, _rt: &R, _worker: u32, _made: u32) {}
+    fn left<R: Wait>(&self, _rt: &R, _worker: u32, _made: u32, _reply: Reply) {}
 
     fn begun<R: Wait>(&self, rt: &R, _worker: u32) {
         if let Ok(now) = Instant::now(self.clock) {

@@ -1,7 +1,7 @@
 -- The seats of a run: numbers that rise.
-use Rattle.std.proofs.Common.{◌≡◌, ℕ, ◌+◌, ◌<◌, List, [], ◌∷◌, ◌++◌, length, map, get_or, sym, ap, ◌∙◌, subst, arith}
+use Rattle.std.proofs.Common.{◌≡◌, ℕ, zero, suc, ◌+◌, ◌<◌, List, [], ◌∷◌, ◌++◌, length, map, get_or, sym, ap, ◌∙◌, subst, arith}
 use Rattle.std.proofs.Common.{length-append, append_assoc}
-use Rattle.std.specs.List.{All}
+use Rattle.std.specs.List.{All, range_with_len}
 use Rattle.std.specs.List.Sorted.{IsStrictlyIncreasing}
 use Rattle.std.proofs.Math.Seq.{get_or-append_seam}
 use Rattle.std.proofs.lemmas.List.{get_or_append_left, map-append}
@@ -11,7 +11,7 @@ use native.Mathlib.Decide.{ℕ_discrete}
 use Rattle.shared_board.specs.Seats.{BoardId, SeatValue, IsNew, given_at}
 use Rattle.shared_board.specs.Setting.{Setting}
 use Rattle.search.specs.declared.runs.threads.Job.{Job}
-use Rattle.search.specs.within.Crews.{IsFresh, IsJob, JobIn, job_number}
+use Rattle.search.specs.within.Crews.{IsFresh, IsJob, JobIn, job_number, job_worker}
 
 -- The seats of the jobs are fresh, and their numbers rise up to that of the run's own, which is fresh too. All have one
 -- setting
@@ -58,11 +58,26 @@ fresh_still table a b fresh new =
     record { table_is = fresh.table_is; held = fresh.held; seen = fresh.seen; given = omega (arith, fresh.given, new.later) }
 
 -- the first of what is left comes to the end of what is done
-pub numbers_more : (done done' left left' all : List ℕ) (n m : ℕ) → done' ≡ done ++ n ∷ [] → left ≡ m ∷ left' → n ≡ m → done ++
-    left ≡ all → done' ++ left' ≡ all
-numbers_more done done' left left' all n m one_more one_less same is =
-    ap (λ (ns : List ℕ). ns ++ left') one_more ∙ append_assoc done (n ∷ []) left' ∙ ap (λ (k : ℕ). done ++ (k ∷ left')) same ∙
-    ap (λ (ns : List ℕ). done ++ ns) (sym one_less) ∙ is
+pub moved_over : {A : Type 0} (done done' left left' all : List A) (x y : A) → done' ≡ done ++ x ∷ [] → left ≡ y ∷ left' → x ≡ y →
+    done ++ left ≡ all → done' ++ left' ≡ all
+moved_over {A} done done' left left' all x y one_more one_less same is =
+    ap (λ (xs : List A). xs ++ left') one_more ∙ append_assoc done (x ∷ []) left' ∙ ap (λ (z : A). done ++ (z ∷ left')) same ∙
+    ap (λ (xs : List A). done ++ xs) (sym one_less) ∙ is
+
+counted_last : (first n : ℕ) → range_with_len first (suc n) ≡ range_with_len first n ++ (first + n) ∷ []
+counted_last first zero = let same : first ≡ first + zero = omega arith in ap (λ k. k ∷ []) same
+counted_last first (suc n) =
+    let next : first + 1 + n ≡ first + suc n = omega arith in
+    ap (λ l. first ∷ l) (counted_last (first + 1) n ∙ ap (λ k. range_with_len (first + 1) n ++ k ∷ []) next)
+
+-- the workers of the jobs have numbers in a row, from 0, also with one more
+pub workers_more : (jobs jobs' : List Job) (job : Job) (n m : ℕ) → map job_worker jobs ≡ range_with_len 0 n →
+    jobs' ≡ jobs ++ job ∷ [] → job.worker ≡ n → m ≡ n + 1 → map job_worker jobs' ≡ range_with_len 0 m
+workers_more jobs jobs' job n m was items number more =
+    let here : job.worker ≡ 0 + n = omega (arith, number) in
+    let count : suc n ≡ m = omega (arith, more) in
+    ap (map job_worker) items ∙ map-append job_worker jobs (job ∷ []) ∙ ap (λ ns. ns ++ job.worker ∷ []) was ∙
+    ap (λ k. range_with_len 0 n ++ k ∷ []) here ∙ sym (counted_last 0 n) ∙ ap (range_with_len 0) count
 
 -- one more job gets the seat, and the run the one that was split from it
 pub chain_more : (table : BoardId) (setting : Setting) (jobs jobs' : List Job) (job : Job) (a b own : SeatValue) →

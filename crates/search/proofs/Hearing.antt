@@ -1,13 +1,14 @@
 -- One more step of a worker: its report, and the reply that the gate heard.
-use Rattle.std.proofs.Common.{◌≡◌, ℕ, ◌+◌, ◌≤◌, List, [], ◌∷◌, ◌++◌, length, refl, sym, arith, subst, length-append}
+use Rattle.std.proofs.Common.{◌≡◌, ℕ, ◌+◌, ◌≤◌, List, [], ◌∷◌, ◌++◌, length, inl, inr, refl, sym, ap, arith, subst, length-append}
 use Rattle.std.proofs.lemmas.List.Sums.{sum_by_push}
 use Rattle.fixture_board.specs.declared.reply.Reply.{Reply}
+use Rattle.fixture_board.specs.declared.reply.Reply.TheVariants.{Done, No}
 use Rattle.search.specs.declared.workers.Report.{Report}
 use Rattle.search.specs.Doors.{done_count}
 use Rattle.search.specs.declared.workers.steps.StepResult.{StepResult}
 use Rattle.search.specs.declared.workers.steps.StepResult.TheVariants.{Nothing, Accepted, Refused, Full}
-use Rattle.search.specs.within.Heard.{AreHeard, IsHeard}
-use Rattle.search.specs.within.Steps.{IsProposed, accepted_count, report_with}
+use Rattle.search.specs.Heard.{AreHeard, HearsFull, IsFull, IsHeard}
+use Rattle.search.specs.within.Steps.{IsProposed, IsToldBy, accepted_count, report_with}
 
 heard_last : (heard : ℕ → Reply → Type 0) (made at : ℕ) (rs : List Reply) (r : Reply) → AreHeard heard made rs →
     at ≡ made + length rs → heard at r → AreHeard heard made (rs ++ r ∷ [])
@@ -32,17 +33,43 @@ heard_more heard was is r before one made accepted =
 
 -- what the gate heard of a step: the reply to its proposal, where it made one
 abbrev pub HearsStep : (ℕ → Reply → Type 0) → ℕ → StepResult → Type 0
-HearsStep heard made told = IsProposed told → (reply : Reply) × heard made reply × (done_count reply ≡ accepted_count told)
+HearsStep heard made told = IsProposed told → (reply : Reply) × heard made reply × IsToldBy reply told
+
+-- a step accepts as many as its reply grants
+counts_told : (told : StepResult) (reply : Reply) → IsToldBy reply told → accepted_count told ≡ done_count reply
+counts_told told (Done at cost) is = ap accepted_count is
+counts_told told (No at reason) is = elim is [ inl full ↦ ap accepted_count full.1 | inr other ↦ ap accepted_count other.1 ]
+
+-- the step found the board full
+abbrev pub IsStopped : StepResult → Type 0
+IsStopped Nothing = ⊥
+IsStopped (Accepted cost) = ⊥
+IsStopped Refused = ⊥
+IsStopped Full = Unit {0}
+
+full_reply : (told : StepResult) (reply : Reply) → IsToldBy reply told → IsStopped told → IsFull reply
+full_reply told (Done at cost) is stopped = let P : StepResult → Type 0 = λ t. IsStopped t in subst P is stopped
+full_reply told (No at reason) is stopped =
+    let P : StepResult → Type 0 = λ t. IsStopped t in
+    elim is [ inl full ↦ full.0 | inr other ↦ absurd (subst P other.1 stopped) ]
+
+-- a step that found the board full had such a reply
+pub hears_full : (heard : ℕ → Reply → Type 0) (made : ℕ) (told : StepResult) → told ≡ Full → HearsStep heard made told → HearsFull heard
+hears_full heard made told is more =
+    let Proposed : StepResult → Type 0 = λ t. IsProposed t in
+    let Stopped : StepResult → Type 0 = λ t. IsStopped t in
+    let one = more (subst Proposed (sym is) tt) in
+    record { made = made; reply = one.0; is_heard = one.1; full = full_reply told one.0 one.2 (subst Stopped (sym is) tt) }
 
 heard_step : (heard : ℕ → Reply → Type 0) (r : Report) (told : StepResult) → IsHeard heard r → HearsStep heard r.made told →
     IsHeard heard (report_with r told)
 heard_step heard r Nothing before more = before
 heard_step heard r (Accepted cost) before more =
-    let one = more tt in heard_more heard r (report_with r (Accepted cost)) one.0 before one.1 refl (omega (arith, one.2))
+    let one = more tt in heard_more heard r (report_with r (Accepted cost)) one.0 before one.1 refl (omega (arith, counts_told (Accepted cost) one.0 one.2))
 heard_step heard r Refused before more =
-    let one = more tt in heard_more heard r (report_with r Refused) one.0 before one.1 refl (omega (arith, one.2))
+    let one = more tt in heard_more heard r (report_with r Refused) one.0 before one.1 refl (omega (arith, counts_told Refused one.0 one.2))
 heard_step heard r Full before more =
-    let one = more tt in heard_more heard r (report_with r Full) one.0 before one.1 refl (omega (arith, one.2))
+    let one = more tt in heard_more heard r (report_with r Full) one.0 before one.1 refl (omega (arith, counts_told Full one.0 one.2))
 
 -- the next report counts what was heard
 pub heard_next : (heard : ℕ → Reply → Type 0) (r next : Report) (told : StepResult) → next ≡ report_with r told → IsHeard heard r →

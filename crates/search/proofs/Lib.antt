@@ -4,3 +4,5 @@ pub mod Chains
 pub mod EachRound
 pub mod Credited
 pub mod Hearing
+pub mod Telling
+pub mod ForCallers

@@ -1,5 +1,6 @@
 pub mod Draws
 pub mod Doors
 pub mod Reports
+pub mod Heard
 pub mod Outcomes
 pub mod within

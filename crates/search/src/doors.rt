@@ -4,13 +4,11 @@ ghost use Rattle.std.specs.Prelude.{◌≡◌, ◌↔◌, ℕ, ◌+◌, ◌^◌,
 ghost use Rattle.league.specs.League.{LeagueData};
 ghost use Rattle.fixture_board.specs.declared.change.Entry.{Entry};
 
-mod locked;
 mod own;
 mod seated;
 
 use fixture_board::{Proposal, Reply, Seen};
 use fixtures::Schedule;
-pub use locked::LockedDoor;
 pub use own::OwnDoor;
 pub use seated::SeatDoor;
 use std::sync::Wait;

@@ -2,6 +2,7 @@
 
 ghost use Rattle.std.specs.Prelude.{ℕ};
 ghost use Rattle.fixture_board.specs.declared.reply.Reply.{Reply};
+ghost use Rattle.search.specs.declared.gates.Progress.{Progress};
 
 use fixture_board::Reply;
 use std::sync::Wait;
@@ -20,12 +21,22 @@ pub struct Progress {
 
 /// Is passed by a worker at each proposal. Workers are numbered from 0, and `made` counts the proposals that this one
 /// made before. A gate may hold a worker up.
+///
+/// What was heard and told is for each gate to say. So a function that is proved for all gates counts no reply but those that its gate
+/// heard, and tells no steps but those that it took.
 pub trait Gate {
+    /// A worker's proposal, after so many of that worker's, left with this reply.
+    ghost heard: { Self → ℕ → ℕ → Reply → Type 0 };
+
+    /// A worker told that it is so far.
+    ghost was_told: { Self → ℕ → Progress → Type 0 };
+
     /// Before the proposal.
     fn enter<R: Wait>(&self, rt: &R, worker: u32, made: u32);
 
     /// After its reply.
-    fn left<R: Wait>(&self, rt: &R, worker: u32, made: u32);
+    fn left<R: Wait>(&self, rt: &R, worker: u32, made: u32, reply: Reply)
+        ensures { heard self.now worker made reply };
 
     /// Before the first step of a worker, or before workers go on after a text was written.
     fn begun<R: Wait>(&self, _rt: &R, _worker: u32) {}
@@ -37,74 +48,25 @@ pub trait Gate {
 
     /// When the worker took so many steps, or more, since it last told, and when it ends, if it took one since then. So the steps that are
     /// told add up to those that it took.
-    fn told<R: Wait>(&self, _rt: &R, _worker: u32, _progress: Progress) {}
+    fn told<R: Wait>(&self, rt: &R, worker: u32, progress: Progress)
+        ensures { was_told self.now worker progress };
 
     /// When all workers of a run have ended, or before a text is written while some go on.
     fn ended<R: Wait>(&self, _rt: &R) {}
 }
 
-/// Holds nobody up.
+/// Holds nobody up, and keeps nothing of what it hears.
 #[derive(Clone, Copy)]
 pub struct NoGate;
 
 impl Gate for NoGate {
-    fn enter<R: Wait>(&self, _rt: &R, _worker: u32, _made: u32) {}
-
-    fn left<R: Wait>(&self, _rt: &R, _worker: u32, _made: u32) {}
-}
-
-/// A gate as the workers pass it, which hears each reply too. What was heard is for each such gate to say. So a function that is
-/// proved for all of them counts no reply but those that it told.
-pub(crate) trait HearingGate {
-    /// A worker's proposal, after so many of that worker's, left with this reply.
-    ghost heard: { Self → ℕ → ℕ → Reply → Type 0 };
-
-    /// Before the proposal.
-    fn enter<R: Wait>(&self, rt: &R, worker: u32, made: u32);
-
-    /// After its reply.
-    fn left<R: Wait>(&self, rt: &R, worker: u32, made: u32, reply: Reply)
-        ensures { heard self.now worker made reply };
-
-    fn begun<R: Wait>(&self, rt: &R, worker: u32);
-
-    fn pause(&self) -> u32;
-
-    fn told<R: Wait>(&self, rt: &R, worker: u32, progress: Progress);
-
-    fn ended<R: Wait>(&self, rt: &R);
-}
-
-/// A gate that keeps nothing of what it hears.
-#[derive(Drop)]
-pub(crate) struct Hearing<'a, G> {
-    pub(crate) gate: &'a G,
-}
-
-impl<G: Gate> HearingGate for Hearing<'_, G> {
     ghost heard = { λ _ _ _ _. Unit {0} };
 
-    fn enter<R: Wait>(&self, rt: &R, worker: u32, made: u32) {
-        self.gate.enter(rt, worker, made);
-    }
+    ghost was_told = { λ _ _ _. Unit {0} };
 
-    fn left<R: Wait>(&self, rt: &R, worker: u32, made: u32, _reply: Reply) {
-        self.gate.left(rt, worker, made);
-    }
+    fn enter<R: Wait>(&self, _rt: &R, _worker: u32, _made: u32) {}
 
-    fn begun<R: Wait>(&self, rt: &R, worker: u32) {
-        self.gate.begun(rt, worker);
-    }
+    fn left<R: Wait>(&self, _rt: &R, _worker: u32, _made: u32, _reply: Reply) {}
 
-    fn pause(&self) -> u32 {
-        self.gate.pause()
-    }
-
-    fn told<R: Wait>(&self, rt: &R, worker: u32, progress: Progress) {
-        self.gate.told(rt, worker, progress);
-    }
-
-    fn ended<R: Wait>(&self, rt: &R) {
-        self.gate.ended(rt);
-    }
+    fn told<R: Wait>(&self, _rt: &R, _worker: u32, _progress: Progress) {}
 }

@@ -11,7 +11,7 @@ mod runs;
 mod workers;
 mod workplace;
 
-pub use doors::{Door, LockedDoor, OwnDoor, SeatDoor};
+pub use doors::{Door, OwnDoor, SeatDoor};
 pub use draws::{Draws, draw, draw_among, each_round};
 pub use gates::{Gate, NoGate, Progress};
 pub use runs::{MAX_WORKERS, Outcome, Reports, RunFault, RunRefused, SearchPlan, run, run_with};

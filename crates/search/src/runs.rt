@@ -1,9 +1,11 @@
 //! A run: workers in threads, on one shared board.
 
 ghost use Rattle.std.specs.Prelude.{◌≡◌, ◌<◌, [], Some, length, slice_index_or, All, IfOk, IfErr, IsTrue};
+ghost use Rattle.std.specs.List.{range_with_len};
+ghost use Rattle.league.specs.League.{teams};
 ghost use Rattle.shared_board.specs.Setting.{board_at};
 ghost use Rattle.search.specs.Outcomes.{Credits, IsAlike, IsOutcome, IsRefusal, IsWorkers};
-ghost use Rattle.search.specs.within.Heard.{IsOfWorker};
+ghost use Rattle.search.specs.Heard.{AreOf, IsOfWorker};
 ghost use Rattle.search.specs.declared.runs.RunFault.TheVariants.{Receipts};
 ghost use Rattle.search.specs.within.Crews.{HasRoom, IsFresh};
 ghost use Rattle.search.specs.Reports.{IsReport};
@@ -12,7 +14,6 @@ ghost use Rattle.search.specs.declared.workers.Report.{Report};
 mod crew;
 mod threads;
 
-use crate::gates::{Hearing, HearingGate};
 use crate::workers::{Means, Measure, Report};
 use crate::{Gate, NoGate, Workplace};
 use crew::Crew;
@@ -129,7 +130,8 @@ pub fn run<R: Threads + Wait + Sync>(
     run_with(Workplace { rt, alloc, gate }, league, board, plan)
 }
 
-/// As `run`, in a workplace, whose gate the workers pass. The league has to be the board's own here too.
+/// As `run`, in a workplace, whose gate the workers pass. The league has to be the board's own here too. Each report counts the replies
+/// that the gate heard to all proposals of its worker, and the gate is told of each step, if the league has as many teams as the board's.
 pub fn run_with<R: Threads + Wait + Sync, G: Gate + Sync>(
     workplace: Workplace<'_, R, G>,
     league: &League,
@@ -138,6 +140,8 @@ pub fn run_with<R: Threads + Wait + Sync, G: Gate + Sync>(
 ) -> Result<Outcome, RunRefused>
     requires { board.history ≡ [] }
     ensures done { IfOk result (IsOutcome plan board) }
+    ensures heard { IfOk result (λ o. AreOf (IsOfWorker (G.heard workplace.entry.gate.now) (G.was_told workplace.entry.gate.now)
+        (teams board.league ≡ teams league.now) plan.steps) (range_with_len 0 plan.workers) o.reports) }
     ensures refused { IfErr result (IsRefusal plan board) }
 {
     let Workplace { rt, alloc, gate } = workplace;
@@ -148,7 +152,6 @@ pub fn run_with<R: Threads + Wait + Sync, G: Gate + Sync>(
         let why = RunFault::Memory;
         return Err(RunRefused { why, board: None });
     };
-    let gate = &Hearing { gate };
     let means = Means { rt, gate, measure };
     search(means, shared, seat, crew, plan)
 }
@@ -159,7 +162,7 @@ fn crew_for<H: Drop>(
     board: Board,
     plan: SearchPlan,
 ) -> Result<(Crew<H>, Board), RunRefused>
-    ensures crew { IfOk result (λ r. HasRoom plan.workers r.0) }
+    ensures crew { IfOk result (λ r. HasRoom (teams board.league) plan.workers r.0) }
     ensures same { IfOk result (λ r. r.1 ≡ board) }
     ensures workers { IfOk result (λ _. IsWorkers plan) }
     ensures refused { IfErr result (IsRefusal plan board) }
@@ -180,9 +183,8 @@ fn crew_for<H: Drop>(
     }
 }
 
-/// Has the workers search on a shared board that has no other seat yet, and closes it. Each report counts the replies that the
-/// gate heard to all proposals of one of the workers.
-fn search<R: Threads + Wait + Sync, G: HearingGate + Sync>(
+/// Has the workers search on a shared board that has no other seat yet, and closes it.
+fn search<R: Threads + Wait + Sync, G: Gate + Sync>(
     means: Means<'_, R, G>,
     shared: Shared,
     mut seat: Seat,
@@ -191,10 +193,11 @@ fn search<R: Threads + Wait + Sync, G: HearingGate + Sync>(
 ) -> Result<Outcome, RunRefused>
     requires seat { IsFresh shared seat }
     requires measured { IsTrue means.measure.of_boards → seat.setting.league ≡ means.measure.league.now }
-    requires crew { HasRoom plan.workers crew }
+    requires crew { HasRoom (teams seat.setting.league) plan.workers crew }
     requires workers { IsWorkers plan }
     ensures done { IfOk result (IsOutcome plan (board_at seat.setting [])) }
-    ensures heard { IfOk result (λ o. All (IsOfWorker (G.heard means.entry.gate.now) plan.steps) o.reports) }
+    ensures heard { IfOk result (λ o. AreOf (IsOfWorker (G.heard means.entry.gate.now) (G.was_told means.entry.gate.now)
+        (teams seat.setting.league ≡ teams means.entry.measure.league.now) plan.steps) (range_with_len 0 plan.workers) o.reports) }
     ensures refused { IfErr result (IsRefusal plan (board_at seat.setting [])) }
 {
     let rt = means.rt;

@@ -2,13 +2,12 @@
 
 ghost use Rattle.std.specs.Prelude.{◌≡◌, ◌+◌, ◌^◌, ◌<◌};
 ghost use Rattle.league.specs.League.{teams};
-ghost use Rattle.search.specs.within.Heard.{IsHeard};
+ghost use Rattle.search.specs.Heard.{IsHeard, TellsSteps};
 ghost use Rattle.search.specs.Reports.{IsReport};
-ghost use Rattle.search.specs.within.Steps.{IsMeasured, report_with, slack_of};
+ghost use Rattle.search.specs.within.Steps.{IsMeasured, IsTold, IsToldBefore, generator_of, progress_with, report_with, slack_of};
 
 mod steps;
 
-use crate::gates::{Hearing, HearingGate};
 use crate::{Door, Gate, Progress, draw};
 use costs::Evaluator;
 use fixtures::Schedule;
@@ -75,6 +74,9 @@ impl Report {
 /// looks again. Otherwise the move is proposed for the copy's version, with the score as claim and with the slack. After
 /// the reply the copy is the board's schedule as far as the worker can tell: if the version isn't the one that it
 /// expects, it looks.
+///
+/// The report counts the replies that the gate heard. The steps that it is told add up to those that the worker took: all, unless it heard
+/// that the board is full.
 pub fn worker<R: Wait, D: Door, G: Gate>(
     rt: &R,
     door: &mut D,
@@ -85,6 +87,9 @@ pub fn worker<R: Wait, D: Door, G: Gate>(
 ) -> Report
     requires { D.granted door.old < 2 ^ 62 }
     ensures report { IsReport plan.steps result }
+    ensures heard { IsHeard (G.heard gate.now plan.worker) result }
+    ensures told { copy.old.teams ≡ teams league.now →
+        TellsSteps (G.was_told gate.now plan.worker) (G.heard gate.now plan.worker) plan.steps }
     ensures counted { D.granted door.new ≡ D.granted door.old + result.accepted }
     ensures stays { D.stays door.old door.new }
     ensures other_size { ¬ (copy.old.teams ≡ teams league.now) →
@@ -94,13 +99,12 @@ pub fn worker<R: Wait, D: Door, G: Gate>(
         league,
         of_boards: false,
     };
-    let gate = &Hearing { gate };
     let means = Means { rt, gate, measure };
     take_steps(means, door, plan, copy)
 }
 
-/// What a worker does. Its report counts the replies that the gate heard.
-pub(crate) fn take_steps<R: Wait, D: Door, G: HearingGate>(
+/// What a worker does.
+pub(crate) fn take_steps<R: Wait, D: Door, G: Gate>(
     means: Means<'_, R, G>,
     door: &mut D,
     plan: WorkerPlan,
@@ -110,6 +114,8 @@ pub(crate) fn take_steps<R: Wait, D: Door, G: HearingGate>(
     requires measured { IsMeasured means.measure.of_boards means.measure.league.now (D.may_have door.old) }
     ensures report { IsReport plan.steps result }
     ensures heard { IsHeard (G.heard means.entry.gate.now plan.worker) result }
+    ensures told { copy.old.teams ≡ teams means.entry.measure.league.now →
+        TellsSteps (G.was_told means.entry.gate.now plan.worker) (G.heard means.entry.gate.now plan.worker) plan.steps }
     ensures counted { D.granted door.new ≡ D.granted door.old + result.accepted }
     ensures stays { D.stays door.old door.new }
     ensures other_size { ¬ (copy.old.teams ≡ teams means.entry.measure.league.now) →
@@ -122,7 +128,7 @@ pub(crate) fn take_steps<R: Wait, D: Door, G: HearingGate>(
     };
     let teams = means.measure.league.teams();
     if copy.teams() == teams {
-        let mut generator = Lcg64Xsh32::new(plan.seed, u64::from(plan.worker));
+        let mut generator = generator_of(plan);
         let mut kept = Kept {
             known: refresh(means.rt, door, means.measure, copy),
             evaluator: Evaluator::new(means.measure.league),
@@ -145,33 +151,59 @@ pub(crate) fn take_steps<R: Wait, D: Door, G: HearingGate>(
             if let StepResult::Full = told {
                 break;
             }
-            if means.gate.pause() <= progress.steps {
-                tell(means, plan.worker, &mut progress);
-            }
+            progress = told_when_due(means, plan.worker, progress);
         }
-        tell(means, plan.worker, &mut progress);
+        tell_rest(means, plan.worker, progress);
     }
     report
 }
 
+/// The generator of a worker, which has the stream of its number.
+fn generator_of(plan: WorkerPlan) -> Lcg64Xsh32
+    ensures { result ≡ generator_of plan.seed plan.worker }
+{
+    Lcg64Xsh32::new(plan.seed, u64::from(plan.worker))
+}
+
 /// How far the worker is after one more step.
-fn progress_after(progress: Progress, told: StepResult) -> Progress {
+fn progress_after(progress: Progress, told: StepResult) -> Progress
+    requires { progress.steps + 1 < 2 ^ 32 }
+    ensures { result ≡ progress_with progress told }
+{
     let least = match told {
         StepResult::Accepted(cost) => least_with(progress.least, cost),
         _ => progress.least,
     };
     Progress {
-        // it never wraps, since a worker takes less than 2^32 steps in all
-        steps: progress.steps.wrapping_add(1),
+        steps: progress.steps + 1,
         least,
     }
 }
 
-/// Tells the gate how far the worker is, if it took a step since it last told.
-fn tell<R: Wait, G: HearingGate>(means: Means<'_, R, G>, worker: u32, progress: &mut Progress) {
+/// Tells the gate how far the worker is, if that is due. What it is told is not told again.
+fn told_when_due<R: Wait, G: Gate>(
+    means: Means<'_, R, G>,
+    worker: u32,
+    progress: Progress,
+) -> Progress
+    ensures { IsToldBefore (G.was_told means.entry.gate.now worker) progress result }
+{
+    if progress.steps < means.gate.pause() {
+        return progress;
+    }
+    means.gate.told(means.rt, worker, progress);
+    Progress {
+        steps: 0,
+        ..progress
+    }
+}
+
+/// Tells the gate how far the worker is at its end, if it took a step since it last told.
+fn tell_rest<R: Wait, G: Gate>(means: Means<'_, R, G>, worker: u32, progress: Progress)
+    ensures { IsTold (G.was_told means.entry.gate.now worker) progress }
+{
     if 0 < progress.steps {
-        means.gate.told(means.rt, worker, *progress);
-        progress.steps = 0;
+        means.gate.told(means.rt, worker, progress);
     }
 }
 

@@ -3,6 +3,7 @@
 use crate::tests::chains::{MILD, chain_of, gone_on};
 use crate::tests::checks::check_same;
 use annealing::LegPlan;
+use fixture_board::Reply;
 use search::{Gate, Progress, Workplace};
 use std::sync::{Mutex, Wait};
 use std::test::Fail;
@@ -14,9 +15,13 @@ struct Counter {
 }
 
 impl Gate for Counter {
+    ghost heard = { λ _ _ _ _. Unit {0} };
+
+    ghost was_told = { λ _ _ _. Unit {0} };
+
     fn enter<R: Wait>(&self, _rt: &R, _worker: u32, _made: u32) {}
 
-    fn left<R: Wait>(&self, _rt: &R, _worker: u32, _made: u32) {}
+    fn left<R: Wait>(&self, _rt: &R, _worker: u32, _made: u32, _reply: Reply) {}
 
     fn told<R: Wait>(&self, rt: &R, _worker: u32, progress: Progress) {
         let mut told = self.told.lock(rt);

@@ -1,6 +1,7 @@
 //! What the workers and the seed of an improvement are for.
 
 use super::{asked, check_same, circle, improvement_of};
+use fixture_board::Reply;
 use improvement::{ImprovePlan, NoWatcher, improve};
 use search::{Gate, Progress, Workplace};
 use std::hint::spin_loop;
@@ -20,9 +21,13 @@ struct Meet {
 }
 
 impl Gate for Meet {
+    ghost heard = { λ _ _ _ _. Unit {0} };
+
+    ghost was_told = { λ _ _ _. Unit {0} };
+
     fn enter<R: Wait>(&self, _rt: &R, _worker: u32, _made: u32) {}
 
-    fn left<R: Wait>(&self, _rt: &R, _worker: u32, _made: u32) {}
+    fn left<R: Wait>(&self, _rt: &R, _worker: u32, _made: u32, _reply: Reply) {}
 
     fn told<R: Wait>(&self, _rt: &R, _worker: u32, _progress: Progress) {
         if self.first.swap(1, Ordering::SeqCst) == 1 {

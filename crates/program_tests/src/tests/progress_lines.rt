@@ -4,6 +4,7 @@ use crate::tests::checks::{check_holds, check_same, check_same_of};
 use crate::tests::circle::CIRCLE;
 use crate::tests::told::{Command, tell};
 use commands::{ProgramFault, ProgressLine, SearchPlan, Workplace, find_from};
+use fixture_board::{Reply, Why};
 use search::{Gate, Progress};
 use std::alloc::{AllocError, Global};
 use std::io;
@@ -194,6 +195,12 @@ const SHOWINGS: &[Showing<'_>] = &[
     },
 ];
 
+/// What the line makes nothing of.
+const REPLY: Reply = Reply::No {
+    at: 0,
+    why: Why::Old,
+};
+
 fn tell_all<R: Wait, C: Clock, W: Sink>(
     rt: &R,
     line: &ProgressLine<'_, C, W>,
@@ -202,7 +209,7 @@ fn tell_all<R: Wait, C: Clock, W: Sink>(
     line.begun(rt, 0);
     for (worker, least) in showing.told {
         line.enter(rt, *worker, 0);
-        line.left(rt, *worker, 0);
+        line.left(rt, *worker, 0, REPLY);
         let progress = Progress {
             steps: 4096,
             least: *least,
@@ -302,9 +309,13 @@ struct ByHundreds<'a, C, W> {
 }
 
 impl<C: Clock, W: Sink> Gate for ByHundreds<'_, C, W> {
+    ghost heard = { λ _ _ _ _. Unit {0} };
+
+    ghost was_told = { λ _ _ _. Unit {0} };
+
     fn enter<R: Wait>(&self, _rt: &R, _worker: u32, _made: u32) {}
 
-    fn left<R: Wait>(&self, _rt: &R, _worker: u32, _made: u32) {}
+    fn left<R: Wait>(&self, _rt: &R, _worker: u32, _made: u32, _reply: Reply) {}
 
     fn begun<R: Wait>(&self, rt: &R, worker: u32) {
         self.line.begun(rt, worker);

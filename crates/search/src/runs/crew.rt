@@ -24,7 +24,7 @@ impl<H: Drop> Crew<H> {
         schedule: &Schedule,
         workers: u32,
     ) -> Result<Crew<H>, AllocError>
-        ensures { IfOk result (HasRoom workers) }
+        ensures { IfOk result (HasRoom schedule.now.teams workers) }
     {
         let count = workers as usize;
         let mut copies = Vec::with_capacity(alloc, count)?;

@@ -4,12 +4,10 @@ ghost use Rattle.std.specs.Prelude.{◌≡◌, ◌+◌, ◌^◌, ◌<◌, MatchO
 ghost use Rattle.league.specs.League.{teams};
 ghost use Rattle.costs.specs.Evaluators.{IsEvaluatorAt};
 ghost use Rattle.fixtures.specs.Exchanges.{exchanged_by, IsExchange};
-ghost use Rattle.fixture_board.specs.declared.reply.Reply.{Reply};
-ghost use Rattle.search.specs.Doors.{done_count};
-ghost use Rattle.search.specs.within.Steps.{IsCandidate, IsKnown, IsLeftOut, IsMeasured, IsProposed, accepted_count, least_with};
+ghost use Rattle.search.specs.within.Steps.{IsAnswered, IsCandidate, IsKnown, IsLeftOut, IsMeasured, IsProposed};
+ghost use Rattle.search.specs.within.Steps.{IsToldBy, accepted_count, asked_of, least_with, proposal_of};
 
-use crate::Door;
-use crate::gates::HearingGate;
+use crate::{Door, Gate};
 use costs::{Attempt, Cost, Evaluator, cost_of, make_within};
 use fixture_board::{Proposal, Reply, Why};
 use fixtures::{Exchange, Schedule};
@@ -70,13 +68,12 @@ pub(crate) enum StepResult {
     Full,
 }
 
-/// An exchange that is made on the copy, what the copy is with it, and the board's reply to its proposal.
+/// An exchange that is made on the copy, and what the copy is with it.
 #[derive(Clone, Copy)]
 struct Made<'a> {
     exchange: &'a Exchange,
     cost: Cost,
     score: u64,
-    reply: Reply,
 }
 
 /// Looks. What the copy costs is what the look told if the board is of this league, and is counted otherwise.
@@ -137,7 +134,7 @@ impl Kept {
 }
 
 /// Tries a move, and proposes it if the slack lets it pass and the copy is still the board's schedule.
-pub(crate) fn step<R: Wait, D: Door, G: HearingGate>(
+pub(crate) fn step<R: Wait, D: Door, G: Gate>(
     means: Means<'_, R, G>,
     door: &mut D,
     copy: &mut Schedule,
@@ -153,13 +150,13 @@ pub(crate) fn step<R: Wait, D: Door, G: HearingGate>(
     ensures known { IsKnown means.entry.measure.league.now copy.new kept.new.known.cost kept.new.known.score }
     ensures evaluator { IsEvaluatorAt means.entry.measure.league.now copy.new kept.new.evaluator }
     ensures counted { D.granted door.new ≡ D.granted door.old + accepted_count result }
-    ensures heard { IsProposed result → (reply : Reply)
-        × G.heard means.entry.gate.now trial.worker trial.made reply × (done_count reply ≡ accepted_count result) }
+    ensures heard { IsProposed result → IsAnswered (G.heard means.entry.gate.now trial.worker trial.made)
+        (D.may_have door.old) (D.caller door.old) (D.seen door.old)
+        (asked_of means.entry.measure.league.now copy.old kept.old.known.version trial) result }
     ensures stays { D.stays door.old door.new }
 {
     let Means { rt, gate, measure } = means;
-    let mv = trial.mv;
-    let Some(exchange) = candidate(copy, measure.league, mv) else {
+    let Some(exchange) = candidate(copy, measure.league, trial.mv) else {
         return StepResult::Nothing;
     };
     let attempt = Attempt {
@@ -171,28 +168,32 @@ pub(crate) fn step<R: Wait, D: Door, G: HearingGate>(
     let Some(cost) = make_within(copy, measure.league, &mut kept.evaluator, &attempt) else {
         return StepResult::Nothing;
     };
-    let score = cost.score(measure.league);
+    let made = Made {
+        exchange: &exchange,
+        cost,
+        score: cost.score(measure.league),
+    };
     if door.front(rt) != kept.known.version {
         exchange.make(copy);
         kept.refresh(rt, door, measure, copy);
         return StepResult::Nothing;
     }
-    let proposal = Proposal {
-        version: kept.known.version,
-        mv,
+    gate.enter(rt, trial.worker, trial.made);
+    let reply = door.propose(rt, proposal_of(kept.known, trial, made.score));
+    gate.left(rt, trial.worker, trial.made, reply);
+    settle(means, door, copy, kept, made, reply)
+}
+
+/// What a step proposes: its move, for the version of the copy, with the score after it as claim.
+fn proposal_of(known: Known, trial: Trial, score: u64) -> Proposal
+    ensures { result ≡ proposal_of known.version trial score }
+{
+    Proposal {
+        version: known.version,
+        mv: trial.mv,
         claim: Some(score),
         slack: trial.slack,
-    };
-    gate.enter(rt, trial.worker, trial.made);
-    let reply = door.propose(rt, proposal);
-    gate.left(rt, trial.worker, trial.made, reply);
-    let made = Made {
-        exchange: &exchange,
-        cost,
-        score,
-        reply,
-    };
-    settle(means, door, copy, kept, made)
+    }
 }
 
 /// The exchange that a drawn move is, unless it can't be made or would give a game another round that the league keeps.
@@ -219,6 +220,7 @@ fn settle<R: Wait, D: Door, G>(
     copy: &mut Schedule,
     kept: &mut Kept,
     made: Made<'_>,
+    reply: Reply,
 ) -> StepResult
     requires same_size { teams means.measure.league.now ≡ copy.old.teams }
     requires measured { IsMeasured means.measure.of_boards means.measure.league.now (D.may_have door.old) }
@@ -229,13 +231,12 @@ fn settle<R: Wait, D: Door, G>(
     ensures same_size { copy.new.teams ≡ copy.old.teams }
     ensures known { IsKnown means.entry.measure.league.now copy.new kept.new.known.cost kept.new.known.score }
     ensures evaluator { IsEvaluatorAt means.entry.measure.league.now copy.new kept.new.evaluator }
-    ensures told { accepted_count result ≡ done_count made.entry.reply }
-    ensures proposed { IsProposed result }
+    ensures told { IsToldBy reply result }
     ensures counted { D.granted door.new ≡ D.granted door.old }
     ensures stays { D.stays door.old door.new }
 {
     let Means { rt, measure, .. } = means;
-    match made.reply {
+    match reply {
         Reply::Done { at, cost } => {
             if kept.known.version.checked_add(1) == Some(at) {
                 kept.known = Known {

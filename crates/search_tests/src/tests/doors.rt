@@ -4,11 +4,12 @@ ghost use Rattle.std.specs.Prelude.{◌^◌, ◌<◌};
 
 use crate::tests::boards::{at_any_cost, board, check_end, check_granted, circle};
 use crate::tests::checks::{check_holds, check_same};
+use crate::tests::locked::LockedDoor;
 use fixture_board::{Board, Change, Entry};
 use fixtures::{Schedule, berger};
 use league::League;
 use moves::Move;
-use search::{Door, LockedDoor, NoGate, OwnDoor, Report, SeatDoor, WorkerPlan, worker};
+use search::{Door, NoGate, OwnDoor, Report, SeatDoor, WorkerPlan, worker};
 use shared_board::Shared;
 use std::process::Abort;
 use std::sync::{Mutex, Wait};

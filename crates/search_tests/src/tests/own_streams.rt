@@ -3,7 +3,7 @@
 use crate::tests::boards::{at_any_cost, check_same_history, circle};
 use crate::tests::checks::{check_distinct, check_holds, check_holds_of, check_same};
 use crate::tests::searches::{AskedRun, searched_with};
-use fixture_board::Board;
+use fixture_board::{Board, Reply};
 use fixtures::Schedule;
 use moves::{Move, check};
 use rand_pcg::Lcg64Xsh32;
@@ -45,6 +45,10 @@ struct Queue {
 }
 
 impl Gate for Queue {
+    ghost heard = { λ _ _ _ _. Unit {0} };
+
+    ghost was_told = { λ _ _ _. Unit {0} };
+
     fn enter<R: Wait>(&self, rt: &R, worker: u32, made: u32) {
         if made != 0 {
             return;
@@ -58,7 +62,7 @@ impl Gate for Queue {
         });
     }
 
-    fn left<R: Wait>(&self, _rt: &R, _worker: u32, _made: u32) {}
+    fn left<R: Wait>(&self, _rt: &R, _worker: u32, _made: u32, _reply: Reply) {}
 
     fn told<R: Wait>(&self, rt: &R, worker: u32, _progress: Progress) {
         self.line.lock(rt).next = worker.saturating_add(1);

@@ -3,9 +3,10 @@
 ghost use Rattle.std.specs.Prelude.{◌≡◌};
 
 use crate::tests::boards::at_any_cost;
+use crate::tests::locked::LockedDoor;
 use fixture_board::{Board, Change, Proposal, Reply, Seen};
 use fixtures::Schedule;
-use search::{Door, Gate, LockedDoor};
+use search::{Door, Gate, Progress};
 use std::fmt::Write;
 use std::sync::{Mutex, Wait};
 
@@ -119,11 +120,17 @@ pub(crate) struct Passed<'a> {
 }
 
 impl Gate for Passed<'_> {
+    ghost heard = { λ _ _ _ _. Unit {0} };
+
+    ghost was_told = { λ _ _ _. Unit {0} };
+
     fn enter<R: Wait>(&self, rt: &R, worker: u32, made: u32) {
         let _ = writeln!(self.log.lock(rt), "enter {worker} {made}");
     }
 
-    fn left<R: Wait>(&self, rt: &R, worker: u32, made: u32) {
+    fn left<R: Wait>(&self, rt: &R, worker: u32, made: u32, _reply: Reply) {
         let _ = writeln!(self.log.lock(rt), "left {worker} {made}");
     }
+
+    fn told<R: Wait>(&self, _rt: &R, _worker: u32, _progress: Progress) {}
 }

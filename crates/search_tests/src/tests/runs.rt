@@ -5,10 +5,10 @@ ghost use Rattle.std.specs.Prelude.{◌≡◌, [], length, IfOk};
 use crate::tests::boards::{board, check_end, check_replay, check_same_history};
 use crate::tests::checks::{check_holds, check_same};
 use crate::tests::searches::{self, AskedRun, searched_with};
-use fixture_board::{Best, Board, Change, Entry};
+use fixture_board::{Best, Board, Change, Entry, Reply};
 use league::{League, circular};
 use moves::Move;
-use search::{Gate, NoGate, Outcome, Report, Reports, RunFault, SearchPlan, run};
+use search::{Gate, NoGate, Outcome, Progress, Report, Reports, RunFault, SearchPlan, run};
 use std::alloc::Global;
 use std::hint::spin_loop;
 use std::process::Abort;
@@ -65,6 +65,10 @@ impl Meet {
 }
 
 impl Gate for Meet {
+    ghost heard = { λ _ _ _ _. Unit {0} };
+
+    ghost was_told = { λ _ _ _. Unit {0} };
+
     fn enter<R: Wait>(&self, _rt: &R, worker: u32, made: u32) {
         if made != 0 {
             return;
@@ -84,7 +88,9 @@ impl Gate for Meet {
         self.late.store(1, Ordering::SeqCst);
     }
 
-    fn left<R: Wait>(&self, _rt: &R, _worker: u32, _made: u32) {}
+    fn left<R: Wait>(&self, _rt: &R, _worker: u32, _made: u32, _reply: Reply) {}
+
+    fn told<R: Wait>(&self, _rt: &R, _worker: u32, _progress: Progress) {}
 }
 
 /// Both of two workers propose, and each meets the other at the gate.

@@ -2,12 +2,13 @@
 
 use crate::tests::boards::{Beginning, begun, circle};
 use crate::tests::checks::check_same;
+use crate::tests::locked::LockedDoor;
 use crate::tests::recorder::{Passed, Recorder};
 use crate::tests::steps::Asked::{Front, Look, Turn};
 use fixture_board::Change;
 use fixtures::Game;
 use moves::Move;
-use search::{LockedDoor, Report, WorkerPlan, worker};
+use search::{Report, WorkerPlan, worker};
 use std::alloc::Global;
 use std::fmt::Write;
 use std::process::Abort;

@@ -2,6 +2,7 @@
 
 use crate::tests::checks::check_same;
 use crate::tests::searches::{AskedRun, searched_with};
+use fixture_board::Reply;
 use search::{Gate, Progress, SearchPlan};
 use std::alloc::Global;
 use std::fmt::Write;
@@ -17,9 +18,13 @@ struct Listener<'a> {
 }
 
 impl Gate for Listener<'_> {
+    ghost heard = { λ _ _ _ _. Unit {0} };
+
+    ghost was_told = { λ _ _ _. Unit {0} };
+
     fn enter<R: Wait>(&self, _rt: &R, _worker: u32, _made: u32) {}
 
-    fn left<R: Wait>(&self, _rt: &R, _worker: u32, _made: u32) {}
+    fn left<R: Wait>(&self, _rt: &R, _worker: u32, _made: u32, _reply: Reply) {}
 
     fn told<R: Wait>(&self, rt: &R, worker: u32, progress: Progress) {
         let Progress { steps, least } = progress;

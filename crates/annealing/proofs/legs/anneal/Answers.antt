@@ -1,6 +1,9 @@
-use Rattle.std.proofs.Common.{◌≡◌, refl, sym, subst, arith}
+use Rattle.std.proofs.Common.{◌≡◌, ℕ, ap, refl, sym, subst, arith}
 use Rattle.league.specs.League.{teams}
 use Rattle.search.specs.Draws.{AreRoundsOf}
+use Rattle.search.specs.Heard.{AreTold}
+use Rattle.search.proofs.ForCallers.{told_more, told_none}
+use Rattle.search.specs.declared.gates.Progress.{Progress}
 use Rattle.annealing.specs.within.Heats.{block_count}
 use Rattle.annealing.specs.within.Progress.{IsGoing}
 use Rattle.annealing.proofs.Ends.{IsAnnealed-all, IsAnnealed-heated, IsGoing-none}
@@ -9,6 +12,7 @@ use Rattle.annealing.proofs.legs.anneal.Goals as goal
 pub loop-number-init : goal.loop-number-init
 loop-number-init g c = record {
   going = IsGoing-none c.args.plan.leg c.args.chain.board _ refl refl refl;
+  told = told_none _;
   within = λ some. absurd (omega arith);
 }
 
@@ -31,8 +35,8 @@ pub end-requires-clause-few : goal.end-requires-clause-few
 end-requires-clause-few g c =
     let more = c.in_ok-tally.ensures.goes_on c.args.chain.board c.loop-number.invariant.going in omega (arith, more.steps)
 
-pub returns-then-may_end : goal.returns-then-may_end
-returns-then-may_end g c =
+pub returns-then-may_end-clause-annealed : goal.returns-then-may_end-clause-annealed
+returns-then-may_end-clause-annealed g c =
     IsAnnealed-heated c.args.conditions.weights c.args.plan.leg c.args.chain c.loop-number.number c.take_block.new.self c.end.result
     c.requires.leg.steps (c.in_ok-tally.ensures.goes_on c.args.chain.board c.loop-number.invariant.going) c.in_ok-tally.ensures.weight
     (c.may_end.ensures.0 c.if-may_end.true) c.end.ensures
@@ -40,12 +44,25 @@ returns-then-may_end g c =
 pub loop-number-preserved : goal.loop-number-preserved
 loop-number-preserved g c = record {
   going = c.in_ok-tally.ensures.goes_on c.args.chain.board c.loop-number.invariant.going;
+  told = told_more _ _ _ _ c.loop-number.invariant.told c.told.ensures
+      (omega (arith, ap (λ (p : Progress). p.steps) c.progress.ensures, c.in_ok-tally.ensures.steps));
   within = λ some. c.in_ok-tally.ensures.weight;
 }
 
-pub returns : goal.returns
-returns g c =
+pub returns-clause-annealed : goal.returns-clause-annealed
+returns-clause-annealed g c =
     let all : c.loop-number.number ≡ block_count c.args.plan.leg = omega (arith, c.block_count-number-end.ensures) in
     let going = subst (λ n. IsGoing c.args.plan.leg c.args.chain.board n c.loop-number.going) all c.loop-number.invariant.going in
     IsAnnealed-all c.args.conditions.weights c.args.plan.leg c.args.chain c.loop-number.going c.end-2.result c.requires.leg.steps going
     (c.loop-number.invariant.within (omega (arith, c.requires.leg.steps))) c.end-2.ensures
+
+pub returns-then-may_end-clause-told : goal.returns-then-may_end-clause-told
+returns-then-may_end-clause-told g c =
+    let told : ℕ → Type 0 = λ n. AreTold (g.G.Gate.was_told c.args.workplace.gate.now 0) n in
+    subst told (sym c.end.ensures.steps) (told_more _ _ _ _ c.loop-number.invariant.told c.told.ensures
+    (omega (arith, ap (λ (p : Progress). p.steps) c.progress.ensures, c.in_ok-tally.ensures.steps)))
+
+pub returns-clause-told : goal.returns-clause-told
+returns-clause-told g c =
+    let told : ℕ → Type 0 = λ n. AreTold (g.G.Gate.was_told c.args.workplace.gate.now 0) n in
+    subst told (sym c.end-2.ensures.steps) c.loop-number.invariant.told

@@ -1,22 +1,27 @@
-use Rattle.std.proofs.Common.{length, ap, ◌∙◌, arith, rules}
+use Rattle.std.proofs.Common.{◌≡◌, ℕ, List, length, sym, ap, ◌∙◌, subst, arith, rules}
+use Rattle.std.specs.List.{All, range_with_len}
+use Rattle.league.specs.League.{teams}
+use Rattle.fixtures.specs.Games.{Games}
 use Rattle.std.proofs.lemmas.List.{length-map}
 use Rattle.std.proofs.lemmas.List.Elements.{All-weaker}
 use Rattle.shared_board.specs.Setting.{Setting}
-use Rattle.search.specs.within.Crews.{JobIn, JobMeasured, handle_number, job_number}
-use Rattle.search.proofs.Credited.{credits_of}
+use Rattle.search.specs.within.Crews.{JobIn, JobMeasured, IsOfJob, IsSized, handle_job}
+use Rattle.search.specs.declared.runs.threads.Job.{Job}
+use Rattle.search.specs.declared.workers.Report.{Report}
+use Rattle.search.specs.Heard.{AreOf, IsOfWorker}
+use Rattle.search.proofs.Credited.{credits_of, of_workers, told_in}
 use Rattle.search.proofs.runs.search.Goals as goal
 
 pub conclude-requires-clause-many : goal.conclude-requires-clause-many
 conclude-requires-clause-many g c =
     let jobs = c.in-Ok.jobs in let handles = c.launch-all.result.1 in
-    let numbers = c.launch-all.ensures.numbers (search rules) in
+    let each = c.launch-all.ensures.each (search rules) in
     omega (
       arith,
       c.gather-reports.ensures.many,
       c.gather-reports.result.ok.0,
-      ap length numbers,
-      length-map handles.items handle_number,
-      length-map jobs.items job_number,
+      ap length each,
+      length-map handles.items handle_job,
       handles.ok.0,
       jobs.ok.0,
       c.in-Ok.ensures.many,
@@ -25,7 +30,7 @@ conclude-requires-clause-many g c =
 
 pub conclude-requires-clause-credits : goal.conclude-requires-clause-credits
 conclude-requires-clause-credits g c =
-    credits_of _ _ _ _ _ _ _ _ _ c.launch-all.ensures (search rules) c.in-Ok.ensures.rising c.gather-reports.ensures.credits
+    credits_of _ _ _ _ _ _ _ _ _ _ c.launch-all.ensures (search rules) c.in-Ok.ensures.rising c.gather-reports.ensures.credits
     c.close-closed.ensures
 
 pub launch-all-requires-after_bounds : goal.launch-all-requires-after_bounds
@@ -36,3 +41,22 @@ launch-all-requires-after_bounds g c = λ _ _. record {
   no_handle = c.requires.crew.no_handle;
   room = omega (arith, c.in-Ok.ensures.many, c.requires.crew.copies, c.requires.crew.handles);
 }
+
+pub returns-clause-heard : goal.returns-clause-heard
+returns-clause-heard g c =
+    let heard = g.G.Gate.heard c.args.means.gate.now in
+    let told = g.G.Gate.was_told c.args.means.gate.now in
+    let league = c.args.means.measure.league.now in
+    let plan = c.args.plan in
+    let size = teams c.args.seat.setting.league in
+    let reports = c.gather-reports.result.items in
+    let jobs = c.in-Ok.jobs.items in
+    let OfJobs : List Job → Type 0 = λ js. AreOf (IsOfJob heard told league plan) js reports in
+    let Sized : List Games → Type 0 = λ gs. All (IsSized size) gs in
+    let OfWorkers : List ℕ → Type 0 = λ ns. AreOf (IsOfWorker heard told (size ≡ teams league) plan.steps) ns reports in
+    let Reported : List Report → Type 0 = λ rs. AreOf (IsOfWorker heard told (size ≡ teams league) plan.steps) (range_with_len 0 plan.workers) rs in
+    let are = of_workers heard told league plan size jobs reports
+    (subst OfJobs (c.launch-all.ensures.each (search rules)) c.gather-reports.ensures.heard)
+    (subst Sized (sym c.in-Ok.ensures.copies) c.requires.crew.sized) in
+    told_in Reported reports c.conclude.result c.conclude.ensures.reports
+    (subst OfWorkers (c.in-Ok.ensures.workers ∙ ap (range_with_len 0) c.requires.crew.copies) are)

@@ -1,8 +1,9 @@
 use Rattle.std.proofs.Common.{◌≡◌, ◌+◌, ◌≤◌}
 use Rattle.league.specs.League.{teams}
 use Rattle.costs.specs.Evaluators.{IsEvaluatorAt}
-use Rattle.search.specs.within.Heard.{IsHeard}
+use Rattle.search.specs.Heard.{IsHeard}
 use Rattle.search.specs.within.Steps.{IsKnown}
+use Rattle.search.proofs.Telling.{TellsBut}
 use Rattle.search.proofs.workers.take_steps.Given as goal
 
 abbrev pub invariant-loop-s : goal.invariant-loop-s
@@ -12,7 +13,8 @@ invariant-loop-s g l = record {
   same_size : teams l.means.measure.league.now ≡ l.copy.teams;
   evaluator : IsEvaluatorAt l.means.measure.league.now l.copy l.kept.evaluator;
   known : IsKnown l.means.measure.league.now l.copy l.kept.known.cost l.kept.known.score;
-  heard : IsHeard (g.G.HearingGate.heard l.means.gate.now l.plan.worker) l.report;
+  heard : IsHeard (g.G.Gate.heard l.means.gate.now l.plan.worker) l.report;
+  told : TellsBut (g.G.Gate.was_told l.means.gate.now l.plan.worker) l.s l.progress;
   counted : g.D.Door.granted l.door ≡ g.D.Door.granted l.fn.door + l.report.accepted;
   stays : g.D.Door.stays l.fn.door l.door;
 }

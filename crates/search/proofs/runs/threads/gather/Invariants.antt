@@ -7,11 +7,12 @@ use Rattle.search.proofs.runs.threads.gather.Given as goal
 
 abbrev pub invariant-loop-handle : goal.invariant-loop-handle
 invariant-loop-handle g l = record {
-  handles : All (IsHandle l.run.means.gate.now l.run.plan.steps l.run.shared.now) (into_iter_items l.handle-iterator);
+  handles : All (IsHandle l.run.means.gate.now l.run.means.measure.league.now l.run.plan l.run.shared.now)
+      (into_iter_items l.handle-iterator);
   left : into_iter_len l.handle-iterator ≡ length (into_iter_items l.handle-iterator);
   all : l.yielded ++ into_iter_items l.handle-iterator ≡ l.fn.handles.items;
   count : vec_len l.reports + into_iter_len l.handle-iterator ≡ vec_len l.fn.handles;
   room : vec_len l.fn.handles ≤ vec_capacity l.reports;
-  gathered : IsGathered (g.G.HearingGate.heard l.run.means.gate.now) l.run.plan.steps l.run.shared.now l.fn.seat l.seat
-      l.yielded l.reports.items;
+  gathered : IsGathered (g.G.Gate.heard l.run.means.gate.now) (g.G.Gate.was_told l.run.means.gate.now) l.run.means.measure.league.now
+      l.run.plan l.run.shared.now l.fn.seat l.seat l.yielded l.reports.items;
 }

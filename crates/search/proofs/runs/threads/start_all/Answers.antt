@@ -2,8 +2,8 @@ use Rattle.std.proofs.Common.{◌≡◌, ◌∷◌, [], ◌++◌, length, map, a
 use Rattle.std.proofs.lemmas.List.{map-append}
 use Rattle.std.proofs.lemmas.List.Elements.{All-push, All-rest, All-same}
 use Rattle.std.specs.Vec.Iter.{into_iter_items}
-use Rattle.search.specs.within.Crews.{IsHandle, IsJob, JobMeasured, handle_number, job_number}
-use Rattle.search.proofs.Chains.{numbers_more}
+use Rattle.search.specs.within.Crews.{IsHandle, IsJob, JobMeasured, handle_job}
+use Rattle.search.proofs.Chains.{moved_over}
 use Rattle.search.proofs.runs.threads.start_all.Goals as goal
 
 pub loop-job-preserved : goal.loop-job-preserved
@@ -16,7 +16,7 @@ loop-job-preserved g c =
     let pushed = c.push_reserved.ensures in
     let old = c.loop-job.handles.items in
     let handle = c.in-Some-start.handle in
-    let is_handle = IsHandle c.args.run.means.gate.now c.args.run.plan.steps c.args.run.shared.now in
+    let is_handle = IsHandle c.args.run.means.gate.now c.args.run.means.measure.league.now c.args.run.plan c.args.run.shared.now in
     let measured_job = JobMeasured c.args.run.means.measure.of_boards c.args.run.means.measure.league.now in
     record {
       jobs = All-rest (IsJob c.args.run.shared.now) c.in-Some.job rest (into_iter_items c.loop-job.job-iterator) steps was.jobs;
@@ -28,9 +28,7 @@ loop-job-preserved g c =
           c.in-Some-start.ensures.handle);
       count = omega (arith, gone, pushed.len, was.count);
       room = omega (arith, pushed.capacity, was.room);
-      numbers = numbers_more (map handle_number old) (map handle_number c.push_reserved.new.self.items)
-          (map job_number (into_iter_items c.loop-job.job-iterator)) (map job_number rest) (map job_number c.args.jobs.items)
-          (handle_number handle) (job_number c.in-Some.job)
-          (ap (map handle_number) pushed.items ∙ map-append handle_number old (handle ∷ []))
-          (ap (map job_number) steps) c.in-Some-start.ensures.number was.numbers;
+      each = moved_over (map handle_job old) (map handle_job c.push_reserved.new.self.items) (into_iter_items c.loop-job.job-iterator) rest
+          c.args.jobs.items (handle_job handle) c.in-Some.job
+          (ap (map handle_job) pushed.items ∙ map-append handle_job old (handle ∷ [])) steps c.in-Some-start.ensures.job was.each;
     }

@@ -1,21 +1,21 @@
 //! A door to a board under a lock.
 
-use crate::Door;
 use fixture_board::{Board, Proposal, Reply, Seen};
 use fixtures::Schedule;
+use search::Door;
 use std::sync::{Mutex, Wait};
 
 /// A door to a board under a lock. Between two calls whoever takes the lock may put another board there, of another league
 /// or with a shorter history, so nothing is known but what holds of each board: the history seen stays empty, and league
 /// and room are those of the board that is found.
 #[derive(Drop)]
-pub struct LockedDoor<'a> {
+pub(crate) struct LockedDoor<'a> {
     /// The board, whoever else may change it.
-    pub board: &'a Mutex<Board>,
+    pub(crate) board: &'a Mutex<Board>,
     /// The number of the caller.
-    pub caller: u32,
+    pub(crate) caller: u32,
     /// How many of its proposals were granted.
-    pub dones: u64,
+    pub(crate) dones: u64,
 }
 
 impl Door for LockedDoor<'_> {

@@ -1,0 +1,60 @@
+-- What a gate hears of a worker: the replies to its proposals, and the steps that it tells.
+use Rattle.std.specs.Prelude.{◌≡◌, ◌⊎◌, ℕ, ◌+◌, ◌≤◌, List, [], ◌∷◌, length, sum_by, All}
+use Rattle.fixture_board.specs.declared.reply.Reply.{Reply}
+use Rattle.fixture_board.specs.declared.reply.Reply.TheVariants.{Done, No}
+use Rattle.fixture_board.specs.declared.reply.Why.TheVariants.{Full}
+use Rattle.search.specs.declared.gates.Progress.{Progress}
+use Rattle.search.specs.declared.workers.Report.{Report}
+use Rattle.search.specs.Doors.{done_count}
+
+-- the replies to proposals in a row, the first of which is made after so many others
+abbrev pub AreHeard : (ℕ → Reply → Type 0) → ℕ → List Reply → Type 0
+AreHeard heard made [] = Unit {0}
+AreHeard heard made (r ∷ rs) = heard made r × AreHeard heard (made + 1) rs
+
+-- The report counts replies that were heard, one to each proposal: so many are there, and so many of them grant
+pub record IsHeard (heard : ℕ → Reply → Type 0) (report : Report) : Type 0 where
+  pub replies : List Reply
+  pub are : AreHeard heard 0 replies
+  pub made : length replies ≡ report.made
+  pub accepted : sum_by done_count replies ≡ report.accepted
+
+abbrev pub steps_of : Progress → ℕ
+steps_of p = p.steps
+
+-- so many steps were told, in parts
+pub record AreTold (told : Progress → Type 0) (steps : ℕ) : Type 0 where
+  pub parts : List Progress
+  pub are : All told parts
+  pub sum : sum_by steps_of parts ≡ steps
+
+-- the reply says that the history has no room
+abbrev pub IsFull : Reply → Type 0
+IsFull (Done at cost) = ⊥
+IsFull (No at reason) = reason ≡ Full
+
+-- such a reply was heard
+pub record HearsFull (heard : ℕ → Reply → Type 0) : Type 0 where
+  pub made : ℕ
+  pub reply : Reply
+  pub is_heard : heard made reply
+  pub full : IsFull reply
+
+-- Each step that was taken was told. It is all of so many steps, unless a reply was heard that the history has no room
+pub record TellsSteps (told : Progress → Type 0) (heard : ℕ → Reply → Type 0) (steps : ℕ) : Type 0 where
+  pub taken : ℕ
+  pub few : taken ≤ steps
+  pub told_are : AreTold told taken
+  pub stops : (taken ≡ steps) ⊎ HearsFull heard
+
+-- The report of the worker of this number, of which a gate heard. Its steps are told if its copy is of the right size
+pub record IsOfWorker (heard : ℕ → ℕ → Reply → Type 0) (told : ℕ → Progress → Type 0) (sized : Type 0) (steps worker : ℕ)
+    (report : Report) : Type 0 where
+  pub heard_is : IsHeard (heard worker) report
+  pub told_is : sized → TellsSteps (told worker) (heard worker) steps
+
+-- the reports of these, in their order
+abbrev pub AreOf : {A : Type 0} → (A → Report → Type 0) → List A → List Report → Type 0
+AreOf is [] [] = Unit {0}
+AreOf is (x ∷ xs) (r ∷ rs) = is x r × AreOf is xs rs
+AreOf is _ _ = ⊥
