@@ -56,7 +56,7 @@ pub fn improve_from<T: Threads + Wait + Sync, G: Gate + Sync, R: Source, W: Sink
 
 /// As [`improve`], of a league's text that was read, where the league is to begin: at its own start, if nothing else is said. The watcher
 /// is told of each leg that has ended.
-pub fn improve_on<T: Threads + Wait + Sync, G: Gate + Sync, W: Sink, V: Watcher + Drop>(
+pub fn improve_on<T: Threads + Wait + Sync, G: Gate + Sync, W: Sink, V: Watcher<W> + Drop>(
     workplace: Workplace<'_, T, G>,
     league: &[u8],
     beginning: Option<&Beginning<'_>>,

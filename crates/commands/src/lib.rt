@@ -20,7 +20,7 @@ pub use distance_tables::{DistanceFault, Symmetry, Terms};
 pub use fault::ProgramFault;
 pub use hints::hint_on;
 pub use improve_command::{improve, improve_from, improve_on};
-pub use improvement::{ImprovePlan, LegEnded, NoWatcher, Watcher};
+pub use improvement::{ImprovePlan, LegEnded, NoWatcher, Watcher, Written};
 pub use league_command::{league, league_from, league_on};
 pub use play_command::{play, play_from, play_on};
 pub use policy::MOST_EFFORT;

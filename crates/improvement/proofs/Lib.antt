@@ -5,3 +5,4 @@ pub mod Lines
 pub mod UnderWay
 pub mod Ends
 pub mod Rooms
+pub mod Watched

@@ -4,5 +4,6 @@ pub mod Chains
 pub mod Broken
 pub mod LegText
 pub mod Outcome
+pub mod Watched
 pub mod Laws
 pub mod within

@@ -22,12 +22,13 @@ use crate::plan::{ImproveFault, ImprovePlan};
 use crate::rounds::free_rounds;
 use crate::setting::{Setting, start_board};
 use crate::told::Told;
-use crate::watcher::{LegEnded, Watcher};
+use crate::watcher::{LegEnded, Watcher, Written};
 use annealing::{Annealed, measure};
 use fixture_board::Best;
 use league::League;
 use search::{Gate, MAX_WORKERS, Workplace};
 use std::alloc::AllocError;
+use std::snapshot::Snapshot;
 use std::sync::Wait;
 use std::thread;
 use std::thread::{Scope, Threads};
@@ -37,7 +38,7 @@ use texts::write_improved;
 /// Runs the legs of the policy on chains of the league, and writes each better schedule as soon as it is known. The legs pass the
 /// workplace's gate, which is told how far they are. The watcher is told of each leg that has ended. Answers with the best version of the
 /// history that was written in the end.
-pub fn improve<T: Threads + Wait + Sync, G: Gate + Sync, W: Sink, V: Watcher + Drop>(
+pub fn improve<T: Threads + Wait + Sync, G: Gate + Sync, W: Sink, V: Watcher<W> + Drop>(
     workplace: Workplace<'_, T, G>,
     league: League,
     plan: ImprovePlan,
@@ -68,7 +69,7 @@ pub fn improve<T: Threads + Wait + Sync, G: Gate + Sync, W: Sink, V: Watcher + D
 
 /// Improves in a scope of threads, which all have ended in the end. The sink comes back, since no contract says what is written behind a
 /// reference in a scope.
-fn in_scope<'w, T: Threads + Wait + Sync, G: Gate + Sync, W: Sink, V: Watcher + Drop>(
+fn in_scope<'w, T: Threads + Wait + Sync, G: Gate + Sync, W: Sink, V: Watcher<W> + Drop>(
     setting: &Setting<'_, T, G>,
     sink: &'w mut W,
     watcher: V,
@@ -89,7 +90,7 @@ fn in_scope<'w, T: Threads + Wait + Sync, G: Gate + Sync, W: Sink, V: Watcher + 
 }
 
 /// Improves within a scope.
-fn within<'s, 'w, E, T: Threads + Wait + Sync, G: Gate + Sync, W: Sink, V: Watcher + Drop>(
+fn within<'s, 'w, E, T: Threads + Wait + Sync, G: Gate + Sync, W: Sink, V: Watcher<W> + Drop>(
     scope: &Scope<'s, E>,
     setting: Setting<'s, T, G>,
     sink: &'w mut W,
@@ -109,7 +110,7 @@ fn take_back<W>(sink: &mut W)
 {}
 
 /// Runs all legs, and writes what they come to, each as it has ended and then all together. Answers with the best of that.
-fn run_and_write<'s, E, T: Threads + Wait + Sync, G: Gate + Sync, W: Sink, V: Watcher>(
+fn run_and_write<'s, E, T: Threads + Wait + Sync, G: Gate + Sync, W: Sink, V: Watcher<W>>(
     scope: &Scope<'s, E>,
     setting: Setting<'s, T, G>,
     out: &mut BufferedSink<'_, W>,
@@ -128,7 +129,7 @@ fn run_and_write<'s, E, T: Threads + Wait + Sync, G: Gate + Sync, W: Sink, V: Wa
 }
 
 /// Runs all legs, and writes what each comes to as it has ended.
-fn run_all<'s, E, T: Threads + Wait + Sync, G: Gate + Sync, W: Sink, V: Watcher>(
+fn run_all<'s, E, T: Threads + Wait + Sync, G: Gate + Sync, W: Sink, V: Watcher<W>>(
     scope: &Scope<'s, E>,
     setting: Setting<'s, T, G>,
     out: &mut BufferedSink<'_, W>,
@@ -140,6 +141,7 @@ fn run_all<'s, E, T: Threads + Wait + Sync, G: Gate + Sync, W: Sink, V: Watcher>
         (HasRunAll W.held W.tally setting.entry.start.now setting.entry.unit setting.entry.plan out.old out.new) result }
 {
     setting.workplace.gate.begun(setting.workplace.rt, 0);
+    let lent = Snapshot::of(&*out);
     let mut line = Line::new(&setting);
     let mut told = Told {
         lead: setting.board_or_new(None)?,
@@ -148,14 +150,14 @@ fn run_all<'s, E, T: Threads + Wait + Sync, G: Gate + Sync, W: Sink, V: Watcher>
         chains: Chains::new(setting.workplace.alloc),
     };
     while let Some(leg) = next_leg(scope, setting, &mut line, watcher)? {
-        tell(setting, leg, &mut line, &mut told, out, watcher)?;
+        tell(setting, leg, &mut line, &mut told, &lent, out, watcher)?;
     }
     Ok(told)
 }
 
 /// Takes the next leg out of the line, unless there is none. If several improvements share their steps, and the watcher wants no more, none
 /// begins.
-fn next_leg<'s, E, T: Threads + Wait + Sync, G: Gate + Sync, V: Watcher>(
+fn next_leg<'s, E, T: Threads + Wait + Sync, G: Gate + Sync, W: Sink, V: Watcher<W>>(
     scope: &Scope<'s, E>,
     setting: Setting<'s, T, G>,
     line: &mut Line,
@@ -178,17 +180,19 @@ fn next_leg<'s, E, T: Threads + Wait + Sync, G: Gate + Sync, V: Watcher>(
 }
 
 /// Waits for a leg's end, writes what it came to, tells the watcher, and has the leg's chain go on.
-fn tell<T: Threads + Wait + Sync, G: Gate + Sync, W: Sink, V: Watcher>(
+fn tell<'w, T: Threads + Wait + Sync, G: Gate + Sync, W: Sink, V: Watcher<W>>(
     setting: Setting<'_, T, G>,
     leg: RunningLeg,
     line: &mut Line,
     told: &mut Told,
-    out: &mut BufferedSink<'_, W>,
+    lent: &Snapshot<BufferedSink<'w, W>>,
+    out: &mut BufferedSink<'w, W>,
     watcher: &mut V,
 ) -> Result<(), ImproveFault>
     requires setting { IsSetting setting }
-    requires under_way { (first : BufferedSink W) × IsUnderWay W.held W.tally setting.start.now setting.unit setting.plan
-        first out.old (leg ∷ []) line.old told.old }
+    requires none { waiting_in lent.now.value ≡ [] }
+    requires under_way { IsUnderWay W.held W.tally setting.start.now setting.unit setting.plan
+        lent.now.value out.old (leg ∷ []) line.old told.old }
     ensures under_way { (first : BufferedSink W) → IsUnderWay W.held W.tally setting.entry.start.now setting.entry.unit setting.entry.plan
         first out.old (leg ∷ []) line.old told.old →
         EndsBy W.held W.tally setting.entry.start.now setting.entry.unit setting.entry.plan first out.new
@@ -208,7 +212,17 @@ fn tell<T: Threads + Wait + Sync, G: Gate + Sync, W: Sink, V: Watcher>(
     };
     write_leg(out, setting.unit, ended, told.least, &chain.board)?;
     let leads = told.meet(workplace.alloc, turn.chain, &chain.board)?;
-    watcher.leg_ended(LegEnded::of(ended, told.least), told.lead_if(leads));
+    let written = Written {
+        league: setting.start.league(),
+        plan: setting.plan,
+        lent,
+        now: Snapshot::of(&*out),
+    };
+    watcher.leg_ended(
+        LegEnded::of(ended, told.least),
+        told.lead_if(leads),
+        written,
+    );
     workplace.gate.begun(workplace.rt, 0);
     let number = turn.chain;
     line.go_on(turn, end, Entrant { number, chain })?;

@@ -8,7 +8,7 @@ ghost use Rattle.search.specs.Draws.{AreRoundsOf};
 ghost use Rattle.annealing.specs.Legs.{IsAnnealed};
 ghost use Rattle.improvement.specs.declared.legs.Turn.{Turn};
 ghost use Rattle.improvement.specs.Legs.{LegRun};
-ghost use Rattle.improvement.specs.within.Lines.{CanEnd, IsRunning, IsState, IsWaiting};
+ghost use Rattle.improvement.specs.within.Lines.{CanEnd, IsRunning, IsState, IsWaiting, chain_of};
 
 use crate::setting::Setting;
 use annealing::{Annealed, Chain, Conditions, LegPlan, anneal};
@@ -84,6 +84,15 @@ impl Promise<Outcome> for Given {
 }
 
 impl WaitingLeg {
+    /// The chain with which it begins.
+    fn chain<T, G>(self, setting: &Setting<'_, T, G>) -> Result<Chain, AllocError>
+        ensures { IfOk result (λ chain. chain ≡ chain_of setting.now.start.now self) }
+    {
+        let board = setting.board_or_new(self.board)?;
+        let weight = self.weight;
+        Ok(Chain { board, weight })
+    }
+
     /// Has it begin: in a thread if there are several workers and a thread can be had, and else at once in this one.
     pub(crate) fn begin<'s, E, T: Threads + Wait + Sync, G: Gate + Sync>(
         self,
@@ -99,15 +108,10 @@ impl WaitingLeg {
         ensures running { (legs : List LegRun) → IsWaiting setting.entry.start.now legs self →
             IfOk result (IsRunning setting.entry.start.now legs) }
     {
-        let WaitingLeg {
-            turn,
-            stream,
-            weight,
-            board,
-        } = self;
-        let board = setting.board_or_new(board)?;
-        let plan = turn.plan(seed, stream);
-        let state = run(scope, setting, weights, Chain { board, weight }, plan);
+        let turn = self.turn;
+        let plan = turn.plan(seed, self.stream);
+        let chain = self.chain(&setting)?;
+        let state = run(scope, setting, weights, chain, plan);
         Ok(RunningLeg { turn, state })
     }
 }

@@ -24,4 +24,4 @@ mod watcher;
 pub use improving::improve;
 pub use laws::{end_is_least, solutions_are_feasible, totals_fall, unkept_is_broken_in_each};
 pub use plan::{ImproveFault, ImprovePlan};
-pub use watcher::{LegEnded, NoWatcher, Watcher};
+pub use watcher::{LegEnded, NoWatcher, Watcher, Written};

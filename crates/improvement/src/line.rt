@@ -6,6 +6,7 @@ ghost use Rattle.policy.specs.Limits.{most_effort};
 ghost use Rattle.search.specs.Draws.{AreRoundsOf};
 ghost use Rattle.improvement.specs.declared.legs.Turn.{Turn};
 ghost use Rattle.improvement.specs.Legs.{LegRun};
+ghost use Rattle.improvement.specs.within.Aims.{IsAimOf};
 ghost use Rattle.improvement.specs.within.Lines.{IsEntrant, IsLine, IsRunning, left_in, steps_left, turn_steps, turns_of, waiting_for};
 ghost use Rattle.fixture_board.specs.Record.{Book};
 
@@ -26,7 +27,9 @@ use std::thread::{Scope, Threads};
 const PLACES: usize = 16;
 
 /// What becomes of a league's start.
-fn aim_of(league: &League) -> Aim {
+fn aim_of(league: &League) -> Aim
+    ensures { IsAimOf league.now result }
+{
     if league.near() > 0 || !league.kept().is_empty() {
         Aim::Repair
     } else if league.given() {
@@ -52,6 +55,7 @@ impl Line {
         requires { setting.now.plan.effort ≤ most_effort }
         ensures line { (legs : List LegRun) → IsLine setting.now.start.now legs result }
         ensures left { left_in result ≡ setting.now.plan.effort }
+        ensures aim { IsAimOf setting.now.start.now.league result.series.facts.aim }
     {
         let alloc = setting.workplace.alloc;
         let league = setting.start.league();

@@ -31,6 +31,8 @@ impl Series {
         ensures left { result.policy.left + result.later ≡ plan.effort }
         ensures seed { result.seed ≡ plan.seed }
         ensures lined { result.lined ≡ 0 }
+        ensures teams { result.facts.teams ≡ facts.teams }
+        ensures aim { result.facts.aim ≡ facts.aim }
     {
         let effort = plan.first.unwrap_or(plan.effort).min(plan.effort);
         let facts = Facts { effort, ..facts };
@@ -66,6 +68,8 @@ impl Series {
         ensures effort { self.new.facts.effort ≡ min (max (min (2 * self.old.facts.effort) (2 ^ 64 - 1)) 1) self.old.later }
         ensures seed { self.new.seed ≡ (self.old.seed + 1) % 2 ^ 64 }
         ensures lined { self.new.lined ≡ 0 }
+        ensures teams { self.new.facts.teams ≡ self.old.facts.teams }
+        ensures aim { self.new.facts.aim ≡ self.old.facts.aim }
     {
         let effort = self.facts.effort.saturating_mul(2).max(1).min(self.later);
         self.facts = Facts {

@@ -1,11 +1,11 @@
 //! What the legs that were told have come to all together.
 
-ghost use Rattle.std.specs.Prelude.{◌≡◌, ◌+◌, ◌^◌, ◌<◌, IfOk, OnOk};
+ghost use Rattle.std.specs.Prelude.{◌≡◌, ◌+◌, ◌^◌, ◌<◌, if◌then◌else◌, Some, None, IfOk, OnOk, option_map};
 ghost use Rattle.fixture_board.specs.Record.{book};
 ghost use Rattle.improvement.specs.Chains.{meeting, reached};
 ghost use Rattle.improvement.specs.Legs.{least_in, lesser};
 ghost use Rattle.improvement.specs.within.Legs.{lead_after};
-ghost use Rattle.improvement.specs.within.Watched.{takes_lead};
+ghost use Rattle.improvement.specs.Watched.{takes_lead};
 
 use crate::chains::Chains;
 use crate::standing::Standing;
@@ -58,7 +58,9 @@ impl Told {
     }
 
     /// The board with the history that leads, if it is wanted.
-    pub(crate) fn lead_if(&self, wanted: bool) -> Option<&Board> {
+    pub(crate) fn lead_if(&self, wanted: bool) -> Option<&Board>
+        ensures { option_map (λ board. board.now) result ≡ (if wanted then Some self.now.lead else None) }
+    {
         if wanted { Some(&self.lead) } else { None }
     }
 }

@@ -1,10 +1,14 @@
 //! Who looks on at an improvement.
 
-ghost use Rattle.std.specs.Prelude.{◌≡◌};
-ghost use Rattle.improvement.specs.within.Watched.{ended_as};
+ghost use Rattle.std.specs.Prelude.{◌≡◌, option_map};
+ghost use Rattle.improvement.specs.Watched.{HasLines, ended_as};
 
 use crate::leg_text::LegTold;
+use crate::plan::ImprovePlan;
 use fixture_board::Board;
+use league::League;
+use std::snapshot::Snapshot;
+use streams::{BufferedSink, Sink};
 
 /// A leg that has ended.
 #[derive(Clone, Copy, Debug, PartialEq, Eq)]
@@ -42,11 +46,25 @@ impl LegEnded {
     }
 }
 
-/// Looks on at an improvement, and changes nothing of what that does and writes, but for when several that share their steps end.
-pub trait Watcher {
-    /// A leg has ended, and its lines were written. If it changed the history that leads there is a board with that history: it is the
-    /// first leg's, or better than the one before.
-    fn leg_ended(&mut self, leg: LegEnded, better: Option<&Board>);
+/// The sink of an improvement when a leg has ended. Contracts say by it what was written by then; a watcher can do nothing with it.
+#[derive(Drop)]
+pub struct Written<'a, 'w, W> {
+    /// The league that is improved, as it was given.
+    pub league: &'a League,
+    pub plan: ImprovePlan,
+    /// The sink as it was lent, before the first leg.
+    pub lent: &'a Snapshot<BufferedSink<'w, W>>,
+    /// The sink as it is.
+    pub now: Snapshot<BufferedSink<'w, W>>,
+}
+
+/// Looks on at an improvement that writes to such a sink, and changes nothing of what that does and writes, but for when several that share
+/// their steps end.
+pub trait Watcher<W: Sink> {
+    /// A leg has ended, and its lines and those of all before it stand at the sink. If it changed the history that leads there is a board
+    /// with that history: it is the first leg's, or better than the one before.
+    fn leg_ended(&mut self, leg: LegEnded, better: Option<&Board>, written: Written<'_, '_, W>)
+        requires { HasLines W.held written leg (option_map (λ board. board.now) better) };
 
     /// Whether more legs are to begin. It is asked only if several improvements share their steps.
     fn wants_more(&mut self) -> bool {
@@ -54,9 +72,11 @@ pub trait Watcher {
     }
 }
 
-impl<V: Watcher> Watcher for &mut V {
-    fn leg_ended(&mut self, leg: LegEnded, better: Option<&Board>) {
-        (**self).leg_ended(leg, better);
+impl<W: Sink, V: Watcher<W>> Watcher<W> for &mut V {
+    fn leg_ended(&mut self, leg: LegEnded, better: Option<&Board>, written: Written<'_, '_, W>)
+        requires { HasLines W.held written leg (option_map (λ board. board.now) better) }
+    {
+        (**self).leg_ended(leg, better, written);
     }
 
     fn wants_more(&mut self) -> bool {
@@ -68,6 +88,8 @@ impl<V: Watcher> Watcher for &mut V {
 #[derive(Drop)]
 pub struct NoWatcher;
 
-impl Watcher for NoWatcher {
-    fn leg_ended(&mut self, _leg: LegEnded, _better: Option<&Board>) {}
+impl<W: Sink> Watcher<W> for NoWatcher {
+    fn leg_ended(&mut self, _leg: LegEnded, _better: Option<&Board>, _written: Written<'_, '_, W>)
+        requires { HasLines W.held _written _leg (option_map (λ board. board.now) _better) }
+    {}
 }

@@ -1,10 +1,13 @@
 //! The files that follow an improvement.
 
+ghost use Rattle.std.specs.Prelude.{◌≡◌, ◌||◌, true, OnErr, OnOk};
+ghost use Rattle.program.specs.Followed.{has_failed};
+
 use crate::found_file::FoundFile;
 use crate::leg_log::LegLog;
 use crate::told::tell_unwritten;
 use command_line::FileWords;
-use commands::{LegEnded, Watcher};
+use commands::{LegEnded, Sink, Watcher, Written};
 use fixture_board::Board;
 use std::alloc::Global;
 use std::io::Eprint;
@@ -53,7 +56,9 @@ impl<'a, R: Files + Clock + Eprint> Follower<'a, R> {
     }
 
     /// Whether a file ever couldn't be written.
-    pub fn has_failed(&self) -> bool {
+    pub fn has_failed(&self) -> bool
+        ensures { result ≡ (has_failed self.now.found || has_failed self.now.log) }
+    {
         has_failed(&self.found) || has_failed(&self.log)
     }
 }
@@ -73,7 +78,9 @@ fn opened<F>(name: &str, file: io::Result<F>) -> Result<Followed<'_, F>, Unwritt
     }
 }
 
-fn has_failed<F>(followed: &Option<Followed<'_, F>>) -> bool {
+fn has_failed<F>(followed: &Option<Followed<'_, F>>) -> bool
+    ensures { result ≡ has_failed followed.now }
+{
     match followed {
         Some(followed) => followed.failed,
         None => false,
@@ -82,7 +89,10 @@ fn has_failed<F>(followed: &Option<Followed<'_, F>>) -> bool {
 
 impl<F> Followed<'_, F> {
     /// Notes how a write ended, and names the file if it is the first one that failed.
-    fn note(&mut self, rt: &impl Eprint, outcome: io::Result<()>) {
+    fn note(&mut self, rt: &impl Eprint, outcome: io::Result<()>)
+        ensures failed { OnErr outcome (self.new.failed ≡ true) }
+        ensures same { OnOk outcome (self.new.failed ≡ self.old.failed) }
+    {
         if let Err(why) = outcome {
             if !self.failed {
                 tell_unwritten(rt, self.name, &why);
@@ -92,8 +102,12 @@ impl<F> Followed<'_, F> {
     }
 }
 
-impl<R: Files + Clock + Eprint> Watcher for Follower<'_, R> {
-    fn leg_ended(&mut self, leg: LegEnded, better: Option<&Board>) {
+impl<R: Files + Clock + Eprint, W: Sink> Watcher<W> for Follower<'_, R> {
+    // whatever was written, and a file that couldn't be written once stays so
+    fn leg_ended(&mut self, leg: LegEnded, better: Option<&Board>, _written: Written<'_, '_, W>)
+        ensures found { has_failed self.old.found ≡ true → has_failed self.new.found ≡ true }
+        ensures log { has_failed self.old.log ≡ true → has_failed self.new.log ≡ true }
+    {
         if let Some(log) = &mut self.log {
             let outcome = log.file.add(leg);
             log.note(self.rt, outcome);

@@ -64,7 +64,7 @@ pub(crate) fn perform<
     T: Threads + Wait + Clock + Sync,
     E: Write + Send + Drop,
     W: Sink,
-    V: Watcher,
+    V: Watcher<W>,
 >(
     console: Console<'_, T, E>,
     job: Job,
@@ -112,7 +112,7 @@ fn extent_of(job: Job) -> Extent {
 }
 
 /// As [`perform`]. The workers pass the workplace's gate.
-fn perform_at<T: Threads + Wait + Clock + Sync, G: Gate + Sync, W: Sink, V: Watcher>(
+fn perform_at<T: Threads + Wait + Clock + Sync, G: Gate + Sync, W: Sink, V: Watcher<W>>(
     workplace: Workplace<'_, T, G>,
     job: Job,
     texts: &Texts<'_>,

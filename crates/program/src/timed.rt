@@ -1,6 +1,9 @@
 //! How long improvements follow each other.
 
-use commands::{LegEnded, Watcher};
+ghost use Rattle.std.specs.Prelude.{option_map};
+ghost use Rattle.improvement.specs.Watched.{HasLines};
+
+use commands::{LegEnded, Sink, Watcher, Written};
 use fixture_board::Board;
 use std::time::{Clock, Duration, Instant};
 
@@ -32,9 +35,11 @@ impl<'a, C: Clock, V> Timed<'a, C, V> {
     }
 }
 
-impl<C: Clock, V: Watcher> Watcher for Timed<'_, C, V> {
-    fn leg_ended(&mut self, leg: LegEnded, better: Option<&Board>) {
-        self.watcher.leg_ended(leg, better);
+impl<C: Clock, W: Sink, V: Watcher<W>> Watcher<W> for Timed<'_, C, V> {
+    fn leg_ended(&mut self, leg: LegEnded, better: Option<&Board>, written: Written<'_, '_, W>)
+        requires { HasLines W.held written leg (option_map (λ board. board.now) better) }
+    {
+        self.watcher.leg_ended(leg, better, written);
     }
 
     fn wants_more(&mut self) -> bool {

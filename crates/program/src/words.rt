@@ -251,7 +251,7 @@ fn respond_on<
     T: Runtime + AllocGlobal + Threads + Wait + Sync,
     E: Write + Send + Drop,
     W: Sink,
-    V: Watcher,
+    V: Watcher<W>,
 >(
     console: Console<'_, T, E>,
     request: &Request,

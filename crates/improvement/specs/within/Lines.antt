@@ -1,5 +1,5 @@
 -- Legs that wait, legs that run, and the line of both.
-use Rattle.std.specs.Prelude.{◌≡◌, ℕ, ◌+◌, List, [], ◌++◌, map, sum_by, All, Option, Some, None, IfOk}
+use Rattle.std.specs.Prelude.{◌≡◌, ℕ, ◌+◌, List, [], ◌++◌, map, sum_by, All, Option, Some, None, unwrap_or, IfOk}
 use Rattle.fixture_board.specs.Record.{Book, book}
 use Rattle.fixture_board.specs.Rewound.{rewound}
 use Rattle.policy.specs.declared.legs.Leg.{Leg}
@@ -52,6 +52,10 @@ MayBegin start legs chain (Some board) = IsAtBeginning start legs chain board
 pub record IsWaiting (start : Book) (legs : List LegRun) (w : WaitingLeg) : Type 0 where
   pub leg : IsLeg w.turn.leg
   pub begins : MayBegin start legs w.turn.chain w.board
+
+-- the chain with which a leg that waits begins: a new one if it has no board
+abbrev pub chain_of : Book → WaitingLeg → Chain
+chain_of start w = record { board = unwrap_or w.board (anew start); weight = w.weight }
 
 -- the leg began so, and ends with this chain
 pub record CanEnd (start : Book) (legs : List LegRun) (turn : Turn) (now : Annealed) : Type 0 where

@@ -1,17 +1,17 @@
 //! Improvements that follow each other, until who looks on wants no more.
 
-ghost use Rattle.std.specs.Prelude.{◌≤◌};
+ghost use Rattle.std.specs.Prelude.{◌≡◌, ◌≤◌};
 
 use super::legs::number_behind;
 use super::{asked, check_same, circle, improvement_of};
 use fixture_board::Board;
-use improvement::{ImprovePlan, LegEnded, Watcher, improve};
+use improvement::{ImprovePlan, LegEnded, Watcher, Written, improve};
 use search::{NoGate, Workplace};
 use std::alloc::Global;
 use std::process::Abort;
 use std::sync::Wait;
 use std::thread::Threads;
-use streams::MemorySink;
+use streams::{MemorySink, Sink};
 use texts::{next_line, next_word};
 
 /// Counts legs and their steps, and wants so many legs.
@@ -22,8 +22,10 @@ struct Counter {
     steps: u64,
 }
 
-impl Watcher for Counter {
-    fn leg_ended(&mut self, leg: LegEnded, _better: Option<&Board>) {
+impl<W: Sink> Watcher<W> for Counter {
+    fn leg_ended(&mut self, leg: LegEnded, _better: Option<&Board>, _written: Written<'_, '_, W>)
+        ensures { self.new.wanted ≡ self.old.wanted }
+    {
         self.legs = self.legs.saturating_add(1);
         self.steps = self.steps.saturating_add(leg.steps);
     }

@@ -3,17 +3,19 @@
 use crate::tests::checks::{check_holds, check_same, check_same_of};
 use crate::tests::memory_disk::Disk;
 use command_line::FileWords;
-use commands::{LegEnded, Watcher};
+use commands::{ImprovePlan, LegEnded, Watcher, Written};
 use fixture_board::{Ask, Board, Change};
-use league::circular;
+use league::{League, circular};
 use moves::Move;
 use program::Follower;
 use std::alloc::{AllocError, Global};
 use std::io::{Eprint, ErrorKind};
 use std::process::Abort;
 use std::rt::Files;
+use std::snapshot::Snapshot;
 use std::test::Fail;
 use std::time::Clock;
+use streams::{BufferedSink, MemorySink};
 
 /// A leg that found no schedule that keeps all hard limits, and one that did.
 const FIRST: LegEnded = LegEnded {
@@ -61,13 +63,40 @@ fn words(alloc: Global, output: bool) -> Result<FileWords, AllocError> {
     })
 }
 
+const PLAN: ImprovePlan = ImprovePlan {
+    workers: 1,
+    seed: 1,
+    effort: 1_000_000,
+    first: None,
+};
+
+/// A leg ends. A follower doesn't ask what was written by then: nothing here.
+fn end_leg<R: Files + Clock + Eprint>(
+    follower: &mut Follower<'_, R>,
+    leg: LegEnded,
+    better: Option<&Board>,
+    league: &League,
+) {
+    let mut room = [0; 1];
+    let mut sink = MemorySink::new(&mut room);
+    let out = BufferedSink::new(&mut sink);
+    let lent = Snapshot::of(&out);
+    let written = Written {
+        league,
+        plan: PLAN,
+        lent: &lent,
+        now: Snapshot::of(&out),
+    };
+    follower.leg_ended(leg, better, written);
+}
+
 /// Three legs end. The first one's history leads, the second one's isn't better, and the third one's is.
-fn end_legs<V: Watcher>(follower: &mut V, board: &mut Board) {
-    follower.leg_ended(FIRST, Some(board));
-    follower.leg_ended(SECOND, None);
+fn end_legs<R: Files + Clock + Eprint>(follower: &mut Follower<'_, R>, board: &mut Board) {
+    end_leg(follower, FIRST, Some(board), board.league());
+    end_leg(follower, SECOND, None, board.league());
     let homes = Change::Shift(Move::Homes { i: 0, j: 1 });
     board.answer(0, Ask::of(homes, 0, u64::MAX));
-    follower.leg_ended(SECOND, Some(board));
+    end_leg(follower, SECOND, Some(board), board.league());
 }
 
 /// Legs end. Tells whether the file ever couldn't be written, or nothing if it was refused at once.
@@ -196,11 +225,12 @@ fn log_legs<'a, R: Files + Clock + Eprint>(
     disk: &'a R,
     alloc: Global,
     words: &'a FileWords,
+    league: &League,
 ) -> Option<bool> {
     match Follower::new(disk, alloc, words) {
         Ok(mut follower) => {
-            follower.leg_ended(FIRST, None);
-            follower.leg_ended(SECOND, None);
+            end_leg(&mut follower, FIRST, None, league);
+            end_leg(&mut follower, SECOND, None, league);
             Some(follower.has_failed())
         }
         Err(_) => None,
@@ -215,7 +245,8 @@ fn check_log(
     fails: bool,
 ) -> Result<(), Fail> {
     let disk = Disk::new(alloc, good, false)?;
-    let answer = log_legs(&disk, alloc, &words(alloc, false)?);
+    let board = board(alloc)?;
+    let answer = log_legs(&disk, alloc, &words(alloc, false)?, board.league());
     let log = disk.found("legs.txt")?;
     check_same_of(
         rt,

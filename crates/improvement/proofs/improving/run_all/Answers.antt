@@ -19,11 +19,9 @@ loop-told-init g c =
 pub tell-requires-clause-under_way : goal.tell-requires-clause-under_way
 tell-requires-clause-under_way g c = λ κs within.
     let s = c.args.setting in
-    let next = c.in_ok-leg.ensures in (
-      c.args.out.now,
-      under_way_next g.W.Sink.held g.W.Sink.tally s.start.now s.unit s.plan c.loop-told.line c.next_leg.new.line
-          c.loop-told.told c.in_ok-leg.field-0 c.in-Some.leg c.loop-told.invariant c.in-Some.is next.line next.leg next.left,
-    )
+    let next = c.in_ok-leg.ensures in
+    rw c.of-lent.ensures (under_way_next g.W.Sink.held g.W.Sink.tally s.start.now s.unit s.plan c.loop-told.line c.next_leg.new.line
+    c.loop-told.told c.in_ok-leg.field-0 c.in-Some.leg c.loop-told.invariant c.in-Some.is next.line next.leg next.left)
 
 pub loop-told-preserved : goal.loop-told-preserved
 loop-told-preserved g c =

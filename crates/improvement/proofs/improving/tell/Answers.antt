@@ -1,9 +1,10 @@
-use Rattle.std.proofs.Common.{[], sym, ◌∙◌, ap, arith}
+use Rattle.std.proofs.Common.{[], refl, sym, ◌∙◌, ap, arith}
 use Rattle.std.proofs.lemmas.List.Elements.{All-head}
 use Rattle.std.proofs.lemmas.Result.{err_from_is_err_and}
 use Rattle.fixture_board.specs.Record.{Book}
 use Rattle.improvement.specs.within.Lines.{IsRunning}
-use Rattle.improvement.proofs.UnderWay.{few_told, league_is, room_is, sent_more, stopped_more, under_way_more}
+use Rattle.improvement.proofs.UnderWay.{few_told, league_is, room_is, sent_more, stopped_more, told_more, under_way_more}
+use Rattle.improvement.proofs.Watched.{has_lines, newest_is}
 use Rattle.improvement.proofs.improving.tell.Goals as goal
 
 pub overflow_add-ended : goal.overflow_add-ended
@@ -12,7 +13,7 @@ overflow_add-ended g c =
     omega (
       arith,
       few_told g.W.Sink.held g.W.Sink.tally s.start.now s.unit s.plan _ c.args.line.now c.args.told.now
-          c.requires.under_way.1,
+          c.requires.under_way,
       c.requires.setting.effort,
     )
 
@@ -32,20 +33,20 @@ meet-requires-clause-legs g c =
     omega (
       arith,
       few_told g.W.Sink.held g.W.Sink.tally s.start.now s.unit s.plan _ c.args.line.now c.args.told.now
-          c.requires.under_way.1,
+          c.requires.under_way,
       c.requires.setting.effort,
     )
 
 pub meet-requires-clause-league : goal.meet-requires-clause-league
 meet-requires-clause-league g c =
-    let w = c.requires.under_way.1 in
+    let w = c.requires.under_way in
     let e = c.in_ok-chain.ensures c.args.setting.start.now w.sent.legs c.args.leg.turn
     (All-head (IsRunning c.args.setting.start.now w.sent.legs) c.args.leg [] w.running) in
     league_is c.args.leg.turn c.in_ok-chain.field-0 e ∙ sym (ap (λ (b : Book). b.league) w.told_is.lead_is)
 
 pub meet-requires-clause-room : goal.meet-requires-clause-room
 meet-requires-clause-room g c =
-    let w = c.requires.under_way.1 in
+    let w = c.requires.under_way in
     let e = c.in_ok-chain.ensures c.args.setting.start.now w.sent.legs c.args.leg.turn
     (All-head (IsRunning c.args.setting.start.now w.sent.legs) c.args.leg [] w.running) in
     room_is c.args.leg.turn c.in_ok-chain.field-0 e ∙ sym (ap (λ (b : Book). b.room) w.told_is.lead_is)
@@ -60,9 +61,25 @@ returns-in_err-leads-clause-under_way g c = λ first w.
     rw (p.1, p.2) (sent_more g.W.Sink.held g.W.Sink.tally s.start.now s.unit s.plan w.sent c.args.told.now c.args.leg.turn now e
     w.told_is c.in_ok-write_leg.ensures.writes.ok c.in_ok-write_leg.ensures.sent)
 
+pub leg_ended-requires : goal.leg_ended-requires
+leg_ended-requires g c =
+    let w = c.requires.under_way in
+    let s = c.args.setting in
+    let now = c.in_ok-chain.field-0 in
+    let e = c.in_ok-chain.ensures s.start.now w.sent.legs c.args.leg.turn
+    (All-head (IsRunning s.start.now w.sent.legs) c.args.leg [] w.running) in
+    let sent = sent_more g.W.Sink.held g.W.Sink.tally s.start.now s.unit s.plan w.sent c.args.told.now c.args.leg.turn now e
+    w.told_is c.in_ok-write_leg.ensures.writes.ok c.in_ok-write_leg.ensures.sent in
+    let new = told_more s.start.now w.sent.legs c.args.told.now c.meet.new.self c.args.leg.turn now w.told_is
+    c.in_ok-leads.ensures.lead c.in_ok-leads.ensures.least c.in_ok-leads.ensures.legs c.in_ok-leads.ensures.chains in
+    has_lines g.W.Sink.held g.W.Sink.tally s.start.now s.unit s.plan c.requires.setting.unit c.requires.setting.room _ _ _ _ _ sent
+    c.requires.none c.league.ensures refl refl c.of.ensures
+    (newest_is s.start.now w.sent.legs c.args.told.now c.meet.new.self c.args.leg.turn now _ _ _ w.told_is new
+    c.of-2.ensures c.in_ok-leads.ensures.leads c.lead_if.ensures)
+
 pub go_on-requires-clause-ended : goal.go_on-requires-clause-ended
 go_on-requires-clause-ended g c =
-    let w = c.requires.under_way.1 in
+    let w = c.requires.under_way in
     let e = c.in_ok-chain.ensures c.args.setting.start.now w.sent.legs c.args.leg.turn
     (All-head (IsRunning c.args.setting.start.now w.sent.legs) c.args.leg [] w.running) in
     e.annealed.figures.few
@@ -90,7 +107,7 @@ returns-clause-under_way g c = λ first w.
 
 pub returns-clause-fewer : goal.returns-clause-fewer
 returns-clause-fewer g c =
-    let w = c.requires.under_way.1 in
+    let w = c.requires.under_way in
     let e = c.in_ok-chain.ensures c.args.setting.start.now w.sent.legs c.args.leg.turn
     (All-head (IsRunning c.args.setting.start.now w.sent.legs) c.args.leg [] w.running) in
     omega (arith, c.in_ok-go_on.ensures.left, e.annealed.figures.some)
