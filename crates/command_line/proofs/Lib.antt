@@ -4,4 +4,5 @@ pub mod NumberLemmas
 pub mod OptionWords
 pub mod NamedCommand
 pub mod WordsFault
+pub mod WrongNumbers
 pub mod Keeping

@@ -1,7 +1,7 @@
 -- Whether words are refused, where clap refuses them and where it does not.
-use Rattle.std.proofs.Common.{◌≡◌, ◌⊎◌, [], ◌∷◌, Bool, true, false, refl, sym, true≢false, inl, inr, List, Option, Some, option_and_then}
+use Rattle.std.proofs.Common.{◌≡◌, ◌⊎◌, ◌∙◌, [], ◌∷◌, subst, Bool, true, false, refl, sym, true≢false, inl, inr, List, Option, Some, option_and_then}
 use Rattle.std.specs.Prelude.{if◌then◌else◌}
-use Rattle.clap.specs.Kinds.{HasKind, Kinds, or_else}
+use Rattle.clap.specs.Kinds.{HasKind, IsAmong, Kinds, or_else}
 use Rattle.clap.specs.Values.{kind_of}
 use Rattle.clap.specs.Words.{Row, Text}
 use Rattle.clap.specs.declared.error.Error.{Error}
@@ -19,6 +19,13 @@ pub still_refused : (kinds more : Kinds) (e : Error) → HasKind kinds e → Has
 still_refused [] more e (inl memory) = inl memory
 still_refused [] more e (inr none) = absurd none
 still_refused (k ∷ ks) more e has = has
+
+-- an error of the same kind, or memory ran out
+pub same_kind : (kinds : Kinds) (e told : Error) → HasKind kinds e → HasKind (kind_of e ∷ []) told → HasKind kinds told
+same_kind kinds e told has (inl memory) = inl memory
+same_kind kinds e told (inl memory) (inr (inl same)) = inl (same ∙ memory)
+same_kind kinds e told (inr among) (inr (inl same)) = inr (subst (λ k. IsAmong k kinds) (sym same) among)
+same_kind kinds e told has (inr (inr none)) = absurd none
 
 pub asks_for : (found : Option (Text × List Row)) (job : Job) (files : Files) (beginning : Beginning) →
     option_and_then job_of_command found ≡ Some job → option_and_then files_of_command found ≡ Some files

@@ -1,3 +1,4 @@
 pub mod Files
 pub mod CommandLine
 pub mod Refusals
+pub mod WrongNumbers

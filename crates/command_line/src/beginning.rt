@@ -14,7 +14,7 @@ use std::alloc::{AllocError, Global};
 use texts::{byte_index, number, numbers_at_dash, rest_after};
 
 /// The most that a moved game costs.
-const MAX_NEAR: u64 = 1_000_000;
+pub(crate) const MAX_NEAR: u64 = 1_000_000;
 
 /// What is kept of the schedule at which boards begin, and what a moved game costs.
 #[derive(Debug, Drop)]

@@ -17,7 +17,7 @@ use crate::help::{
 };
 use crate::league_args::{league_command, league_of};
 use crate::number_args::{EFFORT, ROOM, SECONDS, SEED, SLACK, STEPS, WORKERS};
-use crate::refusals::refused;
+use crate::refusals::{refused, with_wanted};
 use crate::report_args::{format_of, report_command};
 use crate::request::{Request, request_of};
 use crate::text_args::{FROM, LEAGUE, SCRIPT, with_file_options, with_start_options};
@@ -79,7 +79,7 @@ pub fn args(alloc: Global, words: &[String]) -> Result<Request, Error>
             Ok(request) => Ok(request),
             Err(refusal) => Err(refused(alloc, &matches, refusal)),
         },
-        Err(error) => Err(error),
+        Err(error) => Err(with_wanted(alloc, words, error)),
     }
 }
 

@@ -11,6 +11,7 @@ mod refusals;
 mod report_args;
 mod request;
 mod text_args;
+mod wrong_number;
 
 pub use beginning::BeginningWords;
 pub use distance_tables::{Symmetry, Terms};

@@ -1,13 +1,16 @@
 //! The options of the commands: `--name N`. N is a whole number.
 
-ghost use Rattle.std.specs.Prelude.{◌≡◌, ◌≤◌, IfSome, Some, false, is_some, true};
-ghost use Rattle.clap.specs.Words.{found_of, rows_of, rule_of as rule_of_arg};
-ghost use Rattle.command_line.specs.CommandLine.{number_in, rule_of};
+ghost use Rattle.std.specs.Prelude.{◌≡◌, ◌≤◌, ◌↔◌, IfSome, IsTrue, Some, false, is_some, option_map, true};
+ghost use Rattle.clap.specs.ValueTests.{accepts};
+ghost use Rattle.clap.specs.Words.{IsUnsignedIn, found_of, rows_of, rule_of as rule_of_arg};
+ghost use Rattle.command_line.specs.CommandLine.{number_in, rule_of, terms_options};
 ghost use Rattle.command_line.specs.within.CommandLine.{HasValue, form_of};
+ghost use Rattle.command_line.specs.within.WrongNumbers.{improve_numbers, named, numbers_of, play_numbers, report_numbers, search_numbers};
 
+use crate::beginning::MAX_NEAR;
 use crate::help::{
-    AT_MOST_HELP, EFFORT_HELP, HARD_WEIGHT_HELP, ROOM_HELP, SECONDS_HELP, SEED_HELP, SLACK_HELP,
-    STEPS_HELP, WORKERS_HELP,
+    AT_MOST_HELP, EFFORT_HELP, HARD_WEIGHT_HELP, NEAR_HELP, ROOM_HELP, SECONDS_HELP, SEED_HELP,
+    SLACK_HELP, STEPS_HELP, WORKERS_HELP,
 };
 use clap::builder::ValueParser;
 use clap::{Arg, ArgMatches};
@@ -33,10 +36,10 @@ const MAX_HARD_WEIGHT: u64 = 1_000_000;
 /// An option: the range of its number, and what stands for it if it isn't given, if anything does.
 #[derive(Clone, Copy)]
 pub(crate) struct NumberArg {
-    name: &'static str,
-    value_name: &'static str,
-    least: u64,
-    most: u64,
+    pub(crate) name: &'static str,
+    pub(crate) value_name: &'static str,
+    pub(crate) least: u64,
+    pub(crate) most: u64,
     default: Option<&'static str>,
     help: &'static str,
 }
@@ -122,6 +125,86 @@ pub(crate) const HARD_WEIGHT: NumberArg = NumberArg {
     help: HARD_WEIGHT_HELP,
 };
 
+/// What a moved game costs. clap takes any text for it.
+pub(crate) const NEAR_NUMBER: NumberArg = NumberArg {
+    name: "near",
+    value_name: "W",
+    least: 0,
+    most: MAX_NEAR,
+    default: None,
+    help: NEAR_HELP,
+};
+
+/// The option of a command that has the name and wants a number.
+pub(crate) fn number_named(command: &str, name: &str) -> Option<NumberArg>
+    ensures { option_map form_of result ≡ named name.now (numbers_of command.now) }
+{
+    match command {
+        "play" => play_number(name),
+        "improve" => improve_number(name),
+        "search" => search_number(name),
+        "report" => report_number(name),
+        "league" => league_number(name),
+        _ => None,
+    }
+}
+
+fn play_number(name: &str) -> Option<NumberArg>
+    ensures { option_map form_of result ≡ named name.now play_numbers }
+{
+    match name {
+        "room" => Some(ROOM),
+        "near" => Some(NEAR_NUMBER),
+        _ => None,
+    }
+}
+
+fn improve_number(name: &str) -> Option<NumberArg>
+    ensures { option_map form_of result ≡ named name.now improve_numbers }
+{
+    match name {
+        "workers" => Some(WORKERS),
+        "seed" => Some(SEED),
+        "effort" => Some(EFFORT),
+        "seconds" => Some(SECONDS),
+        "near" => Some(NEAR_NUMBER),
+        _ => None,
+    }
+}
+
+fn search_number(name: &str) -> Option<NumberArg>
+    ensures { option_map form_of result ≡ named name.now search_numbers }
+{
+    match name {
+        "room" => Some(ROOM),
+        "workers" => Some(WORKERS),
+        "seed" => Some(SEED),
+        "steps" => Some(STEPS),
+        "slack" => Some(SLACK),
+        "near" => Some(NEAR_NUMBER),
+        _ => None,
+    }
+}
+
+fn report_number(name: &str) -> Option<NumberArg>
+    ensures { option_map form_of result ≡ named name.now report_numbers }
+{
+    match name {
+        "near" => Some(NEAR_NUMBER),
+        _ => None,
+    }
+}
+
+fn league_number(name: &str) -> Option<NumberArg>
+    ensures { option_map form_of result ≡ named name.now terms_options }
+{
+    match name {
+        "at-most" => Some(AT_MOST),
+        "hard-weight" => Some(HARD_WEIGHT),
+        _ => None,
+    }
+}
+
 impl NumberArg {
     /// The option as clap has it.
     pub(crate) fn arg<'a>(&self, alloc: Global) -> Arg<'a>
@@ -161,5 +244,21 @@ impl NumberArg {
         ensures range { IfSome result (λ number. (self.now.least ≤ number) × (number ≤ self.now.most)) }
     {
         values.get_one::<u64>(self.name)
+    }
+
+    /// Whether clap takes the word for the number.
+    pub(crate) fn takes(&self, word: &str) -> bool
+        ensures { result ≡ accepts false (form_of self.now).parser word.now }
+    {
+        is_number_in(word, self.least, self.most)
+    }
+}
+
+fn is_number_in(word: &str, least: u64, most: u64) -> bool
+    ensures { IsTrue result ↔ IsUnsignedIn least most word.now }
+{
+    match word.parse::<u64>() {
+        Ok(number) => least <= number && number <= most,
+        Err(_) => false,
     }
 }

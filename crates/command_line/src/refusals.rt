@@ -7,6 +7,7 @@ ghost use Rattle.command_line.specs.within.Refusals.{first_wrong, wrong_game};
 
 use crate::beginning::game_of_text;
 use crate::job::command_named;
+use crate::wrong_number::{WrongNumber, cause_of};
 use clap::error::ErrorKind;
 use clap::{ArgMatches, Error};
 use std::alloc::{AllocError, Global};
@@ -52,9 +53,45 @@ fn told(
     ensures { IfOk result (λ error. kind_of error ≡ ErrorKind.InvalidValue) }
 {
     let message = message(alloc, values, refusal)?;
+    error_of(alloc, name, ErrorKind::InvalidValue, message.as_str())
+}
+
+/// clap's error or, if clap refuses the words for a number, one of that kind that says which number is wanted.
+pub(crate) fn with_wanted(alloc: Global, words: &[String], error: Error) -> Error
+    ensures { HasKind (kind_of error ∷ []) result }
+{
+    let kind = error.kind();
+    let Some(command) = words.get(1) else {
+        return error;
+    };
+    match cause_of(kind, command.as_str(), words) {
+        Some(wrong) => match wanted(alloc, command.as_str(), kind, wrong) {
+            Ok(wanted) => wanted,
+            Err(memory) => Error::from(memory),
+        },
+        None => error,
+    }
+}
+
+fn wanted(
+    alloc: Global,
+    name: &str,
+    kind: ErrorKind,
+    wrong: WrongNumber<'_>,
+) -> Result<Error, AllocError>
+    ensures { IfOk result (λ error. kind_of error ≡ kind) }
+{
+    let message = format!(in alloc; "{wrong}")?;
+    error_of(alloc, name, kind, message.as_str())
+}
+
+/// The error of a command, in clap's form.
+fn error_of(alloc: Global, name: &str, kind: ErrorKind, message: &str) -> Result<Error, AllocError>
+    ensures { IfOk result (λ error. kind_of error ≡ kind) }
+{
     let full_name = format!(in alloc; "ttp {name}")?;
     let mut command = command_named(alloc, name)?.bin_name(full_name.as_str())?;
-    command.error(ErrorKind::InvalidValue, message.as_str())
+    command.error(kind, message)
 }
 
 fn message(alloc: Global, values: &ArgMatches, refusal: Refusal) -> Result<String, AllocError> {
@@ -80,7 +117,7 @@ fn message(alloc: Global, values: &ArgMatches, refusal: Refusal) -> Result<Strin
         Refusal::Near => {
             let text = values.get_str("near").unwrap_or("");
             format!(in alloc;
-                "invalid value '{text}' for '--near <W>': a number from 0 to 1000000 is wanted"
+                "invalid value '{text}' for '--near <W>': a whole number from 0 to 1000000 is wanted"
             )
         }
         Refusal::Output => String::from_str(

@@ -32,3 +32,4 @@ mod tables;
 mod text_beginnings;
 mod told;
 mod worked;
+mod wrong_numbers;

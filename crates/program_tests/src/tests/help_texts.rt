@@ -9,7 +9,7 @@ use std::process::Abort;
 use std::test::Fail;
 
 /// The text that these words are answered with.
-fn told(alloc: Global, given: &[&str]) -> Result<String, Fail> {
+pub(crate) fn told(alloc: Global, given: &[&str]) -> Result<String, Fail> {
     let words = words(alloc, given)?;
     match args(alloc, &words) {
         Ok(_) => Err(Fail::new("the words pass")),
@@ -191,13 +191,7 @@ const TEXTS: &[(&[&str], &str)] = &[
         "error: --separator and --bom want --format csv\n\n\
         Usage: ttp report [OPTIONS] [LEAGUE] [SCHEDULE]\n\nFor more information, try '--help'.\n",
     ),
-    // a number outside its range in clap's words
-    (
-        &["ttp", "improve", "--seconds", "0"],
-        "error: invalid value '0' for '--seconds <S>': 0 is not in 1..=1000000\n\n\
-        For more information, try '--help'.\n",
-    ),
-    // and a wrong value of a start what is wanted
+    // a wrong value of a start is told what is wanted
     (
         &["ttp", "play", "--keep", "8-1"],
         "error: invalid value '8-1' for '--keep <ROUNDS>': rounds from 1 as in 1-8,12 are wanted\n\n\
@@ -210,7 +204,7 @@ const TEXTS: &[(&[&str], &str)] = &[
     ),
     (
         &["ttp", "search", "--near=many"],
-        "error: invalid value 'many' for '--near <W>': a number from 0 to 1000000 is wanted\n\n\
+        "error: invalid value 'many' for '--near <W>': a whole number from 0 to 1000000 is wanted\n\n\
         Usage: ttp search [OPTIONS] [LEAGUE]\n\nFor more information, try '--help'.\n",
     ),
     (

@@ -1,13 +1,13 @@
 use Rattle.std.proofs.Common.{◌≡◌, ◌⊎◌, ◌∙◌, [], ap, false, map, option_and_then, string_bytes, subst, sym}
 use Rattle.clap.specs.Words.{App, fault_of, is_simple, is_simple_and_free, subcommand_of, subcommand_rows_of}
 use Rattle.clap.specs.Kinds.{HasKind}
-use Rattle.command_line.specs.CommandLine.{asks_for_all, beginning_of_command, job_of_command, program}
+use Rattle.command_line.specs.CommandLine.{asks_for_all, beginning_of_command, job_of_command, program, words_fault}
 use Rattle.command_line.specs.within.CommandLine.{NamesACommand}
 use Rattle.command_line.specs.Beginnings.{beginning_of}
 use Rattle.command_line.specs.Files.{files_of, files_of_command}
 use Rattle.command_line.specs.declared.refusals.Refusal.TheVariants.{Memory}
 use Rattle.command_line.proofs.NamedCommand.{names_a_command}
-use Rattle.command_line.proofs.WordsFault.{asks_for, refusal_told, still_refused, taken}
+use Rattle.command_line.proofs.WordsFault.{asks_for, refusal_told, same_kind, still_refused, taken}
 use Rattle.command_line.proofs.job.args.Goals as goal
 
 pub request_of-requires : goal.request_of-requires
@@ -77,4 +77,5 @@ returns-clause-fault c =
     let parse = c.in-Err-try_get_matches_from.ensures in
     let told = subst (λ (a : App). HasKind (fault_of a words) c.in-Err-try_get_matches_from.error) is_program
     (parse.kinds (ap is_simple_and_free is_program)) in
-    still_refused (fault_of program words) _ c.in-Err-try_get_matches_from.error told
+    same_kind (words_fault words) c.in-Err-try_get_matches_from.error c.with_wanted.result
+    (still_refused (fault_of program words) _ c.in-Err-try_get_matches_from.error told) c.with_wanted.ensures
