@@ -339,7 +339,7 @@ pub(crate) fn last_line(shown: &[u8]) -> Option<&str> {
     let shown = str::from_utf8(shown).ok()?;
     let (lines, _) = shown.rsplit_once("\r\x1b[K")?;
     let (_, last) = lines.rsplit_once("\r\x1b[K\x1b[?7l")?;
-    Some(last)
+    last.strip_suffix("\x1b[?7h")
 }
 
 /// Workers, and how the last line of a search begins in which each takes 250 steps.
