@@ -33,10 +33,12 @@ each_text l test =
     if count_where (teams l) test == teams l then codes "every team"
     else word_if (nat_lt 1 (count_where (teams l) test)) (codes "each of ") ++ teams_text l test
 
--- each two of them
+-- each two of them, of which there are none below two teams
 unfoldable pub pairs_text : LeagueData → (ℕ → Bool) → List ℕ
 pairs_text l test =
-    if count_where (teams l) test == teams l then codes "any two teams" else codes "any two of " ++ teams_text l test
+    if count_where (teams l) test == teams l then codes "any two teams"
+    else if nat_lt (count_where (teams l) test) 2 then codes "no two teams"
+    else word_if (not (count_where (teams l) test == 2)) (codes "any two of ") ++ teams_text l test
 
 -- a round that passes, where a stretch of them begins or ends: behind how many, and whether the one before passes and the next one
 abbrev pub stretch_text : Bool → ℕ → Bool → Bool → ℕ → List ℕ

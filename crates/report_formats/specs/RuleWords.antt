@@ -1,6 +1,6 @@
 -- Each rule in words, with the teams' names: what it asks, of whom and when, and whether it is kept, or else where it is broken.
 -- Teams and rounds are numbered from 0 in calls, and from 1 in texts.
-use Rattle.std.specs.Prelude.{ℕ, ◌-◌, ◌==◌, ◌||◌, List, [], ◌∷◌, ◌++◌, Bool, false, not, nat_lt, min, length, slice_get}
+use Rattle.std.specs.Prelude.{ℕ, ◌-◌, ◌==◌, ◌||◌, ◌&&◌, List, [], ◌∷◌, ◌++◌, Bool, false, not, nat_lt, min, length, slice_get}
 use Rattle.std.specs.Prelude.{Option, Some, None, codes, decimal, if◌then◌else◌}
 use Rattle.std.specs.List.{concat, list_any}
 use Rattle.fixtures.specs.Games.{Games, round_count}
@@ -56,6 +56,10 @@ range_text least most =
     else if least == 0 then codes "at most " ++ decimal most
     else concat (codes "from " ∷ decimal least ∷ codes " to " ∷ decimal most ∷ [])
 
+-- how often
+abbrev pub times_text : ℕ → ℕ → List ℕ
+times_text least most = concat (range_text least most ∷ codes " time" ∷ word_if (not (most == 1)) (codes "s") ∷ [])
+
 abbrev pub game_text : LeagueData → ℕ → Pairing → List ℕ
 game_text l i game =
     concat (word_if (not (i == 0)) (codes ", ") ∷ escaped (name_of l game.home) ∷ codes " - " ∷ escaped (name_of l game.away) ∷ [])
@@ -69,10 +73,27 @@ game_at l i (Some game) = game_text l i game
 abbrev pub more_text : ℕ → List ℕ
 more_text count = if nat_lt 6 count then concat (codes " and " ∷ decimal (count - 6) ∷ codes " more" ∷ []) else []
 
--- the first six, and how many more there are
-unfoldable pub games_text : LeagueData → List Pairing → List ℕ
-games_text l games =
-    codes " of the games " ++ pieces_below (λ i. game_at l i (slice_get games i)) (min 6 (length games)) ++ more_text (length games)
+-- the first six
+abbrev pub first_games : LeagueData → List Pairing → List ℕ
+first_games l games = pieces_below (λ i. game_at l i (slice_get games i)) (min 6 (length games))
+
+-- as `at most 1 of no games`
+abbrev pub no_games_text : ℕ → ℕ → List ℕ
+no_games_text least most = range_text least most ++ codes " of no games"
+
+-- as `the game T1 - T2 exactly 1 time`
+abbrev pub one_game_text : LeagueData → List Pairing → ℕ → ℕ → List ℕ
+one_game_text l games least most = codes "the game " ++ first_games l games ++ codes " " ++ times_text least most
+
+-- as `at most 1 of the games T1 - T2, T2 - T1`: the first six, and how many more there are
+abbrev pub some_games_text : LeagueData → List Pairing → ℕ → ℕ → List ℕ
+some_games_text l games least most = range_text least most ++ codes " of the games " ++ first_games l games ++ more_text (length games)
+
+-- how many of which games
+unfoldable pub games_range : LeagueData → List Pairing → ℕ → ℕ → List ℕ
+games_range l games least most =
+    if length games == 0 then no_games_text least most
+    else if length games == 1 then one_game_text l games least most else some_games_text l games least most
 
 -- as `at least 2 rounds between both games`
 abbrev pub apart_text : ℕ → List ℕ
@@ -88,15 +109,16 @@ most_against l most side opponents = most_text most side (codes "game") ++ again
 abbrev pub most_of_against : LeagueData → ℕ → ℕ → Side → ℕ → List ℕ
 most_of_against l most chosen side opponents = most_of_text l most chosen side ++ against_text l opponents
 
-abbrev pub games_range : LeagueData → List Pairing → ℕ → ℕ → List ℕ
-games_range l games least most = range_text least most ++ games_text l games
+-- at least two of the teams
+abbrev pub are_several : LeagueData → ℕ → Bool
+are_several l chosen = nat_lt 1 (count_where (teams l) (has chosen))
 
 unfoldable pub what_text : LeagueData → RuleBody → List ℕ
 what_text l (Ca1 chosen side slots most) = most_text most side (codes "game")
 what_text l (Ca2 chosen side opponents slots most) = most_against l most side opponents
 what_text l (Ca3 chosen side opponents window most) = most_against l most side opponents
 what_text l (Ca4 chosen side opponents slots each most) =
-    if each then most_of_against l most chosen side opponents else most_against l most side opponents
+    if each && are_several l chosen then most_of_against l most chosen side opponents else most_against l most side opponents
 what_text l (Ga1 games slots least most) = games_range l games least most
 what_text l (Br1 chosen side slots most) = most_text most side (codes "break")
 what_text l (Br2 chosen slots most) = most_text most Any (codes "break")
@@ -109,7 +131,7 @@ abbrev pub for_each : LeagueData → ℕ → List ℕ
 for_each l chosen = codes " for " ++ each_text l (has chosen)
 
 abbrev pub for_all : LeagueData → ℕ → List ℕ
-for_all l chosen = codes " for " ++ teams_text l (has chosen) ++ codes " together"
+for_all l chosen = codes " for " ++ teams_text l (has chosen) ++ word_if (are_several l chosen) (codes " together")
 
 abbrev pub for_pairs : LeagueData → ℕ → List ℕ
 for_pairs l chosen = codes " for " ++ pairs_text l (has chosen)
@@ -118,7 +140,7 @@ unfoldable pub whom_text : LeagueData → RuleBody → List ℕ
 whom_text l (Ca1 chosen side slots most) = for_each l chosen
 whom_text l (Ca2 chosen side opponents slots most) = for_each l chosen
 whom_text l (Ca3 chosen side opponents window most) = for_each l chosen
-whom_text l (Ca4 chosen side opponents slots each most) = if each then [] else for_all l chosen
+whom_text l (Ca4 chosen side opponents slots each most) = if each && are_several l chosen then [] else for_all l chosen
 whom_text l (Ga1 games slots least most) = []
 whom_text l (Br1 chosen side slots most) = for_each l chosen
 whom_text l (Br2 chosen slots most) = for_all l chosen
@@ -132,16 +154,23 @@ abbrev pub slots_text : ℕ → List ℕ → List ℕ → ℕ → List ℕ
 slots_text rounds always word slots =
     if count_where rounds (has slots) == rounds then always else word ++ rounds_text rounds (has slots)
 
+-- what stands before so many rounds, each of which is told of by itself
+abbrev pub each_word : ℕ → List ℕ
+each_word count = if nat_lt 1 count then codes " in a round out of " else codes " in "
+
+abbrev pub each_slot_text : ℕ → ℕ → List ℕ
+each_slot_text rounds slots = slots_text rounds (codes " in a round") (each_word (count_where rounds (has slots))) slots
+
 abbrev pub window_text : ℕ → List ℕ
 window_text window =
-    concat (codes " in any " ∷ decimal window ∷ codes " round" ∷ word_if (not (window == 1)) (codes "s") ∷ codes " in a row" ∷ [])
+    if window == 1 then codes " in any round" else concat (codes " in any " ∷ decimal window ∷ codes " rounds in a row" ∷ [])
 
 unfoldable pub when_text : ℕ → RuleBody → List ℕ
 when_text rounds (Ca1 chosen side slots most) = slots_text rounds [] (codes " in ") slots
 when_text rounds (Ca2 chosen side opponents slots most) = slots_text rounds [] (codes " in ") slots
 when_text rounds (Ca3 chosen side opponents window most) = window_text window
 when_text rounds (Ca4 chosen side opponents slots each most) =
-    if each then slots_text rounds (codes " in a round") (codes " in a round out of ") slots else slots_text rounds [] (codes " in ") slots
+    if each then each_slot_text rounds slots else slots_text rounds [] (codes " in ") slots
 when_text rounds (Ga1 games slots least most) = slots_text rounds [] (codes " in ") slots
 when_text rounds (Br1 chosen side slots most) = slots_text rounds [] (codes " in ") slots
 when_text rounds (Br2 chosen slots most) = slots_text rounds [] (codes " in ") slots

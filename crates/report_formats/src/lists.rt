@@ -106,7 +106,7 @@ pub(crate) fn push_each(
     push_teams(page, league, chosen)
 }
 
-/// Adds each two of the teams.
+/// Adds each two of the teams, of which there are none below two teams.
 #[tactic(auto, unfolding(crate::specs::Lists::pairs_text))]
 pub(crate) fn push_pairs(
     page: &mut Vec<u8>,
@@ -116,10 +116,14 @@ pub(crate) fn push_pairs(
     requires { IsBelow (teams league.now) chosen }
     ensures { OnOk result (page.new.items ≡ page.old.items ++ pairs_text league.now (has chosen)) }
 {
-    if chosen.len() == u32::from(league.teams()) {
+    let count = chosen.len();
+    if count == u32::from(league.teams()) {
         return push_pieces(page, &[Piece::Raw(b"any two teams")]);
     }
-    push_pieces(page, &[Piece::Raw(b"any two of ")])?;
+    if count < 2 {
+        return push_pieces(page, &[Piece::Raw(b"no two teams")]);
+    }
+    push_pieces(page, &[Piece::Raw(word_if(count != 2, b"any two of "))])?;
     push_teams(page, league, chosen)
 }
 

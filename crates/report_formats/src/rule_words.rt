@@ -1,13 +1,14 @@
 //! Each rule in words, with the teams' names: what it asks, of whom and when, and whether it is kept.
 
-ghost use Rattle.std.specs.Prelude.{◌≡◌, ◌++◌, ◌≤◌, if◌then◌else◌, OnOk};
+ghost use Rattle.std.specs.Prelude.{◌≡◌, ◌++◌, ◌≤◌, ◌&&◌, if◌then◌else◌, OnOk};
 ghost use Rattle.league.specs.League.{teams};
 ghost use Rattle.league.specs.Limits.{max_rounds};
 ghost use Rattle.league.specs.RuleLimits.{IsBodyFor};
 ghost use Rattle.league.specs.Sets.{IsBelow};
 ghost use Rattle.fixtures.specs.Games.{round_count};
 ghost use Rattle.robinx.specs.Deviations.{deviation};
-ghost use Rattle.report_formats.specs.RuleWords.{against_text, apart_text, for_all, for_each, for_pairs, gap_text, most_against};
+ghost use Rattle.report_formats.specs.RuleWords.{against_text, apart_text, are_several, each_slot_text, each_word, for_all, for_each};
+ghost use Rattle.report_formats.specs.RuleWords.{for_pairs, gap_text, most_against};
 ghost use Rattle.report_formats.specs.RuleWords.{most_of_against, most_of_text, most_text, rule_words, side_word, slots_text, what_text};
 ghost use Rattle.report_formats.specs.RuleWords.{when_text, where_word, whom_text, window_text};
 
@@ -97,7 +98,7 @@ fn push_most_against(
     push_against(page, league, opponents)
 }
 
-/// Adds how many games of all the teams there may be: as teams in each slot, or together.
+/// Adds how many games of all the teams there may be: as teams in each slot, if there are two at least, or together.
 fn push_most_of_all(
     page: &mut Vec<u8>,
     league: &League,
@@ -107,15 +108,16 @@ fn push_most_of_all(
 ) -> Result<(), AllocError>
     requires chosen { IsBelow (teams league.now) most.1 }
     requires opponents { IsBelow (teams league.now) opponents }
-    ensures { OnOk result (page.new.items ≡ page.old.items ++ (if most.2
+    ensures { OnOk result (page.new.items ≡ page.old.items ++ (if most.2 && are_several league.now most.1
         then most_of_against league.now most.0 most.1 side opponents else most_against league.now most.0 side opponents)) }
 {
     let (max, chosen, each) = most;
-    if !each {
-        return push_most_against(page, league, max, side, opponents);
+    if each && chosen.len() > 1 {
+        push_most_of(page, league, max, chosen, side)?;
+        push_against(page, league, opponents)
+    } else {
+        push_most_against(page, league, max, side, opponents)
     }
-    push_most_of(page, league, max, chosen, side)?;
-    push_against(page, league, opponents)
 }
 
 fn push_gap(page: &mut Vec<u8>, most: u32) -> Result<(), AllocError>
@@ -227,7 +229,7 @@ fn push_whom(page: &mut Vec<u8>, league: &League, body: &RuleBody) -> Result<(),
 {
     match body {
         RuleBody::Ca4 { teams1, each, .. } => {
-            if *each {
+            if *each && teams1.len() > 1 {
                 Ok(())
             } else {
                 push_for_all(page, league, *teams1)
@@ -259,7 +261,7 @@ fn push_for_all(page: &mut Vec<u8>, league: &League, chosen: TeamSet) -> Result<
 {
     push_pieces(page, &[Piece::Raw(b" for ")])?;
     push_teams(page, league, chosen)?;
-    push_pieces(page, &[Piece::Raw(b" together")])
+    push_pieces(page, &[Piece::Raw(word_if(chosen.len() > 1, b" together"))])
 }
 
 fn push_for_pairs(page: &mut Vec<u8>, league: &League, chosen: TeamSet) -> Result<(), AllocError>
@@ -280,7 +282,7 @@ fn push_when(page: &mut Vec<u8>, league: &League, body: &RuleBody) -> Result<(),
     match body {
         RuleBody::Ca4 { slots, each, .. } => {
             if *each {
-                push_slots(page, rounds, b" in a round", b" in a round out of ", *slots)
+                push_each_slot(page, rounds, *slots)
             } else {
                 push_slots(page, rounds, b"", b" in ", *slots)
             }
@@ -317,17 +319,38 @@ fn push_slots(
     push_rounds(page, rounds, slots)
 }
 
+/// The same of one round at a time.
+fn push_each_slot(page: &mut Vec<u8>, rounds: u8, slots: SlotSet) -> Result<(), AllocError>
+    requires most { rounds ≤ max_rounds }
+    requires below { IsBelow rounds slots }
+    ensures { OnOk result (page.new.items ≡ page.old.items ++ each_slot_text rounds slots) }
+{
+    push_slots(page, rounds, b" in a round", each_word(slots.len()), slots)
+}
+
+/// What stands before so many rounds, each of which is told of by itself.
+fn each_word(count: u32) -> &'static [u8]
+    ensures { result.now ≡ each_word count }
+{
+    if count > 1 {
+        b" in a round out of "
+    } else {
+        b" in "
+    }
+}
+
 fn push_window(page: &mut Vec<u8>, window: u32) -> Result<(), AllocError>
     ensures { OnOk result (page.new.items ≡ page.old.items ++ window_text window) }
 {
+    if window == 1 {
+        return push_pieces(page, &[Piece::Raw(b" in any round")]);
+    }
     push_pieces(
         page,
         &[
             Piece::Raw(b" in any "),
             Piece::Number(u64::from(window)),
-            Piece::Raw(b" round"),
-            Piece::Raw(word_if(window != 1, b"s")),
-            Piece::Raw(b" in a row"),
+            Piece::Raw(b" rounds in a row"),
         ],
     )
 }

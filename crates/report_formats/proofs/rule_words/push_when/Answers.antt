@@ -6,4 +6,4 @@ pub returns-then-each : goal.returns-then-each
 unfolding when_text
 returns-then-each c =
     let each : c.in-Ca4.each ≡ true = c.if-each.true in
-    rw (c.in-Ca4.is, each) (rw (c.round_count-rounds.ensures.value, c.teams.ensures.value) at c.push_slots.ensures)
+    rw (c.in-Ca4.is, each) (rw (c.round_count-rounds.ensures.value, c.teams.ensures.value) at c.push_each_slot.ensures)
