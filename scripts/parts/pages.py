@@ -34,7 +34,8 @@ def in_words(rule, by, broken, names, rounds):
         return every if len(slots) == rounds else word + in_rounds(slots)
 
     each = "each of " * (1 < len(chosen) < len(names)) + the(chosen, "every team")
-    pairs = ("" if len(chosen) == len(names) else "any two of ") + the(chosen, "any two teams")
+    pairs = "no two teams" if len(chosen) < 2 else "any two of " * (2 < len(chosen) < len(names)) + the(chosen, "any two teams")
+    several = len(chosen) > 1
     against = "" if len(opponents) == len(names) else " against " + the(opponents)
     games = f"at most {most} {SIDES[mode]}game" + "s" * (most != 1)
     breaks = f"at most {most} {SIDES[mode] if name == 'BR1' else ''}break" + "s" * (most != 1)
@@ -45,22 +46,27 @@ def in_words(rule, by, broken, names, rounds):
     elif name == "CA2":
         text = f"{games}{against} for {each}" + when("", " in ")
     elif name == "CA3":
-        text = f"{games}{against} for {each} in any {some(rule['intp'], 'round')} in a row"
+        window = rule["intp"]
+        text = f"{games}{against} for {each} in any " + (f"{window} rounds in a row" if window > 1 else "round")
     elif name == "CA4" and rule["mode2"] == "EVERY":
-        text = f"at most {most} of {the(chosen)}{WHERE[mode]}{against} in a round" + when("", " out of ")
-        verdict = ": broken in " + in_rounds([place["round"] - 1 for place in broken])
+        text = f"at most {most} of {the(chosen)}{WHERE[mode]}{against}" if several else f"{games}{against} for {the(chosen)}"
+        out_of = " in a round out of " if len(numbers("slots", rounds)) > 1 else " in "
+        text, verdict = text + when(" in a round", out_of), ": broken in " + in_rounds([place["round"] - 1 for place in broken])
     elif name == "CA4":
-        text, verdict = f"{games}{against} for {the(chosen)} together" + when("", " in "), f": broken by {by}"
+        text, verdict = f"{games}{against} for {the(chosen)}" + " together" * several + when("", " in "), f": broken by {by}"
     elif name == "GA1":
         least = rule["min"]
         count = f"exactly {most}" if least == most else f"from {least} to {most}" if least else f"at most {most}"
         pairings = [f"{names[h - 1]} - {names[a - 1]}" for h, a in dict.fromkeys(map(tuple, rule["games"]))]
         more = f" and {len(pairings) - 6} more" if len(pairings) > 6 else ""
-        text, verdict = f"{count} of the games {', '.join(pairings[:6])}{more}" + when("", " in "), f": broken by {by}"
+        which = f"{count} of the games {', '.join(pairings[:6])}{more}"
+        if len(pairings) < 2:
+            which = f"the game {pairings[0]} {count} time" + "s" * (most != 1) if pairings else f"{count} of no games"
+        text, verdict = which + when("", " in "), f": broken by {by}"
     elif name == "BR1":
         text = f"{breaks} for {each}" + when("", " in ")
     elif name == "BR2":
-        text, verdict = f"{breaks} for {the(chosen)} together" + when("", " in "), f": broken by {by}"
+        text, verdict = f"{breaks} for {the(chosen)}" + " together" * several + when("", " in "), f": broken by {by}"
     elif name == "SE1":
         text, verdict = f"at least {some(rule['min'], 'round')} between both games for {pairs}", f": broken among {the(told)}"
     else:
