@@ -1,4 +1,4 @@
-"""What a page says of rules, written from docs/report.md: each in words, and the games that broken ones count."""
+"""What a page says, written from docs/report.md: each rule in words, the games that broken ones count, and the games by round."""
 import html.parser
 
 from . import json_reports, model, reports
@@ -90,8 +90,8 @@ def marked(rule, place, side, games, table):
     return {(t, r) for t, r in both if t in teams and table[t][r][0] in opponents and home(t, r) and stays(t, r)}
 
 
-def of_rules(league, lines):
-    """The rows of the rules, and the games that are marked, or none if the lines after `sheet` give no double round robin."""
+def wanted(league, lines):
+    """The rows of the rules, the games that are marked, and the rounds, or none if the lines after `sheet` give no double round robin."""
     teams = len(league["teams"])
     faults, games = reports.schedule_faults(teams, lines)
     if faults:
@@ -104,20 +104,30 @@ def of_rules(league, lines):
         kind = "hard" if rule["kind"] == "hard" else f"soft {rule['weight']}"
         rows.append((by == 0, [str(i), rule["class"], kind, str(by), words]))
         marks |= {cell for breach in broken for cell in marked(rule, breach["place"], breach["side"], games, table)}
-    return [row for _, row in sorted(rows, key=lambda row: row[0])], marks
+    names, rounds = league["teams"], []
+    for r in range(2 * (teams - 1)):
+        at_home = sorted((h, a) for (h, a), round_of in games.items() if round_of == r)
+        rounds.append([f"Round {r + 1}", *(f"{names[h]} - {names[a]}" for h, a in at_home)])
+    return [row for _, row in sorted(rows, key=lambda row: row[0])], marks, rounds
 
 
 class Page(html.parser.HTMLParser):
-    """The rows of the rules on a page, and the games that it marks."""
+    """The rows of the rules on a page, the games that it marks, and its rounds."""
 
     def __init__(self, text):
         super().__init__()
         self.table, self.rows, self.marks, self.place, self.is_cell = None, [], set(), [-1, -1], False
+        self.rounds, self.is_line = [], False
         self.feed(text)
 
     def handle_starttag(self, tag, attributes):
         given = dict(attributes)
         self.is_cell = tag == "td"
+        self.is_line = tag == "h3" or (tag == "div" and not given and bool(self.rounds))
+        if tag == "section":
+            self.rounds.append([])
+        elif self.is_line:
+            self.rounds[-1].append("")
         if tag == "table":
             self.table = given.get("class")
         elif tag == "tr" and self.table == "rules":
@@ -132,14 +142,16 @@ class Page(html.parser.HTMLParser):
                 self.marks.add((self.place[0] - 1, self.place[1]))
 
     def handle_endtag(self, tag):
-        self.is_cell = False
+        self.is_cell = self.is_line = False
 
     def handle_data(self, text):
+        if self.is_line:
+            self.rounds[-1][-1] += text
         if self.is_cell and self.table == "rules":
             self.rows[-1][-1] += text
 
 
 def read(text):
-    """The rows of the rules and the marked games of a page."""
+    """The rows of the rules, the marked games and the rounds of a page."""
     page = Page(text)
-    return [row for row in page.rows if row], page.marks
+    return [row for row in page.rows if row], page.marks, page.rounds

@@ -17,6 +17,7 @@ use Rattle.texts.specs.Classes.{class_name}
 use Rattle.tours.specs.Tours.{travel_of}
 use Rattle.report_formats.specs.Grid.{grid_text, team_head}
 use Rattle.report_formats.specs.MovedGames.{moved_section, near_figure}
+use Rattle.report_formats.specs.Pairings.{rounds_section}
 use Rattle.report_formats.specs.RuleWords.{rule_words}
 use Rattle.report_formats.specs.Style.{style_text}
 
@@ -101,8 +102,8 @@ unfoldable pub top_text : LeagueData → Games → List ℕ
 top_text l g = costs_text l g (cost_of l g)
 
 unfoldable pub sections_text : LeagueData → Games → List ℕ
-sections_text l g = grid_text l g ++ travel_text l g ++ rules_text l g ++ moved_section l g
+sections_text l g = grid_text l g ++ travel_text l g ++ rules_text l g ++ moved_section l g ++ rounds_section l g
 
--- the figures, the grid, the travel of each team, the rules, and the moved games
+-- the figures, the grid, the travel of each team, the rules, the moved games, and the games by round
 unfoldable pub page_text : LeagueData → Games → List ℕ
 page_text l g = top_text l g ++ sections_text l g ++ codes "</body></html>\n"

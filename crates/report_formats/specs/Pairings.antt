@@ -1,26 +1,42 @@
--- The games of a schedule in words. Teams and rounds are numbered from 0 in calls, and from 1 in the text.
+-- The games of a schedule in words, as they are published. Teams and rounds are numbered from 0 in calls, and from 1 in the text.
 use Rattle.std.specs.Prelude.{ℕ, ◌+◌, List, [], ◌∷◌, ◌++◌, codes, decimal, nat_lt, if◌then◌else◌}
 use Rattle.std.specs.List.{concat}
 use Rattle.fixtures.specs.Games.{Games, cell, round_count}
 use Rattle.league.specs.League.{LeagueData, name_of}
 use Rattle.streams.specs.Pieces.{pieces_below}
+use Rattle.report_formats.specs.declared.pairings.Dress.{Dress}
+use Rattle.report_formats.specs.declared.pairings.Dress.TheVariants.{Lines, Page}
+use Rattle.report_formats.specs.Pieces.{escaped}
 use Rattle.report_formats.specs.Style.{word_if}
 
--- an empty line parts a round from the one before
-abbrev pub round_line : ℕ → List ℕ
-round_line round = concat (word_if (nat_lt 0 round) (codes "\n") ∷ codes "Round " ∷ decimal (round + 1) ∷ codes "\n" ∷ [])
+-- what stands before the games of a round. Of lines an empty one parts it from the round before
+abbrev pub round_head : Dress → ℕ → List ℕ
+round_head Lines round = concat (word_if (nat_lt 0 round) (codes "\n") ∷ codes "Round " ∷ decimal (round + 1) ∷ codes "\n" ∷ [])
+round_head Page round = concat (codes "<section><h3>Round " ∷ decimal (round + 1) ∷ codes "</h3>" ∷ [])
 
-abbrev pub pairing : LeagueData → ℕ → ℕ → List ℕ
-pairing l home away = concat (name_of l home ∷ codes " - " ∷ name_of l away ∷ codes "\n" ∷ [])
+abbrev pub round_end : Dress → List ℕ
+round_end Lines = []
+round_end Page = codes "</section>\n"
+
+abbrev pub pairing : Dress → LeagueData → ℕ → ℕ → List ℕ
+pairing Lines l home away = concat (name_of l home ∷ codes " - " ∷ name_of l away ∷ codes "\n" ∷ [])
+pairing Page l home away = concat (codes "<div>" ∷ escaped (name_of l home) ∷ codes " - " ∷ escaped (name_of l away) ∷ codes "</div>" ∷ [])
 
 -- the team's game in the round, if the team is at home there
-abbrev pub pairing_at : LeagueData → Games → ℕ → ℕ → List ℕ
-pairing_at l g round team = if (cell g team round).home then pairing l team (cell g team round).opponent else []
+abbrev pub pairing_at : Dress → LeagueData → Games → ℕ → ℕ → List ℕ
+pairing_at dress l g round team = if (cell g team round).home then pairing dress l team (cell g team round).opponent else []
 
 -- in the order of the home teams
-abbrev pub round_block : LeagueData → Games → ℕ → List ℕ
-round_block l g round = round_line round ++ pieces_below (pairing_at l g round) g.teams
+abbrev pub round_block : Dress → LeagueData → Games → ℕ → List ℕ
+round_block dress l g round = round_head dress round ++ pieces_below (pairing_at dress l g round) g.teams ++ round_end dress
 
 -- the rounds, one after another
+abbrev pub rounds_text : Dress → LeagueData → Games → List ℕ
+rounds_text dress l g = pieces_below (round_block dress l g) (round_count g.teams)
+
 abbrev pub pairings_text : LeagueData → Games → List ℕ
-pairings_text l g = pieces_below (round_block l g) (round_count g.teams)
+pairings_text l g = rounds_text Lines l g
+
+-- the games as a part of a page
+abbrev pub rounds_section : LeagueData → Games → List ℕ
+rounds_section l g = codes "<h2>Rounds</h2><div class='rounds'>\n" ++ rounds_text Page l g ++ codes "</div>"

@@ -36,6 +36,7 @@ style_text given = concat (
     codes ".rules { display: block; overflow-x: auto } .rules td { white-space: nowrap }\n" ∷
     codes ".rules tr > :last-child { min-width: min(20rem, 60vw); text-align: left; white-space: normal }\n" ∷
     codes ".rules td:last-child { font-weight: normal }\n" ∷
+    codes ".rounds { columns: 14rem } section { break-inside: avoid } h3 { font-size: 1rem; margin: .5rem 0 .1rem }\n" ∷
     codes ".bad { color: var(--bad); font-weight: bold } .travel { width: 100% } .bar { width: 100%; padding: 0 }\n" ∷
     codes ".bar { background: linear-gradient(var(--line), var(--line)) 50% / 1px 100% no-repeat }\n" ∷
     codes ".bar div { width: calc(100% * var(--tour) * var(--teams) / (2 * var(--travel))) }\n" ∷

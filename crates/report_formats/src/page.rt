@@ -1,4 +1,5 @@
-//! The page of a schedule: the league's figures, the grid of its games, the travel of each team, the rules, and the moved games.
+//! The page of a schedule: the league's figures, the grid of its games, the travel of each team, the rules, the moved games, and the games
+//! by round.
 
 ghost use Rattle.std.specs.Prelude.{◌≡◌, ◌++◌, ◌<◌, ◌^◌, length, slice_get, IfOk, OnOk};
 ghost use Rattle.costs.specs.Costs.{total_of};
@@ -12,6 +13,7 @@ ghost use Rattle.report_formats.specs.within.BrokenGames.{AreBroken};
 use crate::broken_games::{BrokenGames, broken_games};
 use crate::grid::{push_grid, push_team_head};
 use crate::moved_games::{push_moved, push_near};
+use crate::pairings::push_round_list;
 use crate::pieces::{Piece, push_pieces};
 use crate::rule_words::push_rule_words;
 use crate::style::push_style;
@@ -66,7 +68,7 @@ fn push_costs(
     push_figures(page, league, schedule, cost)
 }
 
-/// Adds the games, the travel, the rules and the moved games.
+/// Adds the grid, the travel, the rules, the moved games, and the games by round.
 #[tactic(auto, unfolding(crate::specs::Page::sections_text))]
 fn push_sections(
     page: &mut Vec<u8>,
@@ -82,7 +84,8 @@ fn push_sections(
     push_grid(page, league, schedule, broken)?;
     push_travel(page, league, schedule)?;
     push_rules(page, alloc, league, schedule)?;
-    push_moved(page, league, schedule)
+    push_moved(page, league, schedule)?;
+    push_round_list(page, league, schedule)
 }
 
 /// Adds the numbers that the style takes from the page.

@@ -82,6 +82,9 @@ pub(crate) fn push_style(page: &mut Vec<u8>, league: &League) -> Result<(), Allo
             ),
             Piece::Raw(b".rules td:last-child { font-weight: normal }\n"),
             Piece::Raw(
+                b".rounds { columns: 14rem } section { break-inside: avoid } h3 { font-size: 1rem; margin: .5rem 0 .1rem }\n",
+            ),
+            Piece::Raw(
                 b".bad { color: var(--bad); font-weight: bold } .travel { width: 100% } .bar { width: 100%; padding: 0 }\n",
             ),
             Piece::Raw(

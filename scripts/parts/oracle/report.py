@@ -82,7 +82,7 @@ def main(count=1000, seed=1, *words):
         if ran.returncode != status or (json.loads(ran.stdout) if wanted else ran.stdout.decode().splitlines()) != (wanted or said):
             raise ValueError(f"schedule {number} of seed {seed}: ttp report --format json answers otherwise to\n{given}")
         ran = subprocess.run([program, "report", "--format", "html"], input=given.encode(), stdout=subprocess.PIPE)
-        wanted = pages.of_rules(json.loads(text), lines)
+        wanted = pages.wanted(json.loads(text), lines)
         if ran.returncode != status or (pages.read(ran.stdout.decode()) if wanted else ran.stdout.decode().splitlines()) != (wanted or said):
-            raise ValueError(f"schedule {number} of seed {seed}: ttp report --format html tells the rules otherwise of\n{given}")
+            raise ValueError(f"schedule {number} of seed {seed}: ttp report --format html answers otherwise to\n{given}")
     print(f"{count} reports, {feasible} of them on feasible schedules: the same")
