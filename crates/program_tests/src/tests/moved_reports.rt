@@ -161,7 +161,17 @@ const TABLE: &str =
     <tr><td>2-1</td><td>5</td><td>2</td></tr>\
     <tr><td>2-3</td><td>1</td><td>3</td></tr>\
     <tr><td>2-4</td><td>3</td><td>1</td></tr>\
-    <tr><td>3-1</td><td>3</td><td>1</td></tr></table></body></html>\n";
+    <tr><td>3-1</td><td>3</td><td>1</td></tr></table>";
+
+/// The games by round, and the end of the page.
+const ROUNDS: &str = "</table><h2>Rounds</h2><div class='rounds'>\n\
+    <section><h3>Round 1</h3><div>T2 - T4</div><div>T3 - T1</div></section>\n\
+    <section><h3>Round 2</h3><div>T2 - T1</div><div>T4 - T3</div></section>\n\
+    <section><h3>Round 3</h3><div>T1 - T4</div><div>T2 - T3</div></section>\n\
+    <section><h3>Round 4</h3><div>T3 - T2</div><div>T4 - T1</div></section>\n\
+    <section><h3>Round 5</h3><div>T1 - T2</div><div>T3 - T4</div></section>\n\
+    <section><h3>Round 6</h3><div>T1 - T3</div><div>T4 - T2</div></section>\n\
+    </div></body></html>\n";
 
 const NEAR: &str = "<li>soft <b>1200</b></li><li>near <b>200</b> moved <b>6</b></li>\
     <li class='bad'><b>infeasible</b></li></ul>";
@@ -175,7 +185,11 @@ const PAGES: &[Case<'_>] = &[
         (&[CIRCLE], Some(SHEET), 200),
         Format::Html,
         REPEATING,
-        Excerpt("<!DOCTYPE html>", &[STYLE, LEGEND, MARKED, NEAR], TABLE),
+        Excerpt(
+            "<!DOCTYPE html>",
+            &[STYLE, LEGEND, MARKED, NEAR, TABLE],
+            ROUNDS,
+        ),
     ),
     (
         (&[CIRCLE], None, 200),
@@ -184,7 +198,7 @@ const PAGES: &[Case<'_>] = &[
         Excerpt(
             "<!DOCTYPE html>",
             &["before.</p><div class='wide'>", UNMARKED, NEAR],
-            "</table></body></html>\n",
+            ROUNDS,
         ),
     ),
 ];
