@@ -17,8 +17,10 @@ impl<W: Write> Write for Piped<'_, W> {
 
     fn write(&mut self, piece: &[u8]) -> io::Result<usize> {
         let answer = self.writer.write(piece);
-        if is_broken_pipe(&answer) {
-            self.is_closed.store(true, Ordering::SeqCst);
+        if let Err(error) = &answer {
+            if is_broken_pipe(error) {
+                self.is_closed.store(true, Ordering::SeqCst);
+            }
         }
         answer
     }
@@ -29,8 +31,6 @@ impl<W: Write> Write for Piped<'_, W> {
 }
 
 /// Whether a write failed since nobody reads what it writes.
-pub(crate) fn is_broken_pipe<T>(answer: &io::Result<T>) -> bool {
-    answer
-        .as_ref()
-        .is_err_and(|error| error.kind() == ErrorKind::BrokenPipe)
+pub(crate) fn is_broken_pipe(error: &io::Error) -> bool {
+    error.kind() == ErrorKind::BrokenPipe
 }

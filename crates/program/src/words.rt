@@ -334,11 +334,9 @@ fn shown<R: Runtime>(rt: &R, printed: io::Result<()>) -> ExitCode
     ensures written { OnOk printed (exit_status result ≡ 0) }
     ensures failed { OnErr printed (exit_status result ≡ 1) }
 {
-    if is_broken_pipe(&printed) {
-        return ExitCode::FAILURE;
-    }
     match printed {
         Ok(()) => ExitCode::SUCCESS,
+        Err(error) if is_broken_pipe(&error) => ExitCode::FAILURE,
         Err(_) => failure(rt, ProgramFault::Write),
     }
 }
