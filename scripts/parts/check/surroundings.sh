@@ -228,7 +228,8 @@ ten=("$program" improve leagues/circular-10.json --effort 10)
 taken_away() {
     "${ten[@]}" -o "$followed/away/best.txt" </dev/null &
     until [ -e "$followed/away/best.txt" ]; do sleep 0.01; done
-    rm -r "$followed/away"
+    # the program may write there while it is emptied
+    until rm -r "$followed/away" 2>/dev/null; do :; done
     wait $!
 }
 run 'a folder that is taken away while an improvement works' taken_away
