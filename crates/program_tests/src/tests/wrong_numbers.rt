@@ -43,11 +43,11 @@ fn places(command: &str) -> &'static str {
     }
 }
 
-fn check_wanted(
+fn check_wanted<'a>(
     rt: &impl Abort,
     alloc: Global,
-    numbered: &Numbered<'_>,
-    word: &str,
+    numbered: &Numbered<'a>,
+    word: &'a str,
 ) -> Result<(), Fail> {
     let (command, option, value_name, range) = *numbered;
     let places = places(command);
