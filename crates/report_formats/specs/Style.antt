@@ -32,7 +32,7 @@ style_text given = concat (
     codes ".travel th { min-width: min(12rem, 30vw); overflow-wrap: anywhere }\n" ∷
     codes ".h { background: var(--home) } .o { box-shadow: inset 0 0 0 .12em var(--bad) }\n" ∷
     codes ".r { outline: .12em dashed var(--bad); outline-offset: -.25em }\n" ∷
-    codes ".b { border-bottom: 3px double var(--bad) }\n" ∷
+    codes ".b { border-bottom: .2em double var(--bad) }\n" ∷
     codes ".rules { display: block; overflow-x: auto } .rules td { white-space: nowrap }\n" ∷
     codes ".rules tr > :last-child { min-width: min(20rem, 60vw); text-align: left; white-space: normal }\n" ∷
     codes ".rules td:last-child { font-weight: normal }\n" ∷

@@ -73,7 +73,7 @@ pub(crate) fn push_style(page: &mut Vec<u8>, league: &League) -> Result<(), Allo
                 b".h { background: var(--home) } .o { box-shadow: inset 0 0 0 .12em var(--bad) }\n",
             ),
             Piece::Raw(b".r { outline: .12em dashed var(--bad); outline-offset: -.25em }\n"),
-            Piece::Raw(b".b { border-bottom: 3px double var(--bad) }\n"),
+            Piece::Raw(b".b { border-bottom: .2em double var(--bad) }\n"),
             Piece::Raw(
                 b".rules { display: block; overflow-x: auto } .rules td { white-space: nowrap }\n",
             ),
