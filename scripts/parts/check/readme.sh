@@ -3,7 +3,8 @@
 #
 # usage: scripts/check readme
 #
-# Its first `sh` block feeds `./ttp play` the test's input, and the block after it is what the test wants to be printed.
+# Its first `sh` block names a league's file and has a script: together they are the test's input. The block after it is what the command
+# behind the program shows of what the test wants to be printed.
 set -euo pipefail
 top=$(realpath "${BASH_SOURCE[0]}")
 top=${top%/scripts/*}
@@ -28,11 +29,12 @@ constant() {
     ' crates/program_tests/src/tests/session.rt
 }
 
-feeding=$(block 1)
-case $feeding in
-    *'} | ./ttp play'*) ;;
-    *) echo "check readme: the session doesn't feed ./ttp play" >&2; exit 1 ;;
-esac
-diff <(bash -c "${feeding/.\/ttp play/cat}") <(constant INPUT)
-diff <(block 2) <(constant OUTPUT)
+session=$(block 1)
+if [[ ! ${session%%$'\n'*} =~ ^'./ttp play '([^' ']+)" <<'END' | "(.+)$ ]]; then
+    echo "check readme: the session doesn't play a script on a league's file" >&2
+    exit 1
+fi
+league=${BASH_REMATCH[1]} shown_by=${BASH_REMATCH[2]}
+diff <(cat "$league"; echo script; sed '1d;$d' <<< "$session") <(constant INPUT)
+diff <(block 2) <(constant OUTPUT | bash -c "$shown_by")
 scripts/check examples
