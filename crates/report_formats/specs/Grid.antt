@@ -59,7 +59,7 @@ legend_text at_most ruled given =
     concat (codes "<h2>Games</h2><p><span class='h'>Shaded</span>: at home. @: away. " ∷ codes "<span class='o'>Ringed</span>: more than " ∷
     decimal at_most ∷
     codes " in a row at home or away. " ∷ codes "<span class='r'>Dashed</span>: the opponent of the round before.</p>" ∷
-    word_if ruled (codes "<p><span class='b'>Double line</span>: what a broken rule counts.</p>") ∷
+    word_if ruled (codes "<p><span class='b'>Line below</span>: what a broken rule counts.</p>") ∷
     word_if given (codes "<p><span class='m'>Underlined</span>: in another round than at the start.</p>") ∷
     codes "<div class='wide'><table class='grid'><tr><th>Team</th>" ∷ [])
 

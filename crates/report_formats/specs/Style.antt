@@ -32,11 +32,11 @@ style_text given = concat (
     codes ".travel th { min-width: min(12rem, 30vw); overflow-wrap: anywhere }\n" ∷
     codes ".h { background: var(--home) } .o { box-shadow: inset 0 0 0 .12em var(--bad) }\n" ∷
     codes ".r { outline: .12em dashed var(--bad); outline-offset: -.25em }\n" ∷
-    codes ".b { border-bottom: .2em double var(--bad) }\n" ∷
+    codes ".b { border-bottom: .15em solid var(--bad) }\n" ∷
     codes ".rules { display: block; overflow-x: auto } .rules td { white-space: nowrap }\n" ∷
     codes ".rules tr > :last-child { min-width: min(20rem, 60vw); text-align: left; white-space: normal }\n" ∷
     codes ".rules td:last-child { font-weight: normal }\n" ∷
-    codes ".rounds { columns: 14rem } section { break-inside: avoid } h3 { font-size: 1rem; margin: .5rem 0 .1rem }\n" ∷
+    codes ".rounds { columns: 14rem } section { break-inside: avoid; padding-top: .5rem } h3 { font-size: 1rem; margin: 0 0 .1rem }\n" ∷
     codes ".bad { color: var(--bad); font-weight: bold } .travel { width: 100% } .bar { width: 100%; padding: 0 }\n" ∷
     codes ".bar { background: linear-gradient(var(--line), var(--line)) 50% / 1px 100% no-repeat }\n" ∷
     codes ".bar div { width: calc(100% * var(--tour) * var(--teams) / (2 * var(--travel))) }\n" ∷

@@ -50,7 +50,7 @@ fn push_legend(page: &mut Vec<u8>, league: &League) -> Result<(), AllocError>
             Piece::Raw(b"<span class='r'>Dashed</span>: the opponent of the round before.</p>"),
             Piece::Raw(word_if(
                 league.rule_count() > 0,
-                b"<p><span class='b'>Double line</span>: what a broken rule counts.</p>",
+                b"<p><span class='b'>Line below</span>: what a broken rule counts.</p>",
             )),
             Piece::Raw(word_if(
                 league.given(),

@@ -73,7 +73,7 @@ pub(crate) fn push_style(page: &mut Vec<u8>, league: &League) -> Result<(), Allo
                 b".h { background: var(--home) } .o { box-shadow: inset 0 0 0 .12em var(--bad) }\n",
             ),
             Piece::Raw(b".r { outline: .12em dashed var(--bad); outline-offset: -.25em }\n"),
-            Piece::Raw(b".b { border-bottom: .2em double var(--bad) }\n"),
+            Piece::Raw(b".b { border-bottom: .15em solid var(--bad) }\n"),
             Piece::Raw(
                 b".rules { display: block; overflow-x: auto } .rules td { white-space: nowrap }\n",
             ),
@@ -82,7 +82,7 @@ pub(crate) fn push_style(page: &mut Vec<u8>, league: &League) -> Result<(), Allo
             ),
             Piece::Raw(b".rules td:last-child { font-weight: normal }\n"),
             Piece::Raw(
-                b".rounds { columns: 14rem } section { break-inside: avoid } h3 { font-size: 1rem; margin: .5rem 0 .1rem }\n",
+                b".rounds { columns: 14rem } section { break-inside: avoid; padding-top: .5rem } h3 { font-size: 1rem; margin: 0 0 .1rem }\n",
             ),
             Piece::Raw(
                 b".bad { color: var(--bad); font-weight: bold } .travel { width: 100% } .bar { width: 100%; padding: 0 }\n",

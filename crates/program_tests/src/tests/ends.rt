@@ -5,9 +5,12 @@ ghost use Rattle.std.specs.Prelude.{None};
 
 use crate::tests::checks::check_same_of;
 use crate::tests::judged_schedules::FAULTY;
-use crate::tests::samples::{FIND, PLAY, REPORT, START, TABLE};
+use crate::tests::samples::{DISTANCES, FIND, PLAY, REPORT, START, TABLE};
 use crate::tests::told::{Answer, Case, Command};
-use commands::{NoGate, ProgramFault, Workplace, find_from, play_from, report_from, start_from};
+use commands::{
+    NoGate, ProgramFault, Workplace, find_from, league_from, play_from, report_from, start_from,
+};
+use distance_tables::{DistanceFault, Terms};
 use league::LeagueFault;
 use std::alloc::{AllocError, Global};
 use std::process::Abort;
@@ -18,7 +21,7 @@ use streams::{
     MemorySink, MemorySource, RehearsedSink, RehearsedSource, Sink, Source, Step, Tally,
 };
 
-const SAMPLES: [Case<'_>; 6] = [START, PLAY, FIND, REPORT, FAULTY, TABLE];
+const SAMPLES: [Case<'_>; 7] = [START, PLAY, FIND, REPORT, FAULTY, TABLE, DISTANCES];
 
 fn run_from<T: Threads + Wait + Sync, R: Source, W: Sink>(
     rt: &T,
@@ -35,6 +38,9 @@ fn run_from<T: Threads + Wait + Sync, R: Source, W: Sink>(
             find_from(Workplace { rt, alloc, gate }, source, sink, room, plan)?;
         }
         Command::Report(format) => return Ok(Some(report_from(alloc, source, sink, format)?)),
+        Command::League => {
+            league_from(alloc, source, sink, None, Terms::default())?;
+        }
     }
     Ok(None)
 }
@@ -280,12 +286,21 @@ fn each_command_leaves_a_front_where_a_write_takes_nothing(rt: HostRuntime) -> R
     Ok(())
 }
 
-/// What no command takes for a league, and why.
-const REFUSED: [(&[u8], LeagueFault); 2] = [
-    (b"", LeagueFault::NotJson),
+/// What a command takes for no league, and why.
+const REFUSED_LEAGUES: [(&[u8], ProgramFault); 2] = [
+    (b"", ProgramFault::League(LeagueFault::NotJson)),
     (
         br#"{"format":1,"teams":["A","B","C"],"distances":[]}"#,
-        LeagueFault::TeamCount,
+        ProgramFault::League(LeagueFault::TeamCount),
+    ),
+];
+
+/// What is taken for no table of distances, and why.
+const REFUSED_TABLES: [(&[u8], ProgramFault); 2] = [
+    (b"", ProgramFault::Distances(DistanceFault::NoRow)),
+    (
+        b"A,B\n0,1\n1,0\n",
+        ProgramFault::Distances(DistanceFault::TeamCount),
     ),
 ];
 
@@ -308,8 +323,12 @@ fn check_no_writes<T: Threads + Wait + Sync + Abort>(
     too_long: &[u8],
 ) -> Result<(), Fail> {
     check_no_write(rt, alloc, command, (too_long, ProgramFault::TooLong))?;
-    for (input, fault) in REFUSED {
-        check_no_write(rt, alloc, command, (input, ProgramFault::League(fault)))?;
+    let refused = match command {
+        Command::League => REFUSED_TABLES,
+        _ => REFUSED_LEAGUES,
+    };
+    for (input, fault) in refused {
+        check_no_write(rt, alloc, command, (input, fault))?;
     }
     Ok(())
 }

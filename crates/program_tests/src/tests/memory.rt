@@ -4,7 +4,7 @@
 //! `.._tells_refused_memory` passes at every N; `.._with_ample_memory` fails while N is among its allocations.
 
 use crate::tests::checks::check_holds;
-use crate::tests::samples::{FIND, PAGE, PLAY, START, TABLE};
+use crate::tests::samples::{DISTANCES, FIND, PAGE, PLAY, START, TABLE};
 use crate::tests::tables::READ_AGAIN;
 use crate::tests::told::{Case, Told, check_case, tell};
 use commands::ProgramFault;
@@ -104,4 +104,14 @@ fn read_table_succeeds_with_ample_memory(rt: HostRuntime) -> Result<(), Fail> {
 #[test]
 fn read_table_tells_refused_memory(rt: HostRuntime) {
     check_refused(&rt, rt.alloc(), &READ_AGAIN, &[ProgramFault::Memory]);
+}
+
+#[test]
+fn distances_succeed_with_ample_memory(rt: HostRuntime) -> Result<(), Fail> {
+    check_case(&rt, rt.alloc(), &DISTANCES)
+}
+
+#[test]
+fn distances_tell_refused_memory(rt: HostRuntime) {
+    check_refused(&rt, rt.alloc(), &DISTANCES, &[ProgramFault::Memory]);
 }

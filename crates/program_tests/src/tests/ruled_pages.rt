@@ -17,7 +17,7 @@ const MARKED: Case<'_> = (
     Excerpt(
         "<!DOCTYPE html>",
         &[
-            "before.</p><p><span class='b'>Double line</span>: what a broken rule counts.</p><div class='wide'>",
+            "before.</p><p><span class='b'>Line below</span>: what a broken rule counts.</p><div class='wide'>",
             "<th>1 T1</th><td class='h'>4</td><td class='h'>2</td><td class=''>@3</td><td class=' b'>@4</td>\
             <td class=' b'>@2</td><td class='h'>3</td></tr>",
             "<th>2 T2</th><td class='h'>3</td><td class=''>@1</td><td class='h'>4</td><td class=''>@3</td>\

@@ -134,3 +134,17 @@ pub(crate) const PAGE: Case<'_> = (
         "</body></html>\n",
     ),
 );
+
+/// A table of distances, those of one pair rounded, and the league that it gives.
+pub(crate) const DISTANCES: Case<'_> = (
+    Command::League,
+    &[
+        ",Ash,Birch,Cedar,Elm\n",
+        "Ash,,3.6,5,7\nBirch,3.6,,4,6\nCedar,5,4,,2\nElm,7,6,2,\n",
+    ],
+    WRITTEN,
+    Whole(&[
+        "{\n  \"format\": 2,\n  \"teams\": [\"Ash\", \"Birch\", \"Cedar\", \"Elm\"],\n  \"distances\": [\n",
+        "    [0, 4, 5, 7],\n    [4, 0, 4, 6],\n    [5, 4, 0, 2],\n    [7, 6, 2, 0]\n  ]\n}\n",
+    ]),
+);

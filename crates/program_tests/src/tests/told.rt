@@ -2,8 +2,9 @@
 
 use crate::tests::checks::check_same_of;
 use commands::{
-    Format, NoGate, ProgramFault, SearchPlan, Verdict, Workplace, find, play, report, start,
+    Format, NoGate, ProgramFault, SearchPlan, Verdict, Workplace, find, league, play, report, start,
 };
+use distance_tables::Terms;
 use std::alloc::{AllocError, Global};
 use std::process::Abort;
 use std::sync::Wait;
@@ -18,6 +19,7 @@ pub(crate) enum Command {
     Play { room: u32 },
     Find { room: u32, plan: SearchPlan },
     Report(Format),
+    League,
 }
 
 /// A report in the form of text.
@@ -49,6 +51,9 @@ impl Command {
                 find(Workplace { rt, alloc, gate }, source, sink, room, plan)?;
             }
             Command::Report(format) => return Ok(Some(report(alloc, source, sink, format)?)),
+            Command::League => {
+                league(alloc, source, sink, None, Terms::default())?;
+            }
         }
         Ok(None)
     }
