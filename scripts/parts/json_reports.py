@@ -1,4 +1,4 @@
-"""Reports as values of JSON, written from docs/report.md and crates/json_reports/README.md."""
+"""Reports as values of JSON, written from docs/report.md."""
 import re
 
 from . import model, reports

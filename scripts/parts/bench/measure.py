@@ -1,4 +1,4 @@
-"""measures the speed and prints the figures of docs/speed.md and crates/benchmarks/README.md, each the least of some runs
+"""measures the speed and prints the tables of docs/speed.md, each figure the least of some runs
 
 usage: scripts/bench measure [RUNS]     5 runs, if no number is given
 
