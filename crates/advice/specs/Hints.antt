@@ -19,6 +19,8 @@ use Rattle.advice.specs.declared.hint.Hint.TheVariants as hint
 use Rattle.advice.specs.Distances.{distances_hint}
 use Rattle.advice.specs.Firsts.{item_count}
 use Rattle.advice.specs.Members.{field_hint, rules_hint, whole_hint}
+use Rattle.league.specs.Rosters.{RosterData, roster_data}
+use Rattle.advice.specs.Rosters.{names_in}
 use Rattle.advice.specs.Rules.{class_hint, rule_hint}
 use Rattle.advice.specs.Teams.{teams_hint}
 
@@ -38,9 +40,12 @@ table_hint_of fault d =
 abbrev pub within_most : ℕ → Option ℕ
 within_most n = only_if (nat_le 1 n && nat_le n max_teams) n
 
+-- the teams that rules can list
+abbrev pub roster_in : Data → Option RosterData
+roster_in d = option_map (λ n. roster_data n (names_in d)) (option_and_then within_most (team_count d))
+
 abbrev pub rule_hint_of : ℕ → Data → Option Hint
-rule_hint_of i d =
-    option_and_then (λ rule. option_and_then (λ n. rule_hint i n rule) (option_and_then within_most (team_count d))) (rule_at i d)
+rule_hint_of i d = option_and_then (λ rule. option_and_then (λ roster. rule_hint i roster rule) (roster_in d)) (rule_at i d)
 
 -- how many rules there are
 abbrev pub rule_count : Data → Option ℕ

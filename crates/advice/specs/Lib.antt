@@ -3,6 +3,7 @@ pub mod Lines
 pub mod Teams
 pub mod Distances
 pub mod Needs
+pub mod Rosters
 pub mod Seen
 pub mod Rules
 pub mod Members

@@ -1,5 +1,5 @@
 -- What a hint says.
-use Rattle.std.specs.Prelude.{ℕ, List, [], ◌∷◌, ◌++◌, codes, decimal, Float, Option, None}
+use Rattle.std.specs.Prelude.{ℕ, List, [], ◌∷◌, ◌++◌, codes, decimal, Bool, if◌then◌else◌, Float, Option, None}
 use Rattle.std.specs.List.{concat}
 use Rattle.league.specs.Messages.{member_name}
 use Rattle.advice.specs.declared.hint.Hint.{Hint}
@@ -73,12 +73,23 @@ wanted_words wanted.Side = codes "\"H\", \"A\" or \"HA\""
 wanted_words wanted.SlotChoice = codes "\"EVERY\" or \"GLOBAL\""
 wanted_words (wanted.Teams teams) = codes "an array of team numbers from 1 to " ++ decimal teams
 wanted_words (wanted.Rounds rounds) = codes "an array of round numbers from 1 to " ++ decimal rounds
+wanted_words (wanted.Listed teams) = codes "an array of team names, or numbers from 1 to " ++ decimal teams
+wanted_words (wanted.ListedGames teams) =
+    codes "an array of pairs of distinct teams, by name or by number from 1 to " ++ decimal teams
+wanted_words wanted.Title = codes "a string of 1 to 80 bytes without control bytes"
+wanted_words wanted.ShortNames = codes "an array of a string of 1 to 6 bytes for each team"
+wanted_words wanted.RoundTexts = codes "an array of a string of 1 to 20 bytes for each round"
+wanted_words wanted.Repeats = codes "\"forbidden\" or \"free\""
 wanted_words (wanted.Games teams) = codes "an array of pairs of distinct team numbers from 1 to " ++ decimal teams
 
 -- the whole line
 
 abbrev pub way_words : ℕ → ℕ → ℕ → List ℕ
 way_words from to distance = decimal from ++ codes " to " ++ decimal to ++ codes " is " ++ decimal distance
+
+-- how many teams have a name that is no one team's
+abbrev pub bearer_words : Bool → List ℕ
+bearer_words is_twice = if is_twice then codes ", two teams are called so" else codes ", no team is called so"
 
 -- what is seen at a place, and what is wanted there
 abbrev pub value_line : List ℕ → Place → Seen → Wanted → List ℕ
@@ -104,4 +115,6 @@ hint_line numeral (hint.TwoDistances from to there back) =
     codes "see distances: " ++ way_words from to there ++ codes ", " ++ way_words to from back
 hint_line numeral (hint.RuleCount rules) = codes "see rules: " ++ decimal rules ++ codes " of them, at most 256 are wanted"
 hint_line numeral (hint.SecondFormat rule) = codes "see rule " ++ decimal rule ++ codes ": class FA2 needs \"format\": 2"
+hint_line numeral (hint.Name rule member name is_twice) =
+    concat (codes "see " ∷ place_words (place.Member rule member) ∷ codes " names " ∷ quote_words name ∷ bearer_words is_twice ∷ [])
 hint_line numeral (hint.Value place seen wanted) = value_line numeral place seen wanted

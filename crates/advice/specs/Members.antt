@@ -4,6 +4,8 @@ use Rattle.serde_json.specs.Data.{Data}
 use Rattle.serde_json.specs.Find.{at}
 use Rattle.league.specs.declared.fault.Field.{Field}
 use Rattle.league.specs.declared.fault.Field.TheVariants.{Whole, Format, Teams, Distances, AtMost, HardWeight, Rules, Start, Phased}
+use Rattle.league.specs.declared.fault.Field.TheVariants.{Name, Short, Repeats}
+use Rattle.league.specs.declared.fault.Field.TheVariants as field
 use Rattle.league.specs.Json.{is_object, only_if}
 use Rattle.league.specs.Limits.{max_format, max_rounds, max_weight}
 use Rattle.league.specs.Messages.{member_name}
@@ -28,6 +30,10 @@ wanted_in HardWeight = wanted.Number 1 max_weight
 wanted_in Rules = wanted.Objects
 wanted_in Start = wanted.Order
 wanted_in Phased = wanted.Truth
+wanted_in Name = wanted.Title
+wanted_in Short = wanted.ShortNames
+wanted_in field.Rounds = wanted.RoundTexts
+wanted_in Repeats = wanted.Repeats
 
 -- the member as a whole is wrong, or absent
 abbrev pub field_hint : Field → Data → Hint

@@ -15,7 +15,7 @@ is_one_of names name = list_any (bytes_eq name) names
 
 abbrev pub is_league_member : List ℕ → Bool
 is_league_member = is_one_of (codes "format" ∷ codes "teams" ∷ codes "distances" ∷ codes "at_most" ∷ codes "hard_weight" ∷ codes "rules"
-    ∷ codes "start" ∷ codes "phased" ∷ [])
+    ∷ codes "start" ∷ codes "phased" ∷ codes "name" ∷ codes "short" ∷ codes "rounds" ∷ codes "repeats" ∷ [])
 
 abbrev pub is_rule_member : List ℕ → Bool
 is_rule_member = is_one_of (codes "class" ∷ codes "kind" ∷ codes "weight" ∷ codes "teams" ∷ codes "teams1" ∷ codes "teams2" ∷ codes

@@ -1,8 +1,11 @@
 -- Which member of a rule is wrong, and what is wanted.
 use Rattle.std.specs.Prelude.{ℕ, ◌+◌, List, [], ◌∷◌, codes, Bool, false, Option, Some, None, option_map}
 use Rattle.std.specs.Prelude.{option_and_then, if◌then◌else◌}
+use Rattle.std.specs.Option.{unwrap_or}
 use Rattle.std.specs.Str.{bytes_eq}
 use Rattle.serde_json.specs.Data.{Data}
+use Rattle.serde_json.specs.Find.{as_array, get}
+use Rattle.league.specs.Rosters.{RosterData}
 use Rattle.league.specs.RuleMembers.{text_member}
 use Rattle.advice.specs.declared.hint.Hint.{Hint}
 use Rattle.advice.specs.declared.hint.Hint.TheVariants as hint
@@ -16,12 +19,14 @@ use Rattle.advice.specs.declared.needs.Need.TheVariants as need
 use Rattle.advice.specs.Lines.{rule_member_name}
 use Rattle.advice.specs.Needs.{is_met, member_of, wanted_of}
 use Rattle.advice.specs.Firsts.{or_else}
-use Rattle.advice.specs.Seen.{seen_of}
+use Rattle.advice.specs.Rosters.{first_wrong_in_games, first_wrong_name, is_name}
+use Rattle.advice.specs.Seen.{rule_seen, seen_of}
+use Rattle.json_forms.specs.Forms.{quote_of}
 
--- the first of the needs that a rule of n teams doesn't meet
-abbrev pub first_unmet : ℕ → Data → List Need → Option Need
-first_unmet n d [] = None
-first_unmet n d (x ∷ xs) = if is_met n d x then first_unmet n d xs else Some x
+-- the first of the needs that a rule of these teams doesn't meet
+abbrev pub first_unmet : RosterData → Data → List Need → Option Need
+first_unmet roster d [] = None
+first_unmet roster d (x ∷ xs) = if is_met roster d x then first_unmet roster d xs else Some x
 
 -- what the classes ask of members by these names
 
@@ -54,12 +59,12 @@ needs_of name =
     (if bytes_eq name (codes "FA2") then Some (teams ∷ need.Slots ∷ intp ∷ []) else None))))))))
 
 -- the first need that isn't met: of kind and weight, and then of what the class asks for
-abbrev pub unmet_of : ℕ → Data → List Need → Option Need
-unmet_of n d needs = or_else (first_unmet n d (need.Kind ∷ need.Weight ∷ [])) (first_unmet n d needs)
+abbrev pub unmet_of : RosterData → Data → List Need → Option Need
+unmet_of roster d needs = or_else (first_unmet roster d (need.Kind ∷ need.Weight ∷ [])) (first_unmet roster d needs)
 
 -- of a rule whose class some format knows
-abbrev pub unmet : ℕ → Data → Option Need
-unmet n d = option_and_then (unmet_of n d) (option_and_then needs_of (text_member (codes "class") d))
+abbrev pub unmet : RosterData → Data → Option Need
+unmet roster d = option_and_then (unmet_of roster d) (option_and_then needs_of (text_member (codes "class") d))
 
 abbrev pub member_hint : ℕ → Data → RuleMember → Wanted → Hint
 member_hint i d member wanted = hint.Value (Member (i + 1) member) (seen_of (rule_member_name member) wanted d) wanted
@@ -74,6 +79,24 @@ abbrev pub class_hint : ℕ → Data → Hint
 class_hint i d =
     if is_fa2 (text_member (codes "class") d) then hint.SecondFormat (i + 1) else member_hint i d member.Class wanted.Class
 
+-- the first text in a list of teams or of games that isn't the name of one team
+abbrev pub wrong_name_in : RosterData → Wanted → Option Data → Option (List ℕ)
+wrong_name_in roster (wanted.Listed n) found = option_and_then (first_wrong_name roster) (option_and_then as_array found)
+wrong_name_in roster (wanted.ListedGames n) found = option_and_then (first_wrong_in_games roster) (option_and_then as_array found)
+wrong_name_in roster wanted found = None
+
+-- a list of teams has such a text
+abbrev pub name_hint : ℕ → RosterData → Data → RuleMember → Wanted → Option Hint
+name_hint i roster d member wanted =
+    option_map (λ name. hint.Name (i + 1) member (quote_of name) (is_name roster.names name))
+    (wrong_name_in roster wanted (get (rule_member_name member) d))
+
+-- a member isn't as wanted
+abbrev pub value_hint : ℕ → RosterData → Data → RuleMember → Wanted → Hint
+value_hint i roster d member wanted =
+    unwrap_or (name_hint i roster d member wanted)
+    (hint.Value (Member (i + 1) member) (rule_seen roster (rule_member_name member) wanted d) wanted)
+
 -- the rule at an index has a wrong value
-abbrev pub rule_hint : ℕ → ℕ → Data → Option Hint
-rule_hint i n d = option_map (λ x. member_hint i d (member_of x) (wanted_of n x)) (unmet n d)
+abbrev pub rule_hint : ℕ → RosterData → Data → Option Hint
+rule_hint i roster d = option_map (λ x. value_hint i roster d (member_of x) (wanted_of roster x)) (unmet roster d)

@@ -3,9 +3,13 @@
 ghost use Rattle.std.specs.Prelude.{◌≡◌, is_some, option_map};
 ghost use Rattle.serde_json.specs.View.{view, items_view};
 ghost use Rattle.league.specs.Json.{all_items, array_of, number_within};
-ghost use Rattle.league.specs.RuleMembers.{text_member, number_set, pairing_from};
+ghost use Rattle.league.specs.RuleMembers.{text_member, team_set, slot_set, pairing_from};
+ghost use Rattle.std.specs.List.{list_all};
+ghost use Rattle.league.specs.LeagueMembers.{is_name_byte, text_within};
+ghost use Rattle.league.specs.Rosters.{listed_team};
 ghost use Rattle.advice.specs.Firsts.{item_count};
 
+use crate::rosters::Roster;
 use serde_json::Value;
 
 /// How many items an array has; 0 if the value is no array.
@@ -36,8 +40,8 @@ pub(crate) fn number_within(value: &Value, low: u64, high: u64) -> Option<u64>
 }
 
 /// Whether the value is an array of numbers from 1 to `most`.
-pub(crate) fn is_number_set(value: &Value, most: u64) -> bool
-    ensures { result ≡ is_some (number_set most (view value.now)) }
+pub(crate) fn is_slot_set(value: &Value, most: u64) -> bool
+    ensures { result ≡ is_some (slot_set most (view value.now)) }
 {
     match value.as_array() {
         Some(items) => are_numbers(items, most),
@@ -56,41 +60,61 @@ fn are_numbers(items: &[Value], most: u64) -> bool
     true
 }
 
-/// Whether the value is an array of games of so many teams.
-pub(crate) fn is_game_array(value: &Value, teams: u64) -> bool
-    ensures { result ≡ is_some (array_of (pairing_from teams) (view value.now)) }
+/// Whether the value is an array of teams.
+pub(crate) fn is_team_set(value: &Value, roster: &Roster<'_>) -> bool
+    ensures { result ≡ is_some (team_set roster.now (view value.now)) }
 {
     match value.as_array() {
-        Some(items) => are_games(items, teams),
+        Some(items) => are_teams(items, roster),
         None => false,
     }
 }
 
-fn are_games(items: &[Value], teams: u64) -> bool
-    ensures { result ≡ is_some (all_items (pairing_from teams) (items_view items.now)) }
+fn are_teams(items: &[Value], roster: &Roster<'_>) -> bool
+    ensures { result ≡ is_some (all_items (listed_team roster.now) (items_view items.now)) }
 {
     for item in items {
-        if !is_game(item, teams) {
+        if roster.listed_team(item).is_none() {
             return false;
         }
     }
     true
 }
 
-/// Whether the value is an array of two distinct numbers from 1 to `teams`.
-#[tactic(auto, using(league::proofs::Items::game_of_items_none))]
-pub(crate) fn is_game(value: &Value, teams: u64) -> bool
-    ensures { result ≡ is_some (pairing_from teams (view value.now)) }
+/// Whether the value is an array of games.
+pub(crate) fn is_game_array(value: &Value, roster: &Roster<'_>) -> bool
+    ensures { result ≡ is_some (array_of (pairing_from roster.now) (view value.now)) }
 {
-    let Some(items) = value.as_array() else {
-        return false;
-    };
-    let [home, away] = items.as_slice() else {
-        return false;
-    };
-    let (Some(home), Some(away)) = (number_within(home, 1, teams), number_within(away, 1, teams))
-    else {
-        return false;
-    };
-    home != away
+    match value.as_array() {
+        Some(items) => are_games(items, roster),
+        None => false,
+    }
+}
+
+fn are_games(items: &[Value], roster: &Roster<'_>) -> bool
+    ensures { result ≡ is_some (all_items (pairing_from roster.now) (items_view items.now)) }
+{
+    for item in items {
+        if !roster.is_game(item) {
+            return false;
+        }
+    }
+    true
+}
+
+/// Whether the value is a text of one byte to `most`, none of them a control byte.
+pub(crate) fn is_text_within(value: &Value, most: usize) -> bool
+    ensures { result ≡ is_some (text_within most (view value.now)) }
+{
+    match value.as_str() {
+        Some(text) => (1..=most).contains(&text.len()) && has_name_bytes(text.as_bytes()),
+        None => false,
+    }
+}
+
+/// Whether there is no control byte.
+pub(crate) fn has_name_bytes(text: &[u8]) -> bool
+    ensures { result ≡ list_all is_name_byte text.now }
+{
+    text.iter().all(|b| *b >= 32 && *b != 127)
 }

@@ -3,7 +3,7 @@
 ghost use Rattle.std.specs.Prelude.{◌≡◌, [], Some};
 ghost use Rattle.std.specs.Fmt.{DisplaysOnOk};
 ghost use Rattle.json_forms.specs.Numerals.{stated, WritesWithNumeral};
-ghost use Rattle.advice.specs.Lines.{float_seen, hint_float, hint_line, place_words, rule_member_name, seen_words, value_line, wanted_words};
+ghost use Rattle.advice.specs.Lines.{bearer_words, float_seen, hint_float, hint_line, place_words, rule_member_name, seen_words, value_line, wanted_words};
 
 use json_forms::{Form, Quote};
 use league::Field;
@@ -46,6 +46,13 @@ pub enum Hint {
     RuleCount(usize),
     /// This rule has the class that only the second format knows.
     SecondFormat(u16),
+    /// This member of this rule lists a team by this name, and no team has it, or more than one.
+    Name {
+        rule: u16,
+        member: RuleMember,
+        name: Quote,
+        is_twice: bool,
+    },
     /// What is seen at this place isn't what is wanted there.
     Value(Place, Seen, Wanted),
 }
@@ -145,6 +152,18 @@ pub enum Wanted {
     Rounds(u8),
     /// Pairs of teams, of which there are so many.
     Games(u8),
+    /// Numbers or names of teams, of which there are so many.
+    Listed(u8),
+    /// Pairs of teams, by number or name, of which there are so many.
+    ListedGames(u8),
+    /// The name of a league.
+    Title,
+    /// A short name for each team.
+    ShortNames,
+    /// A text for each round.
+    RoundTexts,
+    /// `"forbidden"` or `"free"`.
+    Repeats,
 }
 
 impl RuleMember {
@@ -221,8 +240,27 @@ impl fmt::Display for Hint {
             Hint::SecondFormat(rule) => {
                 write!(f, "see rule {rule}: class FA2 needs \"format\": 2")
             }
+            Hint::Name {
+                rule,
+                member,
+                name,
+                is_twice,
+            } => {
+                let place = Place::Member(rule, member);
+                write!(f, "see {place} names {name}{}", bearer_words(is_twice))
+            }
             Hint::Value(place, seen, wanted) => write_value(f, place, seen, wanted),
         }
+    }
+}
+
+fn bearer_words(is_twice: bool) -> &'static str
+    ensures { result.now ≡ bearer_words is_twice }
+{
+    if is_twice {
+        ", two teams are called so"
+    } else {
+        ", no team is called so"
     }
 }
 
@@ -311,6 +349,23 @@ impl fmt::Display for Wanted {
             Wanted::SlotChoice => f.write_str("\"EVERY\" or \"GLOBAL\""),
             Wanted::Teams(teams) => write!(f, "an array of team numbers from 1 to {teams}"),
             Wanted::Rounds(rounds) => write!(f, "an array of round numbers from 1 to {rounds}"),
+            Wanted::Listed(teams) => {
+                write!(f, "an array of team names, or numbers from 1 to {teams}")
+            }
+            Wanted::ListedGames(teams) => {
+                write!(
+                    f,
+                    "an array of pairs of distinct teams, by name or by number from 1 to {teams}"
+                )
+            }
+            Wanted::Title => f.write_str("a string of 1 to 80 bytes without control bytes"),
+            Wanted::ShortNames => {
+                f.write_str("an array of a string of 1 to 6 bytes for each team")
+            }
+            Wanted::RoundTexts => {
+                f.write_str("an array of a string of 1 to 20 bytes for each round")
+            }
+            Wanted::Repeats => f.write_str("\"forbidden\" or \"free\""),
             Wanted::Games(teams) => {
                 write!(
                     f,

@@ -1,15 +1,17 @@
 //! A hint on a league's text that is refused.
 
 ghost use Rattle.std.specs.Prelude.{◌≡◌, ◌≤◌, IfOk, IfSome, option_and_then, option_map};
-ghost use Rattle.serde_json.specs.View.{view};
+ghost use Rattle.serde_json.specs.View.{view, items_view};
+ghost use Rattle.advice.specs.Rosters.{has_names, names_in, names_of, team_names};
 ghost use Rattle.league.specs.Limits.{max_teams};
-ghost use Rattle.advice.specs.Hints.{kind_hint, part_hint, table_hint_of, rule_at, rule_count, team_count, within_most, rule_hint_of, hint_of, IsHint};
+ghost use Rattle.advice.specs.Hints.{kind_hint, part_hint, table_hint_of, rule_at, rule_count, team_count, within_most, roster_in, rule_hint_of, hint_of, IsHint};
 
 use crate::distances::distances_hint;
-use crate::forms::item_count;
+use crate::forms::{item_count, number_within};
 use crate::hint::Hint;
 use crate::json::json_of;
-use crate::members::{field_hint, rules_hint, whole_hint};
+use crate::members::{LAST_FORMAT, field_hint, rules_hint, whole_hint};
+use crate::rosters::Roster;
 use crate::rules::{class_hint, rule_hint};
 use crate::teams::teams_hint;
 use league::limits::MAX_TEAMS;
@@ -83,7 +85,45 @@ fn rule_hint_of(league: &Value, index: u8) -> Option<Hint>
     ensures { result ≡ rule_hint_of index (view league.now) }
 {
     let rule = rule_at(league, index)?;
-    rule_hint(rule, few_teams(league)?, index)
+    rule_hint(rule, &roster_in(league)?, index)
+}
+
+/// The teams that rules can list.
+fn roster_in(league: &Value) -> Option<Roster<'_>>
+    ensures { result ≡ roster_in (view league.now) }
+{
+    let teams = few_teams(league)?;
+    Some(Roster::new(teams, names_in(league)))
+}
+
+/// Those that they can list by name.
+fn names_in(league: &Value) -> &[Value]
+    ensures { names_of (items_view result.now) ≡ names_in (view league.now) }
+{
+    if has_names(league) {
+        teams_in(league)
+    } else {
+        &[]
+    }
+}
+
+fn teams_in(league: &Value) -> &[Value]
+    ensures { names_of (items_view result.now) ≡ team_names (view league.now) }
+{
+    match league.get("teams").and_then(|teams| teams.as_array()) {
+        Some(teams) => teams.as_slice(),
+        None => &[],
+    }
+}
+
+/// Whether rules can list teams by name: from the third format on.
+fn has_names(league: &Value) -> bool
+    ensures { result ≡ has_names (view league.now) }
+{
+    match league.get("format") {
+        Some(format) => number_within(format, 3, LAST_FORMAT).is_some(),
+        None => false,
+    }
 }
 
 fn rule_at(league: &Value, index: u8) -> Option<&Value>

@@ -10,6 +10,7 @@ mod json;
 mod members;
 mod needs;
 mod remarks;
+mod rosters;
 mod rules;
 mod seen;
 mod teams;

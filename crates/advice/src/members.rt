@@ -14,7 +14,7 @@ use league::limits::{MAX_ROUNDS, MAX_WEIGHT};
 use serde_json::Value;
 
 /// The last format of a league's text.
-const LAST_FORMAT: u64 = 2;
+pub(crate) const LAST_FORMAT: u64 = 3;
 
 /// A member of the league as a whole, and what it has to be.
 pub(crate) fn field_hint(league: &Value, field: Field) -> Hint
@@ -80,6 +80,10 @@ fn wanted_in(field: Field) -> Wanted
         Field::Rules => Wanted::Objects,
         Field::Start => Wanted::Order,
         Field::Phased => Wanted::Truth,
+        Field::Name => Wanted::Title,
+        Field::Short => Wanted::ShortNames,
+        Field::Rounds => Wanted::RoundTexts,
+        Field::Repeats => Wanted::Repeats,
     }
 }
 
@@ -97,5 +101,9 @@ fn member_name(field: Field) -> &'static str
         Field::Rules => "rules",
         Field::Start => "start",
         Field::Phased => "phased",
+        Field::Name => "name",
+        Field::Short => "short",
+        Field::Rounds => "rounds",
+        Field::Repeats => "repeats",
     }
 }

@@ -1,16 +1,16 @@
 //! What the classes of rules ask of a rule's members.
 
-ghost use Rattle.std.specs.Prelude.{◌≡◌, ◌≤◌, codes, is_some};
+ghost use Rattle.std.specs.Prelude.{◌≡◌, codes, is_some};
 ghost use Rattle.serde_json.specs.Find.{get};
 ghost use Rattle.serde_json.specs.View.{view};
-ghost use Rattle.league.specs.Limits.{max_teams};
-ghost use Rattle.league.specs.RuleMembers.{text_member, teams_member, set_or_all, count_member, one_side_member};
+ghost use Rattle.league.specs.RuleMembers.{text_member, teams_member, opponents_member, set_or_all, slot_set, count_member, one_side_member};
 ghost use Rattle.league.specs.RuleMembers.{any_side_member, each_member, games_member, weight_of};
-ghost use Rattle.advice.specs.Needs.{member_of, wanted_of, is_kind, are_in_order, is_met};
+ghost use Rattle.advice.specs.Needs.{member_of, wanted_games, wanted_of, wanted_teams, is_kind, are_in_order, is_met};
 ghost use Rattle.advice.specs.within.Needs.{number_member};
 
-use crate::forms::{is_game_array, is_number_set, number_within, text_member};
+use crate::forms::{is_game_array, is_slot_set, is_team_set, number_within, text_member};
 use crate::hint::{RuleMember, Wanted};
+use crate::rosters::Roster;
 use league::limits::{MAX_COUNT, MAX_WEIGHT, round_count};
 use serde_json::Value;
 
@@ -62,50 +62,65 @@ impl Need {
         }
     }
 
-    /// What the member has to be, of a rule in a league of so many teams.
-    pub(crate) fn wanted(self, teams: u8) -> Wanted
-        requires least { 1 ≤ teams }
-        requires most { teams ≤ max_teams }
-        ensures { result ≡ wanted_of teams self }
+    /// What the member has to be, of a rule in a league of these teams.
+    pub(crate) fn wanted(self, roster: &Roster<'_>) -> Wanted
+        ensures { result ≡ wanted_of roster.now self }
     {
-        let rounds = round_count(teams);
+        let rounds = round_count(roster.teams());
         match self {
             Need::Kind => Wanted::Kind,
             Need::Weight => Wanted::Number(1, MAX_WEIGHT.into()),
-            Need::Teams(_) | Need::Opponents => Wanted::Teams(teams),
+            Need::Teams(_) | Need::Opponents => wanted_teams(roster),
             Need::Slots => Wanted::Rounds(rounds),
             Need::HomeOrAway => Wanted::HomeOrAway,
             Need::Side => Wanted::Side,
             Need::SlotChoice => Wanted::SlotChoice,
-            Need::Games => Wanted::Games(teams),
+            Need::Games => wanted_games(roster),
             Need::Window => Wanted::Number(1, rounds.into()),
             Need::Count(_) => Wanted::Number(0, MAX_COUNT.into()),
             Need::MaxFromMin => Wanted::FromMin,
         }
     }
 
-    /// Whether a rule of a league of so many teams meets it.
-    pub(crate) fn is_met(self, rule: &Value, teams: u8) -> bool
-        requires least { 1 ≤ teams }
-        requires most { teams ≤ max_teams }
-        ensures { result ≡ is_met teams (view rule.now) self }
+    /// Whether a rule of a league of these teams meets it.
+    pub(crate) fn is_met(self, rule: &Value, roster: &Roster<'_>) -> bool
+        ensures { result ≡ is_met roster.now (view rule.now) self }
     {
-        let most = u64::from(teams);
-        let rounds = u64::from(round_count(teams));
+        let rounds = u64::from(round_count(roster.teams()));
         match self {
             Need::Kind => has_kind(rule),
             Need::Weight => has_weight(rule),
-            Need::Teams(member) => has_teams(rule, member.name(), most),
-            Need::Opponents => has_set_or_none(rule, "teams2", most),
-            Need::Slots => has_set_or_none(rule, "slots", rounds),
+            Need::Teams(member) => has_teams(rule, member.name(), roster),
+            Need::Opponents => has_opponents(rule, roster),
+            Need::Slots => has_slots(rule, rounds),
             Need::HomeOrAway => has_home_or_away(rule),
             Need::Side => has_side(rule),
             Need::SlotChoice => has_slot_choice(rule),
-            Need::Games => has_games(rule, most),
+            Need::Games => has_games(rule, roster),
             Need::Window => has_number(rule, "intp", 1, rounds),
             Need::Count(member) => has_number(rule, member.name(), 0, MAX_COUNT.into()),
             Need::MaxFromMin => has_max_from_min(rule),
         }
+    }
+}
+
+fn wanted_teams(roster: &Roster<'_>) -> Wanted
+    ensures { result ≡ wanted_teams roster.now }
+{
+    if roster.is_nameless() {
+        Wanted::Teams(roster.teams())
+    } else {
+        Wanted::Listed(roster.teams())
+    }
+}
+
+fn wanted_games(roster: &Roster<'_>) -> Wanted
+    ensures { result ≡ wanted_games roster.now }
+{
+    if roster.is_nameless() {
+        Wanted::Games(roster.teams())
+    } else {
+        Wanted::ListedGames(roster.teams())
     }
 }
 
@@ -156,29 +171,38 @@ fn has_slot_choice(rule: &Value) -> bool
     }
 }
 
-fn has_teams(rule: &Value, name: &str, teams: u64) -> bool
-    ensures { result ≡ is_some (teams_member teams name.now (view rule.now)) }
+fn has_teams(rule: &Value, name: &str, roster: &Roster<'_>) -> bool
+    ensures { result ≡ is_some (teams_member roster.now name.now (view rule.now)) }
 {
     match rule.get(name) {
-        Some(member) => is_number_set(member, teams),
+        Some(member) => is_team_set(member, roster),
         None => false,
     }
 }
 
-fn has_set_or_none(rule: &Value, name: &str, most: u64) -> bool
-    ensures { result ≡ is_some (set_or_all most (get name.now (view rule.now))) }
+fn has_opponents(rule: &Value, roster: &Roster<'_>) -> bool
+    ensures { result ≡ is_some (opponents_member roster.now (view rule.now)) }
 {
-    match rule.get(name) {
-        Some(member) => is_number_set(member, most),
+    match rule.get("teams2") {
+        Some(member) => is_team_set(member, roster),
         None => true,
     }
 }
 
-fn has_games(rule: &Value, teams: u64) -> bool
-    ensures { result ≡ is_some (games_member teams (view rule.now)) }
+fn has_slots(rule: &Value, rounds: u64) -> bool
+    ensures { result ≡ is_some (set_or_all rounds (slot_set rounds) (get (codes "slots") (view rule.now))) }
+{
+    match rule.get("slots") {
+        Some(member) => is_slot_set(member, rounds),
+        None => true,
+    }
+}
+
+fn has_games(rule: &Value, roster: &Roster<'_>) -> bool
+    ensures { result ≡ is_some (games_member roster.now (view rule.now)) }
 {
     match rule.get("games") {
-        Some(member) => is_game_array(member, teams),
+        Some(member) => is_game_array(member, roster),
         None => false,
     }
 }

@@ -32,7 +32,11 @@ impl Owner {
                 | "hard_weight"
                 | "rules"
                 | "start"
-                | "phased" => true,
+                | "phased"
+                | "name"
+                | "short"
+                | "rounds"
+                | "repeats" => true,
                 _ => false,
             },
             Owner::Rule(_) => match member {

@@ -1,14 +1,15 @@
 //! Which member of a rule is wrong, and what is wanted.
 
-ghost use Rattle.std.specs.Prelude.{◌≡◌, ◌≤◌, option_map};
+ghost use Rattle.std.specs.Prelude.{◌≡◌, option_map};
 ghost use Rattle.serde_json.specs.View.{view};
-ghost use Rattle.league.specs.Limits.{max_teams};
-ghost use Rattle.advice.specs.Rules.{first_unmet, needs_of, unmet, member_hint, class_hint, rule_hint};
+ghost use Rattle.advice.specs.Rules.{first_unmet, needs_of, unmet, member_hint, name_hint, value_hint, class_hint, rule_hint, wrong_name_in};
 
 use crate::forms::text_member;
 use crate::hint::{Hint, Place, RuleMember, Wanted};
 use crate::needs::Need;
-use crate::seen::seen_of;
+use crate::rosters::Roster;
+use crate::seen::{rule_seen, seen_of};
+use json_forms::Quote;
 use serde_json::Value;
 
 // what the classes ask of members by these names
@@ -33,14 +34,75 @@ pub(crate) fn class_hint(rule: &Value, index: u8) -> Hint
     }
 }
 
-/// Where the rule at an index, of a league of so many teams, has a wrong value.
-pub(crate) fn rule_hint(rule: &Value, teams: u8, index: u8) -> Option<Hint>
-    requires least { 1 ≤ teams }
-    requires most { teams ≤ max_teams }
-    ensures { result ≡ rule_hint index teams (view rule.now) }
+/// Where the rule at an index, of a league of these teams, has a wrong value.
+pub(crate) fn rule_hint(rule: &Value, roster: &Roster<'_>, index: u8) -> Option<Hint>
+    ensures { result ≡ rule_hint index roster.now (view rule.now) }
 {
-    let need = unmet(rule, teams)?;
-    Some(member_hint(rule, index, need.member(), need.wanted(teams)))
+    let need = unmet(rule, roster)?;
+    Some(value_hint(
+        rule,
+        roster,
+        index,
+        need.member(),
+        need.wanted(roster),
+    ))
+}
+
+/// Where a member of the rule isn't as wanted.
+fn value_hint(
+    rule: &Value,
+    roster: &Roster<'_>,
+    index: u8,
+    member: RuleMember,
+    wanted: Wanted,
+) -> Hint
+    ensures { result ≡ value_hint index roster.now (view rule.now) member wanted }
+{
+    match name_hint(rule, roster, index, member, wanted) {
+        Some(hint) => hint,
+        None => {
+            let place = Place::Member(u16::from(index) + 1, member);
+            Hint::Value(
+                place,
+                rule_seen(rule, member.name(), wanted, roster),
+                wanted,
+            )
+        }
+    }
+}
+
+/// Where a list of teams has a text that isn't the name of one team.
+fn name_hint(
+    rule: &Value,
+    roster: &Roster<'_>,
+    index: u8,
+    member: RuleMember,
+    wanted: Wanted,
+) -> Option<Hint>
+    ensures { result ≡ name_hint index roster.now (view rule.now) member wanted }
+{
+    let name = wrong_name_in(rule.get(member.name()), wanted, roster)?;
+    Some(Hint::Name {
+        rule: u16::from(index) + 1,
+        member,
+        name: Quote::of(name),
+        is_twice: roster.is_name(name),
+    })
+}
+
+fn wrong_name_in<'a>(
+    found: Option<&'a Value>,
+    wanted: Wanted,
+    roster: &Roster<'_>,
+) -> Option<&'a str>
+    ensures { option_map (λ name. name.now) result ≡
+        wrong_name_in roster.now wanted (option_map (λ value. view value.now) found.entry) }
+{
+    match wanted {
+        Wanted::Listed(_) => roster.first_wrong_name(found?.as_array()?),
+        Wanted::ListedGames(_) => roster.first_wrong_in_games(found?.as_array()?),
+        _ => None,
+    }
 }
 
 fn member_hint(rule: &Value, index: u8, member: RuleMember, wanted: Wanted) -> Hint
@@ -51,15 +113,13 @@ fn member_hint(rule: &Value, index: u8, member: RuleMember, wanted: Wanted) -> H
 }
 
 /// The first need of the rule that isn't met, if some format knows its class: of its kind and weight, and then what the class asks for.
-fn unmet(rule: &Value, teams: u8) -> Option<Need>
-    requires least { 1 ≤ teams }
-    requires most { teams ≤ max_teams }
-    ensures { result ≡ unmet teams (view rule.now) }
+fn unmet(rule: &Value, roster: &Roster<'_>) -> Option<Need>
+    ensures { result ≡ unmet roster.now (view rule.now) }
 {
     let needs = needs_of(text_member(rule, "class")?)?;
-    match first_unmet(rule, teams, &[Need::Kind, Need::Weight]) {
+    match first_unmet(rule, roster, &[Need::Kind, Need::Weight]) {
         Some(need) => Some(need),
-        None => first_unmet(rule, teams, needs),
+        None => first_unmet(rule, roster, needs),
     }
 }
 
@@ -88,13 +148,11 @@ fn needs_of(class: &str) -> Option<&'static [Need]>
 }
 
 /// The first of the needs that the rule doesn't meet.
-fn first_unmet(rule: &Value, teams: u8, needs: &[Need]) -> Option<Need>
-    requires least { 1 ≤ teams }
-    requires most { teams ≤ max_teams }
-    ensures { result ≡ first_unmet teams (view rule.now) needs.now }
+fn first_unmet(rule: &Value, roster: &Roster<'_>, needs: &[Need]) -> Option<Need>
+    ensures { result ≡ first_unmet roster.now (view rule.now) needs.now }
 {
     for need in needs {
-        if !need.is_met(rule, teams) {
+        if !need.is_met(rule, roster) {
             return Some(*need);
         }
     }

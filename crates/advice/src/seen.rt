@@ -1,12 +1,15 @@
 //! What stands in a text for a member.
 
-ghost use Rattle.std.specs.Prelude.{◌≡◌, option_map};
+ghost use Rattle.std.specs.Prelude.{◌≡◌, option_and_then, option_map};
+ghost use Rattle.serde_json.specs.Find.{get};
 ghost use Rattle.serde_json.specs.View.{view, items_view};
-ghost use Rattle.advice.specs.Seen.{first_no_game, first_outside, seen, seen_in, seen_of, wrong_item};
+ghost use Rattle.advice.specs.Seen.{first_no_text, first_outside, length_of, rule_seen, seen, seen_in, seen_of, whole, wrong_item, wrong_listed};
 
-use crate::forms::{is_game, number_within};
+use crate::forms::{is_text_within, number_within};
 use crate::hint::{Seen, Wanted};
+use crate::rosters::Roster;
 use json_forms::Form;
+use league::limits::{MAX_ROUND_TEXT, MAX_SHORT_NAME};
 use serde_json::Value;
 
 /// What an object has for a member of this name, where this is wanted.
@@ -31,6 +34,26 @@ fn seen(value: &Value, wanted: Wanted) -> Seen
 {
     match wrong_item(value, wanted) {
         Some(wrong) => Seen::Item(Form::of(wrong)),
+        None => whole(value, wanted),
+    }
+}
+
+/// A value of which no item is wrong.
+fn whole(value: &Value, wanted: Wanted) -> Seen
+    ensures { result ≡ whole wanted (view value.now) }
+{
+    match wanted {
+        Wanted::ShortNames | Wanted::RoundTexts => length_of(value),
+        _ => Seen::Value(Form::of(value)),
+    }
+}
+
+#[tactic(auto, using(league::proofs::Items::items_len_same))]
+fn length_of(value: &Value) -> Seen
+    ensures { result ≡ length_of (view value.now) }
+{
+    match value.as_array() {
+        Some(items) => Seen::Length(items.len()),
         None => Seen::Value(Form::of(value)),
     }
 }
@@ -40,10 +63,9 @@ fn wrong_item(value: &Value, wanted: Wanted) -> Option<&Value>
     ensures { option_map (λ item. view item.now) result ≡ wrong_item wanted (view value.now) }
 {
     match wanted {
-        Wanted::Teams(most) | Wanted::Rounds(most) => {
-            first_outside(value.as_array()?, most.into())
-        }
-        Wanted::Games(teams) => first_no_game(value.as_array()?, teams.into()),
+        Wanted::Rounds(most) => first_outside(value.as_array()?, most.into()),
+        Wanted::ShortNames => first_no_text(value.as_array()?, MAX_SHORT_NAME),
+        Wanted::RoundTexts => first_no_text(value.as_array()?, MAX_ROUND_TEXT),
         _ => None,
     }
 }
@@ -60,14 +82,46 @@ fn first_outside(items: &[Value], most: u64) -> Option<&Value>
     None
 }
 
-/// The first item that is no game of so many teams.
-fn first_no_game(items: &[Value], teams: u64) -> Option<&Value>
-    ensures { option_map (λ item. view item.now) result ≡ first_no_game teams (items_view items.now) }
+/// The first item that is no text of one byte to `most`.
+fn first_no_text(items: &[Value], most: usize) -> Option<&Value>
+    ensures { option_map (λ item. view item.now) result ≡ first_no_text most (items_view items.now) }
 {
     for item in items {
-        if !is_game(item, teams) {
+        if !is_text_within(item, most) {
             return Some(item);
         }
     }
     None
+}
+
+/// What a rule has for a member of this name, where this is wanted. Lists of teams are looked at too.
+pub(crate) fn rule_seen(rule: &Value, name: &str, wanted: Wanted, roster: &Roster<'_>) -> Seen
+    ensures { result ≡ rule_seen roster.now name.now wanted (view rule.now) }
+{
+    match wrong_in_rule(rule, name, wanted, roster) {
+        Some(wrong) => Seen::Item(Form::of(wrong)),
+        None => seen_of(rule, name, wanted),
+    }
+}
+
+fn wrong_in_rule<'a>(
+    rule: &'a Value,
+    name: &str,
+    wanted: Wanted,
+    roster: &Roster<'_>,
+) -> Option<&'a Value>
+    ensures { option_map (λ item. view item.now) result ≡ option_and_then (wrong_listed roster.now wanted) (get name.now (view rule.now)) }
+{
+    wrong_listed(rule.get(name)?, wanted, roster)
+}
+
+/// The first item of an array that lists no team, or is no game.
+fn wrong_listed<'a>(value: &'a Value, wanted: Wanted, roster: &Roster<'_>) -> Option<&'a Value>
+    ensures { option_map (λ item. view item.now) result ≡ wrong_listed roster.now wanted (view value.now) }
+{
+    match wanted {
+        Wanted::Teams(_) | Wanted::Listed(_) => roster.first_unlisted(value.as_array()?),
+        Wanted::Games(_) | Wanted::ListedGames(_) => roster.first_no_game(value.as_array()?),
+        _ => None,
+    }
 }

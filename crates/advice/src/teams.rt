@@ -1,12 +1,10 @@
 //! Which team's name is wrong.
 
 ghost use Rattle.std.specs.Prelude.{◌≡◌, ◌+◌, ◌^◌, ◌<◌};
-ghost use Rattle.std.specs.List.{list_all};
 ghost use Rattle.serde_json.specs.View.{view};
-ghost use Rattle.league.specs.LeagueMembers.{is_name_byte};
 ghost use Rattle.advice.specs.Teams.{wrong_text, wrong_name, team_hint, teams_hint};
 
-use crate::forms::item_count;
+use crate::forms::{has_name_bytes, item_count};
 use crate::hint::{Hint, Place, Seen, Wanted};
 use json_forms::{Form, Quote};
 use league::limits::MAX_NAME;
@@ -51,10 +49,4 @@ fn wrong_text(name: &str) -> Option<Seen>
     } else {
         Some(Seen::Bytes(Quote::of(name), name.len()))
     }
-}
-
-fn has_name_bytes(name: &[u8]) -> bool
-    ensures { result ≡ list_all is_name_byte name.now }
-{
-    name.iter().all(|b| *b >= 32 && *b != 127)
 }

@@ -9,6 +9,7 @@ mod drawn_asks;
 mod drawn_leagues;
 mod drawn_numbers;
 mod equality;
+mod free_repeats;
 mod given_start;
 mod kept_cost;
 mod kept_games;

@@ -1,6 +1,6 @@
 -- Each schedule of a league scores below the limit of scores.
 use Rattle.std.proofs.Common.{◌≡◌, ℕ, ◌+◌, ◌-◌, ◌*◌, ◌^◌, ◌<◌, ◌≤◌, if◌then◌else◌, ◌&&◌}
-use Rattle.std.proofs.Common.{length, slice_get, Option, Some, None, refl, sym, subst, le_refl, arith}
+use Rattle.std.proofs.Common.{Bool, true, false, length, slice_get, Option, Some, None, refl, sym, subst, le_refl, arith}
 use Rattle.std.proofs.lemmas.List.Elements.{All-from_recursion, All-get_or}
 use Rattle.std.proofs.lemmas.Option.{slice_get_within, get_or_from_slice_get}
 use Rattle.std.proofs.Math.Nat.{mul-le-mul}
@@ -22,7 +22,7 @@ use Rattle.tours.specs.Repeats.{repeats_after, repeats}
 use Rattle.tours.specs.Phased.{is_unphased, unphased}
 use Rattle.robinx.specs.Deviations.{deviation}
 use Rattle.costs.specs.Costs.{hard_penalty, soft_penalty, penalty_of, sum_over_rules, where_phased, cost_of, score_by, score_of}
-use Rattle.costs.specs.Costs.{near_cost, score_limit}
+use Rattle.costs.specs.Costs.{near_cost, score_limit, unless_free}
 use Rattle.tours.specs.Moved.{is_moved, moved_from}
 use Rattle.costs.specs.declared.cost.Cost.{Cost}
 use Rattle.league.specs.Starts.{start_round}
@@ -88,6 +88,13 @@ unphased_le g forty =
           (λ i j below under. if_le (is_unphased g i j) 1 1 (λ _. omega arith)),
     )
 
+unless_le : (free : Bool) (count most : ℕ) → count ≤ most → (if free then 0 else count) ≤ most
+unless_le true count most le = omega arith
+unless_le false count most le = le
+
+unless_free_le : (l : LeagueData) (count most : ℕ) → count ≤ most → unless_free l count ≤ most
+unless_free_le l count most le = unless_le l.free_repeats count most le
+
 where_phased_le : (l : LeagueData) (count most : ℕ) → count ≤ most → where_phased l count ≤ most
 where_phased_le l count most le = if_le l.phased count most (λ _. le)
 
@@ -137,7 +144,7 @@ hard_le l g is same forty =
     omega (
       arith,
       runs_over_le g l.at_most forty,
-      repeats_le g forty,
+      unless_free_le l (repeats g) 123200 (repeats_le g forty),
       where_phased_le l (unphased g) (max_teams * max_teams) (unphased_le g forty),
       sum_over_rules_le l g hard_penalty deviation_limit is
           (λ rule for. omega (arith, hard_penalty_le rule.weight (deviation g rule.body), deviation_of l g rule same forty for)),

@@ -37,16 +37,20 @@ sum_over_rules penalty rules g = sum_below (length rules) (λ i. penalty_of pena
 abbrev pub where_phased : LeagueData → ℕ → ℕ
 where_phased l count = if l.phased then count else 0
 
+-- what is counted unless the league's repeats are free
+abbrev pub unless_free : LeagueData → ℕ → ℕ
+unless_free l count = if l.free_repeats then 0 else count
+
 -- what the games cost that have another round than at the start
 abbrev pub near_cost : LeagueData → Games → ℕ
 near_cost l g = l.origin.near * moved_games l g
 
--- travel as it is; hard: runs, repeats, the deviations of hard rules, and in a phased league the pairs of teams with
--- both games in one half; soft: the weighted deviations of soft rules, and what leaving the start costs
+-- travel as it is; hard: runs, repeats unless they are free, the deviations of hard rules, and in a phased league the pairs
+-- of teams with both games in one half; soft: the weighted deviations of soft rules, and what leaving the start costs
 unfoldable pub cost_of : LeagueData → Games → Cost
 cost_of l g = record {
   travel = travel l g;
-  hard = runs_over g l.at_most + repeats g + sum_over_rules hard_penalty l.rules g + where_phased l (unphased g);
+  hard = runs_over g l.at_most + unless_free l (repeats g) + sum_over_rules hard_penalty l.rules g + where_phased l (unphased g);
   soft = sum_over_rules soft_penalty l.rules g + near_cost l g;
 }
 

@@ -21,4 +21,4 @@ pub use attempt::Attempt;
 pub use cost::Cost;
 pub use evaluator::Evaluator;
 pub use made_exchanges::{make_at_cost, make_within};
-pub use whole_cost::cost_of;
+pub use whole_cost::{cost_of, counted_repeats};

@@ -2,18 +2,18 @@
 
 ghost use Rattle.std.specs.Prelude.{◌≡◌, ◌+◌, ◌*◌, ◌<◌, ◌≤◌, MatchOption};
 ghost use Rattle.league.specs.League.{teams};
-ghost use Rattle.league.specs.Limits.{max_rounds, max_weight};
+ghost use Rattle.league.specs.Limits.{max_rounds, max_teams, max_weight};
 ghost use Rattle.tours.specs.Repeats.{repeats};
 ghost use Rattle.tours.specs.Tours.{travel};
 ghost use Rattle.fixtures.specs.Exchanges.{exchanged_by, IsExchange};
-ghost use Rattle.costs.specs.Costs.{cost_of, near_cost, score_by};
+ghost use Rattle.costs.specs.Costs.{cost_of, near_cost, score_by, unless_free};
 ghost use Rattle.costs.specs.within.CostParts.{IsTold};
 
 use crate::attempt::Attempt;
 use crate::cost::Cost;
 use fixtures::{Exchange, Schedule};
 use league::League;
-use tours::{legs_of, moved_of, repeats_of, runs_of};
+use tours::{Breaches, legs_of, moved_of, repeats_of, runs_of};
 
 /// The cost with the travel, the runs, the repeats and what leaving the start costs after an exchange, and all else as before it. None if the travel
 /// alone, or with some of the runs, scores over its limit: then the whole cost after it does so too.
@@ -46,13 +46,29 @@ pub(crate) fn told_within(
     if least.score_by(attempt.weight) > most {
         return None;
     }
-    let repeats = repeats_of(schedule, exchange);
+    let repeats = told_repeats(schedule, league, exchange);
     let leaving = leaving_of(schedule, league, exchange);
     Some(Cost {
         travel,
         hard: known.hard + runs.after + repeats.after - runs.before - repeats.before,
         soft: known.soft + leaving.after - leaving.before,
     })
+}
+
+/// The repeats that an exchange alters, before it and after it. None is counted if they are free.
+fn told_repeats(schedule: &Schedule, league: &League, exchange: &Exchange) -> Breaches
+    requires { IsExchange schedule.now exchange.now }
+    ensures balance { unless_free league.now (repeats (exchanged_by schedule.now exchange.now)) + result.before ≡
+        unless_free league.now (repeats schedule.now) + result.after }
+    ensures after_most { result.after ≤ 4 * max_teams }
+{
+    if league.free_repeats() {
+        return Breaches {
+            before: 0,
+            after: 0,
+        };
+    }
+    repeats_of(schedule, exchange)
 }
 
 /// What the games that an exchange alters cost for another round than at the start, before it and after it.

@@ -2,8 +2,9 @@
 
 ghost use Rattle.std.specs.Prelude.{◌≡◌, ◌*◌, ◌<◌, ◌≤◌};
 ghost use Rattle.league.specs.League.{teams, IsLeague};
-ghost use Rattle.league.specs.Limits.{max_teams, max_weight};
-ghost use Rattle.costs.specs.Costs.{cost_of, near_cost, score_of, score_limit};
+ghost use Rattle.league.specs.Limits.{max_rounds, max_teams, max_weight};
+ghost use Rattle.tours.specs.Repeats.{repeats};
+ghost use Rattle.costs.specs.Costs.{cost_of, near_cost, score_of, score_limit, unless_free};
 
 use crate::cost::Cost;
 use crate::rule_costs::costs_of_rules;
@@ -30,8 +31,20 @@ pub fn cost_of(schedule: &Schedule, league: &League) -> Cost
     };
     Cost {
         travel,
-        hard: runs + repeats(schedule) + rules.hard + phases,
+        hard: runs + counted_repeats(schedule, league) + rules.hard + phases,
         soft: rules.soft + near_cost(schedule, league),
+    }
+}
+
+/// How many repeats there are. None is counted if they are free. Takes no memory.
+pub fn counted_repeats(schedule: &Schedule, league: &League) -> u64
+    ensures value { result ≡ unless_free league.now (repeats schedule.now) }
+    ensures most { result ≤ max_rounds * max_teams }
+{
+    if league.free_repeats() {
+        0
+    } else {
+        repeats(schedule)
     }
 }
 

@@ -9,6 +9,7 @@ use Rattle.serde_json.specs.Read.{of_json, number_of}
 use Rattle.serde_json.proofs.OnLiterals.{serde_json_on_literals}
 use Rattle.serde_json.proofs.Numbers.{number_of-decimal}
 use Rattle.league.specs.Checks.{checked}
+use Rattle.league.specs.Labels.{labels_of, no_labels}
 use Rattle.league.specs.League.{league_data, league_of_data}
 use Rattle.league.specs.LeagueMembers.{is_team_name}
 use Rattle.league.specs.Limits.{default_at_most, default_hard_weight, max_rounds, max_weight}
@@ -50,8 +51,8 @@ module _ (names distances : List (List ℕ)) where
   pub league_is : (at_most hard_weight : Option ℕ) → AreTerms (record { at_most = at_most; hard_weight = hard_weight })
       → list_all is_team_name names ≡ true → checked (length names) distances 0 ≡ Ok tt
       → league_of_data (league_value names distances at_most hard_weight)
-      ≡ Ok (league_data names distances (unwrap_or at_most default_at_most) (unwrap_or hard_weight default_hard_weight) [] (origin_at Berger) false)
-  unfolding league_of_data
+      ≡ Ok (league_data names distances (unwrap_or at_most default_at_most) (unwrap_or hard_weight default_hard_weight) [] (origin_at Berger) false false no_labels)
+  unfolding league_of_data labels_of
   league_is None None terms named sound = rw (names_read names named, rows_read distances, sound) refl
   league_is (Some n) None terms named sound =
       rw (names_read names named, rows_read distances, sound, within n max_rounds terms.0.0 terms.0.1) refl

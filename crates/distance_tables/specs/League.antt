@@ -1,5 +1,6 @@
 -- The league that a table gives.
 use Rattle.std.specs.Prelude.{◌≡◌, ℕ, ◌+◌, ◌≤◌, List, [], ◌∷◌, length, false, unwrap_or, Option, Some, None, IfSome, Result, Ok, Err, if◌then◌else◌, ⊤}
+use Rattle.league.specs.Labels.{no_labels}
 use Rattle.league.specs.League.{LeagueData, league_data, league_of}
 use Rattle.league.specs.Limits.{default_at_most, default_hard_weight, max_rounds, max_weight}
 use Rattle.league.specs.declared.origins.Start.TheVariants.{Berger}
@@ -51,7 +52,7 @@ distances_for choice table = leveled choice (length table.names) table.rows
 abbrev pub league_for : Option Symmetry → Terms → TableData → LeagueData
 league_for choice terms table =
     league_data table.names (distances_for choice table) (unwrap_or terms.at_most default_at_most)
-    (unwrap_or terms.hard_weight default_hard_weight) [] (origin_at Berger) false
+    (unwrap_or terms.hard_weight default_hard_weight) [] (origin_at Berger) false false no_labels
 
 -- the text of a table's league, which is read as it, and how many distances were rounded
 pub record IsLeagueOf (choice : Option Symmetry) (terms : Terms) (table : TableData) (text : List ℕ) (rounded : ℕ) : Type 0 where

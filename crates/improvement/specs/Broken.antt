@@ -9,7 +9,7 @@ use Rattle.fixtures.specs.Games.{Games}
 use Rattle.tours.specs.Phased.{unphased}
 use Rattle.tours.specs.Repeats.{repeats}
 use Rattle.tours.specs.Runs.{runs_over}
-use Rattle.costs.specs.Costs.{hard_penalty, penalty_of, where_phased}
+use Rattle.costs.specs.Costs.{hard_penalty, penalty_of, unless_free, where_phased}
 use Rattle.texts.specs.LeastHard.{rule_name}
 use Rattle.improvement.specs.declared.broken.Part.{Part}
 use Rattle.improvement.specs.declared.broken.Part.TheVariants.{Runs, Repeats, Halves, RuleAt}
@@ -20,7 +20,7 @@ use Rattle.improvement.specs.Legs.{LegRun, least_told}
 -- how many breaches of a part a schedule has
 abbrev pub breaches : LeagueData → Part → Games → ℕ
 breaches league Runs g = runs_over g league.at_most
-breaches league Repeats g = repeats g
+breaches league Repeats g = unless_free league (repeats g)
 breaches league Halves g = where_phased league (unphased g)
 breaches league (RuleAt i) g = penalty_of hard_penalty g (slice_get league.rules i)
 

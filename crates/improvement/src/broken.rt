@@ -10,19 +10,20 @@ ghost use Rattle.improvement.specs.within.Chains.{IsInLeague};
 
 use crate::chains::Chains;
 use crate::told::Told;
+use costs::counted_repeats;
 use fixtures::Schedule;
 use league::{League, Weight};
 use robinx::deviation;
 use streams::{BufferedSink, Sink, WriteFault};
 use texts::{Piece, class_name, write_pieces};
-use tours::{repeats, runs_over, unphased};
+use tours::{runs_over, unphased};
 
 /// A part of what is hard.
 #[derive(Clone, Copy)]
 pub(crate) enum Part {
     /// The stretches at home or away that are too long.
     Runs,
-    /// The pairs of teams that meet in a round and in the next.
+    /// The pairs of teams that meet in a round and in the next, unless that is free.
     Repeats,
     /// In a phased league the pairs of teams with both games in one half of the season.
     Halves,
@@ -39,7 +40,7 @@ impl Part {
     {
         match self {
             Part::Runs => runs_over(schedule, league),
-            Part::Repeats => repeats(schedule),
+            Part::Repeats => counted_repeats(schedule, league),
             Part::Halves if league.phased() => unphased(schedule),
             Part::Halves => 0,
             Part::RuleAt(i) => hard_breaches(league, i, schedule),

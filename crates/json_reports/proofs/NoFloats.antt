@@ -86,11 +86,11 @@ runs_free g at_most =
     (run_data at_most (is_home g team (round - 1)) team round (ended_streak (is_over g at_most team) round) ∷ []) refl)
     (round_count g.teams)) g.teams
 
-repeats_free : (g : Games) → has_float (repeats_data g) ≡ false
-repeats_free g =
-    below_free (repeats_after g) (λ round. below_free (repeat_at g round)
+repeats_free : (l : LeagueData) (g : Games) → has_float (repeats_data l g) ≡ false
+repeats_free l g = unless_free l.free_repeats (parts_below (repeats_after g) (round_count g.teams - 1))
+    (below_free (repeats_after g) (λ round. below_free (repeat_at g round)
     (λ team. if_free (repeats_lower g round team) (meetings (cell g team round).opponent team round (round + 1) ∷ []) refl) g.teams)
-    (round_count g.teams - 1)
+    (round_count g.teams - 1))
 
 halves_free : (l : LeagueData) (g : Games) → has_float (halves_data l g) ≡ false
 halves_free l g = if_free l.phased (parts_below (halves_of g) g.teams) (below_free (halves_of g) (λ high. below_free (half_at g high)
@@ -145,7 +145,7 @@ report_free l g = rw (
   cost_free l g (cost_of l g),
   halves_free l g,
   league_free l,
-  repeats_free g,
+  repeats_free l g,
   rounds_free l g,
   rules_free l g,
   runs_free g l.at_most,

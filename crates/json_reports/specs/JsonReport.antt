@@ -33,7 +33,7 @@ league_data l =
 unfoldable pub report_data : LeagueData → Games → Data
 report_data l g =
     object (member (codes "cost") (cost_data l g (cost_of l g)) (member (codes "halves") (halves_data l g)
-    (member (codes "league") (league_data l) (member (codes "repeats") (repeats_data g)
+    (member (codes "league") (league_data l) (member (codes "repeats") (repeats_data l g)
     (member (codes "rounds") (rounds_data l g) (member (codes "rules") (rules_data l g)
     (member (codes "runs") (runs_data g l.at_most) (member (codes "tours") (tours_data l g) no_members))))))))
 

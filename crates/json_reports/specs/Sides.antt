@@ -35,8 +35,12 @@ repeat_at g round team = if repeats_lower g round team then meetings (cell g tea
 abbrev pub repeats_after : Games → ℕ → List Data
 repeats_after g round = parts_below (repeat_at g round) g.teams
 
-abbrev pub repeats_data : Games → Data
-repeats_data g = list (parts_below (repeats_after g) (round_count g.teams - 1))
+-- unless they are free
+abbrev pub repeats_in : LeagueData → Games → List Data
+repeats_in l g = if l.free_repeats then [] else parts_below (repeats_after g) (round_count g.teams - 1)
+
+abbrev pub repeats_data : LeagueData → Games → Data
+repeats_data l g = list (repeats_in l g)
 
 abbrev pub half_at : Games → ℕ → ℕ → List Data
 half_at g high low = if is_unphased g low high then meetings low high (round_of g low high) (round_of g high low) ∷ [] else []

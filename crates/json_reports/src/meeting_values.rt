@@ -14,14 +14,33 @@ use serde_json::{Value, json};
 use std::alloc::{AllocError, Global};
 use tours::is_unphased;
 
-pub(crate) fn repeats_value(alloc: Global, schedule: &Schedule) -> Result<Value, AllocError>
-    ensures { IfOk result (λ value. view value ≡ repeats_data schedule.now) }
+/// The pairs that meet in consecutive rounds, unless that is free.
+pub(crate) fn repeats_value(
+    alloc: Global,
+    league: &League,
+    schedule: &Schedule,
+) -> Result<Value, AllocError>
+    ensures { IfOk result (λ value. view value ≡ repeats_data league.now schedule.now) }
 {
     let mut repeats = Vec::new(alloc);
-    for round in 0..schedule.rounds() - 1 {
-        push_repeats_after(alloc, &mut repeats, schedule, round)?;
+    if !league.free_repeats() {
+        push_repeats(alloc, &mut repeats, schedule)?;
     }
     Ok(Value::from(repeats))
+}
+
+fn push_repeats(
+    alloc: Global,
+    repeats: &mut Vec<Value>,
+    schedule: &Schedule,
+) -> Result<(), AllocError>
+    ensures { OnOk result (seen repeats.new.items ≡ seen repeats.old.items
+        ++ parts_below (repeats_after schedule.now) (round_count schedule.now.teams - 1)) }
+{
+    for round in 0..schedule.rounds() - 1 {
+        push_repeats_after(alloc, repeats, schedule, round)?;
+    }
+    Ok(())
 }
 
 fn push_repeats_after(

@@ -42,7 +42,7 @@ fn report_value(alloc: Global, league: &League, schedule: &Schedule) -> Result<V
     let cost = cost_value(alloc, league, schedule)?;
     let halves = halves_value(alloc, league, schedule)?;
     let terms = league_value(alloc, league)?;
-    let repeats = repeats_value(alloc, schedule)?;
+    let repeats = repeats_value(alloc, league, schedule)?;
     let rounds = rounds_value(alloc, league, schedule)?;
     let rules = rules_value(alloc, league, schedule)?;
     let runs = runs_value(alloc, schedule, league.at_most())?;

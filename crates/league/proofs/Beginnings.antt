@@ -67,6 +67,7 @@ IsLeague-with l o is fits = record {
   rule_count = is.rule_count;
   rules = is.rules;
   origin = fits;
+  labels = is.labels;
 }
 
 -- one game more is kept

@@ -24,7 +24,8 @@ use Rattle.league.specs.declared.rule.Weight.TheVariants.{Hard, Soft}
 use Rattle.league.specs.Checks.{IsDistanceTable}
 use Rattle.league.specs.Games.{is_same_game, is_same_game_equiv}
 use Rattle.league.specs.League.{LeagueData, league_data}
-use Rattle.league.specs.within.League.{with_origin}
+use Rattle.league.specs.Labels.{no_labels}
+use Rattle.league.specs.within.League.{bare}
 use Rattle.league.specs.declared.origins.Start.TheVariants.{Berger}
 use Rattle.league.specs.Origins.{OriginData, origin_at}
 use Rattle.league.specs.Rows.{table_of}
@@ -112,18 +113,19 @@ texts_compared [] (y ∷ ys) = refl
 texts_compared (x ∷ xs) [] = refl
 texts_compared (x ∷ xs) (y ∷ ys) = ap (λ b. pointwise nat_eq (string_bytes x) (string_bytes y) && b) (texts_compared xs ys)
 
-names_decide : (names others : List (String Global))
+pub texts_decide : (names others : List (String Global))
     → Decides (are_same_texts names others) (texts names ≡ texts others)
-names_decide names others =
+texts_decide names others =
     Decides-at _ _ (texts_compared names others) (pointwise_decides bytes_decides (texts names) (texts others))
 
 abbrev SameTerms : Terms → Terms → Type 0
-SameTerms t u = (t.at_most ≡ u.at_most) × ((t.hard_weight ≡ u.hard_weight) × (t.phased ≡ u.phased))
+SameTerms t u =
+    (t.at_most ≡ u.at_most) × ((t.hard_weight ≡ u.hard_weight) × ((t.phased ≡ u.phased) × (t.free_repeats ≡ u.free_repeats)))
 
 terms_decide : (t u : Terms) → Decides (terms_eq.eq-value.it t u) (SameTerms t u)
 terms_decide t u =
     Decides-and _ _ (unsigned_Decides t.at_most u.at_most) (Decides-and _ _ (unsigned_Decides t.hard_weight u.hard_weight)
-    (booleans_Decides t.phased u.phased))
+    (Decides-and _ _ (booleans_Decides t.phased u.phased) (booleans_Decides t.free_repeats u.free_repeats)))
 
 -- tables of one size are equal where their numbers are
 same_tables : (n m : ℕ) (d e : List (List ℕ)) → IsDistanceTable n d → IsDistanceTable m e → n ≡ m → joined d ≡ joined e → d ≡ e
@@ -139,18 +141,21 @@ leagues_decide : (names others : List (String Global)) (d e : List (List ℕ)) (
     → IsDistanceTable (length (texts names)) d → IsDistanceTable (length (texts others)) e
     → Decides (((terms_eq.eq-value.it t u && are_same_texts names others) && pointwise nat_eq (joined d) (joined e))
     && pointwise rule_eq.eq-value.it rules more)
-    (league_data (texts names) d t.at_most t.hard_weight rules berger t.phased
-    ≡ league_data (texts others) e u.at_most u.hard_weight more berger u.phased)
+    (league_data (texts names) d t.at_most t.hard_weight rules berger t.phased t.free_repeats no_labels
+    ≡ league_data (texts others) e u.at_most u.hard_weight more berger u.phased u.free_repeats no_labels)
 leagues_decide names others d e t u rules more d_is e_is =
     Decides-like _
     (λ h. let k = h.0.0.0 in λ i. league_data (h.0.0.1 i)
-    (same_tables _ _ d e d_is e_is (ap length h.0.0.1) h.0.1 i) (k.0 i) (k.1.0 i) (h.1 i) berger (k.1.1 i))
+    (same_tables _ _ d e d_is e_is (ap length h.0.0.1) h.0.1 i) (k.0 i) (k.1.0 i) (h.1 i) berger (k.1.1.0 i) (k.1.1.1 i) no_labels)
     (λ same. (
       (
         (
           (
             ap (λ (l : LeagueData). l.at_most) same,
-            (ap (λ (l : LeagueData). l.hard_weight) same, ap (λ (l : LeagueData). l.phased) same),
+            (
+              ap (λ (l : LeagueData). l.hard_weight) same,
+              (ap (λ (l : LeagueData). l.phased) same, ap (λ (l : LeagueData). l.free_repeats) same),
+            ),
           ),
           ap (λ (l : LeagueData). l.names) same,
         ),
@@ -159,14 +164,14 @@ leagues_decide names others d e t u rules more d_is e_is =
       ap (λ (l : LeagueData). l.rules) same,
     ))
     (Decides-and _ _
-    (Decides-and _ _ (Decides-and _ _ (terms_decide t u) (names_decide names others)) (bytes_decides (joined d) (joined e)))
+    (Decides-and _ _ (Decides-and _ _ (terms_decide t u) (texts_decide names others)) (bytes_decides (joined d) (joined e)))
     (rules_decide rules more))
 
 -- the same, from what each test of a chain gave
 pub chain_decides : (l m : LeagueData) (names others : List (String Global)) (d e : List (List ℕ)) (t u : Terms) (rules more : List Rule)
     → IsDistanceTable (length (texts names)) d → IsDistanceTable (length (texts others)) e
-    → league_data (texts names) d t.at_most t.hard_weight rules berger t.phased ≡ l
-    → league_data (texts others) e u.at_most u.hard_weight more berger u.phased ≡ m
+    → league_data (texts names) d t.at_most t.hard_weight rules berger t.phased t.free_repeats no_labels ≡ l
+    → league_data (texts others) e u.at_most u.hard_weight more berger u.phased u.free_repeats no_labels ≡ m
     → (first second third all : Bool) → first ≡ terms_eq.eq-value.it t u
     → second ≡ (first && are_same_texts names others)
     → third ≡ (second && pointwise nat_eq (joined l.distances) (joined m.distances))
@@ -186,6 +191,6 @@ then_and s t v on is = is ∙ ap (λ b. b && t) (sym on)
 pub else_and : (s t v : Bool) → s ≡ false → v ≡ s → v ≡ (s && t)
 else_and s t v off is = is ∙ off ∙ ap (λ b. b && t) (sym off)
 
--- leagues are equal that are so in all but their origins, and in these
-pub same_with_origins : (o : OriginData) (l m : LeagueData) → with_origin o l ≡ with_origin o m → l.origin ≡ m.origin → l ≡ m
-same_with_origins o l m rest origins = λ i. record (rest i) { origin = origins i }
+-- leagues are equal that are so in all but their origins and labels, and in these
+pub same_in_all : (l m : LeagueData) → bare l ≡ bare m → l.origin ≡ m.origin → l.labels ≡ m.labels → l ≡ m
+same_in_all l m rest origins labels = λ i. record (rest i) { origin = origins i; labels = labels i }

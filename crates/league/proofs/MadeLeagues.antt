@@ -10,6 +10,7 @@ use Rattle.league.specs.declared.made.Layout.{Layout}
 use Rattle.league.specs.declared.made.Layout.TheVariants.{Circular, Constant}
 use Rattle.league.specs.declared.rule.Rule.{Rule}
 use Rattle.league.specs.Checks.{distance_of, is_team_count, IsDistanceTable}
+use Rattle.league.specs.Labels.{LabelData, no_labels}
 use Rattle.league.specs.League.{league_data, IsLeague}
 use Rattle.league.specs.Limits.{min_teams, max_teams, max_distance, default_at_most, default_hard_weight}
 use Rattle.league.specs.LeagueMembers.{is_team_name}
@@ -70,7 +71,7 @@ made_names_pass (suc count) from most =
     (made_name_passes from (omega arith)) (made_names_pass count (from + 1) (omega arith))
 
 IsLeague-made : (layout : Layout) (n : ℕ) → is_team_count n ≡ true
-    → IsLeague (league_data (made_names n) (made_rows layout n) default_at_most default_hard_weight [] (origin_at Berger) false)
+    → IsLeague (league_data (made_names n) (made_rows layout n) default_at_most default_hard_weight [] (origin_at Berger) false false no_labels)
 IsLeague-made layout n counted = record {
   table = rw (length-map-range_with_len made_name 0 n) (IsDistanceTable-made_rows layout n counted);
   at_most_least = omega arith;
@@ -81,11 +82,12 @@ IsLeague-made layout n counted = record {
   rule_count = omega arith;
   rules = tt;
   origin = origin_for_none (length (made_names n)) Berger tt;
+  labels = record { title = refl; short_names = refl; round_texts = refl };
 }
 
-pub IsLeague-as_made : (layout : Layout) (n : ℕ) (names distances : List (List ℕ)) (rules : List Rule)
+pub IsLeague-as_made : (layout : Layout) (n : ℕ) (names distances : List (List ℕ)) (rules : List Rule) (labels : LabelData)
     → is_team_count n ≡ true
-    → names ≡ made_names n → distances ≡ made_rows layout n → rules ≡ []
-    → IsLeague (league_data names distances default_at_most default_hard_weight rules (origin_at Berger) false)
-IsLeague-as_made layout n names distances rules counted same_names same_distances no_rules =
-    rw (same_names, same_distances, no_rules) (IsLeague-made layout n counted)
+    → names ≡ made_names n → distances ≡ made_rows layout n → rules ≡ [] → labels ≡ no_labels
+    → IsLeague (league_data names distances default_at_most default_hard_weight rules (origin_at Berger) false false labels)
+IsLeague-as_made layout n names distances rules labels counted same_names same_distances no_rules none =
+    rw (same_names, same_distances, no_rules, none) (IsLeague-made layout n counted)

@@ -13,6 +13,7 @@ use Rattle.league.specs.declared.rule.Weight.TheVariants.{Hard, Soft}
 use Rattle.league.specs.declared.origins.Start.{Start}
 use Rattle.league.specs.declared.origins.Start.TheVariants as start
 use Rattle.league.specs.Origins.{origin_at}
+use Rattle.league.specs.Labels.{no_labels}
 use Rattle.league.specs.League.{LeagueData, league_data, league_of}
 use Rattle.league.specs.Made.{circular_of, constant_of}
 use Rattle.league.proofs.OnLiterals.{league_on_literals}
@@ -21,12 +22,12 @@ abbrev four_names : List (List ℕ)
 four_names = codes "T1" ∷ codes "T2" ∷ codes "T3" ∷ codes "T4" ∷ []
 
 pub circular_of-four : circular_of 4 ≡ Ok (league_data four_names
-    ((0 ∷ 1 ∷ 2 ∷ 1 ∷ []) ∷ (1 ∷ 0 ∷ 1 ∷ 2 ∷ []) ∷ (2 ∷ 1 ∷ 0 ∷ 1 ∷ []) ∷ (1 ∷ 2 ∷ 1 ∷ 0 ∷ []) ∷ []) 3 100 [] (origin_at start.Berger) false)
+    ((0 ∷ 1 ∷ 2 ∷ 1 ∷ []) ∷ (1 ∷ 0 ∷ 1 ∷ 2 ∷ []) ∷ (2 ∷ 1 ∷ 0 ∷ 1 ∷ []) ∷ (1 ∷ 2 ∷ 1 ∷ 0 ∷ []) ∷ []) 3 100 [] (origin_at start.Berger) false false no_labels)
 unfolding league_on_literals
 circular_of-four = refl
 
 pub constant_of-four : constant_of 4 ≡ Ok (league_data four_names
-    ((0 ∷ 1 ∷ 1 ∷ 1 ∷ []) ∷ (1 ∷ 0 ∷ 1 ∷ 1 ∷ []) ∷ (1 ∷ 1 ∷ 0 ∷ 1 ∷ []) ∷ (1 ∷ 1 ∷ 1 ∷ 0 ∷ []) ∷ []) 3 100 [] (origin_at start.Berger) false)
+    ((0 ∷ 1 ∷ 1 ∷ 1 ∷ []) ∷ (1 ∷ 0 ∷ 1 ∷ 1 ∷ []) ∷ (1 ∷ 1 ∷ 0 ∷ 1 ∷ []) ∷ (1 ∷ 1 ∷ 1 ∷ 0 ∷ []) ∷ []) 3 100 [] (origin_at start.Berger) false false no_labels)
 unfolding league_on_literals
 constant_of-four = refl
 
@@ -56,7 +57,7 @@ league_of-four = refl
 
 pub league_of-far : league_of (four_teams (codes "[[0,1000000,0,0],[1000000,0,0,0],[0,0,0,0],[0,0,0,0]]")
     (codes ",\"at_most\":78,\"hard_weight\":1000000")) ≡ Ok (league_data four_names
-    ((0 ∷ 1000000 ∷ 0 ∷ 0 ∷ []) ∷ (1000000 ∷ 0 ∷ 0 ∷ 0 ∷ []) ∷ (0 ∷ 0 ∷ 0 ∷ 0 ∷ []) ∷ (0 ∷ 0 ∷ 0 ∷ 0 ∷ []) ∷ []) 78 1000000 [] (origin_at start.Berger) false)
+    ((0 ∷ 1000000 ∷ 0 ∷ 0 ∷ []) ∷ (1000000 ∷ 0 ∷ 0 ∷ 0 ∷ []) ∷ (0 ∷ 0 ∷ 0 ∷ 0 ∷ []) ∷ (0 ∷ 0 ∷ 0 ∷ 0 ∷ []) ∷ []) 78 1000000 [] (origin_at start.Berger) false false no_labels)
 unfolding league_on_literals
 league_of-far = refl
 
@@ -72,9 +73,9 @@ pub league_of-array : league_of (codes "[]") ≡ Err (WrongKind Whole)
 unfolding league_on_literals
 league_of-array = refl
 
-pub league_of-format_three : league_of (codes "{\"format\":3}") ≡ Err (WrongKind Format)
+pub league_of-format_four : league_of (codes "{\"format\":4}") ≡ Err (WrongKind Format)
 unfolding league_on_literals
-league_of-format_three = refl
+league_of-format_four = refl
 
 pub league_of-fraction : league_of (codes "{\"format\":1.0}") ≡ Err (WrongKind Format)
 unfolding league_on_literals
@@ -124,7 +125,7 @@ with_rules rules = four_teams circle (codes ",\"rules\":[" ++ rules ++ codes "]"
 abbrev circle_with : List Rule → LeagueData
 circle_with rules =
     league_data four_names ((0 ∷ 1 ∷ 2 ∷ 1 ∷ []) ∷ (1 ∷ 0 ∷ 1 ∷ 2 ∷ []) ∷ (2 ∷ 1 ∷ 0 ∷ 1 ∷ []) ∷ (1 ∷ 2 ∷ 1 ∷ 0 ∷ []) ∷ []) 3 100 rules
-    (origin_at start.Berger) false
+    (origin_at start.Berger) false false no_labels
 
 -- team 4 away in rounds 1, 3 and 5: as sets 2^3, and 2^0 + 2^2 + 2^4
 pub league_of-CA1 : league_of (with_rules
@@ -171,6 +172,8 @@ circle_in_order rules at phased = record {
   rules = rules;
   origin = origin_at at;
   phased = phased;
+  free_repeats = false;
+  labels = no_labels;
 }
 
 pub league_of-second_format : league_of (second_format []) ≡ circular_of 4

@@ -1,6 +1,6 @@
 -- The members of a league's text, in the order of their checks.
-use Rattle.std.specs.Prelude.{ℕ, ◌&&◌, ◌==◌, List, codes, length, Bool, false, not, nat_le, Option, Some, None}
-use Rattle.std.specs.Prelude.{option_and_then, if◌then◌else◌, Result, Ok}
+use Rattle.std.specs.Prelude.{ℕ, ◌&&◌, ◌==◌, List, [], codes, length, Bool, true, false, not, nat_le, Option, Some, None}
+use Rattle.std.specs.Prelude.{option_map, option_and_then, if◌then◌else◌, Result, Ok}
 use Rattle.std.specs.List.{list_all}
 use Rattle.std.specs.Str.{bytes_eq}
 use Rattle.serde_json.specs.Data.{Data, Items, no_items}
@@ -8,25 +8,41 @@ use Rattle.serde_json.specs.Find.{get, as_str, as_bool}
 use Rattle.league.specs.declared.fault.Field.{Field}
 use Rattle.league.specs.declared.fault.Field.TheVariants as field
 use Rattle.league.specs.declared.fault.Field.TheVariants.{Format, Teams, Distances, AtMost, HardWeight, Rules, Phased}
+use Rattle.league.specs.declared.fault.Field.TheVariants.{Name, Short, Rounds, Repeats}
 use Rattle.league.specs.declared.fault.LeagueFault.{LeagueFault}
 use Rattle.league.specs.declared.origins.Start.{Start}
 use Rattle.league.specs.declared.origins.Start.TheVariants.{Berger, Fide}
 use Rattle.league.specs.Json.{only_if, whole_number, number_within, array_of, objects}
-use Rattle.league.specs.Limits.{max_name, max_rounds, max_weight, max_format, default_at_most, default_hard_weight}
+use Rattle.league.specs.Limits.{max_name, max_title, max_short_name, max_round_text, max_rounds, max_weight, max_format}
+use Rattle.league.specs.Limits.{default_at_most, default_hard_weight}
 use Rattle.league.specs.Reading.{needed, optional}
 
 -- no control byte: neither below 32 nor 127
 abbrev pub is_name_byte : ℕ → Bool
 is_name_byte b = nat_le 32 b && not (b == 127)
 
+-- from one byte to so many, and no control byte
+abbrev pub is_text_within : ℕ → List ℕ → Bool
+is_text_within most text = nat_le 1 (length text) && nat_le (length text) most && list_all is_name_byte text
+
 abbrev pub is_team_name : List ℕ → Bool
-is_team_name name = nat_le 1 (length name) && nat_le (length name) max_name && list_all is_name_byte name
+is_team_name = is_text_within max_name
+
+abbrev pub text_within : ℕ → Data → Option (List ℕ)
+text_within most d = option_and_then (λ text. only_if (is_text_within most text) text) (as_str d)
 
 abbrev pub team_name : Data → Option (List ℕ)
-team_name d = option_and_then (λ name. only_if (is_team_name name) name) (as_str d)
+team_name = text_within max_name
+
+abbrev pub texts_within : ℕ → Data → Option (List (List ℕ))
+texts_within most = array_of (text_within most)
 
 abbrev pub team_names : Data → Option (List (List ℕ))
-team_names = array_of team_name
+team_names = texts_within max_name
+
+-- so many texts
+abbrev pub texts_for : ℕ → ℕ → Data → Option (List (List ℕ))
+texts_for count most d = option_and_then (λ texts. only_if (length texts == count) texts) (texts_within most d)
 
 abbrev pub distance_row : Data → Option (List ℕ)
 distance_row = array_of whole_number
@@ -52,9 +68,9 @@ hard_weight_of d = optional HardWeight (number_within 1 max_weight) default_hard
 abbrev pub rules_of : Data → Result Items LeagueFault
 rules_of d = optional Rules objects no_items (get (codes "rules") d)
 
--- a member that may be absent, and that the first format ignores
-abbrev pub in_second : {A : Type 0} → ℕ → Field → (Data → Option A) → A → Option Data → Result A LeagueFault
-in_second format field form default member = if nat_le 2 format then optional field form default member else Ok default
+-- a member that may be absent, and that formats before the first to have it ignore
+abbrev pub since : {A : Type 0} → ℕ → ℕ → Field → (Data → Option A) → A → Option Data → Result A LeagueFault
+since first format field form default member = if nat_le first format then optional field form default member else Ok default
 
 -- the Berger table, in the order of this name
 abbrev pub order_named : List ℕ → Option Start
@@ -66,7 +82,29 @@ abbrev pub start_order : Data → Option Start
 start_order d = option_and_then order_named (as_str d)
 
 abbrev pub order_of : ℕ → Data → Result Start LeagueFault
-order_of format d = in_second format field.Start start_order Berger (get (codes "start") d)
+order_of format d = since 2 format field.Start start_order Berger (get (codes "start") d)
 
 abbrev pub phased_of : ℕ → Data → Result Bool LeagueFault
-phased_of format d = in_second format Phased as_bool false (get (codes "phased") d)
+phased_of format d = since 2 format Phased as_bool false (get (codes "phased") d)
+
+-- the league's name, if it has one
+abbrev pub title_of : ℕ → Data → Result (Option (List ℕ)) LeagueFault
+title_of format d = since 3 format Name (λ name. option_map Some (text_within max_title name)) None (get (codes "name") d)
+
+-- a short name for each of n teams, or none
+abbrev pub short_names_of : ℕ → ℕ → Data → Result (List (List ℕ)) LeagueFault
+short_names_of format n d = since 3 format Short (texts_for n max_short_name) [] (get (codes "short") d)
+
+-- a text for each of so many rounds, or none
+abbrev pub round_texts_of : ℕ → ℕ → Data → Result (List (List ℕ)) LeagueFault
+round_texts_of format rounds d = since 3 format Rounds (texts_for rounds max_round_text) [] (get (codes "rounds") d)
+
+-- whether repeats are free
+abbrev pub are_free : List ℕ → Option Bool
+are_free word =
+    if bytes_eq word (codes "free") then Some true else
+    (if bytes_eq word (codes "forbidden") then Some false else None)
+
+abbrev pub free_repeats_of : ℕ → Data → Result Bool LeagueFault
+free_repeats_of format d =
+    since 3 format Repeats (λ word. option_and_then are_free (as_str word)) false (get (codes "repeats") d)

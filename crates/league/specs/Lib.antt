@@ -6,6 +6,8 @@ pub mod Reading
 pub mod Views
 pub mod Rows
 pub mod LeagueMembers
+pub mod Labels
+pub mod Rosters
 pub mod Messages
 pub mod Limits
 pub mod Checks

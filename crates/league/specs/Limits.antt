@@ -5,11 +5,21 @@ pub use Rattle.sets.specs.Limits.{min_teams, max_teams, max_rounds, max_rules, r
 
 -- of a league's text
 abbrev pub max_format : ℕ
-max_format = 2
+max_format = 3
 
 -- the bytes of a team's name
 abbrev pub max_name : ℕ
 max_name = 40
+
+-- the bytes of a league's name, of a team's short name, and of what a round is called
+abbrev pub max_title : ℕ
+max_title = 80
+
+abbrev pub max_short_name : ℕ
+max_short_name = 6
+
+abbrev pub max_round_text : ℕ
+max_round_text = 20
 
 -- no list has more games, each once, of the most teams
 abbrev pub max_games : ℕ

@@ -11,6 +11,7 @@ use Rattle.league.specs.Origins.{origin_at}
 use Rattle.league.specs.Reading.{◌>>=◌, unless}
 use Rattle.league.specs.Checks.{is_team_count}
 use Rattle.league.specs.Limits.{default_at_most, default_hard_weight}
+use Rattle.league.specs.Labels.{no_labels}
 use Rattle.league.specs.League.{LeagueData, league_data}
 
 -- T1 is the first
@@ -34,7 +35,7 @@ made_rows layout n = map (made_row layout n) (range_with_len 0 n)
 unfoldable pub made : Layout → ℕ → Result LeagueData LeagueFault
 made layout n = do
   counted ← unless (is_team_count n) TeamCount
-  Ok (league_data (made_names n) (made_rows layout n) default_at_most default_hard_weight [] (origin_at Berger) false)
+  Ok (league_data (made_names n) (made_rows layout n) default_at_most default_hard_weight [] (origin_at Berger) false false no_labels)
 
 -- the league of n teams in a circle, or TeamCount
 abbrev pub circular_of : ℕ → Result LeagueData LeagueFault

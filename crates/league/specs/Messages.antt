@@ -2,6 +2,7 @@
 use Rattle.std.specs.Prelude.{ℕ, List, ◌++◌, codes}
 use Rattle.league.specs.declared.fault.Field.{Field}
 use Rattle.league.specs.declared.fault.Field.TheVariants.{Whole, Format, Teams, Distances, AtMost, HardWeight, Rules, Start, Phased}
+use Rattle.league.specs.declared.fault.Field.TheVariants.{Name, Short, Rounds, Repeats}
 
 -- the member's JSON name
 abbrev pub member_name : Field → List ℕ
@@ -14,6 +15,10 @@ member_name HardWeight = codes "hard_weight"
 member_name Rules = codes "rules"
 member_name Start = codes "start"
 member_name Phased = codes "phased"
+member_name Name = codes "name"
+member_name Short = codes "short"
+member_name Rounds = codes "rounds"
+member_name Repeats = codes "repeats"
 
 -- what is said if it is not of its form
 abbrev pub wrong_kind_message : Field → List ℕ

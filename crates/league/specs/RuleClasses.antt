@@ -1,4 +1,4 @@
--- The rules of a league's text, by class, among n teams.
+-- The rules of a league's text, by class, among the teams of a roster.
 use Rattle.std.specs.Prelude.{ℕ, List, codes, nat_le, Option, Some, None, option_and_then, if◌then◌else◌}
 use Rattle.std.specs.Str.{bytes_eq}
 use Rattle.serde_json.specs.Data.{Data}
@@ -11,6 +11,7 @@ use Rattle.league.specs.Json.{only_if}
 use Rattle.league.specs.RuleMembers.{text_member, teams_member, opponents_member, slots_member, count_member}
 use Rattle.league.specs.RuleMembers.{window_member, one_side_member, any_side_member, each_member, games_member}
 use Rattle.league.specs.RuleMembers.{weight_of}
+use Rattle.league.specs.Rosters.{RosterData}
 
 infixl 10 ◌>>=◌
 abbrev pub ◌>>=◌ : {A B : Type 0} → Option A → (A → Option B) → Option B
@@ -32,91 +33,91 @@ class_named format name =
 abbrev pub class_of : ℕ → Data → Option Class
 class_of format d = option_and_then (class_named format) (text_member (codes "class") d)
 
-unfoldable pub ca1_of : ℕ → Data → Option RuleBody
-ca1_of n d = do
-  teams ← teams_member n (codes "teams") d
+unfoldable pub ca1_of : RosterData → Data → Option RuleBody
+ca1_of roster d = do
+  teams ← teams_member roster (codes "teams") d
   side ← one_side_member d
-  slots ← slots_member n d
+  slots ← slots_member roster.teams d
   max ← count_member (codes "max") d
   Some (Ca1 teams side slots max)
 
-unfoldable pub ca2_of : ℕ → Data → Option RuleBody
-ca2_of n d = do
-  teams1 ← teams_member n (codes "teams1") d
+unfoldable pub ca2_of : RosterData → Data → Option RuleBody
+ca2_of roster d = do
+  teams1 ← teams_member roster (codes "teams1") d
   side ← any_side_member d
-  teams2 ← opponents_member n d
-  slots ← slots_member n d
+  teams2 ← opponents_member roster d
+  slots ← slots_member roster.teams d
   max ← count_member (codes "max") d
   Some (Ca2 teams1 side teams2 slots max)
 
-unfoldable pub ca3_of : ℕ → Data → Option RuleBody
-ca3_of n d = do
-  teams1 ← teams_member n (codes "teams1") d
+unfoldable pub ca3_of : RosterData → Data → Option RuleBody
+ca3_of roster d = do
+  teams1 ← teams_member roster (codes "teams1") d
   side ← any_side_member d
-  teams2 ← opponents_member n d
-  window ← window_member n d
+  teams2 ← opponents_member roster d
+  window ← window_member roster.teams d
   max ← count_member (codes "max") d
   Some (Ca3 teams1 side teams2 window max)
 
-unfoldable pub ca4_of : ℕ → Data → Option RuleBody
-ca4_of n d = do
-  teams1 ← teams_member n (codes "teams1") d
+unfoldable pub ca4_of : RosterData → Data → Option RuleBody
+ca4_of roster d = do
+  teams1 ← teams_member roster (codes "teams1") d
   side ← any_side_member d
-  teams2 ← opponents_member n d
-  slots ← slots_member n d
+  teams2 ← opponents_member roster d
+  slots ← slots_member roster.teams d
   each ← each_member d
   max ← count_member (codes "max") d
   Some (Ca4 teams1 side teams2 slots each max)
 
-unfoldable pub ga1_of : ℕ → Data → Option RuleBody
-ga1_of n d = do
-  games ← games_member n d
-  slots ← slots_member n d
+unfoldable pub ga1_of : RosterData → Data → Option RuleBody
+ga1_of roster d = do
+  games ← games_member roster d
+  slots ← slots_member roster.teams d
   min ← count_member (codes "min") d
   max ← count_member (codes "max") d
   only_if (nat_le min max) (Ga1 games slots min max)
 
-unfoldable pub br1_of : ℕ → Data → Option RuleBody
-br1_of n d = do
-  teams ← teams_member n (codes "teams") d
+unfoldable pub br1_of : RosterData → Data → Option RuleBody
+br1_of roster d = do
+  teams ← teams_member roster (codes "teams") d
   side ← any_side_member d
-  slots ← slots_member n d
+  slots ← slots_member roster.teams d
   most ← count_member (codes "intp") d
   Some (Br1 teams side slots most)
 
-unfoldable pub br2_of : ℕ → Data → Option RuleBody
-br2_of n d = do
-  teams ← teams_member n (codes "teams") d
-  slots ← slots_member n d
+unfoldable pub br2_of : RosterData → Data → Option RuleBody
+br2_of roster d = do
+  teams ← teams_member roster (codes "teams") d
+  slots ← slots_member roster.teams d
   most ← count_member (codes "intp") d
   Some (Br2 teams slots most)
 
-unfoldable pub se1_of : ℕ → Data → Option RuleBody
-se1_of n d = do
-  teams ← teams_member n (codes "teams") d
+unfoldable pub se1_of : RosterData → Data → Option RuleBody
+se1_of roster d = do
+  teams ← teams_member roster (codes "teams") d
   min ← count_member (codes "min") d
   Some (Se1 teams min)
 
-unfoldable pub fa2_of : ℕ → Data → Option RuleBody
-fa2_of n d = do
-  teams ← teams_member n (codes "teams") d
-  slots ← slots_member n d
+unfoldable pub fa2_of : RosterData → Data → Option RuleBody
+fa2_of roster d = do
+  teams ← teams_member roster (codes "teams") d
+  slots ← slots_member roster.teams d
   most ← count_member (codes "intp") d
   Some (Fa2 teams slots most)
 
-abbrev pub body_of : ℕ → Data → Class → Option RuleBody
-body_of n d class.Ca1 = ca1_of n d
-body_of n d class.Ca2 = ca2_of n d
-body_of n d class.Ca3 = ca3_of n d
-body_of n d class.Ca4 = ca4_of n d
-body_of n d class.Ga1 = ga1_of n d
-body_of n d class.Br1 = br1_of n d
-body_of n d class.Br2 = br2_of n d
-body_of n d class.Se1 = se1_of n d
-body_of n d class.Fa2 = fa2_of n d
+abbrev pub body_of : RosterData → Data → Class → Option RuleBody
+body_of roster d class.Ca1 = ca1_of roster d
+body_of roster d class.Ca2 = ca2_of roster d
+body_of roster d class.Ca3 = ca3_of roster d
+body_of roster d class.Ca4 = ca4_of roster d
+body_of roster d class.Ga1 = ga1_of roster d
+body_of roster d class.Br1 = br1_of roster d
+body_of roster d class.Br2 = br2_of roster d
+body_of roster d class.Se1 = se1_of roster d
+body_of roster d class.Fa2 = fa2_of roster d
 
-abbrev pub rule_of_class : ℕ → Data → Class → Option Rule
-rule_of_class n d class = do
+abbrev pub rule_of_class : RosterData → Data → Class → Option Rule
+rule_of_class roster d class = do
   weight ← weight_of d
-  body ← body_of n d class
+  body ← body_of roster d class
   Some (record { weight = weight; body = body })

@@ -13,6 +13,7 @@ use Rattle.league.specs.Json.{only_if, number_within, array_of}
 use Rattle.sets.specs.Sets.{with_number, all_numbers}
 use Rattle.league.specs.Games.{with_games}
 use Rattle.league.specs.Limits.{round_count, max_weight, max_count}
+use Rattle.league.specs.Rosters.{RosterData, listed_team}
 
 abbrev pub text_member : List ℕ → Data → Option (List ℕ)
 text_member name d = option_and_then as_str (get name d)
@@ -22,25 +23,33 @@ abbrev pub with_numbers : ℕ → List ℕ → ℕ
 with_numbers set [] = set
 with_numbers set (x ∷ xs) = with_numbers (with_number set (x - 1)) xs
 
--- an array of numbers from 1 to m, as a set
-abbrev pub number_set : ℕ → Data → Option ℕ
-number_set m d = option_map (with_numbers 0) (array_of (number_within 1 m) d)
+-- an array of numbers, as a set
+abbrev pub set_of : (Data → Option ℕ) → Data → Option ℕ
+set_of number d = option_map (with_numbers 0) (array_of number d)
 
--- a set of n teams
-abbrev pub teams_member : ℕ → List ℕ → Data → Option ℕ
-teams_member n name d = option_and_then (number_set n) (get name d)
+-- an array of teams
+abbrev pub team_set : RosterData → Data → Option ℕ
+team_set roster = set_of (listed_team roster)
 
-abbrev pub set_or_all : ℕ → Option Data → Option ℕ
-set_or_all m None = Some (all_numbers m)
-set_or_all m (Some d) = number_set m d
+-- an array of numbers of rounds
+abbrev pub slot_set : ℕ → Data → Option ℕ
+slot_set rounds = set_of (number_within 1 rounds)
 
--- the opponents, or all teams if none are given
-abbrev pub opponents_member : ℕ → Data → Option ℕ
-opponents_member n d = set_or_all n (get (codes "teams2") d)
+abbrev pub teams_member : RosterData → List ℕ → Data → Option ℕ
+teams_member roster name d = option_and_then (team_set roster) (get name d)
 
--- the rounds, or all rounds if none are given
+-- the set, or all numbers below m if none is given
+abbrev pub set_or_all : ℕ → (Data → Option ℕ) → Option Data → Option ℕ
+set_or_all m set None = Some (all_numbers m)
+set_or_all m set (Some d) = set d
+
+-- the opponents, or all teams
+abbrev pub opponents_member : RosterData → Data → Option ℕ
+opponents_member roster d = set_or_all roster.teams (team_set roster) (get (codes "teams2") d)
+
+-- the rounds, or all of them
 abbrev pub slots_member : ℕ → Data → Option ℕ
-slots_member n d = set_or_all (round_count n) (get (codes "slots") d)
+slots_member n d = set_or_all (round_count n) (slot_set (round_count n)) (get (codes "slots") d)
 
 abbrev pub count_member : List ℕ → Data → Option ℕ
 count_member name d = option_and_then (number_within 0 max_count) (get name d)
@@ -72,22 +81,22 @@ is_each mode =
 abbrev pub each_member : Data → Option Bool
 each_member d = option_and_then is_each (text_member (codes "mode2") d)
 
--- two numbers of distinct teams, the home team first
-abbrev pub pairing_from_items : ℕ → Items → Option Pairing
-pairing_from_items n no_items = None
-pairing_from_items n (item home no_items) = None
-pairing_from_items n (item home (item away no_items)) =
-    option_and_then (λ h. option_and_then (λ a. only_if (not (h == a)) (record { home = h - 1; away = a - 1 })) (number_within 1 n away))
-    (number_within 1 n home)
-pairing_from_items n (item home (item away (item more items))) = None
+-- two distinct teams, the home team first
+abbrev pub pairing_from_items : RosterData → Items → Option Pairing
+pairing_from_items roster no_items = None
+pairing_from_items roster (item home no_items) = None
+pairing_from_items roster (item home (item away no_items)) =
+    option_and_then (λ h. option_and_then (λ a. only_if (not (h == a)) (record { home = h - 1; away = a - 1 })) (listed_team roster away))
+    (listed_team roster home)
+pairing_from_items roster (item home (item away (item more items))) = None
 
-abbrev pub pairing_from : ℕ → Data → Option Pairing
-pairing_from n d = option_and_then (pairing_from_items n) (as_array d)
+abbrev pub pairing_from : RosterData → Data → Option Pairing
+pairing_from roster d = option_and_then (pairing_from_items roster) (as_array d)
 
 -- a game given twice counts once
-abbrev pub games_member : ℕ → Data → Option (List Pairing)
-games_member n d =
-    option_and_then (λ games. option_map (with_games []) (array_of (pairing_from n) games)) (get (codes "games") d)
+abbrev pub games_member : RosterData → Data → Option (List Pairing)
+games_member roster d =
+    option_and_then (λ games. option_map (with_games []) (array_of (pairing_from roster) games)) (get (codes "games") d)
 
 abbrev pub soft_weight : Data → Option Weight
 soft_weight d = option_map Soft (option_and_then (number_within 1 max_weight) (get (codes "weight") d))

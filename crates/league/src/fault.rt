@@ -20,6 +20,10 @@ pub enum Field {
     Rules,
     Start,
     Phased,
+    Name,
+    Short,
+    Rounds,
+    Repeats,
 }
 
 /// Writes the member's JSON name.
@@ -37,6 +41,10 @@ impl fmt::Display for Field {
             Field::Rules => "rules",
             Field::Start => "start",
             Field::Phased => "phased",
+            Field::Name => "name",
+            Field::Short => "short",
+            Field::Rounds => "rounds",
+            Field::Repeats => "repeats",
         })
     }
 }

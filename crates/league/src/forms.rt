@@ -5,11 +5,10 @@ ghost use Rattle.std.specs.List.{list_all};
 ghost use Rattle.serde_json.specs.Events.{items_len};
 ghost use Rattle.serde_json.specs.View.{view, items_view};
 ghost use Rattle.league.specs.Json.{number_within, objects, all_objects};
-ghost use Rattle.league.specs.LeagueMembers.{is_name_byte, is_team_name, team_name, team_names, distance_row, distance_rows};
+ghost use Rattle.league.specs.LeagueMembers.{is_name_byte, is_text_within, text_within, texts_within, distance_row, distance_rows};
 ghost use Rattle.league.specs.Views.{texts};
 ghost use Rattle.league.specs.within.Views.{rows};
 
-use crate::limits::MAX_NAME;
 use serde_json::Value;
 use std::alloc::{AllocError, Global};
 
@@ -28,35 +27,40 @@ fn has_name_bytes(name: &[u8]) -> bool
     name.iter().all(|b| *b >= 32 && *b != 127)
 }
 
-fn is_team_name(name: &str) -> bool
-    ensures { result ≡ is_team_name name.now }
+fn is_text_within(text: &str, most: usize) -> bool
+    ensures { result ≡ is_text_within most text.now }
 {
-    (1..=MAX_NAME).contains(&name.len()) && has_name_bytes(name.as_bytes())
+    (1..=most).contains(&text.len()) && has_name_bytes(text.as_bytes())
 }
 
-fn team_name(value: &Value) -> Option<&str>
-    ensures value { option_map (λ name. name.now) result ≡ team_name (view value.now) }
-    ensures fits { IfSome result (λ name. IsTrue (is_team_name name.now)) }
+/// A text of one byte to `most`, none of them a control byte.
+pub fn text_within(value: &Value, most: usize) -> Option<&str>
+    ensures value { option_map (λ text. text.now) result ≡ text_within most (view value.now) }
+    ensures fits { IfSome result (λ text. IsTrue (is_text_within most text.now)) }
 {
-    value.as_str().filter(|name| is_team_name(name))
+    value.as_str().filter(|text| is_text_within(text, most))
 }
 
-/// The names of an array of team names.
-pub fn team_names(alloc: Global, value: &Value) -> Result<Option<Vec<String>>, AllocError>
-    ensures value { IfOk result (λ o. option_map (λ names. texts names.items) o ≡ team_names (view value.now)) }
-    ensures fit { IfOk result (λ o. IfSome o (λ names. IsTrue (list_all is_team_name (texts names.items)))) }
+/// The texts of an array of such texts.
+pub fn texts_within(
+    alloc: Global,
+    value: &Value,
+    most: usize,
+) -> Result<Option<Vec<String>>, AllocError>
+    ensures value { IfOk result (λ o. option_map (λ list. texts list.items) o ≡ texts_within most (view value.now)) }
+    ensures fit { IfOk result (λ o. IfSome o (λ list. IsTrue (list_all (is_text_within most) (texts list.items)))) }
 {
     let Some(list) = value.as_array() else {
         return Ok(None);
     };
-    let mut names = Vec::with_capacity(alloc, list.len())?;
+    let mut texts = Vec::with_capacity(alloc, list.len())?;
     for item in list {
-        let Some(name) = team_name(item) else {
+        let Some(text) = text_within(item, most) else {
             return Ok(None);
         };
-        names.push(String::from_str(alloc, name)?)?;
+        texts.push(String::from_str(alloc, text)?)?;
     }
-    Ok(Some(names))
+    Ok(Some(texts))
 }
 
 fn distance_row(alloc: Global, value: &Value) -> Result<Option<Vec<u64>>, AllocError>

@@ -9,14 +9,16 @@ ghost use Rattle.league.specs.Reading.{Gives};
 ghost use Rattle.league.specs.within.Reading.{seen};
 ghost use Rattle.league.specs.LeagueMembers.{is_team_name, format_of, teams_of, distances_of, at_most_of};
 ghost use Rattle.league.specs.LeagueMembers.{hard_weight_of, rules_of, order_named, start_order, order_of, phased_of};
+ghost use Rattle.league.specs.LeagueMembers.{are_free, free_repeats_of};
 ghost use Rattle.league.specs.Origins.{IsStartFor};
 ghost use Rattle.league.specs.Views.{texts};
 ghost use Rattle.league.specs.within.Views.{rows};
 
 use crate::fault::{Field, LeagueFault};
-use crate::forms::{distance_rows, number_within, objects, team_names};
+use crate::forms::{distance_rows, number_within, objects, texts_within};
 use crate::limits::{
-    DEFAULT_AT_MOST, DEFAULT_HARD_WEIGHT, FIRST_FORMAT, MAX_AT_MOST, MAX_WEIGHT, SECOND_FORMAT,
+    DEFAULT_AT_MOST, DEFAULT_HARD_WEIGHT, FIRST_FORMAT, MAX_AT_MOST, MAX_NAME, MAX_WEIGHT,
+    SECOND_FORMAT, THIRD_FORMAT,
 };
 use crate::origins::Start;
 use serde_json::Value;
@@ -28,7 +30,7 @@ pub fn format_of(object: &Value) -> Result<u64, LeagueFault>
     let member = object
         .get("format")
         .ok_or(LeagueFault::MissingField(Field::Format))?;
-    number_within(member, FIRST_FORMAT, SECOND_FORMAT).ok_or(LeagueFault::WrongKind(Field::Format))
+    number_within(member, FIRST_FORMAT, THIRD_FORMAT).ok_or(LeagueFault::WrongKind(Field::Format))
 }
 
 pub fn teams_of(alloc: Global, object: &Value) -> Result<Vec<String>, LeagueFault>
@@ -38,7 +40,7 @@ pub fn teams_of(alloc: Global, object: &Value) -> Result<Vec<String>, LeagueFaul
     let member = object
         .get("teams")
         .ok_or(LeagueFault::MissingField(Field::Teams))?;
-    team_names(alloc, member)?.ok_or(LeagueFault::WrongKind(Field::Teams))
+    texts_within(alloc, member, MAX_NAME)?.ok_or(LeagueFault::WrongKind(Field::Teams))
 }
 
 pub fn distances_of(alloc: Global, object: &Value) -> Result<Vec<Vec<u64>>, LeagueFault>
@@ -126,6 +128,31 @@ pub fn phased_of(object: &Value, format: u64) -> Result<bool, LeagueFault>
             member
                 .as_bool()
                 .ok_or(LeagueFault::WrongKind(Field::Phased))
+        }
+        _ => Ok(false),
+    }
+}
+
+fn are_free(word: &str) -> Option<bool>
+    ensures { result ≡ are_free word.now }
+{
+    match word {
+        "free" => Some(true),
+        "forbidden" => Some(false),
+        _ => None,
+    }
+}
+
+/// Whether the two games of a pair of teams may stand in rounds one after the other.
+pub fn free_repeats_of(object: &Value, format: u64) -> Result<bool, LeagueFault>
+    ensures { result ≡ free_repeats_of format (view object.now) }
+{
+    match object.get("repeats") {
+        Some(member) if format >= THIRD_FORMAT => {
+            member
+                .as_str()
+                .and_then(are_free)
+                .ok_or(LeagueFault::WrongKind(Field::Repeats))
         }
         _ => Ok(false),
     }

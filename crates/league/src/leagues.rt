@@ -1,6 +1,6 @@
 //! A league in memory.
 
-ghost use Rattle.std.specs.Prelude.{◌≡◌, ◌↔◌, ℕ, ◌<◌, ◌≤◌, ◌%◌, ◌++◌, Some, length, slice_get, slice_index, IfOk, IsTrue, OnOk};
+ghost use Rattle.std.specs.Prelude.{◌≡◌, ◌↔◌, ℕ, ◌<◌, ◌≤◌, ◌%◌, ◌++◌, Some, length, slice_get, slice_index, option_map, IfOk, IsTrue, OnOk};
 ghost use Rattle.league.specs.Checks.{IsDistanceTable};
 ghost use Rattle.league.specs.Limits.{min_teams, max_teams, max_rounds, max_distance, max_weight, max_rules};
 ghost use Rattle.league.specs.Rows.{table_of};
@@ -10,8 +10,10 @@ ghost use Rattle.league.specs.within.Views.{rows};
 
 mod beginnings;
 
+use crate::labels::Labels;
 use crate::origins::{Origin, Start};
 use crate::rule::Rule;
+use crate::text_lists::duplicate_texts;
 use std::alloc::{AllocError, Global};
 use std::marker::Model;
 
@@ -21,6 +23,7 @@ pub(crate) struct Terms {
     pub(crate) at_most: u8,
     pub(crate) hard_weight: u32,
     pub(crate) phased: bool,
+    pub(crate) free_repeats: bool,
 }
 
 /// Teams, the distances between their homes, the limits of a schedule and the rules on it. Teams are numbered from 0.
@@ -32,6 +35,7 @@ pub struct League {
     rules: Vec<Rule>,
     terms: Terms,
     origin: Origin,
+    labels: Labels,
 }
 
 impl Model for League {
@@ -41,15 +45,15 @@ impl Model for League {
     ghost Value = { LeagueData };
 
     ghost view = { λ l. league_of_numbers (texts l.names.items) l.distances.items l.terms.at_most l.terms.hard_weight l.rules.items
-        l.origin l.terms.phased };
+        l.origin l.terms.phased l.terms.free_repeats l.labels };
 
     ghost invariant = { λ l. IsLeague (league_of_numbers (texts l.names.items) l.distances.items l.terms.at_most l.terms.hard_weight
-        l.rules.items l.origin l.terms.phased) };
+        l.rules.items l.origin l.terms.phased l.terms.free_repeats l.labels) };
 }
 
 impl League {
     ghost use Rattle.league.specs.League.{league_data, teams, name_of, distance, IsLeague};
-    ghost use Rattle.league.specs.within.League.{with_origin};
+    ghost use Rattle.league.specs.within.League.{bare};
     ghost use Rattle.league.specs.Origins.{origin_at};
     ghost use Rattle.league.specs.RuleLimits.{IsRuleFor};
 
@@ -60,11 +64,12 @@ impl League {
         rules: Vec<Rule>,
         start: Start,
         terms: Terms,
+        labels: Labels,
     ) -> Result<League, AllocError>
         requires { IsLeague (league_data (texts names.items)
-            (rows distances.now) terms.at_most terms.hard_weight rules.items (origin_at start) terms.phased) }
+            (rows distances.now) terms.at_most terms.hard_weight rules.items (origin_at start) terms.phased terms.free_repeats labels) }
         ensures { IfOk result (λ l. l ≡ league_data (texts names.items)
-            (rows distances.now) terms.at_most terms.hard_weight rules.items (origin_at start) terms.phased) }
+            (rows distances.now) terms.at_most terms.hard_weight rules.items (origin_at start) terms.phased terms.free_repeats labels) }
     {
         let distances = one_after_another(alloc, names.len(), distances)?;
         Ok(League {
@@ -73,6 +78,7 @@ impl League {
             rules,
             terms,
             origin: Origin::at(start),
+            labels,
         })
     }
 
@@ -147,16 +153,46 @@ impl League {
         self.terms.phased
     }
 
+    /// Whether the two games of a pair of teams may stand in rounds one after the other.
+    pub fn free_repeats(&self) -> bool
+        ensures { result ≡ self.now.free_repeats }
+    {
+        self.terms.free_repeats
+    }
+
+    /// The league's name, if it has one.
+    pub fn title(&self) -> Option<&str>
+        ensures { option_map (λ title. title.now) result ≡ self.now.labels.title }
+    {
+        self.labels.title()
+    }
+
+    /// A team's short name, if the league has short names.
+    pub fn short_name(&self, team: u8) -> Option<&str>
+        ensures { option_map (λ name. name.now) result ≡ slice_get self.now.labels.short_names team }
+    {
+        self.labels.short_name(team)
+    }
+
+    /// What a round is called, if the league says so.
+    pub fn round_text(&self, round: u8) -> Option<&str>
+        ensures { option_map (λ text. text.now) result ≡ slice_get self.now.labels.round_texts round }
+    {
+        self.labels.round_text(round)
+    }
+
     /// Whether the two leagues are equal in all that they say.
     pub fn is_same(&self, other: &League) -> bool
         ensures { IsTrue result ↔ (self.now ≡ other.now) }
     {
-        self.differs_in_origin_alone(other) && self.origin.is_same(&other.origin)
+        self.is_same_bare(other)
+            && self.origin.is_same(&other.origin)
+            && self.labels.is_same(&other.labels)
     }
 
-    /// Whether the two leagues are equal in all but where their boards begin.
-    fn differs_in_origin_alone(&self, other: &League) -> bool
-        ensures { IsTrue result ↔ (with_origin (origin_at Start.Berger) self.now ≡ with_origin (origin_at Start.Berger) other.now) }
+    /// Whether the two leagues are equal in all but where their boards begin and their labels.
+    fn is_same_bare(&self, other: &League) -> bool
+        ensures { IsTrue result ↔ (bare self.now ≡ bare other.now) }
     {
         self.terms == other.terms
             && self.names == other.names
@@ -176,7 +212,7 @@ impl League {
     pub fn duplicate(&self, alloc: Global) -> Result<League, AllocError>
         ensures { IfOk result (λ l. l ≡ self.now) }
     {
-        let names = duplicate_names(alloc, &self.names)?;
+        let names = duplicate_texts(alloc, &self.names)?;
         let distances = Vec::from_slice(alloc, &self.distances)?;
         let rules = duplicate_rules(alloc, &self.rules)?;
         Ok(League {
@@ -185,6 +221,7 @@ impl League {
             rules,
             terms: self.terms,
             origin: self.origin.duplicate(alloc)?,
+            labels: self.labels.duplicate(alloc)?,
         })
     }
 }
@@ -213,16 +250,6 @@ fn push_row(numbers: &mut Vec<u32>, row: &[u64]) -> Result<(), AllocError>
         numbers.push(*distance as u32)?;
     }
     Ok(())
-}
-
-fn duplicate_names(alloc: Global, names: &[String]) -> Result<Vec<String>, AllocError>
-    ensures { IfOk result (λ copy. texts copy.items ≡ texts names.now) }
-{
-    let mut copy = Vec::with_capacity(alloc, names.len())?;
-    for name in names {
-        copy.push(String::from_str(alloc, name.as_str())?)?;
-    }
-    Ok(copy)
 }
 
 fn duplicate_rules(alloc: Global, rules: &[Rule]) -> Result<Vec<Rule>, AllocError>

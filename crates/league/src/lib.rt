@@ -5,15 +5,19 @@
 mod checks;
 mod fault;
 mod forms;
+mod label_members;
+mod labels;
 mod league_members;
 mod leagues;
 pub mod limits;
 mod made;
 mod origins;
 mod reader;
+mod rosters;
 mod rule;
 mod rule_classes;
 mod rule_members;
+mod text_lists;
 
 pub use fault::{Field, LeagueFault};
 pub use leagues::League;

@@ -10,6 +10,7 @@ ghost use Rattle.league.specs.within.Views.{rows};
 
 use crate::checks::is_team_count;
 use crate::fault::LeagueFault;
+use crate::labels::Labels;
 use crate::leagues::{League, Terms};
 use crate::limits::{DEFAULT_AT_MOST, DEFAULT_HARD_WEIGHT};
 use crate::origins::Start;
@@ -69,6 +70,7 @@ const DEFAULT_TERMS: Terms = Terms {
     at_most: DEFAULT_AT_MOST,
     hard_weight: DEFAULT_HARD_WEIGHT,
     phased: false,
+    free_repeats: false,
 };
 
 #[tactic(auto, unfolding(crate::specs::Made::made))]
@@ -89,6 +91,7 @@ fn made(alloc: Global, layout: Layout, n: u8) -> Result<League, LeagueFault>
         Vec::new(alloc),
         Start::Berger,
         DEFAULT_TERMS,
+        Labels::none(alloc),
     )?)
 }
 

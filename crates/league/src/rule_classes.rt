@@ -3,7 +3,7 @@
 ghost use Rattle.std.specs.Prelude.{◌≡◌, ◌≤◌, length, IfOk, IfSome};
 ghost use Rattle.std.specs.List.{AllByRecursion};
 ghost use Rattle.serde_json.specs.View.{view, items_view};
-ghost use Rattle.league.specs.Limits.{max_teams, max_rules};
+ghost use Rattle.league.specs.Limits.{max_rules};
 ghost use Rattle.league.specs.Reading.{Gives};
 ghost use Rattle.league.specs.RuleLimits.{IsBodyFor, IsRuleFor};
 ghost use Rattle.league.specs.RuleClasses.{class_of, ca1_of, ca2_of, ca3_of, ca4_of, ga1_of, br1_of, br2_of, se1_of};
@@ -12,6 +12,7 @@ ghost use Rattle.league.specs.League.{rule_of, rules_from};
 
 use crate::fault::LeagueFault;
 use crate::limits::SECOND_FORMAT;
+use crate::rosters::Roster;
 use crate::rule::{Rule, RuleBody};
 use crate::rule_members::{
     any_side_member, count_member, each_member, games_member, one_side_member, opponents_member,
@@ -52,75 +53,70 @@ fn class_of(rule: &Value, format: u64) -> Option<Class>
 }
 
 #[tactic(auto, unfolding(crate::specs::RuleClasses::ca1_of))]
-fn ca1_of(rule: &Value, teams: u8) -> Option<RuleBody>
-    requires { teams ≤ max_teams }
-    ensures value { result ≡ ca1_of teams (view rule.now) }
-    ensures range { IfSome result (IsBodyFor teams) }
+fn ca1_of(rule: &Value, roster: &Roster<'_>) -> Option<RuleBody>
+    ensures value { result ≡ ca1_of roster.now (view rule.now) }
+    ensures range { IfSome result (IsBodyFor roster.now.teams) }
 {
     Some(RuleBody::Ca1 {
-        teams: teams_member(rule, "teams", teams)?,
+        teams: teams_member(rule, "teams", roster)?,
         side: one_side_member(rule)?,
-        slots: slots_member(rule, teams)?,
+        slots: slots_member(rule, roster.teams())?,
         max: count_member(rule, "max")?,
     })
 }
 
 #[tactic(auto, unfolding(crate::specs::RuleClasses::ca2_of))]
-fn ca2_of(rule: &Value, teams: u8) -> Option<RuleBody>
-    requires { teams ≤ max_teams }
-    ensures value { result ≡ ca2_of teams (view rule.now) }
-    ensures range { IfSome result (IsBodyFor teams) }
+fn ca2_of(rule: &Value, roster: &Roster<'_>) -> Option<RuleBody>
+    ensures value { result ≡ ca2_of roster.now (view rule.now) }
+    ensures range { IfSome result (IsBodyFor roster.now.teams) }
 {
     Some(RuleBody::Ca2 {
-        teams1: teams_member(rule, "teams1", teams)?,
+        teams1: teams_member(rule, "teams1", roster)?,
         side: any_side_member(rule)?,
-        teams2: opponents_member(rule, teams)?,
-        slots: slots_member(rule, teams)?,
+        teams2: opponents_member(rule, roster)?,
+        slots: slots_member(rule, roster.teams())?,
         max: count_member(rule, "max")?,
     })
 }
 
 #[tactic(auto, unfolding(crate::specs::RuleClasses::ca3_of))]
-fn ca3_of(rule: &Value, teams: u8) -> Option<RuleBody>
-    requires { teams ≤ max_teams }
-    ensures value { result ≡ ca3_of teams (view rule.now) }
-    ensures range { IfSome result (IsBodyFor teams) }
+fn ca3_of(rule: &Value, roster: &Roster<'_>) -> Option<RuleBody>
+    ensures value { result ≡ ca3_of roster.now (view rule.now) }
+    ensures range { IfSome result (IsBodyFor roster.now.teams) }
 {
     Some(RuleBody::Ca3 {
-        teams1: teams_member(rule, "teams1", teams)?,
+        teams1: teams_member(rule, "teams1", roster)?,
         side: any_side_member(rule)?,
-        teams2: opponents_member(rule, teams)?,
-        window: window_member(rule, teams)?,
+        teams2: opponents_member(rule, roster)?,
+        window: window_member(rule, roster.teams())?,
         max: count_member(rule, "max")?,
     })
 }
 
 #[tactic(auto, unfolding(crate::specs::RuleClasses::ca4_of))]
-fn ca4_of(rule: &Value, teams: u8) -> Option<RuleBody>
-    requires { teams ≤ max_teams }
-    ensures value { result ≡ ca4_of teams (view rule.now) }
-    ensures range { IfSome result (IsBodyFor teams) }
+fn ca4_of(rule: &Value, roster: &Roster<'_>) -> Option<RuleBody>
+    ensures value { result ≡ ca4_of roster.now (view rule.now) }
+    ensures range { IfSome result (IsBodyFor roster.now.teams) }
 {
     Some(RuleBody::Ca4 {
-        teams1: teams_member(rule, "teams1", teams)?,
+        teams1: teams_member(rule, "teams1", roster)?,
         side: any_side_member(rule)?,
-        teams2: opponents_member(rule, teams)?,
-        slots: slots_member(rule, teams)?,
+        teams2: opponents_member(rule, roster)?,
+        slots: slots_member(rule, roster.teams())?,
         each: each_member(rule)?,
         max: count_member(rule, "max")?,
     })
 }
 
 #[tactic(auto, unfolding(crate::specs::RuleClasses::ga1_of))]
-fn ga1_of(alloc: Global, rule: &Value, teams: u8) -> Result<Option<RuleBody>, AllocError>
-    requires { teams ≤ max_teams }
-    ensures value { IfOk result (λ body. body ≡ ga1_of teams (view rule.now)) }
-    ensures range { IfOk result (λ body. IfSome body (IsBodyFor teams)) }
+fn ga1_of(alloc: Global, rule: &Value, roster: &Roster<'_>) -> Result<Option<RuleBody>, AllocError>
+    ensures value { IfOk result (λ body. body ≡ ga1_of roster.now (view rule.now)) }
+    ensures range { IfOk result (λ body. IfSome body (IsBodyFor roster.now.teams)) }
 {
-    let Some(games) = games_member(alloc, rule, teams)? else {
+    let Some(games) = games_member(alloc, rule, roster)? else {
         return Ok(None);
     };
-    let Some(slots) = slots_member(rule, teams) else {
+    let Some(slots) = slots_member(rule, roster.teams()) else {
         return Ok(None);
     };
     let (Some(min), Some(max)) = (count_member(rule, "min"), count_member(rule, "max")) else {
@@ -138,53 +134,49 @@ fn ga1_of(alloc: Global, rule: &Value, teams: u8) -> Result<Option<RuleBody>, Al
 }
 
 #[tactic(auto, unfolding(crate::specs::RuleClasses::br1_of))]
-fn br1_of(rule: &Value, teams: u8) -> Option<RuleBody>
-    requires { teams ≤ max_teams }
-    ensures value { result ≡ br1_of teams (view rule.now) }
-    ensures range { IfSome result (IsBodyFor teams) }
+fn br1_of(rule: &Value, roster: &Roster<'_>) -> Option<RuleBody>
+    ensures value { result ≡ br1_of roster.now (view rule.now) }
+    ensures range { IfSome result (IsBodyFor roster.now.teams) }
 {
     Some(RuleBody::Br1 {
-        teams: teams_member(rule, "teams", teams)?,
+        teams: teams_member(rule, "teams", roster)?,
         side: any_side_member(rule)?,
-        slots: slots_member(rule, teams)?,
+        slots: slots_member(rule, roster.teams())?,
         most: count_member(rule, "intp")?,
     })
 }
 
 #[tactic(auto, unfolding(crate::specs::RuleClasses::br2_of))]
-fn br2_of(rule: &Value, teams: u8) -> Option<RuleBody>
-    requires { teams ≤ max_teams }
-    ensures value { result ≡ br2_of teams (view rule.now) }
-    ensures range { IfSome result (IsBodyFor teams) }
+fn br2_of(rule: &Value, roster: &Roster<'_>) -> Option<RuleBody>
+    ensures value { result ≡ br2_of roster.now (view rule.now) }
+    ensures range { IfSome result (IsBodyFor roster.now.teams) }
 {
     Some(RuleBody::Br2 {
-        teams: teams_member(rule, "teams", teams)?,
-        slots: slots_member(rule, teams)?,
+        teams: teams_member(rule, "teams", roster)?,
+        slots: slots_member(rule, roster.teams())?,
         most: count_member(rule, "intp")?,
     })
 }
 
 #[tactic(auto, unfolding(crate::specs::RuleClasses::se1_of))]
-fn se1_of(rule: &Value, teams: u8) -> Option<RuleBody>
-    requires { teams ≤ max_teams }
-    ensures value { result ≡ se1_of teams (view rule.now) }
-    ensures range { IfSome result (IsBodyFor teams) }
+fn se1_of(rule: &Value, roster: &Roster<'_>) -> Option<RuleBody>
+    ensures value { result ≡ se1_of roster.now (view rule.now) }
+    ensures range { IfSome result (IsBodyFor roster.now.teams) }
 {
     Some(RuleBody::Se1 {
-        teams: teams_member(rule, "teams", teams)?,
+        teams: teams_member(rule, "teams", roster)?,
         min: count_member(rule, "min")?,
     })
 }
 
 #[tactic(auto, unfolding(crate::specs::RuleClasses::fa2_of))]
-fn fa2_of(rule: &Value, teams: u8) -> Option<RuleBody>
-    requires { teams ≤ max_teams }
-    ensures value { result ≡ fa2_of teams (view rule.now) }
-    ensures range { IfSome result (IsBodyFor teams) }
+fn fa2_of(rule: &Value, roster: &Roster<'_>) -> Option<RuleBody>
+    ensures value { result ≡ fa2_of roster.now (view rule.now) }
+    ensures range { IfSome result (IsBodyFor roster.now.teams) }
 {
     Some(RuleBody::Fa2 {
-        teams: teams_member(rule, "teams", teams)?,
-        slots: slots_member(rule, teams)?,
+        teams: teams_member(rule, "teams", roster)?,
+        slots: slots_member(rule, roster.teams())?,
         most: count_member(rule, "intp")?,
     })
 }
@@ -192,40 +184,38 @@ fn fa2_of(rule: &Value, teams: u8) -> Option<RuleBody>
 fn body_of(
     alloc: Global,
     rule: &Value,
-    teams: u8,
+    roster: &Roster<'_>,
     class: Class,
 ) -> Result<Option<RuleBody>, AllocError>
-    requires { teams ≤ max_teams }
-    ensures value { IfOk result (λ body. body ≡ body_of teams (view rule.now) class) }
-    ensures range { IfOk result (λ body. IfSome body (IsBodyFor teams)) }
+    ensures value { IfOk result (λ body. body ≡ body_of roster.now (view rule.now) class) }
+    ensures range { IfOk result (λ body. IfSome body (IsBodyFor roster.now.teams)) }
 {
     match class {
-        Class::Ca1 => Ok(ca1_of(rule, teams)),
-        Class::Ca2 => Ok(ca2_of(rule, teams)),
-        Class::Ca3 => Ok(ca3_of(rule, teams)),
-        Class::Ca4 => Ok(ca4_of(rule, teams)),
-        Class::Ga1 => ga1_of(alloc, rule, teams),
-        Class::Br1 => Ok(br1_of(rule, teams)),
-        Class::Br2 => Ok(br2_of(rule, teams)),
-        Class::Se1 => Ok(se1_of(rule, teams)),
-        Class::Fa2 => Ok(fa2_of(rule, teams)),
+        Class::Ca1 => Ok(ca1_of(rule, roster)),
+        Class::Ca2 => Ok(ca2_of(rule, roster)),
+        Class::Ca3 => Ok(ca3_of(rule, roster)),
+        Class::Ca4 => Ok(ca4_of(rule, roster)),
+        Class::Ga1 => ga1_of(alloc, rule, roster),
+        Class::Br1 => Ok(br1_of(rule, roster)),
+        Class::Br2 => Ok(br2_of(rule, roster)),
+        Class::Se1 => Ok(se1_of(rule, roster)),
+        Class::Fa2 => Ok(fa2_of(rule, roster)),
     }
 }
 
 fn rule_of_class(
     alloc: Global,
     rule: &Value,
-    teams: u8,
+    roster: &Roster<'_>,
     class: Class,
 ) -> Result<Option<Rule>, AllocError>
-    requires { teams ≤ max_teams }
-    ensures value { IfOk result (λ rule'. rule' ≡ rule_of_class teams (view rule.now) class) }
-    ensures range { IfOk result (λ rule'. IfSome rule' (IsRuleFor teams)) }
+    ensures value { IfOk result (λ rule'. rule' ≡ rule_of_class roster.now (view rule.now) class) }
+    ensures range { IfOk result (λ rule'. IfSome rule' (IsRuleFor roster.now.teams)) }
 {
     let Some(weight) = weight_of(rule) else {
         return Ok(None);
     };
-    let body = body_of(alloc, rule, teams, class)?;
+    let body = body_of(alloc, rule, roster, class)?;
     Ok(body.map(|body| Rule { weight, body }))
 }
 
@@ -234,34 +224,31 @@ fn rule_of(
     alloc: Global,
     rule: &Value,
     format: u64,
-    teams: u8,
+    roster: &Roster<'_>,
     index: u8,
 ) -> Result<Rule, LeagueFault>
-    requires { teams ≤ max_teams }
-    ensures exact { Gives (λ r. r) result (rule_of format teams index (view rule.now)) }
-    ensures range { IfOk result (IsRuleFor teams) }
+    ensures exact { Gives (λ r. r) result (rule_of format roster.now index (view rule.now)) }
+    ensures range { IfOk result (IsRuleFor roster.now.teams) }
 {
     let class = class_of(rule, format).ok_or(LeagueFault::RuleClass(index))?;
-    rule_of_class(alloc, rule, teams, class)?.ok_or(LeagueFault::RuleValue(index))
+    rule_of_class(alloc, rule, roster, class)?.ok_or(LeagueFault::RuleValue(index))
 }
 
-/// Reads the rules of a league of so many teams, or tells the first fault.
+/// Reads the rules of a league of these teams, or tells the first fault.
 pub fn read_rules(
     alloc: Global,
     items: &[Value],
     format: u64,
-    teams: u8,
+    roster: &Roster<'_>,
 ) -> Result<Vec<Rule>, LeagueFault>
-    requires least { 1 ≤ teams }
-    requires most { teams ≤ max_teams }
-    requires count { length items.now ≤ max_rules }
-    ensures exact { Gives (λ rules. rules.items) result (rules_from format teams 0 (items_view items.now)) }
-    ensures range { IfOk result (λ rules. AllByRecursion (IsRuleFor teams) rules.items) }
+    requires { length items.now ≤ max_rules }
+    ensures exact { Gives (λ rules. rules.items) result (rules_from format roster.now 0 (items_view items.now)) }
+    ensures range { IfOk result (λ rules. AllByRecursion (IsRuleFor roster.now.teams) rules.items) }
     ensures count { IfOk result (λ rules. length rules.items ≤ max_rules) }
 {
     let mut rules = Vec::with_capacity(alloc, items.len())?;
     for (index, item) in items.iter().enumerate() {
-        rules.push(rule_of(alloc, item, format, teams, index as u8)?)?;
+        rules.push(rule_of(alloc, item, format, roster, index as u8)?)?;
     }
     Ok(rules)
 }

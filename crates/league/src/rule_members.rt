@@ -8,13 +8,14 @@ ghost use Rattle.league.specs.declared.rule.Side.TheVariants.{Any};
 ghost use Rattle.league.specs.Games.{IsGameFor};
 ghost use Rattle.league.specs.Limits.{round_count, max_teams, max_rounds, max_games};
 ghost use Rattle.league.specs.RuleLimits.{IsCount, IsWeight};
-ghost use Rattle.league.specs.RuleMembers.{text_member, number_set, teams_member, opponents_member, slots_member};
+ghost use Rattle.league.specs.RuleMembers.{text_member, team_set, slot_set, teams_member, opponents_member, slots_member};
 ghost use Rattle.league.specs.RuleMembers.{count_member, window_member, one_side, one_side_member, any_side_member};
 ghost use Rattle.league.specs.RuleMembers.{each_member, pairing_from, games_member, soft_weight, weight_of};
 ghost use Rattle.sets.specs.Sets.{IsBelow};
 
 use crate::forms::number_within;
-use crate::limits::{MAX_COUNT, MAX_WEIGHT};
+use crate::limits::{MAX_COUNT, MAX_TEAMS, MAX_WEIGHT};
+use crate::rosters::Roster;
 use crate::rule::{GameList, Pairing, Side, Weight};
 use serde_json::Value;
 use sets::{SlotSet, TeamSet};
@@ -27,16 +28,15 @@ pub fn text_member<'a>(rule: &'a Value, name: &str) -> Option<&'a str>
     rule.get(name).and_then(|member| member.as_str())
 }
 
-// an array of numbers from 1 to the number of teams
-fn team_set(value: &Value, teams: u8) -> Option<TeamSet>
-    requires { teams ≤ max_teams }
-    ensures value { result ≡ number_set teams (view value.now) }
-    ensures range { IfSome result (λ set. IsBelow teams set) }
+// an array of teams
+fn team_set(value: &Value, roster: &Roster<'_>) -> Option<TeamSet>
+    ensures value { result ≡ team_set roster.now (view value.now) }
+    ensures range { IfSome result (λ set. IsBelow roster.now.teams set) }
 {
+    prove!(roster.teams() <= MAX_TEAMS);
     let mut set = TeamSet::empty();
     for item in value.as_array()? {
-        let number = number_within(item, 1, teams.into())?;
-        set = set.with(number as u8 - 1);
+        set = set.with(roster.listed_team(item)? - 1);
     }
     Some(set)
 }
@@ -44,7 +44,7 @@ fn team_set(value: &Value, teams: u8) -> Option<TeamSet>
 // an array of numbers from 1 to the number of rounds
 fn slot_set(value: &Value, rounds: u8) -> Option<SlotSet>
     requires { rounds ≤ max_rounds }
-    ensures value { result ≡ number_set rounds (view value.now) }
+    ensures value { result ≡ slot_set rounds (view value.now) }
     ensures range { IfSome result (λ set. IsBelow rounds set) }
 {
     let mut set = SlotSet::empty();
@@ -56,23 +56,21 @@ fn slot_set(value: &Value, rounds: u8) -> Option<SlotSet>
 }
 
 /// A set of teams.
-pub fn teams_member(rule: &Value, name: &str, teams: u8) -> Option<TeamSet>
-    requires { teams ≤ max_teams }
-    ensures value { result ≡ teams_member teams name.now (view rule.now) }
-    ensures range { IfSome result (λ set. IsBelow teams set) }
+pub fn teams_member(rule: &Value, name: &str, roster: &Roster<'_>) -> Option<TeamSet>
+    ensures value { result ≡ teams_member roster.now name.now (view rule.now) }
+    ensures range { IfSome result (λ set. IsBelow roster.now.teams set) }
 {
-    team_set(rule.get(name)?, teams)
+    team_set(rule.get(name)?, roster)
 }
 
 /// The opponents that count: all teams if the member is absent.
-pub fn opponents_member(rule: &Value, teams: u8) -> Option<TeamSet>
-    requires { teams ≤ max_teams }
-    ensures value { result ≡ opponents_member teams (view rule.now) }
-    ensures range { IfSome result (λ set. IsBelow teams set) }
+pub fn opponents_member(rule: &Value, roster: &Roster<'_>) -> Option<TeamSet>
+    ensures value { result ≡ opponents_member roster.now (view rule.now) }
+    ensures range { IfSome result (λ set. IsBelow roster.now.teams set) }
 {
     match rule.get("teams2") {
-        Some(member) => team_set(member, teams),
-        None => Some(TeamSet::below(teams)),
+        Some(member) => team_set(member, roster),
+        None => Some(TeamSet::below(roster.teams())),
     }
 }
 
@@ -150,40 +148,43 @@ pub fn each_member(rule: &Value) -> Option<bool>
     }
 }
 
-// two numbers of distinct teams, the home team first
+// two distinct teams, the home team first
 #[tactic(auto, using(crate::proofs::Items::game_of_items_none))]
-fn pairing_from(value: &Value, teams: u8) -> Option<Pairing>
-    requires { teams ≤ max_teams }
-    ensures value { result ≡ pairing_from teams (view value.now) }
-    ensures range { IfSome result (IsGameFor teams) }
+fn pairing_from(value: &Value, roster: &Roster<'_>) -> Option<Pairing>
+    ensures value { result ≡ pairing_from roster.now (view value.now) }
+    ensures range { IfSome result (IsGameFor roster.now.teams) }
 {
     let [home, away] = value.as_array()?.as_slice() else {
         return None;
     };
-    let home = number_within(home, 1, teams.into())?;
-    let away = number_within(away, 1, teams.into())?;
+    let home = roster.listed_team(home)?;
+    let away = roster.listed_team(away)?;
     if home == away {
         return None;
     }
     Some(Pairing {
-        home: home as u8 - 1,
-        away: away as u8 - 1,
+        home: home - 1,
+        away: away - 1,
     })
 }
 
 /// A list of games, each once.
-pub fn games_member(alloc: Global, rule: &Value, teams: u8) -> Result<Option<GameList>, AllocError>
-    requires { teams ≤ max_teams }
-    ensures value { IfOk result (λ games. games ≡ games_member teams (view rule.now)) }
-    ensures range { IfOk result (λ games. IfSome games (AllByRecursion (IsGameFor teams))) }
+pub fn games_member(
+    alloc: Global,
+    rule: &Value,
+    roster: &Roster<'_>,
+) -> Result<Option<GameList>, AllocError>
+    ensures value { IfOk result (λ games. games ≡ games_member roster.now (view rule.now)) }
+    ensures range { IfOk result (λ games. IfSome games (AllByRecursion (IsGameFor roster.now.teams))) }
     ensures most { IfOk result (λ games. IfSome games (λ list. length list ≤ max_games)) }
 {
+    prove!(roster.teams() <= MAX_TEAMS);
     let Some(list) = rule.get("games").and_then(|member| member.as_array()) else {
         return Ok(None);
     };
     let mut games = GameList::new(alloc);
     for item in list {
-        let Some(game) = pairing_from(item, teams) else {
+        let Some(game) = pairing_from(item, roster) else {
             return Ok(None);
         };
         games.add(game)?;

@@ -13,4 +13,5 @@ mod pair_sets;
 mod rule_faults;
 mod rules;
 mod team_and_slot_sets;
+mod third_format;
 mod values;

@@ -53,6 +53,11 @@ text_where : (test : Bool) (lines : List CostLine) (text : List ℕ) → text_of
 text_where true lines text same = same
 text_where false lines text same = refl
 
+text_where_not : (test : Bool) (lines : List CostLine) (text : List ℕ) → text_of lines ≡ text →
+    text_of (if test then [] else lines) ≡ (if test then [] else text)
+text_where_not true lines text same = refl
+text_where_not false lines text same = same
+
 rule_text_is : (g : Games) (i : ℕ) (rule : Option Rule) → text_of (rule_told g i rule) ≡ part.rule_at g i rule
 rule_text_is g i None = refl
 rule_text_is g i (Some rule) =
@@ -69,11 +74,12 @@ module _ (l : LeagueData) (g : Games) where
       (λ round. part.run_line g l.at_most team round (ended_streak (is_over g l.at_most team) round))
       (λ round. text_unless (ended_streak (is_over g l.at_most team) round == 0) _) (round_count g.teams)) g.teams
 
-  repeats_text : text_of (repeats_told g) ≡ pieces_below (part.repeat_lines g) (round_count g.teams - 1)
+  repeats_text : text_of (repeats_told l g) ≡ part.repeats_text l g
   repeats_text =
-      text_below (repeats_told_after g) (part.repeat_lines g) (λ round.
+      text_where_not l.free_repeats _ _
+      (text_below (repeats_told_after g) (part.repeat_lines g) (λ round.
       text_below (repeat_told g round) (part.repeat_line g round) (λ team. text_if (repeats_lower g round team) _) g.teams)
-      (round_count g.teams - 1)
+      (round_count g.teams - 1))
 
   halves_text : text_of (halves_told l g) ≡ part.halves_text l g
   halves_text =
@@ -101,9 +107,9 @@ module _ (l : LeagueData) (g : Games) where
   in_parts =
       let front = costs_line (cost_of l g) in
       ap (λ text. text ++ total_line (cost_of l g))
-      (text_then front (tours_told l g ++ runs_told l g ++ repeats_told g ++ halves_told l g ++ rules_told l g) (leaving_told l g)
-      (text_then front (tours_told l g ++ runs_told l g ++ repeats_told g ++ halves_told l g) (rules_told l g)
-      (text_then front (tours_told l g ++ runs_told l g ++ repeats_told g) (halves_told l g)
-      (text_then front (tours_told l g ++ runs_told l g) (repeats_told g)
+      (text_then front (tours_told l g ++ runs_told l g ++ repeats_told l g ++ halves_told l g ++ rules_told l g) (leaving_told l g)
+      (text_then front (tours_told l g ++ runs_told l g ++ repeats_told l g ++ halves_told l g) (rules_told l g)
+      (text_then front (tours_told l g ++ runs_told l g ++ repeats_told l g) (halves_told l g)
+      (text_then front (tours_told l g ++ runs_told l g) (repeats_told l g)
       (text_then front (tours_told l g) (runs_told l g) (ap (λ text. front ++ text) tours_text) runs_text) repeats_text) halves_text)
       rules_text) leaving_text)

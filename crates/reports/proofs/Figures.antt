@@ -13,7 +13,7 @@ use Rattle.fixtures.specs.Games.{Games, round_count, round_of, cell, IsDoubleRou
 use Rattle.tours.specs.Moved.{is_moved, moved_games}
 use Rattle.tours.specs.Phased.{is_unphased}
 use Rattle.tours.specs.Tours.{travel_of}
-use Rattle.costs.specs.Costs.{hard_penalty, near_cost, penalty_of, soft_penalty, sum_over_rules, where_phased}
+use Rattle.costs.specs.Costs.{hard_penalty, near_cost, penalty_of, soft_penalty, sum_over_rules, unless_free, where_phased}
 use Rattle.reports.specs.CostText.{CostLine, cost_lines, half, half_told, halves_told, halves_told_of, leaving_told, lines_below, moved_told}
 use Rattle.reports.specs.CostText.{moved_told_of, near, near_told, repeat, repeat_told, repeats_lower, repeats_told, repeats_told_after, rule_told}
 use Rattle.reports.specs.CostText.{rules_told, run, run_told, runs_told, runs_told_of, tour, tours_told, was, was_told}
@@ -49,6 +49,16 @@ none_if : (f : CostLine → ℕ) (test : Bool) (lines : List CostLine) → sum_b
 none_if f true lines none = none
 none_if f false lines none = refl
 
+told_where_not : (f : CostLine → ℕ) (test : Bool) (lines : List CostLine) (told : ℕ) → sum_by f lines ≡ told →
+    sum_by f (if test then [] else lines) ≡ (if test then 0 else told)
+told_where_not f true lines told same = refl
+told_where_not f false lines told same = same
+
+none_unless : (f : CostLine → ℕ) (test : Bool) (lines : List CostLine) → sum_by f lines ≡ 0 →
+    sum_by f (if test then [] else lines) ≡ 0
+none_unless f true lines none = refl
+none_unless f false lines none = none
+
 told_unless : (f : CostLine → ℕ) (test : Bool) (line : CostLine) (told : ℕ) → (test ≡ true → told ≡ 0) → f line ≡ told →
     sum_by f (if test then [] else line ∷ []) ≡ told
 told_unless f true line told none is = sym (none refl)
@@ -78,15 +88,15 @@ sum_then f xs ys first later = sum_by-append f xs ys ∙ rw (first, later) refl
 module _ (l : LeagueData) (g : Games) where
   -- the sum over all lines is that over the parts
   by_parts : (f : CostLine → ℕ) {tours runs repeats halves rules price moved : ℕ} → sum_by f (tours_told l g) ≡ tours →
-      sum_by f (runs_told l g) ≡ runs → sum_by f (repeats_told g) ≡ repeats → sum_by f (halves_told l g) ≡ halves →
+      sum_by f (runs_told l g) ≡ runs → sum_by f (repeats_told l g) ≡ repeats → sum_by f (halves_told l g) ≡ halves →
       sum_by f (rules_told l g) ≡ rules → sum_by f (near_told l g) ≡ price → sum_by f (moved_told l g) ≡ moved →
       sum_by f (cost_lines l g) ≡ tours + runs + repeats + halves + rules + (price + moved)
   unfolding cost_lines
   by_parts f tours runs repeats halves rules price moved =
-      sum_then f (tours_told l g ++ runs_told l g ++ repeats_told g ++ halves_told l g ++ rules_told l g) (leaving_told l g)
-      (sum_then f (tours_told l g ++ runs_told l g ++ repeats_told g ++ halves_told l g) (rules_told l g)
-      (sum_then f (tours_told l g ++ runs_told l g ++ repeats_told g) (halves_told l g)
-      (sum_then f (tours_told l g ++ runs_told l g) (repeats_told g)
+      sum_then f (tours_told l g ++ runs_told l g ++ repeats_told l g ++ halves_told l g ++ rules_told l g) (leaving_told l g)
+      (sum_then f (tours_told l g ++ runs_told l g ++ repeats_told l g ++ halves_told l g) (rules_told l g)
+      (sum_then f (tours_told l g ++ runs_told l g ++ repeats_told l g) (halves_told l g)
+      (sum_then f (tours_told l g ++ runs_told l g) (repeats_told l g)
       (sum_then f (tours_told l g) (runs_told l g) tours runs) repeats) halves) rules)
       (sum_then f (near_told l g) (moved_told l g) price moved)
 
@@ -102,11 +112,12 @@ module _ (l : LeagueData) (g : Games) where
       told_unless f (ended_streak (is_over g l.at_most team) round == 0) _ 0 (λ none. refl) (each _ _ _ _ _)) (round_count g.teams)) g.teams
 
   repeats_none : (f : CostLine → ℕ) → ((low high first second : ℕ) → f (repeat low high first second) ≡ 0) →
-      sum_by f (repeats_told g) ≡ 0
+      sum_by f (repeats_told l g) ≡ 0
   repeats_none f each =
-      none_below f (repeats_told_after g) (λ round.
+      none_unless f l.free_repeats _
+      (none_below f (repeats_told_after g) (λ round.
       none_below f (repeat_told g round) (λ team. none_if f (repeats_lower g round team) _ (told_one f _ 0 (each _ _ _ _))) g.teams)
-      (round_count g.teams - 1)
+      (round_count g.teams - 1))
 
   halves_none : (f : CostLine → ℕ) → ((low high first second : ℕ) → f (half low high first second) ≡ 0) →
       sum_by f (halves_told l g) ≡ 0
@@ -135,7 +146,7 @@ module _ (l : LeagueData) (g : Games) where
       (moved_none travel_in (λ home away before now. refl)) ∙ omega arith
 
   hard_told : sum_by hard_in (cost_lines l g) ≡
-      sum_below g.teams (window_count g l.at_most) + repeat_count g + sum_over_rules hard_penalty l.rules g +
+      sum_below g.teams (window_count g l.at_most) + unless_free l (repeat_count g) + sum_over_rules hard_penalty l.rules g +
       where_phased l (half_count g)
   unfolding sum_over_rules
   hard_told =
@@ -143,11 +154,12 @@ module _ (l : LeagueData) (g : Games) where
       (told_below hard_in (runs_told_of g l.at_most) (window_count g l.at_most) (λ team.
       told_below hard_in _ (ended_streak (is_over g l.at_most team)) (λ round.
       told_unless hard_in (ended_streak (is_over g l.at_most team) round == 0) _ _ (is_zero _) refl) (round_count g.teams)) g.teams)
+      (told_where_not hard_in l.free_repeats _ (repeat_count g)
       (told_below hard_in (repeats_told_after g) _ (λ round.
       told_below hard_in (repeat_told g round) _ (λ team.
       told_if hard_in (repeats_lower g round team) _ 1
       (told_one hard_in (repeat (cell g team round).opponent team round (round + 1)) 1 refl)) g.teams)
-      (round_count g.teams - 1))
+      (round_count g.teams - 1)))
       (told_if hard_in l.phased _ (half_count g)
       (told_below hard_in (halves_told_of g) _ (λ high.
       told_below hard_in (half_told g high) _ (λ low.

@@ -12,7 +12,7 @@ use Rattle.tours.specs.Phased.{is_unphased, unphased}
 use Rattle.tours.specs.Tours.{travel, travel_of}
 use Rattle.tours.proofs.meetings.HigherTeams.{repeats_at_higher}
 use Rattle.costs.specs.declared.cost.Cost.{Cost}
-use Rattle.costs.specs.Costs.{cost_of, hard_penalty, near_cost, soft_penalty, sum_over_rules, where_phased}
+use Rattle.costs.specs.Costs.{cost_of, hard_penalty, near_cost, soft_penalty, sum_over_rules, unless_free, where_phased}
 use Rattle.reports.specs.CostText.{repeats_lower}
 use Rattle.reports.specs.Runs.{ended_streak, is_over, streak}
 
@@ -29,7 +29,7 @@ half_count g = sum_below g.teams (λ high. count_where high (λ low. is_unphased
 abbrev pub parts_cost : LeagueData → Games → Cost
 parts_cost l g = record {
   travel = sum_below g.teams (travel_of l g);
-  hard = sum_below g.teams (window_count g l.at_most) + repeat_count g + sum_over_rules hard_penalty l.rules g +
+  hard = sum_below g.teams (window_count g l.at_most) + unless_free l (repeat_count g) + sum_over_rules hard_penalty l.rules g +
       where_phased l (half_count g);
   soft = sum_over_rules soft_penalty l.rules g + near_cost l g;
 }

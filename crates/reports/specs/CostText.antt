@@ -103,8 +103,9 @@ repeat_told g round team =
 abbrev pub repeats_told_after : Games → ℕ → List CostLine
 repeats_told_after g round = lines_below (repeat_told g round) g.teams
 
-abbrev pub repeats_told : Games → List CostLine
-repeats_told g = lines_below (repeats_told_after g) (round_count g.teams - 1)
+-- unless they are free
+abbrev pub repeats_told : LeagueData → Games → List CostLine
+repeats_told l g = if l.free_repeats then [] else lines_below (repeats_told_after g) (round_count g.teams - 1)
 
 -- the pair plays both its games in one half of the season
 abbrev pub half_told : Games → ℕ → ℕ → List CostLine
@@ -147,7 +148,7 @@ leaving_told l g = near_told l g ++ moved_told l g
 
 -- what the cost is made of
 unfoldable pub cost_lines : LeagueData → Games → List CostLine
-cost_lines l g = tours_told l g ++ runs_told l g ++ repeats_told g ++ halves_told l g ++ rules_told l g ++ leaving_told l g
+cost_lines l g = tours_told l g ++ runs_told l g ++ repeats_told l g ++ halves_told l g ++ rules_told l g ++ leaving_told l g
 
 -- the texts of lines, one after another
 abbrev pub text_of : List CostLine → List ℕ

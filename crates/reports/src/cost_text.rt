@@ -8,7 +8,7 @@ ghost use Rattle.costs.specs.Costs.{total_of};
 ghost use Rattle.streams.specs.Pieces.{pieces_below};
 ghost use Rattle.streams.specs.Writing.{Writes};
 ghost use Rattle.reports.specs.CostText.{costs_line, meetings_line, total_line};
-ghost use Rattle.reports.specs.within.CostText.{half_line, half_lines, halves_text, parts_text, repeat_line, repeat_lines};
+ghost use Rattle.reports.specs.within.CostText.{half_line, half_lines, halves_text, parts_text, repeat_line, repeat_lines, repeats_text};
 ghost use Rattle.reports.specs.within.CostText.{rule_line, rule_lines, rule_text, tour_line};
 
 use crate::leaving::write_leaving;
@@ -35,7 +35,7 @@ pub(crate) fn write_costs<W: Sink>(
     write_cost(out, cost)?;
     write_tours(out, league, schedule)?;
     write_runs(out, schedule, league.at_most())?;
-    write_repeats(out, schedule)?;
+    write_repeats(out, league, schedule)?;
     write_halves(out, league, schedule)?;
     write_rules(out, league, schedule)?;
     write_leaving(out, league, schedule)?;
@@ -98,6 +98,20 @@ fn write_tour<W: Sink>(
 }
 
 fn write_repeats<W: Sink>(
+    out: &mut BufferedSink<'_, W>,
+    league: &League,
+    schedule: &Schedule,
+) -> Result<(), WriteFault>
+    ensures { Writes W.held W.tally out.old out.new result (repeats_text league.now schedule.now) }
+{
+    if league.free_repeats() {
+        Ok(())
+    } else {
+        write_all_repeats(out, schedule)
+    }
+}
+
+fn write_all_repeats<W: Sink>(
     out: &mut BufferedSink<'_, W>,
     schedule: &Schedule,
 ) -> Result<(), WriteFault>

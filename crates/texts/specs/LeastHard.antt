@@ -11,7 +11,7 @@ use Rattle.tours.specs.Phased.{unphased}
 use Rattle.tours.specs.Repeats.{repeats}
 use Rattle.tours.specs.Runs.{runs_over}
 use Rattle.robinx.specs.Deviations.{deviation}
-use Rattle.costs.specs.Costs.{cost_of, hard_penalty, penalty_of, where_phased}
+use Rattle.costs.specs.Costs.{cost_of, hard_penalty, penalty_of, unless_free, where_phased}
 use Rattle.texts.specs.Classes.{class_name}
 use Rattle.texts.specs.PlayText.{counted}
 
@@ -41,13 +41,14 @@ rule_parts rules g before = pieces_below (λ i. rule_part g (before + breaches_o
 
 -- the numbers of the parts, added up
 abbrev pub breaches_told : LeagueData → Games → ℕ
-breaches_told l g = runs_over g l.at_most + repeats g + where_phased l (unphased g) + breaches_of l.rules g (length l.rules)
+breaches_told l g = runs_over g l.at_most + unless_free l (repeats g) + where_phased l (unphased g) + breaches_of l.rules g (length l.rules)
 
 -- the hard breaches, and each part that is broken
 unfoldable pub least_hard_line : LeagueData → Games → List ℕ
 least_hard_line l g =
     let runs = runs_over g l.at_most in
+    let repeats = unless_free l (repeats g) in
     let halves = where_phased l (unphased g) in
     counted (codes "least hard ") (cost_of l g).hard ++ part_text 0 (codes "runs ") runs ++
-    part_text runs (codes "repeats ") (repeats g) ++ part_text (runs + repeats g) (codes "halves ") halves ++
-    rule_parts l.rules g (runs + repeats g + halves) ++ codes "\n"
+    part_text runs (codes "repeats ") repeats ++ part_text (runs + repeats) (codes "halves ") halves ++
+    rule_parts l.rules g (runs + repeats + halves) ++ codes "\n"

@@ -15,12 +15,12 @@ ghost use Rattle.texts.specs.Pieces.{text_of_pieces};
 use crate::classes::class_name;
 use crate::lines::write_counted;
 use crate::pieces::{Piece, write_pieces};
-use costs::cost_of;
+use costs::{cost_of, counted_repeats};
 use fixtures::Schedule;
 use league::{League, Rule, RuleBody, Weight};
 use robinx::deviation;
 use streams::{BufferedSink, Sink, WriteFault};
-use tours::{repeats, runs_over, unphased};
+use tours::{runs_over, unphased};
 
 /// Writes how many hard breaches the schedule has, and of which parts and rules they are. Takes no memory.
 #[tactic(auto, unfolding(crate::specs::LeastHard::least_hard_line))]
@@ -33,7 +33,7 @@ pub(crate) fn write_least_hard<W: Sink>(
     ensures { Writes W.held W.tally out.old out.new result (least_hard_line league.now schedule.now) }
 {
     let runs = runs_over(schedule, league);
-    let repeats = repeats(schedule);
+    let repeats = counted_repeats(schedule, league);
     let halves = halves(schedule, league);
     write_counted(out, b"least hard ", cost_of(schedule, league).hard)?;
     write_part(out, 0, &[Piece::Text(b"runs ")], runs)?;

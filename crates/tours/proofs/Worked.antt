@@ -3,6 +3,7 @@
 use Rattle.std.proofs.Common.{◌≡◌, ℕ, true, false, List, [], ◌∷◌, map, refl, ◌||◌, Bool}
 use Rattle.std.specs.Prelude.{◌==◌}
 use Rattle.std.specs.List.{range_with_len}
+use Rattle.league.specs.Labels.{no_labels}
 use Rattle.league.specs.League.{LeagueData, league_data}
 use Rattle.league.specs.within.League.{with_origin}
 use Rattle.league.specs.Origins.{origin_at}
@@ -19,7 +20,7 @@ use Rattle.tours.specs.Moved.{moved_from, moved_games}
 
 -- the league of four teams with these distances
 abbrev four_teams : List (List ℕ) → LeagueData
-four_teams distances = league_data ([] ∷ [] ∷ [] ∷ [] ∷ []) distances 3 100 [] (origin_at Berger) false
+four_teams distances = league_data ([] ∷ [] ∷ [] ∷ [] ∷ []) distances 3 100 [] (origin_at Berger) false false no_labels
 
 abbrev circle : LeagueData
 circle = four_teams ((0 ∷ 1 ∷ 2 ∷ 1 ∷ []) ∷ (1 ∷ 0 ∷ 1 ∷ 2 ∷ []) ∷ (2 ∷ 1 ∷ 0 ∷ 1 ∷ []) ∷ (1 ∷ 2 ∷ 1 ∷ 0 ∷ []) ∷ [])

@@ -53,7 +53,12 @@ pub(crate) fn league(alloc: Global, teams: u8) -> Result<League, Fail> {
 
 /// A league of teams on a line, with these rules and phases.
 pub(crate) fn league_with(alloc: Global, teams: u8, rules: &str) -> Result<League, Fail> {
-    let mut text = String::from_str(alloc, "{\"format\":2,\"at_most\":2,")?;
+    league_on(alloc, teams, rules, "forbidden")
+}
+
+/// The same, with what repeats are.
+fn league_on(alloc: Global, teams: u8, rules: &str, repeats: &str) -> Result<League, Fail> {
+    let mut text = String::from_str(alloc, "{\"format\":3,\"at_most\":2,")?;
     push_names(alloc, &mut text, teams)?;
     text.push_str(",\"distances\":[")?;
     for from in 0..teams {
@@ -61,7 +66,9 @@ pub(crate) fn league_with(alloc: Global, teams: u8, rules: &str) -> Result<Leagu
     }
     text.push_str("],\"rules\":")?;
     text.push_str(rules)?;
-    text.push_str(",\"phased\":true}")?;
+    text.push_str(",\"phased\":true,\"repeats\":\"")?;
+    text.push_str(repeats)?;
+    text.push_str("\"}")?;
     Ok(read_league(alloc, text.as_bytes())?)
 }
 
@@ -91,10 +98,11 @@ fn keeps_its_cost(
     rt: &impl Abort,
     alloc: Global,
     state: &mut u64,
-    teams: u8,
-    changes: u64,
+    repeats: &str,
+    (teams, changes): (u8, u64),
 ) -> Result<(), Fail> {
-    let mut board = Board::new(alloc, league(alloc, teams)?, 4096)?;
+    let league = league_on(alloc, teams, RULES, repeats)?;
+    let mut board = Board::new(alloc, league, 4096)?;
     for _ in 0..changes {
         check_change(rt, &mut board, state);
     }
@@ -115,8 +123,21 @@ const SIZES: &[(u8, u64)] = &[
 #[test]
 fn the_kept_cost_is_that_of_the_whole_schedule(rt: HostRuntime) -> Result<(), Fail> {
     let mut state = 1;
-    for &(teams, changes) in SIZES {
-        keeps_its_cost(&rt, rt.alloc(), &mut state, teams, changes)?;
+    for &size in SIZES {
+        keeps_its_cost(&rt, rt.alloc(), &mut state, "forbidden", size)?;
+    }
+    Ok(())
+}
+
+const FEWER: &[(u8, u64)] = &[(4, 1000), (6, 500), (20, 100)];
+
+#[test]
+fn the_kept_cost_is_that_of_the_whole_schedule_with_free_repeats(
+    rt: HostRuntime,
+) -> Result<(), Fail> {
+    let mut state = 1;
+    for &size in FEWER {
+        keeps_its_cost(&rt, rt.alloc(), &mut state, "free", size)?;
     }
     Ok(())
 }

@@ -20,7 +20,7 @@ use Rattle.robinx.specs.Laws.{SidesAreMain}
 use Rattle.robinx.specs.Parts.{deviation_part}
 use Rattle.rule_index.specs.Alterable.{is_alterable_at}
 use Rattle.costs.specs.Evaluators.{last_fairness}
-use Rattle.costs.specs.Costs.{cost_of, hard_penalty, near_cost, soft_penalty, where_phased}
+use Rattle.costs.specs.Costs.{cost_of, hard_penalty, near_cost, soft_penalty, unless_free, where_phased}
 use Rattle.costs.specs.declared.cost.Cost.{Cost}
 use Rattle.costs.specs.declared.penalties.Penalties.{Penalties}
 use Rattle.costs.specs.declared.scope.Scope.{Scope}
@@ -38,9 +38,9 @@ pub record KnowsRules (l : LeagueData) (scope : Scope) : Type 0 where
   pub rules : (i : ℕ) → has scope.rules i ≡ is_alterable_at l.rules scope.main.teams scope.main.rounds i
   pub fairness : scope.fairness ≡ last_fairness l.rules (length l.rules)
 
--- the hard costs of every league: runs and repeats
+-- the hard costs that no rule asks for, but for pairs in one half: runs, and repeats unless they are free
 abbrev pub games_cost : LeagueData → Games → ℕ
-games_cost l g = runs_over g l.at_most + repeats g
+games_cost l g = runs_over g l.at_most + unless_free l (repeats g)
 
 -- of what one rule adds, if there is one
 abbrev pub rule_part : (Weight → ℕ → ℕ) → TouchedCells → ℕ → Games → Option Rule → ℕ

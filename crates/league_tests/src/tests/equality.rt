@@ -7,7 +7,7 @@ use std::alloc::Global;
 use std::process::Abort;
 use std::test::Fail;
 
-// four teams in a circle, in the second format, with these names, distances and other members
+// four teams in a circle, in the third format, with these names, distances and other members
 const LEAGUES: &[(&str, &str, &str)] = &[
     (TEAMS, CIRCLE, ""),
     (r#"["T1","T2","T3","T5"]"#, CIRCLE, ""),
@@ -16,6 +16,13 @@ const LEAGUES: &[(&str, &str, &str)] = &[
     (TEAMS, CIRCLE, r#","hard_weight":99"#),
     (TEAMS, CIRCLE, r#","start":"fide""#),
     (TEAMS, CIRCLE, r#","phased":true"#),
+    (TEAMS, CIRCLE, r#","repeats":"free""#),
+    (TEAMS, CIRCLE, r#","name":"A""#),
+    (TEAMS, CIRCLE, r#","name":"B""#),
+    (TEAMS, CIRCLE, r#","short":["A","B","C","D"]"#),
+    (TEAMS, CIRCLE, r#","short":["A","B","C","E"]"#),
+    (TEAMS, CIRCLE, r#","rounds":["A","B","C","D","E","F"]"#),
+    (TEAMS, CIRCLE, r#","rounds":["A","B","C","D","E","G"]"#),
     (
         r#"["T1","T2","T3","T4","T5","T6"]"#,
         "[[0,1,2,3,2,1],[1,0,1,2,3,2],[2,1,0,1,2,3],[3,2,1,0,1,2],[2,3,2,1,0,1],[1,2,3,2,1,0]]",
@@ -43,7 +50,7 @@ const RULES: &[&str] = &[
 
 fn made(alloc: Global, (teams, distances, more): (&str, &str, &str)) -> Result<League, Fail> {
     let text = format!(in alloc;
-        "{{\"format\":2,\"teams\":{teams},\"distances\":{distances}{more}}}"
+        "{{\"format\":3,\"teams\":{teams},\"distances\":{distances}{more}}}"
     )?;
     Ok(read_league(alloc, text.as_bytes())?)
 }

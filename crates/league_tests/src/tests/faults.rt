@@ -26,11 +26,12 @@ const TEXTS: &[(&str, LeagueFault)] = &[
     ("[]", WrongKind(Field::Whole)),
     ("{}", MissingField(Field::Format)),
     (r#"{"teams":3}"#, MissingField(Field::Format)),
-    (r#"{"format":3}"#, WrongKind(Field::Format)),
+    (r#"{"format":3}"#, MissingField(Field::Teams)),
+    (r#"{"format":4}"#, WrongKind(Field::Format)),
     (r#"{"format":2}"#, MissingField(Field::Teams)),
     (r#"{"format":0}"#, WrongKind(Field::Format)),
     (r#"{"format":1.0}"#, WrongKind(Field::Format)),
-    (r#"{"format":3,"format":1}"#, MissingField(Field::Teams)),
+    (r#"{"format":4,"format":1}"#, MissingField(Field::Teams)),
     (r#"{"format":1,"distances":[]}"#, MissingField(Field::Teams)),
     (r#"{"format":1,"teams":{}}"#, WrongKind(Field::Teams)),
     (r#"{"format":1,"teams":["T1",2]}"#, WrongKind(Field::Teams)),
@@ -175,6 +176,10 @@ const MEMBERS: &[(LeagueFault, &str)] = &[
     (WrongKind(Field::Rules), "league member rules is wrong"),
     (WrongKind(Field::Start), "league member start is wrong"),
     (WrongKind(Field::Phased), "league member phased is wrong"),
+    (WrongKind(Field::Name), "league member name is wrong"),
+    (WrongKind(Field::Short), "league member short is wrong"),
+    (WrongKind(Field::Rounds), "league member rounds is wrong"),
+    (WrongKind(Field::Repeats), "league member repeats is wrong"),
 ];
 
 #[test]

@@ -29,7 +29,7 @@ fn values_of_rules_that_differ_in_one_field(rt: HostRuntime) {
     check_distinct(&rt, WEIGHTS);
 }
 
-const FIELDS: [Field; 9] = [
+const FIELDS: [Field; 13] = [
     Field::Whole,
     Field::Format,
     Field::Teams,
@@ -39,6 +39,10 @@ const FIELDS: [Field; 9] = [
     Field::Rules,
     Field::Start,
     Field::Phased,
+    Field::Name,
+    Field::Short,
+    Field::Rounds,
+    Field::Repeats,
 ];
 
 fn missing(field: Field) -> LeagueFault {

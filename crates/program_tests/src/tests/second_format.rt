@@ -14,7 +14,7 @@ use std::test::Fail;
 use std::thread::Threads;
 
 /// The beginning of a league in a format that there isn't.
-const THIRD: &str = r#"{"format":3,"#;
+const FOURTH: &str = r#"{"format":4,"#;
 
 const END: &str = "}";
 
@@ -96,7 +96,7 @@ const REFUSED: &[Case<'_>] = &[
     ),
     (
         Command::Start,
-        &[THIRD, FOUR, END],
+        &[FOURTH, FOUR, END],
         Err(League(WrongKind(Field::Format))),
         NOTHING,
     ),

@@ -33,6 +33,9 @@ repeat_line g round team =
 abbrev pub repeat_lines : Games → ℕ → List ℕ
 repeat_lines g round = pieces_below (repeat_line g round) g.teams
 
+abbrev pub repeats_text : LeagueData → Games → List ℕ
+repeats_text l g = if l.free_repeats then [] else pieces_below (repeat_lines g) (round_count g.teams - 1)
+
 abbrev pub half_line : Games → ℕ → ℕ → List ℕ
 half_line g high low = if is_unphased g low high then line_text (half low high (round_of g low high) (round_of g high low)) else []
 
@@ -77,5 +80,5 @@ leaving_text l g = near_line l g ++ moved_text l g
 unfoldable pub parts_text : LeagueData → Games → List ℕ
 parts_text l g =
     costs_line (cost_of l g) ++ pieces_below (tour_line l g) g.teams ++ pieces_below (run_lines g l.at_most) g.teams ++
-    pieces_below (repeat_lines g) (round_count g.teams - 1) ++ halves_text l g ++ rule_lines l g ++ leaving_text l g ++
+    repeats_text l g ++ halves_text l g ++ rule_lines l g ++ leaving_text l g ++
     total_line (cost_of l g)

@@ -7,5 +7,5 @@ use Rattle.advice.proofs.forms.are_games.Given as goal
 
 abbrev pub invariant-loop-item : goal.invariant-loop-item
 invariant-loop-item l =
-    is_some (all_items (pairing_from l.teams) (items_view (drop l.item-index l.items)))
-    ≡ is_some (all_items (pairing_from l.teams) (items_view l.items))
+    is_some (all_items (pairing_from l.roster) (items_view (drop l.item-index l.items)))
+    ≡ is_some (all_items (pairing_from l.roster) (items_view l.items))

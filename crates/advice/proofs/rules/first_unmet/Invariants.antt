@@ -5,4 +5,4 @@ use Rattle.advice.specs.Rules.{first_unmet}
 use Rattle.advice.proofs.rules.first_unmet.Given as goal
 
 abbrev pub invariant-loop-need : goal.invariant-loop-need
-invariant-loop-need l = first_unmet l.teams (view l.rule) (drop l.need-index l.needs) ≡ first_unmet l.teams (view l.rule) l.needs
+invariant-loop-need l = first_unmet l.roster (view l.rule) (drop l.need-index l.needs) ≡ first_unmet l.roster (view l.rule) l.needs

@@ -71,7 +71,7 @@ overflow_sub-result-2 c =
       ap (λ (cost : Cost). cost.hard) c.requires.known,
       games_le c.args.league.now c.args.schedule.now,
       c.runs_of-runs.ensures.within,
-      c.repeats_of-repeats.ensures.balance,
+      c.told_repeats-repeats.ensures.balance,
     )
 
 pub overflow_add-result-3 : goal.overflow_add-result-3
@@ -100,7 +100,7 @@ returns c = record {
     ap (λ (cost : Cost). cost.hard) c.requires.known,
     games_le c.args.league.now c.args.schedule.now,
     c.runs_of-runs.ensures.balance,
-    c.repeats_of-repeats.ensures.balance,
+    c.told_repeats-repeats.ensures.balance,
   );
   soft = omega (
     arith,

@@ -5,8 +5,8 @@ use Rattle.league.specs.Views.{texts}
 use Rattle.league.proofs.Beginnings.{origin_for_none}
 use Rattle.league.proofs.reader.league_of_data.Goals as goal
 
-pub new-requires : goal.new-requires
-new-requires c =
+pub new-requires-2 : goal.new-requires-2
+new-requires-2 c =
     let origin = origin_for_none (length (texts c.in_ok-names.names.items)) c.in_ok-start.start (c.in_ok-start.ensures.fits _) in
     grind (arith, common_steps)
 

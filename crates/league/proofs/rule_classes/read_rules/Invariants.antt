@@ -9,8 +9,8 @@ use Rattle.league.proofs.rule_classes.read_rules.Given as goal
 
 abbrev pub invariant-loop-index : goal.invariant-loop-index
 invariant-loop-index l = record {
-  read : with_front_or_fault l.rules.items (rules_from l.format l.teams l.index (items_view (drop l.index l.items)))
-      ≡ rules_from l.format l.teams 0 (items_view l.items);
-  range : AllByRecursion (IsRuleFor l.teams) l.rules.items;
+  read : with_front_or_fault l.rules.items (rules_from l.format l.roster l.index (items_view (drop l.index l.items)))
+      ≡ rules_from l.format l.roster 0 (items_view l.items);
+  range : AllByRecursion (IsRuleFor l.roster.teams) l.rules.items;
   count : length l.rules.items ≡ l.index;
 }

@@ -10,8 +10,8 @@ use Rattle.league.proofs.rule_members.games_member.Given as goal
 
 abbrev pub invariant-loop-item : goal.invariant-loop-item
 invariant-loop-item l = record {
-  read : option_map (with_games l.games) (all_items (pairing_from l.teams) (items_view (drop l.item-index l.item-items)))
-      ≡ option_map (with_games []) (all_items (pairing_from l.teams) (items_view l.item-items));
-  range : AllByRecursion (IsGameFor l.teams) l.games;
+  read : option_map (with_games l.games) (all_items (pairing_from l.roster) (items_view (drop l.item-index l.item-items)))
+      ≡ option_map (with_games []) (all_items (pairing_from l.roster) (items_view l.item-items));
+  range : AllByRecursion (IsGameFor l.roster.teams) l.games;
   most : length l.games ≤ max_games;
 }

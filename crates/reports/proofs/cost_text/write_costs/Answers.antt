@@ -1,11 +1,9 @@
 use Rattle.streams.proofs.Pieces.{Adds-stops, Adds-then, Adds-writes, Stops-more, Stops-writes}
-use Rattle.std.proofs.Common.{◌-◌}
 use Rattle.streams.specs.Pieces.{pieces_below}
-use Rattle.fixtures.specs.Games.{round_count}
 use Rattle.costs.specs.Costs.{cost_of}
 use Rattle.reports.specs.within.CostText.{leaving_text}
 use Rattle.reports.specs.CostText.{total_line}
-use Rattle.reports.specs.within.CostText.{halves_text, parts_text, repeat_lines, rule_lines, run_lines, tour_line}
+use Rattle.reports.specs.within.CostText.{halves_text, parts_text, repeats_text, rule_lines, run_lines, tour_line}
 use Rattle.reports.proofs.cost_text.write_costs.Goals as goal
 
 pub returns-in_err-write_cost : goal.returns-in_err-write_cost
@@ -16,7 +14,7 @@ returns-in_err-write_cost g c =
     (Stops-more (leaving_text c.args.league.now c.args.schedule.now)
     (Stops-more (rule_lines c.args.league.now c.args.schedule.now)
     (Stops-more (halves_text c.args.league.now c.args.schedule.now)
-    (Stops-more (pieces_below (repeat_lines c.args.schedule.now) (round_count c.args.schedule.now.teams - 1))
+    (Stops-more (repeats_text c.args.league.now c.args.schedule.now)
     (Stops-more (pieces_below (run_lines c.args.schedule.now c.args.league.now.at_most) c.args.schedule.now.teams)
     (Stops-more (pieces_below (tour_line c.args.league.now c.args.schedule.now) c.args.schedule.now.teams)
     (rw c.cost_of-cost.ensures.value at c.in_err-write_cost.ensures.err))))))))
@@ -29,7 +27,7 @@ returns-in_err-write_tours g c =
     (Stops-more (leaving_text c.args.league.now c.args.schedule.now)
     (Stops-more (rule_lines c.args.league.now c.args.schedule.now)
     (Stops-more (halves_text c.args.league.now c.args.schedule.now)
-    (Stops-more (pieces_below (repeat_lines c.args.schedule.now) (round_count c.args.schedule.now.teams - 1))
+    (Stops-more (repeats_text c.args.league.now c.args.schedule.now)
     (Stops-more (pieces_below (run_lines c.args.schedule.now c.args.league.now.at_most) c.args.schedule.now.teams)
     (Adds-stops (rw c.cost_of-cost.ensures.value at c.in_ok-write_cost.ensures.ok) c.in_err-write_tours.ensures.err)))))))
 
@@ -41,7 +39,7 @@ returns-in_err-write_runs g c =
     (Stops-more (leaving_text c.args.league.now c.args.schedule.now)
     (Stops-more (rule_lines c.args.league.now c.args.schedule.now)
     (Stops-more (halves_text c.args.league.now c.args.schedule.now)
-    (Stops-more (pieces_below (repeat_lines c.args.schedule.now) (round_count c.args.schedule.now.teams - 1))
+    (Stops-more (repeats_text c.args.league.now c.args.schedule.now)
     (Adds-stops (Adds-then (rw c.cost_of-cost.ensures.value at c.in_ok-write_cost.ensures.ok) c.in_ok-write_tours.ensures.ok)
     (rw c.at_most.ensures.value at c.in_err-write_runs.ensures.err)))))))
 

@@ -9,9 +9,9 @@ returns-in_err-write_counted g c =
     let l = c.args.league.now in
     let s = c.args.schedule.now in
     let runs = c.runs_over-runs.result in
-    let repeats = c.repeats-repeats.result in
+    let repeats = c.counted_repeats-repeats.result in
     let halves = c.halves-halves.result in
-    rw (← c.cost_of.ensures.value, ← c.runs_over-runs.ensures.value, ← c.repeats-repeats.ensures.value, ← c.halves-halves.ensures.value)
+    rw (← c.cost_of.ensures.value, ← c.runs_over-runs.ensures.value, ← c.counted_repeats-repeats.ensures.value, ← c.halves-halves.ensures.value)
     (Stops-writes c.from_residual.ensures.0
     (Stops-more (codes "\n")
     (Stops-more (rule_parts l.rules s (runs + repeats + halves))
@@ -26,9 +26,9 @@ returns-in_err-write_part g c =
     let l = c.args.league.now in
     let s = c.args.schedule.now in
     let runs = c.runs_over-runs.result in
-    let repeats = c.repeats-repeats.result in
+    let repeats = c.counted_repeats-repeats.result in
     let halves = c.halves-halves.result in
-    rw (← c.cost_of.ensures.value, ← c.runs_over-runs.ensures.value, ← c.repeats-repeats.ensures.value, ← c.halves-halves.ensures.value)
+    rw (← c.cost_of.ensures.value, ← c.runs_over-runs.ensures.value, ← c.counted_repeats-repeats.ensures.value, ← c.halves-halves.ensures.value)
     (Stops-writes c.from_residual-in_err-write_part.ensures.0
     (Stops-more (codes "\n")
     (Stops-more (rule_parts l.rules s (runs + repeats + halves))
@@ -42,9 +42,9 @@ returns-in_err-write_part-2 g c =
     let l = c.args.league.now in
     let s = c.args.schedule.now in
     let runs = c.runs_over-runs.result in
-    let repeats = c.repeats-repeats.result in
+    let repeats = c.counted_repeats-repeats.result in
     let halves = c.halves-halves.result in
-    rw (← c.cost_of.ensures.value, ← c.runs_over-runs.ensures.value, ← c.repeats-repeats.ensures.value, ← c.halves-halves.ensures.value)
+    rw (← c.cost_of.ensures.value, ← c.runs_over-runs.ensures.value, ← c.counted_repeats-repeats.ensures.value, ← c.halves-halves.ensures.value)
     (Stops-writes c.from_residual-in_err-write_part-2.ensures.0
     (Stops-more (codes "\n")
     (Stops-more (rule_parts l.rules s (runs + repeats + halves))
@@ -57,9 +57,9 @@ returns-in_err-write_part-3 g c =
     let l = c.args.league.now in
     let s = c.args.schedule.now in
     let runs = c.runs_over-runs.result in
-    let repeats = c.repeats-repeats.result in
+    let repeats = c.counted_repeats-repeats.result in
     let halves = c.halves-halves.result in
-    rw (← c.cost_of.ensures.value, ← c.runs_over-runs.ensures.value, ← c.repeats-repeats.ensures.value, ← c.halves-halves.ensures.value)
+    rw (← c.cost_of.ensures.value, ← c.runs_over-runs.ensures.value, ← c.counted_repeats-repeats.ensures.value, ← c.halves-halves.ensures.value)
     (Stops-writes c.from_residual-in_err-write_part-3.ensures.0
     (Stops-more (codes "\n")
     (Stops-more (rule_parts l.rules s (runs + repeats + halves))
@@ -71,19 +71,19 @@ returns-in_err-write_rules g c =
     let l = c.args.league.now in
     let s = c.args.schedule.now in
     let runs = c.runs_over-runs.result in
-    let repeats = c.repeats-repeats.result in
+    let repeats = c.counted_repeats-repeats.result in
     let halves = c.halves-halves.result in
-    rw (← c.cost_of.ensures.value, ← c.runs_over-runs.ensures.value, ← c.repeats-repeats.ensures.value, ← c.halves-halves.ensures.value)
+    rw (← c.cost_of.ensures.value, ← c.runs_over-runs.ensures.value, ← c.counted_repeats-repeats.ensures.value, ← c.halves-halves.ensures.value)
     (Stops-writes c.from_residual-in_err-write_rules.ensures.0
     (Stops-more (codes "\n")
     (Adds-stops (Adds-then (Adds-then (Adds-then c.in_ok-write_counted.ensures.ok c.in_ok-write_part.ensures.ok) c.in_ok-write_part-2.ensures.ok) c.in_ok-write_part-3.ensures.ok) c.in_err-write_rules.ensures.err)))
 
 pub write_rules-requires-clause-few : goal.write_rules-requires-clause-few
 write_rules-requires-clause-few g c =
-    omega (arith, c.runs_over-runs.ensures.most, c.repeats-repeats.ensures.most, c.halves-halves.ensures.most)
+    omega (arith, c.runs_over-runs.ensures.most, c.counted_repeats-repeats.ensures.most, c.halves-halves.ensures.most)
 
 pub returns : goal.returns
 unfolding least_hard_line
 returns g c =
-    rw (← c.cost_of.ensures.value, ← c.runs_over-runs.ensures.value, ← c.repeats-repeats.ensures.value, ← c.halves-halves.ensures.value)
+    rw (← c.cost_of.ensures.value, ← c.runs_over-runs.ensures.value, ← c.counted_repeats-repeats.ensures.value, ← c.halves-halves.ensures.value)
     (Adds-writes (Adds-then (Adds-then (Adds-then (Adds-then c.in_ok-write_counted.ensures.ok c.in_ok-write_part.ensures.ok) c.in_ok-write_part-2.ensures.ok) c.in_ok-write_part-3.ensures.ok) c.in_ok-write_rules.ensures.ok) c.write.ensures.writes)

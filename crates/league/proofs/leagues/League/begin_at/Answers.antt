@@ -11,6 +11,7 @@ invariant_of-self c =
     let n : ℕ = length (texts c.self.inside.names.items) in
     let size : c.args.start.teams ≡ n = c.requires ∙ sym (ap teams c.self.view_is) in
     IsLeague-with (league_of_numbers (texts c.self.inside.names.items) c.self.inside.distances.items c.self.inside.terms.at_most
-    c.self.inside.terms.hard_weight c.self.inside.rules.items c.self.inside.origin c.self.inside.terms.phased) c.begin_at.new.self is
+    c.self.inside.terms.hard_weight c.self.inside.rules.items c.self.inside.origin c.self.inside.terms.phased
+    c.self.inside.terms.free_repeats c.self.inside.labels) c.begin_at.new.self is
     (subst (IsOriginFor n) (sym c.begin_at.ensures)
     (origin_for_given n c.args.start c.self.inside.origin.near c.teams.ensures.round_robin size is.origin.near))

@@ -14,6 +14,7 @@ abbrev before : goal.After-keep → LeagueData
 before c =
     league_of_numbers (texts c.self.inside.names.items) c.self.inside.distances.items c.self.inside.terms.at_most
     c.self.inside.terms.hard_weight c.self.inside.rules.items c.self.inside.origin c.self.inside.terms.phased
+    c.self.inside.terms.free_repeats c.self.inside.labels
 
 pub invariant_of-self : goal.invariant_of-self
 invariant_of-self c =

@@ -3,15 +3,15 @@ use Rattle.std.specs.Bool.{Decides}
 use Rattle.std.specs.Cmp.Lexicographic.{pointwise}
 use Rattle.league.specs.contracts.rule.RulePartialEq.TheImpl as rule_eq
 use Rattle.league.specs.within.Rows.{joined}
-use Rattle.league.specs.within.League.{with_origin}
-use Rattle.league.proofs.Equality.{are_same_texts, berger, chain_decides, else_and, then_and}
-use Rattle.league.proofs.leagues.League.differs_in_origin_alone.Goals as goal
-use Rattle.league.proofs.leagues.League.differs_in_origin_alone.Goals.{Joined-eq-2, else-eq, else-eq-2, then-eq, then-eq-2}
+use Rattle.league.specs.within.League.{bare}
+use Rattle.league.proofs.Equality.{are_same_texts, chain_decides, else_and, then_and}
+use Rattle.league.proofs.leagues.League.is_same_bare.Goals as goal
+use Rattle.league.proofs.leagues.League.is_same_bare.Goals.{Joined-eq-2, else-eq, else-eq-2, then-eq, then-eq-2}
 
 -- whether the leagues are equal, from what the test of the rules adds to those before it
 chained : (c : Joined-eq-2) (all : Bool)
     → all ≡ (c.if-eq-2.value && pointwise rule_eq.eq-value.it c.self.inside.rules.items c.other.inside.rules.items)
-    → Decides all (with_origin berger c.args.self.now ≡ with_origin berger c.args.other.now)
+    → Decides all (bare c.args.self.now ≡ bare c.args.other.now)
 chained c all all_is =
     let mine = c.self.inside in let its = c.other.inside in
     let names = are_same_texts mine.names.items its.names.items in
@@ -27,8 +27,8 @@ chained c all all_is =
           ∙ (λ i. pointwise nat_eq (w.numbers.ensures i) (w.numbers-then-eq-2.ensures i)))
       | else-eq-2 w ↦ else_and c.if-eq.value numbers _ w.if-eq-2.false w.value-is
     ] in
-    chain_decides (with_origin berger c.args.self.now) (with_origin berger c.args.other.now) mine.names.items its.names.items _ _ mine.terms its.terms mine.rules.items
-    its.rules.items c.self.invariant.table c.other.invariant.table (ap (with_origin berger) c.self.view_is) (ap (with_origin berger) c.other.view_is) _ _ _ _ c.eq.ensures named numbered
+    chain_decides (bare c.args.self.now) (bare c.args.other.now) mine.names.items its.names.items _ _ mine.terms its.terms mine.rules.items
+    its.rules.items c.self.invariant.table c.other.invariant.table (ap bare c.self.view_is) (ap bare c.other.view_is) _ _ _ _ c.eq.ensures named numbered
     all_is
 
 pub returns-then-eq-3 : goal.returns-then-eq-3

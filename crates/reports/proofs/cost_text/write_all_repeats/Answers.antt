@@ -1,6 +1,6 @@
 use Rattle.streams.proofs.Pieces.{Adds-piece, Stops-in_pieces, Stops-writes}
 use Rattle.reports.specs.within.CostText.{repeat_lines}
-use Rattle.reports.proofs.cost_text.write_repeats.Goals as goal
+use Rattle.reports.proofs.cost_text.write_all_repeats.Goals as goal
 
 pub loop-round-preserved : goal.loop-round-preserved
 loop-round-preserved g c =
