@@ -56,6 +56,12 @@ def drawn(draw, teams, form, rules):
     for i in range(teams):
         for j in range(i):
             distances[i][j] = distances[j][i] = draw.randint(0, draw.choice([5, 1000]))
+    third = {
+        "name": "A cup",
+        "short": [f"T{i + 1}" for i in range(teams)],
+        "rounds": [f"Day {r + 1}" for r in range(2 * (teams - 1))],
+        "repeats": draw.choice(["free", "forbidden"]),
+    }
     return {
         "format": form,
         "teams": [f"T{i + 1}" for i in range(teams)],
@@ -65,13 +71,14 @@ def drawn(draw, teams, form, rules):
         "rules": rules,
         "start": draw.choice(["plain", "fide"]),
         "phased": draw.choice([True, False]),
+        **(third if form == 3 else {}),
     }
 
 
 def any_league(draw, sizes, most):
-    """A league of one of these sizes, in either format, with up to so many rules."""
-    teams, form = draw.choice(sizes), draw.choice([1, 2])
-    classes = [name for name in CLASSES if form == 2 or name != "FA2"]
+    """A league of one of these sizes, in any format, with up to so many rules."""
+    teams, form = draw.choice(sizes), draw.choice([1, 2, 3])
+    classes = [name for name in CLASSES if form >= 2 or name != "FA2"]
     return drawn(draw, teams, form, [drawn_rule(draw, teams, draw.choice(classes)) for _ in range(draw.randint(0, most))])
 
 
