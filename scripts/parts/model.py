@@ -28,14 +28,6 @@ def read(text):
     return league | {"rules": [rule | members(rule) for rule in league.get("rules", [])]}
 
 
-def is_phased(league):
-    return league.get("format") in (2, 3) and league.get("phased", False)
-
-
-def has_free_repeats(league):
-    return league.get("format") == 3 and league.get("repeats") == "free"
-
-
 def start(teams):
     """The round of each pair of teams, home first: the Berger table, and then the same with homes reversed."""
     games, cycle = {}, teams - 1
@@ -60,7 +52,7 @@ def start_of(league):
         return league["begin"]
     teams = len(league["teams"])
     games = start(teams)
-    if league.get("format") in (2, 3) and league.get("start") == "fide":
+    if league.get("format", 1) >= 2 and league.get("start") == "fide":
         swap = other(teams - 3, teams - 2)
         return {pair: swap(r) for pair, r in games.items()}
     return games
@@ -160,13 +152,23 @@ def away_from_start(games, league):
     return sum(games[pair] != r for pair, r in start_of(league).items())
 
 
+def is_phased(league):
+    """Whether the two games of each pair belong into different halves."""
+    return league.get("format", 1) >= 2 and league.get("phased", False)
+
+
+def counts_repeats(league):
+    """Whether two games of a pair in consecutive rounds are a breach."""
+    return league.get("format", 1) < 3 or league.get("repeats") != "free"
+
+
 def broken(games, league):
     """What hard limits the games break, by its name, and how often."""
     teams, at_most = len(league["teams"]), league.get("at_most", 3)
     table = cells(games, teams)
     stretches = (len(list(stretch)) for row in table for _, stretch in groupby(row, key=lambda cell: cell[1]))
     counts = {"runs": sum(over(length, at_most) for length in stretches)}
-    if not has_free_repeats(league):
+    if counts_repeats(league):
         counts["repeats"] = sum(row[r][0] == row[r + 1][0] for row in table for r in range(len(row) - 1)) // 2
     if is_phased(league):
         counts["halves"] = sum(len({r < teams - 1 for r in (games[h, a], games[a, h])}) == 1 for h, a in games if h < a)
@@ -191,7 +193,7 @@ def cost(games, league):
         travel += sum(distances[a][b] for a, b in zip(places, places[1:]))
         windows = [{home for _, home in row[r : r + at_most + 1]} for r in range(len(row) - at_most)]
         hard += sum(len(window) == 1 for window in windows)
-    if not has_free_repeats(league):
+    if counts_repeats(league):
         hard += sum(abs(games[h, a] - games[a, h]) == 1 for h, a in games if h < a)
     if is_phased(league):
         half = len(distances) - 1

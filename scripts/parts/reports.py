@@ -125,13 +125,13 @@ def runs(team, row, at_most):
 
 
 KNOWN = set("format teams distances at_most hard_weight rules start phased".split())
-KNOWN_IN_THIRD = KNOWN | {"name", "short", "rounds", "repeats"}
+KNOWN_IN_THIRD = set("name short rounds repeats".split())
 KNOWN_IN_RULE = set("class kind weight teams teams1 teams2 slots mode mode2 max min intp games".split())
 
 
 def remarks(league):
-    """A line for each member that isn't read, but for those of the second format in one of the first."""
-    owners = [("the league", league, KNOWN_IN_THIRD if league.get("format") == 3 else KNOWN)]
+    """A line for each member that isn't known."""
+    owners = [("the league", league, KNOWN | (KNOWN_IN_THIRD if league["format"] == 3 else set()))]
     owners += [(f"rule {i}", rule, KNOWN_IN_RULE) for i, rule in enumerate(league.get("rules", []), 1)]
     for owner, members, known in owners:
         for name in sorted(members.keys() - known, key=lambda name: name.encode()):
@@ -172,9 +172,10 @@ def judged(league, lines):
         said.append(f"tour {t + 1} travel {sum(league['distances'][a][b] for a, b in zip(places, places[1:]))}")
     for t, row in enumerate(table):
         said += runs(t + 1, row, league.get("at_most", 3))
-    for r in range(0 if model.has_free_repeats(league) else 2 * (teams - 1) - 1):
+    for r in range(2 * (teams - 1) - 1):
         same = [(row[r][0], t) for t, row in enumerate(table) if row[r][0] == row[r + 1][0]]
-        said += [f"repeat {low + 1}-{high + 1} rounds {r + 1} {r + 2}" for low, high in same if low < high]
+        if model.counts_repeats(league):
+            said += [f"repeat {low + 1}-{high + 1} rounds {r + 1} {r + 2}" for low, high in same if low < high]
     if model.is_phased(league):
         for high in range(teams):
             for low in range(high):
