@@ -39,13 +39,7 @@ pub(crate) fn rule_hint(rule: &Value, roster: &Roster<'_>, index: u8) -> Option<
     ensures { result ≡ rule_hint index roster.now (view rule.now) }
 {
     let need = unmet(rule, roster)?;
-    Some(value_hint(
-        rule,
-        roster,
-        index,
-        need.member(),
-        need.wanted(roster),
-    ))
+    Some(value_hint(rule, roster, index, need.member(), need.wanted(roster)))
 }
 
 /// Where a member of the rule isn't as wanted.
