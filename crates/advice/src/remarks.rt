@@ -16,9 +16,7 @@ use std::alloc::{AllocError, Global};
 /// Who has a member: the league, which may be in the third format, or a rule by its number from 1.
 #[derive(Clone, Copy)]
 enum Owner {
-    League {
-        third: bool,
-    },
+    League { third: bool },
     Rule(u64),
 }
 
