@@ -31,6 +31,11 @@ loop-told-preserved g c =
     c.loop-told.line c.next_leg.new.line c.loop-told.told c.in_ok-leg.field-0 c.in-Some.leg c.loop-told.invariant c.in-Some.is next.line
     next.leg next.left)
 
+pub returns-in_err-leg : goal.returns-in_err-leg
+returns-in_err-leg g c =
+    let p = err_from_is_err_and c.from_residual-in_err-leg.result c.from_residual-in_err-leg.ensures.1 in
+    rw (p.1, p.2) c.loop-told.invariant.sent
+
 pub returns-in_err-tell : goal.returns-in_err-tell
 returns-in_err-tell g c =
     let s = c.args.setting in
