@@ -1,0 +1,87 @@
+//! Reports on a league that calls its rounds something. The texts were put to the start's known ones by hand.
+
+use crate::tests::circle::SHEET;
+use crate::tests::samples::{COMMAS, COST, JUDGED};
+use crate::tests::told::Text::Whole;
+use crate::tests::told::{Answer, Case, Command, TEXT_REPORT, check_cases};
+use commands::{CsvForm, Format, Separator, Verdict};
+use std::test::Fail;
+
+/// The circle with texts of its rounds that have marks of CSV and of HTML.
+const LABELLED: &str = r#"{"format":3,"name":"Cup & <Plate>","teams":["T1","T2","T3","T4"],
+    "short":["ONE","TWO","<3>","4&"],"rounds":["7 March","=8","a, b","<4>","\"5\"","6; 7"],
+    "distances":[[0,1,2,1],[1,0,1,2],[2,1,0,1],[1,2,1,0]],"repeats":"free"}"#;
+
+const FEASIBLE: Answer = Ok(Some(Verdict::Feasible));
+
+/// The games of the start, with the round's text in each row.
+const TABLE: &str = "round,home,home name,away,away name,round text\n\
+    1,1,T1,4,T4,7 March\n\
+    1,2,T2,3,T3,7 March\n\
+    2,1,T1,2,T2,'=8\n\
+    2,4,T4,3,T3,'=8\n\
+    3,2,T2,4,T4,\"a, b\"\n\
+    3,3,T3,1,T1,\"a, b\"\n\
+    4,3,T3,2,T2,<4>\n\
+    4,4,T4,1,T1,<4>\n\
+    5,2,T2,1,T1,\"\"\"5\"\"\"\n\
+    5,3,T3,4,T4,\"\"\"5\"\"\"\n\
+    6,1,T1,3,T3,6; 7\n\
+    6,4,T4,2,T2,6; 7\n";
+
+const SEMICOLONS: CsvForm = CsvForm {
+    separator: Separator::Semicolon,
+    has_mark: false,
+};
+
+/// The same with semicolons.
+const TABLE_OF_SEMICOLONS: &str = "round;home;home name;away;away name;round text\n\
+    1;1;T1;4;T4;7 March\n\
+    1;2;T2;3;T3;7 March\n\
+    2;1;T1;2;T2;'=8\n\
+    2;4;T4;3;T3;'=8\n\
+    3;2;T2;4;T4;a, b\n\
+    3;3;T3;1;T1;a, b\n\
+    4;3;T3;2;T2;<4>\n\
+    4;4;T4;1;T1;<4>\n\
+    5;2;T2;1;T1;\"\"\"5\"\"\"\n\
+    5;3;T3;4;T4;\"\"\"5\"\"\"\n\
+    6;1;T1;3;T3;\"6; 7\"\n\
+    6;4;T4;2;T2;\"6; 7\"\n";
+
+const TABLES: &[Case<'_>] = &[
+    (
+        Command::Report(Format::Csv(COMMAS)),
+        &[LABELLED, JUDGED, SHEET],
+        FEASIBLE,
+        Whole(&[TABLE]),
+    ),
+    (
+        Command::Report(Format::Csv(SEMICOLONS)),
+        &[LABELLED, JUDGED, SHEET],
+        FEASIBLE,
+        Whole(&[TABLE_OF_SEMICOLONS]),
+    ),
+];
+
+/// The tables are the same schedule again.
+const READ_AGAIN: &[Case<'_>] = &[
+    (
+        TEXT_REPORT,
+        &[LABELLED, JUDGED, TABLE],
+        FEASIBLE,
+        Whole(&[SHEET, COST]),
+    ),
+    (
+        TEXT_REPORT,
+        &[LABELLED, JUDGED, TABLE_OF_SEMICOLONS],
+        FEASIBLE,
+        Whole(&[SHEET, COST]),
+    ),
+];
+
+#[test]
+fn tables_have_the_texts_of_rounds_and_are_read_again(rt: HostRuntime) -> Result<(), Fail> {
+    check_cases(&rt, rt.alloc(), TABLES)?;
+    check_cases(&rt, rt.alloc(), READ_AGAIN)
+}
