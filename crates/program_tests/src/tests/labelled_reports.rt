@@ -2,7 +2,7 @@
 
 use crate::tests::circle::SHEET;
 use crate::tests::samples::{COMMAS, COST, JUDGED};
-use crate::tests::told::Text::Whole;
+use crate::tests::told::Text::{Excerpt, Whole};
 use crate::tests::told::{Answer, Case, Command, TEXT_REPORT, check_cases};
 use commands::{CsvForm, Format, Separator, Verdict};
 use std::test::Fail;
@@ -79,6 +79,42 @@ const READ_AGAIN: &[Case<'_>] = &[
         Whole(&[SHEET, COST]),
     ),
 ];
+
+/// The games of the start in words.
+const IN_WORDS: &str = "Round 1, 7 March\nT1 - T4\nT2 - T3\n\n\
+    Round 2, =8\nT1 - T2\nT4 - T3\n\n\
+    Round 3, a, b\nT2 - T4\nT3 - T1\n\n\
+    Round 4, <4>\nT3 - T2\nT4 - T1\n\n\
+    Round 5, \"5\"\nT2 - T1\nT3 - T4\n\n\
+    Round 6, 6; 7\nT1 - T3\nT4 - T2\n";
+
+/// Parts of the list by round on a page.
+const BY_ROUND: &[&str] = &[
+    "<section><h3>Round 1, 7 March</h3><div>T1 - T4</div><div>T2 - T3</div></section>\n\
+    <section><h3>Round 2, =8</h3><div>T1 - T2</div><div>T4 - T3</div></section>\n",
+    "<section><h3>Round 4, &lt;4&gt;</h3><div>T3 - T2</div>",
+    "<section><h3>Round 5, &quot;5&quot;</h3><div>T2 - T1</div>",
+];
+
+const ROUNDS: &[Case<'_>] = &[
+    (
+        Command::Report(Format::Names),
+        &[LABELLED, JUDGED, SHEET],
+        FEASIBLE,
+        Whole(&[IN_WORDS]),
+    ),
+    (
+        Command::Report(Format::Html),
+        &[LABELLED, JUDGED, SHEET],
+        FEASIBLE,
+        Excerpt("<!DOCTYPE html>", BY_ROUND, "</html>\n"),
+    ),
+];
+
+#[test]
+fn rounds_are_called_by_number_and_text(rt: HostRuntime) -> Result<(), Fail> {
+    check_cases(&rt, rt.alloc(), ROUNDS)
+}
 
 #[test]
 fn tables_have_the_texts_of_rounds_and_are_read_again(rt: HostRuntime) -> Result<(), Fail> {
