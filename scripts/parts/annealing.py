@@ -63,7 +63,8 @@ class Counts:
     def __init__(self, league):
         self.league, self.teams, self.rules = league, len(league["teams"]), league.get("rules")
         self.at_most = league.get("at_most", 3)
-        self.half = self.teams - 1 if league.get("format") == 2 and league.get("phased") else 0
+        self.half = self.teams - 1 if model.is_phased(league) else 0
+        self.counts_repeats = model.counts_repeats(league)
         self.opponents = bytes(code % self.teams for code in range(256))
         self.sides = bytes(b"AH"[code >= self.teams] for code in range(256))
         self.of_row = lru_cache(1 << 16)(self.of_row)
@@ -74,7 +75,7 @@ class Counts:
         places = [team, *(team if side == 72 else opponent for side, opponent in zip(sides, opponents)), team]
         travel = sum(self.league["distances"][a][b] for a, b in zip(places, places[1:]))
         runs = sum(model.over(len(stretch), self.at_most) for stretch in STRETCHES.findall(sides))
-        repeats = sum(a == b for a, b in zip(opponents, opponents[1:]))
+        repeats = self.counts_repeats * sum(a == b for a, b in zip(opponents, opponents[1:]))
         # who isn't met in a half is met twice in the other one
         unphased = 2 * (self.half - len({*opponents[: self.half]}))
         return travel, 2 * runs + repeats + unphased

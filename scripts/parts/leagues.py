@@ -50,13 +50,34 @@ def drawn_rule(draw, teams, name, edges=False):
     return {"class": name, **weight, **slots, **members[name]()}
 
 
+def by_name(draw, names, rule):
+    """The rule with some of the teams that it lists by name."""
+    named = lambda team: [*map(named, team)] if isinstance(team, list) else draw.choice([team, names[team - 1]])
+    return rule | {name: named(rule[name]) for name in ("teams", "teams1", "teams2", "games") if name in rule}
+
+
+def labelled(draw, league):
+    """The league in the third format, perhaps with labels and free repeats, and with some teams of its rules by name."""
+    names = league["teams"]
+    labels = {
+        "name": draw.choice(["a", "Liga \u00e4 <b>", "n" * 80]),
+        "short": [f"S{k}" for k in range(len(names))],
+        "rounds": [f"{k}. <day>" for k in range(2 * (len(names) - 1))],
+        "repeats": draw.choice(["free", "free", "forbidden"]),
+    }
+    return league | {
+        "rules": [by_name(draw, names, rule) for rule in league["rules"]],
+        **{name: label for name, label in labels.items() if draw.randrange(2)},
+    }
+
+
 def drawn(draw, teams, form, rules):
     """A league of so many teams in this format, with these rules."""
     distances = [[0] * teams for _ in range(teams)]
     for i in range(teams):
         for j in range(i):
             distances[i][j] = distances[j][i] = draw.randint(0, draw.choice([5, 1000]))
-    return {
+    league = {
         "format": form,
         "teams": [f"T{i + 1}" for i in range(teams)],
         "distances": distances,
@@ -66,12 +87,13 @@ def drawn(draw, teams, form, rules):
         "start": draw.choice(["plain", "fide"]),
         "phased": draw.choice([True, False]),
     }
+    return labelled(draw, league) if form == 3 else league
 
 
-def any_league(draw, sizes, most):
-    """A league of one of these sizes, in either format, with up to so many rules."""
-    teams, form = draw.choice(sizes), draw.choice([1, 2])
-    classes = [name for name in CLASSES if form == 2 or name != "FA2"]
+def any_league(draw, sizes, most, forms=(1, 2, 3)):
+    """A league of one of these sizes, in one of these formats, with up to so many rules."""
+    teams, form = draw.choice(sizes), draw.choice(forms)
+    classes = [name for name in CLASSES if form > 1 or name != "FA2"]
     return drawn(draw, teams, form, [drawn_rule(draw, teams, draw.choice(classes)) for _ in range(draw.randint(0, most))])
 
 

@@ -1,8 +1,9 @@
-"""Schedules, moves and costs of leagues of both formats, written from docs/model.md, docs/rules.md and docs/league-format.md. Nothing in
+"""Schedules, moves and costs of leagues of all formats, written from docs/model.md, docs/rules.md and docs/league-format.md. Nothing in
 this folder shares code with the crates.
 
 A league may say here what no text says: `begin` is the round of each pair of teams at the start, home first, `keep` the pairs whose games
 are kept, and `near` what each game costs that has another round than at the start. Teams and rounds count from 0 in these."""
+import json
 from itertools import accumulate, combinations, groupby
 
 GREATEST = 2**64 - 1
@@ -14,6 +15,17 @@ MOVES = {
     "part-rounds": "trr",
     "part-teams": "ttr",
 }
+
+
+def read(text):
+    """The league of a text, in whose rules each team stands by its number: the third format has names there too."""
+    league = json.loads(text)
+    if league.get("format") != 3:
+        return league
+    numbers = {name: number for number, name in enumerate(league["teams"], 1)}
+    numbered = lambda teams: [numbered(team) if isinstance(team, list) else numbers.get(team, team) for team in teams]
+    members = lambda rule: {name: numbered(rule[name]) for name in ("teams", "teams1", "teams2", "games") if name in rule}
+    return league | {"rules": [rule | members(rule) for rule in league.get("rules", [])]}
 
 
 def start(teams):
@@ -40,7 +52,7 @@ def start_of(league):
         return league["begin"]
     teams = len(league["teams"])
     games = start(teams)
-    if league.get("format") == 2 and league.get("start") == "fide":
+    if league.get("format", 1) >= 2 and league.get("start") == "fide":
         swap = other(teams - 3, teams - 2)
         return {pair: swap(r) for pair, r in games.items()}
     return games
@@ -140,14 +152,25 @@ def away_from_start(games, league):
     return sum(games[pair] != r for pair, r in start_of(league).items())
 
 
+def is_phased(league):
+    """Whether the two games of each pair belong into different halves."""
+    return league.get("format", 1) >= 2 and league.get("phased", False)
+
+
+def counts_repeats(league):
+    """Whether two games of a pair in consecutive rounds are a breach."""
+    return league.get("format", 1) < 3 or league.get("repeats") != "free"
+
+
 def broken(games, league):
     """What hard limits the games break, by its name, and how often."""
     teams, at_most = len(league["teams"]), league.get("at_most", 3)
     table = cells(games, teams)
     stretches = (len(list(stretch)) for row in table for _, stretch in groupby(row, key=lambda cell: cell[1]))
     counts = {"runs": sum(over(length, at_most) for length in stretches)}
-    counts["repeats"] = sum(row[r][0] == row[r + 1][0] for row in table for r in range(len(row) - 1)) // 2
-    if league.get("format") == 2 and league.get("phased"):
+    if counts_repeats(league):
+        counts["repeats"] = sum(row[r][0] == row[r + 1][0] for row in table for r in range(len(row) - 1)) // 2
+    if is_phased(league):
         counts["halves"] = sum(len({r < teams - 1 for r in (games[h, a], games[a, h])}) == 1 for h, a in games if h < a)
     for i, rule in enumerate(league.get("rules", []), 1):
         if rule["kind"] == "hard":
@@ -170,8 +193,9 @@ def cost(games, league):
         travel += sum(distances[a][b] for a, b in zip(places, places[1:]))
         windows = [{home for _, home in row[r : r + at_most + 1]} for r in range(len(row) - at_most)]
         hard += sum(len(window) == 1 for window in windows)
-    hard += sum(abs(games[h, a] - games[a, h]) == 1 for h, a in games if h < a)
-    if league.get("format") == 2 and league.get("phased"):
+    if counts_repeats(league):
+        hard += sum(abs(games[h, a] - games[a, h]) == 1 for h, a in games if h < a)
+    if is_phased(league):
         half = len(distances) - 1
         hard += sum((games[h, a] < half) == (games[a, h] < half) for h, a in games if h < a)
     for rule in league.get("rules", []):

@@ -1,5 +1,4 @@
 """Reports on schedules, written from docs/report.md."""
-import json
 from itertools import groupby
 
 from . import model
@@ -126,12 +125,13 @@ def runs(team, row, at_most):
 
 
 KNOWN = set("format teams distances at_most hard_weight rules start phased".split())
+KNOWN_IN_THIRD = set("name short rounds repeats".split())
 KNOWN_IN_RULE = set("class kind weight teams teams1 teams2 slots mode mode2 max min intp games".split())
 
 
 def remarks(league):
-    """A line for each member that no format knows."""
-    owners = [("the league", league, KNOWN)]
+    """A line for each member that isn't known."""
+    owners = [("the league", league, KNOWN | (KNOWN_IN_THIRD if league["format"] == 3 else set()))]
     owners += [(f"rule {i}", rule, KNOWN_IN_RULE) for i, rule in enumerate(league.get("rules", []), 1)]
     for owner, members, known in owners:
         for name in sorted(members.keys() - known, key=lambda name: name.encode()):
@@ -141,7 +141,7 @@ def remarks(league):
 
 def report(text, lines):
     """The exit status and the lines of the report of a league's text, which has to be one, and the lines after `sheet`."""
-    league = json.loads(text)
+    league = model.read(text)
     status, said = judged(league, lines)
     return status, [*said, *remarks(league)]
 
@@ -174,8 +174,9 @@ def judged(league, lines):
         said += runs(t + 1, row, league.get("at_most", 3))
     for r in range(2 * (teams - 1) - 1):
         same = [(row[r][0], t) for t, row in enumerate(table) if row[r][0] == row[r + 1][0]]
-        said += [f"repeat {low + 1}-{high + 1} rounds {r + 1} {r + 2}" for low, high in same if low < high]
-    if league.get("format") == 2 and league.get("phased"):
+        if model.counts_repeats(league):
+            said += [f"repeat {low + 1}-{high + 1} rounds {r + 1} {r + 2}" for low, high in same if low < high]
+    if model.is_phased(league):
         for high in range(teams):
             for low in range(high):
                 there, back = games[low, high], games[high, low]

@@ -1,5 +1,4 @@
 """Sheets, boards and play texts, written from docs/sheet.md and docs/script.md."""
-import json
 
 from . import model
 from .model import GREATEST, MOVES
@@ -104,7 +103,7 @@ def play_line(board, number, line):
 
 def play(text, script, room=1024):
     """The lines of the play text of a league's text, which has to be one, and script lines."""
-    league = json.loads(text)
+    league = model.read(text)
     board = Board(league, room)
     yield "start " + shown(board.cost)
     for number, line in enumerate(script, 1):

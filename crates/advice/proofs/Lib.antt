@@ -1,3 +1,4 @@
 mod Added
 mod Firsts
 mod Texts
+mod Names

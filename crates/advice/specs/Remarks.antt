@@ -1,5 +1,5 @@
 -- Remarks on the members of a league's text that no format knows.
-use Rattle.std.specs.Prelude.{ℕ, ◌+◌, List, [], ◌∷◌, ◌++◌, map, codes, decimal, Bool, Option, Some, None}
+use Rattle.std.specs.Prelude.{ℕ, ◌+◌, ◌&&◌, ◌||◌, List, [], ◌∷◌, ◌++◌, map, codes, decimal, Bool, Option, Some, None}
 use Rattle.std.specs.Prelude.{option_and_then, if◌then◌else◌}
 use Rattle.std.specs.List.{concat, list_any}
 use Rattle.std.specs.Str.{bytes_eq}
@@ -7,6 +7,7 @@ use Rattle.serde_json.specs.Data.{Data, Items, no_items, item, Members, no_membe
 use Rattle.serde_json.specs.Find.{get, as_array, as_object}
 use Rattle.league.specs.Json.{json_of}
 use Rattle.json_forms.specs.Shown.{shown_byte}
+use Rattle.advice.specs.Rosters.{is_third}
 use Rattle.advice.specs.declared.remarks.Owner.{Owner}
 use Rattle.advice.specs.declared.remarks.Owner.TheVariants.{League, Rule}
 
@@ -15,19 +16,23 @@ is_one_of names name = list_any (bytes_eq name) names
 
 abbrev pub is_league_member : List ℕ → Bool
 is_league_member = is_one_of (codes "format" ∷ codes "teams" ∷ codes "distances" ∷ codes "at_most" ∷ codes "hard_weight" ∷ codes "rules"
-    ∷ codes "start" ∷ codes "phased" ∷ codes "name" ∷ codes "short" ∷ codes "rounds" ∷ codes "repeats" ∷ [])
+    ∷ codes "start" ∷ codes "phased" ∷ [])
+
+-- of the third format alone
+abbrev pub is_later_member : List ℕ → Bool
+is_later_member = is_one_of (codes "name" ∷ codes "short" ∷ codes "rounds" ∷ codes "repeats" ∷ [])
 
 abbrev pub is_rule_member : List ℕ → Bool
 is_rule_member = is_one_of (codes "class" ∷ codes "kind" ∷ codes "weight" ∷ codes "teams" ∷ codes "teams1" ∷ codes "teams2" ∷ codes
     "slots" ∷ codes "mode" ∷ codes "mode2" ∷ codes "max" ∷ codes "min" ∷ codes "intp" ∷ codes "games" ∷ [])
 
--- some format knows the member
+-- some format knows the member, or the league is in the third and that does
 abbrev pub knows : Owner → List ℕ → Bool
-knows League name = is_league_member name
+knows (League third) name = is_league_member name || (third && is_later_member name)
 knows (Rule number) name = is_rule_member name
 
 abbrev pub owner_words : Owner → List ℕ
-owner_words League = codes "the league"
+owner_words (League third) = codes "the league"
 owner_words (Rule number) = codes "rule " ++ decimal number
 
 abbrev pub remark_line : Owner → List ℕ → List ℕ
@@ -57,7 +62,7 @@ remarks_of_rules (Some rules) = rule_remarks 1 rules
 
 -- on the league, and then on each rule
 abbrev pub remarks_of : Data → List ℕ
-remarks_of d = remarks_in League (as_object d) ++ remarks_of_rules (option_and_then as_array (get (codes "rules") d))
+remarks_of d = remarks_in (League (is_third d)) (as_object d) ++ remarks_of_rules (option_and_then as_array (get (codes "rules") d))
 
 -- on the value of a text; bytes that are no JSON have none
 abbrev pub remarks_of_value : Option Data → List ℕ

@@ -1,5 +1,5 @@
 -- The teams that a league's text lets rules list.
-use Rattle.std.specs.Prelude.{ℕ, ◌+◌, List, [], ◌∷◌, not, Bool, Option, Some, None, codes, is_some, option_map, option_and_then}
+use Rattle.std.specs.Prelude.{ℕ, List, [], ◌∷◌, not, Bool, Option, Some, None, codes, is_some, option_map, option_and_then}
 use Rattle.std.specs.Prelude.{if◌then◌else◌}
 use Rattle.std.specs.List.{list_any}
 use Rattle.std.specs.Option.{unwrap_or}
@@ -17,16 +17,16 @@ abbrev pub names_of : Items → List (List ℕ)
 names_of no_items = []
 names_of (item d ds) = unwrap_or (as_str d) [] ∷ names_of ds
 
--- whether rules can list teams by name: from the third format on
-abbrev pub has_names : Data → Bool
-has_names d = is_some (option_and_then (number_within 3 max_format) (get (codes "format") d))
+-- a text in the third format
+abbrev pub is_third : Data → Bool
+is_third d = is_some (option_and_then (number_within 3 max_format) (get (codes "format") d))
 
 abbrev pub team_names : Data → List (List ℕ)
 team_names d = unwrap_or (option_map names_of (option_and_then as_array (get (codes "teams") d))) []
 
--- the names by which the rules of a text can list teams
+-- the names by which the rules of a text can list teams, which the third format has
 abbrev pub names_in : Data → List (List ℕ)
-names_in d = if has_names d then team_names d else []
+names_in d = if is_third d then team_names d else []
 
 -- the first item that lists no team
 abbrev pub first_unlisted : RosterData → Items → Option Data

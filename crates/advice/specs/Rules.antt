@@ -97,6 +97,10 @@ value_hint i roster d member wanted =
     unwrap_or (name_hint i roster d member wanted)
     (hint.Value (Member (i + 1) member) (rule_seen roster (rule_member_name member) wanted d) wanted)
 
+-- a need isn't met
+abbrev pub need_hint : ℕ → RosterData → Data → Need → Hint
+need_hint i roster d x = value_hint i roster d (member_of x) (wanted_of roster x)
+
 -- the rule at an index has a wrong value
 abbrev pub rule_hint : ℕ → RosterData → Data → Option Hint
-rule_hint i roster d = option_map (λ x. value_hint i roster d (member_of x) (wanted_of roster x)) (unmet roster d)
+rule_hint i roster d = option_map (need_hint i roster d) (unmet roster d)

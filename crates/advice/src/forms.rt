@@ -8,9 +8,23 @@ ghost use Rattle.std.specs.List.{list_all};
 ghost use Rattle.league.specs.LeagueMembers.{is_name_byte, text_within};
 ghost use Rattle.league.specs.Rosters.{listed_team};
 ghost use Rattle.advice.specs.Firsts.{item_count};
+ghost use Rattle.advice.specs.Rosters.{is_third};
 
 use crate::rosters::Roster;
 use serde_json::Value;
+
+/// The last format of a league's text.
+pub(crate) const LAST_FORMAT: u64 = 3;
+
+/// Whether the league is in the third format.
+pub(crate) fn is_third(league: &Value) -> bool
+    ensures { result ≡ is_third (view league.now) }
+{
+    match league.get("format") {
+        Some(format) => number_within(format, 3, LAST_FORMAT).is_some(),
+        None => false,
+    }
+}
 
 /// How many items an array has; 0 if the value is no array.
 #[tactic(auto, using(league::proofs::Items::items_len_same))]

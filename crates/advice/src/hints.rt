@@ -2,15 +2,15 @@
 
 ghost use Rattle.std.specs.Prelude.{◌≡◌, ◌≤◌, IfOk, IfSome, option_and_then, option_map};
 ghost use Rattle.serde_json.specs.View.{view, items_view};
-ghost use Rattle.advice.specs.Rosters.{has_names, names_in, names_of, team_names};
+ghost use Rattle.advice.specs.Rosters.{names_in, names_of, team_names};
 ghost use Rattle.league.specs.Limits.{max_teams};
 ghost use Rattle.advice.specs.Hints.{kind_hint, part_hint, table_hint_of, rule_at, rule_count, team_count, within_most, roster_in, rule_hint_of, hint_of, IsHint};
 
 use crate::distances::distances_hint;
-use crate::forms::{item_count, number_within};
+use crate::forms::{is_third, item_count};
 use crate::hint::Hint;
 use crate::json::json_of;
-use crate::members::{LAST_FORMAT, field_hint, rules_hint, whole_hint};
+use crate::members::{field_hint, rules_hint, whole_hint};
 use crate::rosters::Roster;
 use crate::rules::{class_hint, rule_hint};
 use crate::teams::teams_hint;
@@ -96,11 +96,11 @@ fn roster_in(league: &Value) -> Option<Roster<'_>>
     Some(Roster::new(teams, names_in(league)))
 }
 
-/// Those that they can list by name.
+/// Those that they can list by name: in the third format.
 fn names_in(league: &Value) -> &[Value]
     ensures { names_of (items_view result.now) ≡ names_in (view league.now) }
 {
-    if has_names(league) {
+    if is_third(league) {
         teams_in(league)
     } else {
         &[]
@@ -113,16 +113,6 @@ fn teams_in(league: &Value) -> &[Value]
     match league.get("teams").and_then(|teams| teams.as_array()) {
         Some(teams) => teams.as_slice(),
         None => &[],
-    }
-}
-
-/// Whether rules can list teams by name: from the third format on.
-fn has_names(league: &Value) -> bool
-    ensures { result ≡ has_names (view league.now) }
-{
-    match league.get("format") {
-        Some(format) => number_within(format, 3, LAST_FORMAT).is_some(),
-        None => false,
     }
 }
 

@@ -5,16 +5,13 @@ ghost use Rattle.serde_json.specs.View.{view};
 ghost use Rattle.league.specs.Messages.{member_name};
 ghost use Rattle.advice.specs.Members.{field_hint, no_rule, no_rule_at, rules_hint, wanted_in, whole_hint};
 
-use crate::forms::item_count;
+use crate::forms::{LAST_FORMAT, item_count};
 use crate::hint::{Hint, Place, Seen, Wanted};
 use crate::seen::seen_of;
 use json_forms::Form;
 use league::Field;
 use league::limits::{MAX_ROUNDS, MAX_WEIGHT};
 use serde_json::Value;
-
-/// The last format of a league's text.
-pub(crate) const LAST_FORMAT: u64 = 3;
 
 /// A member of the league as a whole, and what it has to be.
 pub(crate) fn field_hint(league: &Value, field: Field) -> Hint

@@ -1,4 +1,4 @@
-//! Remarks on the members of a league's text that no format knows.
+//! Remarks on the members of a league's text that aren't known.
 
 ghost use Rattle.std.specs.Prelude.{◌≡◌, ◌++◌, map, IfOk, OnOk};
 ghost use Rattle.serde_json.specs.Find.{as_object};
@@ -7,15 +7,16 @@ ghost use Rattle.advice.specs.Remarks.{knows, owner_words, remark_line, remark};
 ghost use Rattle.json_forms.specs.Shown.{shown_byte};
 ghost use Rattle.advice.specs.Remarks.{member_remarks, remarks_in, rule_remarks, remarks_of, remarks_on};
 
+use crate::forms::is_third;
 use crate::json::json_of;
 use json_forms::shown_byte;
 use serde_json::{Map, Value};
 use std::alloc::{AllocError, Global};
 
-/// Who has a member: the league, or a rule by its number from 1.
+/// Who has a member: the league, which may be in the third format, or a rule by its number from 1.
 #[derive(Clone, Copy)]
 enum Owner {
-    League,
+    League { third: bool },
     Rule(u64),
 }
 
@@ -24,7 +25,7 @@ impl Owner {
         ensures { result ≡ knows self member.now }
     {
         match self {
-            Owner::League => match member {
+            Owner::League { third } => match member {
                 "format"
                 | "teams"
                 | "distances"
@@ -32,11 +33,8 @@ impl Owner {
                 | "hard_weight"
                 | "rules"
                 | "start"
-                | "phased"
-                | "name"
-                | "short"
-                | "rounds"
-                | "repeats" => true,
+                | "phased" => true,
+                "name" | "short" | "rounds" | "repeats" => third,
                 _ => false,
             },
             Owner::Rule(_) => match member {
@@ -59,8 +57,8 @@ impl Owner {
     }
 }
 
-/// A line for each member of a league's text that no format knows: those of the league and then those of each rule, in the order
-/// of their names. A control byte in a name is shown as a question mark. Bytes that are no JSON have no remarks.
+/// A line for each member of a league's text that isn't known: those of the league and then those of each rule, in the order of
+/// their names. The members of the third format are known in it alone, all others always. A control byte in a name is shown as a question mark. Bytes that are no JSON have no remarks.
 #[tactic(auto, unfolding(crate::specs::Remarks::remarks_on))]
 pub fn remarks_on(alloc: Global, text: &[u8]) -> Result<Vec<u8>, AllocError>
     ensures { IfOk result (λ remarks. remarks.items ≡ remarks_on text.now) }
@@ -75,7 +73,10 @@ fn remarks_of(alloc: Global, league: &Value) -> Result<Vec<u8>, AllocError>
     ensures { IfOk result (λ remarks. remarks.items ≡ remarks_of (view league.now)) }
 {
     let mut remarks = Vec::new(alloc);
-    push_owned(&mut remarks, Owner::League, league)?;
+    let owner = Owner::League {
+        third: is_third(league),
+    };
+    push_owned(&mut remarks, owner, league)?;
     if let Some(rules) = league.get("rules").and_then(|rules| rules.as_array()) {
         push_rules(&mut remarks, rules)?;
     }
@@ -141,7 +142,7 @@ fn push_owner(remarks: &mut Vec<u8>, owner: Owner) -> Result<(), AllocError>
     ensures { OnOk result (remarks.new.items ≡ remarks.old.items ++ owner_words owner) }
 {
     match owner {
-        Owner::League => remarks.extend_from_slice(b"the league"),
+        Owner::League { .. } => remarks.extend_from_slice(b"the league"),
         Owner::Rule(number) => {
             let mut digits = itoa::Buffer::new();
             remarks.extend_from_slice(b"rule ")?;

@@ -55,10 +55,11 @@ impl<'a> Roster<'a> {
     }
 
     /// Whether rules can list none of the teams by name.
+    #[tactic(auto, using(crate::proofs::Names::length_names))]
     pub(crate) fn is_nameless(&self) -> bool
         ensures { result ≡ (length self.now.names == 0) }
     {
-        self.names.is_empty()
+        self.names.len() == 0
     }
 
     /// The number, from 1, of the team that a text lists.

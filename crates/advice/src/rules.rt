@@ -2,7 +2,7 @@
 
 ghost use Rattle.std.specs.Prelude.{◌≡◌, option_map};
 ghost use Rattle.serde_json.specs.View.{view};
-ghost use Rattle.advice.specs.Rules.{first_unmet, needs_of, unmet, member_hint, name_hint, value_hint, class_hint, rule_hint, wrong_name_in};
+ghost use Rattle.advice.specs.Rules.{first_unmet, needs_of, unmet, member_hint, name_hint, need_hint, value_hint, class_hint, rule_hint, wrong_name_in};
 
 use crate::forms::text_member;
 use crate::hint::{Hint, Place, RuleMember, Wanted};
@@ -39,13 +39,15 @@ pub(crate) fn rule_hint(rule: &Value, roster: &Roster<'_>, index: u8) -> Option<
     ensures { result ≡ rule_hint index roster.now (view rule.now) }
 {
     let need = unmet(rule, roster)?;
-    Some(value_hint(
-        rule,
-        roster,
-        index,
-        need.member(),
-        need.wanted(roster),
-    ))
+    Some(need_hint(rule, roster, index, need))
+}
+
+/// Where the rule doesn't meet a need.
+fn need_hint(rule: &Value, roster: &Roster<'_>, index: u8, need: Need) -> Hint
+    ensures { result ≡ need_hint index roster.now (view rule.now) need }
+{
+    let wanted = need.wanted(roster);
+    value_hint(rule, roster, index, need.member(), wanted)
 }
 
 /// Where a member of the rule isn't as wanted.

@@ -5,3 +5,4 @@ mod lines;
 mod memory;
 mod numbers;
 mod remarks;
+mod third_format;

@@ -8,7 +8,8 @@ use Rattle.serde_json.specs.Data.{Data, Items, Members, unsigned, number, string
 use Rattle.serde_json.specs.Read.{of_json, of_items, number_of}
 use Rattle.serde_json.proofs.Numbers.{number_of-decimal}
 use Rattle.league.specs.Json.{all_items}
-use Rattle.league.specs.LeagueMembers.{is_team_name, team_name, team_names, distance_row, distance_rows}
+use Rattle.league.specs.Limits.{max_name}
+use Rattle.league.specs.LeagueMembers.{is_team_name, text_within, team_names, distance_row, distance_rows}
 use Rattle.distance_tables.proofs.Lexed.{AreSmall, RowsAreSmall}
 use Rattle.distance_tables.proofs.Tokens.{name_items, number_items, row_items}
 
@@ -40,7 +41,7 @@ rows_are (row ∷ rows) small = rw (numbers_are row small.0, rows_are rows small
 
 -- ---- as a league reads it
 
-pub names_read : (names : List (List ℕ)) → list_all is_team_name names ≡ true → all_items team_name (name_data names) ≡ Some names
+pub names_read : (names : List (List ℕ)) → list_all is_team_name names ≡ true → all_items (text_within max_name) (name_data names) ≡ Some names
 names_read [] pass = refl
 names_read (name ∷ names) pass =
     let parts = and_parts (is_team_name name) (list_all is_team_name names) pass in rw (parts.0, names_read names parts.1) refl

@@ -31,9 +31,6 @@ is_team_name = is_text_within max_name
 abbrev pub text_within : ℕ → Data → Option (List ℕ)
 text_within most d = option_and_then (λ text. only_if (is_text_within most text) text) (as_str d)
 
-abbrev pub team_name : Data → Option (List ℕ)
-team_name = text_within max_name
-
 abbrev pub texts_within : ℕ → Data → Option (List (List ℕ))
 texts_within most = array_of (text_within most)
 

@@ -18,7 +18,6 @@ from .. import TOP, leagues, model, robinx_counts
 from ..robinx_instance import instance_of
 
 SCRIPT, READY = TOP / "scripts" / "robinx", TOP / "leagues" / "robinx"
-REPEATS = "remark: in the league no two teams may meet in consecutive rounds, which the instance doesn't ask of all teams\n"
 SUM = "remark: the objective TR has soft constraints beside it: their penalties are added to the travel\n"
 
 passed = failed = 0
@@ -100,9 +99,9 @@ def check_ready():
     FA2  soft 10   after round 2 team 1 has had 2 home games and 3 none: 1 above 1          soft 10
     SE1  soft 10   1-4 in round 1, 4-1 in round 4, 2 rounds between: 1 below 3              soft 10
     They add up to hard 22 and soft 82."""
-    for name, remarks in (("national-4", ""), ("classes-4", REPEATS)):
+    for name in ("national-4", "classes-4"):
         instance, sheet = READY / f"{name}.xml", READY / f"{name}.txt"
-        judge(f"the league of {name}", run("league", instance), (0, ready(f"{name}.json"), remarks))
+        judge(f"the league of {name}", run("league", instance), (0, ready(f"{name}.json"), ""))
         judge(f"the solution of {name}", run("solution", instance, sheet), (0, ready(f"{name}-solution.xml"), ""))
 
 
@@ -253,7 +252,7 @@ OF_EACH_TEAM = [
     (HOME, "".join(run_limit(teams1=team) for team in range(4))),
     (AWAY, "".join(run_limit(teams1=team, mode1="A", teams2="0;1;2;3".replace(str(team), "")) for team in range(4))),
 ]
-# edits of NATIONAL: what `at_most` becomes, the rules, and the remarks
+# edits of NATIONAL: what `at_most` becomes, the rules, and the remarks. Those behind them have free repeats
 LIMITS = {
     "a constraint of each team": (OF_EACH_TEAM, 3, [], ""),
     "runs of two": ([(HOME, run_limit(intp=3, max=2)), (AWAY, run_limit(mode1="A", intp=3, max=2))], 2, [], ""),
@@ -264,24 +263,27 @@ LIMITS = {
     "a limit against three teams": ([(HOME, run_limit(teams2="0;1;2"))], 6, [runs_rule(teams2=[1, 2, 3]), AWAY_RULE], ""),
     "a longer window": ([(HOME, run_limit(intp=5))], 6, [runs_rule(intp=5), AWAY_RULE], ""),
     "a limit in games": ([(HOME, run_limit(mode2="GAMES"))], 3, [], ""),
-    "no SE1": ([(SE1, "")], 3, [], REPEATS),
-    "a soft SE1": ([(SE1, separation(type="SOFT"))], 3, [{**separation_rule(kind="soft", min=1), "weight": 1}], REPEATS + SUM),
     "an SE1 of two rounds": ([(SE1, separation(min=2, max=4))], 3, [separation_rule(min=2)], ""),
-    "an SE1 of three teams": ([(SE1, separation(teams="0;1;2"))], 3, [], REPEATS),
-    "an SE1 of no rounds": ([(SE1, separation(min=0))], 3, [separation_rule(min=0)], REPEATS),
+    "two SE1 of all pairs": ([(SE1, separation(teams="0;1;2") + separation(teams="0;1;3") + separation(teams="2;3"))], 3, [], ""),
+}
+FREE = {
+    "no SE1": ([(SE1, "")], 3, [], ""),
+    "a soft SE1": ([(SE1, separation(type="SOFT"))], 3, [{**separation_rule(kind="soft", min=1), "weight": 1}], SUM),
+    "an SE1 of three teams": ([(SE1, separation(teams="0;1;2"))], 3, [separation_rule(teams=[1, 2, 3], min=1)], ""),
+    "an SE1 of no rounds": ([(SE1, separation(min=0))], 3, [separation_rule(min=0)], ""),
 }
 
 
 def check_limits():
-    for name, (edits, at_most, rules, remarks) in LIMITS.items():
+    for name, (edits, at_most, rules, remarks) in {**LIMITS, **FREE}.items():
         league, said = league_of(edited(NATIONAL, *edits))
         judge(name, (league["at_most"], league.get("rules", []), said), (at_most, rules, remarks))
+        judge(f"repeats with {name}", league.get("repeats"), "free" if name in FREE else None)
     league, _ = league_of(edited(CLASSES, ("<Distances/>", '<Distances><distance team1="0" team2="1" dist="7"/></Distances>')))
     judge("distances that the objective leaves out", league, json.loads(ready("classes-4.json")))
-    judge("the format of a phased league", league_of(edited(NATIONAL, ("NULL", "P")))[0]["format"], 2)
-    judge("the format of a league with FA2", league_of(edited(CLASSES, (">P<", "><")))[0]["format"], 2)
-    bare = edited(CLASSES, (">P<", "><"), ("<FA2 ", "<!-- "), ("</FairnessConstraints>", "--></FairnessConstraints>"))
-    judge("the format of a league without FA2", league_of(bare)[0]["format"], 1)
+    for name in ("n" * 81, "", "a&#9;b", "é" * 41):
+        judge(f"no name {name}", league_of(edited(NATIONAL, (">national-4<", f">{name}<")))[0].get("name"), None)
+    judge("the longest name", league_of(edited(NATIONAL, (">national-4<", f">{'é' * 40}<")))[0]["name"], "é" * 40)
     for old, new in ((' penalty="3"', ""), ("<CA1 ", '<CA1 kind="" ')):
         judge(f"{new} for {old}", league_of(edited(CLASSES, (old, new)))[0], json.loads(ready("classes-4.json")))
 
@@ -437,7 +439,7 @@ def check_many():
     league, said = league_of(text(rules))
     # four of CA1 and BR1 for all teams and rounds, one each of CA2, CA4 and BR2, and 4 + 4 that stay
     judge("rules that are put together", len(league["rules"]), 15)
-    judge("what is said of them", said, REPEATS + "remark: 257 rules became 15 that count the same, in another order than the constraints\n")
+    judge("what is said of them", said, "remark: 257 rules became 15 that count the same, in another order than the constraints\n")
     draw = random.Random(1)
     for _ in range(5):
         games = schedule(draw, 6)

@@ -4,7 +4,7 @@ usage: scripts/oracle as-before FOLDER [RUNS [PROGRAM [COMMAND]]]     50 runs
 
 FOLDER holds this repository as it was, as `git worktree add FOLDER COMMIT` makes it. The older program runs unproved, by `rt try`, which
 compiles it once. Half of the runs are searches, each tenth is an improvement of four or six teams, and the others start, play and report in
-turn. A COMMAND is left out: improve, if it goes by other numbers than it did. The leagues are drawn, of 4 to 20 teams in both formats, with
+turn. A COMMAND is left out: improve, if it goes by other numbers than it did. The leagues are drawn, of 4 to 20 teams in the first two formats, with
 up to four rules of each kind, and so are the seed, the slack and the script. The last line is that of `rt try`, which counts the runs; the
 status is 1 if a text differs."""
 import json
@@ -53,7 +53,7 @@ def main(older, runs=50, *others):
     with tempfile.TemporaryDirectory() as folder:
         for number in range(1, int(runs) + 1):
             draw, command = random.Random(number), commands[number % len(commands)]
-            of = leagues.any_league(draw, [4, 6] if command == "improve" else [4, 6, 8, 10, 12, 16, 20], 4)
+            of = leagues.any_league(draw, [4, 6] if command == "improve" else [4, 6, 8, 10, 12, 16, 20], 4, (1, 2))
             asked, read = words(draw, command, number), given(draw, program, command, json.dumps(of), len(of["teams"]))
             ran = subprocess.run([program, *asked], input=read, capture_output=True, text=True, check=False)
             case = f"{folder}/case{number:03}"

@@ -224,6 +224,6 @@ def main(*words):
     count = 0
     for count, (name, seed, text, lines) in enumerate(improvements(*words), 1):
         with case(f"{name}, seed {seed}"):
-            taken, legs = agree(json.loads(text), lines, seed)
+            taken, legs = agree(model.read(text), lines, seed)
         print(f"{name}, seed {seed}: {taken} of {legs} legs taken again", flush=True)
     print(f"{count} improvements agree")

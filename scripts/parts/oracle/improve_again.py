@@ -112,7 +112,7 @@ def schedule(league, sheet):
 
 def check_unkept(program, text, entry, last, counts):
     """Holds the end of an improvement without a solution to what is broken in its sheet."""
-    league = json.loads(text)
+    league = model.read(text)
     games = schedule(league, last)
     if entry != model.least_hard(games, league):
         raise ValueError(f"what is broken is told otherwise: {entry}")

@@ -29,7 +29,7 @@ def with_rules(draw):
     """The text of a drawn league with some rules of any class, many of them at an edge."""
     teams = draw.choice([4, 4, 6, 6, 8, 12, 20])
     rules = [leagues.drawn_rule(draw, teams, draw.choice(leagues.CLASSES), edges=True) for _ in range(draw.randint(1, 6))]
-    return json.dumps(leagues.drawn(draw, teams, 2, rules)) + "\n"
+    return json.dumps(leagues.drawn(draw, teams, draw.choice([2, 3]), rules)) + "\n"
 
 
 def schedule(league, draw):
@@ -68,21 +68,21 @@ def main(count=1000, seed=1, *words):
     feasible = 0
     for number in range(int(count)):
         text = with_unknown(draw.choice(ready) if draw.randrange(2) else with_rules(draw), draw)
-        lines = schedule(json.loads(draw.choice(ready) if draw.randrange(10) == 0 else text), draw)
+        lines = schedule(model.read(draw.choice(ready) if draw.randrange(10) == 0 else text), draw)
         given = text + "sheet\n" + "\n".join(lines) + draw.choice(["", "\n"])
         given = given.replace("\n", "\r\n") if draw.randrange(4) == 0 else given
         status, said = reports.report(text, lines)
         feasible += status == 0
-        for form, wanted in (("text", said), ("names", reports.in_words(json.loads(text), lines) or said)):
+        for form, wanted in (("text", said), ("names", reports.in_words(model.read(text), lines) or said)):
             ran = subprocess.run([program, "report", "--format", form], input=given.encode(), stdout=subprocess.PIPE)
             if (ran.returncode, ran.stdout.decode().splitlines()) != (status, wanted):
                 raise ValueError(f"schedule {number} of seed {seed}: ttp report --format {form} answers otherwise to\n{given}")
         ran = subprocess.run([program, "report", "--format", "json"], input=given.encode(), stdout=subprocess.PIPE)
-        wanted = json_reports.as_json(json.loads(text), lines)
+        wanted = json_reports.as_json(model.read(text), lines)
         if ran.returncode != status or (json.loads(ran.stdout) if wanted else ran.stdout.decode().splitlines()) != (wanted or said):
             raise ValueError(f"schedule {number} of seed {seed}: ttp report --format json answers otherwise to\n{given}")
         ran = subprocess.run([program, "report", "--format", "html"], input=given.encode(), stdout=subprocess.PIPE)
-        wanted = pages.wanted(json.loads(text), lines)
+        wanted = pages.wanted(model.read(text), lines)
         if ran.returncode != status or (pages.read(ran.stdout.decode()) if wanted else ran.stdout.decode().splitlines()) != (wanted or said):
             raise ValueError(f"schedule {number} of seed {seed}: ttp report --format html answers otherwise to\n{given}")
     print(f"{count} reports, {feasible} of them on feasible schedules: the same")

@@ -27,7 +27,7 @@ def line(draw, teams):
 def drawn_league(draw, name):
     teams = draw.choice(SIZES)
     rules = [leagues.drawn_rule(draw, teams, name, edges=True) for _ in range(draw.randint(1, 3))]
-    return leagues.drawn(draw, teams, 2, rules)
+    return leagues.drawn(draw, teams, draw.choice([2, 3]), rules)
 
 
 def agree(program, draw, league):
@@ -40,11 +40,12 @@ def agree(program, draw, league):
 def main(cases=1000, seed=1, *words):
     program = programs.program(words)
     for file in sorted(TOP.glob("leagues/*.json")):
-        league = json.loads(file.read_text(encoding="utf-8"))
+        text = file.read_text(encoding="utf-8")
         with case(file.name):
+            league = model.read(text)
             if programs.run(program, "start", file) != [*texts.sheet(model.start_of(league), league)]:
                 raise ValueError("another start")
-            agree(program, random.Random(f"{seed} {file.name}"), league)
+            agree(program, random.Random(f"{seed} {file.name}"), json.loads(text))
     for name in leagues.CLASSES:
         for number in range(int(cases)):
             draw = random.Random(f"{seed} {name} {number}")

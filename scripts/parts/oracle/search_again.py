@@ -10,7 +10,7 @@ import random
 import subprocess
 
 from .. import TOP, case, leagues, programs, texts
-from ..model import GREATEST, MOVES
+from ..model import GREATEST, MOVES, read
 
 # so many entries of a history are played, and so many drawn lines behind them
 LINES = 40
@@ -58,7 +58,7 @@ def drawn_line(draw, board):
 
 
 def drawn_script(draw, text, room, entries):
-    board, lines = texts.Board(json.loads(text), room), []
+    board, lines = texts.Board(read(text), room), []
     for n in range(2 * LINES):
         lines.append(entries[n] if n < min(LINES, len(entries)) else drawn_line(draw, board))
         texts.play_line(board, n, lines[-1])

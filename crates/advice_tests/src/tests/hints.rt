@@ -227,12 +227,12 @@ const FAULTS: &[Fault] = &[
     (
         "{}",
         MissingField(Field::Format),
-        r#"see the league: member "format" is absent, a whole number from 1 to 2 is wanted"#,
+        r#"see the league: member "format" is absent, a whole number from 1 to 3 is wanted"#,
     ),
     (
-        r#"{"format":3}"#,
+        r#"{"format":4}"#,
         WrongKind(Field::Format),
-        r#"see the league: member "format" is 3, a whole number from 1 to 2 is wanted"#,
+        r#"see the league: member "format" is 4, a whole number from 1 to 3 is wanted"#,
     ),
     (
         r#"{"format":1}"#,

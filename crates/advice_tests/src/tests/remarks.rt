@@ -1,4 +1,4 @@
-//! Remarks on members that no format knows, by themselves and behind a report.
+//! Remarks on members that aren't known, by themselves and behind a report.
 
 use advice::remarks_on;
 use commands::{Format, report};
@@ -32,6 +32,18 @@ const CASES: &[Case] = &[
         "{\"a\\n\u{7f}\u{e9}\":1}",
         "remark: the league has a member a??\u{e9}, which is not read\n",
     ),
+    (
+        r#"{"format":2,"name":1,"repeats":1}"#,
+        "remark: the league has a member name, which is not read\nremark: the league has a member repeats, which is not read\n",
+    ),
+    (
+        r#"{"format":3,"name":1,"short":1,"rounds":1,"repeats":1,"shorts":1}"#,
+        "remark: the league has a member shorts, which is not read\n",
+    ),
+    (
+        r#"{"format":4,"rounds":1}"#,
+        "remark: the league has a member rounds, which is not read\n",
+    ),
     ("{", ""),
     ("[1]", ""),
     (r#"{"rules":[3]}"#, ""),
@@ -44,7 +56,7 @@ fn check_remarks(rt: &impl Abort, alloc: Global, (text, remarks): Case) -> Resul
 }
 
 #[test]
-fn members_that_no_format_knows_have_remarks(rt: HostRuntime) -> Result<(), Fail> {
+fn members_that_are_not_known_have_remarks(rt: HostRuntime) -> Result<(), Fail> {
     for &case in CASES {
         check_remarks(&rt, rt.alloc(), case)?;
     }

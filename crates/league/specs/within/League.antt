@@ -15,4 +15,4 @@ with_origin origin l = record l { origin = origin }
 
 -- the same league at the Berger table, with no labels
 abbrev pub bare : LeagueData → LeagueData
-bare l = record l { origin = origin_at Berger; labels = no_labels }
+bare l = with_origin (origin_at Berger) (record l { labels = no_labels })

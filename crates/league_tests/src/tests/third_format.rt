@@ -1,17 +1,25 @@
 //! What the third format of a league's text has besides.
 
 use crate::tests::checks::check_same;
-use crate::tests::league_texts::{CIRCLE, check_circle, check_fault, circle_with, rules_text, with_rules};
+use crate::tests::league_texts::{
+    CIRCLE, check_circle, check_fault, circle_with, rules_text, with_rules,
+};
 use league::LeagueFault::{self, RuleValue, WrongKind};
 use league::{Field, League};
 use std::alloc::Global;
 use std::process::Abort;
 use std::test::Fail;
 
-const ALL: &str = r#","name":"A cup","short":["A","B","C","DDDDDD"],"rounds":["1","2","3","4","5","Sunday, 1 March 2026"],"repeats":"free""#;
+const ALL: &str =
+    r#","name":"A cup","short":["A","B","C","DDDDDD"],"rounds":["1","2","3","4","5","Sunday, 1 March 2026"],"repeats":"free""#;
 
 /// The league's name, the short name of its last team, what its last round is called, and whether repeats are free.
-type Besides = (Option<&'static str>, Option<&'static str>, Option<&'static str>, bool);
+type Besides = (
+    Option<&'static str>,
+    Option<&'static str>,
+    Option<&'static str>,
+    bool,
+);
 
 const NONE: Besides = (None, None, None, false);
 
@@ -20,17 +28,39 @@ const READ: &[(u64, &str, Besides)] = &[
     (2, ALL, NONE),
     (2, r#","name":1,"short":1,"rounds":1,"repeats":1"#, NONE),
     (3, "", NONE),
-    (3, ALL, (Some("A cup"), Some("DDDDDD"), Some("Sunday, 1 March 2026"), true)),
+    (
+        3,
+        ALL,
+        (
+            Some("A cup"),
+            Some("DDDDDD"),
+            Some("Sunday, 1 March 2026"),
+            true,
+        ),
+    ),
     (3, r#","name":"A""#, (Some("A"), None, None, false)),
-    (3, r#","short":["A","A","A","A"]"#, (None, Some("A"), None, false)),
-    (3, r#","rounds":["1","2","3","4","5","6"]"#, (None, None, Some("6"), false)),
+    (
+        3,
+        r#","short":["A","A","A","A"]"#,
+        (None, Some("A"), None, false),
+    ),
+    (
+        3,
+        r#","rounds":["1","2","3","4","5","6"]"#,
+        (None, None, Some("6"), false),
+    ),
     (3, r#","repeats":"free""#, (None, None, None, true)),
     (3, r#","repeats":"forbidden""#, NONE),
     (3, r#","repeats":"free","repeats":"forbidden""#, NONE),
 ];
 
 fn besides(league: &League) -> (Option<&str>, Option<&str>, Option<&str>, bool) {
-    (league.title(), league.short_name(3), league.round_text(5), league.free_repeats())
+    (
+        league.title(),
+        league.short_name(3),
+        league.round_text(5),
+        league.free_repeats(),
+    )
 }
 
 #[test]
@@ -46,9 +76,17 @@ fn reads_labels_and_whether_repeats_are_free(rt: HostRuntime) -> Result<(), Fail
 
 // of teams and rounds in the order of the text, and beyond it
 fn check_each(rt: &impl Abort, league: &League) {
-    let names = (league.short_name(0), league.short_name(2), league.short_name(4));
+    let names = (
+        league.short_name(0),
+        league.short_name(2),
+        league.short_name(4),
+    );
     check_same(rt, &names, &(Some("A"), Some("C"), None));
-    let texts = (league.round_text(0), league.round_text(4), league.round_text(6));
+    let texts = (
+        league.round_text(0),
+        league.round_text(4),
+        league.round_text(6),
+    );
     check_same(rt, &texts, &(Some("1"), Some("5"), None));
 }
 
@@ -63,7 +101,10 @@ const FAULTS: &[(&str, Field)] = &[
     (r#","name":1"#, Field::Name),
     (r#","name":null"#, Field::Name),
     (r#","name":"a\tb""#, Field::Name),
-    (r#","name":"01234567890123456789012345678901234567890123456789012345678901234567890123456789X""#, Field::Name),
+    (
+        r#","name":"01234567890123456789012345678901234567890123456789012345678901234567890123456789X""#,
+        Field::Name,
+    ),
     (r#","short":["A","B","C"]"#, Field::Short),
     (r#","short":["A","B","C","D","E"]"#, Field::Short),
     (r#","short":[]"#, Field::Short),
@@ -75,12 +116,18 @@ const FAULTS: &[(&str, Field)] = &[
     (r#","rounds":["1","2","3","4","5"]"#, Field::Rounds),
     (r#","rounds":["1","2","3","4","5","6","7"]"#, Field::Rounds),
     (r#","rounds":["1","2","3","4","5",6]"#, Field::Rounds),
-    (r#","rounds":["1","2","3","4","5","012345678901234567890"]"#, Field::Rounds),
+    (
+        r#","rounds":["1","2","3","4","5","012345678901234567890"]"#,
+        Field::Rounds,
+    ),
     (r#","rounds":6"#, Field::Rounds),
     (r#","repeats":"Free""#, Field::Repeats),
     (r#","repeats":true"#, Field::Repeats),
     (r#","repeats":null"#, Field::Repeats),
-    (r#","repeats":1,"rounds":1,"short":1,"name":1,"phased":1"#, Field::Phased),
+    (
+        r#","repeats":1,"rounds":1,"short":1,"name":1,"phased":1"#,
+        Field::Phased,
+    ),
     (r#","repeats":1,"rounds":1,"short":1,"name":1"#, Field::Name),
     (r#","repeats":1,"rounds":1,"short":1"#, Field::Short),
     (r#","repeats":1,"rounds":1"#, Field::Rounds),
@@ -96,7 +143,8 @@ fn tells_faults_of_the_third_format(rt: HostRuntime) -> Result<(), Fail> {
 }
 
 /// The longest name there is.
-const TITLE: &str = r#","name":"01234567890123456789012345678901234567890123456789012345678901234567890123456789""#;
+const TITLE: &str =
+    r#","name":"01234567890123456789012345678901234567890123456789012345678901234567890123456789""#;
 
 #[test]
 fn reads_a_name_of_eighty_bytes(rt: HostRuntime) -> Result<(), Fail> {
@@ -124,8 +172,16 @@ const NAMED: &[(&str, &str)] = &[
 // the rules with names, which formats before the third refuse, are those with numbers
 fn check_named(rt: &impl Abort, alloc: Global, named: &str, numbered: &str) -> Result<(), Fail> {
     let wanted = with_rules(alloc, 3, numbered)?;
-    check_same(rt, &(named, with_rules(alloc, 3, named)?.is_same(&wanted)), &(named, true));
-    check_same(rt, &(numbered, with_rules(alloc, 1, numbered)?.is_same(&wanted)), &(numbered, true));
+    check_same(
+        rt,
+        &(named, with_rules(alloc, 3, named)?.is_same(&wanted)),
+        &(named, true),
+    );
+    check_same(
+        rt,
+        &(numbered, with_rules(alloc, 1, numbered)?.is_same(&wanted)),
+        &(numbered, true),
+    );
     let second = rules_text(alloc, 2, named)?;
     check_fault(rt, alloc, second.as_str(), Some(RuleValue(0)));
     Ok(())

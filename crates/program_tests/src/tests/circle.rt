@@ -4,10 +4,12 @@
 pub(crate) const CIRCLE: &str =
     r#"{"format":1,"teams":["T1","T2","T3","T4"],"distances":[[0,1,2,1],[1,0,1,2],[2,1,0,1],[1,2,1,0]]}"#;
 
-/// The beginning of a league in either format.
+/// The beginning of a league in each format.
 pub(crate) const FIRST: &str = r#"{"format":1,"#;
 
 pub(crate) const SECOND: &str = r#"{"format":2,"#;
+
+pub(crate) const THIRD: &str = r#"{"format":3,"#;
 
 /// The teams and distances of that circle, behind the beginning and before the members that are told besides.
 pub(crate) const FOUR: &str =

@@ -2,7 +2,7 @@
 //! scripts/parts/reports.py, which shares no code with the crates.
 
 use crate::tests::checks::check_same;
-use crate::tests::circle::{CIRCLE, FIRST, FOUR, SHEET};
+use crate::tests::circle::{CIRCLE, FIRST, FOUR, SHEET, THIRD};
 use crate::tests::samples::{COST, JUDGED, REPORT};
 use crate::tests::told::Text::Whole;
 use crate::tests::told::{Case, Command, NOTHING, TEXT_REPORT, Text, check_case, check_cases};
@@ -31,6 +31,15 @@ pub(crate) const PARTS_OF_REPEATING: &str = "tour 1 travel 6\n\
     tour 4 travel 8\n\
     repeat 2-3 rounds 3 4\n\
     repeat 1-4 rounds 3 4\n";
+
+/// Of these, what is told if repeats are free.
+const TOURS_OF_REPEATING: &str = "tour 1 travel 6\n\
+    tour 2 travel 6\n\
+    tour 3 travel 8\n\
+    tour 4 travel 8\n";
+
+/// Repeats are free, and the end of the league.
+pub(crate) const FREE: &str = r#","repeats":"free"}"#;
 
 /// A phased league with one round in a row.
 pub(crate) const PHASED: &str =
@@ -159,6 +168,17 @@ const CASES: &[Case<'_>] = &[
             "travel 28 hard 2 soft 0\n",
             PARTS_OF_REPEATING,
             "infeasible\n",
+        ]),
+    ),
+    (
+        TEXT_REPORT,
+        &[THIRD, FOUR, FREE, JUDGED, REPEATING],
+        Ok(Some(Verdict::Feasible)),
+        Whole(&[
+            REPEATING,
+            "travel 28 hard 0 soft 0\n",
+            TOURS_OF_REPEATING,
+            "total 28\n",
         ]),
     ),
     (

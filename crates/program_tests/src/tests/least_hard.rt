@@ -25,6 +25,22 @@ const STRICT: &str = r#"{
     ]
 }"#;
 
+/// The same, with free repeats.
+const FREE: &str = r#"{
+    "format": 3,
+    "teams": ["A", "B", "C", "D"],
+    "distances": [[0, 1, 1, 1], [1, 0, 1, 1], [1, 1, 0, 1], [1, 1, 1, 0]],
+    "at_most": 1,
+    "phased": true,
+    "repeats": "free",
+    "rules": [
+        {"class": "CA1", "kind": "soft", "weight": 5, "teams": ["B"], "mode": "H", "max": 0},
+        {"class": "BR2", "kind": "hard", "teams": [1, 2, 3, 4], "intp": 1},
+        {"class": "GA1", "kind": "hard", "games": [["A", 2]], "slots": [2], "min": 1, "max": 1},
+        {"class": "SE1", "kind": "hard", "teams": ["A", "C"], "min": 3}
+    ]
+}"#;
+
 /// The games of the first and the fifth round are exchanged.
 const CHANGE: Change = Change::Shift(Move::Rounds { k: 0, l: 4 });
 
@@ -37,8 +53,15 @@ const FOUND: Text<'_> = Excerpt(
     "round 6: 1-3 4-2\nleast hard 16: runs 4, repeats 4, halves 4, rule 2 BR2 3, rule 4 SE1 1\nbest none\n",
 );
 
-fn strict_board(alloc: Global) -> Result<Board, Fail> {
-    let league = read_league(alloc, STRICT.as_bytes())?;
+/// Without the four repeats.
+const FOUND_IF_FREE: Text<'_> = Excerpt(
+    "history 1\nrounds 1 5\nend\nleague 4 teams 6 rounds\n",
+    &["team 1 AHAAHH A\n", "team 3 HAHHAA C\n"],
+    "round 6: 1-3 4-2\nleast hard 12: runs 4, halves 4, rule 2 BR2 3, rule 4 SE1 1\nbest none\n",
+);
+
+fn strict_board(alloc: Global, league: &str) -> Result<Board, Fail> {
+    let league = read_league(alloc, league.as_bytes())?;
     let mut board = Board::new(alloc, league, 1)?;
     let ask = Ask::of(CHANGE, board.version(), u64::MAX);
     board.answer(0, ask);
@@ -47,13 +70,15 @@ fn strict_board(alloc: Global) -> Result<Board, Fail> {
 
 #[test]
 fn parts_that_are_broken_are_told_with_their_numbers(rt: HostRuntime) -> Result<(), Fail> {
-    let board = strict_board(rt.alloc())?;
-    let mut room = [0; 1000];
-    let mut sink = MemorySink::new(&mut room);
-    let mut out = BufferedSink::new(&mut sink);
-    write_improved(&mut out, &board)?;
-    out.flush()?;
-    check_same(&rt, &FOUND.is_told(sink.held()), &true);
+    for (league, found) in [(STRICT, FOUND), (FREE, FOUND_IF_FREE)] {
+        let board = strict_board(rt.alloc(), league)?;
+        let mut room = [0; 1000];
+        let mut sink = MemorySink::new(&mut room);
+        let mut out = BufferedSink::new(&mut sink);
+        write_improved(&mut out, &board)?;
+        out.flush()?;
+        check_same(&rt, &found.is_told(sink.held()), &true);
+    }
     Ok(())
 }
 

@@ -1,9 +1,9 @@
 //! Reports as JSON, read back by a reader of JSON: parts of known schedules, worked by hand from the games and the lines of text.
 
 use crate::tests::checks::check_holds;
-use crate::tests::circle::{CIRCLE, FIRST, FOUR, SHEET};
+use crate::tests::circle::{CIRCLE, FIRST, FOUR, SHEET, THIRD};
 use crate::tests::formatted_reports::MARKED;
-use crate::tests::judged_schedules::{HALVED, PHASED, REPEATING, RULES};
+use crate::tests::judged_schedules::{FREE, HALVED, PHASED, REPEATING, RULES};
 use crate::tests::samples::JUDGED;
 use crate::tests::told::{Command, tell};
 use commands::Format;
@@ -77,6 +77,16 @@ const READ_BACK: &[Case<'_>] = &[
                 "/rounds/0/1",
                 r#"{"home": 3, "home_name": "T3", "away": 1, "away_name": "T1", "start": 3}"#,
             ),
+        ],
+    ),
+    (
+        &[THIRD, FOUR, FREE, JUDGED, REPEATING],
+        &[
+            (
+                "/cost",
+                r#"{"travel": 28, "hard": 0, "soft": 0, "near": 0, "moved": 6, "total": 28, "feasible": true}"#,
+            ),
+            ("/repeats", "[]"),
         ],
     ),
     (

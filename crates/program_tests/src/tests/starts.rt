@@ -74,7 +74,7 @@ const CASES: &[Case<'_>] = &[
     (
         Command::Start,
         &[
-            r#"{"format":3,"teams":["T1","T2","T3","T4"],"distances":[[0,1,2,1],[1,0,1,2],[2,1,0,1],[1,2,1,0]]}"#,
+            r#"{"format":4,"teams":["T1","T2","T3","T4"],"distances":[[0,1,2,1],[1,0,1,2],[2,1,0,1],[1,2,1,0]]}"#,
         ],
         Err(League(WrongKind(Field::Format))),
         NOTHING,
