@@ -1,4 +1,4 @@
-//! Reports on a league that calls its rounds something. The texts were put to the start's known ones by hand.
+//! Reports on a league with a name, short names and texts of its rounds, which were put to the start's known reports by hand.
 
 use crate::tests::circle::SHEET;
 use crate::tests::samples::{COMMAS, COST, JUDGED};
@@ -7,8 +7,9 @@ use crate::tests::told::{Answer, Case, Command, TEXT_REPORT, check_cases};
 use commands::{CsvForm, Format, Separator, Verdict};
 use std::test::Fail;
 
-/// The circle with texts of its rounds that have marks of CSV and of HTML.
-const LABELLED: &str = r#"{"format":3,"name":"Cup & <Plate>","teams":["T1","T2","T3","T4"],
+/// The circle with labels that have marks of CSV and of HTML.
+pub(crate) const LABELLED: &str =
+    r#"{"format":3,"name":"Cup & <Plate>","teams":["T1","T2","T3","T4"],
     "short":["ONE","TWO","<3>","4&"],"rounds":["7 March","=8","a, b","<4>","\"5\"","6; 7"],
     "distances":[[0,1,2,1],[1,0,1,2],[2,1,0,1],[1,2,1,0]],"repeats":"free"}"#;
 
@@ -88,15 +89,22 @@ const IN_WORDS: &str = "Round 1, 7 March\nT1 - T4\nT2 - T3\n\n\
     Round 5, \"5\"\nT2 - T1\nT3 - T4\n\n\
     Round 6, 6; 7\nT1 - T3\nT4 - T2\n";
 
-/// Parts of the list by round on a page.
-const BY_ROUND: &[&str] = &[
+/// Parts of the page: its title and its head, the rows of two teams in the grid, their rows of the travel, and the games by round.
+const PARTS_OF_PAGE: &[&str] = &[
+    "<title>Cup &amp; &lt;Plate&gt;: Schedule</title>",
+    "<h1>Cup &amp; &lt;Plate&gt;: 4 teams, 6 rounds</h1>",
+    "<th>1 ONE T1</th><td class='h'>4</td><td class='h'>2</td><td class=''>@3</td><td class=''>@4</td>\
+    <td class=''>@2</td><td class='h'>3</td>",
+    "<th>3 &lt;3&gt; T3</th><td class=''>@2</td><td class=''>@4</td><td class='h'>1</td>",
+    "<th>1 ONE T1</th><td>6</td>",
+    "<th>4 4&amp; T4</th><td>8</td>",
     "<section><h3>Round 1, 7 March</h3><div>T1 - T4</div><div>T2 - T3</div></section>\n\
     <section><h3>Round 2, =8</h3><div>T1 - T2</div><div>T4 - T3</div></section>\n",
     "<section><h3>Round 4, &lt;4&gt;</h3><div>T3 - T2</div>",
     "<section><h3>Round 5, &quot;5&quot;</h3><div>T2 - T1</div>",
 ];
 
-const ROUNDS: &[Case<'_>] = &[
+const TEXTS: &[Case<'_>] = &[
     (
         Command::Report(Format::Names),
         &[LABELLED, JUDGED, SHEET],
@@ -107,13 +115,13 @@ const ROUNDS: &[Case<'_>] = &[
         Command::Report(Format::Html),
         &[LABELLED, JUDGED, SHEET],
         FEASIBLE,
-        Excerpt("<!DOCTYPE html>", BY_ROUND, "</html>\n"),
+        Excerpt("<!DOCTYPE html>", PARTS_OF_PAGE, "</html>\n"),
     ),
 ];
 
 #[test]
-fn rounds_are_called_by_number_and_text(rt: HostRuntime) -> Result<(), Fail> {
-    check_cases(&rt, rt.alloc(), ROUNDS)
+fn words_and_pages_have_the_labels(rt: HostRuntime) -> Result<(), Fail> {
+    check_cases(&rt, rt.alloc(), TEXTS)
 }
 
 #[test]
