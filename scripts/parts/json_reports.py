@@ -56,7 +56,9 @@ def as_json(league, lines):
     said = reports.judged(league, lines)[1]
     lines_of = lambda word: [line for line in said if line.startswith(word + " ")]
     value = {"league": {"teams": names, "at_most": league.get("at_most", 3)}}
-    value["league"]["phased"] = model.is_phased(league)
+    value["league"] |= {"phased": model.is_phased(league), "free_repeats": not model.counts_repeats(league)}
+    value["league"] |= {"name": model.label(league, "name", None)}
+    value["league"] |= {"short": model.label(league, "short", []), "round_texts": model.label(league, "rounds", [])}
     value["cost"] = {"travel": travel, "hard": hard, "soft": soft, "near": league.get("near", 0)}
     value["cost"] |= {"moved": model.away_from_start(games, league)}
     value["cost"] |= {"total": None if hard else travel + soft, "feasible": hard == 0}

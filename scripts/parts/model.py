@@ -157,6 +157,11 @@ def is_phased(league):
     return league.get("format", 1) >= 2 and league.get("phased", False)
 
 
+def label(league, member, absent):
+    """A label of the league, or what stands for it if there is none."""
+    return league.get(member, absent) if league.get("format", 1) >= 3 else absent
+
+
 def counts_repeats(league):
     """Whether two games of a pair in consecutive rounds are a breach."""
     return league.get("format", 1) < 3 or league.get("repeats") != "free"

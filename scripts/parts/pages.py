@@ -105,9 +105,9 @@ def wanted(league, lines):
         rows.append((by == 0, [str(i), rule["class"], kind, str(by), words]))
         marks |= {cell for breach in broken for cell in marked(rule, breach["place"], breach["side"], games, table)}
     names, rounds = league["teams"], []
-    for r in range(2 * (teams - 1)):
+    for r, name in enumerate(reports.round_names(league)):
         at_home = sorted((h, a) for (h, a), round_of in games.items() if round_of == r)
-        rounds.append([f"Round {r + 1}", *(f"{names[h]} - {names[a]}" for h, a in at_home)])
+        rounds.append([name, *(f"{names[h]} - {names[a]}" for h, a in at_home)])
     return [row for _, row in sorted(rows, key=lambda row: row[0])], marks, rounds
 
 

@@ -146,6 +146,13 @@ def report(text, lines):
     return status, [*said, *remarks(league)]
 
 
+def round_names(league):
+    """What the rounds are called: by number, and by text if the league has any."""
+    rounds = range(2 * (len(league["teams"]) - 1))
+    texts = model.label(league, "rounds", [])
+    return [f"Round {r + 1}, {texts[r]}" if texts else f"Round {r + 1}" for r in rounds]
+
+
 def in_words(league, lines):
     """The lines of a double round robin in words, or none if the lines after `sheet` give no such one."""
     teams = len(league["teams"])
@@ -153,9 +160,9 @@ def in_words(league, lines):
     if faults:
         return None
     said = []
-    for r in range(2 * (teams - 1)):
+    for r, name in enumerate(round_names(league)):
         pairings = sorted(game for game, at in games.items() if at == r)
-        said += ["", f"Round {r + 1}", *(f"{league['teams'][home]} - {league['teams'][away]}" for home, away in pairings)]
+        said += ["", name, *(f"{league['teams'][home]} - {league['teams'][away]}" for home, away in pairings)]
     return said[1:]
 
 

@@ -20,6 +20,7 @@ use Rattle.breaches.specs.declared.breach.Place.TheVariants.{PairIn}
 use Rattle.breaches.specs.Breaches.{breaches_of}
 use Rattle.reports.specs.CostText.{repeats_lower}
 use Rattle.reports.specs.Runs.{ended_streak, is_over}
+use Rattle.json_reports.specs.Labels.{round_text_at, round_texts_data, short_name_at, short_names_data, text_at, title_data}
 use Rattle.json_reports.specs.Parts.{meetings, parts_below}
 use Rattle.json_reports.specs.Rounds.{game_at, game_data, names_data, places_data, round_data, rounds_data, tour_data, tours_data}
 use Rattle.json_reports.specs.Sides.{half_at, halves_data, halves_of, repeat_at, repeats_after, repeats_data, run_data, runs_data}
@@ -75,6 +76,21 @@ places_free g team = below_free _ (λ round. refl) (round_count g.teams)
 
 tours_free : (l : LeagueData) (g : Games) → has_float (tours_data l g) ≡ false
 tours_free l g = below_free (λ team. tour_data l g team ∷ []) (λ team. rw (places_free g team) refl) g.teams
+
+title_free : (title : Option (List ℕ)) → has_float (title_data title) ≡ false
+title_free None = refl
+title_free (Some title) = refl
+
+text_free : (text : Option (List ℕ)) → Free (text_at text)
+text_free None = refl
+text_free (Some text) = refl
+
+short_names_free : (l : LeagueData) → has_float (short_names_data l) ≡ false
+short_names_free l = below_free (short_name_at l) (λ team. text_free (slice_get l.labels.short_names team)) (teams l)
+
+round_texts_free : (l : LeagueData) → has_float (round_texts_data l) ≡ false
+round_texts_free l =
+    below_free (round_text_at l) (λ round. text_free (slice_get l.labels.round_texts round)) (round_count (teams l))
 
 names_free : (l : LeagueData) (n : ℕ) → has_float (names_data l n) ≡ false
 names_free l n = below_free _ (λ team. refl) n
@@ -137,7 +153,7 @@ cost_free : (l : LeagueData) (g : Games) (cost : Cost) → has_float (cost_data 
 cost_free l g cost = rw (either_free (cost.hard == 0) _ _ refl refl) refl
 
 league_free : (l : LeagueData) → has_float (league_data l) ≡ false
-league_free l = rw (names_free l (teams l)) refl
+league_free l = rw (title_free l.labels.title, round_texts_free l, short_names_free l, names_free l (teams l)) refl
 
 pub report_free : (l : LeagueData) (g : Games) → has_float (report_data l g) ≡ false
 unfolding report_data

@@ -7,6 +7,7 @@ use Rattle.league.specs.League.{LeagueData, teams}
 use Rattle.costs.specs.declared.cost.Cost.{Cost}
 use Rattle.costs.specs.Costs.{cost_of, total_of}
 use Rattle.tours.specs.Moved.{moved_games}
+use Rattle.json_reports.specs.Labels.{round_texts_data, short_names_data, title_data}
 use Rattle.json_reports.specs.Parts.{whole}
 use Rattle.json_reports.specs.Rounds.{names_data, rounds_data, tours_data}
 use Rattle.json_reports.specs.Sides.{halves_data, repeats_data, runs_data}
@@ -26,8 +27,10 @@ cost_data l g cost =
 
 abbrev pub league_data : LeagueData → Data
 league_data l =
-    object (member (codes "at_most") (whole l.at_most) (member (codes "phased") (boolean l.phased)
-    (member (codes "teams") (names_data l (teams l)) no_members)))
+    object (member (codes "at_most") (whole l.at_most) (member (codes "free_repeats") (boolean l.free_repeats)
+    (member (codes "name") (title_data l.labels.title) (member (codes "phased") (boolean l.phased)
+    (member (codes "round_texts") (round_texts_data l) (member (codes "short") (short_names_data l)
+    (member (codes "teams") (names_data l (teams l)) no_members)))))))
 
 -- the cost, what it is made of, and the games
 unfoldable pub report_data : LeagueData → Games → Data

@@ -1,4 +1,5 @@
 pub mod Parts
+pub mod Labels
 pub mod Rounds
 pub mod Sides
 pub mod Rules

@@ -5,6 +5,7 @@
 
 mod breach_values;
 mod game_values;
+mod label_values;
 mod meeting_values;
 mod parts;
 mod report_value;

@@ -7,6 +7,7 @@ ghost use Rattle.serde_json.specs.View.{view};
 ghost use Rattle.json_reports.specs.JsonReport.{cost_data, json_text, league_data, report_data, total_data};
 
 use crate::game_values::rounds_value;
+use crate::label_values::{round_texts_value, short_names_value, title_value};
 use crate::meeting_values::{halves_value, repeats_value};
 use crate::rule_values::rules_value;
 use crate::run_values::runs_value;
@@ -91,10 +92,17 @@ fn total_value(cost: Cost) -> Value
 fn league_value(alloc: Global, league: &League) -> Result<Value, AllocError>
     ensures { IfOk result (λ value. view value ≡ league_data league.now) }
 {
+    let name = title_value(alloc, league)?;
+    let round_texts = round_texts_value(alloc, league)?;
+    let short = short_names_value(alloc, league)?;
     let teams = names_value(alloc, league)?;
     json!(in alloc; {
         "at_most": league.at_most() as u64,
+        "free_repeats": league.free_repeats(),
+        "name": name,
         "phased": league.phased(),
+        "round_texts": round_texts,
+        "short": short,
         "teams": teams,
     })
 }

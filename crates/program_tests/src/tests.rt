@@ -12,6 +12,7 @@ mod formatted_reports;
 mod help_texts;
 mod improvements;
 mod judged_schedules;
+mod labelled_reports;
 mod largest;
 mod least_hard;
 mod memory;

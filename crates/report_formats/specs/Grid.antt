@@ -8,6 +8,7 @@ use Rattle.league.specs.declared.rule.Rule.{Rule}
 use Rattle.breaches.specs.Cells.{is_marked}
 use Rattle.reports.specs.Runs.{is_over}
 use Rattle.streams.specs.Pieces.{pieces_below}
+use Rattle.report_formats.specs.Labels.{has_short_names, short_name_of}
 use Rattle.report_formats.specs.Pieces.{escaped}
 use Rattle.report_formats.specs.Style.{word_if}
 
@@ -38,9 +39,11 @@ cell_text l g team round =
     cell_of (cell g team round).opponent (cell g team round).home (goes_over g l.at_most team round) (meets_again g team round)
     (breaks_rule l g team round) (is_moved l g team round)
 
--- how a row of a team begins
+-- how a row of a team begins: with its number, its short name if it has one, and its name
 unfoldable pub team_head : LeagueData → ℕ → List ℕ
-team_head l team = concat (codes "<tr><th>" ∷ decimal (team + 1) ∷ codes " " ∷ escaped (name_of l team) ∷ codes "</th>" ∷ [])
+team_head l team =
+    concat (codes "<tr><th>" ∷ decimal (team + 1) ∷ codes " " ∷ escaped (short_name_of l team) ∷ word_if (has_short_names l) (codes " ") ∷
+    escaped (name_of l team) ∷ codes "</th>" ∷ [])
 
 abbrev pub grid_row : LeagueData → Games → ℕ → List ℕ
 grid_row l g team =

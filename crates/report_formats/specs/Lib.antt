@@ -1,3 +1,4 @@
+pub mod Labels
 pub mod Table
 pub mod Pairings
 pub mod Pieces

@@ -7,7 +7,6 @@ use Rattle.fixtures.specs.Games.{Games, round_count}
 use Rattle.costs.specs.declared.cost.Cost.{Cost}
 use Rattle.costs.specs.Costs.{cost_of, total_of}
 use Rattle.league.specs.League.{LeagueData, teams}
-use Rattle.league.specs.Starts.{is_given}
 use Rattle.league.specs.declared.rule.Rule.{Rule}
 use Rattle.league.specs.declared.rule.Weight.{Weight}
 use Rattle.league.specs.declared.rule.Weight.TheVariants.{Hard, Soft}
@@ -16,10 +15,12 @@ use Rattle.streams.specs.Pieces.{pieces_below}
 use Rattle.texts.specs.Classes.{class_name}
 use Rattle.tours.specs.Tours.{travel_of}
 use Rattle.report_formats.specs.Grid.{grid_text, team_head}
+use Rattle.report_formats.specs.Labels.{has_title, title_of}
 use Rattle.report_formats.specs.MovedGames.{moved_section, near_figure}
 use Rattle.report_formats.specs.Pairings.{rounds_section}
+use Rattle.report_formats.specs.Pieces.{escaped}
 use Rattle.report_formats.specs.RuleWords.{rule_words}
-use Rattle.report_formats.specs.Style.{style_text}
+use Rattle.report_formats.specs.Style.{style_text, word_if}
 
 -- the numbers that the style takes from the page
 abbrev pub measures_text : Games → ℕ → List ℕ
@@ -33,9 +34,9 @@ total_text cost =
 
 abbrev pub counts_text : LeagueData → Cost → List ℕ
 counts_text l cost =
-    concat (codes "<h1>" ∷ decimal (teams l) ∷ codes " teams, " ∷ decimal (round_count (teams l)) ∷
-    codes " rounds</h1><ul><li>travel <b>" ∷ decimal cost.travel ∷ codes "</b></li><li>hard <b>" ∷ decimal cost.hard ∷
-    codes "</b></li><li>soft <b>" ∷ decimal cost.soft ∷ codes "</b></li>" ∷ [])
+    concat (codes "<h1>" ∷ escaped (title_of l) ∷ word_if (has_title l) (codes ": ") ∷ decimal (teams l) ∷ codes " teams, " ∷
+    decimal (round_count (teams l)) ∷ codes " rounds</h1><ul><li>travel <b>" ∷ decimal cost.travel ∷ codes "</b></li><li>hard <b>" ∷
+    decimal cost.hard ∷ codes "</b></li><li>soft <b>" ∷ decimal cost.soft ∷ codes "</b></li>" ∷ [])
 
 abbrev pub figures_text : LeagueData → Games → Cost → List ℕ
 figures_text l g cost = counts_text l cost ++ near_figure l g ++ total_text cost
@@ -96,7 +97,7 @@ abbrev pub rules_text : LeagueData → Games → List ℕ
 rules_text l g = if length l.rules == 0 then [] else rule_table l g
 
 abbrev pub costs_text : LeagueData → Games → Cost → List ℕ
-costs_text l g cost = style_text (is_given l.origin.start) ++ measures_text g cost.travel ++ figures_text l g cost
+costs_text l g cost = style_text l ++ measures_text g cost.travel ++ figures_text l g cost
 
 unfoldable pub top_text : LeagueData → Games → List ℕ
 top_text l g = costs_text l g (cost_of l g)

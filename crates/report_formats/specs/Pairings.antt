@@ -6,13 +6,16 @@ use Rattle.league.specs.League.{LeagueData, name_of}
 use Rattle.streams.specs.Pieces.{pieces_below}
 use Rattle.report_formats.specs.declared.pairings.Dress.{Dress}
 use Rattle.report_formats.specs.declared.pairings.Dress.TheVariants.{Lines, Page}
+use Rattle.report_formats.specs.Labels.{has_round_texts, round_text_of}
 use Rattle.report_formats.specs.Pieces.{escaped}
 use Rattle.report_formats.specs.Style.{word_if}
 
--- what stands before the games of a round. Of lines an empty one parts it from the round before
-abbrev pub round_head : Dress → ℕ → List ℕ
-round_head Lines round = concat (word_if (nat_lt 0 round) (codes "\n") ∷ codes "Round " ∷ decimal (round + 1) ∷ codes "\n" ∷ [])
-round_head Page round = concat (codes "<section><h3>Round " ∷ decimal (round + 1) ∷ codes "</h3>" ∷ [])
+-- what stands before the games of a round, with the round's text if there is one. Of lines an empty one parts it from the round before
+abbrev pub round_head : Dress → LeagueData → ℕ → List ℕ
+round_head Lines l round = concat (word_if (nat_lt 0 round) (codes "\n") ∷ codes "Round " ∷ decimal (round + 1) ∷
+    word_if (has_round_texts l) (codes ", ") ∷ round_text_of l round ∷ codes "\n" ∷ [])
+round_head Page l round = concat (codes "<section><h3>Round " ∷ decimal (round + 1) ∷
+    word_if (has_round_texts l) (codes ", ") ∷ escaped (round_text_of l round) ∷ codes "</h3>" ∷ [])
 
 abbrev pub round_end : Dress → List ℕ
 round_end Lines = []
@@ -28,7 +31,7 @@ pairing_at dress l g round team = if (cell g team round).home then pairing dress
 
 -- in the order of the home teams
 abbrev pub round_block : Dress → LeagueData → Games → ℕ → List ℕ
-round_block dress l g round = round_head dress round ++ pieces_below (pairing_at dress l g round) g.teams ++ round_end dress
+round_block dress l g round = round_head dress l round ++ pieces_below (pairing_at dress l g round) g.teams ++ round_end dress
 
 -- the rounds, one after another
 abbrev pub rounds_text : Dress → LeagueData → Games → List ℕ

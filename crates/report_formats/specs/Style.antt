@@ -1,16 +1,24 @@
 -- The page up to the number of teams, with how it looks.
 use Rattle.std.specs.Prelude.{ℕ, List, [], ◌∷◌, Bool, codes, if◌then◌else◌}
 use Rattle.std.specs.List.{concat}
+use Rattle.league.specs.League.{LeagueData}
+use Rattle.league.specs.Starts.{is_given}
+use Rattle.report_formats.specs.Labels.{has_title, title_of}
+use Rattle.report_formats.specs.Pieces.{escaped}
 
 abbrev pub word_if : Bool → List ℕ → List ℕ
 word_if wanted word = if wanted then word else []
 
--- with moved games, if boards begin at a given schedule. A cell's widest text, as `@20`, takes up to 2.3em, with its padding and border
--- 2.7em, and the column of names 12.5em. So 38 rounds take 115.1em: at .66rem they fit 76rem, which are 1216 of 1280 pixels
-abbrev pub style_text : Bool → List ℕ
-style_text given = concat (
+-- with the league's name, if it has one, and how moved games look, if boards begin at a given schedule. A cell's widest text, as `@20`,
+-- takes up to 2.3em, with its padding and border 2.7em, and the column of names 12.5em. So 38 rounds take 115.1em: at .66rem they fit
+-- 76rem, which are 1216 of 1280 pixels
+abbrev pub style_text : LeagueData → List ℕ
+style_text l = concat (
     codes "<!DOCTYPE html>\n" ∷
-    codes "<html lang='en'><head><meta charset='utf-8'><title>Schedule</title>\n" ∷
+    codes "<html lang='en'><head><meta charset='utf-8'><title>" ∷
+    escaped (title_of l) ∷
+    word_if (has_title l) (codes ": ") ∷
+    codes "Schedule</title>\n" ∷
     codes "<meta name='viewport' content='width=device-width, initial-scale=1'><style>\n" ∷
     codes ":root { color-scheme: light dark; --back: #fff; --text: #1c1d21; --pale: #5d6168; --line: #d3d6db }\n" ∷
     codes ":root { --home: #dbe9fa; --bad: #b3261e; --bar: #3f7fbf }\n" ∷
@@ -45,6 +53,6 @@ style_text given = concat (
     codes ".wide, .rules { overflow: visible } body { padding: 0; font-size: 10pt } tr { break-inside: avoid }\n" ∷
     codes ".grid { font-size: min(10pt, 270mm / (var(--rounds) * 2.4 + 12)) }\n" ∷
     codes ".grid th, .grid td { padding: .05em .1em; min-width: 2em } }\n" ∷
-    word_if given (codes ".m { font-weight: bold; text-decoration: underline }\n") ∷
+    word_if (is_given l.origin.start) (codes ".m { font-weight: bold; text-decoration: underline }\n") ∷
     codes "</style></head><body style='--teams:" ∷
     [])

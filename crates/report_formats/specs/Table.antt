@@ -1,10 +1,11 @@
 -- The games of a schedule as CSV. Teams and rounds are numbered from 0 in calls, and from 1 in the text.
-use Rattle.std.specs.Prelude.{ℕ, ◌+◌, ◌==◌, ◌||◌, List, [], ◌∷◌, ◌++◌, Bool, false, codes, decimal, if◌then◌else◌}
+use Rattle.std.specs.Prelude.{ℕ, ◌+◌, ◌==◌, ◌||◌, List, [], ◌∷◌, ◌++◌, Bool, false, codes, decimal, take, if◌then◌else◌}
 use Rattle.csv.specs.Writing.{default_writer, row_text, with_delimiter}
 use Rattle.csv.specs.declared.writer.WriterBuilder.{WriterBuilder}
 use Rattle.fixtures.specs.Games.{Games, cell, round_count}
 use Rattle.league.specs.League.{LeagueData, name_of}
 use Rattle.streams.specs.Pieces.{pieces_below}
+use Rattle.report_formats.specs.Labels.{has_round_texts, round_text_of}
 use Rattle.report_formats.specs.Style.{word_if}
 use Rattle.report_formats.specs.declared.csv_form.CsvForm.{CsvForm}
 use Rattle.report_formats.specs.declared.csv_form.Separator.{Separator}
@@ -30,12 +31,18 @@ is_formula (b ∷ bs) = b == 61 || (b == 43 || (b == 45 || (b == 64 || (b == 9 |
 abbrev pub guarded : List ℕ → List ℕ
 guarded cell = word_if (is_formula cell) (codes "'") ++ cell
 
-abbrev pub head_row : WriterBuilder → List ℕ
-head_row writer = row_text writer (codes "round" ∷ codes "home" ∷ codes "home name" ∷ codes "away" ∷ codes "away name" ∷ [])
+-- of six cells the last one, the round's text, stands only where the league has texts for its rounds
+abbrev pub columns : LeagueData → List (List ℕ) → List (List ℕ)
+columns l cells = if has_round_texts l then cells else take 5 cells
+
+abbrev pub head_row : WriterBuilder → LeagueData → List ℕ
+head_row writer l = row_text writer (columns l (codes "round" ∷ codes "home" ∷ codes "home name" ∷ codes "away" ∷ codes "away name" ∷
+    codes "round text" ∷ []))
 
 abbrev pub game_row : WriterBuilder → LeagueData → ℕ → ℕ → ℕ → List ℕ
 game_row writer l round home away =
-    row_text writer (decimal (round + 1) ∷ decimal (home + 1) ∷ guarded (name_of l home) ∷ decimal (away + 1) ∷ guarded (name_of l away) ∷ [])
+    row_text writer (columns l (decimal (round + 1) ∷ decimal (home + 1) ∷ guarded (name_of l home) ∷ decimal (away + 1) ∷
+    guarded (name_of l away) ∷ guarded (round_text_of l round) ∷ []))
 
 -- the team's game in the round, if the team is at home there
 abbrev pub game_at : WriterBuilder → LeagueData → Games → ℕ → ℕ → List ℕ
@@ -46,7 +53,7 @@ abbrev pub games_of_round : WriterBuilder → LeagueData → Games → ℕ → L
 games_of_round writer l g round = pieces_below (game_at writer l g round) g.teams
 
 abbrev pub rows_text : WriterBuilder → LeagueData → Games → List ℕ
-rows_text writer l g = head_row writer ++ pieces_below (games_of_round writer l g) (round_count g.teams)
+rows_text writer l g = head_row writer l ++ pieces_below (games_of_round writer l g) (round_count g.teams)
 
 -- the mark if it is asked for, a head line, and the games of each round
 unfoldable pub table_text : CsvForm → LeagueData → Games → List ℕ

@@ -12,6 +12,7 @@ ghost use Rattle.report_formats.specs.Grid.{round_head, team_head};
 ghost use Rattle.report_formats.specs.within.BrokenGames.{AreBroken};
 
 use crate::broken_games::BrokenGames;
+use crate::labels::{has_short_names, short_name};
 use crate::pieces::{Piece, push_pieces};
 use crate::style::word_if;
 use fixtures::{Cell, Schedule};
@@ -124,7 +125,7 @@ fn push_row(
     push_cells(page, league, schedule, broken, team)
 }
 
-/// Begins a row of the team, by its number and its name.
+/// Begins a row of the team, by its number, its short name if it has one, and its name.
 pub(crate) fn push_team_head(
     page: &mut Vec<u8>,
     league: &League,
@@ -139,6 +140,8 @@ pub(crate) fn push_team_head(
             Piece::Raw(b"<tr><th>"),
             Piece::Number(team as u64 + 1),
             Piece::Raw(b" "),
+            Piece::Name(short_name(league, team)),
+            Piece::Raw(word_if(has_short_names(league), b" ")),
             Piece::Name(league.name(team).as_bytes()),
             Piece::Raw(b"</th>"),
         ],

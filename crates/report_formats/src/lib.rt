@@ -8,6 +8,7 @@ mod broken_games;
 mod csv_form;
 mod format;
 mod grid;
+mod labels;
 mod laws;
 mod listed_games;
 mod lists;

@@ -12,11 +12,12 @@ ghost use Rattle.report_formats.specs.within.BrokenGames.{AreBroken};
 
 use crate::broken_games::{BrokenGames, broken_games};
 use crate::grid::{push_grid, push_team_head};
+use crate::labels::{has_title, title};
 use crate::moved_games::{push_moved, push_near};
 use crate::pairings::push_round_list;
 use crate::pieces::{Piece, push_pieces};
 use crate::rule_words::push_rule_words;
-use crate::style::push_style;
+use crate::style::{push_style, word_if};
 use costs::{Cost, cost_of};
 use fixtures::Schedule;
 use league::limits::round_count;
@@ -128,6 +129,8 @@ fn push_counts(page: &mut Vec<u8>, league: &League, cost: Cost) -> Result<(), Al
         page,
         &[
             Piece::Raw(b"<h1>"),
+            Piece::Name(title(league)),
+            Piece::Raw(word_if(has_title(league), b": ")),
             Piece::Number(teams as u64),
             Piece::Raw(b" teams, "),
             Piece::Number(round_count(teams) as u64),

@@ -6,6 +6,7 @@ ghost use Rattle.league.specs.League.{teams};
 ghost use Rattle.streams.specs.Pieces.{pieces_below};
 ghost use Rattle.report_formats.specs.Pairings.{pairing, pairing_at, pairings_text, round_block, round_end, round_head, rounds_section, rounds_text};
 
+use crate::labels::{has_round_texts, round_text};
 use crate::pieces::{Piece, push_pieces};
 use crate::style::word_if;
 use fixtures::Schedule;
@@ -78,21 +79,35 @@ fn push_round(
     requires round { round < round_count schedule.now.teams }
     ensures { OnOk result (text.new.items ≡ text.old.items ++ round_block dress league.now schedule.now round) }
 {
-    push_round_head(text, dress, round)?;
+    push_round_head(text, dress, league, round)?;
     push_pairings(text, dress, league, schedule, round)?;
     push_round_end(text, dress)
 }
 
-fn push_round_head(text: &mut Vec<u8>, dress: Dress, round: u8) -> Result<(), AllocError>
-    ensures { OnOk result (text.new.items ≡ text.old.items ++ round_head dress round) }
+fn push_round_head(
+    text: &mut Vec<u8>,
+    dress: Dress,
+    league: &League,
+    round: u8,
+) -> Result<(), AllocError>
+    ensures { OnOk result (text.new.items ≡ text.old.items ++ round_head dress league.now round) }
 {
     let number = Piece::Number(round as u64 + 1);
+    let comma = Piece::Raw(word_if(has_round_texts(league), b", "));
+    let called = round_text(league, round);
     match dress {
         Dress::Lines => {
             let apart = Piece::Raw(word_if(round > 0, b"\n"));
             push_pieces(
                 text,
-                &[apart, Piece::Raw(b"Round "), number, Piece::Raw(b"\n")],
+                &[
+                    apart,
+                    Piece::Raw(b"Round "),
+                    number,
+                    comma,
+                    Piece::Raw(called),
+                    Piece::Raw(b"\n"),
+                ],
             )
         }
         Dress::Page => push_pieces(
@@ -100,6 +115,8 @@ fn push_round_head(text: &mut Vec<u8>, dress: Dress, round: u8) -> Result<(), Al
             &[
                 Piece::Raw(b"<section><h3>Round "),
                 number,
+                comma,
+                Piece::Name(called),
                 Piece::Raw(b"</h3>"),
             ],
         ),

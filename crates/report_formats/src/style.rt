@@ -1,23 +1,26 @@
 //! How a page looks: on a screen, a phone and paper, light and dark.
 
 ghost use Rattle.std.specs.Prelude.{◌≡◌, ◌++◌, OnOk};
-ghost use Rattle.league.specs.Starts.{is_given};
 ghost use Rattle.report_formats.specs.Style.{style_text, word_if};
 
+use crate::labels::{has_title, title};
 use crate::pieces::{Piece, push_pieces};
 use league::League;
 use std::alloc::AllocError;
 
-/// Adds the page up to the number of teams, which its lines of style take from it: with moved games, if boards begin at a given
-/// schedule.
+/// Adds the page up to the number of teams, which its lines of style take from it: with the league's name, if it has one, and moved
+/// games, if boards begin at a given schedule.
 pub(crate) fn push_style(page: &mut Vec<u8>, league: &League) -> Result<(), AllocError>
-    ensures { OnOk result (page.new.items ≡ page.old.items ++ style_text (is_given league.now.origin.start)) }
+    ensures { OnOk result (page.new.items ≡ page.old.items ++ style_text league.now) }
 {
     push_pieces(
         page,
         &[
             Piece::Raw(b"<!DOCTYPE html>\n"),
-            Piece::Raw(b"<html lang='en'><head><meta charset='utf-8'><title>Schedule</title>\n"),
+            Piece::Raw(b"<html lang='en'><head><meta charset='utf-8'><title>"),
+            Piece::Name(title(league)),
+            Piece::Raw(word_if(has_title(league), b": ")),
+            Piece::Raw(b"Schedule</title>\n"),
             Piece::Raw(
                 b"<meta name='viewport' content='width=device-width, initial-scale=1'><style>\n",
             ),

@@ -1,14 +1,16 @@
 //! The games of a schedule as CSV.
 
-ghost use Rattle.std.specs.Prelude.{◌≡◌, ◌+◌, ◌<◌, [], ◌∷◌, codes, decimal, IfOk, OnOk};
-ghost use Rattle.csv.specs.Writing.{writer_pending, writer_setup, writer_under};
+ghost use Rattle.std.specs.Prelude.{◌≡◌, ◌+◌, ◌<◌, [], ◌∷◌, codes, decimal, map, IfOk, OnOk};
+ghost use Rattle.csv.specs.Writing.{row_text, writer_pending, writer_setup, writer_under};
 ghost use Rattle.fixtures.specs.Games.{round_count};
 ghost use Rattle.league.specs.League.{name_of, teams};
 ghost use Rattle.streams.specs.Pieces.{pieces_below};
-ghost use Rattle.report_formats.specs.Table.{game_at, game_row, games_of_round, guarded, is_formula, table_text, writer_of};
+ghost use Rattle.report_formats.specs.Table.{columns, game_at, game_row, games_of_round, guarded, is_formula, table_text};
+ghost use Rattle.report_formats.specs.Table.{writer_of};
 ghost use Rattle.report_formats.specs.within.Table.{row_of, AddsRows, IsBetweenRows};
 
 use crate::csv_form::CsvForm;
+use crate::labels::{has_round_texts, round_text};
 use crate::style::word_if;
 use csv::{Writer, WriterBuilder};
 use fixtures::Schedule;
@@ -29,9 +31,17 @@ pub(crate) fn table(
     let mut start = Vec::new(alloc);
     start.extend_from_slice(word_if(form.has_mark, b"\xEF\xBB\xBF"))?;
     let mut writer = writer_behind(start, form);
-    write_row(
+    write_cells(
         &mut writer,
-        &[b"round", b"home", b"home name", b"away", b"away name"],
+        league,
+        &[
+            b"round",
+            b"home",
+            b"home name",
+            b"away",
+            b"away name",
+            b"round text",
+        ],
     )?;
     write_rounds(alloc, &mut writer, league, schedule)?;
     match writer.into_inner() {
@@ -125,19 +135,39 @@ fn write_pairing<W: Write + Drop>(
 {
     let home_name = guarded(alloc, league.name(home).as_bytes())?;
     let away_name = guarded(alloc, league.name(away).as_bytes())?;
+    let round_text = guarded(alloc, round_text(league, round))?;
     let mut round_digits = itoa::Buffer::new();
     let mut home_digits = itoa::Buffer::new();
     let mut away_digits = itoa::Buffer::new();
-    write_row(
+    write_cells(
         writer,
+        league,
         &[
             round_digits.format(round as u64 + 1).as_bytes(),
             home_digits.format(home as u64 + 1).as_bytes(),
             home_name.as_slice(),
             away_digits.format(away as u64 + 1).as_bytes(),
             away_name.as_slice(),
+            round_text.as_slice(),
         ],
     )
+}
+
+/// Writes a record of the cells, of which the last one, the round's text, stands only where the league has texts for its rounds.
+fn write_cells<W: Write + Drop>(
+    writer: &mut Writer<W>,
+    league: &League,
+    cells: &[&[u8]; 6],
+) -> Result<(), AllocError>
+    requires { IsBetweenRows writer.old }
+    ensures { OnOk result (AddsRows W.contents writer.old writer.new
+        (row_text (writer_setup writer.old) (columns league.now (map (λ c. c.now) cells.now)))) }
+{
+    if has_round_texts(league) {
+        write_row(writer, cells)
+    } else {
+        write_row(writer, &cells[..5])
+    }
 }
 
 /// The cell, so that no spreadsheet takes it for a formula.

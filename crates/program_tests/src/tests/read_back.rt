@@ -4,6 +4,7 @@ use crate::tests::checks::check_holds;
 use crate::tests::circle::{CIRCLE, FIRST, FOUR, SHEET, THIRD};
 use crate::tests::formatted_reports::MARKED;
 use crate::tests::judged_schedules::{FREE, HALVED, PHASED, REPEATING, RULES};
+use crate::tests::labelled_reports::LABELLED;
 use crate::tests::samples::JUDGED;
 use crate::tests::told::{Command, tell};
 use commands::Format;
@@ -24,7 +25,8 @@ const READ_BACK: &[Case<'_>] = &[
         &[
             (
                 "/league",
-                r#"{"at_most": 3, "phased": false, "teams": ["a, b", "say \"c\"", "<script>d</script>", "\"' onload='&lt;"]}"#,
+                r#"{"at_most": 3, "free_repeats": false, "name": null, "phased": false, "round_texts": [], "short": [],
+                "teams": ["a, b", "say \"c\"", "<script>d</script>", "\"' onload='&lt;"]}"#,
             ),
             (
                 "/rounds/0",
@@ -36,6 +38,15 @@ const READ_BACK: &[Case<'_>] = &[
             ("/halves", "[]"),
             ("/rules", "[]"),
         ],
+    ),
+    (
+        &[LABELLED, JUDGED, SHEET],
+        &[(
+            "/league",
+            r#"{"at_most": 3, "free_repeats": true, "name": "Cup & <Plate>", "phased": false,
+                "round_texts": ["7 March", "=8", "a, b", "<4>", "\"5\"", "6; 7"], "short": ["ONE", "TWO", "<3>", "4&"],
+                "teams": ["T1", "T2", "T3", "T4"]}"#,
+        )],
     ),
     (
         &[FIRST, FOUR, RULES, JUDGED, SHEET],
@@ -94,7 +105,8 @@ const READ_BACK: &[Case<'_>] = &[
         &[
             (
                 "/league",
-                r#"{"at_most": 1, "phased": true, "teams": ["T1", "T2", "T3", "T4"]}"#,
+                r#"{"at_most": 1, "free_repeats": false, "name": null, "phased": true, "round_texts": [], "short": [],
+                "teams": ["T1", "T2", "T3", "T4"]}"#,
             ),
             (
                 "/runs/1",

@@ -11,7 +11,7 @@ returns-in-Ok c =
     let writer = c.writer_behind-writer.ensures in
     let whole = AddsRows-after
     (λ setup. pieces_below (games_of_round setup c.args.league.now c.args.schedule.now) (round_count c.args.schedule.now.teams))
-    c.in_ok-write_row.ensures c.in_ok-write_rounds.ensures in
+    c.in_ok-write_cells.ensures c.in_ok-write_rounds.ensures in
     c.in-Ok.ensures.ok
     ∙ rw (
       writer.under,
