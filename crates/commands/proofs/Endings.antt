@@ -1,5 +1,5 @@
 -- The endings of the commands.
-use Rattle.std.proofs.Common.{◌≡◌, ◌≤◌, ℕ, List, [], length, Option, Some, None, IfSome, Result, Ok, Err, OnOk, OnErr, refl}
+use Rattle.std.proofs.Common.{rules, ◌≡◌, ◌≤◌, ◌<◌, nat_lt, if◌then◌else◌, ℕ, List, [], length, Option, Some, None, IfSome, Result, Ok, Err, OnOk, OnErr, refl}
 use Rattle.std.specs.Io.KnownBytes.{Appends}
 use Rattle.streams.specs.Limits.{write_limit}
 use Rattle.streams.specs.declared.tally.Tally.{Tally}
@@ -15,6 +15,8 @@ use Rattle.distance_tables.specs.Table.{TableData}
 use Rattle.distance_tables.specs.declared.table.MadeLeague.{MadeLeague}
 use Rattle.fixture_board.specs.History.{max_room}
 use Rattle.fixture_board.specs.Record.{Book, book}
+use Rattle.fixture_board.specs.declared.board.BoardFault.{BoardFault}
+use Rattle.fixture_board.specs.declared.board.BoardFault.TheVariants as board
 use Rattle.search.specs.declared.runs.Outcome.{Outcome}
 use Rattle.search.specs.declared.runs.RunFault.{RunFault}
 use Rattle.search.specs.declared.runs.RunFault.TheVariants as run
@@ -25,7 +27,7 @@ use Rattle.texts.proofs.ForCallers.{played_again, plays_back}
 use Rattle.commands.specs.declared.search_end.SearchEnd.{SearchEnd}
 use Rattle.commands.specs.Begun.{Begins}
 use Rattle.commands.specs.Outcome.{value_of, without_value, Answer, EndsOn}
-use Rattle.commands.specs.Fault.{of_run}
+use Rattle.commands.specs.Fault.{of_board, of_run}
 use Rattle.commands.specs.within.Fault.{of_writing}
 use Rattle.commands.specs.Find.{AnswersFindOn, search_text}
 use Rattle.commands.specs.MadeLeague.{AnswersLeague}
@@ -59,6 +61,19 @@ pub answers_play : (room : ℕ) (bytes : List ℕ) (script : List (List ℕ)) (b
     → AnswersPlayOn room bytes script beginning (Ok (play_text league room script))
 answers_play room bytes script beginning league begins limits room_is =
     (league, begins, record { room_is = room_is; text_is = refl; again = played_again league room script limits })
+
+-- a room that is refused for its size is over that of any board
+too_large : (room : ℕ) → board.RoomRange ≡ (if nat_lt max_room room then board.RoomRange else board.Memory) → max_room < room
+too_large room is = search rules
+
+-- a search for which there is no board
+pub ends_without_board : (room : ℕ) (plan : SearchPlan) (bytes : List ℕ) (beginning : Option Beginning) (league : LeagueData)
+    → Begins bytes beginning league → {W : Type 0} (held : W → Option (List ℕ)) (pushes : W → Tally) (sink : W) (why : BoardFault)
+    → why ≡ (if nat_lt max_room room then board.RoomRange else board.Memory)
+    → EndsOn held pushes (AnswersFindOn room plan None bytes beginning) sink sink (Err (of_board why))
+ends_without_board room plan bytes beginning league begins held pushes sink board.RoomRange is =
+    ((league, begins, too_large room is), refl)
+ends_without_board room plan bytes beginning league begins held pushes sink board.Memory is = refl
 
 -- a league, with the room of a board, for a search
 module _ (room : ℕ) (plan : SearchPlan) (bytes : List ℕ) (beginning : Option Beginning) (league : LeagueData)

@@ -37,3 +37,8 @@ pub returns-in_err-prepared : goal.returns-in_err-prepared
 returns-in_err-prepared g c =
     let p = err_from_is_err_and c.from_residual-in_err-prepared.result c.from_residual-in_err-prepared.ensures.1 in
     rw (p.1, p.2) refl
+
+pub returns-in_err-remarks_on : goal.returns-in_err-remarks_on
+returns-in_err-remarks_on g c =
+    let p = err_from_is_err_and c.from_residual-in_err-remarks_on.result c.from_residual-in_err-remarks_on.ensures.1 in
+    rw (p.1, p.2) refl
