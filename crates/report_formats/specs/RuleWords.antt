@@ -44,7 +44,7 @@ unfoldable pub against_text : LeagueData → ℕ → List ℕ
 against_text l opponents =
     if count_where (teams l) (has opponents) == teams l then [] else codes " against " ++ teams_text l (has opponents)
 
--- as `at most 2 of T1, T2 and T3 at home`
+-- as `at most 2 of Aarau, Basel and Lugano at home`
 abbrev pub most_of_text : LeagueData → ℕ → ℕ → Side → List ℕ
 most_of_text l count chosen side =
     concat (codes "at most " ∷ decimal count ∷ codes " of " ∷ []) ++ teams_text l (has chosen) ++ where_word side
@@ -81,11 +81,11 @@ first_games l games = pieces_below (λ i. game_at l i (slice_get games i)) (min 
 abbrev pub no_games_text : ℕ → ℕ → List ℕ
 no_games_text least most = range_text least most ++ codes " of no games"
 
--- as `the game T1 - T2 exactly 1 time`
+-- as `the game Aarau - Basel exactly 1 time`
 abbrev pub one_game_text : LeagueData → List Pairing → ℕ → ℕ → List ℕ
 one_game_text l games least most = codes "the game " ++ first_games l games ++ codes " " ++ times_text least most
 
--- as `at most 1 of the games T1 - T2, T2 - T1`: the first six, and how many more there are
+-- as `at most 1 of the games Aarau - Basel, Basel - Aarau`: the first six, and how many more there are
 abbrev pub some_games_text : LeagueData → List Pairing → ℕ → ℕ → List ℕ
 some_games_text l games least most = range_text least most ++ codes " of the games " ++ first_games l games ++ more_text (length games)
 
