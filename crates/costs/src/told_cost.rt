@@ -56,6 +56,7 @@ pub(crate) fn told_within(
 }
 
 /// The repeats that an exchange alters, before it and after it. None is counted if they are free.
+#[inline]
 fn told_repeats(schedule: &Schedule, league: &League, exchange: &Exchange) -> Breaches
     requires { IsExchange schedule.now exchange.now }
     ensures balance { unless_free league.now (repeats (exchanged_by schedule.now exchange.now)) + result.before ≡
