@@ -1,8 +1,9 @@
 //! What a job does on texts that were read.
 
-ghost use Rattle.std.specs.Prelude.{◌≡◌, ◌<◌, ◌≤◌, [], IfOk, IfSome, false, is_some, length, option_map, true, unwrap_or};
+ghost use Rattle.std.specs.Prelude.{◌≡◌, ◌<◌, ◌≤◌, [], IfOk, IfSome, IsTrue, false, is_some, length, option_map, true, unwrap_or};
 ghost use Rattle.std.specs.Str.Lines.{lines};
 ghost use Rattle.command_line.specs.CommandLine.{IsInRange};
+ghost use Rattle.league.specs.Labels.{is_title};
 ghost use Rattle.league.specs.Limits.{max_weight};
 ghost use Rattle.commands.specs.Outcome.{value_of, without_value};
 ghost use Rattle.program.specs.Program.{league_part, lines_part, plan_of, rounded_in, search_end_in, verdict_in, Performs};
@@ -11,7 +12,7 @@ use crate::timed::Timed;
 use command_line::Job;
 use commands::{
     Beginning, Extent, Gate, ImprovePlan, MOST_EFFORT, NoGate, ProgramFault, ProgressLine,
-    SearchEnd, Sink, Verdict, Watcher, Workplace, find_on, improve_on, league_on, play_on,
+    SearchEnd, Sink, Terms, Verdict, Watcher, Workplace, find_on, improve_on, league_on, play_on,
     report_on, start_on,
 };
 use std::alloc::Global;
@@ -43,6 +44,8 @@ pub(crate) struct Texts<'a> {
     pub(crate) second: Option<&'a [u8]>,
     /// Where the league begins, if not at its own start.
     pub(crate) beginning: Option<Beginning<'a>>,
+    /// What a league that is made is called.
+    pub(crate) title: Option<&'a str>,
 }
 
 /// How a job ends that did its work.
@@ -73,9 +76,10 @@ pub(crate) fn perform<
     watcher: &mut V,
 ) -> Result<Ending, ProgramFault>
     requires job { IsInRange job }
+    requires callable { IsTrue (is_title (option_map (λ title. title.now) texts.now.title)) }
     requires near { IfSome texts.now.beginning (λ b. b.near ≤ max_weight) }
     ensures { Performs W.held W.tally texts.now.input.now (option_map (λ text. text.now) texts.now.second) texts.now.beginning
-        job sink.old sink.new result }
+        (option_map (λ title. title.now) texts.now.title) job sink.old sink.new result }
 {
     let Console {
         rt,
@@ -120,15 +124,17 @@ fn perform_at<T: Threads + Wait + Clock + Sync, G: Gate + Sync, W: Sink, V: Watc
     watcher: &mut V,
 ) -> Result<Ending, ProgramFault>
     requires job { IsInRange job }
+    requires callable { IsTrue (is_title (option_map (λ title. title.now) texts.now.title)) }
     requires near { IfSome texts.now.beginning (λ b. b.near ≤ max_weight) }
     ensures { Performs W.held W.tally texts.now.input.now (option_map (λ text. text.now) texts.now.second) texts.now.beginning
-        job sink.old sink.new result }
+        (option_map (λ title. title.now) texts.now.title) job sink.old sink.new result }
 {
     let alloc = workplace.alloc;
     let Texts {
         input,
         second,
         beginning,
+        title,
     } = texts;
     let beginning = beginning.as_ref();
     match job {
@@ -155,7 +161,18 @@ fn perform_at<T: Threads + Wait + Clock + Sync, G: Gate + Sync, W: Sink, V: Watc
             let (league, sheet) = parts(input, *second, b"sheet");
             with_verdict(report_on(alloc, league, sheet, beginning, sink, format))
         }
-        Job::League { choice, terms } => with_rounded(league_on(alloc, input, sink, choice, terms)),
+        Job::League {
+            choice,
+            at_most,
+            hard_weight,
+        } => {
+            let terms = Terms {
+                title: *title,
+                at_most,
+                hard_weight,
+            };
+            with_rounded(league_on(alloc, input, sink, choice, terms))
+        }
     }
 }
 
