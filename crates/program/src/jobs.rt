@@ -37,7 +37,7 @@ pub(crate) struct Console<'a, T, E> {
 
 /// The texts that a job works on.
 #[derive(Drop)]
-pub(crate) struct Texts<'a> {
+pub(crate) struct Texts<'a, 't> {
     /// The league's text, or an input that has the second one too.
     pub(crate) input: &'a [u8],
     /// The script or the schedule, if it was read by itself.
@@ -45,7 +45,7 @@ pub(crate) struct Texts<'a> {
     /// Where the league begins, if not at its own start.
     pub(crate) beginning: Option<Beginning<'a>>,
     /// What a league that is made is called.
-    pub(crate) title: Option<&'a str>,
+    pub(crate) title: Option<&'t str>,
 }
 
 /// How a job ends that did its work.
@@ -71,7 +71,7 @@ pub(crate) fn perform<
 >(
     console: Console<'_, T, E>,
     job: Job,
-    texts: &Texts<'_>,
+    texts: &Texts<'_, '_>,
     sink: &mut W,
     watcher: &mut V,
 ) -> Result<Ending, ProgramFault>
@@ -119,7 +119,7 @@ fn extent_of(job: Job) -> Extent {
 fn perform_at<T: Threads + Wait + Clock + Sync, G: Gate + Sync, W: Sink, V: Watcher<W>>(
     workplace: Workplace<'_, T, G>,
     job: Job,
-    texts: &Texts<'_>,
+    texts: &Texts<'_, '_>,
     sink: &mut W,
     watcher: &mut V,
 ) -> Result<Ending, ProgramFault>
@@ -193,7 +193,7 @@ fn plan_of(workers: u32, seed: u64, effort: u64, seconds: Option<u32>) -> Improv
 }
 
 /// The league's text.
-pub(crate) fn league_text<'a>(job: Job, texts: &Texts<'a>) -> &'a [u8] {
+pub(crate) fn league_text<'a>(job: Job, texts: &Texts<'a, '_>) -> &'a [u8] {
     match job {
         Job::Play { .. } => parts(texts.input, texts.second, b"script").0,
         Job::Report(_) => parts(texts.input, texts.second, b"sheet").0,
@@ -202,7 +202,7 @@ pub(crate) fn league_text<'a>(job: Job, texts: &Texts<'a>) -> &'a [u8] {
 }
 
 /// The script or the schedule, if there is one.
-pub(crate) fn second_text<'a>(job: Job, texts: &Texts<'a>) -> Option<&'a [u8]> {
+pub(crate) fn second_text<'a>(job: Job, texts: &Texts<'a, '_>) -> Option<&'a [u8]> {
     match job {
         Job::Play { .. } => parts(texts.input, texts.second, b"script").1,
         Job::Report(_) => parts(texts.input, texts.second, b"sheet").1,

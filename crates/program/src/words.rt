@@ -160,7 +160,7 @@ fn respond<
         terminal: ends.error,
     };
     if is_plain(&request) {
-        respond_on_input(console, request.job, request.title.as_deref(), source, sink)
+        respond_on_input(console, &request, source, sink)
     } else {
         respond_on_files(console, &request, source, sink)
     }
@@ -190,22 +190,16 @@ fn is_followed(files: &FileWords) -> bool
     files.output.is_some() || files.log.is_some()
 }
 
-/// Reads standard input to its end, then does the job on it. A league that is made has this name.
+/// Reads standard input to its end, then does the job on it.
 fn respond_on_input<
     T: Runtime + AllocGlobal + Threads + Wait + Sync,
     E: Write + Send + Drop,
     R: Source + Drop,
     W: Sink,
->(
-    console: Console<'_, T, E>,
-    job: Job,
-    title: Option<&str>,
-    mut source: R,
-    sink: &mut W,
-) -> ExitCode
-    requires job { IsInRange job }
-    requires callable { IsTrue (is_title (option_map (λ title. title.now) title)) }
-    ensures { DoesJob R.left R.tally W.held W.tally (option_map (λ title. title.now) title.entry) job source sink.old sink.new
+>(console: Console<'_, T, E>, request: &Request, mut source: R, sink: &mut W) -> ExitCode
+    requires job { IsInRange request.now.job }
+    requires callable { IsTrue (is_title (option_map string_bytes request.now.title)) }
+    ensures { DoesJob R.left R.tally W.held W.tally (option_map string_bytes request.now.title) request.now.job source sink.old sink.new
         (exit_status result) }
 {
     let Console { rt, is_closed, .. } = console;
@@ -217,11 +211,11 @@ fn respond_on_input<
         input: &input,
         second: None,
         beginning: None,
-        title,
+        title: request.title.as_deref(),
     };
-    tell_remarks(rt, job, &texts);
-    let outcome = perform(console, job, &texts, sink, &mut NoWatcher);
-    ended(rt, is_closed, job, &texts, outcome)
+    tell_remarks(rt, request.job, &texts);
+    let outcome = perform(console, request.job, &texts, sink, &mut NoWatcher);
+    ended(rt, is_closed, request.job, &texts, outcome)
 }
 
 /// Reads the files that are named, then does the job on them. An improvement is followed by those that are to be written.
@@ -307,7 +301,7 @@ fn ended<R: Runtime + AllocGlobal>(
     rt: &R,
     is_closed: &AtomicBool,
     job: Job,
-    texts: &Texts<'_>,
+    texts: &Texts<'_, '_>,
     outcome: Result<Ending, ProgramFault>,
 ) -> ExitCode
     ensures { exit_status result ≡ status_of outcome }
