@@ -89,7 +89,7 @@ way_words from to distance = decimal from ++ codes " to " ++ decimal to ++ codes
 
 -- how many teams have a name that is no one team's
 abbrev pub bearer_words : Bool → List ℕ
-bearer_words is_twice = if is_twice then codes ", two teams are called so" else codes ", no team is called so"
+bearer_words is_shared = if is_shared then codes ", several teams are called so" else codes ", no team is called so"
 
 -- what is seen at a place, and what is wanted there
 abbrev pub value_line : List ℕ → Place → Seen → Wanted → List ℕ
@@ -115,6 +115,6 @@ hint_line numeral (hint.TwoDistances from to there back) =
     codes "see distances: " ++ way_words from to there ++ codes ", " ++ way_words to from back
 hint_line numeral (hint.RuleCount rules) = codes "see rules: " ++ decimal rules ++ codes " of them, at most 256 are wanted"
 hint_line numeral (hint.SecondFormat rule) = codes "see rule " ++ decimal rule ++ codes ": class FA2 needs \"format\": 2"
-hint_line numeral (hint.Name rule member name is_twice) =
-    concat (codes "see " ∷ place_words (place.Member rule member) ∷ codes " names " ∷ quote_words name ∷ bearer_words is_twice ∷ [])
+hint_line numeral (hint.Name rule member name is_shared) =
+    concat (codes "see " ∷ place_words (place.Member rule member) ∷ codes " names " ∷ quote_words name ∷ bearer_words is_shared ∷ [])
 hint_line numeral (hint.Value place seen wanted) = value_line numeral place seen wanted

@@ -51,7 +51,7 @@ pub enum Hint {
         rule: u16,
         member: RuleMember,
         name: Quote,
-        is_twice: bool,
+        is_shared: bool,
     },
     /// What is seen at this place isn't what is wanted there.
     Value(Place, Seen, Wanted),
@@ -244,21 +244,21 @@ impl fmt::Display for Hint {
                 rule,
                 member,
                 name,
-                is_twice,
+                is_shared,
             } => {
                 let place = Place::Member(rule, member);
-                write!(f, "see {place} names {name}{}", bearer_words(is_twice))
+                write!(f, "see {place} names {name}{}", bearer_words(is_shared))
             }
             Hint::Value(place, seen, wanted) => write_value(f, place, seen, wanted),
         }
     }
 }
 
-fn bearer_words(is_twice: bool) -> &'static str
-    ensures { result.now ≡ bearer_words is_twice }
+fn bearer_words(is_shared: bool) -> &'static str
+    ensures { result.now ≡ bearer_words is_shared }
 {
-    if is_twice {
-        ", two teams are called so"
+    if is_shared {
+        ", several teams are called so"
     } else {
         ", no team is called so"
     }

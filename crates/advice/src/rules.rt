@@ -88,7 +88,7 @@ fn name_hint(
         rule: u16::from(index) + 1,
         member,
         name: Quote::of(name),
-        is_twice: roster.is_name(name),
+        is_shared: roster.is_name(name),
     })
 }
 

@@ -5,8 +5,8 @@ use Rattle.clap.specs.declared.error.kind.ErrorKind.TheVariants.{ArgumentConflic
 use Rattle.clap.specs.declared.error.kind.ErrorKind.TheVariants.{InvalidValue, MissingSubcommand, UnknownArgument}
 use Rattle.clap.specs.declared.error.kind.ErrorKind.TheVariants.{ValueValidation}
 use Rattle.clap.proofs.OnLiterals.{clap_on_literals}
-use Rattle.command_line.specs.CommandLine.{csv_with, job_of_words, program, words_fault}
-use Rattle.command_line.specs.declared.job.Job.TheVariants.{Find, Improve, Play, Report, Start}
+use Rattle.command_line.specs.CommandLine.{csv_with, job_of_words, program, title_of_words, words_fault}
+use Rattle.command_line.specs.declared.job.Job.TheVariants.{Find, Improve, League, Play, Report, Start}
 use Rattle.report_formats.specs.declared.csv_form.Separator.TheVariants.{Comma, Semicolon}
 use Rattle.report_formats.specs.declared.format.Format.TheVariants as formats
 
@@ -143,3 +143,20 @@ clap_takes_any_format = refl
 other_format_is_refused : words_fault (ttp (codes "report" ∷ codes "--format=pdf" ∷ [])) ≡ InvalidValue ∷ []
 unfolding clap_on_literals
 other_format_is_refused = refl
+
+league_has_its_numbers : job_of_words (ttp (codes "league" ∷ codes "--at-most=2" ∷ codes "--name" ∷ codes "Cup" ∷ []))
+    ≡ Some (League None (Some 2) None)
+unfolding clap_on_literals
+league_has_its_numbers = refl
+
+league_has_its_name : title_of_words (ttp (codes "league" ∷ codes "--name=Valley Cup" ∷ [])) ≡ Some (Some (codes "Valley Cup"))
+unfolding clap_on_literals
+league_has_its_name = refl
+
+clap_takes_any_name : fault_of program (ttp (codes "league" ∷ codes "--name=a\tb" ∷ [])) ≡ []
+unfolding clap_on_literals
+clap_takes_any_name = refl
+
+tab_in_a_name_is_refused : words_fault (ttp (codes "league" ∷ codes "--name=a\tb" ∷ [])) ≡ InvalidValue ∷ []
+unfolding clap_on_literals
+tab_in_a_name_is_refused = refl

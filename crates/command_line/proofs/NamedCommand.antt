@@ -241,7 +241,7 @@ commands_are_read = (
           (
             record {
               named = refl;
-              has = has_values league_command.options first_word (with_help league_command.free) league_sound (all_sound league_command.options first_word league_command.free league_sound (record { other = refl; adds = inl refl }, tt) (record { other = refl; adds = inl refl }, tt)) (built_command league_command);
+              has = has_values league_command.options first_word (with_help league_command.free) league_sound (all_sound league_command.options first_word league_command.free league_sound (record { other = refl; adds = inl refl }, tt) (record { other = refl; adds = inl refl }, (record { other = refl; adds = inl refl }, tt))) (built_command league_command);
             },
             tt,
           ),

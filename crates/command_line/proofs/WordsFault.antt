@@ -7,7 +7,7 @@ use Rattle.clap.specs.Words.{Row, Text}
 use Rattle.clap.specs.declared.error.Error.{Error}
 use Rattle.clap.specs.declared.error.kind.ErrorKind.TheVariants.{InvalidValue, OutOfMemory}
 use Rattle.command_line.specs.Beginnings.{Beginning}
-use Rattle.command_line.specs.CommandLine.{asks_for_all, beginning_of_command, job_of_command}
+use Rattle.command_line.specs.CommandLine.{asks_for_all, beginning_of_command, job_of_command, title_of_command}
 use Rattle.command_line.specs.Files.{Files, files_of_command}
 use Rattle.command_line.specs.declared.job.Job.{Job}
 use Rattle.command_line.specs.declared.refusals.Refusal.{Refusal}
@@ -27,10 +27,11 @@ same_kind kinds e told (inl memory) (inr (inl same)) = inl (same ∙ memory)
 same_kind kinds e told (inr among) (inr (inl same)) = inr (subst (λ k. IsAmong k kinds) (sym same) among)
 same_kind kinds e told has (inr (inr none)) = absurd none
 
-pub asks_for : (found : Option (Text × List Row)) (job : Job) (files : Files) (beginning : Beginning) →
+pub asks_for : (found : Option (Text × List Row)) (job : Job) (files : Files) (title : Option Text) (beginning : Beginning) →
     option_and_then job_of_command found ≡ Some job → option_and_then files_of_command found ≡ Some files
-    → option_and_then beginning_of_command found ≡ Some beginning → asks_for_all found ≡ true
-asks_for found job files beginning is_job are_files is_beginning = rw (is_job, are_files, is_beginning) refl
+    → option_and_then title_of_command found ≡ Some title → option_and_then beginning_of_command found ≡ Some beginning
+    → asks_for_all found ≡ true
+asks_for found job files title beginning is_job are_files is_title is_beginning = rw (is_job, are_files, is_title, is_beginning) refl
 
 -- words that clap takes and that ask for all that is wanted
 pub taken : (kinds : Kinds) (asks : Bool) → kinds ≡ [] → asks ≡ true → or_else kinds (if asks then [] else InvalidValue ∷ []) ≡ []

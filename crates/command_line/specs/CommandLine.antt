@@ -17,16 +17,16 @@ use Rattle.command_line.specs.Beginnings.{Beginning, beginning_in}
 use Rattle.command_line.specs.Files.{Files, files_of_command}
 use Rattle.command_line.specs.declared.job.Job.{Job}
 use Rattle.command_line.specs.declared.job.Job.TheVariants.{Start, Play, Improve, Find, Report, League}
-use Rattle.distance_tables.specs.declared.league_text.Terms.{Terms}
 use Rattle.distance_tables.specs.declared.sides.Symmetry.{Symmetry}
 use Rattle.distance_tables.specs.declared.sides.Symmetry.TheVariants.{Mean, Max}
-use Rattle.distance_tables.specs.League.{AreTerms}
 use Rattle.fixture_board.specs.History.{max_room}
+use Rattle.league.specs.Labels.{is_title}
 use Rattle.report_formats.specs.declared.csv_form.Separator.{Separator}
 use Rattle.report_formats.specs.declared.csv_form.Separator.TheVariants.{Comma, Semicolon, Tab}
 use Rattle.report_formats.specs.declared.format.Format.{Format}
 use Rattle.report_formats.specs.declared.format.Format.TheVariants as formats
 use Rattle.search.specs.declared.runs.SearchPlan.{SearchPlan}
+use Rattle.sets.specs.Limits.{max_rounds}
 
 -- an option `--name VALUE`: what clap asks of the value, and what stands for it if it isn't given, if anything does
 pub record OptionForm : Type 0 where
@@ -111,6 +111,10 @@ league_word = word (codes "league")
 abbrev pub symmetric_option : Rule
 symmetric_option = text_option (codes "symmetric")
 
+-- what a league that is made is called; a text that none can be called is refused apart
+abbrev pub name_option : Rule
+name_option = text_option (codes "name")
+
 -- the script or the schedule beside the league
 abbrev pub second_word : Rule
 second_word = word (codes "second")
@@ -191,7 +195,7 @@ abbrev pub terms_options : List OptionForm
 terms_options = at_most_option ∷ hard_weight_option ∷ []
 
 abbrev pub league_command : CommandForm
-league_command = record { name = codes "league"; words = league_word ∷ []; options = terms_options; free = symmetric_option ∷ [] }
+league_command = record { name = codes "league"; words = league_word ∷ []; options = terms_options; free = symmetric_option ∷ name_option ∷ [] }
 
 abbrev pub commands : List CommandForm
 commands = start_command ∷ play_command ∷ improve_command ∷ search_command ∷ report_command ∷ league_command ∷ []
@@ -295,13 +299,10 @@ abbrev pub choice_of : Option Text → Option (Option Symmetry)
 choice_of None = Some None
 choice_of (Some name) = option_map Some (symmetry_named name)
 
--- what a league says that is made of a table
-abbrev pub terms_in : List Row → Terms
-terms_in rows = record { at_most = number_in (codes "at-most") rows; hard_weight = number_in (codes "hard-weight") rows }
-
 -- the league of a table with what stands after the options
 abbrev pub league_in : List Row → Option Job
-league_in rows = option_map (λ choice. League choice (terms_in rows)) (choice_of (first_of (codes "symmetric") rows))
+league_in rows = option_map (λ choice. League choice (number_in (codes "at-most") rows) (number_in (codes "hard-weight") rows))
+    (choice_of (first_of (codes "symmetric") rows))
 
 -- the job of a command and its values
 abbrev pub job_of_command : Text × List Row → Option Job
@@ -327,10 +328,22 @@ beginning_of_command found = beginning_in found.1
 abbrev pub beginning_of_words : List Text → Option Beginning
 beginning_of_words words = option_and_then beginning_of_command (subcommand_of program words)
 
--- a command and its values ask for a job, for files that it can have together, and for a beginning
+-- what a league that is made is to be called
+abbrev pub title_in : List Row → Option Text
+title_in rows = first_of (codes "name") rows
+
+-- unless none can be called so
+abbrev pub title_of_command : Text × List Row → Option (Option Text)
+title_of_command found = if is_title (title_in found.1) then Some (title_in found.1) else None
+
+abbrev pub title_of_words : List Text → Option (Option Text)
+title_of_words words = option_and_then title_of_command (subcommand_of program words)
+
+-- a command and its values ask for a job, for files that it can have together, for a name and for a beginning
 abbrev pub asks_for_all : Option (Text × List Row) → Bool
 asks_for_all found = is_some (option_and_then job_of_command found)
-    && (is_some (option_and_then files_of_command found) && is_some (option_and_then beginning_of_command found))
+    && (is_some (option_and_then files_of_command found)
+    && (is_some (option_and_then title_of_command found) && is_some (option_and_then beginning_of_command found)))
 
 -- why the words are refused: by clap, or else since a value names nothing here
 abbrev pub words_fault : List Text → Kinds
@@ -351,6 +364,11 @@ pub record IsImproveInRange (workers effort : ℕ) (seconds : Option ℕ) : Type
   pub most : effort ≤ 1000000000000
   pub time : IfSome seconds (λ s. (1 ≤ s) × (s ≤ 1000000))
 
+-- 1 to 78 games in a row and a weight of 1 to a million, if they are given
+pub record IsLeagueInRange (at_most hard_weight : Option ℕ) : Type 0 where
+  pub games : IfSome at_most (λ n. (1 ≤ n) × (n ≤ max_rounds))
+  pub weight : IfSome hard_weight (λ w. (1 ≤ w) × (w ≤ 1000000))
+
 -- each number of the job is in its range
 abbrev pub IsInRange : Job → Type 0
 IsInRange Start = Unit {0}
@@ -358,4 +376,4 @@ IsInRange (Play room) = room ≤ max_room
 IsInRange (Improve workers seed effort seconds) = IsImproveInRange workers effort seconds
 IsInRange (Find room plan) = (room ≤ max_room) × IsPlanInRange plan
 IsInRange (Report format) = Unit {0}
-IsInRange (League choice terms) = AreTerms terms
+IsInRange (League choice at_most hard_weight) = IsLeagueInRange at_most hard_weight

@@ -42,7 +42,8 @@ pub(crate) fn files_in(alloc: Global, values: &ArgMatches) -> Result<FileWords, 
     })
 }
 
-fn owned(alloc: Global, word: Option<&str>) -> Result<Option<String>, AllocError>
+/// The word, if there is one.
+pub(crate) fn owned(alloc: Global, word: Option<&str>) -> Result<Option<String>, AllocError>
     ensures { IfOk result (λ owned. option_map string_bytes owned ≡ written word.entry) }
 {
     match word {

@@ -92,6 +92,8 @@ pub(crate) const DISTANCES_HELP: &str =
 pub(crate) const SYMMETRIC_HELP: &str =
     "What is taken for two teams that are further apart one way: their mean or max";
 
+pub(crate) const NAME_HELP: &str = "What the league is called: 1 to 80 bytes without control bytes";
+
 pub(crate) const AT_MOST_HELP: &str =
     "How many games in a row a team may have at home, or away, 1 to 78";
 

@@ -1,10 +1,11 @@
 //! The program's command line.
 
-ghost use Rattle.std.specs.Prelude.{◌≡◌, ◌≤◌, [], ◌∷◌, Some, IfOk, IfSome, fold, map, option_and_then, string_bytes};
+ghost use Rattle.std.specs.Prelude.{◌≡◌, ◌≤◌, [], ◌∷◌, Some, IfOk, IfSome, IsTrue, fold, map, option_and_then, option_map, string_bytes};
 ghost use Rattle.clap.specs.Words.{app_of, found_of, rows_of, FailsBy, subcommand_rows_of, with_rule};
 ghost use Rattle.command_line.specs.CommandLine.{app_of_command, improve_command, improve_in, job_of_command, job_of_words, play_command};
 ghost use Rattle.command_line.specs.Beginnings.{beginning_of};
-ghost use Rattle.command_line.specs.CommandLine.{beginning_of_words, files_of_words};
+ghost use Rattle.command_line.specs.CommandLine.{beginning_of_words, files_of_words, title_of_words};
+ghost use Rattle.league.specs.Labels.{is_title};
 ghost use Rattle.command_line.specs.CommandLine.{improve_options, plan_options, rule_of};
 ghost use Rattle.command_line.specs.CommandLine.{plan_in, program, program_of, report_command, search_command, start_command, words_fault};
 ghost use Rattle.command_line.specs.Files.{files_of};
@@ -22,7 +23,7 @@ use crate::report_args::{format_of, report_command};
 use crate::request::{Request, request_of};
 use crate::text_args::{FROM, LEAGUE, SCRIPT, with_file_options, with_start_options};
 use clap::{ArgMatches, Command, Error};
-use distance_tables::{Symmetry, Terms};
+use distance_tables::Symmetry;
 use report_formats::Format;
 use search::SearchPlan;
 use std::alloc::{AllocError, Global};
@@ -57,7 +58,10 @@ pub enum Job {
     /// Make a league of a table of distances, which stands where other jobs have their league.
     League {
         choice: Option<Symmetry>,
-        terms: Terms,
+        /// How many games in a row it is to allow at home, or away.
+        at_most: Option<u64>,
+        /// What each breach of a hard limit is to cost.
+        hard_weight: Option<u64>,
     },
 }
 
@@ -68,7 +72,9 @@ pub fn args(alloc: Global, words: &[String]) -> Result<Request, Error>
     ensures job { IfOk result (λ request. job_of_words (map string_bytes words.now) ≡ Some request.job) }
     ensures files { IfOk result (λ request. files_of_words (map string_bytes words.now) ≡ Some (files_of request.files)) }
     ensures beginning { IfOk result (λ request. beginning_of_words (map string_bytes words.now) ≡ Some (beginning_of request.beginning)) }
+    ensures title { IfOk result (λ request. title_of_words (map string_bytes words.now) ≡ Some (option_map string_bytes request.title)) }
     ensures in_range { IfOk result (λ request. IsInRange request.job) }
+    ensures callable { IfOk result (λ request. IsTrue (is_title (option_map string_bytes request.title))) }
 {
     let command = match command(alloc) {
         Ok(command) => command,

@@ -1,21 +1,22 @@
-//! The command `league` and its options. clap takes any text for what stands for two distances that differ, and a name that none has is
-//! refused here.
+//! The command `league` and its options. clap takes any text for what stands for two distances that differ and for what a league is called,
+//! and a name that none has, or that no league can have, is refused here.
 
-ghost use Rattle.std.specs.Prelude.{◌≡◌, ◌≤◌, IfOk, IfSome};
+ghost use Rattle.std.specs.Prelude.{◌≡◌, ◌≤◌, IfOk, IfSome, option_map, string_bytes};
 ghost use Rattle.clap.specs.Words.{app_of, found_of, rows_of};
 ghost use Rattle.command_line.specs.CommandLine.{app_of_command, at_most_option, choice_of, hard_weight_option, league_command, league_in};
-ghost use Rattle.command_line.specs.CommandLine.{number_in, symmetry_named, terms_in, IsInRange};
+ghost use Rattle.command_line.specs.CommandLine.{number_in, symmetry_named, title_in, IsInRange};
 ghost use Rattle.command_line.specs.within.CommandLine.{HasValue, HasValues};
-ghost use Rattle.distance_tables.specs.League.{AreTerms};
+ghost use Rattle.league.specs.Labels.{is_title};
 ghost use Rattle.sets.specs.Limits.{max_rounds};
 ghost use Rattle.command_line.specs.within.Files.{written};
 
+use crate::files::owned;
 use crate::help::{LEAGUE_ABOUT, LEAGUE_EXAMPLE};
 use crate::job::Job;
 use crate::number_args::{AT_MOST, HARD_WEIGHT};
-use crate::text_args::{DISTANCES, SYMMETRIC};
+use crate::text_args::{DISTANCES, NAME, SYMMETRIC};
 use clap::{ArgMatches, Command};
-use distance_tables::{Symmetry, Terms};
+use distance_tables::{Symmetry, is_title};
 use std::alloc::{AllocError, Global};
 
 pub(crate) fn league_command<'a>(alloc: Global) -> Result<Command<'a>, AllocError>
@@ -27,7 +28,8 @@ pub(crate) fn league_command<'a>(alloc: Global) -> Result<Command<'a>, AllocErro
         .arg(DISTANCES.word(alloc))?
         .arg(AT_MOST.arg(alloc))?
         .arg(HARD_WEIGHT.arg(alloc))?
-        .arg(SYMMETRIC.option(alloc))
+        .arg(SYMMETRIC.option(alloc))?
+        .arg(NAME.option(alloc))
 }
 
 /// The league of a table with what was asked for it, unless that names what nothing has.
@@ -39,21 +41,10 @@ pub(crate) fn league_of(values: &ArgMatches) -> Option<Job>
     match choice_of(values.get_str("symmetric")) {
         Some(choice) => Some(Job::League {
             choice,
-            terms: terms_of(values),
+            at_most: at_most_of(values),
+            hard_weight: hard_weight_of(values),
         }),
         None => None,
-    }
-}
-
-/// What the league is to say.
-fn terms_of(values: &ArgMatches) -> Terms
-    requires { HasValues (rows_of (found_of values.now)) league_command.options }
-    ensures terms { result ≡ terms_in (rows_of (found_of values.now)) }
-    ensures in_range { AreTerms result }
-{
-    Terms {
-        at_most: at_most_of(values),
-        hard_weight: hard_weight_of(values),
     }
 }
 
@@ -71,6 +62,30 @@ fn hard_weight_of(values: &ArgMatches) -> Option<u64>
     ensures range { IfSome result (λ weight. (1 ≤ weight) × (weight ≤ 1000000)) }
 {
     HARD_WEIGHT.number_if_any(values)
+}
+
+/// Whether a league can be called as the words have it, if they do.
+pub(crate) fn has_title(values: &ArgMatches) -> bool
+    ensures { result ≡ is_title (title_in (rows_of (found_of values.now))) }
+{
+    let title = values.get_str("name");
+    can_be_called(title)
+}
+
+fn can_be_called(title: Option<&str>) -> bool
+    ensures { result ≡ is_title (written title.entry) }
+{
+    match title {
+        Some(title) => is_title(title),
+        None => true,
+    }
+}
+
+/// What the league is to be called.
+pub(crate) fn title_in(alloc: Global, values: &ArgMatches) -> Result<Option<String>, AllocError>
+    ensures { IfOk result (λ title. option_map string_bytes title ≡ title_in (rows_of (found_of values.now))) }
+{
+    owned(alloc, values.get_str("name"))
 }
 
 /// Nothing, if no name is given.

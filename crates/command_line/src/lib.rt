@@ -14,7 +14,7 @@ mod text_args;
 mod wrong_number;
 
 pub use beginning::BeginningWords;
-pub use distance_tables::{Symmetry, Terms};
+pub use distance_tables::Symmetry;
 pub use files::FileWords;
 pub use job::{Job, args};
 pub use report_formats::{CsvForm, Format, Separator};

@@ -21,6 +21,8 @@ pub(crate) enum Refusal {
     Input,
     /// A file would be written that has to be another one.
     Output,
+    /// No league can be called as `--name` has it.
+    Name,
     /// The text of `--keep` is wrong.
     Keep,
     /// A text of `--keep-game` is wrong.
@@ -102,6 +104,12 @@ fn message(alloc: Global, values: &ArgMatches, refusal: Refusal) -> Result<Strin
             ),
             None => format_message(alloc, values),
         },
+        Refusal::Name => {
+            let text = values.get_str("name").unwrap_or("");
+            format!(in alloc;
+                "invalid value '{text}' for '--name <TEXT>': 1 to 80 bytes without control bytes are wanted"
+            )
+        }
         Refusal::Keep => {
             let text = values.get_str("keep").unwrap_or("");
             format!(in alloc;

@@ -1,25 +1,28 @@
-//! What the words ask for: a job, files, and what is kept of a start.
+//! What the words ask for: a job, files, a league's name, and what is kept of a start.
 
-ghost use Rattle.std.specs.Prelude.{◌≡◌, ◌⊎◌, ◌&&◌, None, Some, IfErr, IfOk, false, is_some, option_and_then};
+ghost use Rattle.std.specs.Prelude.{◌≡◌, ◌⊎◌, ◌&&◌, None, Some, IfErr, IfOk, IsTrue, false, is_some, option_and_then, option_map, string_bytes};
 ghost use Rattle.clap.specs.Words.{found_of, rows_of, subcommand_rows_of};
 ghost use Rattle.command_line.specs.Beginnings.{beginning_in, beginning_of};
-ghost use Rattle.command_line.specs.CommandLine.{IsInRange, asks_for_all, beginning_of_command, job_of_command};
+ghost use Rattle.command_line.specs.CommandLine.{IsInRange, asks_for_all, beginning_of_command, job_of_command, title_of_command};
 ghost use Rattle.command_line.specs.within.CommandLine.{NamesACommand};
 ghost use Rattle.command_line.specs.within.Refusals.{beginning_refusal, refusal_of, values_refusal};
 ghost use Rattle.command_line.specs.Files.{files_of, files_of_command};
+ghost use Rattle.league.specs.Labels.{is_title};
 
 use crate::beginning::{BeginningWords, games_in, near_in, rounds_in};
 use crate::files::{FileWords, files_in, miswrites, reads_twice};
 use crate::job::{Job, job_of};
+use crate::league_args::{has_title, title_in};
 use crate::refusals::Refusal;
 use clap::ArgMatches;
 use std::alloc::Global;
 
-/// What the program is asked to do, with which files, and where boards begin.
+/// What the program is asked to do, with which files, what a league that is made is to be called, and where boards begin.
 #[derive(Debug, Drop)]
 pub struct Request {
     pub job: Job,
     pub files: FileWords,
+    pub title: Option<String>,
     pub beginning: BeginningWords,
 }
 
@@ -31,6 +34,9 @@ pub(crate) fn request_of(alloc: Global, matches: &ArgMatches) -> Result<Request,
         ≡ Some (files_of request.files)) }
     ensures beginning { IfOk result (λ request. option_and_then beginning_of_command (subcommand_rows_of matches.now)
         ≡ Some (beginning_of request.beginning)) }
+    ensures title { IfOk result (λ request. option_and_then title_of_command (subcommand_rows_of matches.now)
+        ≡ Some (option_map string_bytes request.title)) }
+    ensures callable { IfOk result (λ request. IsTrue (is_title (option_map string_bytes request.title))) }
     ensures in_range { IfOk result (λ request. IsInRange request.job) }
     ensures refused { IfErr result (λ refusal. (refusal ≡ Refusal.Memory)
         ⊎ (asks_for_all (subcommand_rows_of matches.now) ≡ false)) }
@@ -46,7 +52,7 @@ pub(crate) fn request_of(alloc: Global, matches: &ArgMatches) -> Result<Request,
     }
 }
 
-/// The job with the files and the beginning of the command's values.
+/// The job with the files, the league's name and the beginning of the command's values.
 fn request_with(
     alloc: Global,
     job: Job,
@@ -56,9 +62,13 @@ fn request_with(
     ensures job { IfOk result (λ request. request.job ≡ job) }
     ensures files { IfOk result (λ request. files_of_command (name.now, rows_of (found_of values.now)) ≡ Some (files_of request.files)) }
     ensures beginning { IfOk result (λ request. beginning_in (rows_of (found_of values.now)) ≡ Some (beginning_of request.beginning)) }
+    ensures title { IfOk result (λ request. title_of_command (name.now, rows_of (found_of values.now))
+        ≡ Some (option_map string_bytes request.title)) }
+    ensures callable { IfOk result (λ request. IsTrue (is_title (option_map string_bytes request.title))) }
     ensures refused { IfErr result (λ refusal. (refusal ≡ Refusal.Memory)
         ⊎ ((is_some (files_of_command (name.now, rows_of (found_of values.now)))
-        && is_some (beginning_in (rows_of (found_of values.now)))) ≡ false)) }
+        && (is_some (title_of_command (name.now, rows_of (found_of values.now)))
+        && is_some (beginning_in (rows_of (found_of values.now))))) ≡ false)) }
     ensures why { IfErr result (λ refusal. (refusal ≡ Refusal.Memory)
         ⊎ (values_refusal (name.now, rows_of (found_of values.now)) ≡ Some refusal)) }
 {
@@ -68,13 +78,20 @@ fn request_with(
     if miswrites(values) {
         return Err(Refusal::Output);
     }
+    if !has_title(values) {
+        return Err(Refusal::Name);
+    }
     let Ok(files) = files_in(alloc, values) else {
+        return Err(Refusal::Memory);
+    };
+    let Ok(title) = title_in(alloc, values) else {
         return Err(Refusal::Memory);
     };
     match beginning_in(alloc, values) {
         Ok(beginning) => Ok(Request {
             job,
             files,
+            title,
             beginning,
         }),
         Err(refusal) => Err(refusal),

@@ -5,8 +5,8 @@ ghost use Rattle.clap.specs.Words.{app_of, rule_of as rule_of_arg, with_rule};
 ghost use Rattle.command_line.specs.CommandLine.{file_rules, lettered, repeated, start_rules, text_option, word};
 
 use crate::help::{
-    DISTANCES_HELP, FROM_HELP, KEEP_GAME_HELP, KEEP_HELP, LEAGUE_HELP, LOG_HELP, NEAR_HELP,
-    OUTPUT_HELP, SCHEDULE_HELP, SCRIPT_HELP, SEPARATOR_HELP, SYMMETRIC_HELP,
+    DISTANCES_HELP, FROM_HELP, KEEP_GAME_HELP, KEEP_HELP, LEAGUE_HELP, LOG_HELP, NAME_HELP,
+    NEAR_HELP, OUTPUT_HELP, SCHEDULE_HELP, SCRIPT_HELP, SEPARATOR_HELP, SYMMETRIC_HELP,
 };
 use clap::builder::ValueParser;
 use clap::{Arg, ArgAction, Command};
@@ -37,6 +37,13 @@ pub(crate) const SYMMETRIC: TextArg = TextArg {
     name: "symmetric",
     value_name: "BY",
     help: SYMMETRIC_HELP,
+};
+
+/// What a league that is made is called.
+pub(crate) const NAME: TextArg = TextArg {
+    name: "name",
+    value_name: "TEXT",
+    help: NAME_HELP,
 };
 
 pub(crate) const SCRIPT: TextArg = TextArg {

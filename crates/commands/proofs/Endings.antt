@@ -8,9 +8,9 @@ use Rattle.streams.specs.Sending.{AppendsPrefix}
 use Rattle.streams.specs.Tally.{FailsWriting}
 use Rattle.league.specs.League.{LeagueData, IsLeague}
 use Rattle.beginnings.specs.declared.begun.Beginning.{Beginning}
-use Rattle.distance_tables.specs.declared.league_text.Terms.{Terms}
 use Rattle.distance_tables.specs.declared.sides.Symmetry.{Symmetry}
 use Rattle.distance_tables.specs.League.{GivesLeague, IsLeagueOf, rounded_in, table_for}
+use Rattle.distance_tables.specs.LeagueText.{Said}
 use Rattle.distance_tables.specs.Table.{TableData}
 use Rattle.distance_tables.specs.declared.table.MadeLeague.{MadeLeague}
 use Rattle.fixture_board.specs.History.{max_room}
@@ -43,16 +43,16 @@ ends_written held pushes answers text before after (Ok done) is ok prefix cause 
 ends_written held pushes answers text before after (Err fault) is ok prefix cause = (text, is, prefix, cause)
 
 -- the text of a league that was made of a table was written, unless a write failed
-pub ends_made : {W : Type 0} (held : W → Option (List ℕ)) (pushes : W → Tally) (choice : Option Symmetry) (terms : Terms) (bytes : List ℕ)
-    (made : MadeLeague) (before after : W) (written : Result Unit WriteFault) → GivesLeague choice terms bytes (Ok made)
+pub ends_made : {W : Type 0} (held : W → Option (List ℕ)) (pushes : W → Tally) (choice : Option Symmetry) (said : Said) (bytes : List ℕ)
+    (made : MadeLeague) (before after : W) (written : Result Unit WriteFault) → GivesLeague choice said bytes (Ok made)
     → OnOk written (Appends (held before) (held after) made.text.items)
     → OnErr written (AppendsPrefix (held before) (held after) made.text.items)
     → OnErr written (FailsWriting write_limit (pushes before) (pushes after))
-    → EndsOn held pushes (AnswersLeague choice terms (value_of (of_writing written made.rounded)) bytes) before after
+    → EndsOn held pushes (AnswersLeague choice said (value_of (of_writing written made.rounded)) bytes) before after
     (without_value (of_writing written made.rounded))
-ends_made held pushes choice terms bytes made before after (Ok done) (table, read, is) ok prefix cause =
+ends_made held pushes choice said bytes made before after (Ok done) (table, read, is) ok prefix cause =
     (made.text.items, (table, read, is), ok)
-ends_made held pushes choice terms bytes made before after (Err fault) (table, read, is) ok prefix cause =
+ends_made held pushes choice said bytes made before after (Err fault) (table, read, is) ok prefix cause =
     (made.text.items, (table, read, record { text_is = is.text_is; reads = is.reads; rounded_is = refl }), prefix, cause)
 
 -- a league and a script are answered by their play text

@@ -3,6 +3,7 @@
 ghost use Rattle.commands.specs.MadeLeague.{AnswersLeague};
 ghost use Rattle.commands.specs.Outcome.{value_of, without_value, Ends, EndsOn};
 ghost use Rattle.distance_tables.specs.League.{AreTerms};
+ghost use Rattle.distance_tables.specs.LeagueText.{said_by};
 
 use crate::fault::{ProgramFault, after_writing};
 use distance_tables::{Symmetry, Terms, league_from_table};
@@ -18,10 +19,10 @@ pub fn league<R: Source + Drop, W: Sink>(
     mut source: R,
     sink: &mut W,
     choice: Option<Symmetry>,
-    terms: Terms,
+    terms: Terms<'_>,
 ) -> Result<u64, ProgramFault>
-    requires { AreTerms terms }
-    ensures { (after : R) × Ends R.left R.tally W.held W.tally (AnswersLeague choice terms (value_of result))
+    requires { AreTerms (said_by terms) }
+    ensures { (after : R) × Ends R.left R.tally W.held W.tally (AnswersLeague choice (said_by terms.entry) (value_of result))
         source after sink.old sink.new (without_value result) }
 {
     league_from(alloc, &mut source, sink, choice, terms)
@@ -33,10 +34,10 @@ pub fn league_from<R: Source, W: Sink>(
     source: &mut R,
     sink: &mut W,
     choice: Option<Symmetry>,
-    terms: Terms,
+    terms: Terms<'_>,
 ) -> Result<u64, ProgramFault>
-    requires { AreTerms terms }
-    ensures { Ends R.left R.tally W.held W.tally (AnswersLeague choice terms (value_of result))
+    requires { AreTerms (said_by terms) }
+    ensures { Ends R.left R.tally W.held W.tally (AnswersLeague choice (said_by terms.entry) (value_of result))
         source.old source.new sink.old sink.new (without_value result) }
 {
     let table = read_all(alloc, source)?;
@@ -49,10 +50,10 @@ pub fn league_on<W: Sink>(
     table: &[u8],
     sink: &mut W,
     choice: Option<Symmetry>,
-    terms: Terms,
+    terms: Terms<'_>,
 ) -> Result<u64, ProgramFault>
-    requires { AreTerms terms }
-    ensures { EndsOn W.held W.tally (AnswersLeague choice terms (value_of result) table.now) sink.old sink.new (without_value result) }
+    requires { AreTerms (said_by terms) }
+    ensures { EndsOn W.held W.tally (AnswersLeague choice (said_by terms.entry) (value_of result) table.now) sink.old sink.new (without_value result) }
 {
     let made = league_from_table(alloc, table, choice, terms)?;
     after_writing(write_all(sink, &made.text), made.rounded)

@@ -16,7 +16,7 @@ mod start_command;
 mod verdict;
 
 pub use beginnings::Beginning;
-pub use distance_tables::{DistanceFault, Symmetry, Terms};
+pub use distance_tables::{DistanceFault, Symmetry, Terms, is_title};
 pub use fault::ProgramFault;
 pub use hints::hint_on;
 pub use improve_command::{improve, improve_from, improve_on};

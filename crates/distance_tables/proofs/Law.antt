@@ -1,5 +1,5 @@
 -- The text that is made of a table is read as its league.
-use Rattle.std.proofs.Common.{◌≡◌, ℕ, ◌+◌, ◌≤◌, ◌<◌, ◌^◌, ◌&&◌, Bool, true, false, List, [], ◌∷◌, length, Option, Some, None, Result, Ok, Err, refl, ap, subst, sym, inl, inr, arith, IfSome}
+use Rattle.std.proofs.Common.{◌≡◌, ℕ, ◌+◌, ◌≤◌, ◌<◌, ◌^◌, ◌&&◌, Bool, true, false, List, [], ◌∷◌, length, Option, Some, None, Result, Ok, Err, refl, ap, subst, sym, inl, inr, arith, IfSome, IsUtf8}
 use Rattle.std.specs.Prelude.{⊤}
 use Rattle.std.specs.List.{list_all}
 use Rattle.std.specs.Str.Lines.{lines}
@@ -12,10 +12,9 @@ use Rattle.schedule_tables.specs.Cells.{cells, is_empty_row}
 use Rattle.schedule_tables.specs.Head.{without_order_mark}
 use Rattle.distance_tables.specs.declared.fault.DistanceFault.{DistanceFault}
 use Rattle.distance_tables.specs.declared.fault.DistanceFault.TheVariants.{TeamCount}
-use Rattle.distance_tables.specs.declared.league_text.Terms.{Terms}
 use Rattle.distance_tables.specs.declared.sides.Symmetry.{Symmetry}
 use Rattle.distance_tables.specs.League.{agreed, AreTerms, distances_for, league_for, table_for}
-use Rattle.distance_tables.specs.LeagueText.{league_text}
+use Rattle.distance_tables.specs.LeagueText.{Said, league_text}
 use Rattle.distance_tables.specs.Names.{names_of}
 use Rattle.distance_tables.specs.Reading.{unless}
 use Rattle.distance_tables.specs.Rows.{rows_from}
@@ -78,26 +77,28 @@ names_pass : (names : List (List ℕ)) → AreNames names → list_all is_team_n
 names_pass [] are = refl
 names_pass (name ∷ names) are = and_from (is_team_name name) (list_all is_team_name names) are.0 (names_pass names are.2)
 
-small_terms : (at_most hard_weight : Option ℕ) → AreTerms (record { at_most = at_most; hard_weight = hard_weight })
-    → AreSmallTerms (record { at_most = at_most; hard_weight = hard_weight })
-small_terms None None are = (tt, tt)
-small_terms (Some n) None are = (omega (arith, are.0.1), tt)
-small_terms None (Some w) are = (tt, omega (arith, are.1.1))
-small_terms (Some n) (Some w) are = (omega (arith, are.0.1), omega (arith, are.1.1))
+small_terms : (title : Option (List ℕ)) (at_most hard_weight : Option ℕ)
+    → AreTerms (record { title = title; at_most = at_most; hard_weight = hard_weight })
+    → AreSmallTerms (record { title = title; at_most = at_most; hard_weight = hard_weight })
+small_terms title None None are = (tt, tt)
+small_terms title (Some n) None are = (omega (arith, are.at_most.1), tt)
+small_terms title None (Some w) are = (tt, omega (arith, are.hard_weight.1))
+small_terms title (Some n) (Some w) are = (omega (arith, are.at_most.1), omega (arith, are.hard_weight.1))
 
-pub reads : (choice : Option Symmetry) (terms : Terms) (text : List ℕ) (table : TableData) → AreTerms terms → table_for choice text ≡ Ok table
-    → league_of (league_text table.names (distances_for choice table) terms) ≡ Ok (league_for choice terms table)
+pub reads : (choice : Option Symmetry) (said : Said) (text : List ℕ) (table : TableData) → AreTerms said → IfSome said.title IsUtf8
+    → table_for choice text ≡ Ok table
+    → league_of (league_text table.names (distances_for choice table) said) ≡ Ok (league_for choice said table)
 unfolding league_of
-reads choice terms text table are is =
+reads choice said text table are titled is =
     let facts = for_read choice text table is in
     let n = length table.names in
     let distances = distances_for choice table in
     let few = small choice n table.rows facts.rows in
-    let few_terms = small_terms terms.at_most terms.hard_weight are in
-    let utf8 = is_utf8-from_IsUtf8 _ (text_utf8 table.names distances terms facts.names few few_terms) in
+    let few_terms = small_terms said.title said.at_most said.hard_weight are in
+    let utf8 = is_utf8-from_IsUtf8 _ (text_utf8 table.names distances said facts.names few few_terms titled) in
     rw (
       utf8,
-      read_whole table.names distances terms few few_terms,
-      value_is table.names distances terms.at_most terms.hard_weight few few_terms.0 few_terms.1,
-    ) (league_is table.names distances terms.at_most terms.hard_weight are (names_pass table.names facts.names)
+      read_whole table.names distances said few few_terms,
+      value_is table.names distances said.title said.at_most said.hard_weight few few_terms.0 few_terms.1,
+    ) (league_is table.names distances said.title said.at_most said.hard_weight are (names_pass table.names facts.names)
     (sound choice n table.rows facts.rows facts.count))

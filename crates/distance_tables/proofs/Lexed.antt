@@ -1,5 +1,5 @@
 -- The lexemes of a league's text.
-use Rattle.std.proofs.Common.{◌≡◌, ℕ, ◌<◌, ◌^◌, Bool, true, false, List, [], ◌∷◌, ◌++◌, map, codes, decimal, Option, Some, None, refl, ap, ◌∙◌, arith, sym, append_assoc}
+use Rattle.std.proofs.Common.{◌≡◌, ℕ, ◌<◌, ◌^◌, Bool, true, false, List, [], ◌∷◌, ◌++◌, codes, decimal, Option, Some, None, refl, ap, ◌∙◌, sym, append_assoc}
 use Rattle.std.specs.Prelude.{⊤, IfSome}
 use Rattle.json.specs.Token as json
 use Rattle.json.specs.Word.{ends_word}
@@ -9,7 +9,7 @@ use Rattle.json.proofs.OnLiterals.{json_on_literals}
 use Rattle.json.proofs.Printed.Decimals.{IsNumber-decimal}
 use Rattle.json.proofs.Printed.Numbers.{lex-number}
 use Rattle.json.proofs.Printed.Strings.{content-escape, lex-escape}
-use Rattle.distance_tables.specs.LeagueText.{names_text, numbers_text, row_text, rows_text, term_text}
+use Rattle.distance_tables.specs.LeagueText.{names_text, numbers_text, row_text, rows_text, term_text, title_text}
 
 -- each number fits 64 bits
 abbrev pub AreSmall : List ℕ → Type 0
@@ -110,6 +110,15 @@ unfolding lex
 lex_rows later [] rest small = refl
 lex_rows true (row ∷ rows) rest small = ap (λ ls. comma ∷ ls) (first_row row rows rest small.0 (lex_rows true rows rest small.1))
 lex_rows false (row ∷ rows) rest small = first_row row rows rest small.0 (lex_rows true rows rest small.1)
+
+abbrev pub title_lexemes : Option (List ℕ) → List Lexeme
+title_lexemes None = []
+title_lexemes (Some title) = comma ∷ name_lexeme (codes "name") ∷ colon ∷ name_lexeme title ∷ []
+
+pub lex_title : (title : Option (List ℕ)) (rest : List ℕ) → lex between (title_text title ++ rest) ≡ title_lexemes title ++ lex between rest
+unfolding json_on_literals
+lex_title None rest = refl
+lex_title (Some title) rest = ap (λ ls. comma ∷ name_lexeme (codes "name") ∷ colon ∷ ls) (lex_quoted title rest)
 
 abbrev pub term_lexemes : List ℕ → Option ℕ → List Lexeme
 term_lexemes name None = []

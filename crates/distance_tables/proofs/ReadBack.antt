@@ -1,35 +1,36 @@
 -- A league's text is read as the value that it is.
-use Rattle.std.proofs.Common.{◌≡◌, ℕ, ◌+◌, ◌≤◌, ◌<◌, ◌^◌, true, false, List, [], ◌∷◌, ◌++◌, codes, decimal, Option, Some, None, option_map, option_and_then, refl, sym, ap, ◌∙◌, arith, append-nil, IfSome, IsUtf8}
-use Rattle.std.specs.Fmt.{digits}
+use Rattle.std.proofs.Common.{◌≡◌, ℕ, ◌≤◌, ◌<◌, ◌^◌, true, false, List, [], ◌∷◌, ◌++◌, codes, Option, Some, None, option_and_then, refl, sym, ap, ◌∙◌, arith, append-nil, IfSome}
 use Rattle.json.specs.Token as json
 use Rattle.json.specs.Word.{ends_word}
-use Rattle.json.specs.Json.{Json, number, array, object, no_members, member, if_last, value}
+use Rattle.json.specs.Json.{Json, Members, number, array, object, no_members, member, if_last, value}
 use Rattle.json.specs.Lex.{Lexeme, token, comma, colon, lex, between, punctuate, fresh, after_value, tokens}
 use Rattle.json.specs.Tree.{json_tokens, items_tokens, members_tokens, depth}
 use Rattle.json.proofs.OnLiterals.{json_on_literals}
 use Rattle.json.proofs.Printed.Numbers.{lex-number}
 use Rattle.json.proofs.Printed.Trees.{value-json_tokens}
-use Rattle.serde_json.specs.Data as serde
-use Rattle.serde_json.specs.Data.{Data, Items, Members, put}
-use Rattle.serde_json.specs.Read.{of_json, of_items, number_of, read, max_depth}
-use Rattle.serde_json.proofs.Numbers.{number_of-decimal}
-use Rattle.distance_tables.specs.declared.league_text.Terms.{Terms}
-use Rattle.distance_tables.specs.LeagueText.{names_text, rows_text, term_text, league_text}
-use Rattle.distance_tables.proofs.Lexed.{AreSmall, RowsAreSmall, name_lexeme, names_lexemes, rows_lexemes, term_lexemes, lex_names, lex_rows, lex_at_most, lex_hard_weight}
-use Rattle.distance_tables.proofs.Tokens.{name_items, number_items, row_items, term_member, all_names, all_rows, flat_names, flat_rows}
+use Rattle.serde_json.specs.Read.{of_json, read, max_depth}
+use Rattle.distance_tables.specs.LeagueText.{Said, term_text, title_text, league_text}
+use Rattle.distance_tables.proofs.Lexed.{RowsAreSmall, name_lexeme, names_lexemes, rows_lexemes, term_lexemes, title_lexemes, lex_names, lex_rows, lex_title, lex_at_most, lex_hard_weight}
+use Rattle.distance_tables.proofs.Tokens.{name_items, row_items, term_member, title_member, all_names, all_rows, titled, flat_names, flat_rows}
 
-abbrev pub AreSmallTerms : Terms → Type 0
-AreSmallTerms terms = IfSome terms.at_most (λ n. n < 2 ^ 64) × IfSome terms.hard_weight (λ n. n < 2 ^ 64)
+abbrev pub AreSmallTerms : Said → Type 0
+AreSmallTerms said = IfSome said.at_most (λ n. n < 2 ^ 64) × IfSome said.hard_weight (λ n. n < 2 ^ 64)
 
 -- ---- the parts that are always the same
 
-lex_head : (rest : List ℕ) → lex between (codes "{\n  \"format\": 2,\n  \"teams\": [" ++ rest)
-    ≡ token json.begin_object ∷ name_lexeme (codes "format") ∷ colon ∷ token (json.number (codes "2")) ∷ comma ∷ name_lexeme (codes "teams") ∷ colon
-    ∷ token json.begin_array ∷ lex between rest
+lex_head : (rest : List ℕ) → ends_word rest ≡ true → lex between (codes "{\n  \"format\": 3" ++ rest)
+    ≡ token json.begin_object ∷ name_lexeme (codes "format") ∷ colon ∷ token (json.number (codes "3")) ∷ lex between rest
 unfolding json_on_literals
-lex_head rest =
-    ap (λ ls. token json.begin_object ∷ name_lexeme (codes "format") ∷ colon ∷ ls)
-    (lex-number (codes "2") (codes ",\n  \"teams\": [" ++ rest) refl refl)
+lex_head rest ended = ap (λ ls. token json.begin_object ∷ name_lexeme (codes "format") ∷ colon ∷ ls) (lex-number (codes "3") rest refl ended)
+
+title_ends : (title : Option (List ℕ)) (rest : List ℕ) → ends_word (title_text title ++ (codes ",\n  \"teams\": [" ++ rest)) ≡ true
+title_ends None rest = refl
+title_ends (Some title) rest = refl
+
+lex_teams : (rest : List ℕ) → lex between (codes ",\n  \"teams\": [" ++ rest)
+    ≡ comma ∷ name_lexeme (codes "teams") ∷ colon ∷ token json.begin_array ∷ lex between rest
+unfolding json_on_literals
+lex_teams rest = refl
 
 lex_middle : (rest : List ℕ) → lex between (codes "],\n  \"distances\": [" ++ rest)
     ≡ token json.end_array ∷ comma ∷ name_lexeme (codes "distances") ∷ colon ∷ token json.begin_array ∷ lex between rest
@@ -40,45 +41,51 @@ lex_close : (rest : List ℕ) → lex between (codes "\n  ]" ++ rest) ≡ token 
 unfolding json_on_literals
 lex_close rest = refl
 
-module _ (names distances : List (List ℕ)) (terms : Terms) where
+module _ (names distances : List (List ℕ)) (said : Said) where
   abbrev last : List ℕ
-  last = term_text (codes ",\n  \"hard_weight\": ") terms.hard_weight ++ codes "\n}\n"
+  last = term_text (codes ",\n  \"hard_weight\": ") said.hard_weight ++ codes "\n}\n"
 
   abbrev last_lexemes : List Lexeme
-  last_lexemes = term_lexemes (codes "at_most") terms.at_most ++ (term_lexemes (codes "hard_weight") terms.hard_weight ++ token json.end_object ∷ [])
+  last_lexemes = term_lexemes (codes "at_most") said.at_most ++ (term_lexemes (codes "hard_weight") said.hard_weight ++ token json.end_object ∷ [])
 
   abbrev pub whole : Json
-  whole = object (member (codes "format") (number (codes "2")) (member (codes "teams") (array (name_items names))
+  whole = object (member (codes "format") (number (codes "3")) (title_member said.title (member (codes "teams") (array (name_items names))
       (member (codes "distances") (array (row_items distances))
-      (term_member (codes "at_most") terms.at_most (term_member (codes "hard_weight") terms.hard_weight no_members)))))
+      (term_member (codes "at_most") said.at_most (term_member (codes "hard_weight") said.hard_weight no_members))))))
+
+  abbrev last_members : Members
+  last_members = term_member (codes "at_most") said.at_most (term_member (codes "hard_weight") said.hard_weight no_members)
 
   weight_ends : (weight : Option ℕ) → ends_word (term_text (codes ",\n  \"hard_weight\": ") weight ++ codes "\n}\n") ≡ true
   weight_ends None = refl
   weight_ends (Some n) = refl
 
-  lex_last : AreSmallTerms terms → lex between (term_text (codes ",\n  \"at_most\": ") terms.at_most ++ last) ≡ last_lexemes
+  lex_last : AreSmallTerms said → lex between (term_text (codes ",\n  \"at_most\": ") said.at_most ++ last) ≡ last_lexemes
   unfolding json_on_literals
   lex_last small =
-      lex_at_most terms.at_most last small.0 (weight_ends terms.hard_weight)
-      ∙ ap (λ ls. term_lexemes (codes "at_most") terms.at_most ++ ls) (lex_hard_weight terms.hard_weight (codes "\n}\n") small.1 refl)
+      lex_at_most said.at_most last small.0 (weight_ends said.hard_weight)
+      ∙ ap (λ ls. term_lexemes (codes "at_most") said.at_most ++ ls) (lex_hard_weight said.hard_weight (codes "\n}\n") small.1 refl)
 
-  lex_text : RowsAreSmall distances → AreSmallTerms terms → lex between (league_text names distances terms)
-      ≡ token json.begin_object ∷ name_lexeme (codes "format") ∷ colon ∷ token (json.number (codes "2")) ∷ comma ∷ name_lexeme (codes "teams") ∷ colon
+  lex_text : RowsAreSmall distances → AreSmallTerms said → lex between (league_text names distances said)
+      ≡ token json.begin_object ∷ name_lexeme (codes "format") ∷ colon ∷ token (json.number (codes "3"))
+      ∷ (title_lexemes said.title ++ comma ∷ name_lexeme (codes "teams") ∷ colon
       ∷ token json.begin_array ∷ (names_lexemes false names ++ token json.end_array ∷ comma ∷ name_lexeme (codes "distances") ∷ colon
-      ∷ token json.begin_array ∷ (rows_lexemes false distances ++ token json.end_array ∷ last_lexemes))
+      ∷ token json.begin_array ∷ (rows_lexemes false distances ++ token json.end_array ∷ last_lexemes)))
   unfolding league_text
   lex_text small small_terms =
-      let behind_rows = lex_close (term_text (codes ",\n  \"at_most\": ") terms.at_most ++ last) ∙ ap (λ ls. token json.end_array ∷ ls) (lex_last small_terms) in
+      let behind_rows = lex_close (term_text (codes ",\n  \"at_most\": ") said.at_most ++ last) ∙ ap (λ ls. token json.end_array ∷ ls) (lex_last small_terms) in
       let rows = lex_rows false distances _ small ∙ ap (λ ls. rows_lexemes false distances ++ ls) behind_rows in
       let behind_names = lex_middle _ ∙ ap (λ ls. token json.end_array ∷ comma ∷ name_lexeme (codes "distances") ∷ colon ∷ token json.begin_array ∷ ls) rows in
       let teams = lex_names false names _ ∙ ap (λ ls. names_lexemes false names ++ ls) behind_names in
-      lex_head _ ∙ ap (λ ls. token json.begin_object ∷ name_lexeme (codes "format") ∷ colon ∷ token (json.number (codes "2")) ∷ comma
-      ∷ name_lexeme (codes "teams") ∷ colon ∷ token json.begin_array ∷ ls) teams
+      let titled = lex_title said.title _ ∙ ap (λ ls. title_lexemes said.title ++ ls)
+      (lex_teams _ ∙ ap (λ ls. comma ∷ name_lexeme (codes "teams") ∷ colon ∷ token json.begin_array ∷ ls) teams) in
+      lex_head _ (title_ends said.title _)
+      ∙ ap (λ ls. token json.begin_object ∷ name_lexeme (codes "format") ∷ colon ∷ token (json.number (codes "3")) ∷ ls) titled
 
   last_tokens : punctuate after_value last_lexemes
-      ≡ members_tokens (term_member (codes "at_most") terms.at_most (term_member (codes "hard_weight") terms.hard_weight no_members))
+      ≡ members_tokens last_members
   unfolding punctuate
-  last_tokens = terms_tokens terms.at_most terms.hard_weight
+  last_tokens = terms_tokens said.at_most said.hard_weight
     where
       terms_tokens : (at_most hard_weight : Option ℕ)
           → punctuate after_value (term_lexemes (codes "at_most") at_most ++ (term_lexemes (codes "hard_weight") hard_weight ++ token json.end_object ∷ []))
@@ -88,28 +95,33 @@ module _ (names distances : List (List ℕ)) (terms : Terms) where
       terms_tokens None (Some w) = refl
       terms_tokens (Some n) (Some w) = refl
 
-  all_tokens : RowsAreSmall distances → AreSmallTerms terms → tokens (league_text names distances terms) ≡ json_tokens whole
+  all_tokens : RowsAreSmall distances → AreSmallTerms said → tokens (league_text names distances said) ≡ json_tokens whole
   unfolding punctuate
   all_tokens small small_terms =
       let rows = all_rows distances last_lexemes ∙ ap (λ ts. items_tokens (row_items distances) ++ ts) last_tokens in
       let teams = all_names names (comma ∷ name_lexeme (codes "distances") ∷ colon ∷ token json.begin_array ∷ (rows_lexemes false distances ++ token json.end_array ∷ last_lexemes))
       ∙ ap (λ ts. items_tokens (name_items names) ++ json.key (codes "distances") ∷ json.begin_array ∷ ts) rows in
       ap (punctuate fresh) (lex_text small small_terms)
-      ∙ ap (λ ts. json.begin_object ∷ json.key (codes "format") ∷ json.number (codes "2") ∷ json.key (codes "teams") ∷ json.begin_array ∷ ts) teams
+      ∙ ap (λ ts. json.begin_object ∷ json.key (codes "format") ∷ json.number (codes "3") ∷ ts)
+      (titled said.title _ (name_items names) (member (codes "distances") (array (row_items distances)) last_members) teams)
 
   shallow : depth whole ≤ max_depth
-  shallow = few terms.at_most terms.hard_weight
+  shallow = few said.title said.at_most said.hard_weight
     where
-      few : (at_most hard_weight : Option ℕ)
-          → depth (object (member (codes "format") (number (codes "2")) (member (codes "teams") (array (name_items names))
+      few : (title : Option (List ℕ)) (at_most hard_weight : Option ℕ)
+          → depth (object (member (codes "format") (number (codes "3")) (title_member title (member (codes "teams") (array (name_items names))
           (member (codes "distances") (array (row_items distances))
-          (term_member (codes "at_most") at_most (term_member (codes "hard_weight") hard_weight no_members)))))) ≤ max_depth
-      few None None = omega (arith, flat_names names, flat_rows distances)
-      few (Some n) None = omega (arith, flat_names names, flat_rows distances)
-      few None (Some w) = omega (arith, flat_names names, flat_rows distances)
-      few (Some n) (Some w) = omega (arith, flat_names names, flat_rows distances)
+          (term_member (codes "at_most") at_most (term_member (codes "hard_weight") hard_weight no_members))))))) ≤ max_depth
+      few None None None = omega (arith, flat_names names, flat_rows distances)
+      few None (Some n) None = omega (arith, flat_names names, flat_rows distances)
+      few None None (Some w) = omega (arith, flat_names names, flat_rows distances)
+      few None (Some n) (Some w) = omega (arith, flat_names names, flat_rows distances)
+      few (Some t) None None = omega (arith, flat_names names, flat_rows distances)
+      few (Some t) (Some n) None = omega (arith, flat_names names, flat_rows distances)
+      few (Some t) None (Some w) = omega (arith, flat_names names, flat_rows distances)
+      few (Some t) (Some n) (Some w) = omega (arith, flat_names names, flat_rows distances)
 
-  pub read_whole : RowsAreSmall distances → AreSmallTerms terms → read (league_text names distances terms) ≡ of_json whole
+  pub read_whole : RowsAreSmall distances → AreSmallTerms said → read (league_text names distances said) ≡ of_json whole
   read_whole small small_terms =
       ap (λ ts. option_and_then of_json (option_and_then (λ p. if_last p.0 p.1) (value max_depth ts)))
       (all_tokens small small_terms ∙ sym (append-nil (json_tokens whole)))

@@ -1,11 +1,11 @@
 -- The tokens of a league's text, and the JSON that they are.
-use Rattle.std.proofs.Common.{◌≡◌, ℕ, ◌≤◌, max, Bool, true, false, List, [], ◌∷◌, ◌++◌, codes, decimal, Option, Some, None, refl, sym, ap, ◌∙◌, arith, append_assoc}
+use Rattle.std.proofs.Common.{◌≡◌, ℕ, ◌≤◌, true, false, List, [], ◌∷◌, ◌++◌, codes, decimal, Option, Some, None, refl, sym, ap, ◌∙◌, arith, append_assoc}
 use Rattle.json.specs.Token as json
 use Rattle.json.specs.Token.{Token}
-use Rattle.json.specs.Json.{Json, number, string, array, object, Items, no_items, item, Members, no_members, member}
+use Rattle.json.specs.Json.{number, string, array, Items, no_items, item, Members, member}
 use Rattle.json.specs.Lex.{Lexeme, token, comma, colon, begins_colon, punctuate, fresh, after_value}
-use Rattle.json.specs.Tree.{json_tokens, items_tokens, members_tokens, items_depth}
-use Rattle.distance_tables.proofs.Lexed.{names_lexemes, numbers_lexemes, rows_lexemes, term_lexemes, name_lexeme, number_lexeme}
+use Rattle.json.specs.Tree.{items_tokens, members_tokens, items_depth}
+use Rattle.distance_tables.proofs.Lexed.{names_lexemes, numbers_lexemes, rows_lexemes, title_lexemes, name_lexeme}
 
 abbrev pub name_items : List (List ℕ) → Items
 name_items [] = no_items
@@ -18,6 +18,10 @@ number_items (n ∷ ns) = item (number (decimal n)) (number_items ns)
 abbrev pub row_items : List (List ℕ) → Items
 row_items [] = no_items
 row_items (row ∷ rows) = item (array (number_items row)) (row_items rows)
+
+abbrev pub title_member : Option (List ℕ) → Members → Members
+title_member None more = more
+title_member (Some title) more = member (codes "name") (string title) more
 
 abbrev pub term_member : List ℕ → Option ℕ → Members → Members
 term_member name None more = more
@@ -73,6 +77,16 @@ pub all_rows : (rows : List (List ℕ)) (rest : List Lexeme)
 unfolding punctuate
 all_rows [] rest = refl
 all_rows (row ∷ rows) rest = ap (λ ts. json.begin_array ∷ ts) (one_row row rows rest (more_rows rows rest))
+
+-- those of the members from the league's name on
+pub titled : (title : Option (List ℕ)) (names : List Lexeme) (teams : Items) (more : Members)
+    → punctuate fresh names ≡ items_tokens teams ++ members_tokens more
+    → punctuate after_value (title_lexemes title ++ comma ∷ name_lexeme (codes "teams") ∷ colon ∷ token json.begin_array ∷ names)
+    ≡ members_tokens (title_member title (member (codes "teams") (array teams) more))
+unfolding punctuate
+titled None names teams more is = ap (λ ts. json.key (codes "teams") ∷ json.begin_array ∷ ts) is
+titled (Some title) names teams more is =
+    ap (λ ts. json.key (codes "name") ∷ json.string title ∷ json.key (codes "teams") ∷ json.begin_array ∷ ts) is
 
 -- ---- how deep they are
 

@@ -1,11 +1,10 @@
 -- A league's text is UTF-8.
-use Rattle.std.proofs.Common.{◌≡◌, ℕ, ◌<◌, ◌^◌, Bool, true, false, List, [], ◌∷◌, ◌++◌, codes, decimal, Option, Some, None, refl, IfSome, IsUtf8}
+use Rattle.std.proofs.Common.{ℕ, ◌<◌, ◌^◌, Bool, true, false, List, [], ◌∷◌, ◌++◌, codes, decimal, Option, Some, None, refl, IfSome, IsUtf8}
 use Rattle.std.proofs.lemmas.Fmt.{IsAscii-decimal}
 use Rattle.std.proofs.lemmas.Str.{IsUtf8-append, IsUtf8-nil, IsUtf8-from_ascii, IsUtf8-from_is_utf8}
 use Rattle.json.specs.Print.{quoted}
 use Rattle.json.proofs.Printed.Utf8.{IsUtf8-quoted, IsUtf8-are_ascii}
-use Rattle.distance_tables.specs.declared.league_text.Terms.{Terms}
-use Rattle.distance_tables.specs.LeagueText.{names_text, numbers_text, row_text, rows_text, term_text, league_text}
+use Rattle.distance_tables.specs.LeagueText.{Said, names_text, numbers_text, row_text, rows_text, term_text, title_text, league_text}
 use Rattle.distance_tables.proofs.Facts.{AreNames}
 use Rattle.distance_tables.proofs.Lexed.{AreSmall, RowsAreSmall}
 use Rattle.distance_tables.proofs.ReadBack.{AreSmallTerms}
@@ -44,13 +43,18 @@ term_utf8 : (name : List ℕ) (term : Option ℕ) → IsUtf8 name → IfSome ter
 term_utf8 name None ascii small = IsUtf8-nil
 term_utf8 name (Some n) ascii small = IsUtf8-append name (decimal n) ascii (decimal_utf8 n small)
 
-pub text_utf8 : (names distances : List (List ℕ)) (terms : Terms) → AreNames names → RowsAreSmall distances → AreSmallTerms terms
-    → IsUtf8 (league_text names distances terms)
+title_utf8 : (title : Option (List ℕ)) → IfSome title IsUtf8 → IsUtf8 (title_text title)
+title_utf8 None utf8 = IsUtf8-nil
+title_utf8 (Some title) utf8 = IsUtf8-append (codes ",\n  \"name\": ") (quoted title) (IsUtf8-are_ascii _ refl) (IsUtf8-quoted title utf8)
+
+pub text_utf8 : (names distances : List (List ℕ)) (said : Said) → AreNames names → RowsAreSmall distances → AreSmallTerms said
+    → IfSome said.title IsUtf8 → IsUtf8 (league_text names distances said)
 unfolding league_text
-text_utf8 names distances terms are small small_terms =
-    IsUtf8-append _ _ (IsUtf8-are_ascii (codes "{\n  \"format\": 2,\n  \"teams\": [") refl) (IsUtf8-append _ _ (names_utf8 false names are)
+text_utf8 names distances said are small small_terms titled =
+    IsUtf8-append _ _ (IsUtf8-are_ascii (codes "{\n  \"format\": 3") refl) (IsUtf8-append _ _ (title_utf8 said.title titled)
+    (IsUtf8-append _ _ (IsUtf8-are_ascii (codes ",\n  \"teams\": [") refl) (IsUtf8-append _ _ (names_utf8 false names are)
     (IsUtf8-append _ _ (IsUtf8-are_ascii (codes "],\n  \"distances\": [") refl) (IsUtf8-append _ _ (rows_utf8 false distances small)
     (IsUtf8-append _ _ (IsUtf8-are_ascii (codes "\n  ]") refl)
-    (IsUtf8-append _ _ (term_utf8 (codes ",\n  \"at_most\": ") terms.at_most (IsUtf8-are_ascii _ refl) small_terms.0)
-    (IsUtf8-append _ _ (term_utf8 (codes ",\n  \"hard_weight\": ") terms.hard_weight (IsUtf8-are_ascii _ refl) small_terms.1)
-    (IsUtf8-are_ascii (codes "\n}\n") refl)))))))
+    (IsUtf8-append _ _ (term_utf8 (codes ",\n  \"at_most\": ") said.at_most (IsUtf8-are_ascii _ refl) small_terms.0)
+    (IsUtf8-append _ _ (term_utf8 (codes ",\n  \"hard_weight\": ") said.hard_weight (IsUtf8-are_ascii _ refl) small_terms.1)
+    (IsUtf8-are_ascii (codes "\n}\n") refl)))))))))

@@ -1,6 +1,6 @@
 -- The league that a table gives.
-use Rattle.std.specs.Prelude.{◌≡◌, ℕ, ◌+◌, ◌≤◌, List, [], ◌∷◌, length, false, unwrap_or, Option, Some, None, IfSome, Result, Ok, Err, if◌then◌else◌, ⊤}
-use Rattle.league.specs.Labels.{no_labels}
+use Rattle.std.specs.Prelude.{◌≡◌, ℕ, ◌+◌, ◌≤◌, List, [], ◌∷◌, length, false, unwrap_or, Option, Some, None, IfSome, IsTrue, Result, Ok, Err, if◌then◌else◌, ⊤}
+use Rattle.league.specs.Labels.{is_title, label_data}
 use Rattle.league.specs.League.{LeagueData, league_data, league_of}
 use Rattle.league.specs.Limits.{default_at_most, default_hard_weight, max_rounds, max_weight}
 use Rattle.league.specs.declared.origins.Start.TheVariants.{Berger}
@@ -8,18 +8,19 @@ use Rattle.league.specs.Origins.{origin_at}
 use Rattle.distance_tables.specs.declared.fault.Asymmetry.{Asymmetry}
 use Rattle.distance_tables.specs.declared.fault.DistanceFault.{DistanceFault}
 use Rattle.distance_tables.specs.declared.fault.DistanceFault.TheVariants.{Asymmetric, Memory}
-use Rattle.distance_tables.specs.declared.league_text.Terms.{Terms}
 use Rattle.distance_tables.specs.declared.measures.Measure.{Measure}
 use Rattle.distance_tables.specs.declared.sides.Symmetry.{Symmetry}
 use Rattle.distance_tables.specs.declared.table.MadeLeague.{MadeLeague}
-use Rattle.distance_tables.specs.LeagueText.{league_text}
+use Rattle.distance_tables.specs.LeagueText.{Said, league_text}
 use Rattle.distance_tables.specs.Reading.{◌>>=◌}
 use Rattle.distance_tables.specs.Sides.{first_asymmetry, leveled}
 use Rattle.distance_tables.specs.Table.{TableData, table_of}
 
 -- what a league may say
-abbrev pub AreTerms : Terms → Type 0
-AreTerms terms = IfSome terms.at_most (λ n. (1 ≤ n) × (n ≤ max_rounds)) × IfSome terms.hard_weight (λ w. (1 ≤ w) × (w ≤ max_weight))
+pub record AreTerms (said : Said) : Type 0 where
+  pub title : IsTrue (is_title said.title)
+  pub at_most : IfSome said.at_most (λ n. (1 ≤ n) × (n ≤ max_rounds))
+  pub hard_weight : IfSome said.hard_weight (λ w. (1 ≤ w) × (w ≤ max_weight))
 
 -- how many distances were rounded
 abbrev pub rounded_in_row : List Measure → ℕ
@@ -49,20 +50,20 @@ table_for choice text = do
 abbrev pub distances_for : Option Symmetry → TableData → List (List ℕ)
 distances_for choice table = leveled choice (length table.names) table.rows
 
-abbrev pub league_for : Option Symmetry → Terms → TableData → LeagueData
-league_for choice terms table =
-    league_data table.names (distances_for choice table) (unwrap_or terms.at_most default_at_most)
-    (unwrap_or terms.hard_weight default_hard_weight) [] (origin_at Berger) false false no_labels
+abbrev pub league_for : Option Symmetry → Said → TableData → LeagueData
+league_for choice said table =
+    league_data table.names (distances_for choice table) (unwrap_or said.at_most default_at_most)
+    (unwrap_or said.hard_weight default_hard_weight) [] (origin_at Berger) false false (label_data said.title [] [])
 
 -- the text of a table's league, which is read as it, and how many distances were rounded
-pub record IsLeagueOf (choice : Option Symmetry) (terms : Terms) (table : TableData) (text : List ℕ) (rounded : ℕ) : Type 0 where
-  pub text_is : text ≡ league_text table.names (distances_for choice table) terms
-  pub reads : league_of text ≡ Ok (league_for choice terms table)
+pub record IsLeagueOf (choice : Option Symmetry) (said : Said) (table : TableData) (text : List ℕ) (rounded : ℕ) : Type 0 where
+  pub text_is : text ≡ league_text table.names (distances_for choice table) said
+  pub reads : league_of text ≡ Ok (league_for choice said table)
   pub rounded_is : rounded ≡ rounded_in table.rows
 
 -- what a call gives for a text, if memory is there
-abbrev pub GivesLeague : Option Symmetry → Terms → List ℕ → Result MadeLeague DistanceFault → Type 0
-GivesLeague choice terms text (Ok made) =
-    (table : TableData) × (table_for choice text ≡ Ok table) × IsLeagueOf choice terms table made.text.items made.rounded
-GivesLeague choice terms text (Err Memory) = Unit {0}
-GivesLeague choice terms text (Err fault) = table_for choice text ≡ Err fault
+abbrev pub GivesLeague : Option Symmetry → Said → List ℕ → Result MadeLeague DistanceFault → Type 0
+GivesLeague choice said text (Ok made) =
+    (table : TableData) × (table_for choice text ≡ Ok table) × IsLeagueOf choice said table made.text.items made.rounded
+GivesLeague choice said text (Err Memory) = Unit {0}
+GivesLeague choice said text (Err fault) = table_for choice text ≡ Err fault

@@ -1,21 +1,34 @@
 //! The text of a league that is made of a table.
 
-ghost use Rattle.std.specs.Prelude.{◌≡◌, ◌++◌, codes, decimal, IfOk, OnOk, false};
+ghost use Rattle.std.specs.Prelude.{◌≡◌, ◌++◌, codes, decimal, option_map, IfOk, IfSome, OnOk, Some, false};
+ghost use Rattle.std.specs.Str.{IsUtf8};
 ghost use Rattle.json.specs.Print.{quoted};
+ghost use Rattle.league.specs.Labels.{is_title};
 ghost use Rattle.league.specs.Views.{texts};
-ghost use Rattle.distance_tables.specs.LeagueText.{league_text, names_text, numbers_text, row_text, rows_text, term_text};
+ghost use Rattle.distance_tables.specs.LeagueText.{league_text, names_text, numbers_text, row_text, rows_text, said_by, term_text, title_text};
 ghost use Rattle.distance_tables.specs.within.Views.{number_rows};
 
+use crate::names::has_name_bytes;
+use league::limits::MAX_TITLE;
 use serde_json::Value;
 use std::alloc::{AllocError, Global};
 
 /// What a league says beside its teams and distances, if anything is to be said.
 #[derive(Clone, Copy, Debug, Default, PartialEq, Eq)]
-pub struct Terms {
+pub struct Terms<'a> {
+    /// What the league is called, as [`is_title`] has it.
+    pub title: Option<&'a str>,
     /// How many rounds in a row a team may play at home, or away: 1 to 78.
     pub at_most: Option<u64>,
     /// What each breach of a hard limit adds to a score: 1 to 1000000.
     pub hard_weight: Option<u64>,
+}
+
+/// Whether a league can be called so: 1 to 80 bytes, none of them a control byte.
+pub fn is_title(text: &str) -> bool
+    ensures { result ≡ is_title (Some text.now) }
+{
+    (1..=MAX_TITLE).contains(&text.len()) && has_name_bytes(text.as_bytes())
 }
 
 /// The text, with a row of distances a line.
@@ -24,12 +37,15 @@ pub(crate) fn league_text(
     alloc: Global,
     names: &[String],
     distances: &[Vec<u64>],
-    terms: Terms,
+    terms: Terms<'_>,
 ) -> Result<Vec<u8>, AllocError>
-    ensures { IfOk result (λ text. text.items ≡ league_text (texts names.now) (number_rows distances.now) terms) }
+    ensures text { IfOk result (λ text. text.items ≡ league_text (texts names.now) (number_rows distances.now) (said_by terms.entry)) }
+    ensures utf8 { IfOk result (λ _. IfSome (said_by terms.entry).title IsUtf8) }
 {
     let mut text = Vec::new(alloc);
-    text.extend_from_slice(b"{\n  \"format\": 2,\n  \"teams\": [")?;
+    text.extend_from_slice(b"{\n  \"format\": 3")?;
+    push_title(alloc, &mut text, terms.title)?;
+    text.extend_from_slice(b",\n  \"teams\": [")?;
     push_names(alloc, &mut text, names)?;
     text.extend_from_slice(b"],\n  \"distances\": [")?;
     push_rows(&mut text, distances)?;
@@ -38,6 +54,18 @@ pub(crate) fn league_text(
     push_term(&mut text, b",\n  \"hard_weight\": ", terms.hard_weight)?;
     text.extend_from_slice(b"\n}\n")?;
     Ok(text)
+}
+
+/// Adds the member of the league's name, if it has one.
+fn push_title(alloc: Global, text: &mut Vec<u8>, title: Option<&str>) -> Result<(), AllocError>
+    ensures text { OnOk result (text.new.items ≡ text.old.items ++ title_text (option_map (λ title. title.now) title.entry)) }
+    ensures utf8 { OnOk result (IfSome (option_map (λ title. title.now) title.entry) IsUtf8) }
+{
+    if let Some(title) = title {
+        text.extend_from_slice(b",\n  \"name\": ")?;
+        push_name(alloc, text, title)?;
+    }
+    Ok(())
 }
 
 fn push_names(alloc: Global, text: &mut Vec<u8>, names: &[String]) -> Result<(), AllocError>
@@ -58,7 +86,8 @@ fn push_names(alloc: Global, text: &mut Vec<u8>, names: &[String]) -> Result<(),
 
 /// Adds a name as a string of JSON.
 fn push_name(alloc: Global, text: &mut Vec<u8>, name: &str) -> Result<(), AllocError>
-    ensures { OnOk result (text.new.items ≡ text.old.items ++ quoted name.now) }
+    ensures text { OnOk result (text.new.items ≡ text.old.items ++ quoted name.now) }
+    ensures utf8 { IsUtf8 name.now }
 {
     let quoted = Value::try_from_str(alloc, name)?.to_vec(alloc)?;
     text.extend_from_slice(&quoted)

@@ -51,7 +51,8 @@ fn is_team_name(name: &[u8]) -> bool
     (1..=MAX_NAME).contains(&name.len()) && has_name_bytes(name)
 }
 
-fn has_name_bytes(name: &[u8]) -> bool
+/// Whether none of the bytes is a control byte.
+pub(crate) fn has_name_bytes(name: &[u8]) -> bool
     ensures { result ≡ list_all is_name_byte name.now }
 {
     name.iter().all(|b| *b >= 32 && *b != 127)

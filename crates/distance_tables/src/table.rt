@@ -6,6 +6,7 @@ ghost use Rattle.league.specs.Checks.{is_team_count};
 ghost use Rattle.league.specs.Views.{texts};
 ghost use Rattle.schedule_tables.specs.Cells.{cells};
 ghost use Rattle.distance_tables.specs.League.{agreed, AreTerms, GivesLeague, rounded_in, rounded_in_row};
+ghost use Rattle.distance_tables.specs.LeagueText.{said_by};
 ghost use Rattle.distance_tables.specs.within.Reading.{Gives};
 ghost use Rattle.distance_tables.specs.Table.{begins_with_name, has_names, parts_cells, separator_of, table_below, table_of};
 ghost use Rattle.distance_tables.specs.within.Table.{table_view};
@@ -183,7 +184,7 @@ fn agreed(choice: Option<Symmetry>, teams: u8, table: &[Vec<Measure>]) -> Result
     }
 }
 
-/// A league of the teams and distances of a table, as the JSON text of its format 2, a row of distances a line.
+/// A league of the teams and distances of a table, as the JSON text of its format 3, a row of distances a line.
 ///
 /// A table has the teams' names in its first row, and the distances of a team to each in each further row, with the team's name before them
 /// or not. Between cells stand tabs if there are any in the first row, semicolons if there are, and commas otherwise. A distance is a whole
@@ -196,10 +197,10 @@ pub fn league_from_table(
     alloc: Global,
     text: &[u8],
     choice: Option<Symmetry>,
-    terms: Terms,
+    terms: Terms<'_>,
 ) -> Result<MadeLeague, DistanceFault>
-    requires { AreTerms terms }
-    ensures { GivesLeague choice terms text.now result }
+    requires { AreTerms (said_by terms) }
+    ensures { GivesLeague choice (said_by terms.entry) text.now result }
 {
     let table = table_of(alloc, text)?;
     let teams = name_count(&table.names) as u8;

@@ -17,22 +17,23 @@ use Rattle.program.specs.declared.jobs.Ending.{Ending}
 use Rattle.program.specs.Program.{EndsJob, EndsJobOn}
 
 -- no job on an input that was read ends as if it couldn't be
-module _ {W : Type 0} (held : W → Option (List ℕ)) (pushes : W → Tally) (bytes : List ℕ) (before after : W) (told : Option Ending) where
-  not_unread : (job : Job) → EndsJobOn held pushes bytes None None job told before after (Err Read) → ⊥
+module _ {W : Type 0} (held : W → Option (List ℕ)) (pushes : W → Tally) (bytes : List ℕ) (before after : W) (told : Option Ending)
+    (title : Option (List ℕ)) where
+  not_unread : (job : Job) → EndsJobOn held pushes bytes None None title job told before after (Err Read) → ⊥
   not_unread Start ends = ends.0
   not_unread (Play room) ends = ends.0
   not_unread (Improve workers seed effort seconds) ends = ends.0
   not_unread (Find room plan) ends = ends.0
   not_unread (Report format) ends = ends.0
-  not_unread (Make choice terms) ends = ends.0
+  not_unread (Make choice at_most hard_weight) ends = ends.0
 
-  not_long : (job : Job) → EndsJobOn held pushes bytes None None job told before after (Err TooLong) → ⊥
+  not_long : (job : Job) → EndsJobOn held pushes bytes None None title job told before after (Err TooLong) → ⊥
   not_long Start ends = ends.0
   not_long (Play room) ends = ends.0
   not_long (Improve workers seed effort seconds) ends = ends.0
   not_long (Find room plan) ends = ends.0
   not_long (Report format) ends = ends.0
-  not_long (Make choice terms) ends = ends.0
+  not_long (Make choice at_most hard_weight) ends = ends.0
 
 -- a read has one fault
 not_both : {A : Type 0} (result : Result A ReadFault) → result ≡ Err reading.TooLong → result ≡ Err reading.Read → ⊥
@@ -42,15 +43,15 @@ not_memory : {A : Type 0} (result : Result A ReadFault) → result ≡ Err readi
 not_memory result memory unread = cc
 
 -- a source before and after it was read, and how often
-module _ {R W : Type 0} (left : R → Option (List ℕ)) (pulls : R → Tally) (held : W → Option (List ℕ)) (pushes : W → Tally) (job : Job)
-    (old new : R) (calls : (pulls new).calls ≤ (pulls old).calls + read_limit) where
+module _ {R W : Type 0} (left : R → Option (List ℕ)) (pulls : R → Tally) (held : W → Option (List ℕ)) (pushes : W → Tally)
+    (title : Option (List ℕ)) (job : Job) (old new : R) (calls : (pulls new).calls ≤ (pulls old).calls + read_limit) where
   module _ (bytes : List ℕ) (told : Option Ending) (before after : W) (taken : Consumes (left old) (left new) bytes)
       (ended : IsAtEnd (left new)) (within : length bytes ≤ input_limit) where
-    by_result : (result : Result Unit ProgramFault) → EndsJobOn held pushes bytes None None job told before after result
-        → EndsBy left pulls (λ b. EndsJobOn held pushes b None None job told) old new before after result
+    by_result : (result : Result Unit ProgramFault) → EndsJobOn held pushes bytes None None title job told before after result
+        → EndsBy left pulls (λ b. EndsJobOn held pushes b None None title job told) old new before after result
     by_result (Ok done) ends = record { bytes = bytes; taken = taken; ended = ended; within = within; ends_so = ends }
-    by_result (Err Read) ends = absurd (not_unread held pushes bytes before after told job ends)
-    by_result (Err TooLong) ends = absurd (not_long held pushes bytes before after told job ends)
+    by_result (Err Read) ends = absurd (not_unread held pushes bytes before after told title job ends)
+    by_result (Err TooLong) ends = absurd (not_long held pushes bytes before after told title job ends)
     by_result (Err Memory) ends = inr (record { bytes = bytes; taken = taken; ended = ended; within = within; ends_so = ends })
     by_result (Err (League fault)) ends = record { bytes = bytes; taken = taken; ended = ended; within = within; ends_so = ends }
     by_result (Err (LeagueAt fault hint)) ends = record { bytes = bytes; taken = taken; ended = ended; within = within; ends_so = ends }
@@ -66,8 +67,8 @@ module _ {R W : Type 0} (left : R → Option (List ℕ)) (pulls : R → Tally) (
 
     -- what the job comes to on the input is what it comes to between the source and the sink
     pub on_input : (result : Result Unit ProgramFault) → ((pulls old).failed < (pulls new).failed → ⊥)
-        → EndsJobOn held pushes bytes None None job told before after result
-        → EndsJob left pulls held pushes job told old new before after result
+        → EndsJobOn held pushes bytes None None title job told before after result
+        → EndsJob left pulls held pushes title job told old new before after result
     on_input result none_failed ends =
         record { ending = by_result result ends; failed_read = λ failed. absurd (none_failed failed); reads = calls }
 
@@ -76,7 +77,7 @@ module _ {R W : Type 0} (left : R → Option (List ℕ)) (pulls : R → Tally) (
       → (result ≡ Err reading.TooLong → StopsPast left pulls input_limit old new)
       → (result ≡ Err reading.Read → StopsWithin left pulls input_limit read_limit old new)
       → ((pulls old).failed < (pulls new).failed → result ≡ Err reading.Read)
-      → EndsJob left pulls held pushes job None old new sink sink (Err (of_reading fault))
+      → EndsJob left pulls held pushes title job None old new sink sink (Err (of_reading fault))
   unread sink result reading.Read is too_long read failed =
       record { ending = (read is, refl); failed_read = λ h. refl; reads = calls }
   unread sink result reading.TooLong is too_long read failed =

@@ -1,5 +1,5 @@
 -- What a request that the words were taken for comes to, and one that they were refused for.
-use Rattle.std.proofs.Common.{◌≡◌, ◌≤◌, ℕ, Bool, codes, if◌then◌else◌, nat_le, option_and_then, List, [], ◌∷◌, Option, Some, None, Result, Ok, Err, IfOk, IfErr, OnErr, true, false, refl, subst, subst₂, sym, arith}
+use Rattle.std.proofs.Common.{◌≡◌, ◌≤◌, ℕ, Bool, codes, if◌then◌else◌, nat_le, option_and_then, option_map, string_bytes, List, [], ◌∷◌, Option, Some, None, Result, Ok, Err, IfOk, IfErr, OnErr, true, false, refl, subst, subst₂, sym, arith}
 use mathlib.Core.Logic.{inl, inr}
 use Rattle.std.specs.Option.{option_map_or}
 use Rattle.std.proofs.lemmas.Bool.{leb-true}
@@ -36,52 +36,60 @@ plain_too files made_files kept made_kept plain same_files same_kept is =
 -- words that name a job, files and what is kept; and what was made of them
 module _ {R W : Type 0} (left : R → Option (List ℕ)) (pulls : R → Tally) (held : W → Option (List ℕ)) (pushes : W → Tally) (source : R)
     (before : W) where
-  nothing_done : (job : Job) → EndsJob left pulls held pushes job None source source before before (Err Memory)
-  nothing_done Start = record { ending = inl refl; failed_read = λ h. absurd (omega (arith, h)); reads = omega arith }
-  nothing_done (Play room) = record { ending = inl refl; failed_read = λ h. absurd (omega (arith, h)); reads = omega arith }
-  nothing_done (Improve workers seed effort seconds) =
+  nothing_done : (title : Option Text) (job : Job) → EndsJob left pulls held pushes title job None source source before before (Err Memory)
+  nothing_done title Start = record { ending = inl refl; failed_read = λ h. absurd (omega (arith, h)); reads = omega arith }
+  nothing_done title (Play room) = record { ending = inl refl; failed_read = λ h. absurd (omega (arith, h)); reads = omega arith }
+  nothing_done title (Improve workers seed effort seconds) =
       record { ending = inl refl; failed_read = λ h. absurd (omega (arith, h)); reads = omega arith }
-  nothing_done (Find room plan) = record { ending = inl refl; failed_read = λ h. absurd (omega (arith, h)); reads = omega arith }
-  nothing_done (Report format) = record { ending = inl refl; failed_read = λ h. absurd (omega (arith, h)); reads = omega arith }
-  nothing_done (Make choice terms) = record { ending = inl refl; failed_read = λ h. absurd (omega (arith, h)); reads = omega arith }
+  nothing_done title (Find room plan) = record { ending = inl refl; failed_read = λ h. absurd (omega (arith, h)); reads = omega arith }
+  nothing_done title (Report format) = record { ending = inl refl; failed_read = λ h. absurd (omega (arith, h)); reads = omega arith }
+  nothing_done title (Make choice at_most hard_weight) = record { ending = inl refl; failed_read = λ h. absurd (omega (arith, h)); reads = omega arith }
 
-  module _ (kinds : Kinds) (named : Option Job) (named_files : Option Files) (named_kept : Option Kept) (after : W) (status : ℕ) where
+  module _ (kinds : Kinds) (named : Option Job) (named_files : Option Files) (named_title : Option (Option Text)) (named_kept : Option Kept)
+      (after : W) (status : ℕ) where
     pub done : (request : Result Request Error) → FailsBy kinds request → IfOk request (λ r. named ≡ Some r.job)
-        → IfOk request (λ r. named_files ≡ Some (files_of r.files)) → IfOk request (λ r. named_kept ≡ Some (beginning_of r.beginning))
+        → IfOk request (λ r. named_files ≡ Some (files_of r.files)) → IfOk request (λ r. named_title ≡ Some (option_map string_bytes r.title))
+        → IfOk request (λ r. named_kept ≡ Some (beginning_of r.beginning))
         → IfOk request (λ r. is_plain (files_of r.files) (beginning_of r.beginning) ≡ true
-        → DoesJob left pulls held pushes r.job source before after status)
+        → DoesJob left pulls held pushes (option_map string_bytes r.title) r.job source before after status)
         → IfErr request (λ e. IsStatusOf (kind_of e) status) → OnErr request (after ≡ before)
-        → (job : Job) (files : Files) (kept : Kept) → kinds ≡ [] → named ≡ Some job → named_files ≡ Some files → named_kept ≡ Some kept
-        → is_plain files kept ≡ true → DoesJob left pulls held pushes job source before after status
-    done (Ok r) fails job_of files_in kept_in does told quiet job files kept none job_is files_is kept_is plain =
+        → (job : Job) (files : Files) (title : Option Text) (kept : Kept) → kinds ≡ [] → named ≡ Some job → named_files ≡ Some files
+        → named_title ≡ Some title → named_kept ≡ Some kept → is_plain files kept ≡ true
+        → DoesJob left pulls held pushes title job source before after status
+    done (Ok r) fails job_of files_in title_in kept_in does told quiet job files title kept none job_is files_is title_is kept_is plain =
         let same_files : files ≡ files_of r.files = same named_files files (files_of r.files) files_is files_in in
         let same_kept : kept ≡ beginning_of r.beginning = same named_kept kept (beginning_of r.beginning) kept_is kept_in in
-        subst (λ j. DoesJob left pulls held pushes j source before after status) (same named r.job job job_of job_is)
+        let same_title : option_map string_bytes r.title ≡ title = same named_title (option_map string_bytes r.title) title title_in title_is in
+        subst₂ (λ (t : Option Text) (j : Job). DoesJob left pulls held pushes t j source before after status) same_title
+        (same named r.job job job_of job_is)
         (does (plain_too files (files_of r.files) kept (beginning_of r.beginning) true same_files same_kept plain))
-    done (Err e) fails job_of files_in kept_in does told quiet job files kept none job_is files_is kept_is plain = record {
+    done (Err e) fails job_of files_in title_in kept_in does told quiet job files title kept none job_is files_is title_is kept_is plain = record {
       outcome = Err Memory;
       source_after = source;
-      ends = subst (λ w. EndsJob left pulls held pushes job None source source before w (Err Memory)) (sym quiet) (nothing_done job);
+      ends = subst (λ w. EndsJob left pulls held pushes title job None source source before w (Err Memory)) (sym quiet) (nothing_done title job);
       verdict = tt;
       end = tt;
       status_is = told.memory (memory_of kinds e fails none);
     }
 
     pub on_files : (request : Result Request Error) → FailsBy kinds request → IfOk request (λ r. named ≡ Some r.job)
-        → IfOk request (λ r. named_files ≡ Some (files_of r.files)) → IfOk request (λ r. named_kept ≡ Some (beginning_of r.beginning))
+        → IfOk request (λ r. named_files ≡ Some (files_of r.files)) → IfOk request (λ r. named_title ≡ Some (option_map string_bytes r.title))
+        → IfOk request (λ r. named_kept ≡ Some (beginning_of r.beginning))
         → IfOk request (λ r. is_plain (files_of r.files) (beginning_of r.beginning) ≡ false
-        → EndsWithFiles held pushes r.job (files_of r.files) (beginning_of r.beginning) before after status)
+        → EndsWithFiles held pushes (option_map string_bytes r.title) r.job (files_of r.files) (beginning_of r.beginning) before after status)
         → IfErr request (λ e. IsStatusOf (kind_of e) status) → OnErr request (after ≡ before)
-        → (job : Job) (files : Files) (kept : Kept) → kinds ≡ [] → named ≡ Some job → named_files ≡ Some files → named_kept ≡ Some kept
-        → is_plain files kept ≡ false → EndsWithFiles held pushes job files kept before after status
-    on_files (Ok r) fails job_of files_in kept_in ends told quiet job files kept none job_is files_is kept_is plain =
+        → (job : Job) (files : Files) (title : Option Text) (kept : Kept) → kinds ≡ [] → named ≡ Some job → named_files ≡ Some files
+        → named_title ≡ Some title → named_kept ≡ Some kept → is_plain files kept ≡ false
+        → EndsWithFiles held pushes title job files kept before after status
+    on_files (Ok r) fails job_of files_in title_in kept_in ends told quiet job files title kept none job_is files_is title_is kept_is plain =
         let same_files : files ≡ files_of r.files = same named_files files (files_of r.files) files_is files_in in
         let same_kept : kept ≡ beginning_of r.beginning = same named_kept kept (beginning_of r.beginning) kept_is kept_in in
-        subst₂ (λ (f : Files) (k : Kept). EndsWithFiles held pushes job f k before after status) (sym same_files) (sym same_kept)
-        (subst (λ j. EndsWithFiles held pushes j (files_of r.files) (beginning_of r.beginning) before after status)
-        (same named r.job job job_of job_is)
+        let same_title : option_map string_bytes r.title ≡ title = same named_title (option_map string_bytes r.title) title title_in title_is in
+        subst₂ (λ (f : Files) (k : Kept). EndsWithFiles held pushes title job f k before after status) (sym same_files) (sym same_kept)
+        (subst₂ (λ (t : Option Text) (j : Job). EndsWithFiles held pushes t j (files_of r.files) (beginning_of r.beginning) before after status)
+        same_title (same named r.job job job_of job_is)
         (ends (plain_too files (files_of r.files) kept (beginning_of r.beginning) false same_files same_kept plain)))
-    on_files (Err e) fails job_of files_in kept_in ends told quiet job files kept none job_is files_is kept_is plain =
+    on_files (Err e) fails job_of files_in title_in kept_in ends told quiet job files title kept none job_is files_is title_is kept_is plain =
         inl (told.memory (memory_of kinds e fails none), quiet)
 
 -- words that have a fault

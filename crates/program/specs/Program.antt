@@ -79,9 +79,9 @@ lines_part word input (Some second) = Some (lines second)
 lines_part word input None = lines_after word input
 
 -- how the command of a job ends that is told to end so, if it is, on an input and a second text that were read, of a league that begins
--- where it is to, for a sink with these bytes held and these calls
+-- where it is to, or is made and has this name, for a sink with these bytes held and these calls
 module _ {W : Type 0} (held : W → Option (List ℕ)) (pushes : W → Tally) (input : List ℕ) (second : Option (List ℕ))
-    (beginning : Option Beginning) where
+    (beginning : Option Beginning) (title : Option (List ℕ)) where
   abbrev pub EndsJobOn : Job → Option Ending → W → W → Result Unit ProgramFault → Type 0
   EndsJobOn Start told = EndsOn held pushes (AnswersStartOn input beginning)
   EndsJobOn (Play room) told = EndsOn held pushes
@@ -91,7 +91,8 @@ module _ {W : Type 0} (held : W → Option (List ℕ)) (pushes : W → Tally) (i
   EndsJobOn (Find room plan) told = EndsOn held pushes (AnswersFindOn room plan (search_end_in told) input beginning)
   EndsJobOn (Report format) told = EndsOn held pushes
       (AnswersReportOn format (verdict_in told) (league_part (codes "sheet") input second) (lines_part (codes "sheet") input second) beginning)
-  EndsJobOn (Make choice terms) told = EndsOn held pushes (AnswersLeague choice terms (rounded_in told) input)
+  EndsJobOn (Make choice at_most hard_weight) told = EndsOn held pushes
+      (AnswersLeague choice (record { title = title; at_most = at_most; hard_weight = hard_weight }) (rounded_in told) input)
 
   -- the command of the job ended with this outcome, which has a verdict or a search's end if the job is to have one
   pub record Performs (job : Job) (before after : W) (outcome : Result Ending ProgramFault) : Type 0 where
@@ -100,10 +101,10 @@ module _ {W : Type 0} (held : W → Option (List ℕ)) (pushes : W → Tally) (i
     pub end : HasSearchEnd job outcome
 
 -- how it ends between a source and a sink, for a source with these bytes left and these calls: on the input that was read, of a league
--- that begins at its own start
-abbrev pub EndsJob : {R W : Type 0} → (R → Option (List ℕ)) → (R → Tally) → (W → Option (List ℕ)) → (W → Tally) → Job → Option Ending
-    → R → R → W → W → Result Unit ProgramFault → Type 0
-EndsJob left pulls held pushes job told = EndsFrom left pulls (λ bytes. EndsJobOn held pushes bytes None None job told)
+-- that begins at its own start, or is made and has this name
+abbrev pub EndsJob : {R W : Type 0} → (R → Option (List ℕ)) → (R → Tally) → (W → Option (List ℕ)) → (W → Tally) → Option (List ℕ) → Job
+    → Option Ending → R → R → W → W → Result Unit ProgramFault → Type 0
+EndsJob left pulls held pushes title job told = EndsFrom left pulls (λ bytes. EndsJobOn held pushes bytes None None title job told)
 
 -- the exit status after a job
 abbrev pub status_of : Result Ending ProgramFault → ℕ
@@ -116,10 +117,10 @@ status_of (Err fault) = 1
 
 -- the job's command ended between the source and the sink, and the exit status is that of how it ended
 pub record DoesJob {R W : Type 0} (left : R → Option (List ℕ)) (pulls : R → Tally) (held : W → Option (List ℕ)) (pushes : W → Tally)
-    (job : Job) (source : R) (before after : W) (status : ℕ) : Type 0 where
+    (title : Option (List ℕ)) (job : Job) (source : R) (before after : W) (status : ℕ) : Type 0 where
   pub outcome : Result Ending ProgramFault
   pub source_after : R
-  pub ends : EndsJob left pulls held pushes job (value_of outcome) source source_after before after (without_value outcome)
+  pub ends : EndsJob left pulls held pushes title job (value_of outcome) source source_after before after (without_value outcome)
   pub verdict : HasVerdict job outcome
   pub end : HasSearchEnd job outcome
   pub status_is : status ≡ status_of outcome
@@ -141,12 +142,12 @@ pub record IsBeginningOf (from : Option (List ℕ)) (kept : Kept) (beginning : B
   pub near : beginning.near ≡ kept.near
 
 -- the job's command ended on the texts that were read, with what the words keep, and the exit status is that of how it ended
-pub record DoesJobOn {W : Type 0} (held : W → Option (List ℕ)) (pushes : W → Tally) (job : Job) (kept : Kept) (input : List ℕ)
-    (second from : Option (List ℕ)) (before after : W) (status : ℕ) : Type 0 where
+pub record DoesJobOn {W : Type 0} (held : W → Option (List ℕ)) (pushes : W → Tally) (title : Option (List ℕ)) (job : Job) (kept : Kept)
+    (input : List ℕ) (second from : Option (List ℕ)) (before after : W) (status : ℕ) : Type 0 where
   pub outcome : Result Ending ProgramFault
   pub beginning : Beginning
   pub begins : IsBeginningOf from kept beginning
-  pub performs : Performs held pushes input second (Some beginning) job before after outcome
+  pub performs : Performs held pushes input second (Some beginning) title job before after outcome
   pub status_is : status ≡ status_of outcome
 
 -- the status is that of the job, or 1 if files followed it, since one of them could not be written
@@ -154,10 +155,10 @@ abbrev pub IsStatusBehind : Files → ℕ → ℕ → Type 0
 IsStatusBehind files of_job status = (status ≡ of_job) ⊎ ((is_followed files ≡ true) × (status ≡ 1))
 
 -- a text could not be read or a file could not be written, or the job's command ended on the texts that were read
-abbrev pub EndsWithFiles : {W : Type 0} → (W → Option (List ℕ)) → (W → Tally) → Job → Files → Kept → W → W → ℕ → Type 0
-EndsWithFiles held pushes job files kept before after status = ((status ≡ 1) × (after ≡ before))
+abbrev pub EndsWithFiles : {W : Type 0} → (W → Option (List ℕ)) → (W → Tally) → Option (List ℕ) → Job → Files → Kept → W → W → ℕ → Type 0
+EndsWithFiles held pushes title job files kept before after status = ((status ≡ 1) × (after ≡ before))
     ⊎ ((input : List ℕ) × (second : Option (List ℕ)) × (from : Option (List ℕ)) × (of_job : ℕ)
-    × DoesJobOn held pushes job kept input second from before after of_job × IsStatusBehind files of_job status)
+    × DoesJobOn held pushes title job kept input second from before after of_job × IsStatusBehind files of_job status)
 
 -- the words name a report or an improvement
 abbrev pub IsJudged : Option Job → Type 0

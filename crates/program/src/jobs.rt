@@ -1,8 +1,9 @@
 //! What a job does on texts that were read.
 
-ghost use Rattle.std.specs.Prelude.{◌≡◌, ◌<◌, ◌≤◌, [], IfOk, IfSome, false, is_some, length, option_map, true, unwrap_or};
+ghost use Rattle.std.specs.Prelude.{◌≡◌, ◌<◌, ◌≤◌, [], IfOk, IfSome, IsTrue, false, is_some, length, option_map, true, unwrap_or};
 ghost use Rattle.std.specs.Str.Lines.{lines};
 ghost use Rattle.command_line.specs.CommandLine.{IsInRange};
+ghost use Rattle.league.specs.Labels.{is_title};
 ghost use Rattle.league.specs.Limits.{max_weight};
 ghost use Rattle.commands.specs.Outcome.{value_of, without_value};
 ghost use Rattle.program.specs.Program.{league_part, lines_part, plan_of, rounded_in, search_end_in, verdict_in, Performs};
@@ -11,7 +12,7 @@ use crate::timed::Timed;
 use command_line::Job;
 use commands::{
     Beginning, Extent, Gate, ImprovePlan, MOST_EFFORT, NoGate, ProgramFault, ProgressLine,
-    SearchEnd, Sink, Verdict, Watcher, Workplace, find_on, improve_on, league_on, play_on,
+    SearchEnd, Sink, Terms, Verdict, Watcher, Workplace, find_on, improve_on, league_on, play_on,
     report_on, start_on,
 };
 use std::alloc::Global;
@@ -36,13 +37,15 @@ pub(crate) struct Console<'a, T, E> {
 
 /// The texts that a job works on.
 #[derive(Drop)]
-pub(crate) struct Texts<'a> {
+pub(crate) struct Texts<'a, 't> {
     /// The league's text, or an input that has the second one too.
     pub(crate) input: &'a [u8],
     /// The script or the schedule, if it was read by itself.
     pub(crate) second: Option<&'a [u8]>,
     /// Where the league begins, if not at its own start.
     pub(crate) beginning: Option<Beginning<'a>>,
+    /// What a league that is made is called.
+    pub(crate) title: Option<&'t str>,
 }
 
 /// How a job ends that did its work.
@@ -68,14 +71,15 @@ pub(crate) fn perform<
 >(
     console: Console<'_, T, E>,
     job: Job,
-    texts: &Texts<'_>,
+    texts: &Texts<'_, '_>,
     sink: &mut W,
     watcher: &mut V,
 ) -> Result<Ending, ProgramFault>
     requires job { IsInRange job }
+    requires callable { IsTrue (is_title (option_map (λ title. title.now) texts.now.title)) }
     requires near { IfSome texts.now.beginning (λ b. b.near ≤ max_weight) }
     ensures { Performs W.held W.tally texts.now.input.now (option_map (λ text. text.now) texts.now.second) texts.now.beginning
-        job sink.old sink.new result }
+        (option_map (λ title. title.now) texts.now.title) job sink.old sink.new result }
 {
     let Console {
         rt,
@@ -115,20 +119,22 @@ fn extent_of(job: Job) -> Extent {
 fn perform_at<T: Threads + Wait + Clock + Sync, G: Gate + Sync, W: Sink, V: Watcher<W>>(
     workplace: Workplace<'_, T, G>,
     job: Job,
-    texts: &Texts<'_>,
+    texts: &Texts<'_, '_>,
     sink: &mut W,
     watcher: &mut V,
 ) -> Result<Ending, ProgramFault>
     requires job { IsInRange job }
+    requires callable { IsTrue (is_title (option_map (λ title. title.now) texts.now.title)) }
     requires near { IfSome texts.now.beginning (λ b. b.near ≤ max_weight) }
     ensures { Performs W.held W.tally texts.now.input.now (option_map (λ text. text.now) texts.now.second) texts.now.beginning
-        job sink.old sink.new result }
+        (option_map (λ title. title.now) texts.now.title) job sink.old sink.new result }
 {
     let alloc = workplace.alloc;
     let Texts {
         input,
         second,
         beginning,
+        title,
     } = texts;
     let beginning = beginning.as_ref();
     match job {
@@ -155,7 +161,18 @@ fn perform_at<T: Threads + Wait + Clock + Sync, G: Gate + Sync, W: Sink, V: Watc
             let (league, sheet) = parts(input, *second, b"sheet");
             with_verdict(report_on(alloc, league, sheet, beginning, sink, format))
         }
-        Job::League { choice, terms } => with_rounded(league_on(alloc, input, sink, choice, terms)),
+        Job::League {
+            choice,
+            at_most,
+            hard_weight,
+        } => {
+            let terms = Terms {
+                title: *title,
+                at_most,
+                hard_weight,
+            };
+            with_rounded(league_on(alloc, input, sink, choice, terms))
+        }
     }
 }
 
@@ -176,7 +193,7 @@ fn plan_of(workers: u32, seed: u64, effort: u64, seconds: Option<u32>) -> Improv
 }
 
 /// The league's text.
-pub(crate) fn league_text<'a>(job: Job, texts: &Texts<'a>) -> &'a [u8] {
+pub(crate) fn league_text<'a>(job: Job, texts: &Texts<'a, '_>) -> &'a [u8] {
     match job {
         Job::Play { .. } => parts(texts.input, texts.second, b"script").0,
         Job::Report(_) => parts(texts.input, texts.second, b"sheet").0,
@@ -185,7 +202,7 @@ pub(crate) fn league_text<'a>(job: Job, texts: &Texts<'a>) -> &'a [u8] {
 }
 
 /// The script or the schedule, if there is one.
-pub(crate) fn second_text<'a>(job: Job, texts: &Texts<'a>) -> Option<&'a [u8]> {
+pub(crate) fn second_text<'a>(job: Job, texts: &Texts<'a, '_>) -> Option<&'a [u8]> {
     match job {
         Job::Play { .. } => parts(texts.input, texts.second, b"script").1,
         Job::Report(_) => parts(texts.input, texts.second, b"sheet").1,

@@ -85,7 +85,7 @@ pub(crate) fn tell_unwritten(rt: &impl Eprint, name: &str, why: &io::Error) {
 pub(crate) fn not_begun<R: Runtime + AllocGlobal>(
     rt: &R,
     request: &Request,
-    texts: &Texts<'_>,
+    texts: &Texts<'_, '_>,
     fault: BeginFault,
 ) -> ExitCode
     ensures { exit_status result ≡ 1 }
@@ -113,7 +113,7 @@ pub(crate) fn not_begun<R: Runtime + AllocGlobal>(
 }
 
 /// Writes what is wrong with the games of the start, a line for each fault.
-fn start_faults<R: Runtime + AllocGlobal>(rt: &R, request: &Request, texts: &Texts<'_>) {
+fn start_faults<R: Runtime + AllocGlobal>(rt: &R, request: &Request, texts: &Texts<'_, '_>) {
     let Some(
         Beginning {
             from: Some(from),
@@ -131,7 +131,7 @@ fn start_faults<R: Runtime + AllocGlobal>(rt: &R, request: &Request, texts: &Tex
 }
 
 /// Says what is wrong with the first bad line of a script or a schedule.
-pub(crate) fn tell_bad_line(rt: &impl Eprint, job: Job, texts: &Texts<'_>) {
+pub(crate) fn tell_bad_line(rt: &impl Eprint, job: Job, texts: &Texts<'_, '_>) {
     let hint = match (job, second_text(job, texts)) {
         (Job::Play { .. }, Some(script)) => script_hint(script),
         (_, Some(schedule)) => hint_on_schedule(schedule),
@@ -167,7 +167,7 @@ pub(crate) fn tell_terminal(rt: &impl Eprint, is_terminal: bool, request: &Reque
 /// Writes a line for each member of the league's text that is not read. A report as a text has these lines itself, and a table
 /// of distances has no members. If there is no
 /// memory for them they are left out.
-pub(crate) fn tell_remarks<R: Runtime + AllocGlobal>(rt: &R, job: Job, texts: &Texts<'_>) {
+pub(crate) fn tell_remarks<R: Runtime + AllocGlobal>(rt: &R, job: Job, texts: &Texts<'_, '_>) {
     if matches!(job, Job::Report(Format::Text) | Job::League { .. }) {
         return;
     }

@@ -1,15 +1,16 @@
 //! From the words of the command line to the exit status, with the texts of what goes wrong.
 
-ghost use Rattle.std.specs.Prelude.{◌≡◌, ◌≢◌, ◌≤◌, [], ◌∷◌, IfErr, IfOk, OnErr, OnOk, false, map, option_map, string_bytes, true};
+ghost use Rattle.std.specs.Prelude.{◌≡◌, ◌≢◌, ◌≤◌, [], ◌∷◌, IfErr, IfOk, IsTrue, OnErr, OnOk, Option, Some, false, map, option_map, string_bytes, true};
 ghost use Rattle.std.specs.IoError.{error_kind};
 ghost use Rattle.std.specs.declared.io.ErrorKind.TheVariants.{OutOfMemory};
 ghost use Rattle.std.specs.Process.{exit_status};
-ghost use Rattle.clap.specs.Words.{kind_of};
+ghost use Rattle.clap.specs.Words.{Text, kind_of};
 ghost use Rattle.clap.specs.declared.error.kind.ErrorKind.{ErrorKind as Kind};
 ghost use Rattle.command_line.specs.Beginnings.{Beginning as Kept, beginning_of};
-ghost use Rattle.command_line.specs.CommandLine.{beginning_of_words, files_of_words, job_of_words, words_fault, IsInRange};
+ghost use Rattle.command_line.specs.CommandLine.{beginning_of_words, files_of_words, job_of_words, title_of_words, words_fault, IsInRange};
 ghost use Rattle.command_line.specs.Files.{Files, files_of};
 ghost use Rattle.command_line.specs.declared.job.Job.{Job as Named};
+ghost use Rattle.league.specs.Labels.{is_title};
 ghost use Rattle.league.specs.Limits.{max_weight};
 ghost use Rattle.program.specs.Program.{is_followed, is_judged, is_plain, status_of, DoesJob, DoesJobOn, EndsWithFiles, IsJudged, IsStatusOf, IsStatusOfWords};
 ghost use Rattle.program.specs.Program.{IsStatusBehind};
@@ -98,14 +99,16 @@ fn answer<
     R: Source + Drop,
     W: Sink,
 >(rt: &T, ends: Ends<'_, E>, words: &[String], source: R, sink: &mut W) -> ExitCode
-    ensures done { (job : Named) (files : Files) (kept : Kept) → words_fault (map string_bytes words.now) ≡ []
+    ensures done { (job : Named) (files : Files) (title : Option Text) (kept : Kept) → words_fault (map string_bytes words.now) ≡ []
         → job_of_words (map string_bytes words.now) ≡ Some job → files_of_words (map string_bytes words.now) ≡ Some files
+        → title_of_words (map string_bytes words.now) ≡ Some title
         → beginning_of_words (map string_bytes words.now) ≡ Some kept → is_plain files kept ≡ true
-        → DoesJob R.left R.tally W.held W.tally job source sink.old sink.new (exit_status result) }
-    ensures on_files { (job : Named) (files : Files) (kept : Kept) → words_fault (map string_bytes words.now) ≡ []
+        → DoesJob R.left R.tally W.held W.tally title job source sink.old sink.new (exit_status result) }
+    ensures on_files { (job : Named) (files : Files) (title : Option Text) (kept : Kept) → words_fault (map string_bytes words.now) ≡ []
         → job_of_words (map string_bytes words.now) ≡ Some job → files_of_words (map string_bytes words.now) ≡ Some files
+        → title_of_words (map string_bytes words.now) ≡ Some title
         → beginning_of_words (map string_bytes words.now) ≡ Some kept → is_plain files kept ≡ false
-        → EndsWithFiles W.held W.tally job files kept sink.old sink.new (exit_status result) }
+        → EndsWithFiles W.held W.tally title job files kept sink.old sink.new (exit_status result) }
     ensures quiet { (kind : Kind) → words_fault (map string_bytes words.now) ≡ kind ∷ [] → sink.new ≡ sink.old }
     ensures taken { words_fault (map string_bytes words.now) ≡ [] → exit_status result ≢ 2 }
     ensures infeasible { exit_status result ≡ 3 → IsJudged (job_of_words (map string_bytes words.now)) }
@@ -131,11 +134,13 @@ fn respond<
     sink: &mut W,
 ) -> ExitCode
     requires job { IfOk request (λ r. IsInRange r.job) }
+    requires callable { IfOk request (λ r. IsTrue (is_title (option_map string_bytes r.title))) }
     requires near { IfOk request (λ r. r.beginning.near ≤ max_weight) }
     ensures done { IfOk request (λ r. is_plain (files_of r.files) (beginning_of r.beginning) ≡ true
-        → DoesJob R.left R.tally W.held W.tally r.job source sink.old sink.new (exit_status result)) }
+        → DoesJob R.left R.tally W.held W.tally (option_map string_bytes r.title) r.job source sink.old sink.new (exit_status result)) }
     ensures on_files { IfOk request (λ r. is_plain (files_of r.files) (beginning_of r.beginning) ≡ false
-        → EndsWithFiles W.held W.tally r.job (files_of r.files) (beginning_of r.beginning) sink.old sink.new (exit_status result)) }
+        → EndsWithFiles W.held W.tally (option_map string_bytes r.title) r.job (files_of r.files) (beginning_of r.beginning)
+        sink.old sink.new (exit_status result)) }
     ensures quiet { OnErr request (sink.new ≡ sink.old) }
     ensures status { IfErr request (λ error. IsStatusOf (kind_of error) (exit_status result)) }
     ensures taken { OnOk request (exit_status result ≢ 2) }
@@ -155,7 +160,7 @@ fn respond<
         terminal: ends.error,
     };
     if is_plain(&request) {
-        respond_on_input(console, request.job, source, sink)
+        respond_on_input(console, &request, source, sink)
     } else {
         respond_on_files(console, &request, source, sink)
     }
@@ -191,9 +196,11 @@ fn respond_on_input<
     E: Write + Send + Drop,
     R: Source + Drop,
     W: Sink,
->(console: Console<'_, T, E>, job: Job, mut source: R, sink: &mut W) -> ExitCode
-    requires { IsInRange job }
-    ensures { DoesJob R.left R.tally W.held W.tally job source sink.old sink.new (exit_status result) }
+>(console: Console<'_, T, E>, request: &Request, mut source: R, sink: &mut W) -> ExitCode
+    requires job { IsInRange request.now.job }
+    requires callable { IsTrue (is_title (option_map string_bytes request.now.title)) }
+    ensures { DoesJob R.left R.tally W.held W.tally (option_map string_bytes request.now.title) request.now.job source sink.old sink.new
+        (exit_status result) }
 {
     let Console { rt, is_closed, .. } = console;
     let input = match read_all(console.alloc, &mut source) {
@@ -204,10 +211,11 @@ fn respond_on_input<
         input: &input,
         second: None,
         beginning: None,
+        title: request.title.as_deref(),
     };
-    tell_remarks(rt, job, &texts);
-    let outcome = perform(console, job, &texts, sink, &mut NoWatcher);
-    ended(rt, is_closed, job, &texts, outcome)
+    tell_remarks(rt, request.job, &texts);
+    let outcome = perform(console, request.job, &texts, sink, &mut NoWatcher);
+    ended(rt, is_closed, request.job, &texts, outcome)
 }
 
 /// Reads the files that are named, then does the job on them. An improvement is followed by those that are to be written.
@@ -218,9 +226,10 @@ fn respond_on_files<
     W: Sink,
 >(console: Console<'_, T, E>, request: &Request, mut source: R, sink: &mut W) -> ExitCode
     requires job { IsInRange request.now.job }
+    requires callable { IsTrue (is_title (option_map string_bytes request.now.title)) }
     requires near { request.now.beginning.near ≤ max_weight }
-    ensures { EndsWithFiles W.held W.tally request.now.job (files_of request.now.files) (beginning_of request.now.beginning)
-        sink.old sink.new (exit_status result) }
+    ensures { EndsWithFiles W.held W.tally (option_map string_bytes request.now.title) request.now.job (files_of request.now.files)
+        (beginning_of request.now.beginning) sink.old sink.new (exit_status result) }
 {
     let rt = console.rt;
     let texts = match read_texts(rt, request.job, &request.files, &mut source) {
@@ -260,9 +269,10 @@ fn respond_on<
     watcher: &mut V,
 ) -> ExitCode
     requires job { IsInRange request.now.job }
+    requires callable { IsTrue (is_title (option_map string_bytes request.now.title)) }
     requires near { request.now.beginning.near ≤ max_weight }
-    ensures { DoesJobOn W.held W.tally request.now.job (beginning_of request.now.beginning) texts.now.input.items
-        (option_map (λ text. text.items) texts.now.second) (option_map (λ text. text.items) texts.now.from) sink.old sink.new
+    ensures { DoesJobOn W.held W.tally (option_map string_bytes request.now.title) request.now.job (beginning_of request.now.beginning)
+        texts.now.input.items (option_map (λ text. text.items) texts.now.second) (option_map (λ text. text.items) texts.now.from) sink.old sink.new
         (exit_status result) }
 {
     let Console { rt, is_closed, .. } = console;
@@ -275,6 +285,7 @@ fn respond_on<
             games: &request.beginning.games,
             near: request.beginning.near,
         }),
+        title: request.title.as_deref(),
     };
     tell_remarks(rt, request.job, &given);
     let outcome = perform(console, request.job, &given, sink, watcher);
@@ -290,7 +301,7 @@ fn ended<R: Runtime + AllocGlobal>(
     rt: &R,
     is_closed: &AtomicBool,
     job: Job,
-    texts: &Texts<'_>,
+    texts: &Texts<'_, '_>,
     outcome: Result<Ending, ProgramFault>,
 ) -> ExitCode
     ensures { exit_status result ≡ status_of outcome }

@@ -10,6 +10,7 @@ import subprocess
 
 from .. import programs
 
+TITLES = ("Valley Cup", '"Cup" \\ {1}', "\u00dcber \u65e5\u672c", 80 * "c")
 NAMES = ("FC T", "T", '"" T', "\u00c4T", "\u65e5\u672cT", ";T,")
 
 
@@ -44,13 +45,14 @@ class Table:
     def rounded(self, a, b):
         return 0 if a == b else int(self.distances[a, b].to_integral_value(decimal.ROUND_HALF_UP))
 
-    def league(self, choice):
+    def league(self, choice, title):
         """The members that the league has, or None if the table needs a choice."""
         both = {(a, b): (self.rounded(a, b), self.rounded(b, a)) for a in self.teams for b in self.teams}
         if choice is None and any(there != back for there, back in both.values()):
             return None
         sides = {pair: (there + back + 1) // 2 if choice == "mean" else max(there, back) for pair, (there, back) in both.items()}
-        return {"format": 2, "teams": self.names, "distances": [[sides[a, b] for b in self.teams] for a in self.teams]}
+        named = {} if title is None else {"name": title}
+        return {"format": 3} | named | {"teams": self.names, "distances": [[sides[a, b] for b in self.teams] for a in self.teams]}
 
 
 def made(program, table, *options):
@@ -65,12 +67,13 @@ def main(count=500, seed=1, *words):
     program, draw, faults = programs.program(words), random.Random(int(seed)), 0
     for _ in range(int(count)):
         table, choice = Table(draw), draw.choice([None, "mean", "max"])
-        options = ["--symmetric", choice] * bool(choice)
+        title = draw.choice([None, *TITLES])
+        options = ["--symmetric", choice] * bool(choice) + ["--name", title] * bool(title)
         damaged = bytearray(table.bytes)
         for _ in range(draw.choice([0, 0, 1]) * draw.randint(1, 3)):
             damaged[draw.randrange(len(damaged))] = draw.randrange(256)
         text = made(program, bytes(damaged), *options)
-        if damaged == table.bytes and (text and json.loads(text)) != table.league(choice):
+        if damaged == table.bytes and (text and json.loads(text)) != table.league(choice, title):
             raise ValueError(f"another league of {table.bytes!r} {options}: {text}")
         if text:
             programs.text(program, "start", given=text)

@@ -55,7 +55,7 @@ const RULES: &[(&str, &str)] = &[
     ),
     (
         r#"{"class":"SE1","kind":"hard","teams":["FC Basel","YB"],"min":3}"#,
-        r#"see rule 1: member "teams" names "YB", two teams are called so"#,
+        r#"see rule 1: member "teams" names "YB", several teams are called so"#,
     ),
     (
         r#"{"class":"CA2","kind":"hard","teams1":["Sion"],"teams2":["sion"],"mode":"H","max":0}"#,
@@ -63,7 +63,7 @@ const RULES: &[(&str, &str)] = &[
     ),
     (
         r#"{"class":"GA1","kind":"hard","games":[["FC Basel","Sion"],["YB",5]],"min":0,"max":1}"#,
-        r#"see rule 1: member "games" names "YB", two teams are called so"#,
+        r#"see rule 1: member "games" names "YB", several teams are called so"#,
     ),
     (
         r#"{"class":"SE1","kind":"hard","teams":["Sion",5],"min":3}"#,

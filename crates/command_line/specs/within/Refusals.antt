@@ -3,10 +3,11 @@ use Rattle.std.specs.Prelude.{List, [], ◌∷◌, Option, Some, None, codes, if
 use Rattle.std.specs.Option.{option_map_or}
 use Rattle.clap.specs.Words.{Row, Text, all_of}
 use Rattle.command_line.specs.Beginnings.{game_of_text, games_in, near_in, rounds_in}
-use Rattle.command_line.specs.CommandLine.{job_of_command}
+use Rattle.command_line.specs.CommandLine.{job_of_command, title_in}
 use Rattle.command_line.specs.Files.{files_in, miswrites, reads_twice}
+use Rattle.league.specs.Labels.{is_title}
 use Rattle.command_line.specs.declared.refusals.Refusal.{Refusal}
-use Rattle.command_line.specs.declared.refusals.Refusal.TheVariants.{Format, Input, Output, Keep, KeepGame, Near}
+use Rattle.command_line.specs.declared.refusals.Refusal.TheVariants.{Format, Input, Output, Name, Keep, KeepGame, Near}
 
 -- why the values keep nothing of a start
 abbrev pub beginning_refusal : List Row → Option Refusal
@@ -17,7 +18,8 @@ beginning_refusal rows = if is_some (rounds_in rows)
 -- why the values of a command that names a job are refused
 abbrev pub values_refusal : Text × List Row → Option Refusal
 values_refusal found = if reads_twice found.0 (files_in found.1) then Some Input
-    else (if miswrites (files_in found.1) then Some Output else beginning_refusal found.1)
+    else (if miswrites (files_in found.1) then Some Output
+    else (if is_title (title_in found.1) then beginning_refusal found.1 else Some Name))
 
 abbrev pub refusal_of : Text × List Row → Option Refusal
 refusal_of found = if is_some (job_of_command found) then values_refusal found else Some Format

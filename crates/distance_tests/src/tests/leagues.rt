@@ -1,7 +1,7 @@
 //! Tables, and the leagues that they give.
 
 use super::checks::check_same;
-use distance_tables::{Symmetry, Terms, league_from_table};
+use distance_tables::{Symmetry, Terms, is_title, league_from_table};
 use league::read_league;
 use std::alloc::Global;
 use std::process::Abort;
@@ -12,13 +12,14 @@ use std::test::Fail;
 type Case = (&'static str, Option<Symmetry>, u64);
 
 const NOTHING_SAID: Terms = Terms {
+    title: None,
     at_most: None,
     hard_weight: None,
 };
 
-/// The league of leagues/valley-4.json, in format 2.
+/// The league of leagues/valley-4.json, in format 3.
 const VALLEY: &str = r#"{
-  "format": 2,
+  "format": 3,
   "teams": ["Aldersey", "Brookfold", "Carrowby", "Dunmarsh"],
   "distances": [
     [0, 34, 57, 121],
@@ -85,7 +86,8 @@ fn each_form_gives_the_valley(rt: HostRuntime) -> Result<(), Fail> {
 const QUOTED: &str = "\"a \"\"b\"\"\",\"c, d\",e\\f,\u{fc}\n0,1,1,1\n1,0,1,1\n1,1,0,1\n1,1,1,0\n";
 
 const QUOTED_LEAGUE: &str = r#"{
-  "format": 2,
+  "format": 3,
+  "name": "Cup \"ü\"",
   "teams": ["a \"b\"", "c, d", "e\\f", "ü"],
   "distances": [
     [0, 1, 1, 1],
@@ -102,6 +104,7 @@ const QUOTED_LEAGUE: &str = r#"{
 fn names_and_terms_are_said(rt: HostRuntime) -> Result<(), Fail> {
     let alloc = rt.alloc();
     let terms = Terms {
+        title: Some("Cup \"\u{fc}\""),
         at_most: Some(2),
         hard_weight: Some(1_000_000),
     };
@@ -110,5 +113,26 @@ fn names_and_terms_are_said(rt: HostRuntime) -> Result<(), Fail> {
     let league = read_league(alloc, &made.text)?;
     let said = (league.name(0), league.at_most(), league.hard_weight());
     check_same(&rt, &said, &("a \"b\"", 2, 1_000_000));
+    check_same(&rt, &league.title(), &Some("Cup \"\u{fc}\""));
+    Ok(())
+}
+
+/// A text of 80 bytes.
+const LONGEST: &str =
+    "12345678901234567890123456789012345678901234567890123456789012345678901234567890";
+
+#[test]
+fn titles_have_limits(rt: HostRuntime) -> Result<(), Fail> {
+    let longer = format!(in rt.alloc(); "{LONGEST}1")?;
+    let test = [
+        is_title("a"),
+        is_title("\u{fc} \"b\""),
+        is_title(LONGEST),
+        is_title(longer.as_str()),
+        is_title(""),
+        is_title("a\tb"),
+        is_title("\u{7f}"),
+    ];
+    check_same(&rt, &test, &[true, true, true, false, false, false, false]);
     Ok(())
 }

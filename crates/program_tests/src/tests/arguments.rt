@@ -8,7 +8,7 @@ use clap::error::ErrorKind::{
     self, ArgumentConflict, DisplayHelp, DisplayVersion, InvalidSubcommand, InvalidValue,
     MissingSubcommand, OutOfMemory, UnknownArgument, ValueValidation,
 };
-use command_line::{CsvForm, Format, Job, SearchPlan, Separator, Symmetry, Terms, args};
+use command_line::{CsvForm, Format, Job, SearchPlan, Separator, Symmetry, args};
 use std::alloc::{AllocError, Global};
 use std::process::Abort;
 use std::test::Fail;
@@ -73,26 +73,20 @@ const MARKED_TABS: Job = Job::Report(Format::Csv(CsvForm {
 
 const LEAGUE: Job = Job::League {
     choice: None,
-    terms: Terms {
-        at_most: None,
-        hard_weight: None,
-    },
+    at_most: None,
+    hard_weight: None,
 };
 
 const MEAN_LEAGUE: Job = Job::League {
     choice: Some(Symmetry::Mean),
-    terms: Terms {
-        at_most: Some(78),
-        hard_weight: None,
-    },
+    at_most: Some(78),
+    hard_weight: None,
 };
 
 const LONGER_LEAGUE: Job = Job::League {
     choice: Some(Symmetry::Max),
-    terms: Terms {
-        at_most: Some(2),
-        hard_weight: Some(7),
-    },
+    at_most: Some(2),
+    hard_weight: Some(7),
 };
 
 const JOBS: &[Row<'_>] = &[
@@ -114,6 +108,7 @@ const JOBS: &[Row<'_>] = &[
         ],
         Ok(LONGER_LEAGUE),
     ),
+    (&["ttp", "league", "--name", "Valley Cup"], Ok(LEAGUE)),
     (&["ttp", "start"], Ok(Job::Start)),
     (&["ttp", "play"], Ok(Job::Play { room: 1024 })),
     (&["ttp", "play", "--room", "0"], Ok(Job::Play { room: 0 })),
@@ -262,6 +257,9 @@ const ENDS: &[Row<'_>] = &[
         &["ttp", "league", "--symmetric", "min"],
         Err((InvalidValue, 2)),
     ),
+    (&["ttp", "league", "--name="], Err((InvalidValue, 2))),
+    (&["ttp", "league", "--name=a\tb"], Err((InvalidValue, 2))),
+    (&["ttp", "start", "--name=a"], Err((UnknownArgument, 2))),
     (
         &["ttp", "league", "--at-most=79"],
         Err((ValueValidation, 2)),

@@ -1,4 +1,4 @@
-//! The words of a command: which files they name, what they keep of a start, and which of them are refused.
+//! The words of a command: which files they name, what a league is called, what they keep of a start, and which of them are refused.
 
 use crate::tests::arguments::words;
 use crate::tests::checks::{check_holds, check_same_of};
@@ -99,6 +99,28 @@ fn words_name_files_that_are_written(rt: HostRuntime) -> Result<(), Fail> {
             Ok(request) => {
                 is_name(&request.files.output, *output) && is_name(&request.files.log, *log)
             }
+            Err(_) => false,
+        };
+        check_holds(&rt, given, holds);
+    }
+    Ok(())
+}
+
+/// Words of a league, and what it is called.
+const CALLED: &[(&[&str], Option<&str>)] = &[
+    (&["ttp", "league"], None),
+    (
+        &["ttp", "league", "--name=Valley \"Cup\"", "a.csv"],
+        Some("Valley \"Cup\""),
+    ),
+    (&["ttp", "league", "--name", "\u{fc}"], Some("\u{fc}")),
+];
+
+#[test]
+fn words_name_a_league(rt: HostRuntime) -> Result<(), Fail> {
+    for (given, title) in CALLED {
+        let holds = match asked(rt.alloc(), given)? {
+            Ok(request) => is_name(&request.title, *title),
             Err(_) => false,
         };
         check_holds(&rt, given, holds);

@@ -5,12 +5,12 @@ ghost use Rattle.std.specs.Prelude.{None};
 
 use crate::tests::checks::check_same_of;
 use crate::tests::judged_schedules::FAULTY;
-use crate::tests::samples::{DISTANCES, FIND, PLAY, REPORT, START, TABLE};
+use crate::tests::samples::{DISTANCES, FIND, NAMED, PLAY, REPORT, START, TABLE};
 use crate::tests::told::{Answer, Case, Command};
 use commands::{
     NoGate, ProgramFault, Workplace, find_from, league_from, play_from, report_from, start_from,
 };
-use distance_tables::{DistanceFault, Terms};
+use distance_tables::DistanceFault;
 use league::LeagueFault;
 use std::alloc::{AllocError, Global};
 use std::process::Abort;
@@ -39,7 +39,7 @@ fn run_from<T: Threads + Wait + Sync, R: Source, W: Sink>(
         }
         Command::Report(format) => return Ok(Some(report_from(alloc, source, sink, format)?)),
         Command::League => {
-            league_from(alloc, source, sink, None, Terms::default())?;
+            league_from(alloc, source, sink, None, NAMED)?;
         }
     }
     Ok(None)

@@ -120,6 +120,8 @@ const HELP: &[(&[&str], &[&str])] = &[
             "The file of the table, or `-` for standard input, which is read without it",
             "--symmetric <BY>",
             "What is taken for two teams that are further apart one way: their mean or max",
+            "--name <TEXT>",
+            "What the league is called: 1 to 80 bytes without control bytes",
             "--at-most <N>",
             "How many games in a row a team may have at home, or away, 1 to 78",
             "--hard-weight <N>",
@@ -206,6 +208,18 @@ const TEXTS: &[(&[&str], &str)] = &[
         &["ttp", "search", "--near=many"],
         "error: invalid value 'many' for '--near <W>': a whole number from 0 to 1000000 is wanted\n\n\
         Usage: ttp search [OPTIONS] [LEAGUE]\n\nFor more information, try '--help'.\n",
+    ),
+    // a name that no league can have, of 81 bytes
+    (
+        &[
+            "ttp",
+            "league",
+            "--name",
+            "123456789012345678901234567890123456789012345678901234567890123456789012345678901",
+        ],
+        "error: invalid value '123456789012345678901234567890123456789012345678901234567890123456789012345678901' \
+        for '--name <TEXT>': 1 to 80 bytes without control bytes are wanted\n\n\
+        Usage: ttp league [OPTIONS] [DISTANCES]\n\nFor more information, try '--help'.\n",
     ),
     (
         &["ttp", "start", "--from", "-"],

@@ -3,7 +3,7 @@
 use crate::tests::circle::{CIRCLE, SHEET};
 use crate::tests::told::Text::{Excerpt, Whole};
 use crate::tests::told::{Case, Command, Text, WRITTEN};
-use commands::{CsvForm, Format, SearchPlan, Separator, Verdict};
+use commands::{CsvForm, Format, SearchPlan, Separator, Terms, Verdict};
 
 /// The line between a league and a script.
 pub(crate) const SCRIPT: &str = "\nscript\n";
@@ -135,6 +135,13 @@ pub(crate) const PAGE: Case<'_> = (
     ),
 );
 
+/// What the league of a table is called.
+pub(crate) const NAMED: Terms<'_> = Terms {
+    title: Some("Four \"trees\""),
+    at_most: None,
+    hard_weight: None,
+};
+
 /// A table of distances, those of one pair rounded, and the league that it gives.
 pub(crate) const DISTANCES: Case<'_> = (
     Command::League,
@@ -144,7 +151,7 @@ pub(crate) const DISTANCES: Case<'_> = (
     ],
     WRITTEN,
     Whole(&[
-        "{\n  \"format\": 2,\n  \"teams\": [\"Ash\", \"Birch\", \"Cedar\", \"Elm\"],\n  \"distances\": [\n",
+        "{\n  \"format\": 3,\n  \"name\": \"Four \\\"trees\\\"\",\n  \"teams\": [\"Ash\", \"Birch\", \"Cedar\", \"Elm\"],\n  \"distances\": [\n",
         "    [0, 4, 5, 7],\n    [4, 0, 4, 6],\n    [5, 4, 0, 2],\n    [7, 6, 2, 0]\n  ]\n}\n",
     ]),
 );

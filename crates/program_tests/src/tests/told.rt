@@ -1,10 +1,10 @@
 //! What a command answers and writes for an input: cases in tables, and the function that walks them.
 
 use crate::tests::checks::check_same_of;
+use crate::tests::samples::NAMED;
 use commands::{
     Format, NoGate, ProgramFault, SearchPlan, Verdict, Workplace, find, league, play, report, start,
 };
-use distance_tables::Terms;
 use std::alloc::{AllocError, Global};
 use std::process::Abort;
 use std::sync::Wait;
@@ -52,7 +52,7 @@ impl Command {
             }
             Command::Report(format) => return Ok(Some(report(alloc, source, sink, format)?)),
             Command::League => {
-                league(alloc, source, sink, None, Terms::default())?;
+                league(alloc, source, sink, None, NAMED)?;
             }
         }
         Ok(None)

@@ -1,7 +1,7 @@
-use Rattle.std.proofs.Common.{◌≡◌, ◌⊎◌, ◌∙◌, [], ap, false, map, option_and_then, string_bytes, subst, sym}
+use Rattle.std.proofs.Common.{◌≡◌, ◌⊎◌, ◌∙◌, [], ap, false, map, option_and_then, option_map, string_bytes, subst, sym}
 use Rattle.clap.specs.Words.{App, fault_of, is_simple, is_simple_and_free, subcommand_of, subcommand_rows_of}
 use Rattle.clap.specs.Kinds.{HasKind}
-use Rattle.command_line.specs.CommandLine.{asks_for_all, beginning_of_command, job_of_command, program, words_fault}
+use Rattle.command_line.specs.CommandLine.{asks_for_all, beginning_of_command, job_of_command, program, title_of_command, words_fault}
 use Rattle.command_line.specs.within.CommandLine.{NamesACommand}
 use Rattle.command_line.specs.Beginnings.{beginning_of}
 use Rattle.command_line.specs.Files.{files_of, files_of_command}
@@ -29,7 +29,7 @@ returns-in-Ok-request_of-clause-fault c =
     let asked = c.in-Ok-request_of.ensures in
     let request = c.in-Ok-request_of.request in
     let all = asks_for (subcommand_rows_of c.in-Ok-try_get_matches_from.matches) request.job (files_of request.files)
-    (beginning_of request.beginning) asked.job asked.files asked.beginning in
+    (option_map string_bytes request.title) (beginning_of request.beginning) asked.job asked.files asked.title asked.beginning in
     taken (fault_of program words) (asks_for_all (subcommand_of program words)) no_fault
     (ap asks_for_all (sym command) ∙ all)
 
@@ -56,6 +56,14 @@ returns-in-Ok-request_of-clause-beginning c =
     let parse = c.in-Ok-try_get_matches_from.ensures in
     let command = (parse.matches (ap is_simple is_program)).1 ∙ ap (λ a. subcommand_of a words) is_program in
     sym (ap (option_and_then beginning_of_command) command) ∙ c.in-Ok-request_of.ensures.beginning
+
+pub returns-in-Ok-request_of-clause-title : goal.returns-in-Ok-request_of-clause-title
+returns-in-Ok-request_of-clause-title c =
+    let words = map string_bytes c.args.words.now in
+    let is_program = c.in-Ok.ensures in
+    let parse = c.in-Ok-try_get_matches_from.ensures in
+    let command = (parse.matches (ap is_simple is_program)).1 ∙ ap (λ a. subcommand_of a words) is_program in
+    sym (ap (option_and_then title_of_command) command) ∙ c.in-Ok-request_of.ensures.title
 
 pub returns-in-Ok-try_get_matches_from-clause-fault :
     goal.returns-in-Ok-try_get_matches_from-clause-fault

@@ -9,5 +9,6 @@ returns c =
     let with_table = c.in_ok-arg.ensures.shape c.word.ensures.local ∙ ap₂ with_rule bare c.word.ensures.rule in
     let with_at_most = c.in_ok-arg-2.ensures.shape c.arg-2.ensures.local ∙ ap₂ with_rule with_table c.arg-2.ensures.rule in
     let with_weight = c.in_ok-arg-3.ensures.shape c.arg-4.ensures.local ∙ ap₂ with_rule with_at_most c.arg-4.ensures.rule in
-    IfOk-weaker c.arg-6.result _ _
-    (λ r added. added.shape c.option.ensures.local ∙ ap₂ with_rule with_weight c.option.ensures.rule) c.arg-6.ensures
+    let with_symmetric = c.in_ok-arg-4.ensures.shape c.option.ensures.local ∙ ap₂ with_rule with_weight c.option.ensures.rule in
+    IfOk-weaker c.arg-7.result _ _
+    (λ r added. added.shape c.option-2.ensures.local ∙ ap₂ with_rule with_symmetric c.option-2.ensures.rule) c.arg-7.ensures

@@ -2,17 +2,19 @@ use Rattle.std.proofs.Common.{append_assoc}
 use Rattle.distance_tables.specs.LeagueText.{league_text}
 use Rattle.distance_tables.proofs.league_text.league_text.Goals as goal
 
-pub returns : goal.returns
+pub returns-clause-text : goal.returns-clause-text
 unfolding league_text
-returns c =
+returns-clause-text c =
     rw (
-      c.in_ok-extend_from_slice-4.ensures.items,
+      c.in_ok-extend_from_slice-5.ensures.items,
       c.in_ok-push_term-2.ensures,
       c.in_ok-push_term.ensures,
-      c.in_ok-extend_from_slice-3.ensures.items,
+      c.in_ok-extend_from_slice-4.ensures.items,
       c.in_ok-push_rows.ensures,
-      c.in_ok-extend_from_slice-2.ensures.items,
+      c.in_ok-extend_from_slice-3.ensures.items,
       c.in_ok-push_names.ensures,
+      c.in_ok-extend_from_slice-2.ensures.items,
+      c.in_ok-push_title.ensures.text,
       c.in_ok-extend_from_slice.ensures.items,
       c.new-text.ensures.items,
     ) (simp append_assoc)

@@ -1,4 +1,5 @@
 use Rattle.std.proofs.Common.{sym, ◌∙◌}
+use Rattle.distance_tables.specs.LeagueText.{said_by}
 use Rattle.distance_tables.specs.within.Table.{table_view}
 use Rattle.distance_tables.proofs.Agreeing.{agreed_table}
 use Rattle.distance_tables.proofs.Law.{reads}
@@ -10,13 +11,13 @@ returns c =
     let count = rw c.deref.ensures.value at c.name_count-teams.ensures in
     let agreed = sym (rw (count, c.deref-2.ensures.value) at c.agreed.ensures) ∙ c.in_ok-agreed.was in
     let levels = rw (count, c.deref-3.ensures.value) at c.in_ok-distances.ensures in
-    let text = rw (c.deref-4.ensures.value, c.deref-5.ensures.value, levels) at c.in_ok-text.ensures in
+    let text = rw (c.deref-4.ensures.value, c.deref-5.ensures.value, levels) at c.in_ok-text.ensures.text in
     let given = agreed_table c.args.choice c.args.text.now table c.in_ok-table.ensures.value agreed in (
       table,
       given,
       record {
         text_is = text;
-        reads = rw text (reads c.args.choice c.args.terms c.args.text.now table c.requires given);
+        reads = rw text (reads c.args.choice (said_by c.args.terms) c.args.text.now table c.requires c.in_ok-text.ensures.utf8 given);
         rounded_is = rw c.deref-6.ensures.value at c.rounded_in.ensures;
       },
     )

@@ -1,4 +1,4 @@
-use Rattle.std.proofs.Common.{Err}
+use Rattle.std.proofs.Common.{Err, option_map, string_bytes}
 use Rattle.commands.specs.within.Fault.{of_reading}
 use Rattle.program.proofs.Inputs.{unread}
 use Rattle.program.proofs.words.respond_on_input.Goals as goal
@@ -7,7 +7,7 @@ pub returns-in-Err : goal.returns-in-Err
 returns-in-Err g c = record {
   outcome = Err (of_reading c.in-Err.fault);
   source_after = c.read_all.new.source;
-  ends = unread g.R.Source.left g.R.Source.tally g.W.Sink.held g.W.Sink.tally c.args.job c.args.source c.read_all.new.source
+  ends = unread g.R.Source.left g.R.Source.tally g.W.Sink.held g.W.Sink.tally (option_map string_bytes c.args.request.now.title) c.args.request.now.job c.args.source c.read_all.new.source
       c.read_all.ensures.calls c.args.sink.now c.read_all.result c.in-Err.fault c.in-Err.is c.read_all.ensures.too_long
       c.read_all.ensures.read c.read_all.ensures.failed;
   verdict = tt;
