@@ -1,4 +1,7 @@
 pub mod Limits
 pub mod Legs
+pub mod Bouts
+pub mod FirstHalf
+pub mod Plan
 pub mod Policy
 pub mod within
