@@ -1,5 +1,5 @@
 -- The plan: what the bouts of its wave do, and what it makes of how a leg ended.
-use Rattle.std.specs.Prelude.{ℕ, ◌+◌, ◌-◌, ◌*◌, ◌/◌, ◌%◌, ◌||◌, max, min, slice_index, is_some, if◌then◌else◌}
+use Rattle.std.specs.Prelude.{◌≡◌, ◌⊎◌, ℕ, ◌+◌, ◌-◌, ◌*◌, ◌/◌, ◌%◌, ◌||◌, max, min, slice_index, is_some, if◌then◌else◌}
 use Rattle.policy.specs.declared.bouts.Bout.{Bout}
 use Rattle.policy.specs.declared.legs.Course.{Course}
 use Rattle.policy.specs.declared.legs.Course.TheVariants.{Cools, Heats}
@@ -63,6 +63,10 @@ abbrev pub course_after : Plan → Course → Course → ℕ → Course
 course_after p (Heats from to) next hottest = cools_from p hottest
 course_after p (Cools from to) next hottest = next
 
+abbrev pub DoesCool : Course → Type 0
+DoesCool (Cools from to) = Unit {0}
+DoesCool (Heats from to) = ⊥
+
 -- the leg that follows on the first one of a bout: it has what that left over, too
 abbrev pub leg_after : Plan → Bout → LegEnd → Leg
 leg_after p b ended =
@@ -72,6 +76,10 @@ leg_after p b ended =
 abbrev pub hottest_after : ℕ → Course → LegEnd → ℕ
 hottest_after hottest (Heats from to) ended = if is_some ended.best then min hottest ended.hottest else hottest
 hottest_after hottest (Cools from to) ended = hottest
+
+-- the leg is the first one of the bout, or one that cools, as all second ones are
+abbrev pub IsLegIn : Plan → ℕ → Leg → Type 0
+IsLegIn p number leg = (leg ≡ (bout_of p number).first) ⊎ DoesCool leg.course
 
 -- the plan, once a leg ended so
 abbrev pub plan_after : Plan → Leg → LegEnd → Plan

@@ -68,9 +68,9 @@ impl Model for Policy {
 }
 
 impl Policy {
-    ghost use Rattle.std.specs.Prelude.{◌≡◌, ◌≢◌, ◌≤◌, ◌+◌, ◌-◌, ◌↔◌, IsSome, IsNone, IfSome, IfNone};
+    ghost use Rattle.std.specs.Prelude.{ℕ, ◌≡◌, ◌≢◌, ◌≤◌, ◌+◌, ◌-◌, ◌↔◌, IsSome, IsNone, IfSome, IfNone};
     ghost use Rattle.policy.specs.Limits.{most_effort};
-    ghost use Rattle.policy.specs.Plan.{bout_of, leg_after, plan_after, weights_of};
+    ghost use Rattle.policy.specs.Plan.{IsLegIn, bout_of, leg_after, plan_after, weights_of};
     ghost use Rattle.policy.specs.Policy.{as_far_as, field_after, HasBouts, IsNewPlan, IsNextWave, KeepsFacts};
     ghost use Rattle.policy.specs.Legs.{IsCourse, IsLeg, IsWeightCourse, steps_of};
 
@@ -107,8 +107,7 @@ impl Policy {
         Some(wave)
     }
 
-    /// The first leg of a bout of the present wave: none if there are no steps for it. It is the same whether or not
-    /// legs of the wave's other bouts were told.
+    /// The first leg of a bout of the present wave: none if there are no steps for it.
     pub fn first_leg(&mut self, bout: u32) -> Option<Leg>
         ensures value { result ≡ as_far_as self.old.left (bout_of self.old.plan bout).first }
         ensures new { self.new ≡ record self.old { left = self.old.left - steps_of result } }
@@ -131,6 +130,8 @@ impl Policy {
             result ≡ as_far_as (self.old.left + (leg.steps - ended.steps)) (leg_after self.old.plan (bout_of self.old.plan bout) ended) }
         ensures ends { leg ≢ (bout_of self.old.plan bout).first → result ≡ None }
         ensures plan { self.new.plan ≡ plan_after self.old.plan leg ended }
+        // so what a bout does is the same whether or not legs of the wave's other bouts were told
+        ensures stays { IsLegIn self.old.plan bout leg → (other : ℕ) → bout_of self.new.plan other ≡ bout_of self.old.plan other }
         ensures leg { IfSome result IsLeg }
         ensures left { self.new.left + steps_of result + ended.steps ≡ self.old.left + leg.steps }
         ensures field { self.new.field ≡ self.old.field }
