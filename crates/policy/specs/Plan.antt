@@ -1,5 +1,6 @@
 -- The plan: what the bouts of its wave do, and what it makes of how a leg ended.
-use Rattle.std.specs.Prelude.{◌≡◌, ◌⊎◌, ℕ, ◌+◌, ◌-◌, ◌*◌, ◌/◌, ◌%◌, ◌||◌, max, min, slice_index, is_some, if◌then◌else◌}
+use Rattle.std.specs.Prelude.{◌≡◌, ◌⊎◌, ℕ, ◌+◌, ◌-◌, ◌*◌, ◌/◌, ◌%◌, ◌||◌, max, min}
+use Rattle.std.specs.Prelude.{slice_index, if◌then◌else◌, is_some}
 use Rattle.policy.specs.declared.bouts.Bout.{Bout}
 use Rattle.policy.specs.declared.legs.Course.{Course}
 use Rattle.policy.specs.declared.legs.Course.TheVariants.{Cools, Heats}

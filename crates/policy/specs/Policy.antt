@@ -1,20 +1,18 @@
 -- The policy: what is left of the effort, and which wave may come next.
-use Rattle.std.specs.Prelude.{◌≡◌, ℕ, ◌+◌, ◌/◌, ◌==◌, ◌≤◌, min, if◌then◌else◌, Bool, true, false, Option, Some, None}
+use Rattle.std.specs.Prelude.{◌≡◌, ℕ, ◌+◌, ◌/◌, ◌==◌, ◌≤◌, min, if◌then◌else◌}
+use Rattle.std.specs.Prelude.{Bool, true, false, Option, Some, None}
 use Rattle.policy.specs.declared.legs.Leg.{Leg}
 use Rattle.policy.specs.declared.legs.MoveSet.{MoveSet}
 use Rattle.policy.specs.declared.legs.MoveSet.TheVariants.{Full, Repair as RepairMoves}
 use Rattle.policy.specs.declared.numbers.TheConstants.{SECOND_HALF, UNIT}
-use Rattle.policy.specs.declared.plan.Bouts.{Bouts}
-use Rattle.policy.specs.declared.plan.Bouts.TheVariants.{FirstHalf, Tries, Level, Copies}
 use Rattle.policy.specs.declared.plan.Plan.{Plan}
 use Rattle.policy.specs.declared.plan.Reach.TheVariants.{Untried}
 use Rattle.policy.specs.declared.waves.Aim.{Aim}
 use Rattle.policy.specs.declared.waves.Aim.TheVariants.{Anew, GoOn, Repair}
 use Rattle.policy.specs.declared.waves.Facts.{Facts}
 use Rattle.policy.specs.declared.waves.Source.{Source}
-use Rattle.policy.specs.declared.waves.Source.TheVariants.{Start, Own, Copies as OfFirst}
+use Rattle.policy.specs.declared.waves.Source.TheVariants.{Start, Own, Copies}
 use Rattle.policy.specs.declared.waves.Wave.{Wave}
-use Rattle.policy.specs.FirstHalf.{count_in}
 
 pub record PolicyData : Type 0 where
   -- the steps that no leg has taken yet
@@ -59,7 +57,7 @@ field_after field (Some w) = w.keep
 abbrev pub GoesOn : ℕ → Source → ℕ → ℕ → Type 0
 GoesOn field Start bouts keep = Unit {0}
 GoesOn field Own bouts keep = (bouts ≡ field) × (keep ≡ (bouts + 1) / 2)
-GoesOn field OfFirst bouts keep = (1 ≤ field) × (keep ≡ 1)
+GoesOn field Copies bouts keep = (1 ≤ field) × (keep ≡ 1)
 
 -- what the next wave may be, with so many chains in the field
 pub record IsNextWave (field : ℕ) (w : Wave) : Type 0 where
@@ -68,19 +66,6 @@ pub record IsNextWave (field : ℕ) (w : Wave) : Type 0 where
   pub keep_least : 1 ≤ w.keep
   pub keep_most : w.keep ≤ 4
   pub keep_within : w.keep ≤ w.bouts
-
--- the wave has these bouts
-abbrev pub HasBouts : Bouts → Wave → Type 0
-HasBouts (FirstHalf chains) w = (w.source ≡ Start) × (w.bouts ≡ count_in chains)
-HasBouts (Tries shares) w = (w.source ≡ Start) × (w.bouts ≡ shares.bouts)
-HasBouts (Level shares) w = (w.source ≡ Own) × (w.bouts ≡ shares.bouts)
-HasBouts (Copies shares) w = (w.source ≡ OfFirst) × (w.bouts ≡ shares.bouts)
-
--- what no wave changes
-pub record KeepsFacts (old new : Plan) : Type 0 where
-  pub teams : new.teams ≡ old.teams
-  pub goes_on : new.goes_on ≡ old.goes_on
-  pub feasible : new.feasible ≡ old.feasible
 
 -- a leg, as far as there are steps left for it
 abbrev pub as_far_as : ℕ → Leg → Option Leg

@@ -13,7 +13,6 @@ pub(crate) struct Bout {
 
 impl Bout {
     ghost use Rattle.std.specs.Prelude.{◌+◌, ◌-◌, ◌^◌, ◌<◌};
-    ghost use Rattle.policy.specs.Legs.{IsCourse};
     ghost use Rattle.policy.specs.Bouts.{leg_of, single};
 
     /// One leg.

@@ -62,10 +62,11 @@ pub(crate) struct Plan {
 }
 
 impl Plan {
-    ghost use Rattle.std.specs.Prelude.{◌≢◌, ◌+◌, ◌^◌, ◌<◌};
+    ghost use Rattle.std.specs.Prelude.{◌≢◌, ◌+◌, ◌%◌, ◌^◌, ◌<◌, true, false};
     ghost use Rattle.policy.specs.Legs.{IsCourse, IsWeightCourse};
     ghost use Rattle.policy.specs.Plan.{bout_of, cools_from, cycle_of, heat_of, heating_of, leg_after, plan_after, two_cycles, weights_of};
-    ghost use Rattle.policy.specs.Policy.{HasBouts, IsNewPlan, IsNextWave, KeepsFacts};
+    ghost use Rattle.policy.specs.Policy.{IsNewPlan, IsNextWave};
+    ghost use Rattle.policy.specs.Waves.{IsNextPlan, IsSettled, ReachesFurther, WantsTries, cycles_in, moves_from};
 
     /// The plan before its first wave.
     pub(crate) fn new(facts: Facts) -> Self
@@ -97,18 +98,11 @@ impl Plan {
         requires most { left ≤ most_effort }
         requires field { field ≤ 4 }
         ensures wave { IsNextWave field result }
-        ensures bouts { HasBouts self.new.bouts result }
-        ensures keeps { KeepsFacts self.old self.new }
+        ensures plan { IsNextPlan field self.old self.new result }
     {
-        let had = match self.bouts {
-            Bouts::Level(_) => 2,
-            Bouts::Copies(_) => 1,
-            _ => 0,
-        };
-        self.turn = (self.turn + had) % 4;
         if field == 0 && self.moves == MoveSet::Full {
             self.first_half(left)
-        } else if field == 0 || (!self.feasible && self.reach != Reach::Wide) {
+        } else if self.wants_tries(field) {
             self.tries(left)
         } else if field == 1 {
             self.copies(left)
@@ -117,12 +111,21 @@ impl Plan {
         }
     }
 
+    /// Whether tries come next, where a first half doesn't.
+    fn wants_tries(&self, field: u32) -> bool
+        requires { field ≡ 0 → self.now.moves ≢ MoveSet.Full }
+        ensures yes { result ≡ true → WantsTries field self.now }
+        ensures no { result ≡ false → (1 ≤ field) × IsSettled self.now }
+    {
+        field == 0 || (!self.feasible && self.reach != Reach::Wide)
+    }
+
     /// The wave of the first half.
     fn first_half(&mut self, left: u64) -> Wave
-        requires { left ≤ most_effort }
+        requires most { left ≤ most_effort }
+        requires full { self.old.moves ≡ MoveSet.Full }
         ensures wave { IsNextWave 0 result }
-        ensures bouts { HasBouts self.new.bouts result }
-        ensures keeps { KeepsFacts self.old self.new }
+        ensures plan { IsNextPlan 0 self.old self.new result }
     {
         let first_half = FirstHalf::new(self.teams, left, self.goes_on);
         let rest = left.saturating_sub(first_half.steps);
@@ -134,7 +137,7 @@ impl Plan {
             _ => 2,
         };
         self.level_steps = rest / (levels + 2);
-        self.bouts = Bouts::FirstHalf(first_half);
+        self.begin(Bouts::FirstHalf(first_half));
         Wave {
             source: Source::Start,
             bouts,
@@ -146,8 +149,7 @@ impl Plan {
     fn tries(&mut self, left: u64) -> Wave
         requires { left ≤ most_effort }
         ensures wave { (field : ℕ) → IsNextWave field result }
-        ensures bouts { HasBouts self.new.bouts result }
-        ensures keeps { KeepsFacts self.old self.new }
+        ensures plan { (field : ℕ) → WantsTries field self.old → IsNextPlan field self.old self.new result }
     {
         self.widen(left);
         let tries = (left / TRY_STEPS).max(LEAST_TRIES);
@@ -157,10 +159,10 @@ impl Plan {
         self.cycles_left = self.cycles.count;
         self.hottest = self.heating().to;
         let bouts = tries as u32;
-        self.bouts = Bouts::Tries(Shares {
+        self.begin(Bouts::Tries(Shares {
             steps: steps.max(1),
             bouts,
-        });
+        }));
         Wave {
             source: Source::Start,
             bouts,
@@ -169,7 +171,9 @@ impl Plan {
     }
 
     fn widen(&mut self, left: u64)
-        ensures { KeepsFacts self.old self.new }
+        ensures further { ReachesFurther self.old.reach self.new.reach }
+        ensures moves { self.new.moves ≡ moves_from self.new.reach self.old.moves }
+        ensures others { self.new ≡ record self.old { reach = self.new.reach; moves = self.new.moves } }
     {
         self.reach = match self.reach {
             Reach::Untried if self.begins_low(left) => Reach::Low,
@@ -188,16 +192,16 @@ impl Plan {
 
     /// A wave in which each chain of the field has two cycles, and the better half stays.
     fn level(&mut self, field: u32) -> Wave
-        requires least { 1 ≤ field }
+        requires least { 2 ≤ field }
         requires most { field ≤ 4 }
+        requires settled { IsSettled self.old }
         ensures wave { IsNextWave field result }
-        ensures bouts { HasBouts self.new.bouts result }
-        ensures keeps { KeepsFacts self.old self.new }
+        ensures plan { IsNextPlan field self.old self.new result }
     {
-        self.bouts = Bouts::Level(Shares {
+        self.begin(Bouts::Level(Shares {
             steps: self.level_steps.max(1),
             bouts: field,
-        });
+        }));
         Wave {
             source: Source::Own,
             bouts: field,
@@ -207,21 +211,36 @@ impl Plan {
 
     /// A wave in which copies of the best chain have a cycle each.
     fn copies(&mut self, left: u64) -> Wave
+        requires settled { IsSettled self.old }
         ensures wave { IsNextWave 1 result }
-        ensures bouts { HasBouts self.new.bouts result }
-        ensures keeps { KeepsFacts self.old self.new }
+        ensures plan { IsNextPlan 1 self.old self.new result }
     {
         let steps = left / u64::from(self.cycles_left);
         self.cycles_left = self.cycles_left.saturating_sub(1).max(1);
-        self.bouts = Bouts::Copies(Shares {
+        self.begin(Bouts::Copies(Shares {
             steps: steps.max(1),
             bouts: COPIES,
-        });
+        }));
         Wave {
             source: Source::Copies,
             bouts: COPIES,
             keep: 1,
         }
+    }
+
+    /// Has these be the bouts of the wave. Peaks that the chains had in the one before are gone through.
+    fn begin(&mut self, bouts: Bouts)
+        ensures bouts { self.new.bouts ≡ bouts }
+        ensures turn { self.new.turn ≡ (self.old.turn + cycles_in self.old.bouts) % 4 }
+        ensures others { self.new ≡ record self.old { bouts = self.new.bouts; turn = self.new.turn; in_turn = self.new.in_turn } }
+    {
+        let had = match self.bouts {
+            Bouts::FirstHalf(_) | Bouts::Tries(_) => 0,
+            Bouts::Level(_) => 2,
+            Bouts::Copies(_) => 1,
+        };
+        self.turn = (self.turn + had) % 4;
+        self.bouts = bouts;
     }
 
     /// The two legs of a bout, as far as they are known before it begins.

@@ -71,7 +71,8 @@ impl Policy {
     ghost use Rattle.std.specs.Prelude.{ℕ, ◌≡◌, ◌≢◌, ◌≤◌, ◌+◌, ◌-◌, ◌↔◌, IsSome, IsNone, IfSome, IfNone};
     ghost use Rattle.policy.specs.Limits.{most_effort};
     ghost use Rattle.policy.specs.Plan.{IsLegIn, bout_of, leg_after, plan_after, weights_of};
-    ghost use Rattle.policy.specs.Policy.{as_far_as, field_after, HasBouts, IsNewPlan, IsNextWave, KeepsFacts};
+    ghost use Rattle.policy.specs.Policy.{as_far_as, field_after, IsNewPlan, IsNextWave};
+    ghost use Rattle.policy.specs.Waves.{IsNextPlan};
     ghost use Rattle.policy.specs.Legs.{IsCourse, IsLeg, IsWeightCourse, steps_of};
 
     /// A policy of which no wave was asked for.
@@ -93,10 +94,9 @@ impl Policy {
     pub fn wave(&mut self) -> Option<Wave>
         ensures none { IsNone result ↔ (self.old.left ≡ 0) }
         ensures wave { IfSome result (IsNextWave self.old.field) }
-        ensures bouts { IfSome result (HasBouts self.new.plan.bouts) }
+        ensures plan { IfSome result (IsNextPlan self.old.field self.old.plan self.new.plan) }
         ensures left { self.new.left ≡ self.old.left }
         ensures field { self.new.field ≡ field_after self.old.field result }
-        ensures keeps { KeepsFacts self.old.plan self.new.plan }
         ensures over { IfNone result (self.new ≡ self.old) }
     {
         if self.left == 0 {
