@@ -16,6 +16,7 @@ use Rattle.policy.specs.declared.plan.Reach.{Reach}
 use Rattle.policy.specs.declared.plan.Reach.TheVariants.{Untried, Low, Near, Wide}
 use Rattle.policy.specs.Bouts.{leg_of, share_of, single}
 use Rattle.policy.specs.FirstHalf.{bout_in_first_half}
+use Rattle.policy.specs.Legs.{DoesCool}
 
 -- how tries heat, and what a breach weighs: before any as in the lowest
 abbrev pub heating_of : Reach → Heating
@@ -64,9 +65,9 @@ abbrev pub course_after : Plan → Course → Course → ℕ → Course
 course_after p (Heats from to) next hottest = cools_from p hottest
 course_after p (Cools from to) next hottest = next
 
-abbrev pub DoesCool : Course → Type 0
-DoesCool (Cools from to) = Unit {0}
-DoesCool (Heats from to) = ⊥
+-- the leg is the first one of the bout, or one that cools, as all second ones are
+abbrev pub IsLegIn : Plan → ℕ → Leg → Type 0
+IsLegIn p number leg = (leg ≡ (bout_of p number).first) ⊎ DoesCool leg.course
 
 -- the leg that follows on the first one of a bout: it has what that left over, too
 abbrev pub leg_after : Plan → Bout → LegEnd → Leg
@@ -77,10 +78,6 @@ leg_after p b ended =
 abbrev pub hottest_after : ℕ → Course → LegEnd → ℕ
 hottest_after hottest (Heats from to) ended = if is_some ended.best then min hottest ended.hottest else hottest
 hottest_after hottest (Cools from to) ended = hottest
-
--- the leg is the first one of the bout, or one that cools, as all second ones are
-abbrev pub IsLegIn : Plan → ℕ → Leg → Type 0
-IsLegIn p number leg = (leg ≡ (bout_of p number).first) ⊎ DoesCool leg.course
 
 -- the plan, once a leg ended so
 abbrev pub plan_after : Plan → Leg → LegEnd → Plan

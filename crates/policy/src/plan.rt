@@ -63,7 +63,7 @@ pub(crate) struct Plan {
 
 impl Plan {
     ghost use Rattle.std.specs.Prelude.{◌≢◌, ◌+◌, ◌%◌, ◌^◌, ◌<◌, true, false};
-    ghost use Rattle.policy.specs.Legs.{IsCourse, IsWeightCourse};
+    ghost use Rattle.policy.specs.Legs.{DoesCool, IsCourse, IsWeightCourse};
     ghost use Rattle.policy.specs.Plan.{bout_of, cools_from, cycle_of, heat_of, heating_of, leg_after, plan_after, two_cycles, weights_of};
     ghost use Rattle.policy.specs.Policy.{IsNewPlan, IsNextWave};
     ghost use Rattle.policy.specs.Waves.{IsNextPlan, IsSettled, ReachesFurther, WantsTries, cycles_in, moves_from};
@@ -250,6 +250,7 @@ impl Plan {
         ensures fits { result.first.steps + result.second.steps < 2 ^ 64 }
         ensures first { IsCourse result.first.course }
         ensures second { IsCourse result.second.course }
+        ensures cools { DoesCool result.first.course → DoesCool result.second.course }
     {
         match self.bouts {
             Bouts::FirstHalf(first_half) => first_half.bout(number),
@@ -287,6 +288,7 @@ impl Plan {
         ensures ends { leg ≢ (bout_of self.old number).first → result ≡ None }
         ensures plan { self.new ≡ plan_after self.old leg ended }
         ensures course { IfSome result (λ next. IsCourse next.course) }
+        ensures cools { IfSome result (λ next. DoesCool next.course) }
     {
         let bout = self.bout(number);
         self.hear(leg, ended);

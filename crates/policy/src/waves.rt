@@ -73,7 +73,7 @@ impl Policy {
     ghost use Rattle.policy.specs.Plan.{IsLegIn, bout_of, leg_after, plan_after, weights_of};
     ghost use Rattle.policy.specs.Policy.{as_far_as, field_after, IsNewPlan, IsNextWave};
     ghost use Rattle.policy.specs.Waves.{IsNextPlan};
-    ghost use Rattle.policy.specs.Legs.{IsCourse, IsLeg, IsWeightCourse, steps_of};
+    ghost use Rattle.policy.specs.Legs.{DoesCool, IsCourse, IsLeg, IsWeightCourse, steps_of};
 
     /// A policy of which no wave was asked for.
     pub fn new(facts: Facts) -> Self
@@ -130,6 +130,7 @@ impl Policy {
             result ≡ as_far_as (self.old.left + (leg.steps - ended.steps)) (leg_after self.old.plan (bout_of self.old.plan bout) ended) }
         ensures ends { leg ≢ (bout_of self.old.plan bout).first → result ≡ None }
         ensures plan { self.new.plan ≡ plan_after self.old.plan leg ended }
+        ensures cools { IfSome result (λ next. DoesCool next.course) }
         // so what a bout does is the same whether or not legs of the wave's other bouts were told
         ensures stays { IsLegIn self.old.plan bout leg → (other : ℕ) → bout_of self.new.plan other ≡ bout_of self.old.plan other }
         ensures leg { IfSome result IsLeg }
