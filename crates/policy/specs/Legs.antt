@@ -22,6 +22,10 @@ abbrev pub IsCourse : Course → Type 0
 IsCourse (Cools from to) = to ≤ from
 IsCourse (Heats from to) = from ≤ to
 
+abbrev pub DoesCool : Course → Type 0
+DoesCool (Cools from to) = Unit {0}
+DoesCool (Heats from to) = ⊥
+
 pub record IsLeg (l : Leg) : Type 0 where
   pub course : IsCourse l.course
   pub steps : 1 ≤ l.steps

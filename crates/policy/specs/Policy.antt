@@ -1,5 +1,15 @@
 -- The policy: what is left of the effort, and which wave may come next.
-use Rattle.std.specs.Prelude.{◌≡◌, ℕ, ◌+◌, ◌/◌, ◌≤◌, Option, Some, None}
+use Rattle.std.specs.Prelude.{◌≡◌, ℕ, ◌+◌, ◌/◌, ◌==◌, ◌≤◌, min, if◌then◌else◌}
+use Rattle.std.specs.Prelude.{Bool, true, false, Option, Some, None}
+use Rattle.policy.specs.declared.legs.Leg.{Leg}
+use Rattle.policy.specs.declared.legs.MoveSet.{MoveSet}
+use Rattle.policy.specs.declared.legs.MoveSet.TheVariants.{Full, Repair as RepairMoves}
+use Rattle.policy.specs.declared.numbers.TheConstants.{SECOND_HALF, UNIT}
+use Rattle.policy.specs.declared.plan.Plan.{Plan}
+use Rattle.policy.specs.declared.plan.Reach.TheVariants.{Untried}
+use Rattle.policy.specs.declared.waves.Aim.{Aim}
+use Rattle.policy.specs.declared.waves.Aim.TheVariants.{Anew, GoOn, Repair}
+use Rattle.policy.specs.declared.waves.Facts.{Facts}
 use Rattle.policy.specs.declared.waves.Source.{Source}
 use Rattle.policy.specs.declared.waves.Source.TheVariants.{Start, Own, Copies}
 use Rattle.policy.specs.declared.waves.Wave.{Wave}
@@ -9,12 +19,34 @@ pub record PolicyData : Type 0 where
   pub left : ℕ
   -- how many chains go on: none before the first wave
   pub field : ℕ
+  -- the present wave's bouts, and what decides about the next waves
+  pub plan : Plan
 
-abbrev pub policy_data : ℕ → ℕ → PolicyData
-policy_data left field = record { left = left; field = field }
+abbrev pub policy_data : ℕ → ℕ → Plan → PolicyData
+policy_data left field plan = record { left = left; field = field; plan = plan }
 
-abbrev pub new_policy : ℕ → PolicyData
-new_policy effort = policy_data effort 0
+-- which moves there are after the first half
+abbrev pub moves_for : Aim → MoveSet
+moves_for Anew = Full
+moves_for GoOn = Full
+moves_for Repair = RepairMoves
+
+abbrev pub goes_on_for : Aim → Bool
+goes_on_for Anew = false
+goes_on_for GoOn = true
+goes_on_for Repair = false
+
+-- a plan by which nothing was done yet
+pub record IsNewPlan (facts : Facts) (p : Plan) : Type 0 where
+  pub teams : p.teams ≡ facts.teams
+  pub goes_on : p.goes_on ≡ goes_on_for facts.aim
+  pub moves : p.moves ≡ moves_for facts.aim
+  pub reach : p.reach ≡ Untried
+  pub cycles : p.cycles ≡ SECOND_HALF
+  pub cycles_left : p.cycles_left ≡ SECOND_HALF.count
+  pub turn : p.turn ≡ 0
+  pub hottest : p.hottest ≡ UNIT
+  pub feasible : p.feasible ≡ false
 
 -- how many chains go on after the wave, if there is one
 abbrev pub field_after : ℕ → Option Wave → ℕ
@@ -34,3 +66,7 @@ pub record IsNextWave (field : ℕ) (w : Wave) : Type 0 where
   pub keep_least : 1 ≤ w.keep
   pub keep_most : w.keep ≤ 4
   pub keep_within : w.keep ≤ w.bouts
+
+-- a leg, as far as there are steps left for it
+abbrev pub as_far_as : ℕ → Leg → Option Leg
+as_far_as left leg = if min leg.steps left == 0 then None else Some (record leg { steps = min leg.steps left })

@@ -12,14 +12,12 @@ pub(crate) struct Bout {
 }
 
 impl Bout {
-    ghost use Rattle.policy.specs.Legs.{IsCourse};
+    ghost use Rattle.std.specs.Prelude.{◌+◌, ◌-◌, ◌^◌, ◌<◌};
+    ghost use Rattle.policy.specs.Bouts.{leg_of, single};
 
     /// One leg.
     pub(crate) fn single(moves: MoveSet, course: Course, steps: u64) -> Self
-        requires { IsCourse course }
-        ensures steps { result.first.steps ≡ steps }
-        ensures first { IsCourse result.first.course }
-        ensures second { IsCourse result.second.course }
+        ensures { result ≡ single moves course steps }
     {
         let first = Leg {
             moves,
@@ -34,11 +32,12 @@ impl Bout {
 
     /// The second leg, once the first one has taken so many steps.
     pub(crate) fn second_after(self, steps: u64) -> Leg
-        ensures { result.course ≡ self.second.course }
+        requires steps { steps ≤ self.first.steps }
+        requires fits { self.first.steps + self.second.steps < 2 ^ 64 }
+        ensures { result ≡ leg_of self.second.moves self.second.course (self.second.steps + (self.first.steps - steps)) }
     {
-        let all = self.first.steps.saturating_add(self.second.steps);
         Leg {
-            steps: all.saturating_sub(steps),
+            steps: self.second.steps + (self.first.steps - steps),
             ..self.second
         }
     }
@@ -54,9 +53,12 @@ pub(crate) struct Shares {
 }
 
 impl Shares {
+    ghost use Rattle.policy.specs.Bouts.{share_of};
+
     /// The steps of one bout.
     pub(crate) fn of(self, bout: u32) -> u64
-        ensures { bout ≡ 0 → 1 ≤ result }
+        ensures value { result ≡ share_of self bout }
+        ensures some { bout ≡ 0 → 1 ≤ result }
     {
         let bouts = u64::from(self.bouts);
         let more = u64::from(bout) < self.steps % bouts;

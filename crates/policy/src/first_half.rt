@@ -1,14 +1,15 @@
 //! The chains of the first half, from the start.
 
-ghost use Rattle.std.specs.Prelude.{◌≡◌, ◌≤◌};
+ghost use Rattle.std.specs.Prelude.{◌≡◌, ◌+◌, ◌^◌, ◌<◌, ◌≤◌};
 ghost use Rattle.policy.specs.Limits.{most_effort};
 ghost use Rattle.policy.specs.Legs.{IsCourse};
+ghost use Rattle.policy.specs.Bouts.{rigid};
 
 use crate::bouts::Bout;
 use crate::legs::{Leg, MoveSet};
 use crate::numbers::{
     COOL, EARLY_PART, FEW_LOOSE_LEAST, FEW_TEAMS, FIELD_MOST, FIELD_SPANS, HOT, LOOSE_LEAST,
-    LOOSE_MOST, LOOSE_SPANS, MILD, RIGID_MOST, RIGID_SPANS, TEPID, WARM,
+    LOOSE_MOST, LOOSE_SPANS, MILD, MILD_TENTHS, RIGID_MOST, RIGID_SPANS, TEPID, WARM,
 };
 
 /// More groups than any effort has.
@@ -39,6 +40,8 @@ pub(crate) struct FirstHalf {
 }
 
 impl FirstHalf {
+    ghost use Rattle.policy.specs.FirstHalf.{bout_in_first_half, count_in};
+
     pub(crate) fn new(teams: u8, effort: u64, goes_on: bool) -> Self
         requires teams { 4 ≤ teams }
         requires effort { effort ≤ most_effort }
@@ -69,14 +72,17 @@ impl FirstHalf {
 
     /// How many chains there are.
     pub(crate) fn bouts(self) -> u32
-        ensures { 2 ≤ result }
+        ensures count { result ≡ count_in self }
+        ensures least { 2 ≤ result }
     {
         1 + self.groups * if self.loose == 0 { 1 } else { 3 }
     }
 
     /// What the chain of a number does.
     pub(crate) fn bout(self, number: u32) -> Bout
+        ensures value { result ≡ bout_in_first_half self number }
         ensures steps { number ≡ 0 → 1 ≤ result.first.steps }
+        ensures fits { result.first.steps + result.second.steps < 2 ^ 64 }
         ensures first { IsCourse result.first.course }
         ensures second { IsCourse result.second.course }
     {
@@ -124,11 +130,13 @@ fn groups(rest: u64, most: u64) -> u32
 /// A rigid chain, which in the end draws rounds too.
 fn rigid(steps: u64) -> Bout
     requires { steps ≤ most_effort }
+    ensures value { result ≡ rigid steps }
     ensures steps { 1 ≤ steps → 1 ≤ result.first.steps }
+    ensures all { result.first.steps + result.second.steps ≡ steps }
     ensures first { IsCourse result.first.course }
     ensures second { IsCourse result.second.course }
 {
-    let mild = steps * 3 / 10;
+    let mild = steps * MILD_TENTHS / 10;
     Bout {
         first: Leg {
             moves: MoveSet::Rigid,

@@ -1,16 +1,18 @@
-//! The numbers of the policy. No contract speaks of them, so they can be changed without a proof.
+//! The numbers of the policy. Contracts speak of them by name alone, so they can be changed without a proof.
 //!
 //! Lengths of chains are in spans: a span is a thousand times the square of the number of teams, in steps.
 
 use crate::legs::{Course, WeightCourse};
 
-/// A rigid chain of the first half: hot, and then with rounds too, for three tenths of its steps.
+/// A rigid chain of the first half: hot, and then with rounds too, for so many tenths of its steps.
 pub(crate) const HOT: Course = Course::Cools {
     from: 2000,
     to: 500,
 };
 
 pub(crate) const MILD: Course = Course::Cools { from: 600, to: 300 };
+
+pub(crate) const MILD_TENTHS: u64 = 3;
 /// A loose chain.
 pub(crate) const WARM: Course = Course::Cools {
     from: 1500,
@@ -59,7 +61,7 @@ pub(crate) struct Cycles {
     pub(crate) cold: u32,
 }
 
-/// Of the second half. The hottest is 1000.
+/// Of the second half. The hottest is the unit.
 pub(crate) const SECOND_HALF: Cycles = Cycles {
     count: 16,
     peaks: [300, 250, 400, 200],
@@ -77,6 +79,8 @@ pub(crate) const AFTER_MORE: Cycles = Cycles {
     peaks: [1000, 850, 1000, 850],
     cold: 100,
 };
+/// The unit of temperatures, which are its thousandths.
+pub(crate) const UNIT: u32 = 1000;
 /// How many copies of the last chain have the same cycle.
 pub(crate) const COPIES: u32 = 4;
 

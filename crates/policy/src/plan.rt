@@ -8,7 +8,7 @@ use crate::first_half::{FirstHalf, field_for, span};
 use crate::legs::{Course, Leg, LegEnd, MoveSet, WeightCourse};
 use crate::numbers::{
     AFTER_FEW, AFTER_MORE, COPIES, Cycles, Heating, LEAST_TRIES, LOW, NEAR, SECOND_HALF, TRY_STEPS,
-    WIDE,
+    UNIT, WIDE,
 };
 use crate::waves::{Aim, Facts, Source, Wave};
 
@@ -28,7 +28,7 @@ enum Bouts {
 #[derive(Clone, Copy, PartialEq, Eq)]
 enum Reach {
     /// There was no try yet.
-    None,
+    Untried,
     /// Of a search alone, whose rounds and teams may move as a whole: so many moves need little heat.
     Low,
     Near,
@@ -50,7 +50,7 @@ pub(crate) struct Plan {
     cycles: Cycles,
     /// How many cycles are left for one chain.
     cycles_left: u32,
-    /// How many cycles the chains of the field had before this wave.
+    /// Which of the cycles' peaks comes next: they come in turn.
     turn: u32,
     /// What the peaks are measured by: the least temperature at which a try became feasible.
     hottest: u32,
@@ -58,15 +58,20 @@ pub(crate) struct Plan {
     feasible: bool,
     ghost four: { 4 ≤ teams },
     ghost going: { 1 ≤ cycles_left },
+    ghost in_turn: { turn ≤ 3 },
 }
 
 impl Plan {
-    ghost use Rattle.policy.specs.Legs.{IsCourse, IsWeightCourse};
-    ghost use Rattle.policy.specs.Policy.{IsNextWave};
+    ghost use Rattle.std.specs.Prelude.{◌≢◌, ◌+◌, ◌%◌, ◌^◌, ◌<◌, true, false};
+    ghost use Rattle.policy.specs.Legs.{DoesCool, IsCourse, IsWeightCourse};
+    ghost use Rattle.policy.specs.Plan.{bout_of, cools_from, cycle_of, heat_of, heating_of, leg_after, plan_after, two_cycles, weights_of};
+    ghost use Rattle.policy.specs.Policy.{IsNewPlan, IsNextWave};
+    ghost use Rattle.policy.specs.Waves.{IsNextPlan, IsSettled, ReachesFurther, WantsTries, cycles_in, moves_from};
 
     /// The plan before its first wave.
     pub(crate) fn new(facts: Facts) -> Self
         requires { 4 ≤ facts.teams }
+        ensures { IsNewPlan facts result }
     {
         Plan {
             teams: facts.teams,
@@ -77,12 +82,12 @@ impl Plan {
             },
             // this stands in for the first wave
             bouts: Bouts::Tries(Shares { steps: 1, bouts: 1 }),
-            reach: Reach::None,
+            reach: Reach::Untried,
             level_steps: 0,
             cycles: SECOND_HALF,
             cycles_left: SECOND_HALF.count,
             turn: 0,
-            hottest: 1000,
+            hottest: UNIT,
             feasible: false,
         }
     }
@@ -92,16 +97,12 @@ impl Plan {
         requires some { 1 ≤ left }
         requires most { left ≤ most_effort }
         requires field { field ≤ 4 }
-        ensures { IsNextWave field result }
+        ensures wave { IsNextWave field result }
+        ensures plan { IsNextPlan field self.old self.new result }
     {
-        self.turn = self.turn.wrapping_add(match self.bouts {
-            Bouts::Level(_) => 2,
-            Bouts::Copies(_) => 1,
-            _ => 0,
-        });
         if field == 0 && self.moves == MoveSet::Full {
             self.first_half(left)
-        } else if field == 0 || (!self.feasible && self.reach != Reach::Wide) {
+        } else if self.wants_tries(field) {
             self.tries(left)
         } else if field == 1 {
             self.copies(left)
@@ -110,10 +111,21 @@ impl Plan {
         }
     }
 
+    /// Whether tries come next, where a first half doesn't.
+    fn wants_tries(&self, field: u32) -> bool
+        requires { field ≡ 0 → self.now.moves ≢ MoveSet.Full }
+        ensures yes { result ≡ true → WantsTries field self.now }
+        ensures no { result ≡ false → (1 ≤ field) × IsSettled self.now }
+    {
+        field == 0 || (!self.feasible && self.reach != Reach::Wide)
+    }
+
     /// The wave of the first half.
     fn first_half(&mut self, left: u64) -> Wave
-        requires { left ≤ most_effort }
-        ensures { IsNextWave 0 result }
+        requires most { left ≤ most_effort }
+        requires full { self.old.moves ≡ MoveSet.Full }
+        ensures wave { IsNextWave 0 result }
+        ensures plan { IsNextPlan 0 self.old self.new result }
     {
         let first_half = FirstHalf::new(self.teams, left, self.goes_on);
         let rest = left.saturating_sub(first_half.steps);
@@ -125,7 +137,7 @@ impl Plan {
             _ => 2,
         };
         self.level_steps = rest / (levels + 2);
-        self.bouts = Bouts::FirstHalf(first_half);
+        self.begin(Bouts::FirstHalf(first_half));
         Wave {
             source: Source::Start,
             bouts,
@@ -136,7 +148,8 @@ impl Plan {
     /// A wave of tries to become feasible from the start, with a wider reach than before.
     fn tries(&mut self, left: u64) -> Wave
         requires { left ≤ most_effort }
-        ensures { (field : ℕ) → IsNextWave field result }
+        ensures wave { (field : ℕ) → IsNextWave field result }
+        ensures plan { (field : ℕ) → WantsTries field self.old → IsNextPlan field self.old self.new result }
     {
         self.widen(left);
         let tries = (left / TRY_STEPS).max(LEAST_TRIES);
@@ -146,10 +159,10 @@ impl Plan {
         self.cycles_left = self.cycles.count;
         self.hottest = self.heating().to;
         let bouts = tries as u32;
-        self.bouts = Bouts::Tries(Shares {
+        self.begin(Bouts::Tries(Shares {
             steps: steps.max(1),
             bouts,
-        });
+        }));
         Wave {
             source: Source::Start,
             bouts,
@@ -157,10 +170,14 @@ impl Plan {
         }
     }
 
-    fn widen(&mut self, left: u64) {
+    fn widen(&mut self, left: u64)
+        ensures further { ReachesFurther self.old.reach self.new.reach }
+        ensures moves { self.new.moves ≡ moves_from self.new.reach self.old.moves }
+        ensures others { self.new ≡ record self.old { reach = self.new.reach; moves = self.new.moves } }
+    {
         self.reach = match self.reach {
-            Reach::None if self.begins_low(left) => Reach::Low,
-            Reach::None | Reach::Low => Reach::Near,
+            Reach::Untried if self.begins_low(left) => Reach::Low,
+            Reach::Untried | Reach::Low => Reach::Near,
             Reach::Near | Reach::Wide => Reach::Wide,
         };
         if self.reach == Reach::Wide && self.moves == MoveSet::Repair {
@@ -175,14 +192,16 @@ impl Plan {
 
     /// A wave in which each chain of the field has two cycles, and the better half stays.
     fn level(&mut self, field: u32) -> Wave
-        requires least { 1 ≤ field }
+        requires least { 2 ≤ field }
         requires most { field ≤ 4 }
-        ensures { IsNextWave field result }
+        requires settled { IsSettled self.old }
+        ensures wave { IsNextWave field result }
+        ensures plan { IsNextPlan field self.old self.new result }
     {
-        self.bouts = Bouts::Level(Shares {
+        self.begin(Bouts::Level(Shares {
             steps: self.level_steps.max(1),
             bouts: field,
-        });
+        }));
         Wave {
             source: Source::Own,
             bouts: field,
@@ -192,14 +211,16 @@ impl Plan {
 
     /// A wave in which copies of the best chain have a cycle each.
     fn copies(&mut self, left: u64) -> Wave
-        ensures { IsNextWave 1 result }
+        requires settled { IsSettled self.old }
+        ensures wave { IsNextWave 1 result }
+        ensures plan { IsNextPlan 1 self.old self.new result }
     {
         let steps = left / u64::from(self.cycles_left);
         self.cycles_left = self.cycles_left.saturating_sub(1).max(1);
-        self.bouts = Bouts::Copies(Shares {
+        self.begin(Bouts::Copies(Shares {
             steps: steps.max(1),
             bouts: COPIES,
-        });
+        }));
         Wave {
             source: Source::Copies,
             bouts: COPIES,
@@ -207,54 +228,96 @@ impl Plan {
         }
     }
 
+    /// Has these be the bouts of the wave. Peaks that the chains had in the one before are gone through.
+    fn begin(&mut self, bouts: Bouts)
+        ensures bouts { self.new.bouts ≡ bouts }
+        ensures turn { self.new.turn ≡ (self.old.turn + cycles_in self.old.bouts) % 4 }
+        ensures others { self.new ≡ record self.old { bouts = self.new.bouts; turn = self.new.turn; in_turn = self.new.in_turn } }
+    {
+        let had = match self.bouts {
+            Bouts::FirstHalf(_) | Bouts::Tries(_) => 0,
+            Bouts::Level(_) => 2,
+            Bouts::Copies(_) => 1,
+        };
+        self.turn = (self.turn + had) % 4;
+        self.bouts = bouts;
+    }
+
     /// The two legs of a bout, as far as they are known before it begins.
     pub(crate) fn bout(&self, number: u32) -> Bout
+        ensures value { result ≡ bout_of self.now number }
         ensures steps { number ≡ 0 → 1 ≤ result.first.steps }
+        ensures fits { result.first.steps + result.second.steps < 2 ^ 64 }
         ensures first { IsCourse result.first.course }
         ensures second { IsCourse result.second.course }
+        ensures cools { DoesCool result.first.course → DoesCool result.second.course }
     {
         match self.bouts {
             Bouts::FirstHalf(first_half) => first_half.bout(number),
             Bouts::Tries(shares) => Bout::single(self.moves, self.heats(), shares.of(number)),
             Bouts::Copies(shares) => Bout::single(self.moves, self.cools(0), shares.of(number)),
-            Bouts::Level(shares) => {
-                let steps = shares.of(number);
-                let second = Leg {
-                    moves: self.moves,
-                    course: self.cools(1),
-                    steps: steps / 2,
-                };
-                let first = Leg {
-                    course: self.cools(0),
-                    steps: steps - steps / 2,
-                    ..second
-                };
-                Bout { first, second }
-            }
+            Bouts::Level(shares) => self.two_cycles(shares.of(number)),
         }
+    }
+
+    /// Two cycles with so many steps.
+    fn two_cycles(&self, steps: u64) -> Bout
+        ensures value { result ≡ two_cycles self.now steps }
+        ensures some { 1 ≤ steps → 1 ≤ result.first.steps }
+        ensures all { result.first.steps + result.second.steps ≡ steps }
+        ensures first { IsCourse result.first.course }
+        ensures second { IsCourse result.second.course }
+    {
+        let second = Leg {
+            moves: self.moves,
+            course: self.cools(1),
+            steps: steps / 2,
+        };
+        let first = Leg {
+            course: self.cools(0),
+            steps: steps - steps / 2,
+            ..second
+        };
+        Bout { first, second }
     }
 
     /// The leg that follows on a leg of a bout, if one does.
     pub(crate) fn next_leg(&mut self, number: u32, leg: Leg, ended: LegEnd) -> Option<Leg>
-        ensures { IfSome result (λ next. IsCourse next.course) }
+        requires { ended.steps ≤ leg.steps }
+        ensures follows { leg ≡ (bout_of self.old number).first → result ≡ Some (leg_after self.old (bout_of self.old number) ended) }
+        ensures ends { leg ≢ (bout_of self.old number).first → result ≡ None }
+        ensures plan { self.new ≡ plan_after self.old leg ended }
+        ensures course { IfSome result (λ next. IsCourse next.course) }
+        ensures cools { IfSome result (λ next. DoesCool next.course) }
     {
         let bout = self.bout(number);
-        self.feasible |= ended.best.is_some();
+        self.hear(leg, ended);
         if leg != bout.first {
             return None;
         }
         let mut next = bout.second_after(ended.steps);
         if let Course::Heats { .. } = leg.course {
-            if ended.best.is_some() {
-                self.hottest = self.hottest.min(ended.hottest);
-            }
             next.course = self.cools_from(ended.hottest);
         }
         Some(next)
     }
 
+    /// What a leg that ended tells about the next ones.
+    fn hear(&mut self, leg: Leg, ended: LegEnd)
+        ensures { self.new ≡ plan_after self.old leg ended }
+    {
+        let is_feasible = ended.best.is_some();
+        self.feasible |= is_feasible;
+        if let Course::Heats { .. } = leg.course
+            && is_feasible
+        {
+            self.hottest = self.hottest.min(ended.hottest);
+        }
+    }
+
     fn heats(&self) -> Course
-        ensures { IsCourse result }
+        ensures value { result ≡ heat_of (heating_of self.now.reach) }
+        ensures course { IsCourse result }
     {
         let Heating { from, to, .. } = self.heating();
         Course::Heats { from, to }
@@ -262,11 +325,12 @@ impl Plan {
 
     /// How the tries of the present wave heat. Without tries a breach weighs as in the lowest.
     fn heating(&self) -> Heating
+        ensures value { result ≡ heating_of self.now.reach }
         ensures rises { result.from ≤ result.to }
         ensures weights { IsWeightCourse result.weights }
     {
         match self.reach {
-            Reach::None | Reach::Low => LOW,
+            Reach::Untried | Reach::Low => LOW,
             Reach::Near => NEAR,
             Reach::Wide => WIDE,
         }
@@ -274,15 +338,18 @@ impl Plan {
 
     /// A cycle, so many after the first of this wave.
     fn cools(&self, later: u32) -> Course
-        ensures { IsCourse result }
+        requires { later ≤ 1 }
+        ensures value { result ≡ cycle_of self.now later }
+        ensures course { IsCourse result }
     {
-        let turn = self.turn.wrapping_add(later) % 4;
+        let turn = (self.turn + later) % 4;
         let peak = u64::from(self.hottest) * u64::from(self.cycles.peaks[turn as usize]) / 1000;
         self.cools_from(peak.min(u64::from(self.hottest)) as u32)
     }
 
     fn cools_from(&self, peak: u32) -> Course
-        ensures { IsCourse result }
+        ensures value { result ≡ cools_from self.now peak }
+        ensures course { IsCourse result }
     {
         Course::Cools {
             from: peak.max(self.cycles.cold),
@@ -292,7 +359,8 @@ impl Plan {
 
     /// The weights of the present wave.
     pub(crate) fn weights(&self) -> WeightCourse
-        ensures { IsWeightCourse result }
+        ensures value { result ≡ weights_of self.now }
+        ensures range { IsWeightCourse result }
     {
         self.heating().weights
     }

@@ -47,8 +47,8 @@ pub struct Wave {
     pub keep: u32,
 }
 
-/// What comes next, by what the legs before came to. Contracts see the steps that are left, and how many chains are in the
-/// field.
+/// What comes next, by what the legs before came to. Contracts see the steps that are left, how many chains are in the
+/// field, and the plan.
 #[derive(Drop)]
 pub struct Policy {
     left: u64,
@@ -62,22 +62,26 @@ impl Model for Policy {
 
     ghost Value = { PolicyData };
 
-    ghost view = { λ p. policy_data p.left p.field };
+    ghost view = { λ p. policy_data p.left p.field p.plan };
 
-    ghost invariant = { λ p. IsPolicy (policy_data p.left p.field) };
+    ghost invariant = { λ p. IsPolicy (policy_data p.left p.field p.plan) };
 }
 
 impl Policy {
-    ghost use Rattle.std.specs.Prelude.{◌≡◌, ◌≤◌, ◌+◌, ◌↔◌, IsSome, IsNone, IfSome};
+    ghost use Rattle.std.specs.Prelude.{ℕ, ◌≡◌, ◌≢◌, ◌≤◌, ◌+◌, ◌-◌, ◌↔◌, IsSome, IsNone, IfSome, IfNone};
     ghost use Rattle.policy.specs.Limits.{most_effort};
-    ghost use Rattle.policy.specs.Policy.{new_policy, field_after, IsNextWave};
-    ghost use Rattle.policy.specs.Legs.{IsCourse, IsLeg, IsWeightCourse, steps_of};
+    ghost use Rattle.policy.specs.Plan.{IsLegIn, bout_of, leg_after, plan_after, weights_of};
+    ghost use Rattle.policy.specs.Policy.{as_far_as, field_after, IsNewPlan, IsNextWave};
+    ghost use Rattle.policy.specs.Waves.{IsNextPlan};
+    ghost use Rattle.policy.specs.Legs.{DoesCool, IsCourse, IsLeg, IsWeightCourse, steps_of};
 
     /// A policy of which no wave was asked for.
     pub fn new(facts: Facts) -> Self
         requires teams { 4 ≤ facts.teams }
         requires effort { facts.effort ≤ most_effort }
-        ensures { result ≡ new_policy facts.effort }
+        ensures left { result.left ≡ facts.effort }
+        ensures field { result.field ≡ 0 }
+        ensures plan { IsNewPlan facts result.plan }
     {
         Policy {
             left: facts.effort,
@@ -90,7 +94,10 @@ impl Policy {
     pub fn wave(&mut self) -> Option<Wave>
         ensures none { IsNone result ↔ (self.old.left ≡ 0) }
         ensures wave { IfSome result (IsNextWave self.old.field) }
-        ensures new { self.new ≡ record self.old { field = field_after self.old.field result } }
+        ensures plan { IfSome result (IsNextPlan self.old.field self.old.plan self.new.plan) }
+        ensures left { self.new.left ≡ self.old.left }
+        ensures field { self.new.field ≡ field_after self.old.field result }
+        ensures over { IfNone result (self.new ≡ self.old) }
     {
         if self.left == 0 {
             return None;
@@ -100,9 +107,10 @@ impl Policy {
         Some(wave)
     }
 
-    /// The first leg of a bout of the present wave: none if there are no steps for it. It is the same whether or not
-    /// legs of the wave's other bouts were told.
+    /// The first leg of a bout of the present wave: none if there are no steps for it.
     pub fn first_leg(&mut self, bout: u32) -> Option<Leg>
+        ensures value { result ≡ as_far_as self.old.left (bout_of self.old.plan bout).first }
+        ensures new { self.new ≡ record self.old { left = self.old.left - steps_of result } }
         ensures leg { IfSome result IsLeg }
         // so each wave takes steps
         ensures first { bout ≡ 0 → 1 ≤ self.old.left → IsSome result }
@@ -118,6 +126,13 @@ impl Policy {
     pub fn next_leg(&mut self, bout: u32, leg: Leg, ended: LegEnd) -> Option<Leg>
         requires ended { ended.steps ≤ leg.steps }
         requires out { self.old.left + leg.steps ≤ most_effort }
+        ensures follows { leg ≡ (bout_of self.old.plan bout).first →
+            result ≡ as_far_as (self.old.left + (leg.steps - ended.steps)) (leg_after self.old.plan (bout_of self.old.plan bout) ended) }
+        ensures ends { leg ≢ (bout_of self.old.plan bout).first → result ≡ None }
+        ensures plan { self.new.plan ≡ plan_after self.old.plan leg ended }
+        ensures cools { IfSome result (λ next. DoesCool next.course) }
+        // so what a bout does is the same whether or not legs of the wave's other bouts were told
+        ensures stays { IsLegIn self.old.plan bout leg → (other : ℕ) → bout_of self.new.plan other ≡ bout_of self.old.plan other }
         ensures leg { IfSome result IsLeg }
         ensures left { self.new.left + steps_of result + ended.steps ≡ self.old.left + leg.steps }
         ensures field { self.new.field ≡ self.old.field }
@@ -131,7 +146,8 @@ impl Policy {
 
     /// The weight of a hard breach of a chain at the start, and its limits in the present wave.
     pub fn weights(&self) -> WeightCourse
-        ensures { IsWeightCourse result }
+        ensures value { result ≡ weights_of self.now.plan }
+        ensures range { IsWeightCourse result }
     {
         self.plan.weights()
     }
@@ -139,6 +155,8 @@ impl Policy {
     /// A leg, as far as there are steps left for it.
     fn take(&mut self, leg: Leg) -> Option<Leg>
         requires { IsCourse leg.course }
+        ensures value { result ≡ as_far_as self.old.left leg }
+        ensures new { self.new ≡ record self.old { left = self.old.left - steps_of result } }
         ensures leg { IfSome result IsLeg }
         ensures some { 1 ≤ leg.steps → 1 ≤ self.old.left → IsSome result }
         ensures left { self.new.left + steps_of result ≡ self.old.left }
