@@ -3,7 +3,7 @@ use Rattle.std.proofs.Common.{◌≡◌, ℕ, List, [], ◌∷◌, ◌++◌, map
 use Rattle.std.proofs.Common.{◌+◌, refl, sym, ◌∙◌, ap, subst, append_assoc, arith}
 use Rattle.std.proofs.lemmas.List.{map-append}
 use Rattle.std.proofs.lemmas.List.Elements.{All-append, All-cons, All-drop, All-head, All-push, All-rest, All-same, All-take}
-use Rattle.std.proofs.lemmas.List.Sums.{sum_by-cons}
+use Rattle.std.proofs.lemmas.List.Sums.{sum_by-append, sum_by-cons}
 use Rattle.std.specs.List.{position_or_len}
 use Rattle.std.specs.Option.{option_to_list, unwrap_or}
 use Rattle.league.specs.League.{LeagueData}
@@ -150,6 +150,14 @@ pub turns_more : (line new : Line) (w : WaitingLeg) → new.waiting.items ≡ li
 turns_more line new w waiting running =
     rw (running, waiting, map-append turn_of_waiting line.waiting.items (w ∷ []))
     (sym (append_assoc (map turn_of_running line.running.items) (map turn_of_waiting line.waiting.items) (w.turn ∷ [])))
+
+-- a leg that waits has its steps left
+pub left_more : (line new : Line) (w : WaitingLeg) → new.waiting.items ≡ line.waiting.items ++ w ∷ [] → new.running ≡ line.running →
+    left_in new ≡ steps_left new.series + (sum_by turn_steps (turns_of line) + turn_steps w.turn)
+left_more line new w waiting running =
+    let added : sum_by turn_steps (turns_of new) ≡ sum_by turn_steps (turns_of line) + sum_by turn_steps (w.turn ∷ []) =
+    ap (sum_by turn_steps) (turns_more line new w waiting running) ∙ sum_by-append turn_steps (turns_of line) (w.turn ∷ []) in
+    omega (arith, added, sum_by-cons turn_steps w.turn [])
 
 -- the first one is taken out
 pub all_front : {X : Type 0} (P : X → Type 0) (old new : List X) (first : Option X) → old ≡ option_to_list first ++ new → All P old →

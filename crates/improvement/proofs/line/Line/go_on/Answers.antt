@@ -1,7 +1,7 @@
-use Rattle.std.proofs.Common.{sym, subst}
+use Rattle.std.proofs.Common.{arith, sym, subst}
 use Rattle.improvement.specs.within.Lines.{IsStage, MayBegin}
 use Rattle.improvement.specs.declared.stage.Beginning.{Beginning}
-use Rattle.improvement.proofs.Lines.{best_begins, line_with, on_ok, stage_entering}
+use Rattle.improvement.proofs.Lines.{best_begins, left_more, line_with, on_ok, stage_entering}
 use Rattle.improvement.proofs.line.Line.go_on.Goals as goal
 
 pub returns-in-Some-clause-line : goal.returns-in-Some-clause-line
@@ -10,6 +10,15 @@ returns-in-Some-clause-line c = λ start legs is line.
     (subst (IsStage start legs) (sym c.wait.ensures.stage) line.stage) c.in-Some.ensures.leg
     (subst (λ (b : Beginning). MayBegin start legs b.chain b.board) (sym c.at_best.ensures) (best_begins c.args.entrant is)) waiting
     c.wait.ensures.running) c.wait.ensures.waiting
+
+pub returns-in-Some-clause-left : goal.returns-in-Some-clause-left
+returns-in-Some-clause-left c =
+    on_ok c.wait.result (λ waiting. omega (
+      arith,
+      left_more c.args.self.now c.wait.new.self _ waiting c.wait.ensures.running,
+      c.wait.ensures.left,
+      c.in-Some.ensures.left,
+    )) c.wait.ensures.waiting
 
 pub returns-in-None-clause-line : goal.returns-in-None-clause-line
 returns-in-None-clause-line c = λ start legs is line.
