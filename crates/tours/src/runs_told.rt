@@ -65,7 +65,8 @@ fn turned_runs(schedule: &Schedule, at_most: u8, k: u8, l: u8, team: u8) -> Brea
 {
     let rounds = schedule.rounds();
     let home = schedule.home_rounds(team);
-    if home.has(k) == home.has(l) {
+    // two cells are read in fewer instructions than two members of a set
+    if schedule.game_at(team, k).home == schedule.game_at(team, l).home {
         return Breaches {
             before: 0,
             after: 0,

@@ -1,6 +1,6 @@
 -- The runs after an exchange, told by the sides before it.
 use Rattle.std.proofs.Common.{◌≡◌, ◌≢◌, ℕ, ◌+◌, ◌<◌, ◌≤◌, Bool, true, false, not, ◌&&◌, ◌||◌, inl, inr, refl, sym, ◌∙◌}
-use Rattle.std.proofs.Common.{ap, ap₂, subst, le_refl, arith}
+use Rattle.std.proofs.Common.{ap, subst, le_refl, arith}
 use Rattle.std.specs.Prelude.{◌==◌, nat_lt, if◌then◌else◌}
 use Rattle.std.specs.Bool.{beq}
 use Rattle.std.proofs.lemmas.Bool.{cases_Bool, cases_lt, cond-true, cond-false, lt-ltb, le-ltb, ltb-true}
@@ -20,7 +20,6 @@ use Rattle.tours.specs.Runs.{runs_of, runs_over}
 use Rattle.tours.specs.within.Told.{HasHomes}
 use Rattle.tours.proofs.exchanged_legs.OwnLegs.{same_side}
 use Rattle.tours.proofs.balances.RunsBalance.{runs_of_balance, part_of_box}
-use Rattle.tours.proofs.runs_and_repeats.RunStarts.{home_at}
 use Rattle.tours.proofs.exchanged_legs.TeamsTold.{unmoved, of_either}
 
 -- a team of which no side differs has as many runs
@@ -139,12 +138,6 @@ rounds_told g rr k l p among closed most teams members =
     sym (side_for_all g k l rr p t r in_t in_r)))))
 
 -- the home rounds of a team that turns
-
-pub turning_bits : (g : Games) (t k l home : ℕ) (same : Bool) → k < round_count g.teams → l < round_count g.teams → HasHomes g t home →
-    beq (has home k) (has home l) ≡ same → turns g k l t ≡ not same
-unfolding turns
-turning_bits g t k l home same in_k in_l homes is =
-    ap not (sym (ap₂ beq (home_at g t home k homes in_k) (home_at g t home l homes in_l)) ∙ is)
 
 opposite : (a b : Bool) → not (beq a b) ≡ true → not a ≡ b
 opposite true true e = e

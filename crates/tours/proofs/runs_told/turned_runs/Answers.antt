@@ -1,27 +1,28 @@
-use Rattle.std.proofs.Common.{◌≡◌, true, false, sym, ◌∙◌, ap, ap₂}
+use Rattle.std.proofs.Common.{◌≡◌, true, false, not, sym, ◌∙◌, ap, ap₂}
 use Rattle.std.specs.Prelude.{◌==◌, ◌||◌}
 use Rattle.std.specs.Bool.{beq}
 use Rattle.std.proofs.lemmas.Bool.{cond-true, cond-false}
 use Rattle.fixtures.specs.Changes.{turns}
-use Rattle.tours.proofs.runs_and_repeats.RunsTold.{turned_row, turning_bits}
+use Rattle.fixtures.specs.Games.{is_home}
+use Rattle.tours.proofs.runs_and_repeats.RunsTold.{turned_row}
 use Rattle.tours.proofs.runs_told.turned_runs.Goals as goal
-use Rattle.tours.proofs.runs_told.turned_runs.Goals.{Then-has, After-runs_in-2}
+use Rattle.tours.proofs.runs_told.turned_runs.Goals.{Then-game_at, After-runs_in-2}
 
-stays : (c : Then-has) → turns c.args.schedule.now c.args.k c.args.l c.args.team ≡ false
+stays : (c : Then-game_at) → turns c.args.schedule.now c.args.k c.args.l c.args.team ≡ false
+unfolding turns is_home
 stays c =
-    turning_bits c.args.schedule.now c.args.team c.args.k c.args.l c.home_rounds-home.result true c.requires.k c.requires.l
-    c.home_rounds-home.ensures.members (ap₂ beq (sym c.has.ensures) (sym c.has-2.ensures) ∙ c.if-has.true)
+    ap not (ap₂ (λ a b. beq a.home b.home) (sym c.game_at.ensures.value) (sym c.game_at-2.ensures.value) ∙ c.if-game_at.true)
 
 turning : (c : After-runs_in-2) → turns c.args.schedule.now c.args.k c.args.l c.args.team ≡ true
+unfolding turns is_home
 turning c =
-    turning_bits c.args.schedule.now c.args.team c.args.k c.args.l c.home_rounds-home.result false c.requires.k c.requires.l
-    c.home_rounds-home.ensures.members (ap₂ beq (sym c.has.ensures) (sym c.has-2.ensures) ∙ c.if-has.false)
+    ap not (ap₂ (λ a b. beq a.home b.home) (sym c.game_at.ensures.value) (sym c.game_at-2.ensures.value) ∙ c.if-game_at.false)
 
-pub returns-then-has-clause-before : goal.returns-then-has-clause-before
-returns-then-has-clause-before c = sym (cond-false _ _ _ (stays c))
+pub returns-then-game_at-clause-before : goal.returns-then-game_at-clause-before
+returns-then-game_at-clause-before c = sym (cond-false _ _ _ (stays c))
 
-pub returns-then-has-clause-after : goal.returns-then-has-clause-after
-returns-then-has-clause-after c = sym (cond-false _ _ _ (stays c))
+pub returns-then-game_at-clause-after : goal.returns-then-game_at-clause-after
+returns-then-game_at-clause-after c = sym (cond-false _ _ _ (stays c))
 
 pub returns-clause-before : goal.returns-clause-before
 returns-clause-before c =
