@@ -1,10 +1,10 @@
 -- A set in two words of m bits: the numbers below m, and those from m on, each m further down.
-use Rattle.std.proofs.Common.{◌≡◌, ℕ, ◌+◌, ◌-◌, ◌*◌, ◌^◌, ◌<◌, ◌≤◌, ◌&&◌, ◌==◌, not, bit_and, false}
+use Rattle.std.proofs.Common.{◌≡◌, ℕ, ◌+◌, ◌-◌, ◌*◌, ◌/◌, ◌%◌, ◌^◌, ◌<◌, ◌≤◌, ◌&&◌, ◌==◌, not, bit_and, false}
 use Rattle.std.proofs.Math.Bool.{and-true}
 use Rattle.std.proofs.Common.{sym, ◌∙◌, ap, inl, inr, arith}
 use Rattle.std.proofs.Math.Nat.{mul-lt-mul_of_pos_right}
 use Rattle.std.proofs.lemmas.Bool.{cases_eq, cases_lt, eq-eqb, ne_eqb}
-use Rattle.std.proofs.lemmas.Nat.{pow_pos}
+use Rattle.std.proofs.lemmas.Nat.{pow_pos, mod_below, shr_split, and_mask}
 use Rattle.std.proofs.lemmas.Nat.Bits.{bit_at-zero, bit_at_cat_low, bit_at_cat_high}
 use Rattle.std.specs.Int.{Width, trailing_zeros}
 use mir.Val.{bits}
@@ -20,6 +20,17 @@ has_low high low m i lt = ap (λ n. n == 1) (bit_at_cat_low high m low i lt)
 
 has_high : (high low m i : ℕ) → low < 2 ^ m → m ≤ i → has (high * 2 ^ m + low) i ≡ has high (i - m)
 has_high high low m i below from = ap (λ n. n == 1) (bit_at_cat_high high m low i below from)
+
+-- a number of a set, in the half that has it
+
+pub has_in_low_half : (set k : ℕ) → k < 64 → (bit_and (bit_and set (2 ^ 64 - 1) / 2 ^ k) 1 == 1) ≡ has set k
+has_in_low_half set k lt =
+    ap (λ n. n == 1) (and_mask (bit_and set (2 ^ 64 - 1) / 2 ^ k) 1) ∙ ap (λ n. has n k) (and_mask set 64) ∙ sym (has_low (set / 2 ^ 64) (set % 2 ^ 64) 64 k lt) ∙ ap (λ n. has n k) (shr_split set 64)
+
+pub has_in_high_half : (set k : ℕ) → 64 ≤ k → (bit_and (set / 2 ^ 64 / 2 ^ (k - 64)) 1 == 1) ≡ has set k
+has_in_high_half set k from =
+    ap (λ n. n == 1) (and_mask (set / 2 ^ 64 / 2 ^ (k - 64)) 1) ∙
+    sym (has_high (set / 2 ^ 64) (set % 2 ^ 64) 64 k (mod_below set (2 ^ 64) (pow_pos 64)) from) ∙ ap (λ n. has n k) (shr_split set 64)
 
 lowest_of_low_half : (high low m k rest : ℕ) → low < 2 ^ m → IsWithoutLowest low k rest
     → IsWithoutLowest (high * 2 ^ m + low) k (high * 2 ^ m + rest)

@@ -76,7 +76,12 @@ impl SlotSet {
         requires { slot < max_rounds }
         ensures { result ≡ has self slot }
     {
-        self.bits >> slot & 1 == 1
+        // a word of 64 bits takes fewer instructions than one of 128
+        if slot < 64 {
+            (self.bits & 0xffff_ffff_ffff_ffff) as u64 >> slot & 1 == 1
+        } else {
+            (self.bits >> 64) as u64 >> (slot - 64) & 1 == 1
+        }
     }
 
     /// How many slots there are.
