@@ -19,7 +19,7 @@ use texts::{Piece, write_pieces};
 pub(crate) struct LegLog<'a, C, F> {
     clock: &'a C,
     begun: Instant,
-    sink: WriterSink<F>,
+    sink: WriterSink<'a, F>,
     /// Whether a part of a line may stand at the end.
     torn: bool,
 }

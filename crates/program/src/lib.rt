@@ -5,7 +5,6 @@ mod follower;
 mod found_file;
 mod jobs;
 mod leg_log;
-mod piped;
 mod texts_read;
 mod timed;
 mod told;

@@ -17,7 +17,6 @@ ghost use Rattle.program.specs.Program.{IsStatusBehind};
 
 use crate::follower::Follower;
 use crate::jobs::{Console, Ending, Texts, league_text, perform};
-use crate::piped::{Piped, is_broken_pipe};
 use crate::texts_read::{TextsRead, read_texts};
 use crate::told::{
     failure, not_begun, refused, tell_bad_line, tell_full, tell_remarks, tell_rounded,
@@ -66,10 +65,7 @@ where
     match words_of(rt) {
         Ok(words) => {
             let source = ReaderSource::new(rt.reader());
-            let mut sink = WriterSink::new(Piped {
-                writer: io::writer(rt),
-                is_closed: &is_closed,
-            });
+            let mut sink = WriterSink::over_pipe(io::writer(rt), &is_closed);
             answer(rt, ends, &words, source, &mut sink)
         }
         Err(error) => words_not_had(rt, error),
@@ -347,7 +343,7 @@ fn shown<R: Runtime>(rt: &R, printed: io::Result<()>) -> ExitCode
 {
     match printed {
         Ok(()) => ExitCode::SUCCESS,
-        Err(error) if is_broken_pipe(&error) => ExitCode::FAILURE,
+        Err(error) if error.kind() == io::ErrorKind::BrokenPipe => ExitCode::FAILURE,
         Err(_) => failure(rt, ProgramFault::Write),
     }
 }

@@ -5,13 +5,20 @@ use super::samples::{NO_CALLS, TEXT};
 use std::io;
 use std::io::{ErrorKind, Write};
 use std::process::Abort;
+use std::sync::atomic::{AtomicBool, Ordering};
 use std::test::Fail;
-use streams::{MemorySink, RehearsedSink, Step, Tally, WriteFault, WriterSink, write_all};
+use streams::{MemorySink, RehearsedSink, Sink, Step, Tally, WriteFault, WriterSink, write_all};
 
-/// A write is interrupted, one takes two bytes, and one fails.
+/// A write is interrupted, one takes two bytes, and all others fail with an error of this kind.
 #[derive(Drop)]
 struct FlakyWriter {
     calls: u8,
+    kind: ErrorKind,
+}
+
+/// A writer of which nothing was asked yet.
+fn flaky(kind: ErrorKind) -> FlakyWriter {
+    FlakyWriter { calls: 0, kind }
 }
 
 impl Write for FlakyWriter {
@@ -20,7 +27,7 @@ impl Write for FlakyWriter {
         match self.calls {
             1 => Err(ErrorKind::Interrupted.into()),
             2 => Ok(piece.len().min(2)),
-            _ => Err(ErrorKind::BrokenPipe.into()),
+            _ => Err(self.kind.into()),
         }
     }
 
@@ -31,7 +38,7 @@ impl Write for FlakyWriter {
 
 #[test]
 fn writes_to_a_writer_until_it_fails(rt: HostRuntime) {
-    let mut sink = WriterSink::new(FlakyWriter { calls: 0 });
+    let mut sink = WriterSink::new(flaky(ErrorKind::BrokenPipe));
     let outcome = write_all(&mut sink, b"abc");
     let tally = Tally {
         calls: 3,
@@ -48,6 +55,36 @@ fn writes_to_a_writer(rt: HostRuntime) -> Result<(), Fail> {
     write_all(&mut WriterSink::new(&mut written), TEXT)?;
     check_same(&rt, &written.as_slice(), &TEXT);
     Ok(())
+}
+
+/// What three pushes to a pipe answer that then fails with an error of this kind, and whether it was closed after each.
+fn pushed_to_pipe(kind: ErrorKind) -> [(Step, bool); 3] {
+    let is_closed = AtomicBool::new(false);
+    let mut sink = WriterSink::over_pipe(flaky(kind), &is_closed);
+    let first = (sink.push(b"abc"), is_closed.load(Ordering::SeqCst));
+    let second = (sink.push(b"abc"), is_closed.load(Ordering::SeqCst));
+    let third = (sink.push(b"abc"), is_closed.load(Ordering::SeqCst));
+    [first, second, third]
+}
+
+#[test]
+fn tells_of_a_pipe_that_nobody_reads(rt: HostRuntime) {
+    let closed = [
+        (Step::Again, false),
+        (Step::Moved(2), false),
+        (Step::Failed, true),
+    ];
+    check_same(&rt, &pushed_to_pipe(ErrorKind::BrokenPipe), &closed);
+}
+
+#[test]
+fn tells_of_no_pipe_at_another_failure(rt: HostRuntime) {
+    let open = [
+        (Step::Again, false),
+        (Step::Moved(2), false),
+        (Step::Failed, false),
+    ];
+    check_same(&rt, &pushed_to_pipe(ErrorKind::StorageFull), &open);
 }
 
 #[test]
