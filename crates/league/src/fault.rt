@@ -26,12 +26,12 @@ pub enum Field {
     Repeats,
 }
 
-/// Writes the member's JSON name.
-impl fmt::Display for Field {
-    ghost output = { λ field. Some (member_name field) };
-
-    fn fmt<W: fmt::Write>(&self, f: &mut fmt::Formatter<W>) -> fmt::Result {
-        f.write_str(match self {
+impl Field {
+    /// The member's JSON name.
+    pub fn name(self) -> &'static str
+        ensures { result.now ≡ member_name self }
+    {
+        match self {
             Field::Whole => "text",
             Field::Format => "format",
             Field::Teams => "teams",
@@ -45,7 +45,16 @@ impl fmt::Display for Field {
             Field::Short => "short",
             Field::Rounds => "rounds",
             Field::Repeats => "repeats",
-        })
+        }
+    }
+}
+
+/// Writes the member's JSON name.
+impl fmt::Display for Field {
+    ghost output = { λ field. Some (member_name field) };
+
+    fn fmt<W: fmt::Write>(&self, f: &mut fmt::Formatter<W>) -> fmt::Result {
+        f.write_str(self.name())
     }
 }
 

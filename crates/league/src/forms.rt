@@ -27,10 +27,11 @@ fn has_name_bytes(name: &[u8]) -> bool
     name.iter().all(|b| *b >= 32 && *b != 127)
 }
 
-fn is_text_within(text: &str, most: usize) -> bool
+/// Whether a text has one byte to `most`, none of them a control byte.
+pub fn is_text_within(text: &[u8], most: usize) -> bool
     ensures { result ≡ is_text_within most text.now }
 {
-    (1..=most).contains(&text.len()) && has_name_bytes(text.as_bytes())
+    (1..=most).contains(&text.len()) && has_name_bytes(text)
 }
 
 /// A text of one byte to `most`, none of them a control byte.
@@ -38,7 +39,9 @@ pub fn text_within(value: &Value, most: usize) -> Option<&str>
     ensures value { option_map (λ text. text.now) result ≡ text_within most (view value.now) }
     ensures fits { IfSome result (λ text. IsTrue (is_text_within most text.now)) }
 {
-    value.as_str().filter(|text| is_text_within(text, most))
+    value
+        .as_str()
+        .filter(|text| is_text_within(text.as_bytes(), most))
 }
 
 /// The texts of an array of such texts.

@@ -154,7 +154,6 @@ impl League {
     }
 
     /// Whether the two games of a pair of teams may stand in rounds one after the other.
-    #[inline]
     pub fn free_repeats(&self) -> bool
         ensures { result ≡ self.now.free_repeats }
     {

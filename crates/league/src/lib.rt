@@ -20,6 +20,7 @@ mod rule_members;
 mod text_lists;
 
 pub use fault::{Field, LeagueFault};
+pub use forms::{is_text_within, number_within};
 pub use leagues::League;
 pub use made::{circular, constant};
 pub use origins::Start;
