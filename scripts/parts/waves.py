@@ -36,14 +36,18 @@ def first_half(n, effort):
     r, c = min(8 * u, 3_000_000), min(16 * u, 6_000_000)
     early = max(1, min(effort // 16, r))
     rest = max(0, effort // 2 - early)
+    least = (2 if n <= 12 else 5) * u
     m = max(1, -(-rest // (r + 2 * c)))
+    if n > 12 and m == 1 and rest * c // (2 * (r + 2 * c)) >= least:
+        m = 2
     each = rest * c // (m * (r + 2 * c))
-    if each >= (2 if n <= 12 else 5) * u:
-        group = [(RIGID, rest // m - 2 * each), (LOOSE, each), (FULL if n <= 12 else LOOSE, each)]
+    if each >= least:
+        rigid, loose = [(RIGID, rest // m - 2 * each)], [(LOOSE, each), (FULL if n <= 12 else LOOSE, each)]
+        groups = [loose + rigid if i % 2 else rigid + loose for i in range(m)]
     else:
         m = max(1, -(-rest // r))
-        group = [(RIGID, rest // m)]
-    return [(RIGID, early)] + m * group
+        groups = m * [[(RIGID, rest // m)]]
+    return [(RIGID, early)] + sum(groups, [])
 
 
 def heats(leg):
@@ -74,7 +78,7 @@ def search(n, effort, goes_on=False):
         low = [(FULL, 300, 800, WEIGHTS)] if left // 2 >= 4000 * n * n else []
         yield from tries(left, [*low, (FULL, 1000, 5000, NEAR), (FULL, 1000, 20000, WIDELY)])
         return
-    level, peaks = left // ({1: 0, 2: 1, 3: 2, 4: 2}[field] + 2), 4 * (300, 250, 400, 200) + 4 * (300, 250, 400, 200)
+    level, peaks = left // ({1: 0, 2: 1, 3: 2, 4: 2}[field] + 2), 8 * ((500, 400, 600, 300) if n <= 12 else (300, 250, 400, 200))
     while field > 1:
         bouts = [[(FULL, peak, 150, steps) for peak, steps in zip(peaks, parts(share, 2))] for share in parts(level, field)]
         peaks, left, field = peaks[2:], left - level, (field + 1) // 2

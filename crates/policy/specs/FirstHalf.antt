@@ -1,5 +1,5 @@
 -- The chains of the first half.
-use Rattle.std.specs.Prelude.{ℕ, ◌+◌, ◌*◌, ◌%◌, ◌==◌, ◌&&◌, ◌||◌, if◌then◌else◌}
+use Rattle.std.specs.Prelude.{ℕ, ◌+◌, ◌*◌, ◌%◌, ◌==◌, ◌&&◌, ◌||◌, nat_le, if◌then◌else◌}
 use Rattle.policy.specs.declared.bouts.Bout.{Bout}
 use Rattle.policy.specs.declared.first_half.FirstHalf.{FirstHalf}
 use Rattle.policy.specs.declared.legs.MoveSet.TheVariants.{Loose, Full}
@@ -14,13 +14,13 @@ count_in f = 1 + f.groups * (if f.loose == 0 then 1 else 3)
 abbrev pub early_bout : FirstHalf → Bout
 early_bout f = if f.goes_on then single Full TEPID f.early else rigid f.early
 
--- a chain of a group of three: the one at place 1 is rigid, and after it come the ones at places 2 and 0
+-- a chain of two groups of three: the first and the last one, at the places 1 and 0, are rigid
 abbrev pub bout_at : FirstHalf → ℕ → Bout
 bout_at f place =
-    if f.loose == 0 || place == 1 then rigid f.rigid
-    else if f.few && place == 0 then single Full COOL f.loose
+    if f.loose == 0 || nat_le place 1 then rigid f.rigid
+    else if f.few && place % 2 == 1 then single Full COOL f.loose
     else single Loose WARM f.loose
 
 -- where no chain is loose, all groups are of a rigid one
 abbrev pub bout_in_first_half : FirstHalf → ℕ → Bout
-bout_in_first_half f number = if number == 0 then early_bout f else bout_at f (number % 3)
+bout_in_first_half f number = if number == 0 then early_bout f else bout_at f (number % 6)

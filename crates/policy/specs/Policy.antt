@@ -1,10 +1,11 @@
 -- The policy: what is left of the effort, and which wave may come next.
 use Rattle.std.specs.Prelude.{◌≡◌, ℕ, ◌+◌, ◌/◌, ◌==◌, ◌≤◌, min, if◌then◌else◌}
-use Rattle.std.specs.Prelude.{Bool, true, false, Option, Some, None}
+use Rattle.std.specs.Prelude.{Bool, true, false, nat_le, Option, Some, None}
 use Rattle.policy.specs.declared.legs.Leg.{Leg}
 use Rattle.policy.specs.declared.legs.MoveSet.{MoveSet}
 use Rattle.policy.specs.declared.legs.MoveSet.TheVariants.{Full, Repair as RepairMoves}
-use Rattle.policy.specs.declared.numbers.TheConstants.{SECOND_HALF, UNIT}
+use Rattle.policy.specs.declared.numbers.Cycles.{Cycles}
+use Rattle.policy.specs.declared.numbers.TheConstants.{FEW_SECOND_HALF, FEW_TEAMS, SECOND_HALF, UNIT}
 use Rattle.policy.specs.declared.plan.Plan.{Plan}
 use Rattle.policy.specs.declared.plan.Reach.TheVariants.{Untried}
 use Rattle.policy.specs.declared.waves.Aim.{Aim}
@@ -36,14 +37,18 @@ goes_on_for Anew = false
 goes_on_for GoOn = true
 goes_on_for Repair = false
 
+-- by which cycles a second half of so many teams goes
+abbrev pub second_half_for : ℕ → Cycles
+second_half_for teams = if nat_le teams FEW_TEAMS then FEW_SECOND_HALF else SECOND_HALF
+
 -- a plan by which nothing was done yet
 pub record IsNewPlan (facts : Facts) (p : Plan) : Type 0 where
   pub teams : p.teams ≡ facts.teams
   pub goes_on : p.goes_on ≡ goes_on_for facts.aim
   pub moves : p.moves ≡ moves_for facts.aim
   pub reach : p.reach ≡ Untried
-  pub cycles : p.cycles ≡ SECOND_HALF
-  pub cycles_left : p.cycles_left ≡ SECOND_HALF.count
+  pub cycles : p.cycles ≡ second_half_for facts.teams
+  pub cycles_left : p.cycles_left ≡ (second_half_for facts.teams).count
   pub turn : p.turn ≡ 0
   pub hottest : p.hottest ≡ UNIT
   pub feasible : p.feasible ≡ false

@@ -8,8 +8,8 @@ ghost use Rattle.policy.specs.Bouts.{rigid};
 use crate::bouts::Bout;
 use crate::legs::{Leg, MoveSet};
 use crate::numbers::{
-    COOL, EARLY_PART, FEW_LOOSE_LEAST, FEW_TEAMS, FIELD_MOST, FIELD_SPANS, HOT, LOOSE_LEAST,
-    LOOSE_MOST, LOOSE_SPANS, MILD, MILD_TENTHS, RIGID_MOST, RIGID_SPANS, TEPID, WARM,
+    COOL, EARLY_PART, FEW_LOOSE_LEAST, FEW_TEAMS, FIELD_MOST, FIELD_SPANS, HOT, LEAST_GROUPS,
+    LOOSE_LEAST, LOOSE_MOST, LOOSE_SPANS, MILD, MILD_TENTHS, RIGID_MOST, RIGID_SPANS, TEPID, WARM,
 };
 
 /// More groups than any effort has.
@@ -28,7 +28,7 @@ pub(crate) struct FirstHalf {
     rigid: u64,
     /// The steps of each of the two more, or 0 if there are none.
     loose: u64,
-    /// Whether the last of a group has all moves.
+    /// Whether the last of these has all moves.
     few: bool,
     /// The steps of all chains.
     pub(crate) steps: u64,
@@ -51,11 +51,13 @@ impl FirstHalf {
         let early = (effort / EARLY_PART).clamp(1, rigid_most);
         let rest = (effort / 2).saturating_sub(early);
         let three = rigid_most + 2 * loose_most;
-        let loose = rest * loose_most / three / u64::from(groups(rest, three));
+        let loose = rest * loose_most / three;
         let few = teams <= FEW_TEAMS;
         let least = span(teams) * if few { FEW_LOOSE_LEAST } else { LOOSE_LEAST };
+        let of_three = groups(rest, three).max(least_groups(few, least, loose));
+        let loose = loose / u64::from(of_three);
         let (groups, loose) = if least <= loose {
-            (groups(rest, three), loose)
+            (of_three, loose)
         } else {
             (groups(rest, rigid_most), 0)
         };
@@ -86,13 +88,14 @@ impl FirstHalf {
         ensures first { IsCourse result.first.course }
         ensures second { IsCourse result.second.course }
     {
+        let place = number % 6;
         if number == 0 && self.goes_on {
             Bout::single(MoveSet::Full, TEPID, self.early)
         } else if number == 0 {
             rigid(self.early)
-        } else if self.loose == 0 || number % 3 == 1 {
+        } else if self.loose == 0 || place <= 1 {
             rigid(self.rigid)
-        } else if self.few && number % 3 == 0 {
+        } else if self.few && place % 2 == 1 {
             Bout::single(MoveSet::Full, COOL, self.loose)
         } else {
             Bout::single(MoveSet::Loose, WARM, self.loose)
@@ -125,6 +128,18 @@ fn groups(rest: u64, most: u64) -> u32
     ensures most { result ≤ 10000000 }
 {
     rest.div_ceil(most).clamp(1, MOST_GROUPS) as u32
+}
+
+/// How many groups with loose chains there are at least, where each of the two has so many steps in all groups.
+fn least_groups(few: bool, least: u64, loose: u64) -> u32
+    ensures least { 1 ≤ result }
+    ensures most { result ≤ 10000000 }
+{
+    if !few && least <= loose / u64::from(LEAST_GROUPS) {
+        LEAST_GROUPS
+    } else {
+        1
+    }
 }
 
 /// A rigid chain, which in the end draws rounds too.

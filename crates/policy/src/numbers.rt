@@ -20,7 +20,7 @@ pub(crate) const WARM: Course = Course::Cools {
 };
 /// A chain of all moves, where few teams play.
 pub(crate) const COOL: Course = Course::Cools { from: 600, to: 150 };
-/// A chain that goes on from a given start: as hot as the second half's cycles.
+/// A chain that goes on from a given start: no hotter than the second half's first cycle.
 pub(crate) const TEPID: Course = Course::Cools { from: 300, to: 150 };
 
 /// The first chain has at most such a part of the effort, so that there is something good early.
@@ -39,6 +39,8 @@ pub(crate) const FEW_TEAMS: u8 = 12;
 pub(crate) const FEW_LOOSE_LEAST: u64 = 2;
 
 pub(crate) const LOOSE_LEAST: u64 = 5;
+/// Where more teams play there are so many groups, if their loose chains are long enough: workers share these better.
+pub(crate) const LEAST_GROUPS: u32 = 2;
 
 /// The most chains that go on to the second half, and how long each is to have there.
 pub(crate) const FIELD_MOST: u64 = 4;
@@ -61,7 +63,13 @@ pub(crate) struct Cycles {
     pub(crate) cold: u32,
 }
 
-/// Of the second half. The hottest is the unit.
+/// Of the second half: where few teams play, and elsewhere. The hottest is the unit.
+pub(crate) const FEW_SECOND_HALF: Cycles = Cycles {
+    count: 16,
+    peaks: [500, 400, 600, 300],
+    cold: 150,
+};
+
 pub(crate) const SECOND_HALF: Cycles = Cycles {
     count: 16,
     peaks: [300, 250, 400, 200],

@@ -7,8 +7,8 @@ use crate::bouts::{Bout, Shares};
 use crate::first_half::{FirstHalf, field_for, span};
 use crate::legs::{Course, Leg, LegEnd, MoveSet, WeightCourse};
 use crate::numbers::{
-    AFTER_FEW, AFTER_MORE, COPIES, Cycles, Heating, LEAST_TRIES, LOW, NEAR, SECOND_HALF, TRY_STEPS,
-    UNIT, WIDE,
+    AFTER_FEW, AFTER_MORE, COPIES, Cycles, FEW_SECOND_HALF, FEW_TEAMS, Heating, LEAST_TRIES, LOW,
+    NEAR, SECOND_HALF, TRY_STEPS, UNIT, WIDE,
 };
 use crate::waves::{Aim, Facts, Source, Wave};
 
@@ -65,7 +65,7 @@ impl Plan {
     ghost use Rattle.std.specs.Prelude.{◌≢◌, ◌+◌, ◌%◌, ◌^◌, ◌<◌, true, false};
     ghost use Rattle.policy.specs.Legs.{DoesCool, IsCourse, IsWeightCourse};
     ghost use Rattle.policy.specs.Plan.{bout_of, cools_from, cycle_of, heat_of, heating_of, leg_after, plan_after, two_cycles, weights_of};
-    ghost use Rattle.policy.specs.Policy.{IsNewPlan, IsNextWave};
+    ghost use Rattle.policy.specs.Policy.{IsNewPlan, IsNextWave, second_half_for};
     ghost use Rattle.policy.specs.Waves.{IsNextPlan, IsSettled, ReachesFurther, WantsTries, cycles_in, moves_from};
 
     /// The plan before its first wave.
@@ -73,6 +73,7 @@ impl Plan {
         requires { 4 ≤ facts.teams }
         ensures { IsNewPlan facts result }
     {
+        let cycles = Self::second_half(facts.teams);
         Plan {
             teams: facts.teams,
             goes_on: facts.aim == Aim::GoOn,
@@ -84,11 +85,23 @@ impl Plan {
             bouts: Bouts::Tries(Shares { steps: 1, bouts: 1 }),
             reach: Reach::Untried,
             level_steps: 0,
-            cycles: SECOND_HALF,
-            cycles_left: SECOND_HALF.count,
+            cycles,
+            cycles_left: cycles.count,
             turn: 0,
             hottest: UNIT,
             feasible: false,
+        }
+    }
+
+    /// The cycles of the second half.
+    fn second_half(teams: u8) -> Cycles
+        ensures value { result ≡ second_half_for teams }
+        ensures some { 1 ≤ result.count }
+    {
+        if teams <= FEW_TEAMS {
+            FEW_SECOND_HALF
+        } else {
+            SECOND_HALF
         }
     }
 

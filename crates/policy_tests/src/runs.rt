@@ -55,6 +55,8 @@ const EIGHT: Setting = (8, 10_000_000, Kind::Search);
 
 const TWENTY: Setting = (20, 100_000_000, Kind::Search);
 
+const TWO_GROUPS: Setting = (20, 30_000_000, Kind::Search);
+
 const FORTY: Setting = (40, 12_345_678, Kind::Search);
 
 const TWO_GO_ON: Setting = (14, 5_000_000, Kind::Search);
@@ -86,34 +88,44 @@ const STUCK_FOUR: Setting = (4, 50, Kind::Stuck);
 /// A setting, and what `scripts/oracle policy` has for it: the numbers of waves and legs, and the sums of both.
 type Row = (Setting, [u64; 4]);
 
-const ROWS: [Row; 17] = [
+const ROWS: [Row; 18] = [
     (SIXTEEN, [17, 68, 62_834, 12_985_776_099_164_480]),
-    (EIGHT, [19, 86, 78_023, 41_063_752_353_371_029]),
-    (TWENTY, [19, 94, 78_623, 311_063_755_069_200_593]),
+    (EIGHT, [19, 86, 78_023, 46_443_952_391_968_615]),
+    (TWENTY, [19, 94, 78_623, 311_063_755_050_862_537]),
+    (TWO_GROUPS, [19, 86, 78_023, 101_063_752_881_589_061]),
     (FORTY, [17, 70, 62_934, 61_204_948_482_795_774]),
     (TWO_GO_ON, [18, 74, 69_958, 26_420_945_209_103_594]),
     (THREE_GO_ON, [19, 80, 77_513, 32_032_644_259_903_950]),
-    (FEW_STEPS, [17, 28, 62_834, 3_888_520_028_438_171]),
+    (FEW_STEPS, [17, 28, 62_834, 5_770_120_041_942_571]),
     (GOING, [17, 67, 62_834, 12_985_776_098_996_294]),
     (REPAIR, [17, 72, 63_034, 29_249_968_225_573_536]),
     (LONG_REPAIR, [9, 48, 18_938, 19_956_768_295_799_864]),
     (FAILING, [18, 72, 70_446, 391_221_218_913_717_439]),
     (FEW_TRIES, [4, 7, 4_114, 3_578_512_027_810_637]),
     (HEATED, [18, 78, 70_356, 39_516_864_335_312_271]),
-    (HEATED_TEN, [18, 82, 70_776, 39_516_864_355_898_543]),
+    (HEATED_TEN, [18, 82, 70_776, 39_516_864_354_469_129]),
     (STUCK, [19, 76, 78_068, 424_274_771_135_692_392]),
-    (STUCK_TEN, [20, 86, 86_830, 477_020_975_562_645_655]),
+    (STUCK_TEN, [20, 86, 86_830, 477_020_975_561_216_241]),
     (STUCK_FOUR, [10, 18, 22_448, 24_963_032_183_610_521]),
 ];
 
 /// A leg that the twin shows for a setting: its wave, bout and place there, its moves, from, to and steps.
 type Shown = (Setting, [u32; 3], MoveSet, [u64; 3]);
 
-const LEGS: [Shown; 17] = [
+const LEGS: [Shown; 21] = [
     (SIXTEEN, [0, 1, 1], MoveSet::Loose, [600, 300, 131_250]),
     (EIGHT, [0, 3, 0], MoveSet::Full, [600, 150, 897_600]),
-    (EIGHT, [2, 0, 1], MoveSet::Full, [200, 150, 312_500]),
+    (EIGHT, [0, 4, 0], MoveSet::Loose, [1500, 300, 897_600]),
+    (EIGHT, [0, 6, 0], MoveSet::Rigid, [2000, 500, 314_160]),
+    (EIGHT, [2, 0, 1], MoveSet::Full, [300, 150, 312_500]),
     (TWENTY, [0, 3, 0], MoveSet::Loose, [1500, 300, 4_700_000]),
+    (
+        TWO_GROUPS,
+        [0, 4, 0],
+        MoveSet::Loose,
+        [1500, 300, 2_625_000],
+    ),
+    (TWO_GROUPS, [0, 6, 0], MoveSet::Rigid, [2000, 500, 918_750]),
     (FORTY, [0, 0, 0], MoveSet::Rigid, [2000, 500, 540_123]),
     (GOING, [0, 0, 0], MoveSet::Full, [300, 150, 62_500]),
     (REPAIR, [0, 0, 0], MoveSet::Repair, [1000, 5000, 125_000]),
