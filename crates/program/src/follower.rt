@@ -1,7 +1,7 @@
 //! The files that follow an improvement.
 
 ghost use Rattle.std.specs.Prelude.{◌≡◌, ◌||◌, true, OnErr, OnOk};
-ghost use Rattle.program.specs.Followed.{has_failed};
+ghost use Rattle.program.specs.Followed.{has_failed, IsLogged};
 
 use crate::found_file::FoundFile;
 use crate::leg_log::LegLog;
@@ -14,6 +14,7 @@ use std::io::Eprint;
 use std::rt::Files;
 use std::time::Clock;
 use std::{fs, io};
+use streams::WriterSink;
 
 /// Has files follow an improvement: one has the best schedule so far, the other a line for each leg. One that can't be written is named on
 /// standard error, once. It is tried again with the next text, and the improvement goes on.
@@ -87,11 +88,26 @@ fn has_failed<F>(followed: &Option<Followed<'_, F>>) -> bool
     }
 }
 
+/// Adds the line of a leg to the log, if there is one.
+fn log_leg<'a, R: Files + Clock + Eprint>(
+    rt: &R,
+    log: &mut Option<Followed<'a, LegLog<'a, R, R::File>>>,
+    leg: LegEnded,
+)
+    ensures { IsLogged ⟦<WriterSink<'a, R::File> as Sink>⟧.held leg log.old log.new }
+{
+    if let Some(log) = log {
+        let outcome = log.file.add(leg);
+        log.note(rt, outcome);
+    }
+}
+
 impl<F> Followed<'_, F> {
     /// Notes how a write ended, and names the file if it is the first one that failed.
     fn note(&mut self, rt: &impl Eprint, outcome: io::Result<()>)
         ensures failed { OnErr outcome (self.new.failed ≡ true) }
         ensures same { OnOk outcome (self.new.failed ≡ self.old.failed) }
+        ensures file { self.new.file ≡ self.old.file }
     {
         if let Err(why) = outcome {
             if !self.failed {
@@ -102,16 +118,14 @@ impl<F> Followed<'_, F> {
     }
 }
 
-impl<R: Files + Clock + Eprint, W: Sink> Watcher<W> for Follower<'_, R> {
-    // whatever was written, and a file that couldn't be written once stays so
+impl<'a, R: Files + Clock + Eprint, W: Sink> Watcher<W> for Follower<'a, R> {
+    // whatever was written to the sink, and a file that couldn't be written once stays so
     fn leg_ended(&mut self, leg: LegEnded, better: Option<&Board>, _written: Written<'_, '_, W>)
         ensures found { has_failed self.old.found ≡ true → has_failed self.new.found ≡ true }
         ensures log { has_failed self.old.log ≡ true → has_failed self.new.log ≡ true }
+        ensures logged { IsLogged ⟦<WriterSink<'a, R::File> as Sink>⟧.held leg self.old.log self.new.log }
     {
-        if let Some(log) = &mut self.log {
-            let outcome = log.file.add(leg);
-            log.note(self.rt, outcome);
-        }
+        log_leg(self.rt, &mut self.log, leg);
         let Some(board) = better else {
             return;
         };

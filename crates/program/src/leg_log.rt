@@ -5,7 +5,7 @@ ghost use Rattle.std.specs.Io.KnownBytes.{Appends};
 ghost use Rattle.streams.specs.Sending.{AppendsPrefix};
 ghost use Rattle.streams.specs.Writing.{Writes};
 ghost use Rattle.texts.specs.Pieces.{text_of_piece};
-ghost use Rattle.program.specs.LegLog.{leg_line, new_line, number_or_null};
+ghost use Rattle.program.specs.LegLog.{leg_line, new_line, number_or_null, IsAdded, IsTorn};
 
 use commands::LegEnded;
 use std::io::{ErrorKind, Write};
@@ -36,7 +36,10 @@ impl<'a, C: Clock, F: Write + Drop> LegLog<'a, C, F> {
     }
 
     /// Adds the line of a leg.
-    pub(crate) fn add(&mut self, leg: LegEnded) -> io::Result<()> {
+    pub(crate) fn add(&mut self, leg: LegEnded) -> io::Result<()>
+        ensures added { OnOk result (IsAdded ⟦<WriterSink<'a, F> as Sink>⟧.held self.old self.new leg) }
+        ensures torn { OnErr result (IsTorn ⟦<WriterSink<'a, F> as Sink>⟧.held self.old self.new leg) }
+    {
         let passed = Instant::now(self.clock)?.duration_since(self.begun);
         let thousandths = passed.as_millis().min(u128::from(u64::MAX)) as u64;
         let torn = mem::replace(&mut self.torn, true);

@@ -16,7 +16,7 @@ use league::{LeagueFault, read_league};
 use line_advice::{LineHint, schedule_hint, script_hint};
 use schedule_tables::is_table;
 use std::alloc::Global;
-use std::io::{Eprint, ErrorKind, Write};
+use std::io::{Eprint, ErrorKind};
 use std::process::ExitCode;
 use std::rt::Runtime;
 use std::{io, str};
@@ -112,7 +112,7 @@ pub(crate) fn not_begun<R: Runtime + AllocGlobal>(
     ExitCode::FAILURE
 }
 
-/// Writes what is wrong with the games of the start, a line for each fault.
+/// Writes what is wrong with the games of the start, a line for each fault. If there is no memory for them they are left out.
 fn start_faults<R: Runtime + AllocGlobal>(rt: &R, request: &Request, texts: &Texts<'_, '_>) {
     let Some(
         Beginning {
@@ -124,8 +124,11 @@ fn start_faults<R: Runtime + AllocGlobal>(rt: &R, request: &Request, texts: &Tex
         return;
     };
     if let Ok(league) = read_league(rt.alloc(), league_text(request.job, texts)) {
-        let mut sink = WriterSink::new(ErrorWriter { rt });
-        let _ = write_start_faults(rt.alloc(), &league, from, &mut sink);
+        let mut faults = Vec::new(rt.alloc());
+        let mut sink = WriterSink::new(&mut faults);
+        if write_start_faults(rt.alloc(), &league, from, &mut sink).is_ok() {
+            tell_text(rt, &faults);
+        }
     }
     tell_line(rt, hint_on_schedule(from));
 }
@@ -165,14 +168,20 @@ pub(crate) fn tell_terminal(rt: &impl Eprint, is_terminal: bool, request: &Reque
 }
 
 /// Writes a line for each member of the league's text that is not read. A report as a text has these lines itself, and a table
-/// of distances has no members. If there is no
-/// memory for them they are left out.
+/// of distances has no members. If there is no memory for them they are left out.
 pub(crate) fn tell_remarks<R: Runtime + AllocGlobal>(rt: &R, job: Job, texts: &Texts<'_, '_>) {
     if matches!(job, Job::Report(Format::Text) | Job::League { .. }) {
         return;
     }
     if let Ok(remarks) = remarks_on(rt.alloc(), league_text(job, texts)) {
-        let _ = ErrorWriter { rt }.write(&remarks);
+        tell_text(rt, &remarks);
+    }
+}
+
+/// Writes lines, which are text.
+fn tell_text(rt: &impl Eprint, lines: &[u8]) {
+    if let Ok(lines) = str::from_utf8(lines) {
+        let _ = eprint!(rt; "{lines}");
     }
 }
 
@@ -195,27 +204,5 @@ pub(crate) fn tell_full(rt: &impl Eprint, job: Job) {
 pub(crate) fn tell_rounded(rt: &impl Eprint, rounded: u64) {
     if rounded > 0 {
         let _ = eprintln!(rt; "remark: distances are whole numbers: {rounded} were rounded");
-    }
-}
-
-/// Standard error as a writer, of text.
-#[derive(Drop)]
-pub(crate) struct ErrorWriter<'a, R> {
-    pub(crate) rt: &'a R,
-}
-
-impl<R: Runtime> Write for ErrorWriter<'_, R> {
-    fn write(&mut self, piece: &[u8]) -> io::Result<usize> {
-        match str::from_utf8(piece) {
-            Ok(text) => {
-                eprint!(self.rt; "{text}")?;
-                Ok(piece.len())
-            }
-            Err(_) => Err(io::Error::from(io::ErrorKind::InvalidData)),
-        }
-    }
-
-    fn flush(&mut self) -> io::Result<()> {
-        Ok(())
     }
 }
