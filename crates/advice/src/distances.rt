@@ -13,7 +13,7 @@ use league::LeagueFault;
 use league::limits::MAX_DISTANCE;
 use serde_json::Value;
 
-/// What a distance has to be.
+/// The form that a distance has to have.
 const DISTANCE: Wanted = Wanted::Number(0, MAX_DISTANCE);
 
 /// Where a table of distances between so many teams has the fault.
@@ -155,7 +155,7 @@ fn entry(table: &Value, row: usize, column: usize) -> Option<u64>
     value_at(table, row, column)?.as_u64()
 }
 
-/// What stands in a row and column.
+/// The form in a row and column.
 fn value_at(table: &Value, row: usize, column: usize) -> Option<&Value>
     ensures { option_map (λ value. view value.now) result ≡ value_at (view table.now) row column }
 {

@@ -26,7 +26,7 @@ pub enum Hint {
     ByteOrderMark,
     /// This line ends with `script`, which has to stand on a line of its own.
     ScriptBehind(usize),
-    /// The same of `sheet`.
+    /// The line of `sheet`.
     SheetBehind(usize),
     /// There are so many teams, and no league has as many.
     TeamCount(usize),
@@ -53,7 +53,7 @@ pub enum Hint {
         name: Quote,
         is_shared: bool,
     },
-    /// What is seen at this place isn't what is wanted there.
+    /// The form that is seen at this place isn't the one that is wanted there.
     Value(Place, Seen, Wanted),
 }
 
@@ -94,7 +94,7 @@ pub enum RuleMember {
     Games,
 }
 
-/// What is seen at a place, and isn't wanted there.
+/// The form that is seen at a place, and isn't wanted there.
 #[derive(Clone, Copy, Debug, Drop, PartialEq)]
 pub enum Seen {
     /// Nothing.
@@ -111,7 +111,7 @@ pub enum Seen {
     ControlByte(Quote),
 }
 
-/// What is wanted at a place.
+/// The form that is wanted at a place.
 #[derive(Clone, Copy, Debug, Drop, PartialEq, Eq)]
 pub enum Wanted {
     /// An object.

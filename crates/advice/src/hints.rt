@@ -62,7 +62,7 @@ fn kind_hint(league: &Value, field: Field) -> Hint
     }
 }
 
-/// What is wrong within a member, if that is an array.
+/// The fault within a member, if that is an array.
 fn part_hint(league: &Value, field: Field) -> Option<Hint>
     ensures { result ≡ part_hint field (view league.now) }
 {
@@ -96,7 +96,7 @@ fn roster_in(league: &Value) -> Option<Roster<'_>>
     Some(Roster::new(teams, names_in(league)))
 }
 
-/// Those that they can list by name: in the third format.
+/// The rules that they can list by name: in the third format.
 fn names_in(league: &Value) -> &[Value]
     ensures { names_of (items_view result.now) ≡ names_in (view league.now) }
 {

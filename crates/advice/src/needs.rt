@@ -1,4 +1,4 @@
-//! What the classes of rules ask of a rule's members.
+//! The needs of the classes of rules, of a rule's members.
 
 ghost use Rattle.std.specs.Prelude.{◌≡◌, codes, is_some};
 ghost use Rattle.serde_json.specs.Find.{get};
@@ -14,7 +14,7 @@ use crate::rosters::Roster;
 use league::limits::{MAX_COUNT, MAX_WEIGHT, round_count};
 use serde_json::Value;
 
-/// What a class asks of a member.
+/// The need of a class, of a member.
 #[derive(Clone, Copy)]
 pub(crate) enum Need {
     /// `kind` is `"hard"` or `"soft"`.
@@ -62,7 +62,7 @@ impl Need {
         }
     }
 
-    /// What the member has to be, of a rule in a league of these teams.
+    /// The form that the member has to have, of a rule in a league of these teams.
     pub(crate) fn wanted(self, roster: &Roster<'_>) -> Wanted
         ensures { result ≡ wanted_of roster.now self }
     {

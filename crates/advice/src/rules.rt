@@ -125,7 +125,7 @@ fn unmet(rule: &Value, roster: &Roster<'_>) -> Option<Need>
     }
 }
 
-/// What a class asks for, besides kind and weight.
+/// The needs of a class, besides kind and weight.
 fn needs_of(class: &str) -> Option<&'static [Need]>
     ensures { option_map (λ needs. needs.now) result ≡ needs_of class.now }
 {

@@ -1,4 +1,4 @@
-//! What stands in a text for a member.
+//! The forms that stand in a text for a member.
 
 ghost use Rattle.std.specs.Prelude.{◌≡◌, option_and_then, option_map};
 ghost use Rattle.serde_json.specs.Find.{get};
@@ -12,14 +12,14 @@ use json_forms::Form;
 use league::limits::{MAX_ROUND_TEXT, MAX_SHORT_NAME};
 use serde_json::Value;
 
-/// What an object has for a member of this name, where this is wanted.
+/// The form that an object has for a member of this name, where this is wanted.
 pub(crate) fn seen_of(object: &Value, name: &str, wanted: Wanted) -> Seen
     ensures { result ≡ seen_of name.now wanted (view object.now) }
 {
     seen_in(object.get(name), wanted)
 }
 
-/// What there is, where this is wanted.
+/// The form that there is, where this is wanted.
 pub(crate) fn seen_in(found: Option<&Value>, wanted: Wanted) -> Seen
     ensures { result ≡ seen_in wanted (option_map (λ value. view value.now) found.entry) }
 {
@@ -94,7 +94,7 @@ fn first_no_text(items: &[Value], most: usize) -> Option<&Value>
     None
 }
 
-/// What a rule has for a member of this name, where this is wanted. Lists of teams are looked at too.
+/// The form that a rule has for a member of this name, where this is wanted. Lists of teams are looked at too.
 pub(crate) fn rule_seen(rule: &Value, name: &str, wanted: Wanted, roster: &Roster<'_>) -> Seen
     ensures { result ≡ rule_seen roster.now name.now wanted (view rule.now) }
 {

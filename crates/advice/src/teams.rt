@@ -31,7 +31,7 @@ fn team_hint(teams: &Value, team: usize) -> Option<Hint>
     Some(Hint::Value(Place::Team(team + 1), wrong, Wanted::Name))
 }
 
-/// What is seen in place of a name.
+/// The form that is seen in place of a name.
 fn wrong_name(value: &Value) -> Option<Seen>
     ensures { result ≡ wrong_name (view value.now) }
 {

@@ -17,19 +17,19 @@ use search::{Draws, draw_among};
 /// The most steps of a block.
 pub(crate) const BLOCK: u64 = 1000;
 
-/// What the steps of a block go by.
+/// The conditions of a block's steps.
 #[derive(Clone, Copy)]
 pub(crate) struct Block<'a> {
     pub(crate) steps: u32,
-    /// What each move is drawn among.
+    /// The kinds and rounds among which each move is drawn.
     pub(crate) draws: Draws<'a>,
-    /// What a breach of a hard limit adds to the score.
+    /// The weight of a breach of a hard limit in the score.
     pub(crate) weight: u32,
     /// In 1024ths of a distance.
     pub(crate) temperature: u64,
 }
 
-/// What the steps of a block came to.
+/// The tally of a block's steps.
 #[derive(Clone, Copy)]
 pub(crate) struct Tally {
     pub(crate) steps: u32,

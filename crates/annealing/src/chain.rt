@@ -8,14 +8,14 @@ use policy::{Leg, LegEnd, WeightCourse};
 #[derive(Drop)]
 pub struct Chain {
     pub board: Board,
-    /// What a breach of a hard limit weighs, in millionths of the unit.
+    /// The weight of a breach of a hard limit, in millionths of the unit.
     pub weight: u64,
 }
 
-/// What the legs of a wave go by.
+/// The conditions of a wave's legs.
 #[derive(Clone, Copy)]
 pub struct Conditions<'a> {
-    /// What temperatures and weights are measured in.
+    /// The unit of temperatures and weights.
     pub unit: Unit,
     /// The rounds that a move may name.
     pub rounds: &'a [u8],

@@ -28,7 +28,7 @@ use std::sync::Wait;
 struct Going {
     boards: Boards,
     generator: Lcg64Xsh32,
-    /// What a breach of a hard limit weighs, in millionths of the unit.
+    /// The weight of a breach of a hard limit, in millionths of the unit.
     weight: u64,
     /// How many steps were taken, and how many moves were made.
     steps: u64,
@@ -113,7 +113,7 @@ impl Going {
         Ok(tally)
     }
 
-    /// What the gate is told after a block.
+    /// The progress that is reported to the gate after a block.
     fn progress(&self, tally: Tally) -> Progress
         ensures { result ≡ progress_of self.now tally }
     {

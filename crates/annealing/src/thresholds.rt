@@ -4,7 +4,7 @@
 ghost use Rattle.std.specs.Prelude.{◌≡◌, ◌^◌, ◌<◌};
 ghost use Rattle.annealing.specs.within.Heats.{threshold_of};
 
-/// What -ln takes in 65536ths in the middle of each 256th from 0 to 1: round(65536 * -ln((i + 1/2) / 256)).
+/// The values of -ln in 65536ths in the middle of each 256th from 0 to 1: round(65536 * -ln((i + 1/2) / 256)).
 static QUANTILES: [u32; 256] = [
     408835, 336836, 303359, 281308, 264838, 251686, 240738, 231360, 223157, 215868, 209309, 203347,
     197883, 192839, 188156, 183785, 179688, 175832, 172190, 168740, 165462, 162341, 159361, 156512,

@@ -1,4 +1,4 @@
-//! What temperatures and weights are measured in.
+//! The unit of temperatures and weights.
 
 ghost use Rattle.std.specs.Prelude.{◌≤◌};
 

@@ -23,7 +23,7 @@ pub struct Beginning<'a> {
     pub rounds: SlotSet,
     /// Games of the start that are kept, by their teams, the home team first.
     pub games: &'a [(u8, u8)],
-    /// What a game costs that isn't in its round of the start, up to 1,000,000. At 0 it is what the league says.
+    /// The cost of a game that isn't in its round of the start, up to 1,000,000. At 0 it is what the league says.
     pub near: u32,
 }
 

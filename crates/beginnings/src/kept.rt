@@ -45,7 +45,7 @@ pub(crate) fn keep_rounds(league: &mut League, rounds: SlotSet)
     }
 }
 
-/// Those of them in which the team is at home.
+/// The kept rounds in which the team is at home.
 fn keep_home_games(league: &mut League, rounds: SlotSet, home: u8)
     requires { home < teams league.old }
     ensures { league.new ≡ keeping_at rounds home (teams league.old) league.old }

@@ -1,4 +1,4 @@
-//! What is wrong with a text at which boards can't begin.
+//! The faults of a text at which boards can't begin.
 
 ghost use Rattle.std.specs.Prelude.{◌≡◌, Err, OnOk, OnErr};
 ghost use Rattle.std.specs.Io.KnownBytes.{Appends};

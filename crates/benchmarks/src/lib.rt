@@ -1,6 +1,6 @@
 //! How fast moves, tries, a worker's steps and turns are, on the starts of leagues in a circle.
 //!
-//! What became of them goes to standard output, how fast they were to standard error.
+//! Their results go to standard output, how fast they were to standard error.
 #![tactic(auto)]
 
 mod kind;

@@ -4,7 +4,7 @@ use crate::kind::Kind;
 use fixtures::Schedule;
 use moves::{Move, apply, check};
 
-/// What became of the moves.
+/// The results of the moves.
 #[derive(Clone, Copy, Debug, Default, PartialEq, Eq)]
 pub struct Count {
     /// Made, and taken back.

@@ -1,4 +1,4 @@
-//! What was measured, as lines: what it came to on standard output, and how fast it was on standard error.
+//! Measurements as lines: what they came to on standard output, and how fast it was on standard error.
 
 ghost use Rattle.std.specs.Prelude.{◌≡◌, ◌*◌, ◌^◌, ◌<◌, [], IfOk};
 
@@ -42,7 +42,7 @@ fn report_kind<R: Runtime + AllocGlobal>(
     eprintln!(rt; "{teams} teams {kind}: {each} ns each")
 }
 
-/// What became of the moves, and the nanoseconds of each.
+/// The results of the moves, and the nanoseconds of each.
 fn time_moves<R: Runtime + AllocGlobal>(
     rt: &R,
     teams: u8,
@@ -87,7 +87,7 @@ fn report_tried<R: Runtime + AllocGlobal>(
     eprintln!(rt; "{teams} teams {tried} tries, slack {slack}: {each} ns each")
 }
 
-/// What became of the tries, and the nanoseconds of each.
+/// The results of the tries, and the nanoseconds of each.
 fn time_tries<R: Runtime + AllocGlobal>(
     rt: &R,
     teams: u8,
@@ -118,7 +118,7 @@ pub fn report_steps<R: Runtime + AllocGlobal + Wait>(
     Ok(())
 }
 
-/// What a worker reports, and the nanoseconds of a step.
+/// The report of a worker, and the nanoseconds of a step.
 fn report_worker<R: Runtime + AllocGlobal>(
     rt: &R,
     teams: u8,
@@ -131,7 +131,7 @@ fn report_worker<R: Runtime + AllocGlobal>(
     eprintln!(rt; "{teams} teams {board}, slack {slack}: {each} ns each")
 }
 
-/// What a worker with a board of its own reports, and the nanoseconds of a step.
+/// The report of a worker with a board of its own, and the nanoseconds of a step.
 fn time_own_steps<R: Runtime + AllocGlobal + Wait>(
     rt: &R,
     teams: u8,
@@ -145,7 +145,7 @@ fn time_own_steps<R: Runtime + AllocGlobal + Wait>(
     Ok((report, each))
 }
 
-/// What a worker with the only seat reports, and the nanoseconds of a step.
+/// The report of a worker with the only seat, and the nanoseconds of a step.
 fn time_seat_steps<R: Runtime + AllocGlobal + Wait>(
     rt: &R,
     teams: u8,
@@ -226,7 +226,7 @@ fn league_of(alloc: Global, teams: u8) -> io::Result<League> {
     circular(alloc, teams).map_err(|_| io::Error::from(io::ErrorKind::OutOfMemory))
 }
 
-/// That league and its start.
+/// The league and its start.
 fn league_and_start(alloc: Global, teams: u8) -> io::Result<(League, Schedule)> {
     let league = league_of(alloc, teams)?;
     let start = league.start(alloc)?;

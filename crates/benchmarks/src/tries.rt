@@ -62,7 +62,7 @@ impl fmt::Display for Tried {
     }
 }
 
-/// What became of the tries.
+/// The results of the tries.
 #[derive(Clone, Copy, Debug, Default, PartialEq, Eq)]
 pub struct Tries {
     pub kept: u32,
@@ -84,7 +84,7 @@ struct Trial {
     slack: u64,
 }
 
-/// What became of one try.
+/// The result of one try.
 enum TryEnd {
     Kept,
     Withdrawn,

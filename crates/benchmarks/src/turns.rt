@@ -13,7 +13,7 @@ use std::fmt::Write;
 use std::sync::Wait;
 use std::thread::{Threads, join};
 
-/// What the threads do at their turns.
+/// The kinds of turns that threads take.
 #[derive(Clone, Copy, Debug, PartialEq, Eq)]
 pub enum Turn {
     /// Each is a look.
@@ -35,7 +35,7 @@ impl fmt::Display for Turn {
     }
 }
 
-/// What so many threads do, each of them: so many turns of a kind.
+/// The work of so many threads: so many turns of a kind each.
 #[derive(Clone, Copy, Debug, PartialEq, Eq)]
 pub struct Work {
     pub threads: u32,

@@ -1,4 +1,4 @@
-//! What a breach is.
+//! Breaches of rules.
 
 /// Which term of a deviation it is, and so where a rule is broken.
 #[derive(Clone, Copy, Debug, Drop, PartialEq, Eq)]

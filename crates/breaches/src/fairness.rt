@@ -1,4 +1,4 @@
-//! What pairs of teams have: the rounds between their two games, and how far their numbers of home games are apart.
+//! Numbers of pairs of teams: the rounds between their two games, and how far their numbers of home games are apart.
 
 ghost use Rattle.std.specs.Prelude.{◌≡◌, ◌<◌, ◌≤◌, if◌then◌else◌};
 ghost use Rattle.league.specs.Limits.{max_rounds};

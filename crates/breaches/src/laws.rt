@@ -4,7 +4,7 @@ ghost use Rattle.league.specs.declared.rule.RuleBody.{RuleBody};
 ghost use Rattle.fixtures.specs.Games.{Games};
 ghost use Rattle.breaches.specs.Breaches.{AddsUp};
 
-/// What the breaches of a rule are by, added up, is its deviation.
+/// The amounts of a rule's breaches add up to its deviation.
 #[tactic(auto, using(crate::proofs::AddingUp::adds_up))]
 pub fn breaches_add_up()
     ensures { (g : Games) (body : RuleBody) → AddsUp g body }

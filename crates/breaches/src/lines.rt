@@ -127,7 +127,7 @@ fn write_by<W: Sink>(out: &mut BufferedSink<'_, W>, by: u32, place: Place) -> Re
     )
 }
 
-/// What stands before the games or rounds that make a breach.
+/// The word before the games or rounds that make a breach.
 fn colon(place: Place) -> &'static [u8]
     ensures { result.now ≡ colon_text place }
 {

@@ -39,7 +39,7 @@ pub(crate) fn column_count(schedule: &Schedule, body: &RuleBody, row: u8) -> u8
     }
 }
 
-/// What the term of the row and the column is.
+/// The term of the row and the column.
 pub(crate) fn place_at(schedule: &Schedule, body: &RuleBody, row: u8, column: u8) -> Place
     requires body { IsBodyFor schedule.now.teams body.now }
     requires row { row < row_count schedule.now body.now }

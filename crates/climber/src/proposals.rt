@@ -1,4 +1,4 @@
-//! What a climber proposes.
+//! The proposals of a climber.
 
 ghost use Rattle.std.specs.Prelude.{◌<◌, ◌≤◌};
 ghost use Rattle.league.specs.Limits.{max_teams};

@@ -1,4 +1,4 @@
-//! What the words keep of the schedule at which boards begin, and what a moved game costs.
+//! The rounds and games that the words keep of the schedule at which boards begin, and the cost of a moved game.
 
 ghost use Rattle.std.specs.Prelude.{◌≡◌, ◌+◌, ◌≤◌, [], map, IfOk, IfSome, option_map};
 ghost use Rattle.clap.specs.Words.{found_of, rows_of};
@@ -16,14 +16,14 @@ use texts::{byte_index, number, numbers_at_dash, rest_after};
 /// The most that a moved game costs.
 pub(crate) const MAX_NEAR: u64 = 1_000_000;
 
-/// What is kept of the schedule at which boards begin, and what a moved game costs.
+/// The rounds and games that are kept of the schedule at which boards begin, and the cost of a moved game.
 #[derive(Debug, Drop)]
 pub struct BeginningWords {
     /// The rounds whose games are kept, from 0.
     pub rounds: SlotSet,
     /// Games that are kept, the home team first, teams from 0.
     pub games: Vec<(u8, u8)>,
-    /// What a game costs that isn't in its round of the start.
+    /// The cost of a game that isn't in its round of the start.
     pub near: u32,
 }
 
@@ -142,7 +142,7 @@ fn game_of_numbers(home: Option<u64>, away: Option<u64>) -> Option<(u8, u8)>
     }
 }
 
-/// What a moved game costs, unless its text is wrong.
+/// The cost of a moved game, unless its text is wrong.
 pub(crate) fn near_in(values: &ArgMatches) -> Option<u32>
     ensures value { result ≡ near_in (rows_of (found_of values.now)) }
     ensures most { IfSome result (λ near. near ≤ max_near) }

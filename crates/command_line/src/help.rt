@@ -1,4 +1,4 @@
-//! What `--help` and `--version` say.
+//! The texts of `--help` and `--version`.
 
 /// The program's version, which `--version` tells.
 pub(crate) const VERSION: &str = "0.1.0";

@@ -31,7 +31,7 @@ use std::alloc::{AllocError, Global};
 /// How many steps one unit of `--effort` stands for.
 const STEPS_OF_EFFORT: u64 = 1_000_000;
 
-/// What the program is asked to do.
+/// The job that the program is asked to do.
 #[derive(Clone, Copy, Debug, PartialEq, Eq)]
 pub enum Job {
     /// Write the sheet of the start of the league.
@@ -60,7 +60,7 @@ pub enum Job {
         choice: Option<Symmetry>,
         /// How many games in a row it is to allow at home, or away.
         at_most: Option<u64>,
-        /// What each breach of a hard limit is to cost.
+        /// The cost of each breach of a hard limit.
         hard_weight: Option<u64>,
     },
 }

@@ -81,7 +81,7 @@ fn can_be_called(title: Option<&str>) -> bool
     }
 }
 
-/// What the league is to be called.
+/// The name that the league is to have.
 pub(crate) fn title_in(alloc: Global, values: &ArgMatches) -> Result<Option<String>, AllocError>
     ensures { IfOk result (λ title. option_map string_bytes title ≡ title_in (rows_of (found_of values.now))) }
 {

@@ -125,7 +125,7 @@ pub(crate) const HARD_WEIGHT: NumberArg = NumberArg {
     help: HARD_WEIGHT_HELP,
 };
 
-/// What a moved game costs. clap takes any text for it.
+/// The cost of a moved game. clap takes any text for it.
 pub(crate) const NEAR_NUMBER: NumberArg = NumberArg {
     name: "near",
     value_name: "W",

@@ -1,4 +1,4 @@
-//! What the words ask for: a job, files, a league's name, and what is kept of a start.
+//! The request that the words make: a job, files, a league's name, and what is kept of a start.
 
 ghost use Rattle.std.specs.Prelude.{◌≡◌, ◌⊎◌, ◌&&◌, None, Some, IfErr, IfOk, IsTrue, false, is_some, option_and_then, option_map, string_bytes};
 ghost use Rattle.clap.specs.Words.{found_of, rows_of, subcommand_rows_of};
@@ -17,7 +17,7 @@ use crate::refusals::Refusal;
 use clap::ArgMatches;
 use std::alloc::Global;
 
-/// What the program is asked to do, with which files, what a league that is made is to be called, and where boards begin.
+/// The job that the program is asked to do, with which files, what a league that is made is to be called, and where boards begin.
 #[derive(Debug, Drop)]
 pub struct Request {
     pub job: Job,
@@ -26,7 +26,7 @@ pub struct Request {
     pub beginning: BeginningWords,
 }
 
-/// What a command and its values ask for, or why they ask for nothing.
+/// Reads what a command and its values ask for, or why they ask for nothing.
 pub(crate) fn request_of(alloc: Global, matches: &ArgMatches) -> Result<Request, Refusal>
     requires { NamesACommand (subcommand_rows_of matches.now) }
     ensures job { IfOk result (λ request. option_and_then job_of_command (subcommand_rows_of matches.now) ≡ Some request.job) }

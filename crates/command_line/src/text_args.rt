@@ -39,7 +39,7 @@ pub(crate) const SYMMETRIC: TextArg = TextArg {
     help: SYMMETRIC_HELP,
 };
 
-/// What a league that is made is called.
+/// The name of a league that is made.
 pub(crate) const NAME: TextArg = TextArg {
     name: "name",
     value_name: "TEXT",

@@ -147,14 +147,14 @@ fn to_long(word: &str) -> Option<(&str, Option<&str>)>
     Some(split_value(rest))
 }
 
-/// What follows a first hyphen.
+/// The text after a first hyphen.
 fn strip_dash(word: &str) -> Option<&str>
     ensures { option_map (λ s. s.now) result ≡ strip_byte 45 word.now }
 {
     word.strip_prefix('-')
 }
 
-/// What stands before the first `=`, and what stands after it if there is one.
+/// The text before the first `=`, and the text after it if there is one.
 fn split_value(text: &str) -> (&str, Option<&str>)
     ensures { (result.0.now, option_map (λ s. s.now) result.1) ≡ name_and_value text.now }
 {

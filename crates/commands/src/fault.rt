@@ -172,7 +172,7 @@ impl From<AllocError> for ProgramFault {
     }
 }
 
-/// What a command comes to whose text was to be written: this value, unless a write failed.
+/// The result of a command whose text was to be written: this value, unless a write failed.
 pub(crate) fn after_writing<T: Copy>(
     outcome: Result<(), WriteFault>,
     value: T,

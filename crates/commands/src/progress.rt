@@ -146,7 +146,7 @@ impl Reached {
     }
 }
 
-/// What stands on the terminal.
+/// The line on the terminal.
 #[derive(Drop)]
 struct Line<W> {
     terminal: W,
@@ -159,9 +159,9 @@ struct Line<W> {
     told: Option<Instant>,
     /// After how many steps a worker tells.
     pause: u32,
-    /// Whether it was ever written.
+    /// Whether the line was ever written.
     written: bool,
-    /// Whether it was taken away since it was last written.
+    /// Whether the line was taken away since it was last written.
     taken: bool,
     /// Whether a worker has begun since then.
     again: bool,
@@ -241,7 +241,7 @@ impl<W: Sink> Line<W> {
         }
     }
 
-    /// What the line shows. If there is a time for it, all steps are those that come to be if they go on as they did.
+    /// The text of the line. If there is a time for it, all steps are those that come to be if they go on as they did.
     fn advance(&self, reached: Reached, now: Option<Instant>) -> Advance
         ensures { result ≡ advance_of reached self.now.extent self.now.since now }
     {

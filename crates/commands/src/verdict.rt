@@ -1,9 +1,9 @@
-//! What a command finds of a schedule.
+//! The verdict of a command on a schedule.
 
 ghost use Rattle.std.specs.Prelude.{◌≡◌};
 ghost use Rattle.commands.specs.Verdict.{verdict_of};
 
-/// What a report, or an improvement of a league, comes to.
+/// The verdict of a report, or of an improvement of a league.
 #[derive(Clone, Copy, Debug, PartialEq, Eq)]
 pub enum Verdict {
     /// The schedule is a double round robin that breaks no hard limit of the league. That of an improvement is the best one.

@@ -1,4 +1,4 @@
-//! What is tried on a schedule.
+//! An attempt on a schedule.
 
 use crate::cost::Cost;
 use fixtures::Exchange;
@@ -8,9 +8,9 @@ use fixtures::Exchange;
 pub struct Attempt<'a> {
     /// The exchange.
     pub exchange: &'a Exchange,
-    /// What the schedule costs before it.
+    /// The cost of the schedule before it.
     pub known: Cost,
-    /// What each breach of a hard limit adds to the score by which the exchange is judged: at least 1.
+    /// The weight of each breach of a hard limit in the score by which the exchange is judged: at least 1.
     pub weight: u32,
     /// The greatest score after it with which it is made.
     pub most: u64,

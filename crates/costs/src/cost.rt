@@ -1,8 +1,8 @@
-//! What a schedule costs.
+//! The cost of a schedule.
 
 use league::League;
 
-/// What a schedule costs in a league. It is feasible if `hard` is 0.
+/// The cost of a schedule in a league. It is feasible if `hard` is 0.
 #[derive(Clone, Copy, Debug, PartialEq, Eq)]
 pub struct Cost {
     /// How far all teams travel, in the unit of the league's distances.
@@ -18,7 +18,7 @@ impl Cost {
     ghost use Rattle.std.specs.Prelude.{◌≡◌, ◌^◌, ◌<◌, ◌==◌};
     ghost use Rattle.costs.specs.Costs.{score_by, score_of, total_of};
 
-    /// What is compared if hard limits may be broken: travel and soft, and the league's hard weight for each
+    /// The number to compare if hard limits may be broken: travel and soft, and the league's hard weight for each
     /// breach of a hard limit.
     pub fn score(self, league: &League) -> u64
         requires { score_of league.now self < 2 ^ 64 }
@@ -27,7 +27,7 @@ impl Cost {
         self.score_by(league.hard_weight())
     }
 
-    /// The same with this weight for each breach of a hard limit.
+    /// The score with this weight for each breach of a hard limit.
     pub fn score_by(self, weight: u32) -> u64
         requires { score_by weight self < 2 ^ 64 }
         ensures { result ≡ score_by weight self }
@@ -35,7 +35,7 @@ impl Cost {
         self.total() + u64::from(weight) * self.hard
     }
 
-    /// What is compared among feasible schedules: travel and soft.
+    /// The number to compare among feasible schedules: travel and soft.
     pub fn total(self) -> u64
         requires { total_of self < 2 ^ 64 }
         ensures { result ≡ total_of self }

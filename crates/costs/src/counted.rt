@@ -1,4 +1,4 @@
-//! What an exchange can change of a cost that has to be counted, before it and after it: of the rules, and in a phased league of
+//! The part of a cost that has to be counted before an exchange and after it: of the rules, and in a phased league of
 //! the pairs with both games in one half.
 
 ghost use Rattle.std.specs.Prelude.{◌≡◌, ◌*◌, ◌<◌, ◌≤◌, true, length, IfSome, MatchOption};
@@ -49,7 +49,7 @@ fn rest_of(
     }
 }
 
-/// That rest, unless it or the last rule of class FA2 takes the score after the exchange over the greatest that the attempt allows. For
+/// Gives that rest, unless it or the last rule of class FA2 takes the score after the exchange over the greatest that the attempt allows. For
 /// that nothing is made.
 pub(crate) fn rest_within(
     schedule: &Schedule,
@@ -123,7 +123,7 @@ pub(crate) fn whole_within(
     Some(cost)
 }
 
-/// Those of the pairs that the exchange can change, if the league is phased.
+/// The breaches of the pairs that the exchange can change, if the league is phased.
 fn phases_part(schedule: &Schedule, league: &League, main: Touched) -> u64
     ensures value { result ≡ where_phased league.now (unphased_part schedule.now (has main.teams)) }
     ensures most { result ≤ max_teams * max_teams }

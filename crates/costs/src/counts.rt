@@ -1,4 +1,4 @@
-//! What is kept of the rules while exchanges are judged on one schedule after another.
+//! The deviations that are kept while exchanges are judged on one schedule after another.
 
 use crate::scope::Scope;
 use fixtures::Schedule;

@@ -1,4 +1,4 @@
-//! What serves to judge exchanges on the schedules of one league.
+//! The evaluator, by which exchanges are judged on the schedules of one league.
 
 ghost use Rattle.std.specs.Prelude.{◌≡◌, length, Some, None};
 ghost use Rattle.costs.specs.Evaluators.{is_fairness, last_fairness, IsEvaluatorOf};
@@ -8,7 +8,7 @@ use league::{League, Rule, RuleBody};
 use rule_index::RuleIndex;
 use std::marker::Model;
 
-/// What serves to judge exchanges on a schedule of a league, and to make them on it one after another: which of the rules a change can
+/// Serves to judge exchanges on a schedule of a league, and to make them on it one after another: it has which of the rules a change can
 /// alter, and what was counted of them on that schedule. Whatever was counted, an exchange is judged the same. If the schedule is changed
 /// in another way, what was counted has to be forgotten ([`forget`](Evaluator::forget)).
 #[derive(Drop)]

@@ -1,4 +1,4 @@
-//! What the last rule of class FA2 adds to the score after an exchange, told before it is made.
+//! The penalty of the last rule of class FA2 after an exchange, predicted before it is made.
 
 ghost use Rattle.std.specs.Prelude.{◌≡◌, ◌≤◌, nat_le};
 ghost use Rattle.league.specs.League.{teams};
@@ -49,7 +49,7 @@ pub(crate) fn leaves_room(
     )
 }
 
-/// What a deviation of 1 from a rule of this weight adds to the score.
+/// The penalty in the score for a deviation of 1 from a rule of this weight.
 fn score_weight(hard_weight: u32, weight: Weight) -> u64
     ensures { result ≡ score_weight hard_weight weight }
 {

@@ -1,4 +1,4 @@
-//! What a double round robin costs in a league, and what an exchange would make of that: tried on a schedule of known cost,
+//! The cost of a double round robin in a league, and the cost that an exchange would make of it: tried on a schedule of known cost,
 //! and made if the score after it is within a limit.
 //!
 //! Teams and rounds are numbered from 0. No call takes memory.

@@ -1,4 +1,4 @@
-//! What breaches of hard and of soft limits add to a cost.
+//! The penalties for breaches of hard and of soft limits.
 
 ghost use Rattle.std.specs.Prelude.{◌≡◌, ◌*◌, ◌≤◌};
 ghost use Rattle.league.specs.Limits.{deviation_limit, max_weight};
@@ -7,7 +7,7 @@ ghost use Rattle.costs.specs.Costs.{hard_penalty, soft_penalty};
 
 use league::Weight;
 
-/// What breaches of limits add to a cost.
+/// The penalties for breaches of limits.
 #[derive(Clone, Copy)]
 pub(crate) struct Penalties {
     /// How often hard limits are broken.
@@ -17,7 +17,7 @@ pub(crate) struct Penalties {
 }
 
 impl Penalties {
-    /// What a rule of this weight adds.
+    /// The penalties of a rule of this weight.
     pub(crate) fn of_rule(weight: Weight, deviation: u64) -> Penalties
         requires weight { IsWeight weight }
         requires deviation { deviation ≤ deviation_limit }

@@ -1,4 +1,4 @@
-//! What the rules of a league add to a schedule's cost.
+//! The penalties of a league's rules in a schedule's cost.
 
 ghost use Rattle.std.specs.Prelude.{◌≡◌, ◌*◌, ◌≤◌, true};
 ghost use Rattle.league.specs.League.{teams};
@@ -14,7 +14,7 @@ use fixtures::Schedule;
 use league::League;
 use robinx::deviation;
 
-/// What the rules add to the cost of a schedule.
+/// Adds up the penalties of the rules in a schedule.
 #[tactic(auto, using(league::proofs::ForCallers::sums), unfolding(crate::specs::Costs::sum_over_rules))]
 pub(crate) fn costs_of_rules(schedule: &Schedule, league: &League) -> Penalties
     requires { teams league.now ≡ schedule.now.teams }
@@ -33,7 +33,7 @@ pub(crate) fn costs_of_rules(schedule: &Schedule, league: &League) -> Penalties
     costs
 }
 
-/// What of that the exchange of the scope can alter. No part is counted of a rule that is known not to be broken. What each rule's deviation is without
+/// The part of these that the exchange of the scope can alter. None is counted of a rule that is known not to be broken. Each rule's deviation without
 /// the part goes into the counts.
 pub(crate) fn parts_of_rules(
     schedule: &Schedule,

@@ -1,4 +1,4 @@
-//! What an exchange can change of a cost that has to be counted.
+//! The part of a cost that has to be counted for an exchange, since the exchange can change it.
 
 ghost use Rattle.std.specs.Prelude.{◌≡◌};
 ghost use Rattle.league.specs.League.{LeagueData};

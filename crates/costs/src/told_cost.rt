@@ -1,4 +1,4 @@
-//! What an exchange changes in a cost, told on the schedule before it.
+//! The change of a cost by an exchange, predicted on the schedule before it.
 
 ghost use Rattle.std.specs.Prelude.{◌≡◌, ◌+◌, ◌*◌, ◌<◌, ◌≤◌, MatchOption};
 ghost use Rattle.league.specs.League.{teams};
@@ -72,14 +72,14 @@ fn told_repeats(schedule: &Schedule, league: &League, exchange: &Exchange) -> Br
     repeats_of(schedule, exchange)
 }
 
-/// What the games that an exchange alters cost for another round than at the start, before it and after it.
+/// The price of the games that an exchange alters for another round than at the start, before it and after it.
 #[derive(Clone, Copy)]
 struct Leaving {
     before: u64,
     after: u64,
 }
 
-/// That, with nothing counted if it has no price.
+/// Counts that price, and nothing if there is none.
 fn leaving_of(schedule: &Schedule, league: &League, exchange: &Exchange) -> Leaving
     requires same_size { teams league.now ≡ schedule.now.teams }
     requires can_be_made { IsExchange schedule.now exchange.now }

@@ -1,4 +1,4 @@
-//! What a schedule costs, counted over all its games.
+//! The cost of a schedule, counted over all its games.
 
 ghost use Rattle.std.specs.Prelude.{◌≡◌, ◌*◌, ◌<◌, ◌≤◌};
 ghost use Rattle.league.specs.League.{teams, IsLeague};
@@ -12,7 +12,7 @@ use fixtures::Schedule;
 use league::League;
 use tours::{moved_games, repeats, runs_over, travel, unphased};
 
-/// What a schedule costs in a league, counted over all its games. Takes no memory.
+/// Counts the cost of a schedule in a league over all its games. Takes no memory.
 #[tactic(auto, unfolding(crate::specs::Costs::cost_of))]
 pub fn cost_of(schedule: &Schedule, league: &League) -> Cost
     requires { teams league.now ≡ schedule.now.teams }
@@ -48,7 +48,7 @@ pub fn counted_repeats(schedule: &Schedule, league: &League) -> u64
     }
 }
 
-/// What the games cost that have another round than at the start. None is counted if that has no price.
+/// The price of the games that have another round than at the start. None is counted if that has no price.
 fn near_cost(schedule: &Schedule, league: &League) -> u64
     requires { teams league.now ≡ schedule.now.teams }
     ensures value { result ≡ near_cost league.now schedule.now }

@@ -6,7 +6,7 @@ ghost use Rattle.distance_tables.specs.declared.fault.DistanceFault.TheVariants.
 use std::alloc::{AllocError, AllocFailed};
 use thiserror::Error;
 
-/// What is wrong with a cell.
+/// The fault of a cell.
 #[derive(Clone, Copy, Debug, PartialEq, Eq, Error)]
 pub enum CellFault {
     /// The row ends before it.

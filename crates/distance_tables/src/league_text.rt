@@ -13,14 +13,14 @@ use league::limits::MAX_TITLE;
 use serde_json::Value;
 use std::alloc::{AllocError, Global};
 
-/// What a league says beside its teams and distances, if anything is to be said.
+/// The settings of a league beside its teams and distances, if anything is to be said.
 #[derive(Clone, Copy, Debug, Default, PartialEq, Eq)]
 pub struct Terms<'a> {
-    /// What the league is called, as [`is_title`] has it.
+    /// The name of the league, as [`is_title`] has it.
     pub title: Option<&'a str>,
     /// How many rounds in a row a team may play at home, or away: 1 to 78.
     pub at_most: Option<u64>,
-    /// What each breach of a hard limit adds to a score: 1 to 1000000.
+    /// The weight of each breach of a hard limit in a score: 1 to 1000000.
     pub hard_weight: Option<u64>,
 }
 

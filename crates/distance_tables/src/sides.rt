@@ -8,7 +8,7 @@ use crate::fault::Asymmetry;
 use crate::measures::Measure;
 use std::alloc::{AllocError, Global};
 
-/// What is taken for a pair that is further apart one way.
+/// The choice for a pair that is further apart one way.
 #[derive(Clone, Copy, Debug, PartialEq, Eq)]
 pub enum Symmetry {
     /// The mean, half up.
@@ -64,7 +64,7 @@ pub(crate) fn first_asymmetry(teams: u8, table: &[Vec<Measure>]) -> Option<Asymm
     None
 }
 
-/// What stands for the distances of both ways.
+/// The number that stands for the distances of both ways.
 fn both_ways(choice: Option<Symmetry>, there: u32, back: u32) -> u64
     ensures { result ≡ both_ways choice there back }
 {

@@ -1,4 +1,4 @@
-//! What is asked of a board.
+//! The questions to a board.
 
 use crate::change::Change;
 use fixtures::Game;
@@ -17,7 +17,7 @@ pub struct Proposal {
     pub slack: u64,
 }
 
-/// What is asked of a board, and for which version.
+/// A question to a board, and for which version.
 #[derive(Clone, Copy, Debug, PartialEq, Eq)]
 pub enum Ask {
     Shift(Proposal),

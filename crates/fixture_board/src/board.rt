@@ -39,7 +39,7 @@ pub enum BoardFault {
 /// Why there is no board, and the league that was meant for it.
 #[derive(Debug, Drop)]
 pub struct NewRefused {
-    /// What stands in the way.
+    /// The fault.
     pub why: BoardFault,
     /// The league as it was given.
     pub league: League,
@@ -115,7 +115,7 @@ impl Board {
         &self.league
     }
 
-    /// What the schedule costs.
+    /// The cost of the schedule.
     pub fn cost(&self) -> Cost
         ensures value { result ≡ cost_at self.now.league self.now.history }
         ensures legal { IsLegal self.now.league self.now.room self.now.history }

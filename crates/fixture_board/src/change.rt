@@ -1,4 +1,4 @@
-//! What stands in a board's history.
+//! The entries of a board's history.
 
 use fixtures::Game;
 use moves::Move;
@@ -21,6 +21,6 @@ pub enum Change {
 pub struct Entry {
     /// The number of the caller who made it.
     pub caller: u32,
-    /// What was changed.
+    /// The change.
     pub change: Change,
 }

@@ -8,12 +8,12 @@ use crate::board::Board;
 use costs::Cost;
 use fixtures::Schedule;
 
-/// What a look shows, beside the schedule.
+/// The version and the cost that a look shows, beside the schedule.
 #[derive(Clone, Copy, Debug, PartialEq, Eq)]
 pub struct Seen {
     /// How many entries the history has.
     pub version: u64,
-    /// What the schedule costs.
+    /// The cost of the schedule.
     pub cost: Cost,
 }
 

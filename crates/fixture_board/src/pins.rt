@@ -18,7 +18,7 @@ use league::{League, PairSet};
 use std::alloc::{AllocError, Global};
 use std::marker::Model;
 
-/// What the table has of a game that isn't pinned.
+/// The mark of a game that isn't pinned.
 const FREE: u8 = 255;
 
 const MOST_TEAMS: usize = MAX_TEAMS as usize;
@@ -62,7 +62,7 @@ impl Pins {
         })
     }
 
-    /// The same with memory of its own.
+    /// Copies the table into memory of its own.
     pub(crate) fn duplicate(&self, alloc: Global) -> Result<Pins, AllocError>
         ensures { IfOk result (λ p. p ≡ self.now) }
     {

@@ -1,4 +1,4 @@
-//! What a board answers.
+//! The replies of a board.
 
 use costs::Cost;
 

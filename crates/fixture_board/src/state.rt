@@ -1,4 +1,4 @@
-//! What a board keeps beside its league.
+//! The state of a board beside its league.
 
 mod checks;
 mod copies;
@@ -22,7 +22,7 @@ pub(crate) struct State {
     pub(crate) changes: Vec<Change>,
     pub(crate) schedule: Schedule,
     pub(crate) pins: Pins,
-    /// What the schedule costs.
+    /// The cost of the schedule.
     pub(crate) cost: Cost,
     pub(crate) best: Option<Best>,
     /// The schedule at the best version, if there is one.

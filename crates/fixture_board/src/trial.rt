@@ -1,4 +1,4 @@
-//! What is tried on a board.
+//! A trial on a board.
 
 use moves::Move;
 
@@ -7,7 +7,7 @@ use moves::Move;
 pub struct Trial {
     /// The move.
     pub mv: Move,
-    /// What each breach of a hard limit adds to the score by which the move is judged: at least 1.
+    /// The weight of each breach of a hard limit in the score by which the move is judged: at least 1.
     pub weight: u32,
     /// By how much that score may rise.
     pub rise: u64,

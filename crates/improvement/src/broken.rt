@@ -1,4 +1,4 @@
-//! What is broken in the best schedules of the chains.
+//! The limits that are broken in the best schedules of the chains.
 
 ghost use Rattle.std.specs.Prelude.{◌≡◌, ◌<◌, length, slice_get, All};
 ghost use Rattle.league.specs.League.{teams};

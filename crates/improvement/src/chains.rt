@@ -21,7 +21,7 @@ pub(crate) struct ChainBest {
 }
 
 impl ChainBest {
-    /// What a leg of a chain came to that ended with this board.
+    /// The best of a leg of a chain that ended with this board.
     fn reached(alloc: Global, chain: u64, board: &Board) -> Result<Self, AllocError>
         ensures { IfOk result (λ best. best ≡ reached chain board.now.league board.now.history) }
     {

@@ -1,4 +1,4 @@
-//! What is written when a leg has ended.
+//! The lines that are written when a leg has ended.
 
 ghost use Rattle.std.specs.Prelude.{◌≡◌, [], OnOk};
 ghost use Rattle.streams.specs.Writing.{Writes, waiting_in};

@@ -30,7 +30,6 @@ pub(crate) struct Turn {
 }
 
 impl Turn {
-    /// What is asked of the leg.
     fn plan(self, seed: u64, stream: u64) -> LegPlan
         ensures { result ≡ record { leg = self.leg; seed = seed; stream = stream } }
     {
@@ -58,7 +57,7 @@ pub(crate) struct RunningLeg {
     pub(crate) state: LegState,
 }
 
-/// What a leg comes to. Memory may run out in it.
+/// The result of a leg. Memory may run out in it.
 pub(crate) type Outcome = Result<Annealed, AllocError>;
 
 /// Where a leg is.

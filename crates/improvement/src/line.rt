@@ -26,7 +26,6 @@ use std::thread::{Scope, Threads};
 /// How many legs stand in line at most. More workers than that find no work.
 const PLACES: usize = 16;
 
-/// What becomes of a league's start.
 fn aim_of(league: &League) -> Aim
     ensures { IsAimOf league.now result }
 {

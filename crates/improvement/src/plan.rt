@@ -1,4 +1,4 @@
-//! What an improvement is to do, and why it ends early.
+//! The plan of an improvement, and why it ends early.
 
 ghost use Rattle.std.specs.Prelude.{◌≡◌};
 ghost use Rattle.improvement.specs.declared.plan.ImproveFault.TheVariants.{Memory, Write};
@@ -7,12 +7,12 @@ use std::alloc::AllocError;
 use streams::WriteFault;
 use thiserror::Error;
 
-/// What an improvement is to do.
+/// The plan of an improvement.
 #[derive(Clone, Copy, Debug, PartialEq, Eq)]
 pub struct ImprovePlan {
     /// How many legs run at once, each in a thread: 1 to 16. What is written doesn't depend on it.
     pub workers: u32,
-    /// What the draws of all legs begin with.
+    /// The seed of all legs' draws.
     pub seed: u64,
     /// The steps of all legs: at least 1.
     pub effort: u64,

@@ -11,9 +11,9 @@ use policy::{Facts, Policy, Wave};
 pub(crate) struct Series {
     /// The policy of the present one.
     pub(crate) policy: Policy,
-    /// What that goes by.
+    /// The facts that the policy goes by.
     facts: Facts,
-    /// What its draws begin with.
+    /// The seed of its draws.
     pub(crate) seed: u64,
     /// How many of its legs got in line. Each draws from a stream of its own.
     pub(crate) lined: u64,
@@ -24,7 +24,7 @@ pub(crate) struct Series {
 }
 
 impl Series {
-    /// Those of a plan, on as many teams and with the aim of these facts.
+    /// The series of a plan, on as many teams and with the aim of these facts.
     pub(crate) fn new(facts: Facts, plan: ImprovePlan) -> Self
         requires teams { 4 ≤ facts.teams }
         requires effort { plan.effort ≤ most_effort }

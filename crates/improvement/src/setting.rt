@@ -1,4 +1,4 @@
-//! What all legs of an improvement share.
+//! The setting that all legs of an improvement share.
 
 ghost use Rattle.std.specs.Prelude.{◌≡◌, [], IfOk, unwrap_or};
 ghost use Rattle.fixture_board.specs.Record.{book};
@@ -12,7 +12,7 @@ use league::League;
 use search::Workplace;
 use std::alloc::{AllocError, Global};
 
-/// What all legs share.
+/// The setting that all legs share.
 #[derive_where(Clone, Copy)]
 pub(crate) struct Setting<'a, T, G> {
     pub(crate) workplace: Workplace<'a, T, G>,

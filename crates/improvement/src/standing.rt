@@ -5,7 +5,7 @@ ghost use Rattle.improvement.specs.Legs.{leads, standing_of};
 
 use fixture_board::Board;
 
-/// What is compared of two histories.
+/// The standing of a history: two are compared by it.
 #[derive(Clone, Copy)]
 pub(crate) struct Standing {
     /// The least total of a feasible version.
@@ -24,7 +24,7 @@ impl Standing {
         }
     }
 
-    /// Whether it is better.
+    /// Tells whether this standing is better than the other.
     #[tactic(auto, unfolding(crate::specs::Legs::leads))]
     pub(crate) fn leads(self, other: Standing) -> bool
         ensures { result ≡ leads self other }

@@ -1,4 +1,4 @@
-//! What the legs that were told have come to all together.
+//! The results of all legs that were reported.
 
 ghost use Rattle.std.specs.Prelude.{◌≡◌, ◌+◌, ◌^◌, ◌<◌, if◌then◌else◌, Some, None, IfOk, OnOk, option_map};
 ghost use Rattle.fixture_board.specs.Record.{book};
@@ -12,7 +12,7 @@ use crate::standing::Standing;
 use fixture_board::Board;
 use std::alloc::{AllocError, Global};
 
-/// What is known of the legs that were told.
+/// The results of the legs that were reported.
 #[derive(Drop)]
 pub(crate) struct Told {
     /// A board with the history that leads.

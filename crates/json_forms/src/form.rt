@@ -1,4 +1,4 @@
-//! What a JSON value is, and how it is shown.
+//! The forms of JSON values, and how they are shown.
 
 ghost use Rattle.std.specs.Prelude.{◌≡◌, [], Some};
 ghost use Rattle.std.specs.Fmt.{DisplaysOnOk, WritesOnOk};
@@ -25,7 +25,7 @@ pub struct Quote {
     is_cut: bool,
 }
 
-/// What a JSON value is.
+/// The form of a JSON value.
 #[derive(Clone, Copy, Debug, Drop, PartialEq)]
 pub enum Form {
     Null,
@@ -69,7 +69,7 @@ impl Quote {
 }
 
 impl Form {
-    /// What this value is.
+    /// The form of this value.
     pub fn of(value: &Value) -> Form
         ensures { result ≡ form_of (view value.now) }
     {
@@ -92,7 +92,7 @@ fn number_form(value: &Value) -> Option<Form>
     value.as_f64().map(Form::Float)
 }
 
-/// What a value is that is no number.
+/// The form of a value that is no number.
 fn other_form(value: &Value) -> Form
     ensures { result ≡ other_form (view value.now) }
 {

@@ -1,4 +1,4 @@
-//! What a JSON value is, and how a line of advice shows it.
+//! The forms of JSON values, and how a line of advice shows them.
 #![tactic(auto)]
 
 mod form;

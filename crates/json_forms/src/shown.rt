@@ -14,7 +14,7 @@ pub fn shown_byte(byte: u8) -> u8
     }
 }
 
-/// The same of a character.
+/// The bytes of a character.
 pub(crate) fn shown_character(character: char) -> char
     ensures { result ≡ shown_byte character }
 {

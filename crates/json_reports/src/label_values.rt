@@ -1,4 +1,4 @@
-//! What a league calls itself, its teams in short, and its rounds.
+//! The names that a league gives itself, its teams in short, and its rounds.
 
 ghost use Rattle.std.specs.Prelude.{◌≡◌, ◌++◌, option_map, IfOk, OnOk};
 ghost use Rattle.serde_json.specs.View.{view};

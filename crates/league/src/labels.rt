@@ -1,4 +1,4 @@
-//! What a league calls itself, its teams in short, and its rounds.
+//! The names that a league gives itself, its teams in short, and its rounds.
 
 ghost use Rattle.std.specs.Prelude.{◌≡◌, ◌↔◌, IfOk, IsTrue, option_map, slice_get, string_bytes};
 ghost use Rattle.league.specs.Labels.{no_labels};

@@ -17,7 +17,7 @@ use crate::text_lists::duplicate_texts;
 use std::alloc::{AllocError, Global};
 use std::marker::Model;
 
-/// What a league says beside its teams, distances, rules and start.
+/// The settings of a league beside its teams, distances, rules and start.
 #[derive(Clone, Copy, Debug, Drop, PartialEq, Eq)]
 pub(crate) struct Terms {
     pub(crate) at_most: u8,
@@ -120,7 +120,7 @@ impl League {
         self.terms.at_most
     }
 
-    /// What each breach of a hard limit adds to a schedule's score.
+    /// The weight of each breach of a hard limit in a schedule's score.
     pub fn hard_weight(&self) -> u32
         ensures value { result ≡ self.now.hard_weight }
         ensures least { 1 ≤ result }
@@ -174,7 +174,7 @@ impl League {
         self.labels.short_name(team)
     }
 
-    /// What a round is called, if the league says so.
+    /// The name of a round, if the league gives one.
     pub fn round_text(&self, round: u8) -> Option<&str>
         ensures { option_map (λ text. text.now) result ≡ slice_get self.now.labels.round_texts round }
     {

@@ -106,7 +106,7 @@ pub fn circular(alloc: Global, n: u8) -> Result<League, LeagueFault>
     made(alloc, Layout::Circular, n)
 }
 
-/// The same league with each home at distance 1 from each other.
+/// Makes the league with each home at distance 1 from each other.
 pub fn constant(alloc: Global, n: u8) -> Result<League, LeagueFault>
     ensures exact { Gives (λ l. l) result (constant_of n) }
     ensures limits { IfOk result IsLeague }

@@ -82,7 +82,7 @@ pub(crate) struct Origin {
     pub(crate) start: Start,
     /// The pairs, the home team first, whose games begin pinned.
     pub(crate) kept: PairSet,
-    /// What a game costs that has another round than at the start.
+    /// The cost of a game that has another round than at the start.
     pub(crate) near: u32,
 }
 

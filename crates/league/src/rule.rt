@@ -24,7 +24,7 @@ pub enum Side {
     Any,
 }
 
-/// What a deviation of 1 costs.
+/// The cost of a deviation of 1.
 #[derive(Clone, Copy, Debug, Drop, PartialEq, Eq)]
 pub enum Weight {
     /// The hard weight of the league.
@@ -40,7 +40,7 @@ pub struct Rule {
     pub body: RuleBody,
 }
 
-/// What a rule asks, by its class. Teams and rounds are numbered from 0; each count is at most 10,000.
+/// The demand of a rule, by its class. Teams and rounds are numbered from 0; each count is at most 10,000.
 #[derive(Clone, Debug, Drop, PartialEq, Eq)]
 pub enum RuleBody {
     /// Each team has at most `max` games of the side, which is not `Any`, in the slots.
@@ -188,7 +188,7 @@ impl GameList {
         self.games.len()
     }
 
-    /// Whether it has no game.
+    /// Tells whether the list has no game.
     pub fn is_empty(&self) -> bool
         ensures { IsTrue result ↔ (self.now ≡ []) }
     {

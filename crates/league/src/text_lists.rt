@@ -12,7 +12,7 @@ pub fn are_same_texts(list: &[String], other: &[String]) -> bool
     list == other
 }
 
-/// The same texts with memory of their own.
+/// Copies the texts into memory of their own.
 pub fn duplicate_texts(alloc: Global, list: &[String]) -> Result<Vec<String>, AllocError>
     ensures { IfOk result (λ copy. texts copy.items ≡ texts list.now) }
 {

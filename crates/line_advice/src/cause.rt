@@ -1,4 +1,4 @@
-//! What is wrong with a line, and what is said of it.
+//! The causes why a line is bad, and what is said of them.
 
 ghost use Rattle.std.specs.Prelude.{◌≡◌, Some};
 ghost use Rattle.line_advice.specs.Cause.{arguments_words, cause_words, quote_of_bytes};
@@ -9,7 +9,7 @@ use json_forms::Quote;
 use std::{fmt, str};
 use texts::Keyword;
 
-/// What is wrong with a line.
+/// The cause why a line is bad.
 #[derive(Clone, Copy, Debug, PartialEq, Eq)]
 pub enum Cause {
     /// This word begins no line of a script.
@@ -95,7 +95,7 @@ impl fmt::Display for Cause {
     }
 }
 
-/// What is wanted behind the keyword, as `two teams are`.
+/// The words that are wanted behind the keyword, as `two teams are`.
 fn arguments(keyword: Keyword) -> &'static str
     ensures { result.now ≡ arguments_words keyword }
 {

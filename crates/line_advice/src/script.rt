@@ -47,7 +47,7 @@ fn script_cause(line: &[u8]) -> Option<Cause>
     }
 }
 
-/// What is wrong with the words behind `try`.
+/// The cause why the words behind `try` are bad.
 fn try_cause(words: &[u8]) -> Option<Cause>
     ensures { result ≡ try_cause (words_of words.now) }
 {

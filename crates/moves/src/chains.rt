@@ -1,4 +1,4 @@
-//! What has to follow in a partial move: the teams that exchange two rounds, and the rounds in which two teams are
+//! The chains of a partial move: the teams that exchange two rounds, and the rounds in which two teams are
 //! exchanged. Both are chains that come back to their start, and each is walked once along.
 
 ghost use Rattle.std.specs.Prelude.{◌≡◌, ◌≢◌, ℕ, ◌<◌, ◌≤◌, Ok};

@@ -15,7 +15,7 @@ pub fn stays_double_round_robin()
     ensures { OfEachMove StaysDoubleRoundRobin }
 {}
 
-/// What a team does in a round is the same before a move and after it, unless both the team and the round are
+/// The game of a team in a round is the same before a move and after it, unless both the team and the round are
 /// touched.
 pub fn differs_where_touched()
     ensures { OfEachMove DiffersWhereTouched }

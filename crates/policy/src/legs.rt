@@ -13,7 +13,7 @@ pub enum MoveSet {
     Full,
     /// Homes and the partial moves: what a repair needs.
     Repair,
-    /// Those of a repair and rounds.
+    /// The moves of a repair and rounds.
     WideRepair,
 }
 
@@ -67,7 +67,7 @@ pub struct Leg {
     pub steps: u64,
 }
 
-/// What a leg came to.
+/// The end of a leg.
 #[derive(Clone, Copy, Debug, PartialEq, Eq)]
 pub struct LegEnd {
     /// At most those of the leg. Only a leg that heats has fewer.
@@ -82,7 +82,7 @@ pub struct LegEnd {
     pub best: Option<u64>,
 }
 
-/// What a breach of a hard limit weighs: at first, and within which limits it follows the share of feasible steps.
+/// The weight of a breach of a hard limit: at first, and within which limits it follows the share of feasible steps.
 #[derive(Clone, Copy, Debug, PartialEq, Eq)]
 pub struct WeightCourse {
     pub first: u64,

@@ -29,7 +29,7 @@ pub(crate) const EARLY_PART: u64 = 16;
 pub(crate) const RIGID_SPANS: u64 = 8;
 
 pub(crate) const RIGID_MOST: u64 = 3_000_000;
-/// The same of a loose one.
+/// The number of a loose one.
 pub(crate) const LOOSE_SPANS: u64 = 16;
 
 pub(crate) const LOOSE_MOST: u64 = 6_000_000;

@@ -41,7 +41,7 @@ pub(crate) struct Plan {
     teams: u8,
     /// Whether the first chain goes on from the start.
     goes_on: bool,
-    /// What all legs after the first half draw.
+    /// The kinds of moves that all legs after the first half draw.
     moves: MoveSet,
     bouts: Bouts,
     reach: Reach,
@@ -52,7 +52,7 @@ pub(crate) struct Plan {
     cycles_left: u32,
     /// Which of the cycles' peaks comes next: they come in turn.
     turn: u32,
-    /// What the peaks are measured by: the least temperature at which a try became feasible.
+    /// The unit of the peaks: the least temperature at which a try became feasible.
     hottest: u32,
     /// Whether a leg ended with a feasible version in its chain.
     feasible: bool,
@@ -315,7 +315,7 @@ impl Plan {
         Some(next)
     }
 
-    /// What a leg that ended tells about the next ones.
+    /// Observes a leg that ended, for the next ones.
     fn hear(&mut self, leg: Leg, ended: LegEnd)
         ensures { self.new ≡ plan_after self.old leg ended }
     {

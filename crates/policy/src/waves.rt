@@ -7,7 +7,7 @@ use std::marker::Model;
 /// The most steps that a search may take in all.
 pub const MOST_EFFORT: u64 = 1_000_000_000_000;
 
-/// What the policy goes by.
+/// The facts that the policy goes by.
 #[derive(Clone, Copy, Debug, PartialEq, Eq)]
 pub struct Facts {
     pub teams: u8,
@@ -16,7 +16,7 @@ pub struct Facts {
     pub aim: Aim,
 }
 
-/// What is to become of the start.
+/// The aim: what is to become of the start.
 #[derive(Clone, Copy, Debug, PartialEq, Eq)]
 pub enum Aim {
     /// All chains of the first half melt it.
@@ -47,7 +47,7 @@ pub struct Wave {
     pub keep: u32,
 }
 
-/// What comes next, by what the legs before came to. Contracts see the steps that are left, how many chains are in the
+/// The policy, which chooses the next legs by what those before came to. Contracts see the steps that are left, how many chains are in the
 /// field, and the plan.
 #[derive(Drop)]
 pub struct Policy {

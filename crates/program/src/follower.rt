@@ -38,7 +38,7 @@ pub struct Unwritten<'a> {
 struct Followed<'a, F> {
     name: &'a str,
     file: F,
-    /// Whether it ever couldn't be written.
+    /// Whether the file ever couldn't be written.
     failed: bool,
 }
 

@@ -1,4 +1,4 @@
-//! What a job does on texts that were read.
+//! The jobs, done on texts that were read.
 
 ghost use Rattle.std.specs.Prelude.{◌≡◌, ◌<◌, ◌≤◌, [], IfOk, IfSome, IsTrue, false, is_some, length, option_map, true, unwrap_or};
 ghost use Rattle.std.specs.Str.Lines.{lines};
@@ -24,7 +24,7 @@ use std::time::Clock;
 use streams::WriterSink;
 use texts::split_at_line;
 
-/// What a job works with, beside its texts and its sink.
+/// The surroundings of a job, beside its texts and its sink.
 #[derive(Drop)]
 pub(crate) struct Console<'a, T, E> {
     pub(crate) rt: &'a T,
@@ -44,7 +44,7 @@ pub(crate) struct Texts<'a, 't> {
     pub(crate) second: Option<&'a [u8]>,
     /// Where the league begins, if not at its own start.
     pub(crate) beginning: Option<Beginning<'a>>,
-    /// What a league that is made is called.
+    /// The name of a league that is made.
     pub(crate) title: Option<&'t str>,
 }
 

@@ -103,7 +103,7 @@ fn write_line<W: Sink>(
     )
 }
 
-/// What ends a line that was torn off.
+/// The end of a line that was torn off.
 fn new_line(torn: bool) -> &'static [u8]
     ensures { result.now ≡ new_line torn }
 {

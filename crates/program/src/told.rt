@@ -1,4 +1,4 @@
-//! What is said on standard error: of texts that could not be read, of a start that is none, and of what isn't read.
+//! The lines on standard error: of texts that could not be read, of a start that is none, and of what isn't read.
 
 ghost use Rattle.std.specs.Prelude.{◌≡◌};
 ghost use Rattle.std.specs.Process.{exit_status};
@@ -143,7 +143,7 @@ pub(crate) fn tell_bad_line(rt: &impl Eprint, job: Job, texts: &Texts<'_, '_>) {
     tell_line(rt, hint);
 }
 
-/// What is wrong with the first bad line of a schedule, which a table has not.
+/// The fault of the first bad line of a schedule, which a table has not.
 fn hint_on_schedule(text: &[u8]) -> Option<LineHint> {
     if is_table(text) {
         None

@@ -72,7 +72,7 @@ where
     }
 }
 
-/// What is at the other ends of the standard streams.
+/// The kinds of the other ends of the standard streams.
 #[derive(Drop)]
 struct Ends<'a, E> {
     /// A terminal is at that of standard input.

@@ -38,7 +38,7 @@ pub enum Format {
     Json,
 }
 
-/// What a report takes memory for.
+/// The texts that a report takes memory for.
 #[derive(Drop)]
 pub struct Prepared {
     // the report, unless it is the text that `write_report` writes as it goes

@@ -207,7 +207,7 @@ fn goes_over(windows: SlotSet, at_most: u8, round: u8) -> bool
     at_most <= round && windows.has(round - at_most)
 }
 
-/// What is marked of a game: that it makes a run longer than allowed, has the opponent of the round before, is in a breach of
+/// The marks of a game: that it makes a run longer than allowed, has the opponent of the round before, is in a breach of
 /// a rule, or is moved.
 #[derive(Clone, Copy)]
 struct Marks {

@@ -1,4 +1,4 @@
-//! What a league calls itself, its teams in short, and its rounds.
+//! The names that a league gives itself, its teams in short, and its rounds.
 
 ghost use Rattle.std.specs.Prelude.{◌≡◌};
 ghost use Rattle.report_formats.specs.Labels.{has_round_texts, has_short_names, has_title, round_text_of, short_name_of, title_of};
@@ -11,7 +11,7 @@ pub(crate) fn has_title(league: &League) -> bool
     league.title().is_some()
 }
 
-/// What the league is called, or nothing.
+/// The league's name, or nothing.
 pub(crate) fn title(league: &League) -> &[u8]
     ensures { result.now ≡ title_of league.now }
 {
@@ -28,7 +28,7 @@ pub(crate) fn has_short_names(league: &League) -> bool
     league.short_name(0).is_some()
 }
 
-/// What a team is called in short, or nothing.
+/// A team's short name, or nothing.
 pub(crate) fn short_name(league: &League, team: u8) -> &[u8]
     ensures { result.now ≡ short_name_of league.now team }
 {
@@ -45,7 +45,7 @@ pub(crate) fn has_round_texts(league: &League) -> bool
     league.round_text(0).is_some()
 }
 
-/// What a round is called, or nothing.
+/// A round's name, or nothing.
 pub(crate) fn round_text(league: &League, round: u8) -> &[u8]
     ensures { result.now ≡ round_text_of league.now round }
 {

@@ -54,7 +54,7 @@ fn push_name_if(
     )
 }
 
-/// What parts an item from those before it, of so many.
+/// The words that part an item from those before it, of so many.
 fn joint(before: u32, all: u32) -> &'static [u8]
     requires { before ≤ max_teams }
     ensures { result.now ≡ joint before all }

@@ -319,7 +319,7 @@ fn push_slots(
     push_rounds(page, rounds, slots)
 }
 
-/// The same of one round at a time.
+/// The words of one round at a time.
 fn push_each_slot(page: &mut Vec<u8>, rounds: u8, slots: SlotSet) -> Result<(), AllocError>
     requires most { rounds ≤ max_rounds }
     requires below { IsBelow rounds slots }
@@ -328,7 +328,7 @@ fn push_each_slot(page: &mut Vec<u8>, rounds: u8, slots: SlotSet) -> Result<(), 
     push_slots(page, rounds, b" in a round", each_word(slots.len()), slots)
 }
 
-/// What stands before so many rounds, each of which is told of by itself.
+/// The words before so many rounds, each of which is named by itself.
 fn each_word(count: u32) -> &'static [u8]
     ensures { result.now ≡ each_word count }
 {

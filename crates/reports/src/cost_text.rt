@@ -1,4 +1,4 @@
-//! What a double round robin costs, and what that is made of.
+//! The cost of a double round robin, and its parts.
 
 ghost use Rattle.std.specs.Prelude.{◌≡◌, ◌+◌, ◌-◌, ◌^◌, ◌<◌};
 ghost use Rattle.league.specs.League.{teams};

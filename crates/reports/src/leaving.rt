@@ -1,4 +1,4 @@
-//! What leaving the start of a league costs, and the games that have left it.
+//! The cost of leaving the start of a league, and the games that have left it.
 
 ghost use Rattle.std.specs.Prelude.{◌≡◌, ◌<◌};
 ghost use Rattle.league.specs.League.{teams};

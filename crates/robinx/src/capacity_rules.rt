@@ -83,7 +83,7 @@ pub(crate) fn met_windows(schedule: &Schedule, change: &Around, rule: &WindowRul
     ca3_part(schedule, &games, change.rounds, rule.window, rule.most)
 }
 
-/// Those windows of `ca3` that have one of the rounds.
+/// The windows of `ca3` that have one of the rounds.
 fn ca3_part(
     schedule: &Schedule,
     games: &CountedGames,
@@ -109,7 +109,7 @@ fn ca3_part(
     }
 }
 
-/// Whether it takes less to find in each round the teams that count than for each team the rounds that count: it does if there are
+/// Finding in each round the teams that count takes less than for each team the rounds that count if there are
 /// few windows for so many teams. With all teams as opponents it doesn't, since the sides tell enough.
 fn goes_by_rounds(
     schedule: &Schedule,
@@ -231,7 +231,7 @@ fn over_in_slots(schedule: &Schedule, games: &CountedGames, slots: SlotSet, most
     total
 }
 
-/// The same if all teams are opponents, counted in all the slots at once, team by team.
+/// Counts all the slots at once, team by team, if all teams are opponents.
 fn over_in_many_slots(schedule: &Schedule, games: &CountedGames, slots: SlotSet, most: u32) -> u64
     requires round_robin { IsDoubleRoundRobin schedule.now }
     requires teams { IsBelow schedule.now.teams games.now.teams }
@@ -272,7 +272,7 @@ fn games_of_all(schedule: &Schedule, games: &CountedGames, slots: SlotSet) -> u3
     count
 }
 
-/// The same if all teams are opponents.
+/// Counts the windows if all teams are opponents.
 fn games_on_sides(schedule: &Schedule, games: &CountedGames, slots: SlotSet) -> u32
     requires round_robin { IsDoubleRoundRobin schedule.now }
     requires teams { IsBelow schedule.now.teams games.now.teams }

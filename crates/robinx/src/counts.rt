@@ -32,7 +32,7 @@ impl CountedGames {
         }
     }
 
-    /// Those that a capacity rule counts, and none for another rule.
+    /// The games that a capacity rule counts, and none for another rule.
     pub(crate) fn of(schedule: &Schedule, rule: &Rule) -> Self
         requires { IsBodyFor schedule.now.teams rule.now.body }
         ensures value { result ≡ counted_of schedule.now.teams rule.now.body }

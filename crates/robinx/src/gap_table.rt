@@ -28,7 +28,7 @@ pub(crate) struct GapTable {
     /// How many home games each team has up to and with each slot, and 0 in each other round.
     pub rows: [Row; TEAMS],
     pub gaps: Gaps,
-    /// What a gap may be, and what of the gaps is over that.
+    /// The greatest gap that is allowed, and by how much the gaps are over that.
     pub most: u32,
     pub over: u64,
 }
@@ -54,14 +54,13 @@ impl GapTable {
         }
     }
 
-    /// Whether it is for schedules of so many teams, and for these slots.
     fn is_for(&self, playing: u8, slots: SlotSet) -> bool
         ensures { result ≡ true → IsTableFor self.now playing slots }
     {
         self.playing == playing && self.slots == slots
     }
 
-    /// Whether it is the schedule's, for the rule's teams and slots.
+    /// Tells whether the table is the schedule's, for the rule's teams and slots.
     pub(crate) fn is_of(&self, schedule: &Schedule, fairness: &Fairness) -> bool
         requires table { IsGapTable self.now }
         ensures { result ≡ true → IsTableOf self.now schedule.now fairness.now.teams fairness.now.slots }

@@ -26,7 +26,7 @@ pub(crate) struct Gaps {
 }
 
 impl Gaps {
-    /// Those of no teams.
+    /// The gaps of no teams.
     pub(crate) fn none() -> Self
         ensures gaps { AreGaps result }
         ensures teams { result.teams ≡ 0 }
@@ -38,7 +38,7 @@ impl Gaps {
         }
     }
 
-    /// What of the team's gaps is over `most`.
+    /// Adds up by how much the team's gaps are over `most`.
     pub(crate) fn over_of(&self, team: u8, most: u32) -> u64
         requires gaps { AreGaps self.now }
         requires team { team < max_teams }
@@ -53,7 +53,7 @@ impl Gaps {
         total.into()
     }
 
-    /// What of all gaps is over `most`: of the first team's, and then of those that are left without it.
+    /// Adds up by how much all gaps are over `most`: the first team's, and then those that are left without it.
     pub(crate) fn over_of_all(&self, most: u32) -> u64
         requires gaps { AreGaps self.now }
         ensures { result ≡ sum_of_gaps self.now.worst (λ gap. over gap most) }
@@ -140,7 +140,7 @@ fn clear_column(table: &mut [[u8; TEAMS]; TEAMS], column: usize)
     }
 }
 
-/// What of every eighth number of the row, from one on, is over `most`. The machine has all lanes at once, and short sums are enough.
+/// Adds up by how much every eighth number of the row, from one on, is over `most`. The machine has all lanes at once, and short sums are enough.
 #[inline]
 fn over_in_lane(row: &[u8; TEAMS], lane: usize, most: u8) -> u16
     requires lane { lane < 8 }

@@ -18,7 +18,7 @@ pub(crate) struct Around {
     pub sides: TeamSet,
 }
 
-/// Those of the teams of which other games may count, against the opponents.
+/// The teams, of these, of which other games may count, against the opponents.
 pub(crate) fn teams_otherwise(
     schedule: &Schedule,
     change: &Around,
@@ -39,7 +39,7 @@ pub(crate) fn teams_otherwise(
     }
 }
 
-/// Those of the teams that are main teams or guests, found by the games of the main teams.
+/// The teams, of these, that are main teams or guests, found by the games of the main teams.
 fn teams_around(schedule: &Schedule, main: TeamSet, rounds: SlotSet, teams: TeamSet) -> TeamSet
     requires round_robin { IsDoubleRoundRobin schedule.now }
     requires teams { IsBelow schedule.now.teams teams }

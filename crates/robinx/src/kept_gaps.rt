@@ -1,4 +1,4 @@
-//! What FA2 counts, kept from one schedule to the next.
+//! The counts of FA2, kept from one schedule to the next.
 
 ghost use Rattle.std.specs.Prelude.{◌≡◌, nat_le};
 ghost use Rattle.league.specs.Sets.{has, IsBelow};
@@ -12,7 +12,7 @@ use crate::table_pairs::TablePairs;
 use fixtures::{Schedule, Touched};
 use std::marker::Model;
 
-/// What FA2 counted last for some rules, each on two schedules, kept so that less is counted of the next one. Whatever is kept, a count
+/// The last counts of FA2 for some rules, each on two schedules, kept so that less is counted of the next one. Whatever is kept, a count
 /// gives the same.
 #[derive(Drop)]
 pub struct KeptGaps {

@@ -29,7 +29,7 @@ pub(crate) fn se1(schedule: &Schedule, teams: TeamSet, least: u32) -> u64
     total
 }
 
-/// Those of each pair with a main team that meets in one of the rounds.
+/// The breaches of each pair with a main team that meets in one of the rounds.
 pub(crate) fn se1_part(schedule: &Schedule, teams: TeamSet, change: &Around, least: u32) -> u64
     requires round_robin { IsDoubleRoundRobin schedule.now }
     requires teams { IsBelow schedule.now.teams teams }

@@ -40,7 +40,7 @@ impl TablePair {
         }
     }
 
-    /// Whether it was begun for the rule.
+    /// Tells whether the pair was begun for the rule.
     fn is_of(&self, fairness: &Fairness) -> bool
         ensures { result ≡ is_pair_of self.now fairness.now }
     {

@@ -41,9 +41,9 @@ pub(crate) fn over_in_windows_of(
 /// Windows by the rounds with which they begin.
 #[derive(Clone, Copy, Drop)]
 struct Windows {
-    /// Those that lack none of their rounds in a set.
+    /// The windows that lack none of their rounds in a set.
     full: SlotSet,
-    /// Those that lack at most one.
+    /// The windows that lack at most one.
     nearly: SlotSet,
 }
 

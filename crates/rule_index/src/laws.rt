@@ -1,4 +1,4 @@
-//! What an index tells of a change. The function does nothing: what is known is in its contract, which speaks of all schedules and rules.
+//! The law of an index and a change. The function does nothing: what is known is in its contract, which speaks of all schedules and rules.
 
 ghost use Rattle.rule_index.specs.Laws.{NothingElseAlters};
 

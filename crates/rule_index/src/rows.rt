@@ -18,11 +18,11 @@ pub(crate) const ROUNDS: usize = MAX_ROUNDS as usize;
 /// The rules that look at a team.
 #[derive(Clone, Copy, Debug, Drop)]
 pub(crate) struct TeamRules {
-    /// Those that look at its games.
+    /// The rules that look at the team's games.
     pub(crate) own: RuleSet,
-    /// Those that count games against some opponents, of which it is one.
+    /// The rules that count games against some opponents, of which it is one.
     pub(crate) opponent: RuleSet,
-    /// Those that count games against some opponents, of which it is none.
+    /// The rules that count games against some opponents, of which it is none.
     pub(crate) stranger: RuleSet,
 }
 

@@ -95,7 +95,7 @@ pub fn cell_at(line: &[u8], separator: u8, index: usize) -> Option<&[u8]>
     next_cell(&mut rest, separator)
 }
 
-/// What stands between the quotation marks at both ends of a cell, if they are there.
+/// The text between the quotation marks at both ends of a cell, if they are there.
 pub fn unmarked(cell: &[u8]) -> &[u8]
     ensures { result.now ≡ unmarked cell.now }
 {

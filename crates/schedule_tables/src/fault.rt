@@ -17,7 +17,7 @@ pub enum Column {
     Away,
 }
 
-/// What is wrong with a cell.
+/// The fault of a cell.
 #[derive(Clone, Copy, Debug, PartialEq, Eq, Error)]
 pub enum CellFault {
     /// The row ends before it.

@@ -11,12 +11,12 @@ use league::limits::{MAX_ROUNDS, round_count};
 /// An entry for each round of the longest season. No league has more teams.
 const ENTRIES: usize = MAX_ROUNDS as usize;
 
-/// What the games of a team are counted by.
+/// The numbers by which the games of a team are counted.
 #[derive(Clone, Copy)]
 pub(crate) enum Counted {
     /// All of them, by their rounds.
     Rounds,
-    /// Those at home, by their guests.
+    /// The games at home, by their guests.
     Guests,
 }
 

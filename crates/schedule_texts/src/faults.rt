@@ -1,4 +1,4 @@
-//! What is wrong with games that are no double round robin.
+//! The faults of games that are no double round robin.
 
 ghost use Rattle.std.specs.Prelude.{◌≡◌, ◌≤◌};
 ghost use Rattle.std.specs.Str.Lines.{lines};

@@ -1,4 +1,4 @@
-//! What a text gives for a league.
+//! The verdict on a text for a league.
 
 ghost use Rattle.std.specs.Prelude.{◌≡◌, IfOk, option_map};
 ghost use Rattle.std.specs.Str.Lines.{lines};
@@ -74,7 +74,7 @@ impl Judged {
         }
     }
 
-    /// The same, to keep.
+    /// The verdict, to keep.
     pub fn into_schedule(self) -> Option<Schedule>
         ensures { result ≡ self.schedule }
     {

@@ -9,7 +9,7 @@ ghost use Rattle.schedule_texts.specs.within.LastSheet.{IsLastSheet};
 use crate::schedule_text::ScheduleLine;
 use texts::{next_line, next_word};
 
-/// What stands behind the last line of a text whose first word is `league`, or all of the text if there is none.
+/// The text behind its last line whose first word is `league`, or all of it if there is none.
 #[derive(Clone, Copy)]
 pub(crate) struct LastSheet<'a> {
     pub(crate) text: &'a [u8],

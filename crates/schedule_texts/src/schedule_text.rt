@@ -32,7 +32,7 @@ impl WrittenGame {
     }
 }
 
-/// What a line of a text says of a schedule.
+/// The meaning of a line of a text for a schedule.
 #[derive(Clone, Copy, Debug, PartialEq, Eq)]
 pub enum ScheduleLine {
     /// Nothing: its first word isn't `round`.

@@ -28,7 +28,7 @@ static ROUNDS: [u8; MAX_ROUNDS as usize] = [
     74, 75, 76, 77,
 ];
 
-/// What a move is drawn among.
+/// The kinds and rounds among which a move is drawn.
 #[derive(Clone, Copy)]
 pub struct Draws<'a> {
     /// How many teams there are.

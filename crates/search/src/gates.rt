@@ -22,7 +22,7 @@ pub struct Progress {
 /// Is passed by a worker at each proposal. Workers are numbered from 0, and `made` counts the proposals that this one
 /// made before. A gate may hold a worker up.
 ///
-/// What was heard and told is for each gate to say. So a function that is proved for all gates counts no reply but those that its gate
+/// Each gate says for itself what was heard and reported. So a function that is proved for all gates counts no reply but those that its gate
 /// heard, and tells no steps but those that it took.
 pub trait Gate {
     /// A worker's proposal, after so many of that worker's, left with this reply.

@@ -30,7 +30,7 @@ use threads::{Handle, Run, accepted_in, gather, launch, seat_all};
 /// The most workers of a run.
 pub const MAX_WORKERS: u32 = 16;
 
-/// What a run is to do.
+/// The plan of a run.
 #[derive(Clone, Copy, Debug, PartialEq, Eq)]
 pub struct SearchPlan {
     /// 1 to 16.
@@ -75,14 +75,14 @@ impl Reports {
     }
 }
 
-/// What a run came to.
+/// The outcome of a run.
 #[derive(Drop)]
 pub struct Outcome {
     /// The board after the run, with each accepted change in its history.
     pub board: Board,
     /// One for each worker, in their order.
     pub reports: Reports,
-    /// What the run was to do.
+    /// The plan of the run.
     pub plan: SearchPlan,
 }
 
@@ -107,7 +107,7 @@ pub enum RunFault {
 /// board itself got no memory.
 #[derive(Drop)]
 pub struct RunRefused {
-    /// What stood in the way.
+    /// The fault.
     pub why: RunFault,
     /// The board, if there is one.
     pub board: Option<Board>,

@@ -17,7 +17,7 @@ use std::sync::Wait;
 pub(crate) use steps::{Means, Measure};
 use steps::{Kept, StepResult, Trial, least_with, refresh, step};
 
-/// What a worker is to do.
+/// The plan of a worker.
 #[derive(Clone, Copy, Debug, PartialEq, Eq)]
 pub struct WorkerPlan {
     /// Its number among the workers, from 0.
@@ -36,9 +36,9 @@ pub struct WorkerPlan {
 pub struct Report {
     /// The proposals in all.
     pub made: u32,
-    /// Those that were granted.
+    /// The proposals that were granted.
     pub accepted: u32,
-    /// Those that were refused, for whatever reason.
+    /// The proposals that were refused, for whatever reason.
     pub refused: u32,
 }
 
@@ -103,7 +103,7 @@ pub fn worker<R: Wait, D: Door, G: Gate>(
     take_steps(means, door, plan, copy)
 }
 
-/// What a worker does.
+/// Takes a worker's steps, as [`worker`] says.
 pub(crate) fn take_steps<R: Wait, D: Door, G: Gate>(
     means: Means<'_, R, G>,
     door: &mut D,

@@ -17,7 +17,7 @@ const HALF: usize = 128;
 pub struct RuleSet {
     /// The rules below 128.
     low: u128,
-    /// Those from 128 on. Its bit 0 is the rule 128.
+    /// The rules from 128 on. Its bit 0 is the rule 128.
     high: u128,
 }
 
@@ -107,9 +107,9 @@ impl IntoIterator for RuleSet {
 /// The rules of a set, the lowest first. Contracts see it as the set of those that are left.
 #[derive(Debug, Drop)]
 pub struct Rules {
-    /// Those left of the half that is walked. Its bit 0 is the rule `base`, 0 or 128.
+    /// The rules left of the half that is walked. Its bit 0 is the rule `base`, 0 or 128.
     low: u128,
-    /// Those from rule 128 on, until they are walked. Its bit 0 is the rule 128.
+    /// The rules from 128 on, until they are walked. Its bit 0 is the rule 128.
     high: u128,
     base: usize,
 }

@@ -231,9 +231,9 @@ impl IntoIterator for SlotSet {
 /// It goes by halves, since a word of 64 bits takes fewer instructions than one of 128.
 #[derive(Debug, Drop)]
 pub struct Slots {
-    /// Those left of the half that is walked. Its bit 0 is the slot `base`, 0 or 64.
+    /// The slots left of the half that is walked. Its bit 0 is the slot `base`, 0 or 64.
     low: u64,
-    /// Those from slot 64 on, until they are walked. Its bit 0 is the slot 64.
+    /// The slots from 64 on, until they are walked. Its bit 0 is the slot 64.
     high: u64,
     base: u8,
 }

@@ -1,4 +1,4 @@
-//! What the rule of the table says. The functions do nothing: what is known of all tables is in their contracts.
+//! The laws of the table's rule. The functions do nothing: what is known of all tables is in their contracts.
 
 ghost use Rattle.std.specs.Prelude.{◌≡◌};
 ghost use Rattle.shared_board.specs.Rule.{Ruled};

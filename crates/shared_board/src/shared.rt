@@ -38,7 +38,7 @@ const SLOT: usize = 0;
 /// How many numbers there are.
 const MAX_SEATS: u64 = 64;
 
-/// What a seat has at the table.
+/// The token that a seat has at the table.
 type Token = atomic_table::Seat<Option<Board>, View>;
 
 /// A board that threads share. Contracts see which one it is.
@@ -130,7 +130,7 @@ pub struct Closed {
     pub whole: bool,
 }
 
-/// What the board says to a call under the turn.
+/// The reply of the board to a call under the turn.
 #[derive(Clone, Copy)]
 pub(crate) struct Judged {
     reply: Reply,

@@ -1,4 +1,4 @@
-//! What a seat knows, and the rule of the table.
+//! The view of a seat, and the rule of the table.
 
 ghost use Rattle.std.specs.Prelude.{ℕ, List, Bool};
 ghost use Rattle.std.specs.Borrow.{ftrue};
@@ -11,7 +11,7 @@ use fixture_board::Board;
 use std::marker::Model;
 use std::snapshot::Snapshot;
 
-/// What a seat knows. No value of it is made.
+/// The view of a seat. No value of it is made.
 pub struct View {
     /// The league and the room of the board.
     pub ghost setting: { Setting },

@@ -4,7 +4,7 @@ ghost use Rattle.streams.specs.declared.tally.Tally.{Tally};
 ghost use Rattle.streams.specs.Ends.{StepTakes, StepGives};
 ghost use Rattle.streams.specs.Tally.{noted};
 
-/// What one call of an end answers.
+/// The answer of one call of an end.
 #[derive(Clone, Copy, Debug, PartialEq, Eq)]
 pub enum Step {
     /// So many bytes were moved, at most as many as the slice has.

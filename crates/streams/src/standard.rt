@@ -1,4 +1,4 @@
-//! What a read or a write of std comes to.
+//! The steps that reads and writes of std come to.
 ghost use Rattle.std.specs.Prelude.{◌≡◌};
 ghost use Rattle.streams.specs.within.Ends.{step_of_answer};
 
@@ -6,7 +6,7 @@ use super::ends::Step;
 use std::io;
 use std::io::ErrorKind;
 
-/// What an end answers if its reader or writer answers this.
+/// The step of an end whose reader or writer answers this.
 pub(crate) fn step_of(answer: &io::Result<usize>) -> Step
     ensures { result ≡ step_of_answer answer.now }
 {

@@ -1,4 +1,4 @@
-//! What a board answers to the lines of a script.
+//! The answers of a board to the lines of a script.
 
 ghost use Rattle.std.specs.Prelude.{◌≡◌, ◌++◌, [], OnErr, OnOk};
 ghost use Rattle.std.specs.Str.Lines.{lines};

@@ -80,7 +80,7 @@ fn without_carriage_return(line: &[u8]) -> &[u8]
     }
 }
 
-/// What follows the first `count` bytes.
+/// The rest behind the first `count` bytes.
 pub(crate) fn rest_from(text: &[u8], count: usize) -> &[u8]
     requires { count ≤ length text.now }
     ensures { result.now ≡ drop count text.now }

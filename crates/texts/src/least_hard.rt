@@ -1,4 +1,4 @@
-//! What is broken in a schedule, in one line.
+//! The limits that are broken in a schedule, in one line.
 
 ghost use Rattle.std.specs.Prelude.{◌≡◌, ◌<◌, ◌≤◌, ◌^◌, ◌*◌};
 ghost use Rattle.league.specs.Limits.{deviation_limit, max_teams};

@@ -12,7 +12,7 @@ use fixture_board::Change;
 use fixtures::Game;
 use moves::Move;
 
-/// What a line of a script says. Teams and rounds count from 0; one that can't be such a number is 255.
+/// The meaning of a line of a script. Teams and rounds count from 0; one that can't be such a number is 255.
 #[derive(Clone, Copy, Debug, PartialEq, Eq)]
 pub enum ScriptLine {
     /// Nothing: no words, or a remark.

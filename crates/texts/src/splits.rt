@@ -1,4 +1,4 @@
-//! What stands before and after a byte of a text.
+//! The parts of a text before and after a byte.
 
 ghost use Rattle.std.specs.Prelude.{◌≡◌, ◌+◌, ◌==◌, ◌≤◌, drop, length};
 ghost use Rattle.std.specs.List.{position_or_len};
@@ -27,7 +27,7 @@ pub fn byte_index(text: &[u8], byte: u8) -> usize
         .unwrap_or(text.len())
 }
 
-/// What follows the byte at this index.
+/// The rest behind the byte at this index.
 pub fn rest_after(text: &[u8], index: usize) -> &[u8]
     requires { index ≤ length text.now }
     ensures { result.now ≡ drop (index + 1) text.now }

@@ -1,4 +1,4 @@
-//! What a double round robin costs its teams: how far they travel, their long stretches at home or away, and the
+//! The burdens of a double round robin for its teams: how far they travel, their long stretches at home or away, and the
 //! pairs of teams that meet twice in a row (Easton, Nemhauser, Trick 2001), or twice in one half of the season; and how
 //! many games it has in other rounds than the start of the league.
 //!

@@ -24,7 +24,7 @@ pub fn moved_games(schedule: &Schedule, league: &League) -> u64
     moved
 }
 
-/// Those of a team at home.
+/// The moved games of a team at home.
 #[tactic(auto, using(league::proofs::ForCallers::sums))]
 fn moved_at_home(schedule: &Schedule, league: &League, home: u8) -> u64
     requires same { teams league.now ≡ schedule.now.teams }

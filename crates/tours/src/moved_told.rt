@@ -1,4 +1,4 @@
-//! What an exchange changes in the games that have another round than at the start, told on the schedule before it.
+//! The change by an exchange of the games that have another round than at the start, predicted on the schedule before it.
 
 ghost use Rattle.std.specs.Prelude.{◌≡◌, ◌≢◌, ◌+◌, ◌*◌, ◌<◌, ◌≤◌, false};
 ghost use Rattle.league.specs.League.{teams};
@@ -46,7 +46,7 @@ pub(crate) fn moved_of_rounds(
     Moved { before, after }
 }
 
-/// Those that a team plays at home in the two rounds.
+/// The moved games that a team plays at home in the two rounds.
 fn moved_of_team(schedule: &Schedule, league: &League, k: u8, l: u8, team: u8) -> Moved
     requires same { teams league.now ≡ schedule.now.teams }
     requires k { k < round_count schedule.now.teams }
@@ -124,7 +124,7 @@ pub(crate) fn moved_of_teams(
     Moved { before, after }
 }
 
-/// Those that the two play in a round, in which they don't meet.
+/// The moved games that the two play in a round, in which they don't meet.
 fn moved_of_two(schedule: &Schedule, league: &League, i: u8, j: u8, round: u8) -> Moved
     requires same { teams league.now ≡ schedule.now.teams }
     requires i { i < schedule.now.teams }

@@ -1,4 +1,4 @@
-//! What an exchange changes in the repeats, told on the schedule before it.
+//! The change of the repeats by an exchange, predicted on the schedule before it.
 
 ghost use Rattle.std.specs.Prelude.{◌≡◌, ◌≢◌, ◌+◌, ◌-◌, ◌*◌, ◌<◌, ◌≤◌, ◌==◌, false, if◌then◌else◌};
 ghost use Rattle.league.specs.Limits.{max_teams, max_rounds};
@@ -34,7 +34,7 @@ pub(crate) fn repeats_of_rounds(schedule: &Schedule, k: u8, l: u8, among: TeamSe
     }
 }
 
-/// The same of the teams of the set one by one; `k` is the first of the two rounds.
+/// Counts these repeats team by team; `k` is the first of the two rounds.
 fn repeats_of_ordered(schedule: &Schedule, k: u8, l: u8, among: TeamSet) -> Breaches
     requires round_robin { IsDoubleRoundRobin schedule.now }
     requires below { IsBelow schedule.now.teams among }
@@ -54,7 +54,7 @@ fn repeats_of_ordered(schedule: &Schedule, k: u8, l: u8, among: TeamSet) -> Brea
     Breaches { before, after }
 }
 
-/// Those of a team with lower teams. If it meets the same team in both rounds, none changes.
+/// The repeats of a team with lower teams. If it meets the same team in both rounds, none changes.
 fn repeats_of_team(schedule: &Schedule, k: u8, l: u8, team: u8) -> Breaches
     requires team { team < schedule.now.teams }
     requires ordered { k < l }
@@ -171,7 +171,7 @@ pub(crate) fn repeats_of_teams(schedule: &Schedule, i: u8, j: u8, among: SlotSet
     repeats_at_edges(schedule, i, j, edges)
 }
 
-/// Those after these rounds, at the edges of the set: it has one of their two rounds.
+/// The repeats after these rounds, at the edges of the set: it has one of their two rounds.
 fn repeats_at_edges(schedule: &Schedule, i: u8, j: u8, edges: SlotSet) -> Breaches
     requires i { i < schedule.now.teams }
     requires j { j < schedule.now.teams }
@@ -191,7 +191,7 @@ fn repeats_at_edges(schedule: &Schedule, i: u8, j: u8, edges: SlotSet) -> Breach
     Breaches { before, after }
 }
 
-/// Those in a round and the next one, if `i` and `j` are exchanged in one of the two.
+/// The repeats in a round and the next one, if `i` and `j` are exchanged in one of the two.
 fn repeats_at_edge(schedule: &Schedule, i: u8, j: u8, round: u8) -> Breaches
     requires i { i < schedule.now.teams }
     requires j { j < schedule.now.teams }

@@ -1,4 +1,4 @@
-//! What an exchange of two rounds changes in the travel, told on the schedule before it.
+//! The change of the travel by an exchange of two rounds, predicted on the schedule before it.
 
 ghost use Rattle.std.specs.Prelude.{◌≡◌, ◌≢◌, ◌+◌, ◌*◌, ◌<◌, ◌≤◌};
 ghost use Rattle.league.specs.League.{teams};
@@ -44,7 +44,7 @@ pub(crate) fn legs_of_rounds(
     }
 }
 
-/// The same of the teams of the set one by one; `k` is the first of the two rounds.
+/// Counts these legs team by team; `k` is the first of the two rounds.
 fn legs_of_ordered(schedule: &Schedule, league: &League, k: u8, l: u8, among: TeamSet) -> Legs
     requires same { teams league.now ≡ schedule.now.teams }
     requires round_robin { IsDoubleRoundRobin schedule.now }
@@ -103,7 +103,7 @@ fn legs_of_team(schedule: &Schedule, league: &League, k: u8, l: u8, team: u8) ->
     }
 }
 
-/// Those legs if `l` is the round after `k`.
+/// These legs if `l` is the round after `k`.
 fn legs_of_neighbours(schedule: &Schedule, league: &League, k: u8, l: u8, team: u8) -> Legs
     requires same { teams league.now ≡ schedule.now.teams }
     requires team { team < schedule.now.teams }
@@ -128,7 +128,7 @@ fn legs_of_neighbours(schedule: &Schedule, league: &League, k: u8, l: u8, team: 
     }
 }
 
-/// Those legs if there are rounds between the two.
+/// These legs if there are rounds between the two.
 fn legs_of_two(schedule: &Schedule, league: &League, k: u8, l: u8, team: u8) -> Legs
     requires same { teams league.now ≡ schedule.now.teams }
     requires team { team < schedule.now.teams }

@@ -28,7 +28,7 @@ pub fn runs_over(schedule: &Schedule, league: &League) -> u64
     runs_from(schedule, at_most, all, starts)
 }
 
-/// Those of touched teams that have a touched round in their window.
+/// The runs of touched teams that have a touched round in their window.
 pub fn runs_part(schedule: &Schedule, league: &League, touched: Touched) -> u64
     requires same { teams league.now ≡ schedule.now.teams }
     ensures value { result ≡ runs_part schedule.now league.now.at_most (has touched.teams) (has touched.rounds) }

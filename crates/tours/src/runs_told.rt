@@ -1,4 +1,4 @@
-//! What an exchange changes in the runs, told on the schedule before it.
+//! The change of the runs by an exchange, predicted on the schedule before it.
 
 ghost use Rattle.std.specs.Prelude.{◌≡◌, ◌≢◌, ◌+◌, ◌*◌, ◌<◌, ◌≤◌, true, false, if◌then◌else◌};
 ghost use Rattle.league.specs.League.{teams};
@@ -48,7 +48,7 @@ pub(crate) fn runs_of_rounds(
     Breaches { before, after }
 }
 
-/// Those of a team, if it is on different sides in the two rounds.
+/// The runs of a team, if it is on different sides in the two rounds.
 fn turned_runs(schedule: &Schedule, at_most: u8, k: u8, l: u8, team: u8) -> Breaches
     requires round_robin { IsDoubleRoundRobin schedule.now }
     requires least { 1 ≤ at_most }

@@ -1,4 +1,4 @@
-//! What of a set of teams or of rounds a schedule has.
+//! Sets of teams and of rounds, clipped to a schedule.
 
 ghost use Rattle.std.specs.Prelude.{◌≡◌, ℕ, ◌+◌, ◌-◌, ◌<◌, ◌≤◌, ◌||◌};
 ghost use Rattle.league.specs.Limits.{max_rounds};

@@ -1,4 +1,4 @@
-//! What an exchange of two teams changes in the travel, told on the schedule before it.
+//! The change of the travel by an exchange of two teams, predicted on the schedule before it.
 
 ghost use Rattle.std.specs.Prelude.{◌≡◌, ◌≢◌, ◌+◌, ◌*◌, ◌<◌, ◌≤◌, false};
 ghost use Rattle.league.specs.League.{teams};

@@ -1,4 +1,4 @@
-//! What an exchange changes, told on the schedule before it: rounds or teams are exchanged, and each kind is told by itself.
+//! The changes by an exchange, predicted on the schedule before it: rounds or teams are exchanged, and each kind is predicted by itself.
 
 ghost use Rattle.std.specs.Prelude.{◌≡◌, ◌+◌, ◌*◌, ◌≤◌};
 ghost use Rattle.league.specs.League.{teams};

@@ -19,7 +19,7 @@ pub fn unphased(schedule: &Schedule) -> u64
     unphased_with(schedule, all)
 }
 
-/// Those of the pairs with a touched team.
+/// The pairs with a touched team, of these.
 pub fn unphased_part(schedule: &Schedule, touched: Touched) -> u64
     ensures value { result ≡ unphased_part schedule.now (has touched.teams) }
     ensures most { result ≤ max_teams * max_teams }
@@ -27,7 +27,7 @@ pub fn unphased_part(schedule: &Schedule, touched: Touched) -> u64
     unphased_with(schedule, touched.teams)
 }
 
-/// Those of the pairs with one of these teams, each counted at its higher team.
+/// The pairs with one of these teams, each counted at its higher team.
 #[tactic(auto, using(league::proofs::ForCallers::sums), unfolding(crate::specs::Phased::unphased_part))]
 fn unphased_with(schedule: &Schedule, teams: TeamSet) -> u64
     ensures value { result ≡ unphased_part schedule.now (has teams) }

@@ -1,4 +1,4 @@
-//! What can be asked of a board.
+//! The calls of a board.
 
 ghost use Rattle.std.specs.Prelude.{◌≡◌, ◌≤◌};
 ghost use Rattle.fixture_board.specs.History.{IsLegal};

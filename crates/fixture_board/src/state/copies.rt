@@ -9,7 +9,7 @@ impl State {
     ghost use Rattle.std.specs.Prelude.{◌≡◌, ◌≤◌, length, None, IfOk};
     ghost use Rattle.fixture_board.specs.within.Kept.{kept_of, HasMemory};
 
-    /// The same with memory of its own, and room for as many entries.
+    /// Copies the state into memory of its own, with room for as many entries.
     pub(crate) fn duplicate(&self, alloc: Global) -> Result<State, AllocError>
         requires within { length self.now.history.items ≤ self.now.room }
         requires no_more { length self.now.changes.items ≤ length self.now.history.items }

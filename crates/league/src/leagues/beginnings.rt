@@ -1,4 +1,4 @@
-//! What a league says of where its boards begin.
+//! The members of a league about where its boards begin.
 
 use super::League;
 use crate::origins::Start;
@@ -111,7 +111,7 @@ impl League {
         &self.origin.kept
     }
 
-    /// What a game costs that has another round than at the start.
+    /// The cost of a game that has another round than at the start.
     #[inline]
     pub fn near(&self) -> u32
         ensures value { result ≡ self.now.origin.near }

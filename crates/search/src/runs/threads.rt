@@ -20,7 +20,7 @@ use std::sync::Wait;
 use std::thread::{Promise, PromisedHandle, Scope, Threads};
 use std::{mem, thread};
 
-/// What the threads of a run share.
+/// The parts of a run that its threads share.
 #[derive_where(Clone, Copy)]
 pub(crate) struct Run<'a, R, G> {
     pub(crate) means: Means<'a, R, G>,
@@ -28,7 +28,7 @@ pub(crate) struct Run<'a, R, G> {
     pub(crate) plan: SearchPlan,
 }
 
-/// What a worker's thread is given.
+/// The input of a worker's thread.
 #[derive(Drop)]
 pub(crate) struct Job {
     worker: u32,
@@ -36,7 +36,7 @@ pub(crate) struct Job {
     copy: Schedule,
 }
 
-/// What a worker's thread gives back.
+/// The report and the seat that a worker's thread gives back.
 #[derive(Drop)]
 pub(crate) struct Ended {
     report: Report,
@@ -191,7 +191,6 @@ fn start<'s, E, R: Wait + Sync, G: Gate + Sync>(
         .ok()
 }
 
-/// What a worker's thread does.
 fn work<R: Wait, G: Gate>(run: Run<'_, R, G>, job: Job) -> Ended
     requires fresh { IsJob run.shared.now job }
     requires measured { JobMeasured run.means.measure.of_boards run.means.measure.league.now job }
@@ -211,7 +210,6 @@ fn work<R: Wait, G: Gate>(run: Run<'_, R, G>, job: Job) -> Ended
     Ended { report, seat }
 }
 
-/// What the worker of a job is to do.
 fn plan_of(plan: SearchPlan, job: &Job) -> WorkerPlan
     ensures { result ≡ plan_of plan job.now.worker }
 {

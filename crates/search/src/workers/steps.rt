@@ -15,7 +15,7 @@ use league::League;
 use moves::{Move, check, exchange};
 use std::sync::Wait;
 
-/// What costs are counted with.
+/// The league by which costs are counted.
 #[derive(Clone, Copy)]
 pub(crate) struct Measure<'a> {
     pub(crate) league: &'a League,
@@ -23,16 +23,16 @@ pub(crate) struct Measure<'a> {
     pub(crate) of_boards: bool,
 }
 
-/// What a worker works with.
+/// The context of a worker.
 #[derive_where(Clone, Copy)]
 pub(crate) struct Means<'a, R, G> {
     pub(crate) rt: &'a R,
-    /// What its proposals pass.
+    /// The gate that its proposals pass.
     pub(crate) gate: &'a G,
     pub(crate) measure: Measure<'a>,
 }
 
-/// What a worker knows of its copy.
+/// The cost of a worker's copy.
 #[derive(Clone, Copy)]
 pub(crate) struct Known {
     /// The board's version that it is a copy of.
@@ -41,14 +41,14 @@ pub(crate) struct Known {
     pub(crate) score: u64,
 }
 
-/// What a worker keeps beside its copy, from one step to the next.
+/// The state of a worker beside its copy, from one step to the next.
 #[derive(Drop)]
 pub(crate) struct Kept {
     pub(crate) known: Known,
     pub(crate) evaluator: Evaluator,
 }
 
-/// What a step tries, and how many proposals the worker made before.
+/// The move that a step tries, and how many proposals the worker made before.
 #[derive(Clone, Copy)]
 pub(crate) struct Trial {
     pub(crate) worker: u32,
@@ -57,7 +57,7 @@ pub(crate) struct Trial {
     pub(crate) mv: Move,
 }
 
-/// What became of a step: no proposal, or the board's answer.
+/// The result of a step: no proposal, or the board's answer.
 #[derive(Clone, Copy)]
 pub(crate) enum StepResult {
     Nothing,
@@ -184,7 +184,6 @@ pub(crate) fn step<R: Wait, D: Door, G: Gate>(
     settle(means, door, copy, kept, made, reply)
 }
 
-/// What a step proposes: its move, for the version of the copy, with the score after it as claim.
 fn proposal_of(known: Known, trial: Trial, score: u64) -> Proposal
     ensures { result ≡ proposal_of known.version trial score }
 {

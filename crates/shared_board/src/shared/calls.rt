@@ -58,7 +58,7 @@ impl Shared {
         reply
     }
 
-    /// What the board shows now. The copy becomes the board's schedule, if it is for as many teams.
+    /// Looks at the board. The copy becomes the board's schedule, if it is for as many teams.
     pub fn look<R: Wait>(&self, rt: &R, seat: &mut Seat, copy: &mut Schedule) -> Seen
         requires { seat.old.table ≡ self.now }
         ensures { Looked seat.old seat.new copy.old copy.new result }

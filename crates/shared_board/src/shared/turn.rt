@@ -113,7 +113,7 @@ impl Shared {
         false
     }
 
-    /// What the board answers, and its version and its best total then.
+    /// The reply of the board, and its version and its best total then.
     #[tactic(auto, unfolding(fixture_board::specs::Laws::least_of))]
     pub(crate) fn judge(&self, token: &mut Token, number: u32, ask: Ask) -> Judged
         requires table { token.old.table_id ≡ self.now }
